@@ -1,1 +1,3 @@
 pub mod FieldsLemmas
+pub mod SpellingLemmas
+pub mod DecodeLemmas

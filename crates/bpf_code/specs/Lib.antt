@@ -4,3 +4,6 @@ pub mod Fields
 pub mod Fault
 pub mod Reading
 pub mod Spelling
+pub mod Program
+pub mod Decoding
+pub mod Steps

@@ -89,10 +89,10 @@ fields_of Exit = slot opcode.Exit 0 0 (pos 0) (pos 0)
 
 -- the second slot of a wide load has the upper half of the value
 abbrev pub second_half : ℕ → Fields
-second_half value = record { opcode = 0; dst = 0; src = 0; offset = pos 0; immediate = cast_signed w32 (value / 2 ^ 32) }
+second_half high = record { opcode = 0; dst = 0; src = 0; offset = pos 0; immediate = cast_signed w32 high }
 
 abbrev pub second_slot : Instruction → Option Fields
-second_slot (LoadWide dst value) = Some (second_half value)
+second_slot (LoadWide dst value) = Some (second_half (value / 2 ^ 32))
 second_slot _ = None
 
 abbrev pub slot_bytes : Option Fields → List ℕ

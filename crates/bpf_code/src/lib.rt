@@ -1,11 +1,14 @@
 //! BPF programs as bytes and as instructions, one to one (RFC 9669, the base and divmul groups).
 #![tactic(auto)]
 
+pub use code::{Code, MAX_SLOTS};
 pub use fault::{DecodeCause, DecodeFault};
 pub use fields::Fields;
 pub use instruction::{Instruction, LoadKind, Register, SignExtendingMove, Size, Source, Width};
 pub use opcode::{ArithmeticCode, Opcode, SourceKind, Uses};
 
+mod code;
+mod decode;
 mod fault;
 mod fields;
 mod instruction;

@@ -6,6 +6,8 @@ ghost use Rattle.bpf_code.specs.Opcode.{byte_of};
 ghost use Rattle.bpf_code.specs.declared.opcode.SourceKind.TheVariants.{Immediate, Register as InRegister};
 ghost use Rattle.bpf_code.specs.declared.opcode.Opcode.TheVariants.{Arithmetic};
 ghost use Rattle.bpf_code.specs.Spelling.{fields_of, code_of, operation_offset, extension_width, extension_offset, end_immediate, second_half};
+ghost use Rattle.bpf_code.specs.Program.{is_wide};
+ghost use Rattle.bpf_code.specs.Steps.{IsFirstHalf};
 
 use crate::fault::DecodeCause;
 use crate::fields::Fields;
@@ -18,6 +20,7 @@ use bpf_words::{BinaryOperation, EndWidth};
 pub fn read(fields: &Fields) -> Result<Instruction, DecodeCause>
     ensures exact { result ≡ read_of fields.now }
     ensures spelled { IfOk result (λ i. fields_of i ≡ fields.now) }
+    ensures half { IfOk result (λ i. is_wide i ≡ true → IsFirstHalf i) }
 {
     let opcode = Opcode::from_byte(fields.opcode).ok_or(DecodeCause::UnknownOpcode)?;
     let dst = Register::from_number(fields.dst).ok_or(DecodeCause::RegisterNumber)?;
@@ -29,9 +32,10 @@ pub fn read(fields: &Fields) -> Result<Instruction, DecodeCause>
 }
 
 /// The upper half of a wide load's value, from its second slot.
-#[tactic(auto, unfolding(crate::specs::Reading::read_half))]
+#[tactic(auto, unfolding(crate::specs::Reading::read_half, crate::specs::Reading::unused_are_zero))]
 pub fn read_half(fields: &Fields) -> Result<u32, DecodeCause>
     ensures exact { result ≡ half_of fields.now }
+    ensures spelled { IfOk result (λ high. second_half high ≡ fields.now) }
 {
     let immediate_alone = Uses {
         dst: false,
@@ -64,6 +68,7 @@ fn instruction(opcode: Opcode, dst: Register, src: Register, fields: &Fields) ->
     requires unused { IsTrue (unused_of (uses_of opcode) fields.now) }
     ensures exact { result ≡ instruction_of opcode dst src fields.now }
     ensures spelled { IfSome result (λ i. fields_of i ≡ fields.now) }
+    ensures half { IfSome result (λ i. is_wide i ≡ true → IsFirstHalf i) }
 {
     let offset = fields.offset;
     let immediate = fields.immediate;
@@ -141,6 +146,7 @@ fn on_register(
     requires offset { offset_chooses code InRegister ≡ false → fields.now.offset ≡ pos 0 }
     ensures exact { result ≡ register_form width code dst src fields.now.offset }
     ensures spelled { IfSome result (λ i. fields_of i ≡ fields.now) }
+    ensures half { IfSome result (λ i. is_wide i ≡ false) }
 {
     let offset = fields.offset;
     if matches!(code, ArithmeticCode::Mov) && offset != 0 {

@@ -1,0 +1,43 @@
+-- The bytes of a program that grows by an instruction.
+use Rattle.std.proofs.Common.{◌≡◌, ℕ, Bool, true, false, List, [], ◌∷◌, ◌++◌, Option, Some, None, refl, sym, ap, ◌∙◌, append_assoc}
+use Rattle.std.specs.List.{flat_map}
+use Rattle.std.proofs.lemmas.Grind.{flat_map-append}
+use Rattle.std.proofs.lemmas.List.{append-nil}
+use Rattle.std.proofs.lemmas.List.Concat.{flat_map-cons}
+use Rattle.bpf_code.specs.declared.fields.Fields.{Fields}
+use Rattle.bpf_code.specs.declared.instruction.Instruction.{Instruction}
+use Rattle.bpf_code.specs.declared.instruction.Instruction.TheVariants.{LoadWide, Load, StoreImmediate, StoreRegister, Arithmetic, Negate, MoveSignExtended, End, Jump, LongJump, Branch, Call, Exit}
+use Rattle.bpf_code.specs.Fields.{bytes_of}
+use Rattle.bpf_code.specs.Spelling.{fields_of, second_half, second_slot, slot_bytes, instruction_bytes}
+use Rattle.bpf_code.specs.Program.{Program, spelling, spelling_at, is_wide}
+
+no_second : (i : Instruction) → is_wide i ≡ false → second_slot i ≡ None
+no_second (LoadWide dst value) e = absurd cc
+no_second _ e = refl
+
+pub instruction_bytes-short : (i : Instruction) → is_wide i ≡ false → instruction_bytes i ≡ bytes_of (fields_of i)
+unfolding instruction_bytes
+instruction_bytes-short i e =
+    ap (λ (s : Option Fields). bytes_of (fields_of i) ++ slot_bytes s) (no_second i e) ∙ append-nil (bytes_of (fields_of i))
+
+pub spelling-push : (p : Program) (s : Option Instruction) → spelling (p ++ s ∷ []) ≡ spelling p ++ spelling_at s
+spelling-push p s =
+    flat_map-append spelling_at p (s ∷ []) ∙ ap (λ (x : List ℕ). spelling p ++ x) (flat_map-cons spelling_at s [] ∙ append-nil (spelling_at s))
+
+-- an instruction of one slot behind a program whose bytes are those before the slot
+pub pushes_short : (p q : Program) (half : List ℕ) (i : Instruction) (f : Fields) → q ≡ p ++ Some i ∷ [] → is_wide i ≡ false → fields_of i ≡ f → half ≡ []
+    → spelling q ++ [] ≡ (spelling p ++ half) ++ bytes_of f
+pushes_short p q half i f grown short spelled none =
+    append-nil (spelling q) ∙ ap spelling grown ∙ spelling-push p (Some i)
+    ∙ ap (λ (x : List ℕ). spelling p ++ x) (instruction_bytes-short i short ∙ ap bytes_of spelled)
+    ∙ ap (λ (x : List ℕ). x ++ bytes_of f) (sym (append-nil (spelling p)) ∙ ap (λ (x : List ℕ). spelling p ++ x) (sym none))
+
+-- a wide load behind a program whose bytes and first half are those before the second slot
+pub pushes_wide : (p q r : Program) (half : List ℕ) (i : Instruction) (first second f : Fields) → q ≡ p ++ Some i ∷ [] → r ≡ q ++ None ∷ []
+    → instruction_bytes i ≡ bytes_of first ++ bytes_of second → half ≡ bytes_of first → second ≡ f → spelling r ++ [] ≡ (spelling p ++ half) ++ bytes_of f
+pushes_wide p q r half i first second f grown ended spelled waits same =
+    append-nil (spelling r) ∙ ap spelling ended ∙ spelling-push q None ∙ append-nil (spelling q)
+    ∙ ap spelling grown ∙ spelling-push p (Some i)
+    ∙ ap (λ (x : List ℕ). spelling p ++ x) spelled ∙ sym (append_assoc (spelling p) (bytes_of first) (bytes_of second))
+    ∙ ap (λ (x : List ℕ). (spelling p ++ x) ++ bytes_of second) (sym waits)
+    ∙ ap (λ (g : Fields). (spelling p ++ half) ++ bytes_of g) same

@@ -1,0 +1,59 @@
+-- A program as a list of slots, its bytes, and what makes it one.
+use Rattle.std.specs.Prelude.{◌≡◌, ℕ, suc, ℤ, pos, negsuc, ◌+◌, ◌-◌, ◌<◌, ◌≤◌, Bool, true, false, List, [], ◌∷◌, length, slice_get, Option, Some, None, IsSome}
+use Rattle.std.specs.List.{flat_map}
+use Rattle.std.specs.Option.{option_and_then}
+use Rattle.bpf_code.specs.declared.code.TheConstants.{MAX_SLOTS}
+use Rattle.bpf_code.specs.declared.instruction.Instruction.{Instruction}
+use Rattle.bpf_code.specs.declared.instruction.Instruction.TheVariants.{LoadWide, Jump, LongJump, Branch, Exit}
+use Rattle.bpf_code.specs.Spelling.{instruction_bytes}
+
+-- each slot is an instruction's first, or the second half of the wide load before it
+abbrev pub Program : Type 0
+Program = List (Option Instruction)
+
+-- ---- its bytes
+
+abbrev pub spelling_at : Option Instruction → List ℕ
+spelling_at None = []
+spelling_at (Some i) = instruction_bytes i
+
+-- the bytes of the instructions, one after another
+abbrev pub spelling : Program → List ℕ
+spelling p = flat_map spelling_at p
+
+-- ---- what makes it a program
+
+abbrev pub instruction_at : Program → ℕ → Option Instruction
+instruction_at p slot = option_and_then (λ i. i) (slice_get p slot)
+
+abbrev pub is_wide : Instruction → Bool
+is_wide (LoadWide _ _) = true
+is_wide _ = false
+
+-- behind each wide load, and nowhere else, stands its second half; `true` says that one is due
+unfoldable pub AreSlots : Bool → Program → Type 0
+AreSlots false [] = Unit {0}
+AreSlots true [] = ⊥
+AreSlots false (Some i ∷ rest) = AreSlots (is_wide i) rest
+AreSlots false (None ∷ rest) = ⊥
+AreSlots true (None ∷ rest) = AreSlots false rest
+AreSlots true (Some i ∷ rest) = ⊥
+
+-- how far an instruction may jump, in slots from the one behind it (RFC 9669 section 4.3)
+abbrev pub distance_of : Instruction → Option ℤ
+distance_of (Jump distance) = Some distance
+distance_of (LongJump distance) = Some distance
+distance_of (Branch _ _ _ _ distance) = Some distance
+distance_of _ = None
+
+-- a jump at this slot goes forward, to the start of an instruction
+abbrev pub Lands : Program → ℕ → ℤ → Type 0
+Lands p slot (pos n) = IsSome (instruction_at p (slot + 1 + n))
+Lands p slot (negsuc _) = ⊥
+
+pub record IsProgram (p : Program) : Type 0 where
+  pub not_empty : 0 < length p
+  pub not_long : length p ≤ MAX_SLOTS
+  pub slots : AreSlots false p
+  pub jumps : (slot : ℕ) (i : Instruction) (d : ℤ) → instruction_at p slot ≡ Some i → distance_of i ≡ Some d → Lands p slot d
+  pub ends : instruction_at p (length p - 1) ≡ Some Exit
