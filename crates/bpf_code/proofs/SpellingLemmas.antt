@@ -1,15 +1,15 @@
 -- The bytes of a program that grows by an instruction.
-use Rattle.std.proofs.Common.{◌≡◌, ℕ, Bool, true, false, List, [], ◌∷◌, ◌++◌, Option, Some, None, refl, sym, ap, ◌∙◌, append_assoc}
+use Rattle.std.proofs.Common.{◌≡◌, ℕ, zero, suc, ◌+◌, ◌<◌, take, length, slice_index_or, arith, Bool, true, false, List, [], ◌∷◌, ◌++◌, Option, Some, None, refl, sym, ap, ◌∙◌, append_assoc}
 use Rattle.std.specs.List.{flat_map}
 use Rattle.std.proofs.lemmas.Grind.{flat_map-append}
-use Rattle.std.proofs.lemmas.List.{append-nil}
+use Rattle.std.proofs.lemmas.List.{append-nil, take_more}
 use Rattle.std.proofs.lemmas.List.Concat.{flat_map-cons}
 use Rattle.bpf_code.specs.declared.fields.Fields.{Fields}
 use Rattle.bpf_code.specs.declared.instruction.Instruction.{Instruction}
 use Rattle.bpf_code.specs.declared.instruction.Instruction.TheVariants.{LoadWide, Load, StoreImmediate, StoreRegister, Arithmetic, Negate, MoveSignExtended, End, Jump, LongJump, Branch, Call, Exit}
 use Rattle.bpf_code.specs.Fields.{bytes_of}
 use Rattle.bpf_code.specs.Spelling.{fields_of, second_half, second_slot, slot_bytes, instruction_bytes}
-use Rattle.bpf_code.specs.Program.{Program, spelling, spelling_at, is_wide}
+use Rattle.bpf_code.specs.Program.{Program, spelling, spelling_at, instruction_at, is_wide}
 
 no_second : (i : Instruction) → is_wide i ≡ false → second_slot i ≡ None
 no_second (LoadWide dst value) e = absurd cc
@@ -41,3 +41,14 @@ pushes_wide p q r half i first second f grown ended spelled waits same =
     ∙ ap (λ (x : List ℕ). spelling p ++ x) spelled ∙ sym (append_assoc (spelling p) (bytes_of first) (bytes_of second))
     ∙ ap (λ (x : List ℕ). (spelling p ++ x) ++ bytes_of second) (sym waits)
     ∙ ap (λ (g : Fields). (spelling p ++ half) ++ bytes_of g) same
+
+-- what begins at a slot of the program is what the slot holds
+pub instruction_at-index : (p : Program) (slot : ℕ) → slot < length p → instruction_at p slot ≡ slice_index_or p slot None
+instruction_at-index [] slot within = absurd (omega arith)
+instruction_at-index (x ∷ p) zero within = refl
+instruction_at-index (x ∷ p) (suc slot) within = instruction_at-index p slot (omega arith)
+
+pub spelling-take : (p : Program) (slot : ℕ) → slot < length p → spelling (take (slot + 1) p) ≡ spelling (take slot p) ++ spelling_at (instruction_at p slot)
+spelling-take p slot within =
+    ap spelling (take_more p slot None within) ∙ spelling-push (take slot p) (slice_index_or p slot None)
+    ∙ ap (λ (s : Option Instruction). spelling (take slot p) ++ spelling_at s) (sym (instruction_at-index p slot within))

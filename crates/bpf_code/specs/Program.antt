@@ -1,10 +1,12 @@
 -- A program as a list of slots, its bytes, and what makes it one.
-use Rattle.std.specs.Prelude.{◌≡◌, ℕ, suc, ℤ, pos, negsuc, ◌+◌, ◌-◌, ◌<◌, ◌≤◌, Bool, true, false, List, [], ◌∷◌, length, slice_get, Option, Some, None, IsSome}
+use Rattle.std.specs.Prelude.{◌≡◌, ℕ, suc, ℤ, pos, negsuc, ◌+◌, ◌-◌, ◌^◌, ◌<◌, ◌≤◌, FitsSigned, Bool, true, false, List, [], ◌∷◌, length, slice_get, Option, Some, None, IsSome}
 use Rattle.std.specs.List.{flat_map}
+use Rattle.std.specs.Int.{w16, w32}
 use Rattle.std.specs.Option.{option_and_then}
 use Rattle.bpf_code.specs.declared.code.TheConstants.{MAX_SLOTS}
 use Rattle.bpf_code.specs.declared.instruction.Instruction.{Instruction}
-use Rattle.bpf_code.specs.declared.instruction.Instruction.TheVariants.{LoadWide, Jump, LongJump, Branch, Exit}
+use Rattle.bpf_code.specs.declared.instruction.Instruction.TheVariants.{LoadWide, Load, StoreImmediate, StoreRegister, Arithmetic, Jump, LongJump, Branch, Call, Exit}
+use Rattle.bpf_code.specs.declared.instruction.Source.TheVariants.{Immediate, Register}
 use Rattle.bpf_code.specs.Spelling.{instruction_bytes}
 
 -- each slot is an instruction's first, or the second half of the wide load before it
@@ -57,3 +59,23 @@ pub record IsProgram (p : Program) : Type 0 where
   pub slots : AreSlots false p
   pub jumps : (slot : ℕ) (i : Instruction) (d : ℤ) → instruction_at p slot ≡ Some i → distance_of i ≡ Some d → Lands p slot d
   pub ends : instruction_at p (length p - 1) ≡ Some Exit
+
+-- ---- its numbers fit their fields, as those of every value of the code do
+
+abbrev pub IsInRange : Instruction → Type 0
+IsInRange (LoadWide _ value) = value < 2 ^ 64
+IsInRange (Load _ _ _ offset) = FitsSigned w16 offset
+IsInRange (StoreImmediate _ _ offset immediate) = FitsSigned w16 offset × FitsSigned w32 immediate
+IsInRange (StoreRegister _ _ _ offset) = FitsSigned w16 offset
+IsInRange (Arithmetic _ _ _ (Immediate immediate)) = FitsSigned w32 immediate
+IsInRange (Jump distance) = FitsSigned w16 distance
+IsInRange (LongJump distance) = FitsSigned w32 distance
+IsInRange (Branch _ _ _ (Immediate immediate) distance) = FitsSigned w32 immediate × FitsSigned w16 distance
+IsInRange (Branch _ _ _ (Register _) distance) = FitsSigned w16 distance
+IsInRange (Call helper) = FitsSigned w32 helper
+IsInRange _ = Unit {0}
+
+abbrev pub AllInRange : Program → Type 0
+AllInRange [] = Unit {0}
+AllInRange (None ∷ rest) = AllInRange rest
+AllInRange (Some i ∷ rest) = IsInRange i × AllInRange rest

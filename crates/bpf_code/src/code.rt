@@ -26,6 +26,13 @@ impl<A: Allocator> Model for Code<A> {
 }
 
 impl<A: Allocator> Code<A> {
+    pub(crate) fn new(slots: Vec<Option<Instruction>, A>) -> Code<A>
+        requires { IsProgram slots.items }
+        ensures { result ≡ slots.items }
+    {
+        Code { slots }
+    }
+
     /// How many slots of eight bytes the program has, 1 to 4,096.
     pub fn slots(&self) -> usize
         ensures count { result ≡ length self.now }

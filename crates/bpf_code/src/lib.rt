@@ -2,15 +2,18 @@
 #![tactic(auto)]
 
 pub use code::{Code, MAX_SLOTS};
+pub use encoding::encode;
 pub use fault::{DecodeCause, DecodeFault};
 pub use fields::Fields;
 pub use instruction::{Instruction, LoadKind, Register, SignExtendingMove, Size, Source, Width};
 pub use opcode::{ArithmeticCode, Opcode, SourceKind, Uses};
 
 mod code;
-mod decode;
+mod decoding;
+mod encoding;
 mod fault;
 mod fields;
 mod instruction;
+mod jumps;
 mod opcode;
 mod reading;

@@ -4,7 +4,7 @@ use Rattle.bpf_code.specs.Fields.{bytes_of}
 use Rattle.bpf_code.specs.Spelling.{fields_of, second_half}
 use Rattle.bpf_code.specs.Steps.{half_bytes}
 use Rattle.bpf_code.proofs.SpellingLemmas.{pushes_short, pushes_wide}
-use Rattle.bpf_code.proofs.decode.read_slot.Goals as goal
+use Rattle.bpf_code.proofs.decoding.read_slot.Goals as goal
 
 pub returns-in_default-clause-bytes : goal.returns-in_default-clause-bytes
 returns-in_default-clause-bytes g c =

@@ -4,7 +4,7 @@ use Rattle.std.proofs.lemmas.Result.{err_from_is_err_and}
 use Rattle.bpf_code.specs.declared.fault.DecodeCause.TheVariants.{CutShort}
 use Rattle.bpf_code.specs.Decoding.{fault}
 use Rattle.bpf_code.proofs.DecodeLemmas.{IsReadTo-step, IsReadTo-fault, IsReadTo-end, IsReadTo-cut}
-use Rattle.bpf_code.proofs.decode.read_slots.Goals as goal
+use Rattle.bpf_code.proofs.decoding.read_slots.Goals as goal
 
 pub loop-slot-preserved : goal.loop-slot-preserved
 loop-slot-preserved g c =

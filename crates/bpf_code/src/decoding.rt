@@ -1,9 +1,9 @@
-ghost use Rattle.std.specs.Prelude.{◌≡◌, ◌∷◌, ◌⊎◌, ◌<◌, ◌≤◌, ◌+◌, ◌*◌, ◌%◌, ◌^◌, ◌++◌, List, Option, Some, None, length, vec_len, vec_capacity, IfOk, IfErr, IfSome, OnOk, true, false};
+ghost use Rattle.std.specs.Prelude.{◌≡◌, ◌∷◌, Ok, Err, ◌⊎◌, ◌<◌, ◌≤◌, ◌+◌, ◌*◌, ◌%◌, ◌^◌, ◌++◌, List, Option, Some, None, length, vec_len, vec_capacity, IfOk, IfErr, IfSome, OnOk, true, false};
 ghost use Rattle.bpf_code.specs.declared.code.TheConstants.{MAX_SLOTS};
 ghost use Rattle.bpf_code.specs.declared.fault.DecodeCause.TheVariants.{OutOfMemory};
 ghost use Rattle.bpf_code.specs.Fields.{bytes_of, slots_of};
 ghost use Rattle.bpf_code.specs.declared.fields.Fields.{Fields};
-ghost use Rattle.bpf_code.specs.Program.{spelling, is_wide as wide, distance_of, instruction_at, IsProgram};
+ghost use Rattle.bpf_code.specs.Program.{Program, AllInRange, spelling, is_wide as wide, distance_of, instruction_at, IsProgram};
 ghost use Rattle.bpf_code.specs.Decoding.{fault as fault_at, with_front, completed as completed_by, read_slots as slots_read, jump_fault as fault_of_jump, jump_faults, exit_fault, program_of};
 ghost use Rattle.bpf_code.specs.Spelling.{fields_of, second_half, instruction_bytes};
 ghost use Rattle.bpf_code.specs.Steps.{half_bytes, half_count, IsFirstHalf, IsHalf};
@@ -12,6 +12,7 @@ use crate::code::{Code, MAX_SLOTS};
 use crate::fault::{DecodeCause, DecodeFault};
 use crate::fields::Fields;
 use crate::instruction::Instruction;
+use crate::jumps::{check_exit, check_jumps};
 use crate::reading::{read, read_half};
 use std::alloc::Allocator;
 
@@ -91,4 +92,41 @@ fn read_slots<A: Allocator>(alloc: A, bytes: &[u8]) -> Result<Vec<Option<Instruc
         return Err(DecodeFault { cause: DecodeCause::CutShort, slot: (count - 1) as u16 });
     }
     Ok(slots)
+}
+
+/// The program that the bytes spell.
+#[tactic(auto, unfolding(crate::specs::Decoding::program_of))]
+fn program<A: Allocator>(alloc: A, bytes: &[u8]) -> Result<Code<A>, DecodeFault>
+    ensures spelled { IfOk result (λ code. spelling code ≡ bytes.now) }
+    ensures program { IfOk result IsProgram }
+    ensures exact { IfOk result (λ code. program_of bytes.now ≡ Ok code) }
+    ensures fault { IfErr result (λ e. (e ≡ fault_at OutOfMemory 0) ⊎ (program_of bytes.now ≡ Err e)) }
+{
+    let fault = |cause: DecodeCause| DecodeFault { cause, slot: 0 };
+    if bytes.is_empty() || bytes.len() % 8 != 0 {
+        return Err(fault(DecodeCause::Length));
+    }
+    if bytes.len() / 8 > MAX_SLOTS {
+        return Err(fault(DecodeCause::TooManySlots));
+    }
+    let slots = read_slots(alloc, bytes)?;
+    check_jumps(&slots)?;
+    check_exit(&slots)?;
+    Ok(Code::new(slots))
+}
+
+/// The program that the bytes spell. The slots take one allocation, and each byte is read once.
+pub fn decode<A: Allocator>(alloc: A, bytes: &[u8]) -> Result<Code<A>, DecodeFault>
+    // What is decoded is a program, and the bytes are its bytes.
+    ensures spelled { IfOk result (λ code. spelling code ≡ bytes.now) }
+    ensures program { IfOk result IsProgram }
+
+    // The bytes of a program are decoded to it, unless memory runs out.
+    ensures only { (p : Program) → IsProgram p → AllInRange p → spelling p ≡ bytes.now → (result ≡ Err (fault_at OutOfMemory 0)) ⊎ (result ≡ Ok p) }
+
+    // Other bytes have their one fault, unless memory runs out.
+    ensures fault { IfErr result (λ e. (e ≡ fault_at OutOfMemory 0) ⊎ (program_of bytes.now ≡ Err e)) }
+    ensures exact { IfOk result (λ code. program_of bytes.now ≡ Ok code) }
+{
+    program(alloc, bytes)
 }
