@@ -5,3 +5,4 @@ pub mod JumpLemmas
 pub mod ProgramLemmas
 pub mod AgainLemmas
 pub mod ProgramAgain
+pub mod ProgramWhole
