@@ -1,0 +1,6 @@
+//! The listing of a program, a line for each instruction.
+#![tactic(auto)]
+
+
+mod line;
+mod name;

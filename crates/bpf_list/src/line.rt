@@ -1,0 +1,131 @@
+ghost use Rattle.std.specs.Prelude.{◌≡◌, ◌<◌, ◌≤◌, ◌+◌, ◌-◌, ◌++◌, length, codes, Some};
+ghost use Rattle.std.specs.Fmt.{decimal, signed_decimal};
+ghost use Rattle.hex.specs.Hex.{encode_lower};
+ghost use Rattle.arrayvec.specs.ArrayVec.{array_vec_len};
+ghost use Rattle.bpf_list.specs.declared.line.TheConstants.{LINE_BYTES};
+ghost use Rattle.bpf_list.specs.Listing.{right_in, name_parts, name_text, slot_hex, immediate_text, line as line_of};
+ghost use Rattle.bpf_code.specs.Spelling.{fields_of, second_slot};
+
+use crate::name::name;
+use arrayvec::ArrayVec;
+use bpf_code::Instruction;
+use itoa::Buffer;
+
+/// Room for a line: its parts take at most 138 bytes.
+const LINE_BYTES: usize = 160;
+
+/// One line of a listing.
+pub type Line = ArrayVec<u8, LINE_BYTES>;
+
+fn push(line: &mut Line, text: &[u8])
+    requires { array_vec_len line.old + length text.now ≤ LINE_BYTES }
+    ensures items { line.new.items ≡ line.old.items ++ text.now }
+    ensures len { array_vec_len line.new ≡ array_vec_len line.old + length text.now }
+{
+    let _ = line.try_extend_from_slice(text);
+}
+
+/// A label and a number.
+fn push_unsigned(line: &mut Line, label: &str, number: u64)
+    requires { array_vec_len line.old + length label.now + 20 ≤ LINE_BYTES }
+    ensures items { line.new.items ≡ line.old.items ++ (label.now ++ decimal number) }
+    ensures len { array_vec_len line.new ≤ array_vec_len line.old + length label.now + 20 }
+{
+    let mut digits = Buffer::new();
+    push(line, label.as_bytes());
+    push(line, digits.format(number).as_bytes());
+}
+
+fn push_signed(line: &mut Line, label: &str, number: i32)
+    requires { array_vec_len line.old + length label.now + 11 ≤ LINE_BYTES }
+    ensures items { line.new.items ≡ line.old.items ++ (label.now ++ signed_decimal number) }
+    ensures len { array_vec_len line.new ≤ array_vec_len line.old + length label.now + 11 }
+{
+    let mut digits = Buffer::new();
+    push(line, label.as_bytes());
+    push(line, digits.format(number).as_bytes());
+}
+
+fn push_hex(line: &mut Line, bytes: &[u8])
+    requires eight { length bytes.now ≡ 8 }
+    requires room { array_vec_len line.old + 16 ≤ LINE_BYTES }
+    ensures items { line.new.items ≡ line.old.items ++ encode_lower bytes.now }
+    ensures len { array_vec_len line.new ≡ array_vec_len line.old + 16 }
+{
+    let mut digits = [0u8; 16];
+    let _ = hex::encode_to_slice(bytes, &mut digits);
+    push(line, &digits);
+}
+
+/// A text at the right of four places.
+fn push_right(line: &mut Line, text: &[u8])
+    requires short { length text.now ≤ 4 }
+    requires room { array_vec_len line.old + 4 ≤ LINE_BYTES }
+    ensures items { line.new.items ≡ line.old.items ++ right_in 4 text.now }
+    ensures len { array_vec_len line.new ≡ array_vec_len line.old + 4 }
+{
+    let padding: &[u8] = match text.len() {
+        0 => b"    ",
+        1 => b"   ",
+        2 => b"  ",
+        3 => b" ",
+        _ => b"",
+    };
+    push(line, padding);
+    push(line, text);
+}
+
+fn push_name(line: &mut Line, instruction: Instruction)
+    requires { array_vec_len line.old + 9 ≤ LINE_BYTES }
+    ensures items { line.new.items ≡ line.old.items ++ (codes " " ++ name_text (name_parts instruction)) }
+    ensures len { array_vec_len line.new ≤ array_vec_len line.old + 9 }
+{
+    let (text, bits) = name(instruction);
+    push(line, b" ");
+    push(line, text.as_bytes());
+    if let Some(bits) = bits {
+        push(line, Buffer::new().format(bits).as_bytes());
+    }
+}
+
+fn push_bytes(line: &mut Line, instruction: Instruction)
+    requires { array_vec_len line.old + 32 ≤ LINE_BYTES }
+    ensures items { line.new.items ≡ line.old.items ++ (slot_hex (Some (fields_of instruction)) ++ slot_hex (second_slot instruction)) }
+    ensures len { array_vec_len line.new ≤ array_vec_len line.old + 32 }
+{
+    push_hex(line, &instruction.fields().to_bytes());
+    if let Some(half) = instruction.second_slot() {
+        push_hex(line, &half.to_bytes());
+    }
+}
+
+fn push_immediate(line: &mut Line, instruction: Instruction)
+    requires { array_vec_len line.old + 25 ≤ LINE_BYTES }
+    ensures items { line.new.items ≡ line.old.items ++ (codes " imm " ++ immediate_text instruction) }
+    ensures len { array_vec_len line.new ≤ array_vec_len line.old + 25 }
+{
+    match instruction {
+        Instruction::LoadWide { value, .. } => push_unsigned(line, " imm ", value),
+        _ => push_signed(line, " imm ", instruction.fields().immediate),
+    }
+}
+
+/// The line of the instruction that begins at a slot.
+#[tactic(auto, unfolding(crate::specs::Listing::line))]
+pub fn line(slot: usize, instruction: Instruction) -> Line
+    requires { slot < 10000 }
+    ensures { result.items ≡ line_of slot instruction }
+{
+    let fields = instruction.fields();
+    let mut line = Line::new();
+    push_right(&mut line, Buffer::new().format(slot).as_bytes());
+    push(&mut line, b" ");
+    push_bytes(&mut line, instruction);
+    push_name(&mut line, instruction);
+    push_unsigned(&mut line, " dst ", u64::from(fields.dst));
+    push_unsigned(&mut line, " src ", u64::from(fields.src));
+    push_signed(&mut line, " off ", i32::from(fields.offset));
+    push_immediate(&mut line, instruction);
+    push(&mut line, b"\n");
+    line
+}

@@ -1,0 +1,4 @@
+pub mod Condition
+pub mod End
+pub mod Operation
+pub mod Word

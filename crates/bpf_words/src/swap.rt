@@ -1,0 +1,31 @@
+ghost use Rattle.std.specs.Prelude.{◌≡◌};
+ghost use Rattle.bpf_words.specs.End.{ended, reversed};
+
+use crate::cut::{low16, low32};
+use crate::operation::{ByteOrder, EndWidth};
+
+/// The low bits of `a`, in little-endian or in reversed byte order, with zeros above them (RFC 9669
+/// section 4.2). It takes the whole 64-bit value in every class.
+#[tactic(auto, unfolding(crate::specs::End::ended))]
+pub fn end(order: ByteOrder, width: EndWidth, a: u64) -> u64
+    ensures { result ≡ ended order width a }
+{
+    match order {
+        ByteOrder::Little => match width {
+            EndWidth::Low16 => a & 0xffff,
+            EndWidth::Low32 => a & 0xffff_ffff,
+            EndWidth::Low64 => a,
+        },
+        ByteOrder::Big | ByteOrder::Swap => swapped(width, a),
+    }
+}
+
+fn swapped(width: EndWidth, a: u64) -> u64
+    ensures { result ≡ reversed width a }
+{
+    match width {
+        EndWidth::Low16 => u64::from(low16(a).swap_bytes()),
+        EndWidth::Low32 => u64::from(low32(a).swap_bytes()),
+        EndWidth::Low64 => a.swap_bytes(),
+    }
+}

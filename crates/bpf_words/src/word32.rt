@@ -1,0 +1,88 @@
+//! The operations and the conditions on words of 32 bits.
+ghost use Rattle.std.specs.Prelude.{◌≡◌, ◌%◌};
+ghost use Rattle.bpf_words.specs.Condition as conditions;
+ghost use Rattle.bpf_words.specs.Operation as operations;
+ghost use Rattle.bpf_words.specs.declared.operation.BinaryOperation.TheVariants.{Sdiv, Smod};
+
+use crate::condition::Condition;
+use crate::cut::{low8, low16, low32};
+use crate::operation::{BinaryOperation, SignExtension};
+
+/// What an operation gives on two words of 32 bits.
+#[tactic(auto, unfolding(crate::specs::Operation::binary))]
+pub fn binary(op: BinaryOperation, a: u32, b: u32) -> u32
+    ensures { result ≡ operations.binary 32 op a b }
+{
+    match op {
+        BinaryOperation::Add => a.wrapping_add(b),
+        BinaryOperation::Sub => a.wrapping_sub(b),
+        BinaryOperation::Mul => a.wrapping_mul(b),
+        BinaryOperation::Div => a.checked_div(b).unwrap_or(0),
+        BinaryOperation::Sdiv => signed_quotient(a, b),
+        BinaryOperation::Or => a | b,
+        BinaryOperation::And => a & b,
+        BinaryOperation::Lsh => a.wrapping_shl(b),
+        BinaryOperation::Rsh => a.wrapping_shr(b),
+        BinaryOperation::Mod => a.checked_rem(b).unwrap_or(a),
+        BinaryOperation::Smod => signed_remainder(a, b),
+        BinaryOperation::Xor => a ^ b,
+        BinaryOperation::Mov => b,
+        BinaryOperation::Arsh => a.cast_signed().wrapping_shr(b).cast_unsigned(),
+    }
+}
+
+/// The low bits of a word, sign-extended to 32 bits.
+pub fn sign_extended(from: SignExtension, b: u64) -> u32
+    ensures { result ≡ operations.sign_extended 32 from b }
+{
+    match from {
+        SignExtension::From8 => i32::from(low8(b).cast_signed()),
+        SignExtension::From16 => i32::from(low16(b).cast_signed()),
+        SignExtension::From32 => low32(b).cast_signed(),
+    }
+    .cast_unsigned()
+}
+
+/// Whether a condition holds of two words of 32 bits.
+#[tactic(auto, unfolding(crate::specs::Condition::compared))]
+pub fn compared(condition: Condition, a: u32, b: u32) -> bool
+    ensures { result ≡ conditions.compared 32 condition a b }
+{
+    match condition {
+        Condition::Eq => a == b,
+        Condition::Gt => a > b,
+        Condition::Ge => a >= b,
+        Condition::Set => a & b != 0,
+        Condition::Ne => a != b,
+        Condition::Sgt => a.cast_signed() > b.cast_signed(),
+        Condition::Sge => a.cast_signed() >= b.cast_signed(),
+        Condition::Lt => a < b,
+        Condition::Le => a <= b,
+        Condition::Slt => a.cast_signed() < b.cast_signed(),
+        Condition::Sle => a.cast_signed() <= b.cast_signed(),
+    }
+}
+
+#[tactic(auto, unfolding(crate::specs::Operation::binary))]
+fn signed_quotient(a: u32, b: u32) -> u32
+    ensures { result ≡ operations.binary 32 Sdiv a b }
+{
+    if b == 0 {
+        return 0;
+    }
+    a.cast_signed()
+        .wrapping_div(b.cast_signed())
+        .cast_unsigned()
+}
+
+#[tactic(auto, unfolding(crate::specs::Operation::binary))]
+fn signed_remainder(a: u32, b: u32) -> u32
+    ensures { result ≡ operations.binary 32 Smod a b }
+{
+    if b == 0 {
+        return a;
+    }
+    a.cast_signed()
+        .wrapping_rem(b.cast_signed())
+        .cast_unsigned()
+}
