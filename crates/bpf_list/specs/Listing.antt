@@ -124,11 +124,15 @@ line slot i =
     ++ (codes " imm " ++ immediate_text i)
     ++ codes "\n"
 
+-- the line of the instruction that begins at a slot, where one does
+abbrev pub line_at : ℕ → Option Instruction → List ℕ
+line_at slot None = []
+line_at slot (Some i) = line slot i
+
 -- the lines of the slots from this one on
 abbrev pub lines : ℕ → Program → List ℕ
 lines slot [] = []
-lines slot (None ∷ rest) = lines (slot + 1) rest
-lines slot (Some i ∷ rest) = line slot i ++ lines (slot + 1) rest
+lines slot (begins ∷ rest) = line_at slot begins ++ lines (slot + 1) rest
 
 abbrev pub listing_of : Program → List ℕ
 listing_of p = lines 0 p

@@ -15,10 +15,10 @@ Appends-then (Some x) (Some y) None xs ys p q = absurd q
 Appends-then (Some x) (Some y) (Some z) xs ys p q = q ∙ ap (λ (t : List ℕ). t ++ ys) p ∙ append_assoc x xs ys
 
 -- what was written, and a beginning of what comes next, with more behind it
-pub AppendsBeginning-then : (a b c : Option (List ℕ)) (front text rest : List ℕ) → Appends a b front → AppendsBeginning b c text → AppendsBeginning a c (front ++ text ++ rest)
+pub AppendsBeginning-then : (a b c : Option (List ℕ)) (front text rest : List ℕ) → Appends a b front → AppendsBeginning b c text → AppendsBeginning a c (front ++ (text ++ rest))
 AppendsBeginning-then a b c front text rest p (xs, ys, split, q) =
     (front ++ xs, ys ++ rest,
-      ap (λ (t : List ℕ). (front ++ t) ++ rest) split ∙ append_assoc front (xs ++ ys) rest ∙ ap (λ (t : List ℕ). front ++ t) (append_assoc xs ys rest) ∙ sym (append_assoc front xs (ys ++ rest)),
+      ap (λ (t : List ℕ). front ++ (t ++ rest)) split ∙ ap (λ (t : List ℕ). front ++ t) (append_assoc xs ys rest) ∙ sym (append_assoc front xs (ys ++ rest)),
       Appends-then a b c front xs p q)
 
 -- one more write took the front of what was left
