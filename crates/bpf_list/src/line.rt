@@ -1,50 +1,15 @@
 ghost use Rattle.std.specs.Prelude.{◌≡◌, ◌<◌, ◌≤◌, ◌+◌, ◌-◌, ◌++◌, length, codes, Some};
-ghost use Rattle.std.specs.Fmt.{decimal, signed_decimal};
+ghost use Rattle.std.specs.Fmt.{decimal};
 ghost use Rattle.hex.specs.Hex.{encode_lower};
 ghost use Rattle.arrayvec.specs.ArrayVec.{array_vec_len};
-ghost use Rattle.bpf_list.specs.declared.line.TheConstants.{LINE_BYTES};
+ghost use Rattle.byte_output.specs.declared.line.TheConstants.{LINE_BYTES};
 ghost use Rattle.bpf_list.specs.Listing.{right_in, name_parts, name_text, slot_hex, immediate_text, line as line_of};
 ghost use Rattle.bpf_code.specs.Spelling.{fields_of, second_slot};
 
 use crate::name::name;
-use arrayvec::ArrayVec;
 use bpf_code::Instruction;
+use byte_output::line::{Line, push, push_signed, push_unsigned};
 use itoa::Buffer;
-
-/// Room for a line: its parts take at most 138 bytes.
-const LINE_BYTES: usize = 160;
-
-/// One line of a listing.
-pub type Line = ArrayVec<u8, LINE_BYTES>;
-
-fn push(line: &mut Line, text: &[u8])
-    requires { array_vec_len line.old + length text.now ≤ LINE_BYTES }
-    ensures items { line.new.items ≡ line.old.items ++ text.now }
-    ensures len { array_vec_len line.new ≡ array_vec_len line.old + length text.now }
-{
-    let _ = line.try_extend_from_slice(text);
-}
-
-/// A label and a number.
-fn push_unsigned(line: &mut Line, label: &str, number: u64)
-    requires { array_vec_len line.old + length label.now + 20 ≤ LINE_BYTES }
-    ensures items { line.new.items ≡ line.old.items ++ (label.now ++ decimal number) }
-    ensures len { array_vec_len line.new ≤ array_vec_len line.old + length label.now + 20 }
-{
-    let mut digits = Buffer::new();
-    push(line, label.as_bytes());
-    push(line, digits.format(number).as_bytes());
-}
-
-fn push_signed(line: &mut Line, label: &str, number: i32)
-    requires { array_vec_len line.old + length label.now + 11 ≤ LINE_BYTES }
-    ensures items { line.new.items ≡ line.old.items ++ (label.now ++ signed_decimal number) }
-    ensures len { array_vec_len line.new ≤ array_vec_len line.old + length label.now + 11 }
-{
-    let mut digits = Buffer::new();
-    push(line, label.as_bytes());
-    push(line, digits.format(number).as_bytes());
-}
 
 fn push_hex(line: &mut Line, bytes: &[u8])
     requires eight { length bytes.now ≡ 8 }

@@ -8,6 +8,8 @@ ghost use Rattle.byte_output.specs.Writes.{Writes};
 use std::io;
 use std::io::{ErrorKind, Write};
 
+pub mod line;
+
 /// One write. How many bytes it took from the front: none where it was interrupted, an error where
 /// it took none by itself.
 fn write_some<W: Write>(output: &mut W, bytes: &[u8]) -> io::Result<usize>
