@@ -1,0 +1,6 @@
+//! The program dsmdb.
+#![tactic(auto)]
+
+mod source;
+
+fn main() {}

@@ -1,0 +1,99 @@
+//! Reading a program's bytes, no more of them into memory than a program has.
+
+ghost use Rattle.std.specs.Prelude.{◌≡◌, ◌≤◌, ◌++◌, ℕ, List, [], IfOk, OnOk, IfSome, length};
+ghost use Rattle.std.specs.Io.KnownBytes.{ReadConsumes};
+ghost use Rattle.dsmdb.specs.Source.{IsReadOf};
+
+use bpf_code::MAX_SLOTS;
+use std::alloc::{AllocError, Allocator};
+use std::io;
+use std::io::{ErrorKind, Read};
+
+/// What an input held.
+#[derive(Drop)]
+pub enum Source<A: Allocator> {
+    /// Its bytes, no more than a program may have.
+    Whole(Vec<u8, A>),
+    /// More bytes than a program may have; whether they are whole slots.
+    TooLong(bool),
+}
+
+/// The bytes so far.
+#[derive(Drop)]
+pub struct Front<A: Allocator> {
+    bytes: Vec<u8, A>,
+    /// There were too many, and `bytes` has not all of them.
+    is_long: bool,
+    /// How many there were, modulo a slot's eight.
+    remainder: usize,
+}
+
+impl<A: Allocator> Front<A> {
+    ghost use Rattle.dsmdb.specs.Source.{IsFrontOf, IsReadOf};
+
+    fn new(alloc: A) -> Result<Front<A>, AllocError>
+        ensures { IfOk result (λ front. IsFrontOf front []) }
+    {
+        Ok(Front {
+            bytes: Vec::with_capacity(alloc, 8 * MAX_SLOTS)?,
+            is_long: false,
+            remainder: 0,
+        })
+    }
+
+    fn source(self) -> Source<A>
+        ensures { (bytes : List ℕ) → IsFrontOf self bytes → IsReadOf result bytes }
+    {
+        if self.is_long {
+            Source::TooLong(self.remainder == 0)
+        } else {
+            Source::Whole(self.bytes)
+        }
+    }
+
+    fn add(&mut self, piece: &[u8]) -> Result<(), AllocError>
+        requires { length piece.now ≤ 4096 }
+        ensures { OnOk result ((bytes : List ℕ) → IsFrontOf self.old bytes → IsFrontOf self.new (bytes ++ piece.now)) }
+    {
+        if !self.is_long {
+            if self.bytes.len() <= 8 * MAX_SLOTS && piece.len() <= 8 * MAX_SLOTS - self.bytes.len() {
+                self.bytes.extend_from_slice(piece)?;
+            } else {
+                self.is_long = true;
+            }
+        }
+        self.remainder = (self.remainder % 8 + piece.len()) % 8;
+        Ok(())
+    }
+}
+
+/// Reads once, again where that was interrupted.
+fn read_some<R: Read>(input: &mut R, chunk: &mut [u8]) -> io::Result<usize>
+    ensures bound { IfOk result (λ n. n ≤ length chunk.new) }
+    ensures consumed { ReadConsumes (R.remaining input.old) (R.remaining input.new) result chunk.new }
+{
+    for _ in 0..u64::MAX {
+        match input.read(chunk) {
+            Err(error) if matches!(error.kind(), ErrorKind::Interrupted) => {}
+            other => return other,
+        }
+    }
+    Err(io::Error::from(ErrorKind::Interrupted))
+}
+
+/// Reads an input to its end. An error is the input's, or want of memory.
+pub fn read_source<A: Allocator, R: Read>(alloc: A, input: &mut R) -> io::Result<Source<A>>
+    ensures { IfOk result (λ source. IfSome (R.remaining input.old) (IsReadOf source)) }
+{
+    let mut front = Front::new(alloc)?;
+    let mut chunk = [0u8; 4096];
+    for _ in 0..u64::MAX {
+        let count = read_some(input, &mut chunk)?;
+        if count == 0 {
+            return Ok(front.source());
+        }
+        let (piece, _) = chunk.split_at(count);
+        front.add(piece)?;
+    }
+    Err(io::Error::from(ErrorKind::Interrupted))
+}
