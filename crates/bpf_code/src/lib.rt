@@ -2,6 +2,7 @@
 #![tactic(auto)]
 
 pub use code::{Code, MAX_SLOTS};
+pub use decoding::decode;
 pub use encoding::encode;
 pub use fault::{DecodeCause, DecodeFault};
 pub use fields::Fields;

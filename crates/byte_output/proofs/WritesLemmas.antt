@@ -1,7 +1,7 @@
 -- Texts that are written one after another.
 use Rattle.std.proofs.Common.{◌≡◌, ℕ, List, [], ◌++◌, take, drop, Option, Some, None, refl, sym, ap, ◌∙◌, append_assoc, take-append-drop}
 use Rattle.std.proofs.lemmas.List.{append-nil}
-use Rattle.std.specs.Io.KnownBytes.{Appends}
+use Rattle.std.specs.Io.KnownBytes.{Appends, Keeps}
 use Rattle.byte_output.specs.Writes.{AppendsBeginning}
 
 pub Appends-none : (a : Option (List ℕ)) → Appends a a []
@@ -28,3 +28,10 @@ takes_more a b c text rest left n (front, split, so_far) took behind =
     (front ++ take n rest,
       split ∙ ap (λ (t : List ℕ). front ++ t) (sym (take-append-drop n rest)) ∙ sym (append_assoc front (take n rest) (drop n rest)) ∙ ap (λ (t : List ℕ). (front ++ take n rest) ++ t) (sym behind),
       Appends-then a b c front (take n rest) so_far took)
+
+-- the whole is a beginning, also after a call that keeps it
+pub AppendsBeginning-whole : (a b c : Option (List ℕ)) (text : List ℕ) → Appends a b text → Keeps b c → AppendsBeginning a c text
+AppendsBeginning-whole None b c text p q = (text, [], sym (append-nil text), tt)
+AppendsBeginning-whole (Some x) None c text p q = absurd p
+AppendsBeginning-whole (Some x) (Some y) None text p q = absurd q
+AppendsBeginning-whole (Some x) (Some y) (Some z) text p q = (text, [], sym (append-nil text), q ∙ p)

@@ -1,0 +1,114 @@
+//! The command `list`, over any input and output.
+
+ghost use Rattle.std.specs.Prelude.{◌≡◌, ◌≢◌, ◌⊎◌, ℕ, List, IfOk, IfSome, OnErr};
+ghost use Rattle.std.specs.Io.KnownBytes.{Appends};
+ghost use Rattle.byte_output.specs.Writes.{AppendsBeginning, Writes};
+ghost use Rattle.bpf_code.specs.Decoding.{program_of};
+ghost use Rattle.dsmdb.specs.Source.{IsReadOf};
+ghost use Rattle.dsmdb.specs.Listing.{refused_text, text_of, status_of};
+ghost use Rattle.dsmdb.specs.declared.list.TheConstants.{FAILED};
+
+use crate::source::{Source, read_source};
+use bpf_code::{Code, DecodeCause, DecodeFault, decode};
+use bpf_list::listing;
+use byte_output::line::{Line, push, push_unsigned};
+use byte_output::put;
+use std::alloc::{AllocError, Allocator};
+use std::io;
+use std::io::{Read, Write};
+
+/// The exit status where a file, a stream or memory failed.
+pub const FAILED: u8 = 3;
+
+/// Lists the program in the input: the listing and 0, or the line that refuses it and 1, or 3 where
+/// a stream or memory failed, which is said to `faults`.
+pub fn list_over<A: Allocator + Copy, R: Read, W: Write, E: Write>(
+    alloc: A,
+    input: &mut R,
+    output: &mut W,
+    faults: &mut E,
+) -> u8
+    // The status is that of the bytes, or something failed.
+    ensures status { IfSome (R.remaining input.old) (λ bytes.
+        (result ≡ FAILED) ⊎ (result ≡ status_of (program_of bytes))) }
+
+    // Where nothing failed, the whole text was written, and else a beginning of it.
+    ensures whole { IfSome (R.remaining input.old) (λ bytes.
+        result ≢ FAILED → Appends (W.contents output.old) (W.contents output.new) (text_of (program_of bytes))) }
+    ensures beginning { IfSome (R.remaining input.old) (λ bytes.
+        AppendsBeginning (W.contents output.old) (W.contents output.new) (text_of (program_of bytes))) }
+{
+    match list(alloc, input, output) {
+        Ok(status) => status,
+        Err(error) => {
+            let _ = writeln!(faults, "dsmdb: {error}");
+            FAILED
+        }
+    }
+}
+
+/// The same, with what failed as an error.
+fn list<A: Allocator + Copy, R: Read, W: Write>(
+    alloc: A,
+    input: &mut R,
+    output: &mut W,
+) -> io::Result<u8>
+    ensures ok { IfOk result (λ status. IfSome (R.remaining input.old) (λ bytes.
+        Appends (W.contents output.old) (W.contents output.new) (text_of (program_of bytes)) × (status ≡ status_of (program_of bytes)))) }
+    ensures err { OnErr result (IfSome (R.remaining input.old) (λ bytes.
+        AppendsBeginning (W.contents output.old) (W.contents output.new) (text_of (program_of bytes)))) }
+{
+    let source = read_source(alloc, input)?;
+    let decoded = decode_source(alloc, &source)?;
+    print(&decoded, output)?;
+    output.flush()?;
+    Ok(match decoded {
+        Ok(_) => 0,
+        Err(_) => 1,
+    })
+}
+
+/// Prints what was decoded.
+fn print<A: Allocator, W: Write>(
+    decoded: &Result<Code<A>, DecodeFault>,
+    output: &mut W,
+) -> io::Result<()>
+    ensures { Writes (W.contents output.old) (W.contents output.new) result (text_of decoded.now) }
+{
+    match decoded {
+        Ok(code) => listing(code, output),
+        Err(fault) => put(output, &refused_line(*fault)),
+    }
+}
+
+/// What the bytes of a source decode to; the error is want of memory.
+#[tactic(auto, unfolding(bpf_code::specs::Decoding::program_of))]
+fn decode_source<A: Allocator>(
+    alloc: A,
+    source: &Source<A>,
+) -> io::Result<Result<Code<A>, DecodeFault>>
+    ensures { IfOk result (λ decoded. (bytes : List ℕ) → IsReadOf source.now bytes → program_of bytes ≡ decoded) }
+{
+    let fault = |cause: DecodeCause| DecodeFault { cause, slot: 0 };
+    match source {
+        Source::Whole(bytes) => match decode(alloc, bytes) {
+            Err(fault) if matches!(fault.cause, DecodeCause::OutOfMemory) => {
+                Err(io::Error::from(AllocError))
+            }
+            decoded => Ok(decoded),
+        },
+        Source::TooLong(true) => Ok(Err(fault(DecodeCause::TooManySlots))),
+        Source::TooLong(false) => Ok(Err(fault(DecodeCause::Length))),
+    }
+}
+
+/// The line that refuses a program, as `refused B3 slot 0`.
+fn refused_line(fault: DecodeFault) -> Line
+    ensures { result.items ≡ refused_text fault }
+{
+    let mut line = Line::new();
+    push_unsigned(&mut line, "refused B", u64::from(fault.cause.number()));
+    push_unsigned(&mut line, " slot ", u64::from(fault.slot));
+    push(&mut line, b"\n");
+    line
+}
