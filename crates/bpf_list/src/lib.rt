@@ -39,3 +39,6 @@ pub fn listing<A: Allocator, W: Write>(code: &Code<A>, output: &mut W) -> io::Re
     }
     Ok(())
 }
+
+#[cfg(test)]
+mod tests;

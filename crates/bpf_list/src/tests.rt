@@ -1,0 +1,208 @@
+use super::*;
+use bpf_code::decode;
+use std::io::ErrorKind;
+use std::test::Fail;
+
+/// The first slot of a program that EXIT follows, and how its line goes on: one for each opcode and
+/// each value that changes the name.
+static ROWS: [&str; 135] = [
+    "6121fbff00000000 ldx32 dst 1 src 2 off -5 imm 0",
+    "6921fbff00000000 ldx16 dst 1 src 2 off -5 imm 0",
+    "7121fbff00000000 ldx8 dst 1 src 2 off -5 imm 0",
+    "7921fbff00000000 ldx64 dst 1 src 2 off -5 imm 0",
+    "8121fbff00000000 ldsx32 dst 1 src 2 off -5 imm 0",
+    "8921fbff00000000 ldsx16 dst 1 src 2 off -5 imm 0",
+    "9121fbff00000000 ldsx8 dst 1 src 2 off -5 imm 0",
+    "6201fbfff9ffffff st32 dst 1 src 0 off -5 imm -7",
+    "6a01fbfff9ffffff st16 dst 1 src 0 off -5 imm -7",
+    "7201fbfff9ffffff st8 dst 1 src 0 off -5 imm -7",
+    "7a01fbfff9ffffff st64 dst 1 src 0 off -5 imm -7",
+    "6321fbff00000000 stx32 dst 1 src 2 off -5 imm 0",
+    "6b21fbff00000000 stx16 dst 1 src 2 off -5 imm 0",
+    "7321fbff00000000 stx8 dst 1 src 2 off -5 imm 0",
+    "7b21fbff00000000 stx64 dst 1 src 2 off -5 imm 0",
+    "04010000f9ffffff add32 dst 1 src 0 off 0 imm -7",
+    "0c21000000000000 add32 dst 1 src 2 off 0 imm 0",
+    "14010000f9ffffff sub32 dst 1 src 0 off 0 imm -7",
+    "1c21000000000000 sub32 dst 1 src 2 off 0 imm 0",
+    "24010000f9ffffff mul32 dst 1 src 0 off 0 imm -7",
+    "2c21000000000000 mul32 dst 1 src 2 off 0 imm 0",
+    "34010000f9ffffff div32 dst 1 src 0 off 0 imm -7",
+    "3c21000000000000 div32 dst 1 src 2 off 0 imm 0",
+    "34010100f9ffffff sdiv32 dst 1 src 0 off 1 imm -7",
+    "3c21010000000000 sdiv32 dst 1 src 2 off 1 imm 0",
+    "44010000f9ffffff or32 dst 1 src 0 off 0 imm -7",
+    "4c21000000000000 or32 dst 1 src 2 off 0 imm 0",
+    "54010000f9ffffff and32 dst 1 src 0 off 0 imm -7",
+    "5c21000000000000 and32 dst 1 src 2 off 0 imm 0",
+    "64010000f9ffffff lsh32 dst 1 src 0 off 0 imm -7",
+    "6c21000000000000 lsh32 dst 1 src 2 off 0 imm 0",
+    "74010000f9ffffff rsh32 dst 1 src 0 off 0 imm -7",
+    "7c21000000000000 rsh32 dst 1 src 2 off 0 imm 0",
+    "94010000f9ffffff mod32 dst 1 src 0 off 0 imm -7",
+    "9c21000000000000 mod32 dst 1 src 2 off 0 imm 0",
+    "94010100f9ffffff smod32 dst 1 src 0 off 1 imm -7",
+    "9c21010000000000 smod32 dst 1 src 2 off 1 imm 0",
+    "a4010000f9ffffff xor32 dst 1 src 0 off 0 imm -7",
+    "ac21000000000000 xor32 dst 1 src 2 off 0 imm 0",
+    "b4010000f9ffffff mov32 dst 1 src 0 off 0 imm -7",
+    "bc21000000000000 mov32 dst 1 src 2 off 0 imm 0",
+    "c4010000f9ffffff arsh32 dst 1 src 0 off 0 imm -7",
+    "cc21000000000000 arsh32 dst 1 src 2 off 0 imm 0",
+    "8401000000000000 neg32 dst 1 src 0 off 0 imm 0",
+    "07010000f9ffffff add64 dst 1 src 0 off 0 imm -7",
+    "0f21000000000000 add64 dst 1 src 2 off 0 imm 0",
+    "17010000f9ffffff sub64 dst 1 src 0 off 0 imm -7",
+    "1f21000000000000 sub64 dst 1 src 2 off 0 imm 0",
+    "27010000f9ffffff mul64 dst 1 src 0 off 0 imm -7",
+    "2f21000000000000 mul64 dst 1 src 2 off 0 imm 0",
+    "37010000f9ffffff div64 dst 1 src 0 off 0 imm -7",
+    "3f21000000000000 div64 dst 1 src 2 off 0 imm 0",
+    "37010100f9ffffff sdiv64 dst 1 src 0 off 1 imm -7",
+    "3f21010000000000 sdiv64 dst 1 src 2 off 1 imm 0",
+    "47010000f9ffffff or64 dst 1 src 0 off 0 imm -7",
+    "4f21000000000000 or64 dst 1 src 2 off 0 imm 0",
+    "57010000f9ffffff and64 dst 1 src 0 off 0 imm -7",
+    "5f21000000000000 and64 dst 1 src 2 off 0 imm 0",
+    "67010000f9ffffff lsh64 dst 1 src 0 off 0 imm -7",
+    "6f21000000000000 lsh64 dst 1 src 2 off 0 imm 0",
+    "77010000f9ffffff rsh64 dst 1 src 0 off 0 imm -7",
+    "7f21000000000000 rsh64 dst 1 src 2 off 0 imm 0",
+    "97010000f9ffffff mod64 dst 1 src 0 off 0 imm -7",
+    "9f21000000000000 mod64 dst 1 src 2 off 0 imm 0",
+    "97010100f9ffffff smod64 dst 1 src 0 off 1 imm -7",
+    "9f21010000000000 smod64 dst 1 src 2 off 1 imm 0",
+    "a7010000f9ffffff xor64 dst 1 src 0 off 0 imm -7",
+    "af21000000000000 xor64 dst 1 src 2 off 0 imm 0",
+    "b7010000f9ffffff mov64 dst 1 src 0 off 0 imm -7",
+    "bf21000000000000 mov64 dst 1 src 2 off 0 imm 0",
+    "c7010000f9ffffff arsh64 dst 1 src 0 off 0 imm -7",
+    "cf21000000000000 arsh64 dst 1 src 2 off 0 imm 0",
+    "8701000000000000 neg64 dst 1 src 0 off 0 imm 0",
+    "bc21080000000000 movsx32 dst 1 src 2 off 8 imm 0",
+    "bc21100000000000 movsx32 dst 1 src 2 off 16 imm 0",
+    "bf21080000000000 movsx64 dst 1 src 2 off 8 imm 0",
+    "bf21100000000000 movsx64 dst 1 src 2 off 16 imm 0",
+    "bf21200000000000 movsx64 dst 1 src 2 off 32 imm 0",
+    "d401000010000000 le dst 1 src 0 off 0 imm 16",
+    "d401000020000000 le dst 1 src 0 off 0 imm 32",
+    "d401000040000000 le dst 1 src 0 off 0 imm 64",
+    "dc01000010000000 be dst 1 src 0 off 0 imm 16",
+    "dc01000020000000 be dst 1 src 0 off 0 imm 32",
+    "dc01000040000000 be dst 1 src 0 off 0 imm 64",
+    "d701000010000000 swap dst 1 src 0 off 0 imm 16",
+    "d701000020000000 swap dst 1 src 0 off 0 imm 32",
+    "d701000040000000 swap dst 1 src 0 off 0 imm 64",
+    "0500000000000000 ja64 dst 0 src 0 off 0 imm 0",
+    "0600000000000000 ja32 dst 0 src 0 off 0 imm 0",
+    "15010000f9ffffff jeq64 dst 1 src 0 off 0 imm -7",
+    "1d21000000000000 jeq64 dst 1 src 2 off 0 imm 0",
+    "25010000f9ffffff jgt64 dst 1 src 0 off 0 imm -7",
+    "2d21000000000000 jgt64 dst 1 src 2 off 0 imm 0",
+    "35010000f9ffffff jge64 dst 1 src 0 off 0 imm -7",
+    "3d21000000000000 jge64 dst 1 src 2 off 0 imm 0",
+    "45010000f9ffffff jset64 dst 1 src 0 off 0 imm -7",
+    "4d21000000000000 jset64 dst 1 src 2 off 0 imm 0",
+    "55010000f9ffffff jne64 dst 1 src 0 off 0 imm -7",
+    "5d21000000000000 jne64 dst 1 src 2 off 0 imm 0",
+    "65010000f9ffffff jsgt64 dst 1 src 0 off 0 imm -7",
+    "6d21000000000000 jsgt64 dst 1 src 2 off 0 imm 0",
+    "75010000f9ffffff jsge64 dst 1 src 0 off 0 imm -7",
+    "7d21000000000000 jsge64 dst 1 src 2 off 0 imm 0",
+    "a5010000f9ffffff jlt64 dst 1 src 0 off 0 imm -7",
+    "ad21000000000000 jlt64 dst 1 src 2 off 0 imm 0",
+    "b5010000f9ffffff jle64 dst 1 src 0 off 0 imm -7",
+    "bd21000000000000 jle64 dst 1 src 2 off 0 imm 0",
+    "c5010000f9ffffff jslt64 dst 1 src 0 off 0 imm -7",
+    "cd21000000000000 jslt64 dst 1 src 2 off 0 imm 0",
+    "d5010000f9ffffff jsle64 dst 1 src 0 off 0 imm -7",
+    "dd21000000000000 jsle64 dst 1 src 2 off 0 imm 0",
+    "16010000f9ffffff jeq32 dst 1 src 0 off 0 imm -7",
+    "1e21000000000000 jeq32 dst 1 src 2 off 0 imm 0",
+    "26010000f9ffffff jgt32 dst 1 src 0 off 0 imm -7",
+    "2e21000000000000 jgt32 dst 1 src 2 off 0 imm 0",
+    "36010000f9ffffff jge32 dst 1 src 0 off 0 imm -7",
+    "3e21000000000000 jge32 dst 1 src 2 off 0 imm 0",
+    "46010000f9ffffff jset32 dst 1 src 0 off 0 imm -7",
+    "4e21000000000000 jset32 dst 1 src 2 off 0 imm 0",
+    "56010000f9ffffff jne32 dst 1 src 0 off 0 imm -7",
+    "5e21000000000000 jne32 dst 1 src 2 off 0 imm 0",
+    "66010000f9ffffff jsgt32 dst 1 src 0 off 0 imm -7",
+    "6e21000000000000 jsgt32 dst 1 src 2 off 0 imm 0",
+    "76010000f9ffffff jsge32 dst 1 src 0 off 0 imm -7",
+    "7e21000000000000 jsge32 dst 1 src 2 off 0 imm 0",
+    "a6010000f9ffffff jlt32 dst 1 src 0 off 0 imm -7",
+    "ae21000000000000 jlt32 dst 1 src 2 off 0 imm 0",
+    "b6010000f9ffffff jle32 dst 1 src 0 off 0 imm -7",
+    "be21000000000000 jle32 dst 1 src 2 off 0 imm 0",
+    "c6010000f9ffffff jslt32 dst 1 src 0 off 0 imm -7",
+    "ce21000000000000 jslt32 dst 1 src 2 off 0 imm 0",
+    "d6010000f9ffffff jsle32 dst 1 src 0 off 0 imm -7",
+    "de21000000000000 jsle32 dst 1 src 2 off 0 imm 0",
+    "85000000f9ffffff call dst 0 src 0 off 0 imm -7",
+    "9500000000000000 exit dst 0 src 0 off 0 imm 0",
+];
+
+const EXIT: [u8; 8] = [0x95, 0, 0, 0, 0, 0, 0, 0];
+
+fn listed(rt: &HostRuntime, program: &[u8]) -> Result<Vec<u8>, Fail> {
+    let code = decode(rt.alloc(), program)?;
+    let mut text = Vec::new(rt.alloc());
+    listing(&code, &mut text)?;
+    Ok(text)
+}
+
+#[test]
+fn each_instruction_has_its_line(rt: HostRuntime) -> Result<(), Fail> {
+    for row in &ROWS {
+        let digits = row.as_bytes().get(..16).ok_or("sixteen digits")?;
+        let mut program = hex::decode(rt.alloc(), digits)?;
+        program.extend_from_slice(&EXIT)?;
+        let expected = format!(in rt.alloc();
+            "   0 {row}\n   1 9500000000000000 exit dst 0 src 0 off 0 imm 0\n"
+        )?;
+        assert_eq!(rt; listed(&rt, &program)?.as_slice(), expected.as_bytes());
+    }
+    Ok(())
+}
+
+#[test]
+fn a_wide_load_is_one_line(rt: HostRuntime) -> Result<(), Fail> {
+    let program = hex::decode(
+        rt.alloc(),
+        "180000000100000000000000020000009500000000000000",
+    )?;
+    let expected = "   0 18000000010000000000000002000000 lddw dst 0 src 0 off 0 imm 8589934593\n   2 9500000000000000 exit dst 0 src 0 off 0 imm 0\n";
+    assert_eq!(rt; listed(&rt, &program)?.as_slice(), expected.as_bytes());
+    Ok(())
+}
+
+/// Takes so many bytes, then fails.
+#[derive(Drop)]
+struct Failing {
+    room: usize,
+}
+
+impl Write for Failing {
+    fn write(&mut self, buf: &[u8]) -> io::Result<usize> {
+        if self.room == 0 {
+            return Err(io::Error::from(ErrorKind::Other));
+        }
+        let taken = buf.len().min(self.room);
+        self.room -= taken;
+        Ok(taken)
+    }
+
+    fn flush(&mut self) -> io::Result<()> {
+        Ok(())
+    }
+}
+
+#[test]
+fn a_failed_write_ends_the_listing(rt: HostRuntime) -> Result<(), Fail> {
+    let code = decode(rt.alloc(), &EXIT)?;
+    // The line has 51 bytes.
+    assert!(rt; listing(&code, &mut Failing { room: 50 }).is_err());
+    assert!(rt; listing(&code, &mut Failing { room: 51 }).is_ok());
+    Ok(())
+}
