@@ -1,0 +1,6 @@
+pub mod State
+pub mod Memory
+pub mod Helpers
+pub mod Step
+pub mod Run
+pub mod Path

@@ -1,0 +1,5 @@
+pub mod RowsLemmas
+pub mod LookLemmas
+pub mod SchemaLemmas
+pub mod EqualLemmas
+pub mod CountLemmas

@@ -1,0 +1,3 @@
+pub mod Schema
+pub mod Helper
+pub mod Rows
