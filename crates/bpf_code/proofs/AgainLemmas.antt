@@ -1,46 +1,34 @@
 -- The bytes of a program decode to it.
-use Rattle.std.proofs.Common.{◌≡◌, ◌≢◌, ℕ, zero, suc, ℤ, pos, negsuc, ◌+◌, ◌-◌, ◌*◌, ◌/◌, ◌%◌, ◌^◌, ◌≤◌, ◌<◌, Bool, true, false, cond, List, [], ◌∷◌, ◌++◌, length, take, drop, get_or, slice_index_or, Option, Some, None, Result, Ok, Err, refl, sym, ap, subst, ◌∙◌, append_assoc, arith, rules}
-use Rattle.std.specs.Prelude.{IsSome, slice_get, FitsSigned}
-use Rattle.std.specs.Option.{option_and_then, option_map}
-use Rattle.std.specs.Int.{w16, w32, cast_signed, cast_unsigned}
-use Rattle.std.proofs.lemmas.Int.{of_z-to_z, to_z-of_z}
-use Rattle.byteorder.specs.Endian.{little_bytes, little_from}
+use Rattle.std.proofs.Common.{◌≡◌, ℕ, ℤ, pos, ◌%◌, ◌^◌, ◌<◌, true, Some, Ok, refl, ap, ◌∙◌, arith}
+use Rattle.std.specs.Option.{option_map}
+use Rattle.std.specs.Int.{w32, cast_signed, cast_unsigned}
+use Rattle.std.proofs.lemmas.Int.{of_z-to_z}
 use Rattle.bpf_words.specs.declared.operation.BinaryOperation.{BinaryOperation}
 use Rattle.bpf_words.specs.declared.operation.BinaryOperation.TheVariants as operation
-use Rattle.bpf_words.specs.declared.operation.ByteOrder.{ByteOrder}
 use Rattle.bpf_words.specs.declared.operation.ByteOrder.TheVariants as order
 use Rattle.bpf_words.specs.declared.operation.EndWidth.{EndWidth}
 use Rattle.bpf_words.specs.declared.operation.EndWidth.TheVariants.{Low16, Low32, Low64}
-use Rattle.bpf_words.specs.declared.condition.Condition.{Condition}
 use Rattle.bpf_words.specs.declared.condition.Condition.TheVariants as condition
-use Rattle.bpf_code.specs.declared.fault.DecodeCause.{DecodeCause}
-use Rattle.bpf_code.specs.declared.fault.DecodeFault.{DecodeFault}
 use Rattle.bpf_code.specs.declared.fields.Fields.{Fields}
 use Rattle.bpf_code.specs.declared.instruction.Register.{Register}
 use Rattle.bpf_code.specs.declared.instruction.Register.TheVariants.{R0, R1, R2, R3, R4, R5, R6, R7, R8, R9, R10}
 use Rattle.bpf_code.specs.declared.instruction.Width.{Width}
 use Rattle.bpf_code.specs.declared.instruction.Width.TheVariants.{Bits32, Bits64}
-use Rattle.bpf_code.specs.declared.instruction.Size.{Size}
 use Rattle.bpf_code.specs.declared.instruction.Size.TheVariants.{Byte, HalfWord, Word, DoubleWord}
-use Rattle.bpf_code.specs.declared.instruction.LoadKind.{LoadKind}
 use Rattle.bpf_code.specs.declared.instruction.LoadKind.TheVariants.{U8, U16, U32, U64, I8, I16, I32}
 use Rattle.bpf_code.specs.declared.instruction.SignExtendingMove.{SignExtendingMove}
 use Rattle.bpf_code.specs.declared.instruction.SignExtendingMove.TheVariants.{From8To32, From16To32, From8To64, From16To64, From32To64}
-use Rattle.bpf_code.specs.declared.instruction.Source.{Source}
 use Rattle.bpf_code.specs.declared.instruction.Source.TheVariants as source
 use Rattle.bpf_code.specs.declared.instruction.Instruction.{Instruction}
 use Rattle.bpf_code.specs.declared.instruction.Instruction.TheVariants.{LoadWide, Load, StoreImmediate, StoreRegister, Arithmetic, Negate, MoveSignExtended, End, Jump, LongJump, Branch, Call, Exit}
-use Rattle.bpf_code.specs.declared.opcode.ArithmeticCode.{ArithmeticCode}
 use Rattle.bpf_code.specs.declared.opcode.ArithmeticCode.TheVariants as code
-use Rattle.bpf_code.specs.declared.opcode.SourceKind.{SourceKind}
 use Rattle.bpf_code.specs.declared.opcode.SourceKind.TheVariants.{Immediate, Register as InRegister}
 use Rattle.bpf_code.specs.declared.opcode.Opcode.{Opcode}
 use Rattle.bpf_code.specs.declared.opcode.Opcode.TheVariants as opcode
 use Rattle.bpf_code.specs.Register.{number_of, register_of}
 use Rattle.bpf_code.specs.Opcode.{byte_of, opcode_of, binary_of, branch_of, memory_of}
-use Rattle.bpf_code.specs.Fields.{bytes_of, fields_of_bytes, slots_of}
-use Rattle.bpf_code.specs.Reading.{read, read_half, or_fault, uses_of, unused_are_zero, instruction_of, on_register, operation_of, extension_of, end_width_of}
-use Rattle.bpf_code.specs.Spelling.{slot, fields_of, second_half, second_slot, slot_bytes, instruction_bytes, code_of, operation_offset, extension_width, extension_offset, end_immediate}
+use Rattle.bpf_code.specs.Reading.{read, read_half, uses_of, unused_are_zero, instruction_of, on_register, operation_of, extension_of, end_width_of}
+use Rattle.bpf_code.specs.Spelling.{slot, fields_of, second_half, code_of, operation_offset, extension_width, extension_offset, end_immediate}
 
 register_again : (r : Register) → register_of (number_of r) ≡ Some r
 register_again R0 = refl

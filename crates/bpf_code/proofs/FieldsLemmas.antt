@@ -1,10 +1,8 @@
 -- A slot's bytes and its fields give each other back.
-use Rattle.std.proofs.Common.{◌≡◌, ℕ, zero, suc, ◌+◌, ◌*◌, ◌/◌, ◌%◌, ◌^◌, ◌<◌, List, [], ◌∷◌, ◌++◌, length, get_or, refl, sym, ap, ◌∙◌, arith, rules}
-use Rattle.std.specs.Prelude.{slice_index}
+use Rattle.std.proofs.Common.{◌≡◌, ℕ, ◌+◌, ◌*◌, ◌/◌, ◌%◌, ◌<◌, List, [], ◌∷◌, ◌++◌, get_or, refl, ap, ◌∙◌, arith}
 use Rattle.std.specs.Int.{w16, w32, cast_signed, cast_unsigned}
-use Rattle.std.proofs.lemmas.Int.{of_z-to_z, to_z-of_z}
-use Rattle.byteorder.specs.Endian.{little_bytes, little_from}
-use Rattle.bpf_code.specs.declared.fields.Fields.{Fields}
+use Rattle.std.proofs.lemmas.Int.{of_z-to_z}
+use Rattle.byteorder.specs.Endian.{little_bytes}
 use Rattle.bpf_code.specs.Fields.{bytes_of, fields_of_bytes}
 
 abbrev pub IsBytes : List ℕ → Type 0

@@ -1,8 +1,7 @@
 -- The jumps' faults, slot by slot, and what their absence says.
-use Rattle.std.proofs.Common.{◌≡◌, ℕ, suc, ◌+◌, ◌≤◌, ◌<◌, List, [], ◌∷◌, ◌++◌, length, drop, slice_index_or, Option, Some, None, refl, sym, ap, ◌∙◌, arith, add-one, drop-cons}
+use Rattle.std.proofs.Common.{◌≡◌, ℕ, ◌+◌, ◌≤◌, ◌<◌, length, drop, slice_index_or, Option, Some, None, sym, ap, ◌∙◌, add-one, drop-cons}
 use Rattle.std.proofs.lemmas.List.{drop_all}
 use Rattle.bpf_code.specs.declared.fault.DecodeFault.{DecodeFault}
-use Rattle.bpf_code.specs.declared.instruction.Instruction.{Instruction}
 use Rattle.bpf_code.specs.Program.{Program}
 use Rattle.bpf_code.specs.Decoding.{or_else, jump_fault, jump_faults}
 

@@ -1,12 +1,9 @@
 -- The bytes of a program decode to it, the whole of it.
-use Rattle.std.proofs.Common.{◌≡◌, ◌⊎◌, ℕ, zero, suc, ℤ, pos, negsuc, ◌+◌, ◌-◌, ◌*◌, ◌/◌, ◌%◌, ◌^◌, ◌≤◌, ◌<◌, Bool, true, false, cond, List, [], ◌∷◌, ◌++◌, length, slice_index_or, Option, Some, None, Result, Ok, Err, refl, sym, ap, subst, ◌∙◌, append_assoc, length-append, arith, rules, inl, inr}
-use Rattle.std.specs.Prelude.{IsSome, slice_get, FitsSigned, not, nat_lt, nat_eq, ◌||◌}
-use Rattle.std.specs.Option.{option_and_then}
+use Rattle.std.proofs.Common.{◌≡◌, ℕ, ℤ, pos, negsuc, ◌+◌, ◌*◌, ◌/◌, ◌%◌, ◌^◌, ◌<◌, false, List, [], ◌∷◌, ◌++◌, Some, None, Ok, refl, ap, ◌∙◌, append_assoc, arith, rules}
+use Rattle.std.specs.Prelude.{FitsSigned}
 use Rattle.std.specs.Int.{w16, w32, cast_signed, cast_unsigned}
-use Rattle.std.proofs.lemmas.Int.{of_z-to_z, to_z-of_z}
+use Rattle.std.proofs.lemmas.Int.{to_z-of_z}
 use Rattle.std.proofs.lemmas.List.Concat.{flat_map-cons}
-use Rattle.bpf_code.specs.declared.code.TheConstants.{MAX_SLOTS}
-use Rattle.bpf_code.specs.declared.fault.DecodeFault.{DecodeFault}
 use Rattle.bpf_code.specs.declared.fields.Fields.{Fields}
 use Rattle.bpf_words.specs.declared.operation.BinaryOperation.{BinaryOperation}
 use Rattle.bpf_words.specs.declared.operation.BinaryOperation.TheVariants as operation
@@ -16,16 +13,15 @@ use Rattle.bpf_code.specs.declared.instruction.Register.{Register}
 use Rattle.bpf_code.specs.declared.instruction.Register.TheVariants.{R0, R1, R2, R3, R4, R5, R6, R7, R8, R9, R10}
 use Rattle.bpf_code.specs.declared.instruction.SignExtendingMove.{SignExtendingMove}
 use Rattle.bpf_code.specs.declared.instruction.SignExtendingMove.TheVariants.{From8To32, From16To32, From8To64, From16To64, From32To64}
-use Rattle.bpf_code.specs.declared.opcode.Opcode.{Opcode}
 use Rattle.bpf_code.specs.Register.{number_of}
 use Rattle.bpf_code.specs.declared.instruction.Instruction.{Instruction}
 use Rattle.bpf_code.specs.declared.instruction.Instruction.TheVariants.{LoadWide, Load, StoreImmediate, StoreRegister, Arithmetic, Negate, MoveSignExtended, End, Jump, LongJump, Branch, Call, Exit}
 use Rattle.bpf_code.specs.declared.instruction.Source.TheVariants as source
 use Rattle.bpf_code.specs.Fields.{bytes_of, fields_of_bytes, slots_of}
-use Rattle.bpf_code.specs.Reading.{read, read_half}
-use Rattle.bpf_code.specs.Spelling.{slot, fields_of, second_half, instruction_bytes, operation_offset, extension_offset, end_immediate}
-use Rattle.bpf_code.specs.Program.{Program, spelling, spelling_at, is_wide, instruction_at, AreSlots, IsProgram, IsInRange, AllInRange, Lands, distance_of}
-use Rattle.bpf_code.specs.Decoding.{fault, at_slot, with_front, completed, read_slots, or_else, landing_fault, distance_fault, jump_fault, jump_faults, last_fault, exit_fault, unless, checked, program_of}
+use Rattle.bpf_code.specs.Reading.{read}
+use Rattle.bpf_code.specs.Spelling.{fields_of, second_half, instruction_bytes, operation_offset, extension_offset, end_immediate}
+use Rattle.bpf_code.specs.Program.{Program, spelling, spelling_at, is_wide, AreSlots, IsInRange, AllInRange}
+use Rattle.bpf_code.specs.Decoding.{read_slots}
 use Rattle.bpf_code.proofs.SpellingLemmas.{instruction_bytes-short}
 use Rattle.bpf_code.proofs.AgainLemmas.{first_of, read_again, read_half_again}
 
@@ -58,7 +54,6 @@ four_again z fits =
     let below = below_32 z fits in
     let same : cast_unsigned w32 z % 256 + 256 * (cast_unsigned w32 z / 256 % 256 + 256 * (cast_unsigned w32 z / 65536 % 256 + 256 * (cast_unsigned w32 z / 16777216 % 256 + 256 * 0))) ≡ cast_unsigned w32 z = omega arith in
     ap (cast_signed w32) same ∙ to_z-of_z w32 z fits
-
 
 -- the fields are read again from their bytes
 fields_again : (f : Fields) → AreFields f → fields_of_bytes (bytes_of f) ≡ f

@@ -1,16 +1,14 @@
 -- What decodes without a fault is a program.
-use Rattle.std.proofs.Common.{◌≡◌, ℕ, zero, suc, ℤ, pos, negsuc, ◌+◌, ◌-◌, ◌≤◌, ◌<◌, Bool, true, false, List, [], ◌∷◌, ◌++◌, length, drop, slice_index_or, Option, Some, None, Result, Ok, Err, refl, sym, ap, cond, subst, ◌∙◌, arith, rules, add-one, drop-cons}
+use Rattle.std.proofs.Common.{◌≡◌, ℕ, zero, suc, ℤ, pos, negsuc, ◌+◌, ◌-◌, ◌<◌, Bool, true, false, List, [], ◌∷◌, ◌++◌, length, slice_index_or, Option, Some, None, Result, Ok, Err, refl, sym, ap, cond, subst, arith}
 use Rattle.std.specs.Prelude.{IsSome, slice_get}
 use Rattle.std.specs.Option.{option_and_then}
-use Rattle.bpf_code.specs.declared.code.TheConstants.{MAX_SLOTS}
-use Rattle.bpf_code.specs.declared.fault.DecodeCause.{DecodeCause}
 use Rattle.bpf_code.specs.declared.fault.DecodeFault.{DecodeFault}
 use Rattle.bpf_code.specs.declared.fields.Fields.{Fields}
 use Rattle.bpf_code.specs.declared.instruction.Instruction.{Instruction}
 use Rattle.bpf_code.specs.declared.instruction.Instruction.TheVariants.{LoadWide, Exit}
 use Rattle.bpf_code.specs.Reading.{read, read_half}
-use Rattle.bpf_code.specs.Program.{Program, is_wide, AreSlots, IsProgram, Lands, instruction_at, distance_of}
-use Rattle.bpf_code.specs.Decoding.{fault, at_slot, with_front, completed, read_slots, or_else, landing_fault, distance_fault, jump_fault, jump_faults, last_fault, exit_fault}
+use Rattle.bpf_code.specs.Program.{Program, is_wide, AreSlots, Lands, instruction_at, distance_of}
+use Rattle.bpf_code.specs.Decoding.{at_slot, with_front, completed, read_slots, or_else, landing_fault, distance_fault, jump_fault, jump_faults, last_fault, exit_fault}
 
 -- ---- the slots
 
@@ -56,16 +54,16 @@ AreSlots-read (f ∷ fs) None slot p waits e =
       | Ok i ↦ elim (is_wide i) as (λ w. is_wide i ≡ w → cond w (read_slots (Some i) (slot + 1) fs) (with_front (Some i ∷ []) (read_slots None (slot + 1) fs)) ≡ Ok p → AreSlots false p) [
         | true ↦ λ wide h. AreSlots-read fs (Some i) (slot + 1) p wide h
         | false ↦ λ short h.
-          let q = with_front_ok (Some i ∷ []) (read_slots None (slot + 1) fs) p h in
-          subst (λ (x : Program). AreSlots false x) (sym q.2) (AreSlots-short i q.0 short (AreSlots-read fs None (slot + 1) q.0 tt q.1))
-        ] refl
+            let q = with_front_ok (Some i ∷ []) (read_slots None (slot + 1) fs) p h in
+            subst (λ (x : Program). AreSlots false x) (sym q.2) (AreSlots-short i q.0 short (AreSlots-read fs None (slot + 1) q.0 tt q.1))
+      ] refl
       | Err cause ↦ λ h. absurd cc
     ] e
 AreSlots-read (f ∷ fs) (Some first) slot p waits e =
     elim (read_half f) as (λ r. at_slot slot r (λ high. with_front (Some (completed first high) ∷ None ∷ []) (read_slots None (slot + 1) fs)) ≡ Ok p → AreSlots false p) [
       | Ok high ↦ λ h.
-        let q = with_front_ok (Some (completed first high) ∷ None ∷ []) (read_slots None (slot + 1) fs) p h in
-        subst (λ (x : Program). AreSlots false x) (sym q.2) (AreSlots-completed first high q.0 waits (AreSlots-read fs None (slot + 1) q.0 tt q.1))
+          let q = with_front_ok (Some (completed first high) ∷ None ∷ []) (read_slots None (slot + 1) fs) p h in
+          subst (λ (x : Program). AreSlots false x) (sym q.2) (AreSlots-completed first high q.0 waits (AreSlots-read fs None (slot + 1) q.0 tt q.1))
       | Err cause ↦ λ h. absurd cc
     ] e
 

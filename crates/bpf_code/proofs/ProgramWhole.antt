@@ -1,18 +1,17 @@
 -- The bytes of a program have no fault.
-use Rattle.std.proofs.Common.{◌≡◌, ℕ, zero, suc, ℤ, pos, negsuc, ◌+◌, ◌-◌, ◌*◌, ◌/◌, ◌%◌, ◌≤◌, ◌<◌, Bool, true, false, cond, List, [], ◌∷◌, ◌++◌, length, slice_index_or, Option, Some, None, Result, Ok, Err, refl, sym, ap, subst, ◌∙◌, length-append, arith, rules}
-use Rattle.std.specs.Prelude.{IsSome, slice_get, nat_eq, nat_lt, not, ◌||◌}
+use Rattle.std.proofs.Common.{◌≡◌, ℕ, suc, ℤ, pos, negsuc, ◌+◌, ◌-◌, ◌*◌, ◌/◌, ◌%◌, ◌<◌, true, false, List, [], ◌∷◌, ◌++◌, length, slice_index_or, Option, Some, None, Ok, refl, ap, subst, ◌∙◌, length-append, arith}
+use Rattle.std.specs.Prelude.{IsSome, slice_get, nat_eq, nat_lt}
 use Rattle.std.specs.Option.{option_and_then}
 use Rattle.std.proofs.lemmas.List.Concat.{flat_map-cons}
 use Rattle.std.proofs.lemmas.Bool.Decides.{nat_tests}
-use Rattle.bpf_code.specs.declared.code.TheConstants.{MAX_SLOTS}
-use Rattle.bpf_code.specs.declared.fault.DecodeCause.TheVariants.{Length, TooManySlots}
+use Rattle.bpf_code.specs.Program.{max_slots}
 use Rattle.bpf_code.specs.declared.fault.DecodeFault.{DecodeFault}
 use Rattle.bpf_code.specs.declared.instruction.Instruction.{Instruction}
-use Rattle.bpf_code.specs.declared.instruction.Instruction.TheVariants.{LoadWide, Load, StoreImmediate, StoreRegister, Arithmetic, Negate, MoveSignExtended, End, Jump, LongJump, Branch, Call, Exit}
-use Rattle.bpf_code.specs.Fields.{bytes_of, slots_of}
-use Rattle.bpf_code.specs.Spelling.{fields_of, second_half, instruction_bytes}
-use Rattle.bpf_code.specs.Program.{Program, spelling, spelling_at, is_wide, instruction_at, AreSlots, IsProgram, AllInRange, Lands, distance_of}
-use Rattle.bpf_code.specs.Decoding.{fault, read_slots, or_else, landing_fault, distance_fault, jump_fault, jump_faults, last_fault, exit_fault, unless, checked, program_of}
+use Rattle.bpf_code.specs.declared.instruction.Instruction.TheVariants.{LoadWide, Exit}
+use Rattle.bpf_code.specs.Fields.{bytes_of}
+use Rattle.bpf_code.specs.Spelling.{fields_of, instruction_bytes}
+use Rattle.bpf_code.specs.Program.{Program, spelling, spelling_at, is_wide, AreSlots, IsProgram, AllInRange, Lands, distance_of}
+use Rattle.bpf_code.specs.Decoding.{or_else, landing_fault, distance_fault, jump_fault, jump_faults, last_fault, exit_fault, program_of}
 use Rattle.bpf_code.proofs.SpellingLemmas.{instruction_bytes-short, instruction_at-index}
 use Rattle.bpf_code.proofs.ProgramAgain.{slots_read_again}
 
@@ -118,5 +117,5 @@ program_again p is fits =
     let short = is.not_long in
     let not_zero : nat_eq (length (spelling p)) 0 ≡ false = grind (arith, nat_tests) in
     let whole : nat_eq (length (spelling p) % 8) 0 ≡ true = grind (arith, nat_tests) in
-    let not_many : nat_lt MAX_SLOTS (length (spelling p) / 8) ≡ false = grind (arith, nat_tests) in
+    let not_many : nat_lt max_slots (length (spelling p) / 8) ≡ false = grind (arith, nat_tests) in
     rw (not_zero, whole, not_many, slots_read_again p 0 is.slots fits, jumps_well p is, exit_well p is) refl

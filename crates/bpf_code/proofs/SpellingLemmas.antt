@@ -1,14 +1,13 @@
 -- The bytes of a program that grows by an instruction.
-use Rattle.std.proofs.Common.{◌≡◌, ℕ, zero, suc, ◌+◌, ◌<◌, take, length, slice_index_or, arith, Bool, true, false, List, [], ◌∷◌, ◌++◌, Option, Some, None, refl, sym, ap, ◌∙◌, append_assoc}
-use Rattle.std.specs.List.{flat_map}
+use Rattle.std.proofs.Common.{◌≡◌, ℕ, zero, suc, ◌+◌, ◌<◌, take, length, slice_index_or, arith, false, List, [], ◌∷◌, ◌++◌, Option, Some, None, refl, sym, ap, ◌∙◌, append_assoc}
 use Rattle.std.proofs.lemmas.Grind.{flat_map-append}
 use Rattle.std.proofs.lemmas.List.{append-nil, take_more}
 use Rattle.std.proofs.lemmas.List.Concat.{flat_map-cons}
 use Rattle.bpf_code.specs.declared.fields.Fields.{Fields}
 use Rattle.bpf_code.specs.declared.instruction.Instruction.{Instruction}
-use Rattle.bpf_code.specs.declared.instruction.Instruction.TheVariants.{LoadWide, Load, StoreImmediate, StoreRegister, Arithmetic, Negate, MoveSignExtended, End, Jump, LongJump, Branch, Call, Exit}
+use Rattle.bpf_code.specs.declared.instruction.Instruction.TheVariants.{LoadWide}
 use Rattle.bpf_code.specs.Fields.{bytes_of}
-use Rattle.bpf_code.specs.Spelling.{fields_of, second_half, second_slot, slot_bytes, instruction_bytes}
+use Rattle.bpf_code.specs.Spelling.{fields_of, second_slot, slot_bytes, instruction_bytes}
 use Rattle.bpf_code.specs.Program.{Program, spelling, spelling_at, instruction_at, is_wide}
 
 no_second : (i : Instruction) → is_wide i ≡ false → second_slot i ≡ None

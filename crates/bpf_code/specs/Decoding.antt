@@ -1,7 +1,6 @@
 -- What bytes decode to: a program, or their one fault.
-use Rattle.std.specs.Prelude.{ℕ, suc, ℤ, pos, negsuc, ◌+◌, ◌-◌, ◌*◌, ◌^◌, ◌/◌, ◌%◌, ◌||◌, ◌==◌, not, nat_lt, Bool, true, false, if◌then◌else◌, List, [], ◌∷◌, ◌++◌, length, slice_get, Option, Some, None, Result, Ok, Err}
+use Rattle.std.specs.Prelude.{ℕ, ℤ, pos, negsuc, ◌+◌, ◌-◌, ◌*◌, ◌^◌, ◌/◌, ◌%◌, ◌||◌, ◌==◌, not, nat_lt, if◌then◌else◌, List, [], ◌∷◌, ◌++◌, length, slice_get, Option, Some, None, Result, Ok, Err}
 use Rattle.std.specs.Option.{option_and_then}
-use Rattle.bpf_code.specs.declared.code.TheConstants.{MAX_SLOTS}
 use Rattle.bpf_code.specs.declared.fault.DecodeCause.{DecodeCause}
 use Rattle.bpf_code.specs.declared.fault.DecodeCause.TheVariants.{Length, TooManySlots, CutShort, JumpBackwards, JumpPastEnd, JumpIntoWideLoad, NoExit}
 use Rattle.bpf_code.specs.declared.fault.DecodeFault.{DecodeFault}
@@ -10,7 +9,7 @@ use Rattle.bpf_code.specs.declared.instruction.Instruction.{Instruction}
 use Rattle.bpf_code.specs.declared.instruction.Instruction.TheVariants.{LoadWide, Exit}
 use Rattle.bpf_code.specs.Fields.{slots_of}
 use Rattle.bpf_code.specs.Reading.{read, read_half}
-use Rattle.bpf_code.specs.Program.{Program, is_wide, distance_of}
+use Rattle.bpf_code.specs.Program.{Program, max_slots, is_wide, distance_of}
 
 abbrev pub fault : DecodeCause → ℕ → DecodeFault
 fault cause slot = record { cause = cause; slot = slot }
@@ -84,5 +83,5 @@ checked (Ok p) = unless (or_else (jump_faults p 0 p) (exit_fault p)) p
 unfoldable pub program_of : List ℕ → Result Program DecodeFault
 program_of bytes =
     if length bytes == 0 || not (length bytes % 8 == 0) then Err (fault Length 0)
-    else if nat_lt MAX_SLOTS (length bytes / 8) then Err (fault TooManySlots 0)
+    else if nat_lt max_slots (length bytes / 8) then Err (fault TooManySlots 0)
     else checked (read_slots None 0 (slots_of bytes))

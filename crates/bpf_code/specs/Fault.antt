@@ -1,5 +1,5 @@
 -- The faults' numbers, and how a fault is printed: `B3 slot 0`.
-use Rattle.std.specs.Prelude.{ℕ, List, [], ◌∷◌, ◌++◌, codes}
+use Rattle.std.specs.Prelude.{ℕ, List, ◌++◌, codes}
 use Rattle.std.specs.Fmt.{decimal}
 use Rattle.bpf_code.specs.declared.fault.DecodeCause.{DecodeCause}
 use Rattle.bpf_code.specs.declared.fault.DecodeCause.TheVariants.{Length, TooManySlots, UnknownOpcode, RegisterNumber, UnusedField, UndefinedValue, CutShort, JumpBackwards, JumpPastEnd, JumpIntoWideLoad, NoExit, OutOfMemory}

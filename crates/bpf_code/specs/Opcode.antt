@@ -1,5 +1,5 @@
 -- The opcodes of the profile, and the byte of each (RFC 9669 sections 3.3, 4 and 5).
-use Rattle.std.specs.Prelude.{ℕ, ◌+◌, ◌*◌, ◌/◌, ◌%◌, ◌==◌, if◌then◌else◌, List, [], ◌∷◌, Option, Some, None, find}
+use Rattle.std.specs.Prelude.{ℕ, ◌+◌, ◌*◌, ◌/◌, ◌%◌, ◌==◌, if◌then◌else◌, List, [], ◌∷◌, Option, Some, find}
 use Rattle.std.specs.Option.{option_map}
 use Rattle.bpf_words.specs.declared.operation.ByteOrder.TheVariants.{Little, Big, Swap}
 use Rattle.bpf_words.specs.declared.condition.Condition.{Condition}

@@ -1,13 +1,16 @@
 -- A program as a list of slots, its bytes, and what makes it one.
-use Rattle.std.specs.Prelude.{◌≡◌, ℕ, suc, ℤ, pos, negsuc, ◌+◌, ◌-◌, ◌^◌, ◌<◌, ◌≤◌, FitsSigned, Bool, true, false, List, [], ◌∷◌, length, slice_get, Option, Some, None, IsSome}
+use Rattle.std.specs.Prelude.{◌≡◌, ℕ, ℤ, pos, negsuc, ◌+◌, ◌-◌, ◌^◌, ◌<◌, ◌≤◌, FitsSigned, Bool, true, false, List, [], ◌∷◌, length, slice_get, Option, Some, None, IsSome}
 use Rattle.std.specs.List.{flat_map}
 use Rattle.std.specs.Int.{w16, w32}
 use Rattle.std.specs.Option.{option_and_then}
-use Rattle.bpf_code.specs.declared.code.TheConstants.{MAX_SLOTS}
 use Rattle.bpf_code.specs.declared.instruction.Instruction.{Instruction}
 use Rattle.bpf_code.specs.declared.instruction.Instruction.TheVariants.{LoadWide, Load, StoreImmediate, StoreRegister, Arithmetic, Jump, LongJump, Branch, Call, Exit}
 use Rattle.bpf_code.specs.declared.instruction.Source.TheVariants.{Immediate, Register}
 use Rattle.bpf_code.specs.Spelling.{instruction_bytes}
+
+-- the most slots that a program has
+abbrev pub max_slots : ℕ
+max_slots = 4096
 
 -- each slot is an instruction's first, or the second half of the wide load before it
 abbrev pub Program : Type 0
@@ -55,7 +58,7 @@ Lands p slot (negsuc _) = ⊥
 
 pub record IsProgram (p : Program) : Type 0 where
   pub not_empty : 0 < length p
-  pub not_long : length p ≤ MAX_SLOTS
+  pub not_long : length p ≤ max_slots
   pub slots : AreSlots false p
   pub jumps : (slot : ℕ) (i : Instruction) (d : ℤ) → instruction_at p slot ≡ Some i → distance_of i ≡ Some d → Lands p slot d
   pub ends : instruction_at p (length p - 1) ≡ Some Exit

@@ -1,7 +1,6 @@
 -- How each instruction is spelled: the fields of its slots, and their bytes (RFC 9669 sections 3, 4
 -- and 5).
-use Rattle.std.specs.Prelude.{ℕ, ℤ, pos, ◌/◌, ◌%◌, ◌^◌, List, [], ◌∷◌, ◌++◌, Option, Some, None}
-use Rattle.std.specs.List.{flat_map}
+use Rattle.std.specs.Prelude.{ℕ, ℤ, pos, ◌/◌, ◌%◌, ◌^◌, List, [], ◌++◌, Option, Some, None}
 use Rattle.std.specs.Int.{w32, cast_signed}
 use Rattle.bpf_words.specs.declared.operation.BinaryOperation.{BinaryOperation}
 use Rattle.bpf_words.specs.declared.operation.BinaryOperation.TheVariants as operation

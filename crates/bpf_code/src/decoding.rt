@@ -1,5 +1,5 @@
 ghost use Rattle.std.specs.Prelude.{◌≡◌, ◌∷◌, Ok, Err, ◌⊎◌, ◌<◌, ◌≤◌, ◌+◌, ◌*◌, ◌%◌, ◌^◌, ◌++◌, List, Option, Some, None, length, vec_len, vec_capacity, IfOk, IfErr, IfSome, OnOk, true, false};
-ghost use Rattle.bpf_code.specs.declared.code.TheConstants.{MAX_SLOTS};
+ghost use Rattle.bpf_code.specs.Program.{max_slots};
 ghost use Rattle.bpf_code.specs.declared.fault.DecodeCause.TheVariants.{OutOfMemory};
 ghost use Rattle.bpf_code.specs.Fields.{bytes_of, slots_of};
 ghost use Rattle.bpf_code.specs.declared.fields.Fields.{Fields};
@@ -70,10 +70,13 @@ fn read_slot<A: Allocator>(
 }
 
 /// The slots of the bytes, each read from left to right.
-fn read_slots<A: Allocator>(alloc: A, bytes: &[u8]) -> Result<Vec<Option<Instruction>, A>, DecodeFault>
+fn read_slots<A: Allocator>(
+    alloc: A,
+    bytes: &[u8],
+) -> Result<Vec<Option<Instruction>, A>, DecodeFault>
     requires whole { length bytes.now % 8 ≡ 0 }
     requires some { 0 < length bytes.now }
-    requires short { length bytes.now ≤ 8 * MAX_SLOTS }
+    requires short { length bytes.now ≤ 8 * max_slots }
     ensures ok { IfOk result (λ slots. slots_read None 0 (slots_of bytes.now) ≡ Ok slots.items) }
     ensures err { IfErr result (λ e. (e ≡ fault_at OutOfMemory 0) ⊎ (slots_read None 0 (slots_of bytes.now) ≡ Err e)) }
     ensures bytes { IfOk result (λ slots. spelling slots.items ≡ bytes.now) }
@@ -81,7 +84,10 @@ fn read_slots<A: Allocator>(alloc: A, bytes: &[u8]) -> Result<Vec<Option<Instruc
 {
     let count = bytes.len() / 8;
     let Ok(mut slots) = Vec::with_capacity(alloc, count) else {
-        return Err(DecodeFault { cause: DecodeCause::OutOfMemory, slot: 0 });
+        return Err(DecodeFault {
+            cause: DecodeCause::OutOfMemory,
+            slot: 0,
+        });
     };
     let mut half = None;
     for slot in 0..count {
@@ -89,7 +95,10 @@ fn read_slots<A: Allocator>(alloc: A, bytes: &[u8]) -> Result<Vec<Option<Instruc
         half = read_slot(&mut slots, half, slot as u16, &fields)?;
     }
     if half.is_some() {
-        return Err(DecodeFault { cause: DecodeCause::CutShort, slot: (count - 1) as u16 });
+        return Err(DecodeFault {
+            cause: DecodeCause::CutShort,
+            slot: (count - 1) as u16,
+        });
     }
     Ok(slots)
 }

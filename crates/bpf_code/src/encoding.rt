@@ -16,7 +16,10 @@ use bpf_words::{BinaryOperation, EndWidth};
 use std::alloc::{AllocError, Allocator};
 
 /// The bytes of the program, exactly those that it was decoded from.
-pub fn encode<A: Allocator, B: Allocator>(alloc: B, code: &Code<A>) -> Result<Vec<u8, B>, AllocError>
+pub fn encode<A: Allocator, B: Allocator>(
+    alloc: B,
+    code: &Code<A>,
+) -> Result<Vec<u8, B>, AllocError>
     ensures { IfOk result (λ bytes. bytes.items ≡ spelling code.now) }
 {
     let mut bytes = Vec::with_capacity(alloc, 8 * code.slots())?;
@@ -106,7 +109,13 @@ impl Instruction {
                 distance,
             } => {
                 let (kind, src, immediate) = operand(source);
-                slot(Opcode::Branch(width, condition, kind), dst, src, distance, immediate)
+                slot(
+                    Opcode::Branch(width, condition, kind),
+                    dst,
+                    src,
+                    distance,
+                    immediate,
+                )
             }
             Instruction::Call { helper } => slot(Opcode::Call, none, none, 0, helper),
             Instruction::Exit => slot(Opcode::Exit, none, none, 0, 0),

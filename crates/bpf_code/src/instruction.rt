@@ -3,7 +3,7 @@ ghost use Rattle.bpf_code.specs.Register.{number_of, register_of};
 
 use bpf_words::{BinaryOperation, ByteOrder, Condition, EndWidth};
 
-/// A register, r0 to r10; r10 is the frame pointer (RFC 9669 section 2).
+/// A register, r0 to r10 (RFC 9669 section 3.1); r10 is the frame pointer.
 #[derive(Clone, Copy, Debug, PartialEq, Eq)]
 pub enum Register {
     R0,
@@ -115,7 +115,10 @@ pub enum SignExtendingMove {
 #[derive(Clone, Copy, Debug, PartialEq, Eq)]
 pub enum Instruction {
     /// Sets the register to a number of 64 bits (RFC 9669 section 5.4).
-    LoadWide { dst: Register, value: u64 },
+    LoadWide {
+        dst: Register,
+        value: u64,
+    },
     /// Loads from the address in src plus the offset.
     Load {
         kind: LoadKind,
@@ -145,7 +148,10 @@ pub enum Instruction {
         source: Source,
     },
     /// Sets dst to its negative.
-    Negate { width: Width, dst: Register },
+    Negate {
+        width: Width,
+        dst: Register,
+    },
     /// Sets dst to the low bits of src, sign-extended.
     MoveSignExtended {
         kind: SignExtendingMove,
@@ -159,9 +165,13 @@ pub enum Instruction {
         dst: Register,
     },
     /// Jumps by the distance, in slots from the next one.
-    Jump { distance: i16 },
+    Jump {
+        distance: i16,
+    },
     /// The same with a distance of 32 bits.
-    LongJump { distance: i32 },
+    LongJump {
+        distance: i32,
+    },
     /// Jumps by the distance where the condition holds of dst and the source.
     Branch {
         width: Width,
@@ -171,7 +181,9 @@ pub enum Instruction {
         distance: i16,
     },
     /// Calls the helper of this number.
-    Call { helper: i32 },
+    Call {
+        helper: i32,
+    },
     /// Ends the program.
     Exit,
 }

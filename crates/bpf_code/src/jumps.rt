@@ -1,5 +1,5 @@
 ghost use Rattle.std.specs.Prelude.{◌≡◌, ◌<◌, ◌≤◌, None, Some, length, slice_index_or, IfErr, OnOk};
-ghost use Rattle.bpf_code.specs.declared.code.TheConstants.{MAX_SLOTS};
+ghost use Rattle.bpf_code.specs.Program.{max_slots};
 ghost use Rattle.bpf_code.specs.Program.{distance_of};
 ghost use Rattle.bpf_code.specs.Decoding.{jump_fault, jump_faults, exit_fault};
 
@@ -22,7 +22,7 @@ fn distance(instruction: Instruction) -> Option<i32>
 #[tactic(auto, unfolding(crate::specs::Decoding::jump_fault))]
 fn check_jump(slots: &[Option<Instruction>], slot: usize) -> Result<(), DecodeFault>
     requires within { slot < length slots.now }
-    requires short { length slots.now ≤ MAX_SLOTS }
+    requires short { length slots.now ≤ max_slots }
     ensures none { OnOk result (jump_fault slots.now slot (slice_index_or slots.now slot None) ≡ None) }
     ensures fault { IfErr result (λ e. jump_fault slots.now slot (slice_index_or slots.now slot None) ≡ Some e) }
 {
@@ -45,7 +45,7 @@ fn check_jump(slots: &[Option<Instruction>], slot: usize) -> Result<(), DecodeFa
 
 /// Whether each jump goes forward to an instruction; the fault is the first one's.
 pub fn check_jumps(slots: &[Option<Instruction>]) -> Result<(), DecodeFault>
-    requires { length slots.now ≤ MAX_SLOTS }
+    requires { length slots.now ≤ max_slots }
     ensures none { OnOk result (jump_faults slots.now 0 slots.now ≡ None) }
     ensures fault { IfErr result (λ e. jump_faults slots.now 0 slots.now ≡ Some e) }
 {
@@ -59,7 +59,7 @@ pub fn check_jumps(slots: &[Option<Instruction>]) -> Result<(), DecodeFault>
 #[tactic(auto, unfolding(crate::specs::Decoding::exit_fault))]
 pub fn check_exit(slots: &[Option<Instruction>]) -> Result<(), DecodeFault>
     requires some { 0 < length slots.now }
-    requires short { length slots.now ≤ MAX_SLOTS }
+    requires short { length slots.now ≤ max_slots }
     ensures none { OnOk result (exit_fault slots.now ≡ None) }
     ensures fault { IfErr result (λ e. exit_fault slots.now ≡ Some e) }
 {

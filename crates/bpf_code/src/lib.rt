@@ -1,4 +1,5 @@
-//! BPF programs as bytes and as instructions, one to one (RFC 9669, the base and divmul groups).
+//! BPF programs as bytes and as instructions, one to one (RFC 9669's base and
+//! divmul groups, in this product's profile).
 #![tactic(auto)]
 
 pub use code::{Code, MAX_SLOTS};
@@ -18,3 +19,5 @@ mod instruction;
 mod jumps;
 mod opcode;
 mod reading;
+#[cfg(test)]
+mod tests;

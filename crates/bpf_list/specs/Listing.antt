@@ -14,7 +14,6 @@ use Rattle.bpf_code.specs.declared.instruction.Size.{Size}
 use Rattle.bpf_code.specs.declared.instruction.Size.TheVariants.{Byte, HalfWord, Word, DoubleWord}
 use Rattle.bpf_code.specs.declared.instruction.LoadKind.{LoadKind}
 use Rattle.bpf_code.specs.declared.instruction.LoadKind.TheVariants.{U8, U16, U32, U64, I8, I16, I32}
-use Rattle.bpf_code.specs.declared.instruction.SignExtendingMove.{SignExtendingMove}
 use Rattle.bpf_code.specs.declared.instruction.Instruction.{Instruction}
 use Rattle.bpf_code.specs.declared.instruction.Instruction.TheVariants.{LoadWide, Load, StoreImmediate, StoreRegister, Arithmetic, Negate, MoveSignExtended, End, Jump, LongJump, Branch, Call, Exit}
 use Rattle.bpf_code.specs.Fields.{bytes_of}

@@ -14,11 +14,7 @@ use std::io::Write;
 mod line;
 mod name;
 
-fn put_line<W: Write>(
-    output: &mut W,
-    slot: usize,
-    begins: Option<Instruction>,
-) -> io::Result<()>
+fn put_line<W: Write>(output: &mut W, slot: usize, begins: Option<Instruction>) -> io::Result<()>
     requires { slot < 10000 }
     ensures { Writes (W.contents output.old) (W.contents output.new) result (line_at slot begins) }
 {

@@ -19,7 +19,9 @@ pub fn name(instruction: Instruction) -> (&'static str, Option<u8>)
         Instruction::StoreImmediate { size, .. } => ("st", Some(size_bits(size))),
         Instruction::StoreRegister { size, .. } => ("stx", Some(size_bits(size))),
         Instruction::Arithmetic {
-            width, operation, ..
+            width,
+            operation,
+            ..
         } => (arithmetic(operation), Some(width_bits(width))),
         Instruction::Negate { width, .. } => ("neg", Some(width_bits(width))),
         Instruction::MoveSignExtended { kind, .. } => ("movsx", Some(extended_bits(kind))),
@@ -31,7 +33,9 @@ pub fn name(instruction: Instruction) -> (&'static str, Option<u8>)
         Instruction::Jump { .. } => ("ja", Some(64)),
         Instruction::LongJump { .. } => ("ja", Some(32)),
         Instruction::Branch {
-            width, condition, ..
+            width,
+            condition,
+            ..
         } => (branch(condition), Some(width_bits(width))),
         Instruction::Call { .. } => ("call", None),
         Instruction::Exit => ("exit", None),

@@ -172,7 +172,8 @@ fn a_wide_load_is_one_line(rt: HostRuntime) -> Result<(), Fail> {
         rt.alloc(),
         "180000000100000000000000020000009500000000000000",
     )?;
-    let expected = "   0 18000000010000000000000002000000 lddw dst 0 src 0 off 0 imm 8589934593\n   2 9500000000000000 exit dst 0 src 0 off 0 imm 0\n";
+    let expected =
+        "   0 18000000010000000000000002000000 lddw dst 0 src 0 off 0 imm 8589934593\n   2 9500000000000000 exit dst 0 src 0 off 0 imm 0\n";
     assert_eq!(rt; listed(&rt, &program)?.as_slice(), expected.as_bytes());
     Ok(())
 }

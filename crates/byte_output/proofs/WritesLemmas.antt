@@ -1,5 +1,5 @@
 -- Texts that are written one after another.
-use Rattle.std.proofs.Common.{◌≡◌, ℕ, List, [], ◌++◌, take, drop, Option, Some, None, refl, sym, ap, ◌∙◌, append_assoc, take-append-drop}
+use Rattle.std.proofs.Common.{◌≡◌, ℕ, List, [], ◌++◌, take, drop, Option, Some, None, sym, ap, ◌∙◌, append_assoc, take-append-drop}
 use Rattle.std.proofs.lemmas.List.{append-nil}
 use Rattle.std.specs.Io.KnownBytes.{Appends, Keeps}
 use Rattle.byte_output.specs.Writes.{AppendsBeginning}
@@ -16,18 +16,21 @@ Appends-then (Some x) (Some y) (Some z) xs ys p q = q ∙ ap (λ (t : List ℕ).
 
 -- what was written, and a beginning of what comes next, with more behind it
 pub AppendsBeginning-then : (a b c : Option (List ℕ)) (front text rest : List ℕ) → Appends a b front → AppendsBeginning b c text → AppendsBeginning a c (front ++ (text ++ rest))
-AppendsBeginning-then a b c front text rest p (xs, ys, split, q) =
-    (front ++ xs, ys ++ rest,
-      ap (λ (t : List ℕ). front ++ (t ++ rest)) split ∙ ap (λ (t : List ℕ). front ++ t) (append_assoc xs ys rest) ∙ sym (append_assoc front xs (ys ++ rest)),
-      Appends-then a b c front xs p q)
+AppendsBeginning-then a b c front text rest p (xs, ys, split, q) = (
+  front ++ xs,
+  ys ++ rest,
+  ap (λ (t : List ℕ). front ++ (t ++ rest)) split ∙ ap (λ (t : List ℕ). front ++ t) (append_assoc xs ys rest) ∙ sym (append_assoc front xs (ys ++ rest)),
+  Appends-then a b c front xs p q,
+)
 
 -- one more write took the front of what was left
 pub takes_more : (a b c : Option (List ℕ)) (text rest left : List ℕ) (n : ℕ) → (front : List ℕ) × (text ≡ front ++ rest) × Appends a b front → Appends b c (take n rest) → left ≡ drop n rest
     → (front : List ℕ) × (text ≡ front ++ left) × Appends a c front
-takes_more a b c text rest left n (front, split, so_far) took behind =
-    (front ++ take n rest,
-      split ∙ ap (λ (t : List ℕ). front ++ t) (sym (take-append-drop n rest)) ∙ sym (append_assoc front (take n rest) (drop n rest)) ∙ ap (λ (t : List ℕ). (front ++ take n rest) ++ t) (sym behind),
-      Appends-then a b c front (take n rest) so_far took)
+takes_more a b c text rest left n (front, split, so_far) took behind = (
+  front ++ take n rest,
+  split ∙ ap (λ (t : List ℕ). front ++ t) (sym (take-append-drop n rest)) ∙ sym (append_assoc front (take n rest) (drop n rest)) ∙ ap (λ (t : List ℕ). (front ++ take n rest) ++ t) (sym behind),
+  Appends-then a b c front (take n rest) so_far took,
+)
 
 -- the whole is a beginning, also after a call that keeps it
 pub AppendsBeginning-whole : (a b c : Option (List ℕ)) (text : List ℕ) → Appends a b text → Keeps b c → AppendsBeginning a c text

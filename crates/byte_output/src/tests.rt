@@ -74,5 +74,8 @@ fn a_line_has_its_labels_and_numbers(rt: HostRuntime) {
     line::push(&mut line, b"a");
     line::push_unsigned(&mut line, " b ", 18446744073709551615);
     line::push_signed(&mut line, " c ", -2147483648);
-    assert_eq!(rt; line.as_slice(), b"a b 18446744073709551615 c -2147483648".as_slice());
+    assert_eq!(rt;
+        line.as_slice(),
+        b"a b 18446744073709551615 c -2147483648".as_slice()
+    );
 }

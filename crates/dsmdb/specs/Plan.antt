@@ -1,5 +1,5 @@
 -- The command line `dsmdb list FILE`, and what it asks for.
-use Rattle.std.specs.Prelude.{◌≡◌, ℕ, true, List, codes, Option, Some, None}
+use Rattle.std.specs.Prelude.{◌≡◌, true, List, codes, Option, Some, None}
 use Rattle.clap.specs.Words.{App, Rule, Row, Text, first_of, new_app, new_rule, with_rule, with_subcommand}
 use Rattle.clap.specs.declared.builder.ArgAction.TheVariants.{Set}
 use Rattle.dsmdb.specs.declared.request.Plan.{Plan}

@@ -1,6 +1,6 @@
 -- A program's bytes as they are read: all of them, or that there are too many for a program.
-use Rattle.std.specs.Prelude.{◌≡◌, ℕ, ◌*◌, ◌%◌, ◌<◌, ◌≤◌, ◌↔◌, Bool, true, false, List, length, IsTrue, Vec, vec_capacity}
-use Rattle.bpf_code.specs.declared.code.TheConstants.{MAX_SLOTS}
+use Rattle.std.specs.Prelude.{◌≡◌, ℕ, ◌*◌, ◌%◌, ◌<◌, ◌↔◌, Bool, true, false, List, length, IsTrue, Vec}
+use Rattle.bpf_code.specs.Program.{max_slots}
 use Rattle.dsmdb.specs.declared.source.Source.{Source}
 use Rattle.dsmdb.specs.declared.source.Source.TheVariants.{Whole, TooLong}
 use Rattle.dsmdb.specs.declared.source.Front.{Front}
@@ -8,11 +8,11 @@ use Rattle.dsmdb.specs.declared.source.Front.{Front}
 -- what was read of these bytes
 abbrev pub IsReadOf : {A : Type 0} → Source A → List ℕ → Type 0
 IsReadOf (Whole v) bytes = v.items ≡ bytes
-IsReadOf (TooLong slots) bytes = (8 * MAX_SLOTS < length bytes) × (IsTrue slots ↔ (length bytes % 8 ≡ 0))
+IsReadOf (TooLong slots) bytes = (8 * max_slots < length bytes) × (IsTrue slots ↔ (length bytes % 8 ≡ 0))
 
 -- whether there were too many, and if not, which bytes there were
 abbrev pub Holds : {A : Type 0} → Bool → Vec ℕ A → List ℕ → Type 0
-Holds true v bytes = 8 * MAX_SLOTS < length bytes
+Holds true v bytes = 8 * max_slots < length bytes
 Holds false v bytes = v.items ≡ bytes
 
 -- what is kept of the bytes so far

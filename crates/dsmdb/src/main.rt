@@ -4,11 +4,10 @@
 use list::{FAILED, list_over};
 use plan::plan;
 use request::{Plan, PlanFault};
-use std::env;
 use std::fs::File;
-use std::io;
 use std::io::{BufWriter, Write};
 use std::process::ExitCode;
+use std::{env, io};
 
 mod list;
 mod plan;

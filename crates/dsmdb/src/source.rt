@@ -56,7 +56,9 @@ impl<A: Allocator> Front<A> {
         ensures { OnOk result ((bytes : List ℕ) → IsFrontOf self.old bytes → IsFrontOf self.new (bytes ++ piece.now)) }
     {
         if !self.is_long {
-            if self.bytes.len() <= 8 * MAX_SLOTS && piece.len() <= 8 * MAX_SLOTS - self.bytes.len() {
+            if self.bytes.len() <= 8 * MAX_SLOTS
+                && piece.len() <= 8 * MAX_SLOTS - self.bytes.len()
+            {
                 self.bytes.extend_from_slice(piece)?;
             } else {
                 self.is_long = true;

@@ -1,11 +1,9 @@
-use Rattle.std.proofs.Common.{◌≡◌, ◌+◌, ◌++◌, ℕ, Option, List, length, take, drop, refl, sym, ap, subst, ◌∙◌, arith, rules}
+use Rattle.std.proofs.Common.{◌≡◌, ◌+◌, ◌++◌, Option, take, drop, sym, ap, subst, ◌∙◌, arith}
 use Rattle.std.specs.Io.KnownBytes.{Appends}
 use Rattle.std.proofs.lemmas.Result.{err_from_is_err_and}
-use Rattle.std.proofs.lemmas.List.{take_all}
 use Rattle.byte_output.specs.Writes.{AppendsBeginning}
 use Rattle.byte_output.proofs.WritesLemmas.{Appends-then, AppendsBeginning-then}
 use Rattle.bpf_code.specs.declared.instruction.Instruction.{Instruction}
-use Rattle.bpf_code.specs.Program.{instruction_at}
 use Rattle.bpf_list.specs.Listing.{line_at, lines, listing_of}
 use Rattle.bpf_list.proofs.LinesLemmas.{lines-split, lines-take}
 use Rattle.bpf_list.proofs.listing.Goals as goal

@@ -1,4 +1,4 @@
-use Rattle.std.proofs.Common.{ℕ, List, Result, Ok, Err, IfOk, IfErr, ◌≡◌, ◌⊎◌, inl, inr, sym, ap, ◌∙◌}
+use Rattle.std.proofs.Common.{Result, Ok, Err, IfOk, IfErr, ◌≡◌, ◌⊎◌, inl, inr, sym, ap, ◌∙◌}
 use Rattle.bpf_code.specs.declared.fault.DecodeCause.TheVariants.{OutOfMemory}
 use Rattle.bpf_code.specs.declared.fault.DecodeFault.{DecodeFault}
 use Rattle.bpf_code.specs.Program.{Program}

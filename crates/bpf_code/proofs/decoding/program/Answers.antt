@@ -1,5 +1,5 @@
-use Rattle.std.proofs.Common.{◌≡◌, ◌<◌, ◌≤◌, length, vec_len, None, Ok, arith, rules}
-use Rattle.bpf_code.specs.declared.code.TheConstants.{MAX_SLOTS}
+use Rattle.std.proofs.Common.{◌≡◌, ◌<◌, ◌≤◌, length, None, Ok, arith, rules}
+use Rattle.bpf_code.specs.Program.{max_slots}
 use Rattle.bpf_code.specs.Fields.{slots_of}
 use Rattle.bpf_code.specs.Decoding.{read_slots, jump_faults, exit_fault}
 use Rattle.bpf_code.proofs.ProgramLemmas.{AreSlots-read, all_land, ends_with_exit}
@@ -13,7 +13,7 @@ new-requires g c =
     let exit : exit_fault p ≡ None = search rules in
     let bytes : 0 < length c.args.bytes.now = search rules in
     let some : 0 < length p = omega (arith, c.in_ok-slots.ensures.count, c.in_ok-slots.slots.ok.0) in
-    let short : length p ≤ MAX_SLOTS = omega (arith, c.in_ok-slots.ensures.count, c.in_ok-slots.slots.ok.0) in
+    let short : length p ≤ max_slots = omega (arith, c.in_ok-slots.ensures.count, c.in_ok-slots.slots.ok.0) in
     record {
       not_empty = some;
       not_long = short;

@@ -1,4 +1,4 @@
-use Rattle.std.proofs.Common.{◌≡◌, ◌+◌, ◌-◌, ◌*◌, ◌≤◌, ◌/◌, ℕ, Err, length, ap, ◌∙◌, arith, rules, inr}
+use Rattle.std.proofs.Common.{◌≡◌, ◌-◌, ◌/◌, ℕ, Err, length, ap, ◌∙◌, arith, rules, inr}
 use Rattle.std.specs.Prelude.{IsSome}
 use Rattle.std.proofs.lemmas.Result.{err_from_is_err_and}
 use Rattle.bpf_code.specs.declared.fault.DecodeCause.TheVariants.{CutShort}
@@ -8,11 +8,10 @@ use Rattle.bpf_code.proofs.decoding.read_slots.Goals as goal
 
 pub loop-slot-preserved : goal.loop-slot-preserved
 loop-slot-preserved g c =
-    let so_far = c.loop-slot.invariant.0 in
-    (
+    let so_far = c.loop-slot.invariant.0 in (
       IsReadTo-step c.args.bytes.now c.loop-slot.slots.items c.read_slot.new.slots.items c.loop-slot.half c.in_ok-half.half c.loop-slot.slot _ c.from_bytes-fields.result
-      (λ i. omega (arith, c.type_inv.bytes i)) (omega arith) (omega arith) c.from_bytes-fields.ensures.value so_far
-      c.in_ok-half.ensures.goes_on c.in_ok-half.ensures.half (omega (arith, c.in_ok-half.ensures.count, c.read_slot.new.slots.ok.0, c.loop-slot.slots.ok.0)) c.in_ok-half.ensures.bytes,
+          (λ i. omega (arith, c.type_inv.bytes i)) (omega arith) (omega arith) c.from_bytes-fields.ensures.value so_far
+          c.in_ok-half.ensures.goes_on c.in_ok-half.ensures.half (omega (arith, c.in_ok-half.ensures.count, c.read_slot.new.slots.ok.0, c.loop-slot.slots.ok.0)) c.in_ok-half.ensures.bytes,
       omega (arith, c.read_slot.ensures.capacity),
     )
 

@@ -1,7 +1,5 @@
 use Rattle.std.proofs.Common.{List, ℕ, Option, Some, None, IfSome, sym, subst}
 use Rattle.std.proofs.lemmas.Result.{err_from_is_err_and}
-use Rattle.bpf_code.specs.declared.fault.DecodeFault.{DecodeFault}
-use Rattle.bpf_code.specs.Program.{Program}
 use Rattle.byte_output.specs.Writes.{AppendsBeginning}
 use Rattle.byte_output.proofs.WritesLemmas.{AppendsBeginning-whole}
 use Rattle.dsmdb.specs.Listing.{text_of}

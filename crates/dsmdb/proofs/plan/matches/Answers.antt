@@ -1,4 +1,4 @@
-use Rattle.std.proofs.Common.{◌≡◌, ◌∙◌, ap, ap₂, refl, codes, true, map, List, ℕ, rules}
+use Rattle.std.proofs.Common.{◌≡◌, ◌∙◌, ap, ap₂, codes, true, map, rules}
 use Rattle.clap.specs.Words.{App, app_of, is_simple, new_app, rule_of, subcommand_of, with_rule, with_subcommand}
 use Rattle.clap.specs.Simple.{app_of_fields}
 use Rattle.dsmdb.specs.Plan.{file_rule, list_line, named, command_line}

@@ -1,10 +1,10 @@
-use Rattle.std.proofs.Common.{◌≡◌, ◌∙◌, ap, sym, subst, refl, codes, List, ℕ, Option, Some, None, option_map, rules}
-use Rattle.clap.specs.Words.{Row, Text, first_of, first_value, found_of, rows_of, subcommand_of, subcommand_rows_of}
+use Rattle.std.proofs.Common.{◌≡◌, ◌∙◌, sym, subst, refl, codes, List, Option, Some, None, option_map, rules}
+use Rattle.clap.specs.Words.{Row, Text, found_of, rows_of, subcommand_rows_of}
 use Rattle.clap.specs.declared.parser.matches.ArgMatches.{ArgMatches}
 use Rattle.clap.specs.Matches.{subcommand_name_of}
 use Rattle.clap.proofs.WalkLemmas.{first_value-rows}
 use Rattle.dsmdb.specs.declared.request.Plan.TheVariants as plan
-use Rattle.dsmdb.specs.Plan.{IsPlanOf, command_line}
+use Rattle.dsmdb.specs.Plan.{IsPlanOf}
 use Rattle.dsmdb.proofs.plan.plan.Goals as goal
 
 -- the command that was met, from its name and its rows
