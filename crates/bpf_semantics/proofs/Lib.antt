@@ -1,1 +1,4 @@
 pub mod StepLemmas
+pub mod RunLemmas
+pub mod PathLemmas
+pub mod EffectLemmas

@@ -1,7 +1,7 @@
--- Loads and stores, the least byte first (RFC 9669 section 5). None where there is none: an address that is no place,
--- a byte outside, or a byte that isn't known.
+-- Loads and stores, the least byte first (RFC 9669 section 5). Where memory may be touched is this product's rule: None
+-- at an address that is no place, a byte outside stack or arguments, and a load of a byte that isn't known.
 use Rattle.std.specs.Prelude.{ℕ, zero, suc, ◌+◌, ◌*◌, ◌/◌, ◌%◌, ℤ, pos, negsuc, ◌+ℤ◌, List, [], ◌∷◌, ◌++◌, length, take, drop, map, nat_le, if◌then◌else◌, Option, Some, None}
-use Rattle.std.specs.Option.{option_and_then, option_map}
+use Rattle.std.specs.Option.{option_map}
 use Rattle.bpf_words.specs.declared.operation.SignExtension.TheVariants.{From8, From16, From32}
 use Rattle.bpf_words.specs.Operation.{sign_extended}
 use Rattle.bpf_code.specs.declared.instruction.Size.{Size}
@@ -9,7 +9,15 @@ use Rattle.bpf_code.specs.declared.instruction.Size.TheVariants.{Byte, HalfWord,
 use Rattle.bpf_code.specs.declared.instruction.LoadKind.{LoadKind}
 use Rattle.bpf_code.specs.declared.instruction.LoadKind.TheVariants.{U8, U16, U32, U64, I8, I16, I32}
 use Rattle.bpf_semantics.specs.declared.value.Value.{Value}
-use Rattle.bpf_semantics.specs.declared.value.Value.TheVariants.{Nothing, Number, Stack, Args}
+use Rattle.bpf_semantics.specs.declared.value.Value.TheVariants.{Stack, Args}
+
+unfoldable pub and_then : {X Y : Type 0} → Option X → (X → Option Y) → Option Y
+and_then None f = None
+and_then (Some x) f = f x
+
+infixl 10 ◌>>=◌
+abbrev pub ◌>>=◌ : {X Y : Type 0} → Option X → (X → Option Y) → Option Y
+o >>= f = and_then o f
 
 -- ---- numbers as bytes
 
@@ -17,6 +25,7 @@ abbrev pub number_of_bytes : List ℕ → ℕ
 number_of_bytes [] = 0
 number_of_bytes (b ∷ bs) = b + 256 * number_of_bytes bs
 
+-- the lowest so many bytes of a number
 abbrev pub bytes_of_number : ℕ → ℕ → List ℕ
 bytes_of_number zero n = []
 bytes_of_number (suc count) n = n % 256 ∷ bytes_of_number count (n / 256)
@@ -45,16 +54,16 @@ extended _ n = n
 
 -- ---- places
 
--- where so many bytes from a place on begin in a memory of so many bytes that starts at place `first`
+-- the index of place k in a memory of `all` bytes that begins at place 0, where `count` bytes from there on lie inside
 abbrev pub index_in : ℤ → ℕ → ℕ → Option ℕ
 index_in (pos k) count all = if nat_le (k + count) all then Some k else None
 index_in (negsuc _) count all = None
 
--- in the stack, whose 512 bytes end at place 0
+-- the same for the stack, whose 512 bytes end before place 0
 abbrev pub stack_index : ℤ → ℕ → Option ℕ
 stack_index place count = index_in (place +ℤ pos 512) count 512
 
--- known bytes alone
+-- the bytes, where each is known
 unfoldable pub all_known : List (Option ℕ) → Option (List ℕ)
 all_known [] = Some []
 all_known (None ∷ rest) = None
@@ -62,19 +71,29 @@ all_known (Some b ∷ rest) = option_map (λ bs. b ∷ bs) (all_known rest)
 
 -- so many known bytes of the stack from a place on
 unfoldable pub stack_read : List (Option ℕ) → ℤ → ℕ → Option (List ℕ)
-stack_read stack place count = option_and_then (λ k. all_known (take count (drop k stack))) (stack_index place count)
+stack_read stack place count = do
+  k ← stack_index place count
+  all_known (take count (drop k stack))
 
 -- the stack with these bytes from a place on
 unfoldable pub stack_written : List (Option ℕ) → ℤ → List ℕ → Option (List (Option ℕ))
-stack_written stack place bytes =
-    option_map (λ k. take k stack ++ map (λ b. Some b) bytes ++ drop (k + length bytes) stack) (stack_index place (length bytes))
+stack_written stack place bytes = do
+  k ← stack_index place (length bytes)
+  Some (take k stack ++ map (λ b. Some b) bytes ++ drop (k + length bytes) stack)
 
--- so many bytes from a value on, with an offset
-unfoldable pub read : List (Option ℕ) → List ℕ → Value → ℤ → ℕ → Option (List ℕ)
+-- so many bytes of the arguments from a place on
+unfoldable pub args_read : List ℕ → ℤ → ℕ → Option (List ℕ)
+args_read args place count = do
+  k ← index_in place count (length args)
+  Some (take count (drop k args))
+
+-- so many bytes from where a value points, with an offset
+abbrev pub read : List (Option ℕ) → List ℕ → Value → ℤ → ℕ → Option (List ℕ)
 read stack args (Stack place) offset count = stack_read stack (place +ℤ offset) count
-read stack args (Args place) offset count = option_map (λ k. take count (drop k args)) (index_in (place +ℤ offset) count (length args))
+read stack args (Args place) offset count = args_read args (place +ℤ offset) count
 read stack args _ offset count = None
 
-unfoldable pub written_at : List (Option ℕ) → Value → ℤ → List ℕ → Option (List (Option ℕ))
+-- the stack with these bytes where a value points, with an offset
+abbrev pub written_at : List (Option ℕ) → Value → ℤ → List ℕ → Option (List (Option ℕ))
 written_at stack (Stack place) offset bytes = stack_written stack (place +ℤ offset) bytes
 written_at stack _ offset bytes = None
