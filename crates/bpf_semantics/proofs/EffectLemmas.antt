@@ -9,14 +9,15 @@ use Rattle.bpf_code.specs.declared.instruction.Instruction.{Instruction}
 use Rattle.bpf_code.specs.declared.instruction.Instruction.TheVariants.{LoadWide, Load, StoreImmediate, StoreRegister, Arithmetic, Negate, MoveSignExtended, End, Jump, LongJump, Branch, Call, Exit}
 use Rattle.bpf_code.specs.Program.{Program, instruction_at}
 use Rattle.schema.specs.Schema.{Tables}
-use Rattle.schema.specs.Rows.{Rows, Writes, written, with_write, after}
+use Rattle.schema.specs.Rows.{Key, Rows, Writes, row_at, first_in, written, with_write, after}
 use Rattle.schema.proofs.RowsLemmas.{after-with_write, after-empty}
 use Rattle.schema.specs.Helper.{helper_of}
 use Rattle.schema.specs.declared.helper.Helper.{Helper}
 use Rattle.schema.specs.declared.helper.Helper.TheVariants.{RowGet, RowPut, RowDelete, RangeCount, RangeNext, Cancel}
 use Rattle.bpf_semantics.specs.declared.value.Value.{Value}
 use Rattle.bpf_semantics.specs.State.{State, register, with_register, past, entry_state}
-use Rattle.bpf_semantics.specs.Helpers.{Table, called, row_get, row_put, range_count, range_next, wrote, with_stack, with_point_look, with_range_look}
+use Rattle.bpf_semantics.specs.Helpers.{Table, called, row_get, row_put, range_count, range_next, wrote, with_stack, with_point_look, with_range_look, with_row_read, with_next_read, look_at, last_seen, row_or_zeros, key_or_zeros, row_of}
+use Rattle.bpf_semantics.specs.Memory.{overwritten}
 use Rattle.bpf_semantics.specs.Step.{Moment, Going, Ended, Stuck, or_stuck, jumped, with_result, with_stored, execute, step, width_bits}
 use Rattle.bpf_semantics.specs.Run.{go_on, moment, Run, run_of, run_at, run, unless_cancelled}
 use Rattle.bpf_semantics.proofs.StepLemmas.{just, bound, going_on, some_is, going_is}
@@ -55,18 +56,30 @@ more rows s u v table key write e f is k =
     let one : u.rows ≡ after u.writes rows = e ∙ ap (written (table, key) write) k ∙ sym (after-with_write s.writes (table, key) write rows) ∙ ap (λ (w : Writes). after w rows) (sym f) in
     subst (Kept rows) is one
 
+row_read_same : (s : State) (t : Table) (key buffer : ℕ) (found : Option (List ℕ)) → SameRows s (with_row_read s t key buffer found)
+row_read_same s t key buffer found =
+    let p = point t.table key s (with_stack (overwritten s.stack buffer (row_or_zeros t.width found)) s) (record { rows = refl; writes = refl }) in
+    record { rows = p.rows; writes = p.writes }
+
+next_read_same : (s : State) (t : Table) (lo hi key_buffer row_buffer : ℕ) (found : Option (Key × List ℕ)) → SameRows s (with_next_read s t lo hi key_buffer row_buffer found)
+next_read_same s t lo hi key_buffer row_buffer found =
+    let p = range t.table lo hi (last_seen hi found) s
+    (with_stack (overwritten (overwritten s.stack key_buffer (key_or_zeros found)) row_buffer (row_or_zeros t.width (row_of found))) s) (record { rows = refl; writes = refl }) in
+    record { rows = p.rows; writes = p.writes }
+
 called_keeps : (rows : Rows) (tables : Tables) (h : Helper) (s u : State) → called tables h s ≡ just u → Kept rows s → Kept rows u
 unfolding called row_get row_put range_next
 called_keeps rows tables RowGet s u e k =
     let a = bound _ _ u e in
     let b = bound _ _ u a.2 in
     let d = bound _ _ u b.2 in
-    same rows s _ _ u (point a.0.table b.0 s (with_stack d.0 s) (record { rows = refl; writes = refl })) refl refl (some_is _ u d.2) k
+    same rows s _ _ u (row_read_same s a.0 b.0 d.0 (row_at s.rows a.0.table b.0)) refl refl (some_is _ u d.2) k
 called_keeps rows tables RowPut s u e k =
     let a = bound _ _ u e in
     let b = bound _ _ u a.2 in
     let d = bound _ _ u b.2 in
-    more rows s _ u a.0.table b.0 (Some d.0) refl refl (some_is _ u d.2) k
+    let f = bound _ _ u d.2 in
+    more rows s _ u a.0.table b.0 (Some f.0) refl refl (some_is _ u f.2) k
 called_keeps rows tables RowDelete s u e k =
     let a = bound _ _ u e in
     let b = bound _ _ u a.2 in
@@ -82,7 +95,7 @@ called_keeps rows tables RangeNext s u e k =
     let d = bound _ _ u b.2 in
     let f = bound _ _ u d.2 in
     let g = bound _ _ u f.2 in
-    same rows s _ _ u (range a.0.table b.0 d.0 _ s (with_stack g.0 s) (record { rows = refl; writes = refl })) refl refl (some_is _ u g.2) k
+    same rows s _ _ u (next_read_same s a.0 b.0 d.0 f.0 g.0 (first_in (look_at a.0.table b.0 d.0) s.rows)) refl refl (some_is _ u g.2) k
 called_keeps rows tables Cancel s u e k =
     let a = bound _ _ u e in
     same rows s s _ u (itself s) refl refl (some_is _ u a.2) k

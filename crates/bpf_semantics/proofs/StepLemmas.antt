@@ -12,14 +12,14 @@ use Rattle.bpf_code.specs.declared.instruction.Instruction.{Instruction}
 use Rattle.bpf_code.specs.declared.instruction.Instruction.TheVariants.{LoadWide, Load, StoreImmediate, StoreRegister, Arithmetic, Negate, MoveSignExtended, End, Jump, LongJump, Branch, Call, Exit}
 use Rattle.bpf_code.specs.Program.{Program, instruction_at, distance_of}
 use Rattle.schema.specs.Schema.{Tables}
-use Rattle.schema.specs.Rows.{Look}
+use Rattle.schema.specs.Rows.{Look, Key, row_at, first_in}
 use Rattle.schema.specs.Helper.{helper_of}
 use Rattle.schema.specs.declared.helper.Helper.{Helper}
 use Rattle.schema.specs.declared.helper.Helper.TheVariants.{RowGet, RowPut, RowDelete, RangeCount, RangeNext, Cancel}
 use Rattle.bpf_semantics.specs.declared.value.Value.{Value}
 use Rattle.bpf_semantics.specs.State.{State, register, with_register, past, number}
-use Rattle.bpf_semantics.specs.Memory.{and_then}
-use Rattle.bpf_semantics.specs.Helpers.{Table, called, table_of, row_get, row_put, row_delete, range_count, range_next, cancel, with_point_look, with_range_look}
+use Rattle.bpf_semantics.specs.Memory.{and_then, overwritten}
+use Rattle.bpf_semantics.specs.Helpers.{Table, called, table_of, row_get, row_put, row_delete, range_count, range_next, cancel, with_stack, with_point_look, with_range_look, with_row_read, with_next_read, look_at, last_seen, flag, row_or_zeros, key_or_zeros, row_of}
 use Rattle.bpf_semantics.specs.Step.{Moment, Going, Ended, Stuck, or_stuck, operand, jumped, with_result, with_stored, execute, step, width_bits}
 use Rattle.bpf_semantics.specs.Path.{fall_through, slots_of_jump, jump_of}
 
@@ -69,26 +69,36 @@ same s t u v p e f g = subst (SamePlace s) g (record { slot = sym e ∙ p.slot; 
 itself : (s : State) → SamePlace s s
 itself s = record { slot = refl; steps = refl }
 
+row_read_place : (s : State) (t : Table) (key buffer : ℕ) (found : Option (List ℕ)) → SamePlace s (with_row_read s t key buffer found)
+row_read_place s t key buffer found =
+    let p = point_place t.table key s (with_stack (overwritten s.stack buffer (row_or_zeros t.width found)) s) (record { slot = refl; steps = refl }) in
+    record { slot = p.slot; steps = p.steps }
+
 get_place : (s : State) (t : Table) (key : ℕ) (to : Value) (u : State) → row_get s t key to ≡ just u → SamePlace s u
 unfolding row_get
 get_place s t key to u e =
     let b = bound _ _ u e in
-    let p = point_place t.table key s (record s { stack = b.0 }) (record { slot = refl; steps = refl }) in
-    same s _ _ u p refl refl (some_is _ u b.2)
+    same s _ _ u (row_read_place s t key b.0 (row_at s.rows t.table key)) refl refl (some_is _ u b.2)
 
 put_place : (s : State) (t : Table) (key : ℕ) (from : Value) (u : State) → row_put s t key from ≡ just u → SamePlace s u
 unfolding row_put
 put_place s t key from u e =
     let b = bound _ _ u e in
-    same s s _ u (itself s) refl refl (some_is _ u b.2)
+    let d = bound _ _ u b.2 in
+    same s s _ u (itself s) refl refl (some_is _ u d.2)
+
+next_read_place : (s : State) (t : Table) (lo hi key_buffer row_buffer : ℕ) (found : Option (Key × List ℕ)) → SamePlace s (with_next_read s t lo hi key_buffer row_buffer found)
+next_read_place s t lo hi key_buffer row_buffer found =
+    let p = range_place t.table lo hi (last_seen hi found) s
+    (with_stack (overwritten (overwritten s.stack key_buffer (key_or_zeros found)) row_buffer (row_or_zeros t.width (row_of found))) s) (record { slot = refl; steps = refl }) in
+    record { slot = p.slot; steps = p.steps }
 
 next_place : (s : State) (t : Table) (lo hi : ℕ) (key_to row_to : Value) (u : State) → range_next s t lo hi key_to row_to ≡ just u → SamePlace s u
 unfolding range_next
 next_place s t lo hi key_to row_to u e =
     let b = bound _ _ u e in
-    let c = bound _ _ u b.2 in
-    let p = range_place t.table lo hi _ s (record s { stack = c.0 }) (record { slot = refl; steps = refl }) in
-    same s _ _ u p refl refl (some_is _ u c.2)
+    let d = bound _ _ u b.2 in
+    same s _ _ u (next_read_place s t lo hi b.0 d.0 (first_in (look_at t.table lo hi) s.rows)) refl refl (some_is _ u d.2)
 
 count_place : (s : State) (t : Table) (lo hi : ℕ) (u : State) → just (range_count s t lo hi) ≡ just u → SamePlace s u
 count_place s t lo hi u e =

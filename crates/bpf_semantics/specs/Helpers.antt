@@ -12,7 +12,7 @@ use Rattle.schema.specs.declared.helper.Helper.TheVariants.{RowGet, RowPut, RowD
 use Rattle.bpf_semantics.specs.declared.value.Value.{Value}
 use Rattle.bpf_semantics.specs.declared.value.Value.TheVariants.{Nothing, Number, Stack}
 use Rattle.bpf_semantics.specs.State.{State, register, number}
-use Rattle.bpf_semantics.specs.Memory.{◌>>=◌, bytes_of_number, stack_read, stack_written}
+use Rattle.bpf_semantics.specs.Memory.{◌>>=◌, bytes_of_number, stack_index, known_from, overwritten}
 
 -- a table of the schema, and its width
 pub record Table : Type 0 where
@@ -25,15 +25,10 @@ table_of tables v = do
   width ← get tables table
   Some (record { table = table; width = width })
 
--- the stack with these bytes in a buffer
-abbrev pub filled : List (Option ℕ) → Value → List ℕ → Option (List (Option ℕ))
-filled stack (Stack place) bytes = stack_written stack place bytes
-filled stack _ bytes = None
-
--- the known bytes of a buffer
-abbrev pub buffer : List (Option ℕ) → Value → ℕ → Option (List ℕ)
-buffer stack (Stack place) width = stack_read stack place width
-buffer stack _ width = None
+-- where a buffer of so many bytes begins in the stack; none where it isn't whole inside
+abbrev pub buffer_of : Value → ℕ → Option ℕ
+buffer_of (Stack place) width = stack_index place width
+buffer_of _ width = None
 
 -- r0 gets the answer, and r1 to r5 nothing
 abbrev pub answered : ℕ → State → State
@@ -73,15 +68,20 @@ abbrev pub row_or_zeros : ℕ → Option (List ℕ) → List ℕ
 row_or_zeros width None = replicate width 0
 row_or_zeros width (Some bytes) = bytes
 
+abbrev pub with_row_read : State → Table → ℕ → ℕ → Option (List ℕ) → State
+with_row_read s t key buffer found =
+    let stack = overwritten s.stack buffer (row_or_zeros t.width found) in
+    answered (flag found) (with_point_look t.table key (with_stack stack s))
+
 unfoldable pub row_get : State → Table → ℕ → Value → Option State
-row_get s t key to =
-    let found = row_at s.rows t.table key in do
-      stack ← filled s.stack to (row_or_zeros t.width found)
-      Some (answered (flag found) (with_point_look t.table key (with_stack stack s)))
+row_get s t key to = do
+  buffer ← buffer_of to t.width
+  Some (with_row_read s t key buffer (row_at s.rows t.table key))
 
 unfoldable pub row_put : State → Table → ℕ → Value → Option State
 row_put s t key from = do
-  bytes ← buffer s.stack from t.width
+  buffer ← buffer_of from t.width
+  bytes ← known_from s.stack buffer t.width
   Some (answered 0 (wrote t.table key (Some bytes) s))
 
 abbrev pub row_delete : State → Table → ℕ → State
@@ -104,12 +104,17 @@ abbrev pub row_of : Option (Key × List ℕ) → Option (List ℕ)
 row_of = option_map (λ found. found.1)
 
 -- the key buffer is written before the row buffer
+abbrev pub with_next_read : State → Table → ℕ → ℕ → ℕ → ℕ → Option (Key × List ℕ) → State
+with_next_read s t lo hi key_buffer row_buffer found =
+    let keyed = overwritten s.stack key_buffer (key_or_zeros found) in
+    let stack = overwritten keyed row_buffer (row_or_zeros t.width (row_of found)) in
+    answered (flag found) (with_range_look t.table lo hi (last_seen hi found) (with_stack stack s))
+
 unfoldable pub range_next : State → Table → ℕ → ℕ → Value → Value → Option State
-range_next s t lo hi key_to row_to =
-    let found = first_in (look_at t.table lo hi) s.rows in do
-      keyed ← filled s.stack key_to (key_or_zeros found)
-      stack ← filled keyed row_to (row_or_zeros t.width (row_of found))
-      Some (answered (flag found) (with_range_look t.table lo hi (last_seen hi found) (with_stack stack s)))
+range_next s t lo hi key_to row_to = do
+  key_buffer ← buffer_of key_to 8
+  row_buffer ← buffer_of row_to t.width
+  Some (with_next_read s t lo hi key_buffer row_buffer (first_in (look_at t.table lo hi) s.rows))
 
 abbrev pub cancel : State → ℕ → State
 cancel s code = answered 0 (record s { cancelled = Some code })

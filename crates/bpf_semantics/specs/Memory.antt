@@ -69,17 +69,25 @@ all_known [] = Some []
 all_known (None ∷ rest) = None
 all_known (Some b ∷ rest) = option_map (λ bs. b ∷ bs) (all_known rest)
 
+-- so many bytes of the stack from an index on, where each is known
+abbrev pub known_from : List (Option ℕ) → ℕ → ℕ → Option (List ℕ)
+known_from stack k count = all_known (take count (drop k stack))
+
+-- the stack with these bytes from an index on
+abbrev pub overwritten : List (Option ℕ) → ℕ → List ℕ → List (Option ℕ)
+overwritten stack k bytes = take k stack ++ map (λ b. Some b) bytes ++ drop (k + length bytes) stack
+
 -- so many known bytes of the stack from a place on
 unfoldable pub stack_read : List (Option ℕ) → ℤ → ℕ → Option (List ℕ)
 stack_read stack place count = do
   k ← stack_index place count
-  all_known (take count (drop k stack))
+  known_from stack k count
 
 -- the stack with these bytes from a place on
 unfoldable pub stack_written : List (Option ℕ) → ℤ → List ℕ → Option (List (Option ℕ))
 stack_written stack place bytes = do
   k ← stack_index place (length bytes)
-  Some (take k stack ++ map (λ b. Some b) bytes ++ drop (k + length bytes) stack)
+  Some (overwritten stack k bytes)
 
 -- so many bytes of the arguments from a place on
 unfoldable pub args_read : List ℕ → ℤ → ℕ → Option (List ℕ)
