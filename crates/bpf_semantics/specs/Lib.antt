@@ -4,3 +4,4 @@ pub mod Helpers
 pub mod Step
 pub mod Run
 pub mod Path
+pub mod Agree
