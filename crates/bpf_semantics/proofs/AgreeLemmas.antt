@@ -1,29 +1,20 @@
 -- A run depends on the rows only where it looks: helpers and single steps.
-use Rattle.std.proofs.Common.{◌≡◌, ℕ, zero, suc, ℤ, pos, negsuc, Bool, true, false, cond, ◌+◌, ◌%◌, ◌^◌, ◌≤◌, ◌<◌, List, [], ◌∷◌, ◌++◌, Option, Some, None, refl, sym, ap, subst, ◌∙◌, arith, rules, unwrap_or, inl, inr}
-use Rattle.std.specs.Prelude.{is_some, nat_le, nat_eq, slice_get, IsTrue, IsSome, ◌||◌, ◌&&◌}
+use Rattle.std.proofs.Common.{◌≡◌, ℕ, Bool, true, false, cond, ◌%◌, ◌^◌, ◌≤◌, List, [], ◌∷◌, ◌++◌, Option, Some, None, refl, sym, ap, subst, ◌∙◌, arith, unwrap_or, inl, inr}
+use Rattle.std.specs.Prelude.{is_some, nat_le, nat_eq, slice_get, IsSome, ◌||◌, ◌&&◌}
 use Rattle.std.specs.FinMap.{get, len, entries}
 use Rattle.std.proofs.lemmas.Bool.Decides.{nat_tests}
 use Rattle.std.proofs.lemmas.Bool.{cases_lt}
-use Rattle.bpf_words.specs.Condition.{holds}
-use Rattle.bpf_code.specs.declared.instruction.Register.{Register}
-use Rattle.bpf_code.specs.declared.instruction.Register.TheVariants.{R0, R1, R2, R3, R4, R5}
-use Rattle.bpf_code.specs.declared.instruction.Instruction.{Instruction}
-use Rattle.bpf_code.specs.declared.instruction.Instruction.TheVariants.{LoadWide, Load, StoreImmediate, StoreRegister, Arithmetic, Negate, MoveSignExtended, End, Jump, LongJump, Branch, Call, Exit}
 use Rattle.schema.specs.Schema.{Tables}
-use Rattle.schema.specs.Rows.{Rows, Key, Look, Writes, covers, AgreeOn, row_at, written, with_write, after, count_in, first_in, rows_in, IsFirst, IsVacant}
+use Rattle.schema.specs.Rows.{Rows, Key, Look, Writes, covers, AgreeOn, row_at, after, count_in, first_in}
 use Rattle.schema.proofs.RowsLemmas.{get-after}
-use Rattle.schema.proofs.LookLemmas.{rows_in_agree, is_first, first_is, vacant_where_no_first, no_first_where_vacant}
-use Rattle.schema.specs.Helper.{helper_of}
+use Rattle.schema.proofs.LookLemmas.{rows_in_agree, is_first, first_is}
 use Rattle.schema.specs.declared.helper.Helper.{Helper}
 use Rattle.schema.specs.declared.helper.Helper.TheVariants.{RowGet, RowPut, RowDelete, RangeCount, RangeNext, Cancel}
-use Rattle.bpf_semantics.specs.declared.value.Value.{Value}
-use Rattle.bpf_semantics.specs.State.{State, register, with_register, past}
+use Rattle.bpf_semantics.specs.State.{State}
 use Rattle.bpf_semantics.specs.Memory.{and_then, overwritten}
 use Rattle.bpf_semantics.specs.Helpers.{Table, called, row_get, row_put, range_count, range_next, with_point_look, with_range_look, with_row_read, with_next_read, look_at, last_seen, answered, flag, with_stack, row_or_zeros, key_or_zeros, row_of}
-use Rattle.bpf_semantics.specs.Step.{Moment, Going, Ended, Stuck, or_stuck, jumped, with_result, with_stored, execute, width_bits}
-use Rattle.bpf_semantics.specs.Agree.{any_covers, looks_of}
+use Rattle.bpf_semantics.specs.Agree.{any_covers}
 use Rattle.bpf_semantics.proofs.StepLemmas.{just}
-use Rattle.bpf_semantics.proofs.EffectLemmas.{Kept}
 
 -- the same state over other rows
 abbrev pub over : Rows → State → State
@@ -69,7 +60,7 @@ point_same : (table key : ℕ) (s : State) (m n : Rows) → AgreeOn (any_covers 
 point_same table key s m n h =
     let inner : unwrap_or (get s.writes (table, key)) (get m (table, key)) ≡ unwrap_or (get s.writes (table, key)) (get n (table, key)) =
     elim (get s.writes (table, key)) as (λ o. AgreeOn (any_covers (cond (is_some o) s (record s { looks = s.looks ++ look_at table key key ∷ [] })).looks) m n
-      → unwrap_or o (get m (table, key)) ≡ unwrap_or o (get n (table, key))) [
+    → unwrap_or o (get m (table, key)) ≡ unwrap_or o (get n (table, key))) [
       | Some write ↦ λ a. refl
       | None ↦ λ a. agree_last s.looks (look_at table key key) m n a (table, key) (covered table key key (table, key) refl (omega arith) (omega arith))
     ] h in
@@ -81,10 +72,10 @@ range_agrees table lo hi last s m n within h =
     elim (nat_le lo hi) as (λ b. nat_le lo hi ≡ b → AgreeOn (any_covers (cond b (record s { looks = s.looks ++ look_at table lo last ∷ [] }) s).looks) m n → AgreeOn (covers (look_at table lo last)) m n) [
       | true ↦ λ e a. agree_last s.looks (look_at table lo last) m n a
       | false ↦ λ e a k inside.
-        let c = covered_is table lo last k inside in
-        let from = c.from in
-        let to = c.to in
-        absurd (grind (arith, nat_tests))
+          let c = covered_is table lo last k inside in
+          let from = c.from in
+          let to = c.to in
+          absurd (grind (arith, nat_tests))
     ] refl h
 
 count_same : (table lo hi : ℕ) (s : State) (m n : Rows) → AgreeOn (any_covers (with_range_look table lo hi hi s).looks) m n
@@ -106,13 +97,13 @@ first_found table lo hi m n (Some (k, bytes)) e agree =
       covered = first.covered;
       stands = sym (agree k here) ∙ first.stands;
       least = λ q inside present.
-        elim (cases_lt q.1 k.1) [
-          | inl lt ↦
-            let c = covered_is table lo hi q inside in
-            let near : covers (look_at table lo k.1) q ≡ true = covered table lo k.1 q c.table_is c.from (omega arith) in
-            first.least q inside (subst (λ o. IsSome o) (sym (agree q near)) present)
-          | inr le ↦ le
-        ];
+          elim (cases_lt q.1 k.1) [
+            | inl lt ↦
+                let c = covered_is table lo hi q inside in
+                let near : covers (look_at table lo k.1) q ≡ true = covered table lo k.1 q c.table_is c.from (omega arith) in
+                first.least q inside (subst (λ o. IsSome o) (sym (agree q near)) present)
+            | inr le ↦ le
+          ];
     })
 
 last_within : (table lo hi : ℕ) (m : Rows) (found : Option (Key × List ℕ)) → first_in (look_at table lo hi) m ≡ found → last_seen hi found ≤ hi

@@ -4,10 +4,9 @@ use Rattle.std.specs.Prelude.{is_some, nat_le, IsSome}
 use Rattle.std.specs.FinMap.{get, empty}
 use Rattle.bpf_words.specs.Condition.{holds}
 use Rattle.bpf_code.specs.declared.instruction.Register.{Register}
-use Rattle.bpf_code.specs.declared.instruction.Register.TheVariants.{R0, R1, R2, R3, R4, R5}
 use Rattle.bpf_code.specs.declared.instruction.Instruction.{Instruction}
 use Rattle.bpf_code.specs.declared.instruction.Instruction.TheVariants.{LoadWide, Load, StoreImmediate, StoreRegister, Arithmetic, Negate, MoveSignExtended, End, Jump, LongJump, Branch, Call, Exit}
-use Rattle.bpf_code.specs.Program.{Program, instruction_at}
+use Rattle.bpf_code.specs.Program.{Program}
 use Rattle.schema.specs.Schema.{Tables}
 use Rattle.schema.specs.Rows.{Key, Rows, Writes, row_at, first_in, written, with_write, after}
 use Rattle.schema.proofs.RowsLemmas.{after-with_write, after-empty}
@@ -15,11 +14,11 @@ use Rattle.schema.specs.Helper.{helper_of}
 use Rattle.schema.specs.declared.helper.Helper.{Helper}
 use Rattle.schema.specs.declared.helper.Helper.TheVariants.{RowGet, RowPut, RowDelete, RangeCount, RangeNext, Cancel}
 use Rattle.bpf_semantics.specs.declared.value.Value.{Value}
-use Rattle.bpf_semantics.specs.State.{State, register, with_register, past, entry_state}
-use Rattle.bpf_semantics.specs.Helpers.{Table, called, row_get, row_put, range_count, range_next, wrote, with_stack, with_point_look, with_range_look, with_row_read, with_next_read, look_at, last_seen, row_or_zeros, key_or_zeros, row_of}
+use Rattle.bpf_semantics.specs.State.{State, with_register, past, entry_state}
+use Rattle.bpf_semantics.specs.Helpers.{Table, called, row_get, row_put, range_next, with_stack, with_point_look, with_range_look, with_row_read, with_next_read, look_at, last_seen, row_or_zeros, key_or_zeros, row_of}
 use Rattle.bpf_semantics.specs.Memory.{overwritten}
-use Rattle.bpf_semantics.specs.Step.{Moment, Going, Ended, Stuck, or_stuck, jumped, with_result, with_stored, execute, step, width_bits}
-use Rattle.bpf_semantics.specs.Run.{go_on, moment, Run, run_of, run_at, run, unless_cancelled}
+use Rattle.bpf_semantics.specs.Step.{Going, Ended, Stuck, jumped, with_result, with_stored, execute, step, width_bits}
+use Rattle.bpf_semantics.specs.Run.{go_on, moment, Run, run_of, run, unless_cancelled}
 use Rattle.bpf_semantics.proofs.StepLemmas.{just, bound, going_on, some_is, going_is}
 use Rattle.bpf_semantics.proofs.RunLemmas.{moment-front, not_ended, ended_is, exit_is, step_runs, going_runs, ended_runs, run_ended}
 
@@ -145,11 +144,11 @@ ended_keeps rows p tables zero s reply t e kept = absurd (not_ended p tables s r
 ended_keeps rows p tables (suc k) s reply t e kept =
     elim (step p tables s) as (λ m. step p tables s ≡ m → go_on (moment p tables k) m ≡ Ended reply t → Kept rows t) [
       | Going u ↦ λ is h.
-        let runs = step_runs p tables s (Going u) is (going_runs u) in
-        ended_keeps rows p tables k u reply t h (execute_keeps rows tables runs.0 s u runs.2 kept)
+          let runs = step_runs p tables s (Going u) is (going_runs u) in
+          ended_keeps rows p tables k u reply t h (execute_keeps rows tables runs.0 s u runs.2 kept)
       | Ended r u ↦ λ is h.
-        let runs = step_runs p tables s (Ended r u) is (ended_runs r u) in
-        same rows s s (past 0 s) t (itself s) refl refl (exit_is tables runs.0 s r u runs.2 ∙ ended_is r u reply t h) kept
+          let runs = step_runs p tables s (Ended r u) is (ended_runs r u) in
+          same rows s s (past 0 s) t (itself s) refl refl (exit_is tables runs.0 s r u runs.2 ∙ ended_is r u reply t h) kept
       | Stuck ↦ λ is h. absurd (ended_runs reply t (sym h))
     ] refl (sym (moment-front p tables k s) ∙ e)
 

@@ -1,6 +1,5 @@
 -- The longest path has no more instructions than the program.
-use Rattle.std.proofs.Common.{◌≡◌, ℕ, zero, suc, ℤ, pos, negsuc, Bool, true, false, cond, ◌+◌, ◌≤◌, ◌<◌, max, List, [], ◌∷◌, length, drop, Option, Some, None, refl, sym, ap, subst, ◌∙◌, arith}
-use Rattle.std.specs.Prelude.{is_some, count_by}
+use Rattle.std.proofs.Common.{◌≡◌, ℕ, zero, suc, ℤ, pos, negsuc, ◌+◌, ◌≤◌, [], ◌∷◌, length, drop, Option, Some, None, refl, subst, arith}
 use Rattle.std.proofs.lemmas.List.{drop-drop}
 use Rattle.bpf_code.specs.declared.instruction.Instruction.{Instruction}
 use Rattle.bpf_code.specs.declared.instruction.Instruction.TheVariants.{LoadWide, Load, StoreImmediate, StoreRegister, Arithmetic, Negate, MoveSignExtended, End, Jump, LongJump, Branch, Call, Exit}
@@ -66,10 +65,10 @@ path-le p (suc most) slot =
     elim (instruction_at p slot) as (λ o. instruction_at p slot ≡ o → one_more (path p most) slot o ≤ instructions (drop slot p)) [
       | None ↦ λ e. omega arith
       | Some i ↦ λ e.
-        let here = counts-here p slot i e in
-        let a = there (path p most) p slot (fall_through i) (fall_further i) (path-le p most) in
-        let b = there (path p most) p slot (jump_of i) (jump_further (distance_of i)) (path-le p most) in
-        omega arith
+          let here = counts-here p slot i e in
+          let a = there (path p most) p slot (fall_through i) (fall_further i) (path-le p most) in
+          let b = there (path p most) p slot (jump_of i) (jump_further (distance_of i)) (path-le p most) in
+          omega arith
     ] refl
 
 pub longest_path-le : (p : Program) → longest_path p ≤ instructions p

@@ -1,6 +1,5 @@
 -- How far a run goes, and what stays.
-use Rattle.std.proofs.Common.{◌≡◌, ◌⊎◌, ℕ, zero, suc, ℤ, pos, negsuc, Bool, true, false, cond, ◌+◌, ◌≤◌, ◌<◌, max, List, [], ◌∷◌, length, drop, Option, Some, None, refl, sym, ap, subst, ◌∙◌, arith, inl, inr, add-one}
-use Rattle.std.specs.Prelude.{is_some, count_by}
+use Rattle.std.proofs.Common.{◌≡◌, ℕ, zero, suc, ℤ, pos, negsuc, Bool, true, false, cond, ◌+◌, ◌≤◌, List, length, Option, Some, None, refl, sym, ap, subst, ◌∙◌, arith, inl, inr}
 use Rattle.bpf_code.specs.declared.instruction.Instruction.{Instruction}
 use Rattle.bpf_code.specs.declared.instruction.Instruction.TheVariants.{LoadWide, Load, StoreImmediate, StoreRegister, Arithmetic, Negate, MoveSignExtended, End, Jump, LongJump, Branch, Call, Exit}
 use Rattle.bpf_code.specs.Program.{Program, instruction_at}
@@ -9,7 +8,7 @@ use Rattle.schema.specs.Rows.{Rows}
 use Rattle.bpf_semantics.specs.State.{State, past, entry_state}
 use Rattle.bpf_semantics.specs.Step.{Moment, Going, Ended, Stuck, or_stuck, jumped, with_stored, execute, step}
 use Rattle.bpf_semantics.specs.Run.{go_on, moment, Run, run_of, run_at, run}
-use Rattle.bpf_semantics.specs.Path.{fall_through, jump_of, from_there, one_more, path, longest_path, instructions}
+use Rattle.bpf_semantics.specs.Path.{fall_through, jump_of, from_there, one_more, path, longest_path}
 use Rattle.bpf_semantics.proofs.StepLemmas.{just, Leads, Steps, execute_leads}
 
 -- ---- the first step first
@@ -118,17 +117,17 @@ ended_within p tables zero s reply t e = absurd (not_ended p tables s reply t e)
 ended_within p tables (suc k) s reply t e =
     elim (step p tables s) as (λ m. step p tables s ≡ m → go_on (moment p tables k) m ≡ Ended reply t → t.steps ≤ s.steps + one_more (path p k) s.slot (instruction_at p s.slot)) [
       | Going u ↦ λ is h.
-        let runs = step_runs p tables s (Going u) is (going_runs u) in
-        let leads = execute_leads tables runs.0 s u runs.2 in
-        let most = step_most (path p k) runs.0 s u leads in
-        let rest = ended_within p tables k u reply t h in
-        let counts = leads.counts in
-        subst (λ o. t.steps ≤ s.steps + one_more (path p k) s.slot o) (sym runs.1) (omega arith)
+          let runs = step_runs p tables s (Going u) is (going_runs u) in
+          let leads = execute_leads tables runs.0 s u runs.2 in
+          let most = step_most (path p k) runs.0 s u leads in
+          let rest = ended_within p tables k u reply t h in
+          let counts = leads.counts in
+          subst (λ o. t.steps ≤ s.steps + one_more (path p k) s.slot o) (sym runs.1) (omega arith)
       | Ended r u ↦ λ is h.
-        let runs = step_runs p tables s (Ended r u) is (ended_runs r u) in
-        let counts = exit_counts tables runs.0 s r u runs.2 in
-        let same : u.steps ≡ t.steps = ap (λ (v : State). v.steps) (ended_is r u reply t h) in
-        subst (λ o. t.steps ≤ s.steps + one_more (path p k) s.slot o) (sym runs.1) (omega arith)
+          let runs = step_runs p tables s (Ended r u) is (ended_runs r u) in
+          let counts = exit_counts tables runs.0 s r u runs.2 in
+          let same : u.steps ≡ t.steps = ap (λ (v : State). v.steps) (ended_is r u reply t h) in
+          subst (λ o. t.steps ≤ s.steps + one_more (path p k) s.slot o) (sym runs.1) (omega arith)
       | Stuck ↦ λ is h. absurd (ended_runs reply t (sym h))
     ] refl (sym (moment-front p tables k s) ∙ e)
 

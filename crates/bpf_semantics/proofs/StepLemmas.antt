@@ -1,26 +1,22 @@
 -- Where a step leads.
-use Rattle.std.proofs.Common.{◌≡◌, ◌⊎◌, ℕ, zero, suc, ◌+◌, ◌≤◌, ◌<◌, ℤ, pos, negsuc, Bool, true, false, cond, List, Option, Some, None, refl, sym, ap, subst, ◌∙◌, arith, inl, inr}
+use Rattle.std.proofs.Common.{◌≡◌, ◌⊎◌, ℕ, ◌+◌, ℤ, pos, negsuc, Bool, true, false, cond, List, Option, Some, None, refl, sym, ap, subst, ◌∙◌, inl, inr}
 use Rattle.std.specs.Prelude.{is_some, nat_le}
 use Rattle.std.specs.FinMap.{get}
-use Rattle.bpf_words.specs.Operation.{alu}
 use Rattle.bpf_words.specs.Condition.{holds}
-use Rattle.bpf_words.specs.declared.condition.Condition.{Condition}
-use Rattle.bpf_code.specs.declared.instruction.Width.{Width}
 use Rattle.bpf_code.specs.declared.instruction.Register.{Register}
-use Rattle.bpf_code.specs.declared.instruction.Register.TheVariants.{R0, R1, R2, R3, R4, R5}
+use Rattle.bpf_code.specs.declared.instruction.Register.TheVariants.{R3, R4, R5}
 use Rattle.bpf_code.specs.declared.instruction.Instruction.{Instruction}
 use Rattle.bpf_code.specs.declared.instruction.Instruction.TheVariants.{LoadWide, Load, StoreImmediate, StoreRegister, Arithmetic, Negate, MoveSignExtended, End, Jump, LongJump, Branch, Call, Exit}
-use Rattle.bpf_code.specs.Program.{Program, instruction_at, distance_of}
 use Rattle.schema.specs.Schema.{Tables}
-use Rattle.schema.specs.Rows.{Look, Key, row_at, first_in}
+use Rattle.schema.specs.Rows.{Key, row_at, first_in}
 use Rattle.schema.specs.Helper.{helper_of}
 use Rattle.schema.specs.declared.helper.Helper.{Helper}
 use Rattle.schema.specs.declared.helper.Helper.TheVariants.{RowGet, RowPut, RowDelete, RangeCount, RangeNext, Cancel}
 use Rattle.bpf_semantics.specs.declared.value.Value.{Value}
-use Rattle.bpf_semantics.specs.State.{State, register, with_register, past, number}
+use Rattle.bpf_semantics.specs.State.{State, register, with_register, past}
 use Rattle.bpf_semantics.specs.Memory.{and_then, overwritten}
-use Rattle.bpf_semantics.specs.Helpers.{Table, called, table_of, row_get, row_put, row_delete, range_count, range_next, cancel, with_stack, with_point_look, with_range_look, with_row_read, with_next_read, look_at, last_seen, flag, row_or_zeros, key_or_zeros, row_of}
-use Rattle.bpf_semantics.specs.Step.{Moment, Going, Ended, Stuck, or_stuck, operand, jumped, with_result, with_stored, execute, step, width_bits}
+use Rattle.bpf_semantics.specs.Helpers.{Table, called, row_get, row_put, range_count, range_next, with_stack, with_point_look, with_range_look, with_row_read, with_next_read, look_at, last_seen, row_or_zeros, key_or_zeros, row_of}
+use Rattle.bpf_semantics.specs.Step.{Moment, Going, or_stuck, jumped, with_result, with_stored, execute, width_bits}
 use Rattle.bpf_semantics.specs.Path.{fall_through, slots_of_jump, jump_of}
 
 -- ---- options and moments

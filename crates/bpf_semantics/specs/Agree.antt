@@ -3,7 +3,7 @@ use Rattle.std.specs.Prelude.{ℕ, Bool, false, ◌||◌, List, [], ◌∷◌}
 use Rattle.bpf_code.specs.Program.{Program}
 use Rattle.schema.specs.Schema.{Tables}
 use Rattle.schema.specs.Rows.{Rows, Key, Look, covers, AgreeOn}
-use Rattle.bpf_semantics.specs.State.{State, entry_state}
+use Rattle.bpf_semantics.specs.State.{entry_state}
 use Rattle.bpf_semantics.specs.Step.{Moment, Going, Ended, Stuck}
 use Rattle.bpf_semantics.specs.Run.{moment}
 

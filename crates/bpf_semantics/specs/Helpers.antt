@@ -1,7 +1,7 @@
 -- What each helper does to a state. A helper takes r1 to r5 and answers in r0; afterwards r1 to r5 hold nothing. None
 -- where it can't be called: a table outside the schema, a key, bound or code that is no number, a buffer that isn't
 -- whole inside the stack, or, where it is read, of bytes that aren't known.
-use Rattle.std.specs.Prelude.{ℕ, ◌%◌, ◌^◌, pos, List, [], ◌∷◌, ◌++◌, drop, replicate, nat_le, is_some, if◌then◌else◌, Option, Some, None}
+use Rattle.std.specs.Prelude.{ℕ, ◌%◌, ◌^◌, List, [], ◌∷◌, ◌++◌, drop, replicate, nat_le, is_some, if◌then◌else◌, Option, Some, None}
 use Rattle.std.specs.Option.{option_map}
 use Rattle.std.specs.FinMap.{get}
 use Rattle.bpf_code.specs.declared.instruction.Register.TheVariants.{R1, R2, R3, R4, R5}

@@ -1,5 +1,5 @@
 -- The longest path through a program: how many instructions it may run at the most, whatever the conditions say.
-use Rattle.std.specs.Prelude.{ℕ, zero, suc, ◌+◌, ℤ, pos, negsuc, max, Option, Some, None, List, [], ◌∷◌, length}
+use Rattle.std.specs.Prelude.{ℕ, zero, suc, ◌+◌, ℤ, pos, max, Option, Some, None, [], ◌∷◌, length}
 use Rattle.bpf_code.specs.declared.instruction.Instruction.{Instruction}
 use Rattle.bpf_code.specs.declared.instruction.Instruction.TheVariants.{LoadWide, Jump, LongJump, Exit}
 use Rattle.bpf_code.specs.Program.{Program, instruction_at, distance_of}

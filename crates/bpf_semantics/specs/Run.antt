@@ -20,12 +20,12 @@ moment p tables (suc k) s = go_on (step p tables) (moment p tables k s)
 
 -- a run, and what came of it
 pub record Run : Type 0 where
-  pub steps : ℕ                    -- how many instructions it ran, EXIT included
-  pub reply : ℕ                    -- r0 at EXIT
-  pub looks : List Look            -- also where it cancelled
-  pub writes : Writes              -- none where it cancelled
+  pub steps : ℕ  -- how many instructions it ran, EXIT included
+  pub reply : ℕ  -- r0 at EXIT
+  pub looks : List Look  -- also where it cancelled
+  pub writes : Writes  -- none where it cancelled
   pub cancelled : Option ℕ
-  pub effect : Rows                -- the rows afterwards; those before where it cancelled
+  pub effect : Rows  -- the rows afterwards; those before where it cancelled
 
 abbrev pub unless_cancelled : {X : Type 0} → Option ℕ → X → X → X
 unless_cancelled None done before = done

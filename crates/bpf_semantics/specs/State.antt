@@ -9,15 +9,15 @@ use Rattle.bpf_semantics.specs.declared.value.Value.{Value}
 use Rattle.bpf_semantics.specs.declared.value.Value.TheVariants.{Nothing, Number, Stack, Args}
 
 pub record State : Type 0 where
-  pub slot : ℕ                       -- of the instruction that is next
-  pub registers : List Value         -- r0 to r10
-  pub stack : List (Option ℕ)        -- 512 bytes, the last of them before r10, each known or not
-  pub args : List ℕ                  -- the argument block
-  pub rows : Rows                    -- as the run sees them: with its own writes, after a cancel too
-  pub cancelled : Option ℕ           -- the last cancel code
-  pub looks : List Look              -- what it looked at, in order, repeats kept
-  pub writes : Writes                -- what it wrote, the last write of each key
-  pub steps : ℕ                      -- how many instructions it has run
+  pub slot : ℕ  -- of the instruction that is next
+  pub registers : List Value  -- r0 to r10
+  pub stack : List (Option ℕ)  -- 512 bytes, the last of them before r10, each known or not
+  pub args : List ℕ  -- the argument block
+  pub rows : Rows  -- as the run sees them: with its own writes, after a cancel too
+  pub cancelled : Option ℕ  -- the last cancel code
+  pub looks : List Look  -- what it looked at, in order, repeats kept
+  pub writes : Writes  -- what it wrote, the last write of each key
+  pub steps : ℕ  -- how many instructions it has run
 
 -- at entry r1 points at the arguments and r10 at the stack's end; all else is nothing. That is this product's rule:
 -- RFC 9669 leaves it to the program's type

@@ -27,7 +27,7 @@ use Rattle.bpf_code.specs.Program.{Program, instruction_at}
 use Rattle.schema.specs.Schema.{Tables}
 use Rattle.schema.specs.Helper.{helper_of}
 use Rattle.bpf_semantics.specs.declared.value.Value.{Value}
-use Rattle.bpf_semantics.specs.declared.value.Value.TheVariants.{Nothing, Number, Stack, Args}
+use Rattle.bpf_semantics.specs.declared.value.Value.TheVariants.{Number, Stack, Args}
 use Rattle.bpf_semantics.specs.State.{State, register, with_register, past, number}
 use Rattle.bpf_semantics.specs.Memory.{◌>>=◌, number_of_bytes, bytes_of_number, size_bytes, load_bytes, extended, read, written_at}
 use Rattle.bpf_semantics.specs.Helpers.{with_stack, called}
