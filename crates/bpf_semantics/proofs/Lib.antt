@@ -1,0 +1,5 @@
+pub mod StepLemmas
+pub mod RunLemmas
+pub mod PathLemmas
+pub mod EffectLemmas
+pub mod AgreeLemmas

@@ -1,0 +1,107 @@
+-- Loads and stores, the least byte first (RFC 9669 section 5). Where memory may be touched is this product's rule: None
+-- at an address that is no place, a byte outside stack or arguments, and a load of a byte that isn't known.
+use Rattle.std.specs.Prelude.{ℕ, zero, suc, ◌+◌, ◌*◌, ◌/◌, ◌%◌, ℤ, pos, negsuc, ◌+ℤ◌, List, [], ◌∷◌, ◌++◌, length, take, drop, map, nat_le, if◌then◌else◌, Option, Some, None}
+use Rattle.std.specs.Option.{option_map}
+use Rattle.bpf_words.specs.declared.operation.SignExtension.TheVariants.{From8, From16, From32}
+use Rattle.bpf_words.specs.Operation.{sign_extended}
+use Rattle.bpf_code.specs.declared.instruction.Size.{Size}
+use Rattle.bpf_code.specs.declared.instruction.Size.TheVariants.{Byte, HalfWord, Word, DoubleWord}
+use Rattle.bpf_code.specs.declared.instruction.LoadKind.{LoadKind}
+use Rattle.bpf_code.specs.declared.instruction.LoadKind.TheVariants.{U8, U16, U32, U64, I8, I16, I32}
+use Rattle.bpf_semantics.specs.declared.value.Value.{Value}
+use Rattle.bpf_semantics.specs.declared.value.Value.TheVariants.{Stack, Args}
+
+unfoldable pub and_then : {X Y : Type 0} → Option X → (X → Option Y) → Option Y
+and_then None f = None
+and_then (Some x) f = f x
+
+infixl 10 ◌>>=◌
+abbrev pub ◌>>=◌ : {X Y : Type 0} → Option X → (X → Option Y) → Option Y
+o >>= f = and_then o f
+
+-- ---- numbers as bytes
+
+abbrev pub number_of_bytes : List ℕ → ℕ
+number_of_bytes [] = 0
+number_of_bytes (b ∷ bs) = b + 256 * number_of_bytes bs
+
+-- the lowest so many bytes of a number
+abbrev pub bytes_of_number : ℕ → ℕ → List ℕ
+bytes_of_number zero n = []
+bytes_of_number (suc count) n = n % 256 ∷ bytes_of_number count (n / 256)
+
+abbrev pub size_bytes : Size → ℕ
+size_bytes Byte = 1
+size_bytes HalfWord = 2
+size_bytes Word = 4
+size_bytes DoubleWord = 8
+
+abbrev pub load_bytes : LoadKind → ℕ
+load_bytes U8 = 1
+load_bytes U16 = 2
+load_bytes U32 = 4
+load_bytes U64 = 8
+load_bytes I8 = 1
+load_bytes I16 = 2
+load_bytes I32 = 4
+
+-- a load zero-extends to 64 bits, or sign-extends
+abbrev pub extended : LoadKind → ℕ → ℕ
+extended I8 n = sign_extended 64 From8 n
+extended I16 n = sign_extended 64 From16 n
+extended I32 n = sign_extended 64 From32 n
+extended _ n = n
+
+-- ---- places
+
+-- the index of place k in a memory of `all` bytes that begins at place 0, where `count` bytes from there on lie inside
+abbrev pub index_in : ℤ → ℕ → ℕ → Option ℕ
+index_in (pos k) count all = if nat_le (k + count) all then Some k else None
+index_in (negsuc _) count all = None
+
+-- the same for the stack, whose 512 bytes end before place 0
+abbrev pub stack_index : ℤ → ℕ → Option ℕ
+stack_index place count = index_in (place +ℤ pos 512) count 512
+
+-- the bytes, where each is known
+unfoldable pub all_known : List (Option ℕ) → Option (List ℕ)
+all_known [] = Some []
+all_known (None ∷ rest) = None
+all_known (Some b ∷ rest) = option_map (λ bs. b ∷ bs) (all_known rest)
+
+-- so many bytes of the stack from an index on, where each is known
+abbrev pub known_from : List (Option ℕ) → ℕ → ℕ → Option (List ℕ)
+known_from stack k count = all_known (take count (drop k stack))
+
+-- the stack with these bytes from an index on
+abbrev pub overwritten : List (Option ℕ) → ℕ → List ℕ → List (Option ℕ)
+overwritten stack k bytes = take k stack ++ map (λ b. Some b) bytes ++ drop (k + length bytes) stack
+
+-- so many known bytes of the stack from a place on
+unfoldable pub stack_read : List (Option ℕ) → ℤ → ℕ → Option (List ℕ)
+stack_read stack place count = do
+  k ← stack_index place count
+  known_from stack k count
+
+-- the stack with these bytes from a place on
+unfoldable pub stack_written : List (Option ℕ) → ℤ → List ℕ → Option (List (Option ℕ))
+stack_written stack place bytes = do
+  k ← stack_index place (length bytes)
+  Some (overwritten stack k bytes)
+
+-- so many bytes of the arguments from a place on
+unfoldable pub args_read : List ℕ → ℤ → ℕ → Option (List ℕ)
+args_read args place count = do
+  k ← index_in place count (length args)
+  Some (take count (drop k args))
+
+-- so many bytes from where a value points, with an offset
+abbrev pub read : List (Option ℕ) → List ℕ → Value → ℤ → ℕ → Option (List ℕ)
+read stack args (Stack place) offset count = stack_read stack (place +ℤ offset) count
+read stack args (Args place) offset count = args_read args (place +ℤ offset) count
+read stack args _ offset count = None
+
+-- the stack with these bytes where a value points, with an offset
+abbrev pub written_at : List (Option ℕ) → Value → ℤ → List ℕ → Option (List (Option ℕ))
+written_at stack (Stack place) offset bytes = stack_written stack (place +ℤ offset) bytes
+written_at stack _ offset bytes = None

@@ -1,0 +1,130 @@
+-- One instruction, one equation a form (RFC 9669 sections 4 and 5; places, and what is stuck, are this product's
+-- own). What can't be run is stuck: a value that is nothing is read, a place is stored or computed with, an address or
+-- a call is wrong, r0 is no number at EXIT.
+use Rattle.std.specs.Prelude.{ℕ, ◌+◌, ℤ, pos, negsuc, ◌+ℤ◌, neg_ℤ, nat_le, unsigned_abs, if◌then◌else◌, List, Option, Some, None}
+use Rattle.std.specs.Option.{option_map}
+use Rattle.std.specs.Int.{w64, cast_signed, cast_unsigned}
+use Rattle.bpf_words.specs.declared.operation.BinaryOperation.{BinaryOperation}
+use Rattle.bpf_words.specs.declared.operation.BinaryOperation.TheVariants.{Add, Sub, Mov}
+use Rattle.bpf_words.specs.declared.operation.SignExtension.{SignExtension}
+use Rattle.bpf_words.specs.declared.operation.SignExtension.TheVariants.{From8, From16, From32}
+use Rattle.bpf_words.specs.declared.operation.Operation.TheVariants.{Binary, Neg, Movsx}
+use Rattle.bpf_words.specs.Operation.{alu}
+use Rattle.bpf_words.specs.Condition.{holds}
+use Rattle.bpf_words.specs.End.{ended}
+use Rattle.bpf_code.specs.declared.instruction.Register.{Register}
+use Rattle.bpf_code.specs.declared.instruction.Register.TheVariants.{R0}
+use Rattle.bpf_code.specs.declared.instruction.Width.{Width}
+use Rattle.bpf_code.specs.declared.instruction.Width.TheVariants.{Bits32, Bits64}
+use Rattle.bpf_code.specs.declared.instruction.SignExtendingMove.{SignExtendingMove}
+use Rattle.bpf_code.specs.declared.instruction.SignExtendingMove.TheVariants.{From8To32, From16To32, From8To64, From16To64, From32To64}
+use Rattle.bpf_code.specs.declared.instruction.Source.{Source}
+use Rattle.bpf_code.specs.declared.instruction.Source.TheVariants as source
+use Rattle.bpf_code.specs.declared.instruction.Instruction.{Instruction}
+use Rattle.bpf_code.specs.declared.instruction.Instruction.TheVariants.{LoadWide, Load, StoreImmediate, StoreRegister, Arithmetic, Negate, MoveSignExtended, End, Jump, LongJump, Branch, Call, Exit}
+use Rattle.bpf_code.specs.Spelling.{extension_width}
+use Rattle.bpf_code.specs.Program.{Program, instruction_at}
+use Rattle.schema.specs.Schema.{Tables}
+use Rattle.schema.specs.Helper.{helper_of}
+use Rattle.bpf_semantics.specs.declared.value.Value.{Value}
+use Rattle.bpf_semantics.specs.declared.value.Value.TheVariants.{Number, Stack, Args}
+use Rattle.bpf_semantics.specs.State.{State, register, with_register, past, number}
+use Rattle.bpf_semantics.specs.Memory.{◌>>=◌, number_of_bytes, bytes_of_number, size_bytes, load_bytes, extended, read, written_at}
+use Rattle.bpf_semantics.specs.Helpers.{with_stack, called}
+
+-- the state after an instruction; the reply at EXIT, and the state there; or that there is no step
+pub data Moment : Type 0 where
+  Going : State → Moment
+  Ended : ℕ → State → Moment
+  Stuck : Moment
+
+unfoldable pub or_stuck : {X : Type 0} → Option X → (X → Moment) → Moment
+or_stuck None next = Stuck
+or_stuck (Some x) next = next x
+
+abbrev pub width_bits : Width → ℕ
+width_bits Bits32 = 32
+width_bits Bits64 = 64
+
+-- an immediate is sign-extended to 64 bits; 32-bit forms take the low 32 bits (in `alu` and `holds`)
+abbrev pub operand : State → Source → Value
+operand s (source.Immediate immediate) = Number (cast_unsigned w64 immediate)
+operand s (source.Register r) = register s r
+
+abbrev pub low_bits : SignExtendingMove → SignExtension
+low_bits From8To32 = From8
+low_bits From16To32 = From16
+low_bits From8To64 = From8
+low_bits From16To64 = From16
+low_bits From32To64 = From32
+
+-- ---- places
+
+-- a place may be as far away as 65,536
+abbrev pub near : ℤ → Option ℤ
+near place = if nat_le (unsigned_abs place) 65536 then Some place else None
+
+abbrev pub moved : Value → ℤ → Option Value
+moved (Stack place) distance = option_map (λ p. Stack p) (near (place +ℤ distance))
+moved (Args place) distance = option_map (λ p. Args p) (near (place +ℤ distance))
+moved _ distance = None
+
+-- What an operation gives. MOV reads its source alone, and at 64 bits copies a place. Of other operations numbers give
+-- numbers, and a 64-bit ADD or SUB moves a place by a number, read as signed; nothing else has a step: no number plus
+-- a place, no place minus a place
+unfoldable pub computed : Width → BinaryOperation → Value → Value → Option Value
+computed Bits64 Mov _ (Stack place) = Some (Stack place)
+computed Bits64 Mov _ (Args place) = Some (Args place)
+computed width Mov _ (Number b) = Some (Number (alu (width_bits width) (Binary Mov) 0 b))
+computed _ Mov _ _ = None
+computed width op (Number a) (Number b) = Some (Number (alu (width_bits width) (Binary op) a b))
+computed Bits64 Add a (Number b) = moved a (cast_signed w64 b)
+computed Bits64 Sub a (Number b) = moved a (neg_ℤ (cast_signed w64 b))
+computed _ _ _ _ = None
+
+-- ---- the step
+
+abbrev pub with_result : Register → Value → State → Moment
+with_result dst v s = Going (past 1 (with_register s dst v))
+
+abbrev pub with_stored : Option (List (Option ℕ)) → State → Moment
+with_stored written s = or_stuck written (λ stack. Going (past 1 (with_stack stack s)))
+
+-- to the slot this far past the next one
+abbrev pub jumped : ℤ → State → Moment
+jumped (pos distance) s = Going (past (1 + distance) s)
+jumped (negsuc _) s = Stuck
+
+unfoldable pub execute : Tables → Instruction → State → Moment
+execute tables (LoadWide dst value) s = Going (past 2 (with_register s dst (Number value)))
+execute tables (Load kind dst src offset) s =
+    or_stuck (read s.stack s.args (register s src) offset (load_bytes kind)) (λ bytes.
+    with_result dst (Number (extended kind (number_of_bytes bytes))) s)
+execute tables (StoreImmediate size dst offset immediate) s =
+    let bytes = bytes_of_number (size_bytes size) (cast_unsigned w64 immediate) in
+    with_stored (written_at s.stack (register s dst) offset bytes) s
+execute tables (StoreRegister size dst src offset) s =
+    or_stuck (number (register s src)) (λ n.
+    with_stored (written_at s.stack (register s dst) offset (bytes_of_number (size_bytes size) n)) s)
+execute tables (Arithmetic width op dst src) s =
+    or_stuck (computed width op (register s dst) (operand s src)) (λ v. with_result dst v s)
+execute tables (Negate width dst) s =
+    or_stuck (number (register s dst)) (λ a. with_result dst (Number (alu (width_bits width) Neg a 0)) s)
+execute tables (MoveSignExtended kind dst src) s =
+    or_stuck (number (register s src)) (λ b.
+    with_result dst (Number (alu (width_bits (extension_width kind)) (Movsx (low_bits kind)) 0 b)) s)
+execute tables (End order width dst) s =
+    or_stuck (number (register s dst)) (λ a. with_result dst (Number (ended order width a)) s)
+execute tables (Jump distance) s = jumped distance s
+execute tables (LongJump distance) s = jumped distance s
+execute tables (Branch width condition dst src distance) s =
+    or_stuck (number (register s dst)) (λ a.
+    or_stuck (number (operand s src)) (λ b.
+    if holds (width_bits width) condition a b then jumped distance s else Going (past 1 s)))
+execute tables (Call helper) s =
+    or_stuck (helper_of helper >>= λ h. called tables h s) (λ t. Going (past 1 t))
+execute tables Exit s = or_stuck (number (register s R0)) (λ reply. Ended reply (past 0 s))
+
+-- the instruction at the state's slot; stuck where none begins there
+unfoldable pub step : Program → Tables → State → Moment
+step p tables s = or_stuck (instruction_at p s.slot) (λ i. execute tables i s)
