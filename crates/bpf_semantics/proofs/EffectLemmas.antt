@@ -66,7 +66,7 @@ next_read_same s t lo hi key_buffer row_buffer found =
     (with_stack (overwritten (overwritten s.stack key_buffer (key_or_zeros found)) row_buffer (row_or_zeros t.width (row_of found))) s) (record { rows = refl; writes = refl }) in
     record { rows = p.rows; writes = p.writes }
 
-called_keeps : (rows : Rows) (tables : Tables) (h : Helper) (s u : State) → called tables h s ≡ just u → Kept rows s → Kept rows u
+pub called_keeps : (rows : Rows) (tables : Tables) (h : Helper) (s u : State) → called tables h s ≡ just u → Kept rows s → Kept rows u
 unfolding called row_get row_put range_next
 called_keeps rows tables RowGet s u e k =
     let a = bound _ _ u e in
@@ -117,7 +117,7 @@ store_leaves rows o s t e k = let a = going_on o _ t e in leaves rows 1 s (with_
 set_leaves : (rows : Rows) (dst : Register) (v : Value) (s t : State) → with_result dst v s ≡ Going t → Kept rows s → Kept rows t
 set_leaves rows dst v s t e k = leaves rows 1 s (with_register s dst v) t (record { rows = refl; writes = refl }) e k
 
-execute_keeps : (rows : Rows) (tables : Tables) (i : Instruction) (s t : State) → execute tables i s ≡ Going t → Kept rows s → Kept rows t
+pub execute_keeps : (rows : Rows) (tables : Tables) (i : Instruction) (s t : State) → execute tables i s ≡ Going t → Kept rows s → Kept rows t
 unfolding execute
 execute_keeps rows tables (LoadWide dst value) s t e k = leaves rows 2 s (with_register s dst _) t (record { rows = refl; writes = refl }) e k
 execute_keeps rows tables (Load kind dst src offset) s t e k = let a = going_on _ _ t e in set_leaves rows dst _ s t a.2 k

@@ -3,3 +3,5 @@ pub mod RunLemmas
 pub mod PathLemmas
 pub mod EffectLemmas
 pub mod AgreeLemmas
+pub mod TwinLemmas
+pub mod LookLemmas

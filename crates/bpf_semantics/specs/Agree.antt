@@ -1,11 +1,12 @@
--- Two maps of rows that have the same where a run looks.
-use Rattle.std.specs.Prelude.{ℕ, Bool, false, ◌||◌, List, [], ◌∷◌}
+-- Rows that a run can't tell apart: two maps that have the same where it looks, and writes to other keys.
+use Rattle.std.specs.Prelude.{◌≡◌, IsTrue, None, ℕ, Bool, false, ◌||◌, List, [], ◌∷◌}
+use Rattle.std.specs.FinMap.{get}
 use Rattle.bpf_code.specs.Program.{Program}
 use Rattle.schema.specs.Schema.{Tables}
-use Rattle.schema.specs.Rows.{Rows, Key, Look, covers, AgreeOn}
+use Rattle.schema.specs.Rows.{Rows, Key, Look, Writes, covers, AgreeOn, after}
 use Rattle.bpf_semantics.specs.State.{entry_state}
 use Rattle.bpf_semantics.specs.Step.{Moment, Going, Ended, Stuck}
-use Rattle.bpf_semantics.specs.Run.{moment}
+use Rattle.bpf_semantics.specs.Run.{moment, Run}
 
 -- whether a key lies in one of the looks
 abbrev pub any_covers : List Look → Key → Bool
@@ -21,3 +22,16 @@ looks_of Stuck = []
 -- the maps have the same, present or absent, at each key inside a look of the run on the first
 abbrev pub AgreeOnLooks : Program → Tables → List ℕ → Rows → Rows → Type 0
 AgreeOnLooks p tables args m n = (k : ℕ) → AgreeOn (any_covers (looks_of (moment p tables k (entry_state args m)))) m n
+
+-- the run on other rows that is the same but for its effect: those rows after its writes
+abbrev pub same_on : Rows → Run → Run
+same_on rows r = record r { effect = after r.writes rows }
+
+-- no key inside a look is written
+abbrev pub AreElsewhere : List Look → Writes → Type 0
+AreElsewhere looks writes = (k : Key) → IsTrue (any_covers looks k) → get writes k ≡ None
+
+-- the rows after some writes, and then after the next
+abbrev pub after_each : List Writes → Rows → Rows
+after_each [] rows = rows
+after_each (writes ∷ later) rows = after_each later (after writes rows)

@@ -1,13 +1,14 @@
 //! What follows from the definitions, for every program, all arguments and all rows.
 
-ghost use Rattle.std.specs.Prelude.{◌≡◌, ℕ, ◌+◌, ◌≤◌, List, Some, None, IsSome};
+ghost use Rattle.std.specs.Prelude.{◌≡◌, ◌↔◌, All, ℕ, ◌+◌, ◌≤◌, List, Some, None, IsSome};
 ghost use Rattle.std.specs.FinMap.{empty};
 ghost use Rattle.bpf_code.specs.Program.{Program};
 ghost use Rattle.schema.specs.Schema.{Tables};
-ghost use Rattle.schema.specs.Rows.{Rows, after};
-ghost use Rattle.bpf_semantics.specs.State.{State};
+ghost use Rattle.schema.specs.Rows.{Rows, Writes, AgreeOn, after};
+ghost use Rattle.bpf_semantics.specs.State.{State, entry_state};
 ghost use Rattle.bpf_semantics.specs.Step.{Moment, Ended, Stuck, step};
 ghost use Rattle.bpf_semantics.specs.Run.{Run, moment, run};
+ghost use Rattle.bpf_semantics.specs.Agree.{any_covers, AgreeOnLooks, same_on, AreElsewhere, after_each};
 ghost use Rattle.bpf_semantics.specs.Path.{longest_path, instructions};
 
 /// No state has two steps.
@@ -38,4 +39,29 @@ pub fn the_effect_is_that_of_the_writes()
         → run p tables args rows ≡ Some r → r.cancelled ≡ None → r.effect ≡ after r.writes rows }
     ensures cancelled { (p : Program) (tables : Tables) (args : List ℕ) (rows : Rows) (r : Run)
         → run p tables args rows ≡ Some r → IsSome r.cancelled → (r.effect ≡ rows) × (r.writes ≡ empty) }
+{}
+
+/// A run depends on the rows only where it looks: on others that have the same there, present or
+/// absent, it is the same run but for the effect, and stuck at the same step.
+pub fn a_run_depends_on_its_looks()
+    ensures same { (p : Program) (tables : Tables) (args : List ℕ) (m n : Rows) (r : Run)
+        → run p tables args m ≡ Some r → AgreeOn (any_covers r.looks) m n
+        → run p tables args n ≡ Some (same_on n r) }
+    ensures stuck { (p : Program) (tables : Tables) (args : List ℕ) (m n : Rows)
+        → AgreeOnLooks p tables args m n → (k : ℕ)
+        → (moment p tables k (entry_state args m) ≡ Stuck)
+        ↔ (moment p tables k (entry_state args n) ≡ Stuck) }
+    ensures none { (p : Program) (tables : Tables) (args : List ℕ) (m n : Rows)
+        → AgreeOnLooks p tables args m n
+        → (run p tables args m ≡ None) ↔ (run p tables args n ≡ None) }
+{}
+
+/// Writes to keys that a run didn't look at change nothing of it but the effect.
+pub fn writes_elsewhere_leave_the_run()
+    ensures once { (p : Program) (tables : Tables) (args : List ℕ) (rows : Rows) (r : Run) (writes : Writes)
+        → run p tables args rows ≡ Some r → AreElsewhere r.looks writes
+        → run p tables args (after writes rows) ≡ Some (same_on (after writes rows) r) }
+    ensures each { (p : Program) (tables : Tables) (args : List ℕ) (rows : Rows) (r : Run) (later : List Writes)
+        → run p tables args rows ≡ Some r → All (AreElsewhere r.looks) later
+        → run p tables args (after_each later rows) ≡ Some (same_on (after_each later rows) r) }
 {}

@@ -1,7 +1,10 @@
 //! What a run of a program is: the definitions, and laws about them.
 #![tactic(auto)]
 
-pub use laws::{one_step, runs_are_short, the_effect_is_that_of_the_writes, the_end_stays};
+pub use laws::{
+    a_run_depends_on_its_looks, one_step, runs_are_short, the_effect_is_that_of_the_writes,
+    the_end_stays, writes_elsewhere_leave_the_run,
+};
 pub use value::Value;
 
 mod laws;
