@@ -183,7 +183,21 @@ pub same_on_looks : (p : Program) (tables : Tables) (args : List ℕ) (m n : Row
     → run p tables args n ≡ Some (same_on n r)
 same_on_looks p tables args m n r e agree = same_run p tables args m n r (agree_on_run p tables args m n r e agree) e
 
--- ---- stuck runs
+-- ---- runs that go on, and stuck ones
+
+going_alike : (m n : Rows) (u : State) (b : Moment) → AreTogether m n (Going u) b → b ≡ Going (over (after u.writes n) u)
+going_alike m n u (Going v) h =
+    let writes : v.writes ≡ u.writes = ap (λ (x : State). x.writes) h.same in
+    let rows : v.rows ≡ after u.writes n = h.kept_too ∙ ap (λ (w : Writes). after w n) writes in
+    ap (λ (x : State). Going x) (h.same ∙ ap (λ (r : Rows). over r u) rows)
+going_alike m n u (Ended q v) h = absurd h
+going_alike m n u Stuck h = absurd h
+
+pub going_on_alike : (p : Program) (tables : Tables) (args : List ℕ) (m n : Rows) → AgreeOnLooks p tables args m n → (k : ℕ) (s : State)
+    → moment p tables k (entry_state args m) ≡ Going s → moment p tables k (entry_state args n) ≡ Going (record s { rows = after s.writes n })
+going_on_alike p tables args m n agree k s e =
+    going_alike m n s (moment p tables k (entry_state args n))
+    (subst (λ (x : Moment). AreTogether m n x (moment p tables k (entry_state args n))) e (moments_together p tables args m n agree k))
 
 stuck_alike : (m n : Rows) (a b : Moment) → AreTogether m n a b → (a ≡ Stuck) ↔ (b ≡ Stuck)
 stuck_alike m n (Going u) (Going v) h = (λ e. absurd cc, λ e. absurd cc)

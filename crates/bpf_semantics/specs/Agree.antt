@@ -13,7 +13,7 @@ abbrev pub any_covers : List Look → Key → Bool
 any_covers [] k = false
 any_covers (look ∷ looks) k = covers look k || any_covers looks k
 
--- what was looked at up to a moment
+-- what was looked at up to a moment; of one that is stuck, the moments before it tell
 abbrev pub looks_of : Moment → List Look
 looks_of (Going s) = s.looks
 looks_of (Ended reply s) = s.looks

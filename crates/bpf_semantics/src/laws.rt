@@ -6,7 +6,7 @@ ghost use Rattle.bpf_code.specs.Program.{Program};
 ghost use Rattle.schema.specs.Schema.{Tables};
 ghost use Rattle.schema.specs.Rows.{Rows, Writes, AgreeOn, after};
 ghost use Rattle.bpf_semantics.specs.State.{State, entry_state};
-ghost use Rattle.bpf_semantics.specs.Step.{Moment, Ended, Stuck, step};
+ghost use Rattle.bpf_semantics.specs.Step.{Moment, Going, Ended, Stuck, step};
 ghost use Rattle.bpf_semantics.specs.Run.{Run, moment, run};
 ghost use Rattle.bpf_semantics.specs.Agree.{any_covers, AgreeOnLooks, same_on, AreElsewhere, after_each};
 ghost use Rattle.bpf_semantics.specs.Path.{longest_path, instructions};
@@ -41,12 +41,17 @@ pub fn the_effect_is_that_of_the_writes()
         → run p tables args rows ≡ Some r → IsSome r.cancelled → (r.effect ≡ rows) × (r.writes ≡ empty) }
 {}
 
-/// A run depends on the rows only where it looks: on others that have the same there, present or
-/// absent, it is the same run but for the effect, and stuck at the same step.
+/// A run depends on the rows only where it looks. On others that have the same there, present or
+/// absent, one that ended is the same but for its effect; one that goes on is in the same state but
+/// for the rows; and one that is stuck is stuck after as many steps.
 pub fn a_run_depends_on_its_looks()
     ensures same { (p : Program) (tables : Tables) (args : List ℕ) (m n : Rows) (r : Run)
         → run p tables args m ≡ Some r → AgreeOn (any_covers r.looks) m n
         → run p tables args n ≡ Some (same_on n r) }
+    ensures going { (p : Program) (tables : Tables) (args : List ℕ) (m n : Rows)
+        → AgreeOnLooks p tables args m n → (k : ℕ) (s : State)
+        → moment p tables k (entry_state args m) ≡ Going s
+        → moment p tables k (entry_state args n) ≡ Going (record s { rows = after s.writes n }) }
     ensures stuck { (p : Program) (tables : Tables) (args : List ℕ) (m n : Rows)
         → AgreeOnLooks p tables args m n → (k : ℕ)
         → (moment p tables k (entry_state args m) ≡ Stuck)
@@ -56,7 +61,7 @@ pub fn a_run_depends_on_its_looks()
         → (run p tables args m ≡ None) ↔ (run p tables args n ≡ None) }
 {}
 
-/// Writes to keys that a run didn't look at change nothing of it but the effect.
+/// Writes to keys that a run didn't look at change nothing of it but the effect, where it ended.
 pub fn writes_elsewhere_leave_the_run()
     ensures once { (p : Program) (tables : Tables) (args : List ℕ) (rows : Rows) (r : Run) (writes : Writes)
         → run p tables args rows ≡ Some r → AreElsewhere r.looks writes
