@@ -10,7 +10,7 @@ use Rattle.bpf_words.specs.declared.operation.BinaryOperation.TheVariants as ope
 use Rattle.bpf_words.specs.declared.operation.EndWidth.{EndWidth}
 use Rattle.bpf_words.specs.declared.operation.EndWidth.TheVariants.{Low16, Low32, Low64}
 use Rattle.bpf_code.specs.declared.instruction.Register.{Register}
-use Rattle.bpf_code.specs.declared.instruction.Register.TheVariants.{R0, R1, R2, R3, R4, R5, R6, R7, R8, R9, R10}
+use Rattle.bpf_code.specs.declared.instruction.Register.TheVariants.{Zero, One, Two, Three, Four, Five, Six, Seven, Eight, Nine, Ten}
 use Rattle.bpf_code.specs.declared.instruction.SignExtendingMove.{SignExtendingMove}
 use Rattle.bpf_code.specs.declared.instruction.SignExtendingMove.TheVariants.{From8To32, From16To32, From8To64, From16To64, From32To64}
 use Rattle.bpf_code.specs.Register.{number_of}
@@ -71,17 +71,17 @@ unfolding slots_of
 slots_again f rest fits = ap (λ (g : Fields). g ∷ slots_of rest) (fields_again f fits)
 
 number_below : (r : Register) → number_of r < 16
-number_below R0 = omega arith
-number_below R1 = omega arith
-number_below R2 = omega arith
-number_below R3 = omega arith
-number_below R4 = omega arith
-number_below R5 = omega arith
-number_below R6 = omega arith
-number_below R7 = omega arith
-number_below R8 = omega arith
-number_below R9 = omega arith
-number_below R10 = omega arith
+number_below Zero = omega arith
+number_below One = omega arith
+number_below Two = omega arith
+number_below Three = omega arith
+number_below Four = omega arith
+number_below Five = omega arith
+number_below Six = omega arith
+number_below Seven = omega arith
+number_below Eight = omega arith
+number_below Nine = omega arith
+number_below Ten = omega arith
 
 fits_16 : (n : ℕ) → n < 2 ^ 15 → FitsSigned w16 (pos n)
 fits_16 n h = record { sfits = h }

@@ -1,10 +1,14 @@
-ghost use Rattle.std.specs.Prelude.{◌≡◌, ◌∷◌, Ok, Err, ◌⊎◌, ◌<◌, ◌≤◌, ◌+◌, ◌*◌, ◌%◌, ◌^◌, ◌++◌, List, Option, Some, None, length, vec_len, vec_capacity, IfOk, IfErr, IfSome, OnOk, true, false};
+ghost use Rattle.std.specs.Prelude.{◌≡◌, ◌∷◌, Ok, Err, ◌⊎◌, ◌<◌, ◌≤◌, ◌+◌, ◌*◌, ◌%◌, ◌^◌, ◌++◌, List, Option};
+ghost use Rattle.std.specs.Prelude.{Some, None, length, vec_len, vec_capacity, IfOk, IfErr, IfSome, OnOk};
+ghost use Rattle.std.specs.Prelude.{true, false};
 ghost use Rattle.bpf_code.specs.Program.{max_slots};
 ghost use Rattle.bpf_code.specs.declared.fault.DecodeCause.TheVariants.{OutOfMemory};
 ghost use Rattle.bpf_code.specs.Fields.{bytes_of, slots_of};
 ghost use Rattle.bpf_code.specs.declared.fields.Fields.{Fields};
 ghost use Rattle.bpf_code.specs.Program.{Program, AllInRange, spelling, is_wide as wide, distance_of, instruction_at, IsProgram};
-ghost use Rattle.bpf_code.specs.Decoding.{fault as fault_at, with_front, completed as completed_by, read_slots as slots_read, jump_fault as fault_of_jump, jump_faults, exit_fault, program_of};
+ghost use Rattle.bpf_code.specs.Decoding.{fault as fault_at, with_front, completed as completed_by};
+ghost use Rattle.bpf_code.specs.Decoding.{read_slots as slots_read, jump_fault as fault_of_jump, jump_faults};
+ghost use Rattle.bpf_code.specs.Decoding.{exit_fault, program_of};
 ghost use Rattle.bpf_code.specs.Spelling.{fields_of, second_half, instruction_bytes};
 ghost use Rattle.bpf_code.specs.Steps.{half_bytes, half_count, IsFirstHalf, IsHalf};
 
@@ -48,11 +52,14 @@ fn read_slot<A: Allocator>(
 ) -> Result<Option<Instruction>, DecodeFault>
     requires half { IsHalf half }
     requires room { vec_len slots.old + half_count half + 1 ≤ vec_capacity slots.old }
-    ensures goes_on { IfOk result (λ next. (rest : List Fields) → with_front slots.old.items (slots_read half slot (fields.now ∷ rest)) ≡ with_front slots.new.items (slots_read next (slot + 1) rest)) }
+    ensures goes_on { IfOk result (λ next. (rest : List Fields)
+        → with_front slots.old.items (slots_read half slot (fields.now ∷ rest))
+        ≡ with_front slots.new.items (slots_read next (slot + 1) rest)) }
     ensures ends { IfErr result (λ e. (rest : List Fields) → slots_read half slot (fields.now ∷ rest) ≡ Err e) }
     ensures half { IfOk result IsHalf }
     ensures count { IfOk result (λ next. vec_len slots.new + half_count next ≡ vec_len slots.old + half_count half + 1) }
-    ensures bytes { IfOk result (λ next. spelling slots.new.items ++ half_bytes next ≡ (spelling slots.old.items ++ half_bytes half) ++ bytes_of fields.now) }
+    ensures bytes { IfOk result (λ next. spelling slots.new.items ++ half_bytes next
+        ≡ (spelling slots.old.items ++ half_bytes half) ++ bytes_of fields.now) }
     ensures capacity { vec_capacity slots.new ≡ vec_capacity slots.old }
 {
     let Some(first) = half else {
@@ -131,7 +138,8 @@ pub fn decode<A: Allocator>(alloc: A, bytes: &[u8]) -> Result<Code<A>, DecodeFau
     ensures program { IfOk result IsProgram }
 
     // The bytes of a program are decoded to it, unless memory runs out.
-    ensures only { (p : Program) → IsProgram p → AllInRange p → spelling p ≡ bytes.now → (result ≡ Err (fault_at OutOfMemory 0)) ⊎ (result ≡ Ok p) }
+    ensures only { (p : Program) → IsProgram p → AllInRange p → spelling p ≡ bytes.now
+        → (result ≡ Err (fault_at OutOfMemory 0)) ⊎ (result ≡ Ok p) }
 
     // Other bytes have their one fault, unless memory runs out.
     ensures fault { IfErr result (λ e. (e ≡ fault_at OutOfMemory 0) ⊎ (program_of bytes.now ≡ Err e)) }

@@ -1,5 +1,9 @@
 ghost use Rattle.std.specs.Prelude.{◌≡◌, ◌/◌, ◌%◌, IfSome};
-ghost use Rattle.bpf_code.specs.Opcode.{byte_of, opcode_of, binary_of, branch_of, memory_of, source_of, arithmetic_of, condition_of, arithmetic_number, condition_number as number_of_condition, load_byte as byte_of_load, size_bits as bits_of_size, source_bit as bit_of_source, arithmetic_class as class_of_arithmetic, jump_class as class_of_jump};
+ghost use Rattle.bpf_code.specs.Opcode.{byte_of, opcode_of, binary_of, branch_of, memory_of, source_of};
+ghost use Rattle.bpf_code.specs.Opcode.{arithmetic_of, condition_of, arithmetic_number};
+ghost use Rattle.bpf_code.specs.Opcode.{condition_number as number_of_condition, load_byte as byte_of_load};
+ghost use Rattle.bpf_code.specs.Opcode.{size_bits as bits_of_size, source_bit as bit_of_source};
+ghost use Rattle.bpf_code.specs.Opcode.{arithmetic_class as class_of_arithmetic, jump_class as class_of_jump};
 
 use crate::instruction::{LoadKind, Size, Width};
 use bpf_words::{ByteOrder, Condition};

@@ -1,11 +1,14 @@
 ghost use Rattle.std.specs.Prelude.{◌≡◌, IsTrue, IfOk, IfSome, true, false, pos};
 ghost use Rattle.std.specs.Int.{w32};
-ghost use Rattle.bpf_code.specs.Reading.{read as read_of, read_half as half_of, unused_are_zero as unused_of, uses_of, offset_chooses, operation_of, extension_of, end_width_of, on_register as register_form, instruction_of};
+ghost use Rattle.bpf_code.specs.Reading.{read as read_of, read_half as half_of, unused_are_zero as unused_of};
+ghost use Rattle.bpf_code.specs.Reading.{uses_of, offset_chooses, operation_of, extension_of, end_width_of};
+ghost use Rattle.bpf_code.specs.Reading.{on_register as register_form, instruction_of};
 ghost use Rattle.bpf_code.specs.Register.{number_of};
 ghost use Rattle.bpf_code.specs.Opcode.{byte_of};
 ghost use Rattle.bpf_code.specs.declared.opcode.SourceKind.TheVariants.{Immediate, Register as InRegister};
 ghost use Rattle.bpf_code.specs.declared.opcode.Opcode.TheVariants.{Arithmetic};
-ghost use Rattle.bpf_code.specs.Spelling.{fields_of, code_of, operation_offset, extension_width, extension_offset, end_immediate, second_half};
+ghost use Rattle.bpf_code.specs.Spelling.{fields_of, code_of, operation_offset, extension_width};
+ghost use Rattle.bpf_code.specs.Spelling.{extension_offset, end_immediate, second_half};
 ghost use Rattle.bpf_code.specs.Program.{is_wide};
 ghost use Rattle.bpf_code.specs.Steps.{IsFirstHalf};
 

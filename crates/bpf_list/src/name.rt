@@ -2,7 +2,8 @@
 
 ghost use Rattle.std.specs.Prelude.{◌≡◌, ◌≤◌, length, Some};
 ghost use Rattle.bpf_code.specs.Spelling.{extension_width};
-ghost use Rattle.bpf_list.specs.Listing.{operation_name, condition_name, width_bits as bits_of_width, size_bits as bits_of_size, load_name, name_parts};
+ghost use Rattle.bpf_list.specs.Listing.{operation_name, condition_name, width_bits as bits_of_width};
+ghost use Rattle.bpf_list.specs.Listing.{size_bits as bits_of_size, load_name, name_parts};
 
 use bpf_code::{Instruction, LoadKind, SignExtendingMove, Size, Width};
 use bpf_words::{BinaryOperation, ByteOrder, Condition};

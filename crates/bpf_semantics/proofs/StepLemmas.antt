@@ -4,7 +4,7 @@ use Rattle.std.specs.Prelude.{is_some, nat_le}
 use Rattle.std.specs.FinMap.{get}
 use Rattle.bpf_words.specs.Condition.{holds}
 use Rattle.bpf_code.specs.declared.instruction.Register.{Register}
-use Rattle.bpf_code.specs.declared.instruction.Register.TheVariants.{R3, R4, R5}
+use Rattle.bpf_code.specs.declared.instruction.Register.TheVariants.{Three, Four, Five}
 use Rattle.bpf_code.specs.declared.instruction.Instruction.{Instruction}
 use Rattle.bpf_code.specs.declared.instruction.Instruction.TheVariants.{LoadWide, Load, StoreImmediate, StoreRegister, Arithmetic, Negate, MoveSignExtended, End, Jump, LongJump, Branch, Call, Exit}
 use Rattle.schema.specs.Schema.{Tables}
@@ -106,11 +106,11 @@ unfolding called
 called_place tables RowGet s u e =
     let a = bound _ _ u e in
     let b = bound _ _ u a.2 in
-    get_place s a.0 b.0 (register s R3) u b.2
+    get_place s a.0 b.0 (register s Three) u b.2
 called_place tables RowPut s u e =
     let a = bound _ _ u e in
     let b = bound _ _ u a.2 in
-    put_place s a.0 b.0 (register s R3) u b.2
+    put_place s a.0 b.0 (register s Three) u b.2
 called_place tables RowDelete s u e =
     let a = bound _ _ u e in
     let b = bound _ _ u a.2 in
@@ -124,7 +124,7 @@ called_place tables RangeNext s u e =
     let a = bound _ _ u e in
     let b = bound _ _ u a.2 in
     let c = bound _ _ u b.2 in
-    next_place s a.0 b.0 c.0 (register s R4) (register s R5) u c.2
+    next_place s a.0 b.0 c.0 (register s Four) (register s Five) u c.2
 called_place tables Cancel s u e =
     let a = bound _ _ u e in
     same s s _ u (itself s) refl refl (some_is _ u a.2)

@@ -4,7 +4,7 @@
 use Rattle.std.specs.Prelude.{ℕ, ◌%◌, ◌^◌, List, [], ◌∷◌, ◌++◌, drop, replicate, nat_le, is_some, if◌then◌else◌, Option, Some, None}
 use Rattle.std.specs.Option.{option_map}
 use Rattle.std.specs.FinMap.{get}
-use Rattle.bpf_code.specs.declared.instruction.Register.TheVariants.{R1, R2, R3, R4, R5}
+use Rattle.bpf_code.specs.declared.instruction.Register.TheVariants.{One, Two, Three, Four, Five}
 use Rattle.schema.specs.Schema.{Tables}
 use Rattle.schema.specs.Rows.{Look, Key, row_at, written, with_write, count_in, first_in}
 use Rattle.schema.specs.declared.helper.Helper.{Helper}
@@ -123,27 +123,27 @@ cancel s code = answered 0 (record s { cancelled = Some code })
 
 unfoldable pub called : Tables → Helper → State → Option State
 called tables RowGet s = do
-  t ← table_of tables (register s R1)
-  key ← number (register s R2)
-  row_get s t key (register s R3)
+  t ← table_of tables (register s One)
+  key ← number (register s Two)
+  row_get s t key (register s Three)
 called tables RowPut s = do
-  t ← table_of tables (register s R1)
-  key ← number (register s R2)
-  row_put s t key (register s R3)
+  t ← table_of tables (register s One)
+  key ← number (register s Two)
+  row_put s t key (register s Three)
 called tables RowDelete s = do
-  t ← table_of tables (register s R1)
-  key ← number (register s R2)
+  t ← table_of tables (register s One)
+  key ← number (register s Two)
   Some (row_delete s t key)
 called tables RangeCount s = do
-  t ← table_of tables (register s R1)
-  lo ← number (register s R2)
-  hi ← number (register s R3)
+  t ← table_of tables (register s One)
+  lo ← number (register s Two)
+  hi ← number (register s Three)
   Some (range_count s t lo hi)
 called tables RangeNext s = do
-  t ← table_of tables (register s R1)
-  lo ← number (register s R2)
-  hi ← number (register s R3)
-  range_next s t lo hi (register s R4) (register s R5)
+  t ← table_of tables (register s One)
+  lo ← number (register s Two)
+  hi ← number (register s Three)
+  range_next s t lo hi (register s Four) (register s Five)
 called tables Cancel s = do
-  code ← number (register s R1)
+  code ← number (register s One)
   Some (cancel s code)

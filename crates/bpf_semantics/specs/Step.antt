@@ -13,7 +13,7 @@ use Rattle.bpf_words.specs.Operation.{alu}
 use Rattle.bpf_words.specs.Condition.{holds}
 use Rattle.bpf_words.specs.End.{ended}
 use Rattle.bpf_code.specs.declared.instruction.Register.{Register}
-use Rattle.bpf_code.specs.declared.instruction.Register.TheVariants.{R0}
+use Rattle.bpf_code.specs.declared.instruction.Register.TheVariants.{Zero}
 use Rattle.bpf_code.specs.declared.instruction.Width.{Width}
 use Rattle.bpf_code.specs.declared.instruction.Width.TheVariants.{Bits32, Bits64}
 use Rattle.bpf_code.specs.declared.instruction.SignExtendingMove.{SignExtendingMove}
@@ -123,7 +123,7 @@ execute tables (Branch width condition dst src distance) s =
     if holds (width_bits width) condition a b then jumped distance s else Going (past 1 s)))
 execute tables (Call helper) s =
     or_stuck (helper_of helper >>= λ h. called tables h s) (λ t. Going (past 1 t))
-execute tables Exit s = or_stuck (number (register s R0)) (λ reply. Ended reply (past 0 s))
+execute tables Exit s = or_stuck (number (register s Zero)) (λ reply. Ended reply (past 0 s))
 
 -- the instruction at the state's slot; stuck where none begins there
 unfoldable pub step : Program → Tables → State → Moment

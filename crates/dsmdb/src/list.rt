@@ -54,7 +54,8 @@ fn list<A: Allocator + Copy, R: Read, W: Write>(
     output: &mut W,
 ) -> io::Result<u8>
     ensures ok { IfOk result (λ status. IfSome (R.remaining input.old) (λ bytes.
-        Appends (W.contents output.old) (W.contents output.new) (text_of (program_of bytes)) × (status ≡ status_of (program_of bytes)))) }
+        Appends (W.contents output.old) (W.contents output.new) (text_of (program_of bytes))
+        × (status ≡ status_of (program_of bytes)))) }
     ensures err { OnErr result (IfSome (R.remaining input.old) (λ bytes.
         AppendsBeginning (W.contents output.old) (W.contents output.new) (text_of (program_of bytes)))) }
 {
