@@ -69,7 +69,7 @@ pub fn opposites_exclude()
 {}
 
 /// What each condition says of two words.
-#[tactic(auto, using(std::proofs::lemmas::Bool::Decides::nat_tests, crate::proofs::Words::cut_word), unfolding(crate::specs::Condition::holds, crate::specs::Condition::compared))]
+#[tactic(auto, using(crate::proofs::Words::cut_word), unfolding(crate::specs::Condition::holds, crate::specs::Condition::compared))]
 pub fn conditions_compare()
     ensures eq { (n a b : ℕ) → a < 2 ^ n → b < 2 ^ n → IsTrue (holds n Eq a b) ↔ (a ≡ b) }
     ensures ne { (n a b : ℕ) → a < 2 ^ n → b < 2 ^ n → IsTrue (holds n Ne a b) ↔ (a ≢ b) }
