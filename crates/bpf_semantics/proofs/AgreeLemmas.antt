@@ -5,7 +5,8 @@ use Rattle.std.specs.FinMap.{get, len, entries}
 use Rattle.std.proofs.lemmas.Bool.Decides.{nat_tests}
 use Rattle.std.proofs.lemmas.Bool.{cases_lt}
 use Rattle.schema.specs.Schema.{Tables}
-use Rattle.schema.specs.Rows.{Rows, Key, Look, Writes, covers, AgreeOn, row_at, after, count_in, first_in}
+use Rattle.schema.specs.declared.look.Look.{Look}
+use Rattle.schema.specs.Rows.{Rows, Key, Writes, covers, AgreeOn, row_at, after, count_in, first_in}
 use Rattle.schema.proofs.RowsLemmas.{get-after}
 use Rattle.schema.proofs.LookLemmas.{rows_in_agree, is_first, first_is}
 use Rattle.schema.specs.declared.helper.Helper.{Helper}

@@ -7,7 +7,8 @@ use Rattle.bpf_code.specs.declared.instruction.Instruction.{Instruction}
 use Rattle.bpf_code.specs.declared.instruction.Instruction.TheVariants.{LoadWide, Load, StoreImmediate, StoreRegister, Arithmetic, Negate, MoveSignExtended, End, Jump, LongJump, Branch, Call, Exit}
 use Rattle.bpf_code.specs.Program.{Program}
 use Rattle.schema.specs.Schema.{Tables}
-use Rattle.schema.specs.Rows.{Key, Rows, Look, AgreeOn, covers, row_at, first_in}
+use Rattle.schema.specs.declared.look.Look.{Look}
+use Rattle.schema.specs.Rows.{Key, Rows, AgreeOn, covers, row_at, first_in}
 use Rattle.schema.specs.Helper.{helper_of}
 use Rattle.schema.specs.declared.helper.Helper.{Helper}
 use Rattle.schema.specs.declared.helper.Helper.TheVariants.{RowGet, RowPut, RowDelete, RangeCount, RangeNext, Cancel}

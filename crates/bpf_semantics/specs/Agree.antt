@@ -3,7 +3,8 @@ use Rattle.std.specs.Prelude.{◌≡◌, IsTrue, None, ℕ, Bool, false, ◌||�
 use Rattle.std.specs.FinMap.{get}
 use Rattle.bpf_code.specs.Program.{Program}
 use Rattle.schema.specs.Schema.{Tables}
-use Rattle.schema.specs.Rows.{Rows, Key, Look, Writes, covers, AgreeOn, after}
+use Rattle.schema.specs.declared.look.Look.{Look}
+use Rattle.schema.specs.Rows.{Rows, Key, Writes, covers, AgreeOn, after}
 use Rattle.bpf_semantics.specs.State.{entry_state}
 use Rattle.bpf_semantics.specs.Step.{Moment, Going, Ended, Stuck}
 use Rattle.bpf_semantics.specs.Run.{moment, Run}

@@ -4,15 +4,17 @@
 use Rattle.std.specs.Prelude.{ℕ, ◌%◌, ◌^◌, List, [], ◌∷◌, ◌++◌, drop, replicate, nat_le, is_some, if◌then◌else◌, Option, Some, None}
 use Rattle.std.specs.Option.{option_map}
 use Rattle.std.specs.FinMap.{get}
+use Rattle.byteorder.specs.Endian.{little_bytes}
 use Rattle.bpf_code.specs.declared.instruction.Register.TheVariants.{One, Two, Three, Four, Five}
 use Rattle.schema.specs.Schema.{Tables}
-use Rattle.schema.specs.Rows.{Look, Key, row_at, written, with_write, count_in, first_in}
+use Rattle.schema.specs.declared.look.Look.{Look}
+use Rattle.schema.specs.Rows.{Key, row_at, written, with_write, count_in, first_in}
 use Rattle.schema.specs.declared.helper.Helper.{Helper}
 use Rattle.schema.specs.declared.helper.Helper.TheVariants.{RowGet, RowPut, RowDelete, RangeCount, RangeNext, Cancel}
 use Rattle.bpf_semantics.specs.declared.value.Value.{Value}
 use Rattle.bpf_semantics.specs.declared.value.Value.TheVariants.{Nothing, Number, Stack}
 use Rattle.bpf_semantics.specs.State.{State, register, number}
-use Rattle.bpf_semantics.specs.Memory.{◌>>=◌, bytes_of_number, stack_index, known_from, overwritten}
+use Rattle.bpf_semantics.specs.Memory.{◌>>=◌, stack_index, known_from, overwritten}
 
 -- a table of the schema, and its width
 pub record Table : Type 0 where
@@ -98,7 +100,7 @@ last_seen hi (Some found) = found.0.1
 
 abbrev pub key_or_zeros : Option (Key × List ℕ) → List ℕ
 key_or_zeros None = replicate 8 0
-key_or_zeros (Some found) = bytes_of_number 8 found.0.1
+key_or_zeros (Some found) = little_bytes 8 found.0.1
 
 abbrev pub row_of : Option (Key × List ℕ) → Option (List ℕ)
 row_of = option_map (λ found. found.1)

@@ -19,16 +19,7 @@ infixl 10 ◌>>=◌
 abbrev pub ◌>>=◌ : {X Y : Type 0} → Option X → (X → Option Y) → Option Y
 o >>= f = and_then o f
 
--- ---- numbers as bytes
-
-abbrev pub number_of_bytes : List ℕ → ℕ
-number_of_bytes [] = 0
-number_of_bytes (b ∷ bs) = b + 256 * number_of_bytes bs
-
--- the lowest so many bytes of a number
-abbrev pub bytes_of_number : ℕ → ℕ → List ℕ
-bytes_of_number zero n = []
-bytes_of_number (suc count) n = n % 256 ∷ bytes_of_number count (n / 256)
+-- ---- sizes
 
 abbrev pub size_bytes : Size → ℕ
 size_bytes Byte = 1

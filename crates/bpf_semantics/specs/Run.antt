@@ -3,7 +3,8 @@ use Rattle.std.specs.Prelude.{ℕ, zero, suc, List, Option, Some, None, length}
 use Rattle.std.specs.FinMap.{empty}
 use Rattle.bpf_code.specs.Program.{Program}
 use Rattle.schema.specs.Schema.{Tables}
-use Rattle.schema.specs.Rows.{Rows, Look, Writes}
+use Rattle.schema.specs.declared.look.Look.{Look}
+use Rattle.schema.specs.Rows.{Rows, Writes}
 use Rattle.bpf_semantics.specs.State.{State, entry_state}
 use Rattle.bpf_semantics.specs.Step.{Moment, Going, Ended, Stuck, step}
 

@@ -1,9 +1,10 @@
 -- One instruction, one equation a form (RFC 9669 sections 4 and 5; places, and what is stuck, are this product's
 -- own). What can't be run is stuck: a value that is nothing is read, a place is stored or computed with, an address or
 -- a call is wrong, r0 is no number at EXIT.
-use Rattle.std.specs.Prelude.{ℕ, ◌+◌, ℤ, pos, negsuc, ◌+ℤ◌, neg_ℤ, nat_le, unsigned_abs, if◌then◌else◌, List, Option, Some, None}
+use Rattle.std.specs.Prelude.{ℕ, ◌+◌, ℤ, pos, negsuc, ◌+ℤ◌, neg_ℤ, nat_le, unsigned_abs, if◌then◌else◌, List, length, Option, Some, None}
 use Rattle.std.specs.Option.{option_map}
 use Rattle.std.specs.Int.{w64, cast_signed, cast_unsigned}
+use Rattle.byteorder.specs.Endian.{little_number, little_bytes}
 use Rattle.bpf_words.specs.declared.operation.BinaryOperation.{BinaryOperation}
 use Rattle.bpf_words.specs.declared.operation.BinaryOperation.TheVariants.{Add, Sub, Mov}
 use Rattle.bpf_words.specs.declared.operation.SignExtension.{SignExtension}
@@ -29,7 +30,7 @@ use Rattle.schema.specs.Helper.{helper_of}
 use Rattle.bpf_semantics.specs.declared.value.Value.{Value}
 use Rattle.bpf_semantics.specs.declared.value.Value.TheVariants.{Number, Stack, Args}
 use Rattle.bpf_semantics.specs.State.{State, register, with_register, past, number}
-use Rattle.bpf_semantics.specs.Memory.{◌>>=◌, number_of_bytes, bytes_of_number, size_bytes, load_bytes, extended, read, written_at}
+use Rattle.bpf_semantics.specs.Memory.{◌>>=◌, size_bytes, load_bytes, extended, read, written_at}
 use Rattle.bpf_semantics.specs.Helpers.{with_stack, called}
 
 -- the state after an instruction; the reply at EXIT, and the state there; or that there is no step
@@ -99,13 +100,13 @@ unfoldable pub execute : Tables → Instruction → State → Moment
 execute tables (LoadWide dst value) s = Going (past 2 (with_register s dst (Number value)))
 execute tables (Load kind dst src offset) s =
     or_stuck (read s.stack s.args (register s src) offset (load_bytes kind)) (λ bytes.
-    with_result dst (Number (extended kind (number_of_bytes bytes))) s)
+    with_result dst (Number (extended kind (little_number (length bytes) bytes))) s)
 execute tables (StoreImmediate size dst offset immediate) s =
-    let bytes = bytes_of_number (size_bytes size) (cast_unsigned w64 immediate) in
+    let bytes = little_bytes (size_bytes size) (cast_unsigned w64 immediate) in
     with_stored (written_at s.stack (register s dst) offset bytes) s
 execute tables (StoreRegister size dst src offset) s =
     or_stuck (number (register s src)) (λ n.
-    with_stored (written_at s.stack (register s dst) offset (bytes_of_number (size_bytes size) n)) s)
+    with_stored (written_at s.stack (register s dst) offset (little_bytes (size_bytes size) n)) s)
 execute tables (Arithmetic width op dst src) s =
     or_stuck (computed width op (register s dst) (operand s src)) (λ v. with_result dst v s)
 execute tables (Negate width dst) s =

@@ -1,4 +1,4 @@
-//! What a run of a program is: the definitions, and laws about them.
+//! What a run of a program is: the definitions, laws about them, and a plain runner.
 #![tactic(auto)]
 
 pub use laws::{
@@ -8,4 +8,6 @@ pub use laws::{
 pub use value::Value;
 
 mod laws;
+mod memory;
+mod rows;
 mod value;

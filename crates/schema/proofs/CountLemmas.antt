@@ -2,7 +2,8 @@
 use Rattle.std.proofs.Common.{◌≡◌, ℕ, ◌+◌, List, refl, sym, ap, ◌∙◌, Bool, true, false, cond}
 use Rattle.std.specs.Prelude.{IsTrue, IsSome, Option, Some, None, is_some}
 use Rattle.std.specs.FinMap.{get, insert, remove, len, get-insert, get-remove, len-insert}
-use Rattle.schema.specs.Rows.{Key, key_cmp_total, Rows, with_row, without_row, row_at, Look, covers, rows_in, count_in, written}
+use Rattle.schema.specs.declared.look.Look.{Look}
+use Rattle.schema.specs.Rows.{Key, key_cmp_total, Rows, with_row, without_row, row_at, covers, rows_in, count_in, written}
 use Rattle.schema.proofs.RowsLemmas.{is_key, one_key, same_rows, get-written, here}
 use Rattle.schema.proofs.LookLemmas.{get-rows_in, rows_in_agree}
 

@@ -1,3 +1,4 @@
+pub mod MapLemmas
 pub mod RowsLemmas
 pub mod LookLemmas
 pub mod SchemaLemmas

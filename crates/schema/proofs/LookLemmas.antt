@@ -8,7 +8,8 @@ use Rattle.std.specs.Cmp.{tied_itself}
 use Rattle.std.specs.FinMap.{get, entries, entries_sorted, get-entries, get-retain_keys, len-entries, find, is_sorted}
 use Rattle.std.specs.FinMap.Entries.{below_all}
 use Rattle.std.proofs.lemmas.Bool.Decides.{nat_tests}
-use Rattle.schema.specs.Rows.{Key, key_cmp, key_cmp_total, key_cmp-IsAntisymmetric, Rows, Look, covers, rows_in, count_in, first_in, AgreeOn, IsFirst, IsVacant}
+use Rattle.schema.specs.declared.look.Look.{Look}
+use Rattle.schema.specs.Rows.{Key, key_cmp, key_cmp_total, key_cmp-IsAntisymmetric, Rows, covers, rows_in, count_in, first_in, AgreeOn, IsFirst, IsVacant}
 use Rattle.schema.proofs.RowsLemmas.{is_key, one_key, here, same_rows}
 
 -- ---- the rows that a look covers

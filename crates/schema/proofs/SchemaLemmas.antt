@@ -1,31 +1,24 @@
--- How a map of std, as its entries, is a finite map.
-use Rattle.std.proofs.Common.{◌≡◌, ℕ, List, [], ◌∷◌, refl, sym, ap, subst, ◌∙◌, cond, true, false, arith}
+-- What is known of the tables of a schema.
+use Rattle.std.proofs.Common.{◌≡◌, ℕ, List, [], refl, sym, ap, subst, ◌∙◌, cond, true, false, arith}
 use Rattle.std.specs.Prelude.{Option, Some, None}
 use Rattle.std.specs.Ordering.{nat_cmp, eq_by_cmp}
 use Rattle.std.proofs.lemmas.Bool.Decides.{nat_tests}
-use Rattle.std.specs.Cmp.{nat_cmp_total, eq_by_cmp_equiv}
-use Rattle.std.specs.Map.{lookup}
+use Rattle.std.specs.Cmp.{nat_cmp_total}
 use Rattle.std.specs.BTreeMap.{is_at}
-use Rattle.std.specs.FinMap.{get, insert, from_entries, find, get-from_entries, get-insert, same_map, nat_cmp-IsAntisymmetric}
+use Rattle.std.specs.FinMap.{get, insert, from_entries, get-insert, nat_cmp-IsAntisymmetric}
 use Rattle.std.proofs.lemmas.Map.Views.{tells_apart}
+use Rattle.schema.proofs.MapLemmas.{found_at, get_at, one_put}
 use Rattle.schema.specs.Schema.{Tables, IsTable, AreTables, fault_of}
 
 -- what std's map finds at a table
 abbrev pub width_at : List (ℕ × ℕ) → ℕ → Option ℕ
-width_at es table = lookup (is_at (nat_cmp table)) es
-
-find_width : (es : List (ℕ × ℕ)) (q : ℕ) → find nat_cmp q es ≡ width_at es q
-find_width [] q = refl
-find_width (e ∷ es) q = ap (cond (is_at (nat_cmp q) e.0) (Some e.1)) (find_width es q)
+width_at = found_at nat_cmp
 
 pub get_width : (es : List (ℕ × ℕ)) (q : ℕ) → get (from_entries {R = nat_cmp} es) q ≡ width_at es q
-get_width es q = get-from_entries nat_cmp_total es q ∙ find_width es q
+get_width = get_at nat_cmp_total
 
--- entries that differ at one table make maps that differ there
 pub one_added : (es fs : List (ℕ × ℕ)) (table width : ℕ) → ((q : ℕ) → width_at fs q ≡ cond (is_at (nat_cmp table) q) (Some width) (width_at es q)) → from_entries {R = nat_cmp} fs ≡ insert (from_entries es) table width
-one_added es fs table width h = same_map nat_cmp_total nat_cmp-IsAntisymmetric _ _ (λ q.
-    get_width fs q ∙ h q ∙ ap (λ b. cond b (Some width) (width_at es q)) ((eq_by_cmp_equiv nat_cmp_total).symm table q)
-    ∙ sym (get-insert nat_cmp_total (from_entries es) table width q ∙ ap (cond (is_at (nat_cmp q) table) (Some width)) (get_width es q)))
+one_added = one_put nat_cmp_total nat_cmp-IsAntisymmetric
 
 -- ---- what is known of every schema
 

@@ -5,6 +5,7 @@ use Rattle.std.specs.Ordering.{nat_cmp, ordering_then}
 use Rattle.std.specs.FinMap.{FinMap, IsAntisymmetric, nat_cmp-IsAntisymmetric, get, insert, remove, retain_keys, len, entries}
 use Rattle.std.specs.Cmp.{IsTotalOrder, nat_cmp_total, on_total, then_total}
 use Rattle.std.proofs.lemmas.Map.Lookups.{exact_pairs}
+use Rattle.schema.specs.declared.look.Look.{Look}
 use Rattle.schema.specs.Schema.{Tables}
 
 -- where a row stands: the number of its table, and its key
@@ -49,13 +50,7 @@ AreRows tables rows = (table key : ℕ) (bytes : List ℕ) → row_at rows table
 
 -- ---- looks
 
--- the keys of a table from lo to hi, both included; none where lo is above hi
-pub record Look : Type 0 where
-  pub table : ℕ
-  pub lo : ℕ
-  pub hi : ℕ
-
--- whether a key is one that was looked at
+-- whether a key is one that was looked at: of the look's table, from lo to hi, both included
 abbrev pub covers : Look → Key → Bool
 covers look k = (look.table == k.0) && nat_le look.lo k.1 && nat_le k.1 look.hi
 

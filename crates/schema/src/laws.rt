@@ -5,7 +5,8 @@ ghost use Rattle.std.specs.Prelude.{◌≡◌, ◌≢◌, ℕ, ◌+◌, ◌↔�
 ghost use Rattle.std.specs.Cmp.{IsTotalOrder};
 ghost use Rattle.std.specs.FinMap.{get, empty, IsAntisymmetric};
 ghost use Rattle.schema.specs.Schema.{Tables};
-ghost use Rattle.schema.specs.Rows.{Key, key_cmp, Rows, row_at, with_row, without_row, IsRow, AreRows, Look};
+ghost use Rattle.schema.specs.declared.look.Look.{Look};
+ghost use Rattle.schema.specs.Rows.{Key, key_cmp, Rows, row_at, with_row, without_row, IsRow, AreRows};
 ghost use Rattle.schema.specs.Rows.{covers, rows_in, count_in, first_in, AgreeOn, IsFirst, IsVacant, Writes};
 ghost use Rattle.schema.specs.Rows.{with_write, after, AreWrites};
 

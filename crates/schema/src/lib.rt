@@ -9,11 +9,13 @@ pub use laws::{
     rows_are_what_stands_at_each_key, rows_stay_the_schemas, write_at_with_write,
     writes_stay_the_schemas,
 };
+pub use look::Look;
 pub use schema::Schema;
 
 mod fault;
 mod helper;
 mod laws;
+mod look;
 mod schema;
 #[cfg(test)]
 mod tests;
