@@ -1,7 +1,8 @@
 -- What the plain runner's parts come to.
-use Rattle.std.proofs.Common.{◌≡◌, ℕ, suc, ◌+◌, ◌<◌, ◌≤◌, List, [], ◌∷◌, ◌++◌, length, drop, get_or, refl, sym, ap, ◌∙◌, cond, Bool, true, false, arith}
+use Rattle.std.proofs.Common.{◌≡◌, ℕ, suc, ◌+◌, ◌%◌, ◌<◌, ◌≤◌, List, [], ◌∷◌, ◌++◌, length, drop, get_or, refl, sym, ap, ◌∙◌, cond, Bool, true, false, arith}
 use Rattle.std.specs.Prelude.{Option, Some, None, find, filter, slice_get}
 use Rattle.std.specs.Option.{option_map}
+use Rattle.std.specs.FinMap.{get}
 use Rattle.std.proofs.Math.Seq.{drop-cons}
 use Rattle.std.proofs.lemmas.List.{append_assoc, drop_all}
 use Rattle.bpf_words.specs.declared.operation.BinaryOperation.{BinaryOperation}
@@ -10,8 +11,10 @@ use Rattle.bpf_words.specs.declared.operation.Operation.TheVariants.{Binary}
 use Rattle.bpf_words.specs.Operation.{alu, binary}
 use Rattle.bpf_code.specs.declared.instruction.Width.{Width}
 use Rattle.bpf_code.specs.declared.instruction.Width.TheVariants.{Bits32, Bits64}
+use Rattle.schema.specs.Schema.{Tables, AreTables}
 use Rattle.bpf_semantics.specs.declared.value.Value.TheVariants.{Number}
-use Rattle.bpf_semantics.specs.Memory.{all_known}
+use Rattle.bpf_semantics.specs.Memory.{all_known, and_then}
+use Rattle.bpf_semantics.specs.Helpers.{Table, table_of}
 use Rattle.bpf_semantics.specs.Step.{computed, width_bits}
 
 pub find-filter : {X : Type 0} (test : X → Bool) (xs : List X) → find test xs ≡ slice_get (filter test xs) 0
@@ -49,3 +52,38 @@ unknown_here xs i h is = ap all_known (one_on xs i None h ∙ ap (λ o. o ∷ dr
 pub known_end : (xs : List (Option ℕ)) (i : ℕ) → length xs ≤ i → all_known (drop i xs) ≡ Some []
 unfolding all_known
 known_end xs i h = ap all_known (drop_all i xs h)
+
+-- ---- helpers
+
+-- the tables of a schema have small numbers
+pub no_table : (tables : Tables) (n : ℕ) → AreTables tables → 256 ≤ n → get tables n ≡ None
+no_table tables n are h = elim (get tables n) as (λ o. get tables n ≡ o → o ≡ None) [
+  | None ↦ λ e. refl
+  | Some width ↦ λ e. absurd (let known = are n width e in omega arith)
+] refl
+
+pub no_low_table : (tables : Tables) (n : ℕ) → AreTables tables → get tables (n % 256) ≡ None → get tables n ≡ None
+no_low_table tables n are h = elim (get tables n) as (λ o. get tables n ≡ o → o ≡ None) [
+  | None ↦ λ e. refl
+  | Some width ↦ λ e.
+      let known = are n width e in
+      let small : n % 256 ≡ n = omega arith in
+      sym e ∙ ap (get tables) (sym small) ∙ h
+] refl
+
+pub table_at : (tables : Tables) (n width : ℕ) → get tables n ≡ Some width → table_of tables (Number n) ≡ Some (record { table = n; width = width })
+unfolding and_then
+table_at tables n width e = ap (λ o. and_then o (λ w. Some (record { table = n; width = w }))) e
+
+pub none_at : (tables : Tables) (n : ℕ) → get tables n ≡ None → table_of tables (Number n) ≡ None
+unfolding and_then
+none_at tables n e = ap (λ o. and_then o (λ w. Some (record { table = n; width = w }))) e
+
+-- the last of eleven
+pub last_five : {X : Type 0} (xs : List X) (d : X) → length xs ≡ 11 → drop 6 xs ≡ get_or xs 6 d ∷ get_or xs 7 d ∷ get_or xs 8 d ∷ get_or xs 9 d ∷ get_or xs 10 d ∷ []
+last_five xs d e =
+    one_on xs 6 d (omega arith) ∙ ap (λ l. get_or xs 6 d ∷ l)
+    (one_on xs 7 d (omega arith) ∙ ap (λ l. get_or xs 7 d ∷ l)
+    (one_on xs 8 d (omega arith) ∙ ap (λ l. get_or xs 8 d ∷ l)
+    (one_on xs 9 d (omega arith) ∙ ap (λ l. get_or xs 9 d ∷ l)
+    (one_on xs 10 d (omega arith) ∙ ap (λ l. get_or xs 10 d ∷ l) (drop_all 11 xs (omega arith))))))

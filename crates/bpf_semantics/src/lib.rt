@@ -7,7 +7,9 @@ pub use laws::{
 };
 pub use value::Value;
 
+mod helpers;
 mod laws;
 mod memory;
 mod rows;
+mod state;
 mod value;

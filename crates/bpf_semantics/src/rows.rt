@@ -24,6 +24,20 @@ impl<A: Allocator> Model for Bytes<A> {
     ghost view = { λ b. b.bytes.items };
 }
 
+impl<A: Allocator> Bytes<A> {
+    pub(crate) fn new(bytes: Vec<u8, A>) -> Bytes<A>
+        ensures { result ≡ bytes.items }
+    {
+        Bytes { bytes }
+    }
+
+    pub(crate) fn as_slice(&self) -> &[u8]
+        ensures { result.now ≡ self.now }
+    {
+        &self.bytes
+    }
+}
+
 /// A map by table and key. Contracts see a finite map.
 #[derive(Debug, Drop)]
 pub(crate) struct KeyMap<V, A: Allocator> {
@@ -43,7 +57,7 @@ impl<V, A: Allocator> Model for KeyMap<V, A> {
 }
 
 impl<V: Drop, A: Allocator + Clone> KeyMap<V, A> {
-    fn new(alloc: A) -> KeyMap<V, A>
+    pub(crate) fn new(alloc: A) -> KeyMap<V, A>
         ensures { result ≡ empty }
     {
         KeyMap {
@@ -51,27 +65,27 @@ impl<V: Drop, A: Allocator + Clone> KeyMap<V, A> {
         }
     }
 
-    fn insert(&mut self, table: u8, key: u64, value: V) -> Result<(), AllocError>
+    pub(crate) fn insert(&mut self, table: u8, key: u64, value: V) -> Result<(), AllocError>
         ensures { OnOk result (self.new ≡ insert self.old (table, key) value) }
     {
         self.map.insert((table, key), value)?;
         Ok(())
     }
 
-    fn remove(&mut self, table: u8, key: u64)
+    pub(crate) fn remove(&mut self, table: u8, key: u64)
         ensures { self.new ≡ remove self.old (table, key) }
     {
         self.map.remove(&(table, key));
     }
 
-    fn get(&self, table: u8, key: u64) -> Option<&V>
+    pub(crate) fn get(&self, table: u8, key: u64) -> Option<&V>
         ensures { option_map (λ v. v.now) result ≡ get self.now (table, key) }
     {
         self.map.get(&(table, key))
     }
 
     /// How many entries a look covers.
-    fn count(&self, look: Look) -> usize
+    pub(crate) fn count(&self, look: Look) -> usize
         ensures { result ≡ len (retain_keys self.now (covers look)) }
     {
         self.map
@@ -81,7 +95,7 @@ impl<V: Drop, A: Allocator + Clone> KeyMap<V, A> {
     }
 
     /// The entry of the least key that a look covers.
-    fn first(&self, look: Look) -> Option<(&(u8, u64), &V)>
+    pub(crate) fn first(&self, look: Look) -> Option<(&(u8, u64), &V)>
         ensures { option_map deref_pair result
             ≡ slice_get (entries (retain_keys self.now (covers look))) 0 }
     {

@@ -1,0 +1,18 @@
+-- How the plain runner's own types stand for those of the definitions.
+use Rattle.std.specs.Prelude.{Option}
+use Rattle.bpf_semantics.specs.declared.state.State as rust
+use Rattle.bpf_semantics.specs.State.{State}
+
+-- the state that the runner holds
+abbrev pub state_of : {A : Type 0} → rust.State A → State
+state_of s = record {
+  slot = s.slot;
+  registers = s.registers;
+  stack = s.stack.items;
+  args = s.args.items;
+  rows = s.rows;
+  cancelled = s.cancelled;
+  looks = s.looks.items;
+  writes = s.writes;
+  steps = s.steps;
+}
