@@ -12,4 +12,5 @@ mod laws;
 mod memory;
 mod rows;
 mod state;
+mod step;
 mod value;

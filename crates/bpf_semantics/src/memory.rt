@@ -16,7 +16,8 @@ const STACK_BYTES: usize = 512;
 
 /// How many bytes a store writes.
 pub(crate) fn size_bytes(size: Size) -> usize
-    ensures { result ≡ size_bytes size }
+    ensures count { result ≡ size_bytes size }
+    ensures few { result ≤ 8 }
 {
     match size {
         Size::Byte => 1,
@@ -28,7 +29,8 @@ pub(crate) fn size_bytes(size: Size) -> usize
 
 /// How many bytes a load reads.
 pub(crate) fn load_bytes(kind: LoadKind) -> usize
-    ensures { result ≡ load_bytes kind }
+    ensures count { result ≡ load_bytes kind }
+    ensures few { result ≤ 8 }
 {
     match kind {
         LoadKind::U8 | LoadKind::I8 => 1,
