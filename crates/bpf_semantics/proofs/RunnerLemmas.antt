@@ -1,8 +1,9 @@
 -- What the plain runner's parts come to.
-use Rattle.std.proofs.Common.{◌≡◌, ℕ, suc, ◌+◌, ◌%◌, ◌<◌, ◌≤◌, List, [], ◌∷◌, ◌++◌, length, drop, get_or, refl, sym, ap, ◌∙◌, cond, Bool, true, false, arith}
-use Rattle.std.specs.Prelude.{Option, Some, None, find, filter, slice_get}
+use Rattle.std.proofs.Common.{◌≡◌, ℕ, zero, suc, ◌+◌, ◌%◌, ◌<◌, ◌≤◌, List, [], ◌∷◌, ◌++◌, length, drop, get_or, refl, sym, ap, ◌∙◌, cond, Bool, true, false, arith}
+use Rattle.std.specs.Prelude.{Option, Some, None, filter, slice_get}
+use Rattle.std.specs.Prelude as prelude
 use Rattle.std.specs.Option.{option_map}
-use Rattle.std.specs.FinMap.{get}
+use Rattle.std.specs.FinMap.{FinMap, get, entries, from_entries, find, get-from_entries, get-entries, same_map}
 use Rattle.std.proofs.Math.Seq.{drop-cons}
 use Rattle.std.proofs.lemmas.List.{append_assoc, drop_all}
 use Rattle.bpf_words.specs.declared.operation.BinaryOperation.{BinaryOperation}
@@ -11,15 +12,22 @@ use Rattle.bpf_words.specs.declared.operation.Operation.TheVariants.{Binary}
 use Rattle.bpf_words.specs.Operation.{alu, binary}
 use Rattle.bpf_code.specs.declared.instruction.Width.{Width}
 use Rattle.bpf_code.specs.declared.instruction.Width.TheVariants.{Bits32, Bits64}
+use Rattle.bpf_code.specs.Program.{Program}
 use Rattle.schema.specs.Schema.{Tables, AreTables}
+use Rattle.schema.specs.Rows.{Key, Rows, key_cmp, key_cmp_total, key_cmp-IsAntisymmetric}
 use Rattle.bpf_semantics.specs.declared.value.Value.TheVariants.{Number}
 use Rattle.bpf_semantics.specs.Memory.{all_known, and_then}
-use Rattle.bpf_semantics.specs.Helpers.{Table, table_of}
-use Rattle.bpf_semantics.specs.Step.{computed, width_bits}
+use Rattle.bpf_semantics.specs.Helpers.{table_of}
+use Rattle.bpf_semantics.specs.State.{State, entry_state}
+use Rattle.bpf_semantics.specs.Step.{computed, width_bits, Moment, Going, Ended, Stuck, step}
+use Rattle.bpf_semantics.specs.Run.{moment, go_on, run, run_at}
+use Rattle.bpf_semantics.specs.Runner.{AreInOrder, steps_before}
+use Rattle.bpf_semantics.proofs.StepLemmas.{execute_leads}
+use Rattle.bpf_semantics.proofs.RunLemmas.{step_runs, going_runs}
 
-pub find-filter : {X : Type 0} (test : X → Bool) (xs : List X) → find test xs ≡ slice_get (filter test xs) 0
+pub find-filter : {X : Type 0} (test : X → Bool) (xs : List X) → prelude.find test xs ≡ slice_get (filter test xs) 0
 find-filter test [] = refl
-find-filter test (x ∷ xs) = elim (test x) as (λ b. cond b (Some x) (find test xs) ≡ slice_get (cond b (x ∷ filter test xs) (filter test xs)) 0) [ true ↦ refl | false ↦ find-filter test xs ]
+find-filter test (x ∷ xs) = elim (test x) as (λ b. cond b (Some x) (prelude.find test xs) ≡ slice_get (cond b (x ∷ filter test xs) (filter test xs)) 0) [ true ↦ refl | false ↦ find-filter test xs ]
 
 -- ---- operations
 
@@ -87,3 +95,44 @@ last_five xs d e =
     (one_on xs 8 d (omega arith) ∙ ap (λ l. get_or xs 8 d ∷ l)
     (one_on xs 9 d (omega arith) ∙ ap (λ l. get_or xs 9 d ∷ l)
     (one_on xs 10 d (omega arith) ∙ ap (λ l. get_or xs 10 d ∷ l) (drop_all 11 xs (omega arith))))))
+
+-- ---- the whole run
+
+-- a list that is a map's is in order, and makes that map
+pub listed_map : {V : Type 0} (es : List (Key × V)) (m : FinMap key_cmp V) → es ≡ entries m → from_entries {R = key_cmp} es ≡ m
+listed_map es m e = same_map key_cmp_total key_cmp-IsAntisymmetric _ _ (λ q. get-from_entries key_cmp_total es q ∙ ap (find key_cmp q) e ∙ sym (get-entries m q))
+
+pub listed_order : {V : Type 0} (es : List (Key × V)) (m : FinMap key_cmp V) → es ≡ entries m → AreInOrder es
+listed_order es m e = ap entries (listed_map es m e) ∙ sym e
+
+-- after so many steps that many instructions were run
+going_on_after : (p : Program) (tables : Tables) (k : ℕ) (m : Moment) → steps_before m ≤ k → steps_before (go_on (step p tables) m) ≤ suc k
+going_on_after p tables k (Ended reply s) h = omega arith
+going_on_after p tables k Stuck h = omega arith
+going_on_after p tables k (Going s) h =
+    elim (step p tables s) as (λ m. step p tables s ≡ m → steps_before m ≤ suc k) [
+      | Going t ↦ λ e.
+          let runs = step_runs p tables s (Going t) e (going_runs t) in
+          let leads = execute_leads tables runs.0 s t runs.2 in
+          let counts = leads.counts in
+          omega arith
+      | Ended reply t ↦ λ e. omega arith
+      | Stuck ↦ λ e. omega arith
+    ] refl
+
+pub few_steps : (p : Program) (tables : Tables) (args : List ℕ) (rows : Rows) (k : ℕ) → steps_before (moment p tables k (entry_state args rows)) ≤ k
+unfolding moment
+few_steps p tables args rows zero = omega arith
+few_steps p tables args rows (suc k) = going_on_after p tables k (moment p tables k (entry_state args rows)) (few_steps p tables args rows k)
+
+pub next_moment : (p : Program) (tables : Tables) (s : State) (k : ℕ) (m n : Moment) → m ≡ moment p tables k s → n ≡ go_on (step p tables) m → n ≡ moment p tables (k + 1) s
+unfolding moment
+next_moment p tables s k m n e f = let same : suc k ≡ k + 1 = omega arith in f ∙ ap (go_on (step p tables)) e ∙ ap (λ (j : ℕ). moment p tables j s) same
+
+pub first_moment : (p : Program) (tables : Tables) (s t : State) → s ≡ t → Going s ≡ moment p tables 0 t
+unfolding moment
+first_moment p tables s t e = ap (λ u. Going u) e
+
+pub read_off : (p : Program) (tables : Tables) (args : List ℕ) (rows : Rows) (m : Moment) → m ≡ moment p tables (length p) (entry_state args rows) → run_at rows m ≡ run p tables args rows
+unfolding run
+read_off p tables args rows m e = ap (run_at rows) e

@@ -1,6 +1,6 @@
 -- Loads and stores, the least byte first (RFC 9669 section 5). Where memory may be touched is this product's rule: None
 -- at an address that is no place, a byte outside stack or arguments, and a load of a byte that isn't known.
-use Rattle.std.specs.Prelude.{ℕ, zero, suc, ◌+◌, ◌*◌, ◌/◌, ◌%◌, ℤ, pos, negsuc, ◌+ℤ◌, List, [], ◌∷◌, ◌++◌, length, take, drop, map, nat_le, if◌then◌else◌, Option, Some, None}
+use Rattle.std.specs.Prelude.{ℕ, ◌+◌, ℤ, pos, negsuc, ◌+ℤ◌, List, [], ◌∷◌, ◌++◌, length, take, drop, map, nat_le, if◌then◌else◌, Option, Some, None}
 use Rattle.std.specs.Option.{option_map}
 use Rattle.bpf_words.specs.declared.operation.SignExtension.TheVariants.{From8, From16, From32}
 use Rattle.bpf_words.specs.Operation.{sign_extended}

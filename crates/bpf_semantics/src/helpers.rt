@@ -58,17 +58,31 @@ impl<A: Allocator + Copy> State<A> {
         ensures { IfOk result (λ s. state_of s ≡ with_point_look table key (state_of self)) }
     {
         if self.writes.get(table, key).is_none() {
-            self.looks.push(Look { table, lo: key, hi: key })?;
+            self.looks.push(Look {
+                table,
+                lo: key,
+                hi: key,
+            })?;
         }
         Ok(self)
     }
 
     /// A range looks from lo to the last key that its answer depends on.
-    fn with_range_look(mut self, table: u8, lo: u64, hi: u64, last: u64) -> Result<State<A>, AllocError>
+    fn with_range_look(
+        mut self,
+        table: u8,
+        lo: u64,
+        hi: u64,
+        last: u64,
+    ) -> Result<State<A>, AllocError>
         ensures { IfOk result (λ s. state_of s ≡ with_range_look table lo hi last (state_of self)) }
     {
         if lo <= hi {
-            self.looks.push(Look { table, lo, hi: last })?;
+            self.looks.push(Look {
+                table,
+                lo,
+                hi: last,
+            })?;
         }
         Ok(self)
     }
@@ -172,10 +186,7 @@ impl<A: Allocator + Copy> State<A> {
 
     /// Counts the rows of an interval.
     #[tactic(auto, unfolding(crate::specs::Helpers::called, crate::specs::Memory::and_then))]
-    fn range_count<B: Allocator>(
-        self,
-        schema: &Schema<B>,
-    ) -> Result<Option<State<A>>, AllocError>
+    fn range_count<B: Allocator>(self, schema: &Schema<B>) -> Result<Option<State<A>>, AllocError>
         ensures { IfOk result (λ s.
             option_map state_of s ≡ called schema.now RangeCount (state_of self)) }
     {

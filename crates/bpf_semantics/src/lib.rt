@@ -5,12 +5,15 @@ pub use laws::{
     a_run_depends_on_its_looks, one_step, runs_are_short, the_effect_is_that_of_the_writes,
     the_end_stays, writes_elsewhere_leave_the_run,
 };
+pub use rows::{Bytes, Keyed, Row, Write};
+pub use run::{CompletedRun, run_program};
 pub use value::Value;
 
 mod helpers;
 mod laws;
 mod memory;
 mod rows;
+mod run;
 mod state;
 mod step;
 mod value;

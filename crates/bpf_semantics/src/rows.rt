@@ -1,9 +1,10 @@
 //! Rows, looks and writes as plain values, and the map that the runner keeps them in.
 
-ghost use Rattle.std.specs.Prelude.{◌≡◌, OnOk, option_map, slice_get};
+ghost use Rattle.std.specs.Prelude.{◌≡◌, IfOk, OnOk, option_map, slice_get};
 ghost use Rattle.std.specs.Map.Iter.{deref_pair};
 ghost use Rattle.std.specs.FinMap.{empty, get, insert, remove, entries, retain_keys, len};
 ghost use Rattle.schema.specs.Rows.{covers};
+ghost use Rattle.bpf_semantics.specs.Runner.{rows_of};
 
 use schema::Look;
 use std::alloc::{AllocError, Allocator, Global};
@@ -12,7 +13,7 @@ use std::marker::Model;
 
 /// The bytes of a row. Contracts see their list.
 #[derive(Debug, Drop)]
-pub(crate) struct Bytes<A: Allocator> {
+pub struct Bytes<A: Allocator> {
     bytes: Vec<u8, A>,
 }
 
@@ -35,6 +36,76 @@ impl<A: Allocator> Bytes<A> {
         ensures { result.now ≡ self.now }
     {
         &self.bytes
+    }
+}
+
+/// What stands at a key of a table. Contracts see a pair: the key, of table and key, and the value.
+#[derive(Debug, Drop)]
+pub struct Keyed<V> {
+    table: u8,
+    key: u64,
+    value: V,
+}
+
+/// A row.
+pub type Row<A> = Keyed<Bytes<A>>;
+
+/// A write, the last at its key: the row's bytes, or none where it was removed.
+pub type Write<A> = Keyed<Option<Bytes<A>>>;
+
+impl<V> Model for Keyed<V> {
+    ghost use Rattle.std.specs.Coded.{coded×, coded_ℕ};
+    ghost use Rattle.schema.specs.Rows.{Key};
+
+    ghost Value = { Key × V };
+
+    ghost coded = { coded× (coded× coded_ℕ coded_ℕ) V.code };
+
+    ghost view = { λ k. ((k.table, k.key), k.value) };
+}
+
+impl<V> Keyed<V> {
+    /// The number of the table.
+    pub fn table(&self) -> u8
+        ensures { result ≡ self.now.0.0 }
+    {
+        self.table
+    }
+
+    /// The key in the table.
+    pub fn key(&self) -> u64
+        ensures { result ≡ self.now.0.1 }
+    {
+        self.key
+    }
+}
+
+impl<A: Allocator> Keyed<Bytes<A>> {
+    /// The row of a table at a key.
+    pub fn row(table: u8, key: u64, bytes: Vec<u8, A>) -> Row<A>
+        ensures { result ≡ ((table, key), bytes.items) }
+    {
+        let value = Bytes::new(bytes);
+        Keyed { table, key, value }
+    }
+
+    /// The row's bytes.
+    pub fn bytes(&self) -> &[u8]
+        ensures { result.now ≡ self.now.1 }
+    {
+        self.value.as_slice()
+    }
+}
+
+impl<A: Allocator> Keyed<Option<Bytes<A>>> {
+    /// The bytes that were put; none where the row was removed.
+    pub fn put(&self) -> Option<&[u8]>
+        ensures { option_map (λ bytes. bytes.now) result ≡ self.now.1 }
+    {
+        match &self.value {
+            Some(bytes) => Some(bytes.as_slice()),
+            None => None,
+        }
     }
 }
 
@@ -84,6 +155,18 @@ impl<V: Drop, A: Allocator + Clone> KeyMap<V, A> {
         self.map.get(&(table, key))
     }
 
+    /// What stands in it, in the order of tables and keys.
+    pub(crate) fn into_list(self, alloc: A) -> Result<Vec<Keyed<V>, A>, AllocError>
+        ensures { IfOk result (λ list. list.items ≡ entries self) }
+    {
+        let _ordered = self.map.len();
+        let mut list = Vec::new(alloc);
+        for ((table, key), value) in self.map {
+            list.push(Keyed { table, key, value })?;
+        }
+        Ok(list)
+    }
+
     /// How many entries a look covers.
     pub(crate) fn count(&self, look: Look) -> usize
         ensures { result ≡ len (retain_keys self.now (covers look)) }
@@ -99,8 +182,23 @@ impl<V: Drop, A: Allocator + Clone> KeyMap<V, A> {
         ensures { option_map deref_pair result
             ≡ slice_get (entries (retain_keys self.now (covers look))) 0 }
     {
-        self.map
-            .iter()
-            .find(|(key, _)| look.covers(key.0, key.1))
+        self.map.iter().find(|(key, _)| look.covers(key.0, key.1))
+    }
+}
+
+impl<A: Allocator + Copy> KeyMap<Bytes<A>, A> {
+    /// The rows of a list, put one after another.
+    pub(crate) fn from_rows<B: Allocator>(
+        alloc: A,
+        rows: &[Row<B>],
+    ) -> Result<KeyMap<Bytes<A>, A>, AllocError>
+        ensures { IfOk result (λ map. map ≡ rows_of rows.now) }
+    {
+        let mut map = KeyMap::new(alloc);
+        for row in rows {
+            let bytes = Vec::from_slice(alloc, row.bytes())?;
+            map.insert(row.table(), row.key(), Bytes::new(bytes))?;
+        }
+        Ok(map)
     }
 }

@@ -8,15 +8,14 @@ ghost use Rattle.bpf_semantics.specs.Memory.{size_bytes, written_at};
 ghost use Rattle.bpf_code.specs.declared.instruction.Instruction.TheVariants.{Load, StoreRegister, Arithmetic, Negate, MoveSignExtended, End, Branch, Call, Exit};
 ghost use Rattle.schema.specs.Schema.{Tables};
 ghost use Rattle.bpf_semantics.specs.Step.{jumped, with_result, with_stored, execute, step};
-ghost use Rattle.bpf_semantics.specs.Runner.{state_of, moment_of};
+ghost use Rattle.bpf_semantics.specs.Run.{go_on};
+ghost use Rattle.bpf_semantics.specs.Runner.{state_of, moment_of, steps_before};
 
 use crate::memory::{extended, little_number, load_bytes, read, size_bytes, written_at};
 use crate::state::State;
 use crate::value::{Value, arithmetic, computed, holds};
 use bpf_code::{Code, Instruction, LoadKind, Register, SignExtendingMove, Size, Source, Width};
-use bpf_words::{
-    BinaryOperation, ByteOrder, Condition, EndWidth, Operation, SignExtension, end,
-};
+use bpf_words::{BinaryOperation, ByteOrder, Condition, EndWidth, Operation, SignExtension, end};
 use schema::{Helper, Schema};
 use std::alloc::{AllocError, Allocator};
 
@@ -86,7 +85,7 @@ impl<A: Allocator + Copy> State<A> {
         requires steps { self.steps < 2 ^ 32 }
         ensures { IfOk result (λ m.
             moment_of m ≡ with_stored (written_at (state_of self).stack (register (state_of self) dst)
-                offset (little_bytes (size_bytes size) number)) (state_of self)) }
+            offset (little_bytes (size_bytes size) number)) (state_of self)) }
     {
         let bytes = number.to_le_bytes();
         let bytes = &bytes[..size_bytes(size)];
@@ -147,7 +146,10 @@ impl<A: Allocator + Copy> State<A> {
             moment_of result ≡ execute tables (Negate width dst) (state_of self) }
     {
         match self.register(dst).number() {
-            Some(a) => self.with_result(dst, Value::Number(arithmetic(width, Operation::Neg, a, 0))),
+            Some(a) => self.with_result(
+                dst,
+                Value::Number(arithmetic(width, Operation::Neg, a, 0)),
+            ),
             None => Moment::Stuck,
         }
     }
@@ -266,19 +268,33 @@ impl<A: Allocator + Copy> State<A> {
                 let next = self.past(2).with_register(dst, Value::Number(value));
                 Ok(Moment::Going(next))
             }
-            Instruction::Load { kind, dst, src, offset } => {
-                self.load(alloc, kind, dst, src, offset)
-            }
-            Instruction::StoreImmediate { size, dst, offset, immediate } => {
+            Instruction::Load {
+                kind,
+                dst,
+                src,
+                offset,
+            } => { self.load(alloc, kind, dst, src, offset) }
+            Instruction::StoreImmediate {
+                size,
+                dst,
+                offset,
+                immediate,
+            } => {
                 let number = i64::from(immediate).cast_unsigned();
                 self.store(alloc, size, dst, offset, number)
             }
-            Instruction::StoreRegister { size, dst, src, offset } => {
-                self.store_register(alloc, size, dst, src, offset)
-            }
-            Instruction::Arithmetic { width, operation, dst, source } => {
-                Ok(self.arithmetic(width, operation, dst, source))
-            }
+            Instruction::StoreRegister {
+                size,
+                dst,
+                src,
+                offset,
+            } => { self.store_register(alloc, size, dst, src, offset) }
+            Instruction::Arithmetic {
+                width,
+                operation,
+                dst,
+                source,
+            } => { Ok(self.arithmetic(width, operation, dst, source)) }
             Instruction::Negate { width, dst } => Ok(self.negate(width, dst)),
             Instruction::MoveSignExtended { kind, dst, src } => {
                 Ok(self.move_sign_extended(kind, dst, src))
@@ -286,9 +302,13 @@ impl<A: Allocator + Copy> State<A> {
             Instruction::End { order, width, dst } => Ok(self.end(order, width, dst)),
             Instruction::Jump { distance } => Ok(self.jumped(i32::from(distance))),
             Instruction::LongJump { distance } => Ok(self.jumped(distance)),
-            Instruction::Branch { width, condition, dst, source, distance } => {
-                Ok(self.branch(width, condition, dst, source, distance))
-            }
+            Instruction::Branch {
+                width,
+                condition,
+                dst,
+                source,
+                distance,
+            } => { Ok(self.branch(width, condition, dst, source, distance)) }
             Instruction::Call { helper } => self.call(alloc, schema, helper),
             Instruction::Exit => Ok(self.exit()),
         }
@@ -302,13 +322,32 @@ impl<A: Allocator + Copy> State<A> {
         code: &Code<B>,
         schema: &Schema<C>,
     ) -> Result<Moment<A>, AllocError>
-        requires slot { self.slot < 2 ^ 32 }
-        requires steps { self.steps < 2 ^ 32 }
+        requires { self.steps < 2 ^ 32 }
         ensures { IfOk result (λ m. moment_of m ≡ step code.now schema.now (state_of self)) }
     {
         match code.at(self.slot) {
             Some(instruction) => self.execute(alloc, schema, instruction),
             None => Ok(Moment::Stuck),
+        }
+    }
+}
+
+impl<A: Allocator + Copy> Moment<A> {
+    /// A step further, unless the run has ended or is stuck.
+    pub(crate) fn next<B: Allocator, C: Allocator>(
+        self,
+        alloc: A,
+        code: &Code<B>,
+        schema: &Schema<C>,
+    ) -> Result<Moment<A>, AllocError>
+        requires { steps_before (moment_of self) < 2 ^ 32 }
+        ensures { IfOk result (λ m.
+            moment_of m ≡ go_on (step code.now schema.now) (moment_of self)) }
+    {
+        match self {
+            Moment::Going(state) => state.step(alloc, code, schema),
+            Moment::Ended(reply, state) => Ok(Moment::Ended(reply, state)),
+            Moment::Stuck => Ok(Moment::Stuck),
         }
     }
 }

@@ -8,9 +8,7 @@ ghost use Rattle.bpf_semantics.specs.State.{number};
 ghost use Rattle.bpf_semantics.specs.Step.{width_bits, near, moved, computed};
 
 use bpf_code::Width;
-use bpf_words::{
-    BinaryOperation, Condition, Operation, alu32, alu64, holds32, holds64,
-};
+use bpf_words::{BinaryOperation, Condition, Operation, alu32, alu64, holds32, holds64};
 
 /// What a register holds.
 #[derive(Clone, Copy, Debug, PartialEq, Eq)]

@@ -1,7 +1,7 @@
-use Rattle.std.proofs.Common.{◌≡◌, ◌%◌, ◌∙◌, ℕ, sym, ap, arith, Some, None}
+use Rattle.std.proofs.Common.{◌≡◌, ◌%◌, ◌∙◌, ℕ, sym, ap, arith, Some}
 use Rattle.std.specs.FinMap.{get}
 use Rattle.bpf_semantics.specs.declared.value.Value.{Value}
-use Rattle.bpf_semantics.specs.Helpers.{Table, table_of}
+use Rattle.bpf_semantics.specs.Helpers.{table_of}
 use Rattle.bpf_semantics.proofs.RunnerLemmas.{no_table, no_low_table, table_at, none_at}
 use Rattle.bpf_semantics.proofs.helpers.table_of.Goals as goal
 

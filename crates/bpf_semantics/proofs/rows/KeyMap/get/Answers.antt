@@ -1,5 +1,5 @@
 use Rattle.std.proofs.Common.{◌∙◌, sym, ap}
-use Rattle.schema.specs.Rows.{key_cmp_total, key_cmp-IsAntisymmetric}
+use Rattle.schema.specs.Rows.{key_cmp_total}
 use Rattle.std.specs.FinMap.{get}
 use Rattle.schema.proofs.MapLemmas.{get_at}
 use Rattle.bpf_semantics.proofs.rows.KeyMap.get.Goals as goal

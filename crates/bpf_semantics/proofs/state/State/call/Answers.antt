@@ -1,4 +1,4 @@
-use Rattle.std.proofs.Common.{◌≡◌, ◌∙◌, sym, ap, option_map, arith}
+use Rattle.std.proofs.Common.{◌∙◌, sym, ap, option_map, arith}
 use Rattle.bpf_semantics.specs.Runner.{state_of}
 use Rattle.bpf_semantics.proofs.StepLemmas.{called_place}
 use Rattle.bpf_semantics.proofs.state.State.call.Goals as goal

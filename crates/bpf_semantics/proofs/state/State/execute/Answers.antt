@@ -1,7 +1,7 @@
-use Rattle.std.proofs.Common.{◌≡◌, ◌∙◌, sym, ap, subst, IfOk, arith}
+use Rattle.std.proofs.Common.{◌∙◌, sym, ap, arith}
 use Rattle.std.proofs.lemmas.Int.{ints, to_z-of_z}
 use Rattle.bpf_semantics.specs.Step.{execute}
-use Rattle.bpf_semantics.specs.Runner.{state_of, moment_of}
+use Rattle.bpf_semantics.specs.Runner.{state_of}
 use Rattle.bpf_semantics.proofs.state.State.execute.Goals as goal
 
 pub returns-in-Load : goal.returns-in-Load
