@@ -17,8 +17,8 @@ use Rattle.bpf_semantics.specs.Memory.{and_then}
 use Rattle.bpf_semantics.specs.Helpers.{called}
 use Rattle.bpf_semantics.specs.Step.{Moment, Going, Ended, Stuck, or_stuck, jumped, with_stored, execute, step, width_bits}
 use Rattle.bpf_semantics.specs.Run.{go_on, moment, Run, run_of, run_at, run}
-use Rattle.bpf_semantics.specs.Agree.{any_covers, looks_of, AgreeOnLooks, same_on, AreElsewhere, after_each}
-use Rattle.bpf_semantics.proofs.LookLemmas.{agree_on_run}
+use Rattle.bpf_semantics.specs.Agree.{any_covers, looks_of, AgreeOnLooks, in_tables, same_on, AreElsewhere, after_each}
+use Rattle.bpf_semantics.proofs.LookLemmas.{agree_on_run, agree_on_tables}
 use Rattle.bpf_semantics.proofs.StepLemmas.{just}
 use Rattle.bpf_semantics.proofs.RunLemmas.{run_ended, step_runs, going_runs}
 use Rattle.bpf_semantics.proofs.EffectLemmas.{Kept, execute_keeps, effect_kept, effect_cancelled}
@@ -183,6 +183,10 @@ pub same_on_looks : (p : Program) (tables : Tables) (args : List ℕ) (m n : Row
     → run p tables args n ≡ Some (same_on n r)
 same_on_looks p tables args m n r e agree = same_run p tables args m n r (agree_on_run p tables args m n r e agree) e
 
+pub same_on_tables : (p : Program) (tables : Tables) (args : List ℕ) (m n : Rows) (r : Run) → run p tables args m ≡ Some r → AgreeOn (in_tables tables) m n
+    → run p tables args n ≡ Some (same_on n r)
+same_on_tables p tables args m n r e agree = same_run p tables args m n r (agree_on_tables p tables args m n agree) e
+
 -- ---- runs that go on, and stuck ones
 
 going_alike : (m n : Rows) (u : State) (b : Moment) → AreTogether m n (Going u) b → b ≡ Going (over (after u.writes n) u)
@@ -231,6 +235,9 @@ pub none_where : (p : Program) (tables : Tables) (args : List ℕ) (m n : Rows) 
 unfolding run
 none_where p tables args m n agree =
     none_alike m n (moment p tables (length p) (entry_state args m)) (moment p tables (length p) (entry_state args n)) (moments_together p tables args m n agree (length p))
+
+pub none_on_tables : (p : Program) (tables : Tables) (args : List ℕ) (m n : Rows) → AgreeOn (in_tables tables) m n → (run p tables args m ≡ None) ↔ (run p tables args n ≡ None)
+none_on_tables p tables args m n agree = none_where p tables args m n (agree_on_tables p tables args m n agree)
 
 -- ---- writes elsewhere
 

@@ -1,5 +1,5 @@
 -- Rows that a run can't tell apart: two maps that have the same where it looks, and writes to other keys.
-use Rattle.std.specs.Prelude.{◌≡◌, IsTrue, None, ℕ, Bool, false, ◌||◌, List, [], ◌∷◌}
+use Rattle.std.specs.Prelude.{◌≡◌, IsTrue, is_some, None, ℕ, Bool, false, ◌||◌, List, [], ◌∷◌}
 use Rattle.std.specs.FinMap.{get}
 use Rattle.bpf_code.specs.Program.{Program}
 use Rattle.schema.specs.Schema.{Tables}
@@ -23,6 +23,10 @@ looks_of Stuck = []
 -- the maps have the same, present or absent, at each key inside a look of the run on the first
 abbrev pub AgreeOnLooks : Program → Tables → List ℕ → Rows → Rows → Type 0
 AgreeOnLooks p tables args m n = (k : ℕ) → AgreeOn (any_covers (looks_of (moment p tables k (entry_state args m)))) m n
+
+-- whether a key is of one of the schema's tables
+abbrev pub in_tables : Tables → Key → Bool
+in_tables tables k = is_some (get tables k.0)
 
 -- the run on other rows that is the same but for its effect: those rows after its writes
 abbrev pub same_on : Rows → Run → Run

@@ -8,7 +8,7 @@ ghost use Rattle.schema.specs.Rows.{Rows, Writes, AgreeOn, after};
 ghost use Rattle.bpf_semantics.specs.State.{State, entry_state};
 ghost use Rattle.bpf_semantics.specs.Step.{Moment, Going, Ended, Stuck, step};
 ghost use Rattle.bpf_semantics.specs.Run.{Run, moment, run};
-ghost use Rattle.bpf_semantics.specs.Agree.{any_covers, AgreeOnLooks, same_on, AreElsewhere, after_each};
+ghost use Rattle.bpf_semantics.specs.Agree.{any_covers, AgreeOnLooks, in_tables, same_on, AreElsewhere, after_each};
 ghost use Rattle.bpf_semantics.specs.Path.{longest_path, instructions};
 
 /// No state has two steps.
@@ -58,6 +58,17 @@ pub fn a_run_depends_on_its_looks()
         ↔ (moment p tables k (entry_state args n) ≡ Stuck) }
     ensures none { (p : Program) (tables : Tables) (args : List ℕ) (m n : Rows)
         → AgreeOnLooks p tables args m n
+        → (run p tables args m ≡ None) ↔ (run p tables args n ≡ None) }
+{}
+
+/// A run depends on the rows of the schema's tables alone. On others that have the same in those
+/// tables, one that ended is the same but for its effect, and where there is none there is none.
+pub fn a_run_depends_on_its_schemas_tables()
+    ensures same { (p : Program) (tables : Tables) (args : List ℕ) (m n : Rows) (r : Run)
+        → run p tables args m ≡ Some r → AgreeOn (in_tables tables) m n
+        → run p tables args n ≡ Some (same_on n r) }
+    ensures none { (p : Program) (tables : Tables) (args : List ℕ) (m n : Rows)
+        → AgreeOn (in_tables tables) m n
         → (run p tables args m ≡ None) ↔ (run p tables args n ≡ None) }
 {}
 
