@@ -8,7 +8,7 @@ ghost use Rattle.bpf_semantics.specs.Helpers.{Table, table_of, answered, with_po
 ghost use Rattle.bpf_semantics.specs.Runner.{state_of};
 
 use crate::memory::{buffer_of, known_from, overwritten};
-use crate::rows::Bytes;
+use crate::row::Bytes;
 use crate::state::State;
 use crate::value::Value;
 use bpf_code::Register;

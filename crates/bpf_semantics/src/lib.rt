@@ -5,14 +5,15 @@ pub use laws::{
     a_run_depends_on_its_looks, a_run_depends_on_its_schemas_tables, one_step, runs_are_short,
     the_effect_is_that_of_the_writes, the_end_stays, writes_elsewhere_leave_the_run,
 };
-pub use rows::{Bytes, Keyed, Row, Write};
+pub use row::{Bytes, Keyed, Row, Write};
 pub use run::{CompletedRun, run_program};
 pub use value::Value;
 
 mod helpers;
+mod key_map;
 mod laws;
 mod memory;
-mod rows;
+mod row;
 mod run;
 mod state;
 mod step;

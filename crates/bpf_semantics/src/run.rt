@@ -6,7 +6,8 @@ ghost use Rattle.bpf_semantics.specs.State.{entry_state};
 ghost use Rattle.bpf_semantics.specs.Run.{run, run_at, run_of};
 ghost use Rattle.bpf_semantics.specs.Runner.{rows_of, state_of, moment_of};
 
-use crate::rows::{KeyMap, Row, Write};
+use crate::key_map::KeyMap;
+use crate::row::{Row, Write};
 use crate::state::State;
 use crate::step::Moment;
 use crate::value::Value;
@@ -16,7 +17,7 @@ use std::alloc::{AllocError, Allocator, Global};
 use std::marker::Model;
 
 /// A run that reached EXIT, and what came of it. Contracts see the definition's record.
-#[derive(Drop)]
+#[derive(Debug, Drop)]
 pub struct CompletedRun<A: Allocator = Global> {
     steps: usize,
     reply: u64,

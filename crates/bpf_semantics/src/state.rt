@@ -5,7 +5,8 @@ ghost use Rattle.bpf_semantics.specs.State.{entry_state, register, with_register
 ghost use Rattle.bpf_semantics.specs.Step.{operand};
 ghost use Rattle.bpf_semantics.specs.Runner.{state_of};
 
-use crate::rows::{Bytes, KeyMap};
+use crate::key_map::KeyMap;
+use crate::row::Bytes;
 use crate::value::Value;
 use bpf_code::{Register, Source};
 use schema::Look;

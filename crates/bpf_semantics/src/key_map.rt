@@ -1,4 +1,4 @@
-//! Rows, looks and writes as plain values, and the map that the runner keeps them in.
+//! The map in which the runner keeps rows and writes.
 
 ghost use Rattle.std.specs.Prelude.{◌≡◌, IfOk, OnOk, option_map, slice_get};
 ghost use Rattle.std.specs.Map.Iter.{deref_pair};
@@ -6,111 +6,14 @@ ghost use Rattle.std.specs.FinMap.{empty, get, insert, remove, entries, retain_k
 ghost use Rattle.schema.specs.Rows.{covers};
 ghost use Rattle.bpf_semantics.specs.Runner.{rows_of};
 
+use crate::row::{Bytes, Keyed, Row};
 use schema::Look;
-use std::alloc::{AllocError, Allocator, Global};
+use std::alloc::{AllocError, Allocator};
 use std::collections::BTreeMap;
 use std::marker::Model;
 
-/// The bytes of a row. Contracts see their list.
-#[derive(Debug, Drop)]
-pub struct Bytes<A: Allocator> {
-    bytes: Vec<u8, A>,
-}
-
-impl<A: Allocator> Model for Bytes<A> {
-    ghost use Rattle.std.specs.Prelude.{ℕ, List};
-
-    ghost Value = { List ℕ };
-
-    ghost view = { λ b. b.bytes.items };
-}
-
-impl<A: Allocator> Bytes<A> {
-    pub(crate) fn new(bytes: Vec<u8, A>) -> Bytes<A>
-        ensures { result ≡ bytes.items }
-    {
-        Bytes { bytes }
-    }
-
-    pub(crate) fn as_slice(&self) -> &[u8]
-        ensures { result.now ≡ self.now }
-    {
-        &self.bytes
-    }
-}
-
-/// What stands at a key of a table. Contracts see a pair: the key, of table and key, and the value.
-#[derive(Debug, Drop)]
-pub struct Keyed<V> {
-    table: u8,
-    key: u64,
-    value: V,
-}
-
-/// A row.
-pub type Row<A> = Keyed<Bytes<A>>;
-
-/// A write, the last at its key: the row's bytes, or none where it was removed.
-pub type Write<A> = Keyed<Option<Bytes<A>>>;
-
-impl<V> Model for Keyed<V> {
-    ghost use Rattle.std.specs.Coded.{coded×, coded_ℕ};
-    ghost use Rattle.schema.specs.Rows.{Key};
-
-    ghost Value = { Key × V };
-
-    ghost coded = { coded× (coded× coded_ℕ coded_ℕ) V.code };
-
-    ghost view = { λ k. ((k.table, k.key), k.value) };
-}
-
-impl<V> Keyed<V> {
-    /// The number of the table.
-    pub fn table(&self) -> u8
-        ensures { result ≡ self.now.0.0 }
-    {
-        self.table
-    }
-
-    /// The key in the table.
-    pub fn key(&self) -> u64
-        ensures { result ≡ self.now.0.1 }
-    {
-        self.key
-    }
-}
-
-impl<A: Allocator> Keyed<Bytes<A>> {
-    /// The row of a table at a key.
-    pub fn row(table: u8, key: u64, bytes: Vec<u8, A>) -> Row<A>
-        ensures { result ≡ ((table, key), bytes.items) }
-    {
-        let value = Bytes::new(bytes);
-        Keyed { table, key, value }
-    }
-
-    /// The row's bytes.
-    pub fn bytes(&self) -> &[u8]
-        ensures { result.now ≡ self.now.1 }
-    {
-        self.value.as_slice()
-    }
-}
-
-impl<A: Allocator> Keyed<Option<Bytes<A>>> {
-    /// The bytes that were put; none where the row was removed.
-    pub fn put(&self) -> Option<&[u8]>
-        ensures { option_map (λ bytes. bytes.now) result ≡ self.now.1 }
-    {
-        match &self.value {
-            Some(bytes) => Some(bytes.as_slice()),
-            None => None,
-        }
-    }
-}
-
 /// A map by table and key. Contracts see a finite map.
-#[derive(Debug, Drop)]
+#[derive(Drop)]
 pub(crate) struct KeyMap<V, A: Allocator> {
     map: BTreeMap<(u8, u64), V, A>,
 }
@@ -162,7 +65,7 @@ impl<V: Drop, A: Allocator + Clone> KeyMap<V, A> {
         let _ordered = self.map.len();
         let mut list = Vec::new(alloc);
         for ((table, key), value) in self.map {
-            list.push(Keyed { table, key, value })?;
+            list.push(Keyed::at(table, key, value))?;
         }
         Ok(list)
     }

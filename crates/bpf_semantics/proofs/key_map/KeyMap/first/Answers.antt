@@ -7,7 +7,7 @@ use Rattle.std.proofs.lemmas.Iterator.Search.{find_from_yields_List}
 use Rattle.schema.specs.Rows.{key_cmp_total, key_cmp-IsAntisymmetric, covers}
 use Rattle.schema.proofs.MapLemmas.{entries-retain_keys}
 use Rattle.bpf_semantics.proofs.RunnerLemmas.{find-filter}
-use Rattle.bpf_semantics.proofs.rows.KeyMap.first.Goals as goal
+use Rattle.bpf_semantics.proofs.key_map.KeyMap.first.Goals as goal
 
 pub returns : goal.returns
 returns g c =

@@ -1,6 +1,6 @@
 use Rattle.std.proofs.Common.{◌≡◌, take}
 use Rattle.bpf_semantics.specs.Runner.{rows_of}
-use Rattle.bpf_semantics.proofs.rows.KeyMap+Bytes+A+A.from_rows.Given as goal
+use Rattle.bpf_semantics.proofs.key_map.KeyMap+Bytes+A+A.from_rows.Given as goal
 
 -- the rows so far are in the map
 abbrev pub invariant-loop-row : goal.invariant-loop-row

@@ -3,7 +3,7 @@ use Rattle.std.specs.FinMap.{len, retain_keys, len-entries}
 use Rattle.std.proofs.lemmas.Iterator.Consumers.{YieldsList-from_rest, YieldsList-from_filter, YieldsList-at, count_from_yields_List}
 use Rattle.schema.specs.Rows.{key_cmp_total, key_cmp-IsAntisymmetric, covers}
 use Rattle.schema.proofs.MapLemmas.{entries-retain_keys}
-use Rattle.bpf_semantics.proofs.rows.KeyMap.count.Goals as goal
+use Rattle.bpf_semantics.proofs.key_map.KeyMap.count.Goals as goal
 
 pub returns : goal.returns
 returns g c =

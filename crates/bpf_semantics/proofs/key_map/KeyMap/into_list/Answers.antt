@@ -2,7 +2,7 @@ use Rattle.std.proofs.Common.{◌≡◌, ◌∙◌, ◌++◌, sym, ap}
 use Rattle.std.specs.FinMap.{entries}
 use Rattle.schema.specs.Rows.{key_cmp_total, key_cmp-IsAntisymmetric}
 use Rattle.schema.proofs.MapLemmas.{entries-from_entries}
-use Rattle.bpf_semantics.proofs.rows.KeyMap.into_list.Goals as goal
+use Rattle.bpf_semantics.proofs.key_map.KeyMap.into_list.Goals as goal
 
 pub loop-table-init : goal.loop-table-init
 loop-table-init g c =
