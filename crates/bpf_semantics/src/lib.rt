@@ -17,4 +17,6 @@ mod row;
 mod run;
 mod state;
 mod step;
+#[cfg(test)]
+mod tests;
 mod value;
