@@ -1,6 +1,6 @@
 //! What no clause says: that memory suffices, what is printed, and the helpers' table as it was given.
 
-use crate::{AnswerKind, ArgumentKind, Helper, Schema, SchemaFault};
+use crate::{AnswerKind, ArgumentKind, Helper, Look, Schema, SchemaFault};
 use scarce::Scarce;
 use std::test::Fail;
 
@@ -60,6 +60,30 @@ fn faults_are_printed_by_number(rt: HostRuntime) -> Result<(), Fail> {
         assert_eq!(rt; printed.as_str(), text);
     }
     Ok(())
+}
+
+#[test]
+fn looks_cover_their_ends(rt: HostRuntime) {
+    let look = Look {
+        table: 1,
+        lo: 10,
+        hi: 20,
+    };
+    for (table, key, covered) in [
+        (1, 9, false),
+        (1, 10, true),
+        (1, 20, true),
+        (1, 21, false),
+        (2, 15, false),
+    ] {
+        assert_eq!(rt; look.covers(table, key), covered, "{table} {key}");
+    }
+    let empty = Look {
+        table: 1,
+        lo: 20,
+        hi: 10,
+    };
+    assert!(rt; !empty.covers(1, 15));
 }
 
 #[test]
