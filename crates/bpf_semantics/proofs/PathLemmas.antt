@@ -38,7 +38,7 @@ there f p slot (Some (suc n)) further bound =
 number_is : (m n : ℕ) → just m ≡ just n → m ≡ n
 number_is m n e = cc
 
-fall_further : (i : Instruction) (n : ℕ) → fall_through i ≡ just n → 1 ≤ n
+pub fall_further : (i : Instruction) (n : ℕ) → fall_through i ≡ just n → 1 ≤ n
 fall_further (LoadWide a b) n e = let h = number_is 2 n e in omega arith
 fall_further (Load a b c d) n e = let h = number_is 1 n e in omega arith
 fall_further (StoreImmediate a b c d) n e = let h = number_is 1 n e in omega arith
@@ -53,7 +53,7 @@ fall_further (Branch a b c d f) n e = let h = number_is 1 n e in omega arith
 fall_further (Call a) n e = let h = number_is 1 n e in omega arith
 fall_further Exit n e = absurd cc
 
-jump_further : (d : Option ℤ) (n : ℕ) → slots_of_jump d ≡ just n → 1 ≤ n
+pub jump_further : (d : Option ℤ) (n : ℕ) → slots_of_jump d ≡ just n → 1 ≤ n
 jump_further (Some (pos d)) n e = let h = number_is (1 + d) n e in omega arith
 jump_further (Some (negsuc d)) n e = absurd cc
 jump_further None n e = absurd cc

@@ -1,4 +1,5 @@
--- Rows that a run can't tell apart: two maps that have the same where it looks, and writes to other keys.
+-- Rows that a run can't tell apart: two maps that have the same where it looks, or in the schema's tables, and writes to
+-- other keys.
 use Rattle.std.specs.Prelude.{◌≡◌, IsTrue, is_some, None, ℕ, Bool, false, ◌||◌, List, [], ◌∷◌}
 use Rattle.std.specs.FinMap.{get}
 use Rattle.bpf_code.specs.Program.{Program}

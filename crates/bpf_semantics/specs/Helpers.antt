@@ -1,6 +1,6 @@
 -- What each helper does to a state. A helper takes r1 to r5 and answers in r0; afterwards r1 to r5 hold nothing. None
--- where it can't be called: a table outside the schema, a key, bound or code that is no number, a buffer that isn't
--- whole inside the stack, or, where it is read, of bytes that aren't known.
+-- where it can't be called: a table that is no number or outside the schema, a key, bound or code that is no number, a
+-- buffer that isn't whole inside the stack, or, where it is read, of bytes that aren't known.
 use Rattle.std.specs.Prelude.{ℕ, ◌%◌, ◌^◌, List, [], ◌∷◌, ◌++◌, drop, replicate, nat_le, is_some, if◌then◌else◌, Option, Some, None}
 use Rattle.std.specs.Option.{option_map}
 use Rattle.std.specs.FinMap.{get}

@@ -48,6 +48,6 @@ run_at rows (Ended reply s) = Some (run_of rows reply s)
 run_at rows _ = None
 
 -- the run of a program on arguments and rows. Each step goes at least one slot further, so as many steps as there are
--- slots are enough
+-- slots are enough (a law says so: a_run_ends_or_is_stuck)
 unfoldable pub run : Program → Tables → List ℕ → Rows → Option Run
 run p tables args rows = run_at rows (moment p tables (length p) (entry_state args rows))

@@ -16,6 +16,8 @@ use Rattle.bpf_semantics.specs.Step.{Moment, Going, Ended, Stuck}
 abbrev pub rows_of : List (Key × List ℕ) → Rows
 rows_of = fold (λ rows row. insert rows row.0 row.1) empty
 
+-- ---- no clause that a caller sees speaks of what follows
+
 -- the list of a map, by tables and keys
 abbrev pub AreInOrder : {V : Type 0} → List (Key × V) → Type 0
 AreInOrder es = entries (from_entries {R = key_cmp} es) ≡ es

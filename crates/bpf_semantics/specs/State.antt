@@ -1,5 +1,6 @@
--- The state of a run: registers, stack, arguments, rows, and what the run has done so far. What a state means is said
--- of rows of the schema's tables, and of bytes and numbers that fit their types.
+-- The state of a run: registers, stack, arguments, rows, and what the run has done so far. It is meant for rows that are
+-- the schema's, and for bytes and numbers that fit their types. On others a run is still defined: a row that isn't as
+-- wide as its table writes as many bytes as it has.
 use Rattle.std.specs.Prelude.{ℕ, ◌+◌, pos, List, [], ◌∷◌, ◌++◌, replicate, slice_index_or, slice_set, Option, Some, None}
 use Rattle.std.specs.FinMap.{empty}
 use Rattle.bpf_code.specs.declared.instruction.Register.{Register}

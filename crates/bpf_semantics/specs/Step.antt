@@ -1,6 +1,6 @@
 -- One instruction, one equation a form (RFC 9669 sections 4 and 5; places, and what is stuck, are this product's
--- own). What can't be run is stuck: a value that is nothing is read, a place is stored or computed with, an address or
--- a call is wrong, r0 is no number at EXIT.
+-- own). What can't be run is stuck: a value that is nothing is read, a place is stored, computed with or moved too far,
+-- an address or a call is wrong, a jump goes backwards, no instruction begins at the slot, r0 is no number at EXIT.
 use Rattle.std.specs.Prelude.{ℕ, ◌+◌, ℤ, pos, negsuc, ◌+ℤ◌, neg_ℤ, nat_le, unsigned_abs, if◌then◌else◌, List, length, Option, Some, None}
 use Rattle.std.specs.Option.{option_map}
 use Rattle.std.specs.Int.{w64, cast_signed, cast_unsigned}

@@ -22,6 +22,7 @@ fn table_of<B: Allocator>(schema: &Schema<B>, value: Value) -> Option<(u8, usize
 {
     match value {
         Value::Number(number) => {
+            // Asked for in any case: its contract says that the schema's tables are below 256.
             let table = (number % 256) as u8;
             match schema.width(table) {
                 Some(width) if number < 256 => Some((table, usize::from(width))),

@@ -62,6 +62,7 @@ impl<V: Drop, A: Allocator + Clone> KeyMap<V, A> {
     pub(crate) fn into_list(self, alloc: A) -> Result<Vec<Keyed<V>, A>, AllocError>
         ensures { IfOk result (λ list. list.items ≡ entries self) }
     {
+        // Its contract says that the entries are in order.
         let _ordered = self.map.len();
         let mut list = Vec::new(alloc);
         for ((table, key), value) in self.map {

@@ -1,13 +1,13 @@
 //! What follows from the definitions, for every program, all arguments and all rows.
 
-ghost use Rattle.std.specs.Prelude.{◌≡◌, ◌↔◌, All, ℕ, ◌+◌, ◌≤◌, List, Some, None, IsSome};
+ghost use Rattle.std.specs.Prelude.{◌≡◌, ◌↔◌, All, ℕ, ◌+◌, ◌≤◌, List, length, Some, None, IsSome};
 ghost use Rattle.std.specs.FinMap.{empty};
 ghost use Rattle.bpf_code.specs.Program.{Program};
 ghost use Rattle.schema.specs.Schema.{Tables};
 ghost use Rattle.schema.specs.Rows.{Rows, Writes, AgreeOn, after};
 ghost use Rattle.bpf_semantics.specs.State.{State, entry_state};
 ghost use Rattle.bpf_semantics.specs.Step.{Moment, Going, Ended, Stuck, step};
-ghost use Rattle.bpf_semantics.specs.Run.{Run, moment, run};
+ghost use Rattle.bpf_semantics.specs.Run.{Run, moment, run, run_of};
 ghost use Rattle.bpf_semantics.specs.Agree.{any_covers, AgreeOnLooks, in_tables, same_on, AreElsewhere, after_each};
 ghost use Rattle.bpf_semantics.specs.Path.{longest_path, instructions};
 
@@ -23,6 +23,17 @@ pub fn the_end_stays()
         → moment p tables k s ≡ Stuck → moment p tables (n + k) s ≡ Stuck }
     ensures ended { (p : Program) (tables : Tables) (k n reply : ℕ) (s t : State)
         → moment p tables k s ≡ Ended reply t → moment p tables (n + k) s ≡ Ended reply t }
+{}
+
+/// There is a run exactly where some moment has ended, and then it is what is read off there; there
+/// is none exactly where some moment is stuck.
+pub fn a_run_ends_or_is_stuck()
+    ensures ended { (p : Program) (tables : Tables) (args : List ℕ) (rows : Rows) (k reply : ℕ) (s : State)
+        → moment p tables k (entry_state args rows) ≡ Ended reply s
+        → run p tables args rows ≡ Some (run_of rows reply s) }
+    ensures stuck { (p : Program) (tables : Tables) (args : List ℕ) (rows : Rows)
+        → (run p tables args rows ≡ None)
+        ↔ (moment p tables (length p + 1) (entry_state args rows) ≡ Stuck) }
 {}
 
 /// A run has no more steps than the longest path has instructions, and that has no more than the
@@ -62,11 +73,20 @@ pub fn a_run_depends_on_its_looks()
 {}
 
 /// A run depends on the rows of the schema's tables alone. On others that have the same in those
-/// tables, one that ended is the same but for its effect, and where there is none there is none.
+/// tables, one that ended is the same but for its effect; one that goes on is in the same state but
+/// for the rows; and one that is stuck is stuck after as many steps.
 pub fn a_run_depends_on_its_schemas_tables()
     ensures same { (p : Program) (tables : Tables) (args : List ℕ) (m n : Rows) (r : Run)
         → run p tables args m ≡ Some r → AgreeOn (in_tables tables) m n
         → run p tables args n ≡ Some (same_on n r) }
+    ensures going { (p : Program) (tables : Tables) (args : List ℕ) (m n : Rows)
+        → AgreeOn (in_tables tables) m n → (k : ℕ) (s : State)
+        → moment p tables k (entry_state args m) ≡ Going s
+        → moment p tables k (entry_state args n) ≡ Going (record s { rows = after s.writes n }) }
+    ensures stuck { (p : Program) (tables : Tables) (args : List ℕ) (m n : Rows)
+        → AgreeOn (in_tables tables) m n → (k : ℕ)
+        → (moment p tables k (entry_state args m) ≡ Stuck)
+        ↔ (moment p tables k (entry_state args n) ≡ Stuck) }
     ensures none { (p : Program) (tables : Tables) (args : List ℕ) (m n : Rows)
         → AgreeOn (in_tables tables) m n
         → (run p tables args m ≡ None) ↔ (run p tables args n ≡ None) }

@@ -20,16 +20,24 @@ impl<A: Allocator> Model for Bytes<A> {
 }
 
 impl<A: Allocator> Bytes<A> {
-    pub(crate) fn new(bytes: Vec<u8, A>) -> Bytes<A>
+    pub fn new(bytes: Vec<u8, A>) -> Bytes<A>
         ensures { result ≡ bytes.items }
     {
-        Bytes { bytes }
+        Self { bytes }
     }
 
-    pub(crate) fn as_slice(&self) -> &[u8]
+    pub fn as_slice(&self) -> &[u8]
         ensures { result.now ≡ self.now }
     {
         &self.bytes
+    }
+
+    /// The bytes themselves, with no memory taken.
+    pub fn into_vec(self) -> Vec<u8, A>
+        ensures { result.items ≡ self }
+    {
+        let Bytes { bytes } = self;
+        bytes
     }
 }
 
@@ -93,6 +101,13 @@ impl<A: Allocator> Keyed<Bytes<A>> {
         ensures { result.now ≡ self.now.1 }
     {
         self.value.as_slice()
+    }
+
+    /// The same bytes themselves, with no memory taken.
+    pub fn into_bytes(self) -> Vec<u8, A>
+        ensures { result.items ≡ self.1 }
+    {
+        self.value.into_vec()
     }
 }
 

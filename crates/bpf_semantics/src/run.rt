@@ -90,10 +90,20 @@ impl<A: Allocator> CompletedRun<A> {
     {
         &self.rows
     }
+
+    /// The same rows themselves, with no memory taken.
+    pub fn into_rows(self) -> Vec<Row<A>, A>
+        ensures { result.items ≡ entries self.effect }
+    {
+        let run = self;
+        run.rows
+    }
 }
 
-/// Runs a program on arguments and rows, of which a later one at a key replaces an earlier one. The
-/// answer is the definition's, and none where the run is stuck.
+/// Runs a program on arguments, of any length, and rows, of which a later one at a key replaces an
+/// earlier one. The answer is the definition's, and none where the run is stuck. The error is want of
+/// memory, which may come in place of any answer. Rows are meant to be the schema's; others are taken
+/// as the definition takes them.
 pub fn run_program<A: Allocator + Copy, B: Allocator, C: Allocator, D: Allocator>(
     alloc: A,
     code: &Code<B>,

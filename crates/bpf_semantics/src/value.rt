@@ -15,6 +15,7 @@ use bpf_words::{BinaryOperation, Condition, Operation, alu32, alu64, holds32, ho
 pub enum Value {
     /// Nothing that may be read.
     Nothing,
+    /// A number.
     Number(u64),
     /// So far from the stack's end, from -65,536 to 65,536; the stack is at -512 to -1.
     Stack(i32),

@@ -12,7 +12,7 @@ pub struct Look {
 }
 
 impl Look {
-    /// Whether the row of a table at a key is one that was looked at.
+    /// Whether it covers a key of a table, be a row there or not.
     pub fn covers(self, table: u8, key: u64) -> bool
         ensures { result ≡ covers self (table, key) }
     {
