@@ -1,5 +1,5 @@
 -- A run ends or is stuck: each step goes on, and the program has an end.
-use Rattle.std.proofs.Common.{◌≡◌, ◌⊎◌, inl, inr, ℕ, zero, suc, ◌+◌, ◌<◌, ◌≤◌, List, [], ◌∷◌, length, Option, Some, None, refl, sym, ap, subst, ◌∙◌, arith}
+use Rattle.std.proofs.Common.{◌≡◌, ◌⊎◌, inl, inr, ℕ, zero, suc, ◌+◌, ◌≤◌, List, [], ◌∷◌, length, Option, Some, None, refl, sym, ap, ◌∙◌, arith}
 use Rattle.std.specs.Prelude.{◌↔◌}
 use Rattle.bpf_code.specs.declared.instruction.Instruction.{Instruction}
 use Rattle.bpf_code.specs.Program.{Program, instruction_at, distance_of}
@@ -7,7 +7,7 @@ use Rattle.schema.specs.Schema.{Tables}
 use Rattle.schema.specs.Rows.{Rows}
 use Rattle.bpf_semantics.specs.State.{State, entry_state}
 use Rattle.bpf_semantics.specs.Step.{Moment, Going, Ended, Stuck, or_stuck, execute, step}
-use Rattle.bpf_semantics.specs.Run.{go_on, moment, Run, run, run_at, run_of}
+use Rattle.bpf_semantics.specs.Run.{go_on, moment, run, run_at, run_of}
 use Rattle.bpf_semantics.specs.Path.{fall_through, jump_of}
 use Rattle.bpf_semantics.proofs.StepLemmas.{just, Leads, Steps, execute_leads}
 use Rattle.bpf_semantics.proofs.PathLemmas.{fall_further, jump_further}

@@ -4,7 +4,8 @@ ghost use Rattle.std.specs.Prelude.{◌≡◌, ◌∷◌, ◌++◌, replicate, d
 ghost use Rattle.bpf_semantics.specs.declared.value.Value.TheVariants.{Nothing, Number};
 ghost use Rattle.schema.specs.Schema.{Tables};
 ghost use Rattle.schema.specs.declared.helper.Helper.TheVariants.{RowGet, RowPut, RowDelete, RangeCount, RangeNext, Cancel};
-ghost use Rattle.bpf_semantics.specs.Helpers.{Table, table_of, answered, with_point_look, with_range_look, wrote, flag, row_or_zeros, called};
+ghost use Rattle.bpf_semantics.specs.Helpers.{Table, table_of, answered, with_point_look};
+ghost use Rattle.bpf_semantics.specs.Helpers.{with_range_look, wrote, flag, row_or_zeros, called};
 ghost use Rattle.bpf_semantics.specs.Runner.{state_of};
 
 use crate::memory::{buffer_of, known_from, overwritten};
@@ -45,6 +46,7 @@ fn after_call(registers: &[Value; 11], answer: u64) -> [Value; 11]
     ]
 }
 
+#[tactic(auto, unfolding(crate::specs::Helpers::called, crate::specs::Memory::and_then))]
 impl<A: Allocator + Copy> State<A> {
     /// r0 gets the answer, and r1 to r5 nothing.
     fn answered(mut self, answer: u64) -> State<A>
@@ -166,7 +168,6 @@ impl<A: Allocator + Copy> State<A> {
     }
 
     /// Removes a row.
-    #[tactic(auto, unfolding(crate::specs::Helpers::called, crate::specs::Memory::and_then))]
     fn row_delete<B: Allocator>(
         self,
         alloc: A,
@@ -186,7 +187,6 @@ impl<A: Allocator + Copy> State<A> {
     }
 
     /// Counts the rows of an interval.
-    #[tactic(auto, unfolding(crate::specs::Helpers::called, crate::specs::Memory::and_then))]
     fn range_count<B: Allocator>(self, schema: &Schema<B>) -> Result<Option<State<A>>, AllocError>
         ensures { IfOk result (λ s.
             option_map state_of s ≡ called schema.now RangeCount (state_of self)) }
@@ -241,7 +241,6 @@ impl<A: Allocator + Copy> State<A> {
     }
 
     /// Has the writes dropped at the end.
-    #[tactic(auto, unfolding(crate::specs::Helpers::called, crate::specs::Memory::and_then))]
     fn cancel(mut self) -> Option<State<A>>
         ensures { (tables : Tables) → option_map state_of result ≡ called tables Cancel (state_of self) }
     {
@@ -251,6 +250,7 @@ impl<A: Allocator + Copy> State<A> {
     }
 
     /// The state after a call; none where it can't be made.
+    #[tactic(auto)]
     pub(crate) fn called<B: Allocator>(
         self,
         alloc: A,

@@ -1,8 +1,11 @@
 //! Loads and stores on the stack and the arguments.
 
-ghost use Rattle.std.specs.Prelude.{◌≡◌, ◌≤◌, ◌^◌, ◌+ℤ◌, unsigned_abs, length, take, drop, IfOk, Option, Some, None, IfSome, option_map};
+ghost use Rattle.std.specs.Prelude.{◌≡◌, ◌≤◌, ◌^◌, ◌+ℤ◌, unsigned_abs, length, take, drop, IfOk};
+ghost use Rattle.std.specs.Prelude.{Option, Some, None, IfSome, option_map};
 ghost use Rattle.byteorder.specs.Endian.{little_number, little_bytes};
-ghost use Rattle.bpf_semantics.specs.Memory.{size_bytes, load_bytes, extended, index_in, stack_index, known_from, overwritten, read, written_at};
+ghost use Rattle.bpf_semantics.specs.Memory.{size_bytes, load_bytes, extended, index_in};
+ghost use Rattle.bpf_semantics.specs.Memory.{stack_index, known_from, overwritten, read};
+ghost use Rattle.bpf_semantics.specs.Memory.{written_at};
 ghost use Rattle.bpf_semantics.specs.Helpers.{buffer_of};
 
 use crate::value::Value;

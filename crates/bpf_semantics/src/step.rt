@@ -5,7 +5,11 @@ ghost use Rattle.std.specs.Int.{w64, cast_unsigned};
 ghost use Rattle.byteorder.specs.Endian.{little_bytes};
 ghost use Rattle.bpf_semantics.specs.State.{register, past, with_register};
 ghost use Rattle.bpf_semantics.specs.Memory.{size_bytes, written_at};
-ghost use Rattle.bpf_code.specs.declared.instruction.Instruction.TheVariants.{Load, StoreRegister, Arithmetic, Negate, MoveSignExtended, End, Branch, Call, Exit};
+ghost use Rattle.bpf_code.specs.declared.instruction.Instruction.TheVariants.{Load, StoreRegister};
+ghost use Rattle.bpf_code.specs.declared.instruction.Instruction.TheVariants.{Arithmetic, Negate};
+ghost use Rattle.bpf_code.specs.declared.instruction.Instruction.TheVariants.{MoveSignExtended};
+ghost use Rattle.bpf_code.specs.declared.instruction.Instruction.TheVariants.{End, Branch, Call};
+ghost use Rattle.bpf_code.specs.declared.instruction.Instruction.TheVariants.{Exit};
 ghost use Rattle.schema.specs.Schema.{Tables};
 ghost use Rattle.bpf_semantics.specs.Step.{jumped, with_result, with_stored, execute, step};
 ghost use Rattle.bpf_semantics.specs.Run.{go_on};
@@ -27,6 +31,7 @@ pub(crate) enum Moment<A: Allocator> {
     Stuck,
 }
 
+#[tactic(auto, unfolding(crate::specs::Step::execute, crate::specs::Step::or_stuck, crate::specs::Memory::and_then))]
 impl<A: Allocator + Copy> State<A> {
     fn with_result(self, dst: Register, value: Value) -> Moment<A>
         requires slot { self.slot < 2 ^ 32 }
@@ -48,7 +53,6 @@ impl<A: Allocator + Copy> State<A> {
         }
     }
 
-    #[tactic(auto, unfolding(crate::specs::Step::execute, crate::specs::Step::or_stuck))]
     fn load(
         self,
         alloc: A,
@@ -72,7 +76,6 @@ impl<A: Allocator + Copy> State<A> {
     }
 
     /// Stores the low bytes of a number.
-    #[tactic(auto, unfolding(crate::specs::Step::or_stuck))]
     fn store(
         self,
         alloc: A,
@@ -99,7 +102,6 @@ impl<A: Allocator + Copy> State<A> {
         }
     }
 
-    #[tactic(auto, unfolding(crate::specs::Step::execute, crate::specs::Step::or_stuck))]
     fn store_register(
         self,
         alloc: A,
@@ -119,7 +121,6 @@ impl<A: Allocator + Copy> State<A> {
         }
     }
 
-    #[tactic(auto, unfolding(crate::specs::Step::execute, crate::specs::Step::or_stuck))]
     fn arithmetic(
         self,
         width: Width,
@@ -138,7 +139,6 @@ impl<A: Allocator + Copy> State<A> {
         }
     }
 
-    #[tactic(auto, unfolding(crate::specs::Step::execute, crate::specs::Step::or_stuck))]
     fn negate(self, width: Width, dst: Register) -> Moment<A>
         requires slot { self.slot < 2 ^ 32 }
         requires steps { self.steps < 2 ^ 32 }
@@ -154,7 +154,6 @@ impl<A: Allocator + Copy> State<A> {
         }
     }
 
-    #[tactic(auto, unfolding(crate::specs::Step::execute, crate::specs::Step::or_stuck))]
     fn move_sign_extended(self, kind: SignExtendingMove, dst: Register, src: Register) -> Moment<A>
         requires slot { self.slot < 2 ^ 32 }
         requires steps { self.steps < 2 ^ 32 }
@@ -177,7 +176,6 @@ impl<A: Allocator + Copy> State<A> {
         }
     }
 
-    #[tactic(auto, unfolding(crate::specs::Step::execute, crate::specs::Step::or_stuck))]
     fn end(self, order: ByteOrder, width: EndWidth, dst: Register) -> Moment<A>
         requires slot { self.slot < 2 ^ 32 }
         requires steps { self.steps < 2 ^ 32 }
@@ -190,7 +188,6 @@ impl<A: Allocator + Copy> State<A> {
         }
     }
 
-    #[tactic(auto, unfolding(crate::specs::Step::execute, crate::specs::Step::or_stuck))]
     fn branch(
         self,
         width: Width,
@@ -217,7 +214,6 @@ impl<A: Allocator + Copy> State<A> {
         }
     }
 
-    #[tactic(auto, unfolding(crate::specs::Step::execute, crate::specs::Step::or_stuck, crate::specs::Memory::and_then))]
     fn call<B: Allocator>(
         self,
         alloc: A,
@@ -238,7 +234,6 @@ impl<A: Allocator + Copy> State<A> {
         }
     }
 
-    #[tactic(auto, unfolding(crate::specs::Step::execute, crate::specs::Step::or_stuck))]
     fn exit(self) -> Moment<A>
         requires slot { self.slot < 2 ^ 32 }
         requires steps { self.steps < 2 ^ 32 }
@@ -251,7 +246,6 @@ impl<A: Allocator + Copy> State<A> {
     }
 
     /// One instruction.
-    #[tactic(auto, unfolding(crate::specs::Step::execute))]
     fn execute<B: Allocator>(
         self,
         alloc: A,
