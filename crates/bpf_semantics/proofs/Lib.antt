@@ -5,5 +5,4 @@ pub mod EffectLemmas
 pub mod AgreeLemmas
 pub mod TwinLemmas
 pub mod LookLemmas
-pub mod RunnerLemmas
 pub mod EndLemmas

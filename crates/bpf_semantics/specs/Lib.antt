@@ -5,4 +5,3 @@ pub mod Step
 pub mod Run
 pub mod Path
 pub mod Agree
-pub mod Runner

@@ -1,4 +1,4 @@
-//! What a run of a program is: the definitions, laws about them, and a plain runner.
+//! What a run of a program is: the definitions, and laws about them.
 #![tactic(auto)]
 
 pub use laws::{
@@ -6,18 +6,7 @@ pub use laws::{
     one_step, runs_are_short, the_effect_is_that_of_the_writes, the_end_stays,
     writes_elsewhere_leave_the_run,
 };
-pub use row::{Bytes, Keyed, Row, Write};
-pub use run::{CompletedRun, run_program};
 pub use value::Value;
 
-mod helpers;
-mod key_map;
 mod laws;
-mod memory;
-mod row;
-mod run;
-mod state;
-mod step;
-#[cfg(test)]
-mod tests;
 mod value;

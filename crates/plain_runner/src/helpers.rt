@@ -1,0 +1,272 @@
+//! What each helper does, as the definitions say it.
+
+ghost use Rattle.std.specs.Prelude.{◌≡◌, ◌∷◌, ◌++◌, replicate, drop, IfOk, option_map};
+ghost use Rattle.bpf_semantics.specs.declared.value.Value.TheVariants.{Nothing, Number};
+ghost use Rattle.schema.specs.Schema.{Tables};
+ghost use Rattle.schema.specs.declared.helper.Helper.TheVariants.{RowGet, RowPut, RowDelete, RangeCount, RangeNext, Cancel};
+ghost use Rattle.bpf_semantics.specs.Helpers.{Table, table_of, answered, with_point_look};
+ghost use Rattle.bpf_semantics.specs.Helpers.{with_range_look, wrote, flag, row_or_zeros, called};
+ghost use Rattle.plain_runner.specs.Runner.{state_of};
+
+use crate::memory::{buffer_of, known_from, overwritten};
+use crate::row::Bytes;
+use crate::state::State;
+use crate::value::number;
+use bpf_code::Register;
+use bpf_semantics::Value;
+use schema::{Helper, Look, Schema};
+use std::alloc::{AllocError, Allocator};
+
+/// A table of the schema and its width.
+#[tactic(auto, unfolding(bpf_semantics::specs::Memory::and_then))]
+fn table_of<B: Allocator>(schema: &Schema<B>, value: Value) -> Option<(u8, usize)>
+    ensures { option_map (λ t. record { table = t.0; width = t.1 }) result ≡ table_of schema.now value }
+{
+    match value {
+        Value::Number(number) => {
+            // Asked for in any case: its contract says that the schema's tables are below 256.
+            let table = (number % 256) as u8;
+            match schema.width(table) {
+                Some(width) if number < 256 => Some((table, usize::from(width))),
+                _ => None,
+            }
+        }
+        Value::Nothing | Value::Stack(_) | Value::Args(_) => None,
+    }
+}
+
+/// The registers after a call: r0 has the answer, r1 to r5 nothing, and the others stay.
+fn after_call(registers: &[Value; 11], answer: u64) -> [Value; 11]
+    ensures { result ≡ Number answer ∷ (replicate 5 Nothing ++ drop 6 registers.now) }
+{
+    let [_, _, _, _, _, _, six, seven, eight, nine, ten] = *registers;
+    let nothing = Value::Nothing;
+    let answer = Value::Number(answer);
+    [
+        answer, nothing, nothing, nothing, nothing, nothing, six, seven, eight, nine, ten,
+    ]
+}
+
+#[tactic(auto, unfolding(bpf_semantics::specs::Helpers::called, bpf_semantics::specs::Memory::and_then))]
+impl<A: Allocator + Copy> State<A> {
+    /// r0 gets the answer, and r1 to r5 nothing.
+    fn answered(mut self, answer: u64) -> State<A>
+        ensures { state_of result ≡ answered answer (state_of self) }
+    {
+        self.registers = after_call(&self.registers, answer);
+        self
+    }
+
+    /// A get looks at its key, unless the run put or removed it before.
+    fn with_point_look(mut self, table: u8, key: u64) -> Result<State<A>, AllocError>
+        ensures { IfOk result (λ s. state_of s ≡ with_point_look table key (state_of self)) }
+    {
+        if self.writes.get(table, key).is_none() {
+            self.looks.push(Look {
+                table,
+                lo: key,
+                hi: key,
+            })?;
+        }
+        Ok(self)
+    }
+
+    /// A range looks from lo to the last key that its answer depends on.
+    fn with_range_look(
+        mut self,
+        table: u8,
+        lo: u64,
+        hi: u64,
+        last: u64,
+    ) -> Result<State<A>, AllocError>
+        ensures { IfOk result (λ s. state_of s ≡ with_range_look table lo hi last (state_of self)) }
+    {
+        if lo <= hi {
+            self.looks.push(Look {
+                table,
+                lo,
+                hi: last,
+            })?;
+        }
+        Ok(self)
+    }
+
+    /// Gets a row.
+    #[tactic(auto, unfolding(bpf_semantics::specs::Helpers::called, bpf_semantics::specs::Helpers::row_get, bpf_semantics::specs::Memory::and_then))]
+    fn row_get<B: Allocator>(
+        mut self,
+        alloc: A,
+        schema: &Schema<B>,
+    ) -> Result<Option<State<A>>, AllocError>
+        ensures { IfOk result (λ s. option_map state_of s ≡ called schema.now RowGet (state_of self)) }
+    {
+        let Some((table, width)) = table_of(schema, self.register(Register::One)) else {
+            return Ok(None);
+        };
+        let Some(key) = number(self.register(Register::Two)) else {
+            return Ok(None);
+        };
+        let Some(buffer) = buffer_of(self.register(Register::Three), width) else {
+            return Ok(None);
+        };
+        let (answer, row) = match self.rows.get(table, key) {
+            Some(row) => (1, Vec::from_slice(alloc, row.as_slice())?),
+            None => (0, vec![in alloc; 0; width]?),
+        };
+        self.stack = overwritten(alloc, &self.stack, buffer, &row)?;
+        let looked = self.with_point_look(table, key)?;
+        Ok(Some(looked.answered(answer)))
+    }
+
+    /// A put has bytes, a removal none.
+    fn wrote(
+        mut self,
+        alloc: A,
+        table: u8,
+        key: u64,
+        bytes: Option<Vec<u8, A>>,
+    ) -> Result<State<A>, AllocError>
+        ensures { IfOk result (λ s.
+            state_of s ≡ wrote table key (option_map (λ v. v.items) bytes) (state_of self)) }
+    {
+        match bytes {
+            Some(bytes) => {
+                let copy = Vec::from_slice(alloc, &bytes)?;
+                self.rows.insert(table, key, Bytes::new(bytes))?;
+                self.writes.insert(table, key, Some(Bytes::new(copy)))?;
+            }
+            None => {
+                self.rows.remove(table, key);
+                self.writes.insert(table, key, None)?;
+            }
+        }
+        Ok(self)
+    }
+
+    /// Puts a row.
+    #[tactic(auto, unfolding(bpf_semantics::specs::Helpers::called, bpf_semantics::specs::Helpers::row_put, bpf_semantics::specs::Memory::and_then))]
+    fn row_put<B: Allocator>(
+        self,
+        alloc: A,
+        schema: &Schema<B>,
+    ) -> Result<Option<State<A>>, AllocError>
+        ensures { IfOk result (λ s. option_map state_of s ≡ called schema.now RowPut (state_of self)) }
+    {
+        let Some((table, width)) = table_of(schema, self.register(Register::One)) else {
+            return Ok(None);
+        };
+        let Some(key) = number(self.register(Register::Two)) else {
+            return Ok(None);
+        };
+        let Some(buffer) = buffer_of(self.register(Register::Three), width) else {
+            return Ok(None);
+        };
+        let Some(bytes) = known_from(alloc, &self.stack, buffer, width)? else {
+            return Ok(None);
+        };
+        let written = self.wrote(alloc, table, key, Some(bytes))?;
+        Ok(Some(written.answered(0)))
+    }
+
+    /// Removes a row.
+    fn row_delete<B: Allocator>(
+        self,
+        alloc: A,
+        schema: &Schema<B>,
+    ) -> Result<Option<State<A>>, AllocError>
+        ensures { IfOk result (λ s.
+            option_map state_of s ≡ called schema.now RowDelete (state_of self)) }
+    {
+        let Some((table, _)) = table_of(schema, self.register(Register::One)) else {
+            return Ok(None);
+        };
+        let Some(key) = number(self.register(Register::Two)) else {
+            return Ok(None);
+        };
+        let written = self.wrote(alloc, table, key, None)?;
+        Ok(Some(written.answered(0)))
+    }
+
+    /// Counts the rows of an interval.
+    fn range_count<B: Allocator>(self, schema: &Schema<B>) -> Result<Option<State<A>>, AllocError>
+        ensures { IfOk result (λ s.
+            option_map state_of s ≡ called schema.now RangeCount (state_of self)) }
+    {
+        let Some((table, _)) = table_of(schema, self.register(Register::One)) else {
+            return Ok(None);
+        };
+        let Some(lo) = number(self.register(Register::Two)) else {
+            return Ok(None);
+        };
+        let Some(hi) = number(self.register(Register::Three)) else {
+            return Ok(None);
+        };
+        let count = self.rows.count(Look { table, lo, hi });
+        let looked = self.with_range_look(table, lo, hi, hi)?;
+        Ok(Some(looked.answered(count as u64)))
+    }
+
+    /// Finds the row of the least key of an interval.
+    #[tactic(auto, unfolding(bpf_semantics::specs::Helpers::called, bpf_semantics::specs::Helpers::range_next, bpf_semantics::specs::Memory::and_then))]
+    fn range_next<B: Allocator>(
+        mut self,
+        alloc: A,
+        schema: &Schema<B>,
+    ) -> Result<Option<State<A>>, AllocError>
+        ensures { IfOk result (λ s.
+            option_map state_of s ≡ called schema.now RangeNext (state_of self)) }
+    {
+        let Some((table, width)) = table_of(schema, self.register(Register::One)) else {
+            return Ok(None);
+        };
+        let Some(lo) = number(self.register(Register::Two)) else {
+            return Ok(None);
+        };
+        let Some(hi) = number(self.register(Register::Three)) else {
+            return Ok(None);
+        };
+        let Some(key_buffer) = buffer_of(self.register(Register::Four), 8) else {
+            return Ok(None);
+        };
+        let Some(row_buffer) = buffer_of(self.register(Register::Five), width) else {
+            return Ok(None);
+        };
+        let (answer, last, key, row) = match self.rows.first(Look { table, lo, hi }) {
+            Some((key, row)) => (1, key.1, key.1, Vec::from_slice(alloc, row.as_slice())?),
+            None => (0, hi, 0, vec![in alloc; 0; width]?),
+        };
+        self.stack = overwritten(alloc, &self.stack, key_buffer, &key.to_le_bytes())?;
+        self.stack = overwritten(alloc, &self.stack, row_buffer, &row)?;
+        let looked = self.with_range_look(table, lo, hi, last)?;
+        Ok(Some(looked.answered(answer)))
+    }
+
+    /// Has the writes dropped at the end.
+    fn cancel(mut self) -> Option<State<A>>
+        ensures { (tables : Tables) → option_map state_of result ≡ called tables Cancel (state_of self) }
+    {
+        let code = number(self.register(Register::One))?;
+        self.cancelled = Some(code);
+        Some(self.answered(0))
+    }
+
+    /// The state after a call; none where it can't be made.
+    #[tactic(auto)]
+    pub(crate) fn called<B: Allocator>(
+        self,
+        alloc: A,
+        schema: &Schema<B>,
+        helper: Helper,
+    ) -> Result<Option<State<A>>, AllocError>
+        ensures { IfOk result (λ s. option_map state_of s ≡ called schema.now helper (state_of self)) }
+    {
+        match helper {
+            Helper::RowGet => self.row_get(alloc, schema),
+            Helper::RowPut => self.row_put(alloc, schema),
+            Helper::RowDelete => self.row_delete(alloc, schema),
+            Helper::RangeCount => self.range_count(schema),
+            Helper::RangeNext => self.range_next(alloc, schema),
+            Helper::Cancel => Ok(self.cancel()),
+        }
+    }
+}

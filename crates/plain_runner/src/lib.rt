@@ -1,0 +1,16 @@
+//! A plain runner of programs: it computes what `bpf_semantics` defines, slow and plain on purpose.
+#![tactic(auto)]
+
+pub use row::{Bytes, Keyed, Row, Write};
+pub use run::{CompletedRun, run_program};
+
+mod helpers;
+mod key_map;
+mod memory;
+mod row;
+mod run;
+mod state;
+mod step;
+#[cfg(test)]
+mod tests;
+mod value;

@@ -1,0 +1,348 @@
+//! One instruction, as the definitions say it.
+
+ghost use Rattle.std.specs.Prelude.{◌≡◌, ◌<◌, ◌^◌, IfOk};
+ghost use Rattle.std.specs.Int.{w64, cast_unsigned};
+ghost use Rattle.byteorder.specs.Endian.{little_bytes};
+ghost use Rattle.bpf_semantics.specs.State.{register, past, with_register};
+ghost use Rattle.bpf_semantics.specs.Memory.{size_bytes, written_at};
+ghost use Rattle.bpf_code.specs.declared.instruction.Instruction.TheVariants.{Load, StoreRegister};
+ghost use Rattle.bpf_code.specs.declared.instruction.Instruction.TheVariants.{Arithmetic, Negate};
+ghost use Rattle.bpf_code.specs.declared.instruction.Instruction.TheVariants.{MoveSignExtended};
+ghost use Rattle.bpf_code.specs.declared.instruction.Instruction.TheVariants.{End, Branch, Call};
+ghost use Rattle.bpf_code.specs.declared.instruction.Instruction.TheVariants.{Exit};
+ghost use Rattle.schema.specs.Schema.{Tables};
+ghost use Rattle.bpf_semantics.specs.Step.{jumped, with_result, with_stored, execute, step};
+ghost use Rattle.bpf_semantics.specs.Run.{go_on};
+ghost use Rattle.plain_runner.specs.Runner.{state_of, moment_of, steps_before};
+
+use crate::memory::{extended, little_number, load_bytes, read, size_bytes, written_at};
+use crate::state::State;
+use crate::value::{arithmetic, computed, holds, number};
+use bpf_code::{Code, Instruction, LoadKind, Register, SignExtendingMove, Size, Source, Width};
+use bpf_semantics::Value;
+use bpf_words::{BinaryOperation, ByteOrder, Condition, EndWidth, Operation, SignExtension, end};
+use schema::{Helper, Schema};
+use std::alloc::{AllocError, Allocator};
+
+/// The state after an instruction; the reply at EXIT, and the state there; or that there is no step.
+#[derive(Drop)]
+pub(crate) enum Moment<A: Allocator> {
+    Going(State<A>),
+    Ended(u64, State<A>),
+    Stuck,
+}
+
+#[tactic(auto, unfolding(bpf_semantics::specs::Step::execute, bpf_semantics::specs::Step::or_stuck, bpf_semantics::specs::Memory::and_then))]
+impl<A: Allocator + Copy> State<A> {
+    fn with_result(self, dst: Register, value: Value) -> Moment<A>
+        requires slot { self.slot < 2 ^ 32 }
+        requires steps { self.steps < 2 ^ 32 }
+        ensures { moment_of result ≡ with_result dst value (state_of self) }
+    {
+        Moment::Going(self.past(1).with_register(dst, value))
+    }
+
+    /// To the slot this far past the next one.
+    fn jumped(self, distance: i32) -> Moment<A>
+        requires slot { self.slot < 2 ^ 32 }
+        requires steps { self.steps < 2 ^ 32 }
+        ensures { moment_of result ≡ jumped distance (state_of self) }
+    {
+        match usize::try_from(distance) {
+            Ok(distance) => Moment::Going(self.past(1 + distance)),
+            Err(_) => Moment::Stuck,
+        }
+    }
+
+    fn load(
+        self,
+        alloc: A,
+        kind: LoadKind,
+        dst: Register,
+        src: Register,
+        offset: i16,
+    ) -> Result<Moment<A>, AllocError>
+        requires slot { self.slot < 2 ^ 32 }
+        requires steps { self.steps < 2 ^ 32 }
+        ensures { (tables : Tables) → IfOk result (λ m.
+            moment_of m ≡ execute tables (Load kind dst src offset) (state_of self)) }
+    {
+        let address = self.register(src);
+        let count = load_bytes(kind);
+        let Some(bytes) = read(alloc, &self.stack, &self.args, address, offset, count)? else {
+            return Ok(Moment::Stuck);
+        };
+        let number = extended(kind, little_number(&bytes));
+        Ok(self.with_result(dst, Value::Number(number)))
+    }
+
+    /// Stores the low bytes of a number.
+    fn store(
+        self,
+        alloc: A,
+        size: Size,
+        dst: Register,
+        offset: i16,
+        number: u64,
+    ) -> Result<Moment<A>, AllocError>
+        requires slot { self.slot < 2 ^ 32 }
+        requires steps { self.steps < 2 ^ 32 }
+        ensures { IfOk result (λ m.
+            moment_of m ≡ with_stored (written_at (state_of self).stack (register (state_of self) dst)
+            offset (little_bytes (size_bytes size) number)) (state_of self)) }
+    {
+        let bytes = number.to_le_bytes();
+        let bytes = &bytes[..size_bytes(size)];
+        match written_at(alloc, &self.stack, self.register(dst), offset, bytes)? {
+            Some(stack) => {
+                let mut next = self.past(1);
+                next.stack = stack;
+                Ok(Moment::Going(next))
+            }
+            None => Ok(Moment::Stuck),
+        }
+    }
+
+    fn store_register(
+        self,
+        alloc: A,
+        size: Size,
+        dst: Register,
+        src: Register,
+        offset: i16,
+    ) -> Result<Moment<A>, AllocError>
+        requires slot { self.slot < 2 ^ 32 }
+        requires steps { self.steps < 2 ^ 32 }
+        ensures { (tables : Tables) → IfOk result (λ m.
+            moment_of m ≡ execute tables (StoreRegister size dst src offset) (state_of self)) }
+    {
+        match number(self.register(src)) {
+            Some(number) => self.store(alloc, size, dst, offset, number),
+            None => Ok(Moment::Stuck),
+        }
+    }
+
+    fn arithmetic(
+        self,
+        width: Width,
+        op: BinaryOperation,
+        dst: Register,
+        source: Source,
+    ) -> Moment<A>
+        requires slot { self.slot < 2 ^ 32 }
+        requires steps { self.steps < 2 ^ 32 }
+        ensures { (tables : Tables) →
+            moment_of result ≡ execute tables (Arithmetic width op dst source) (state_of self) }
+    {
+        match computed(width, op, self.register(dst), self.operand(source)) {
+            Some(value) => self.with_result(dst, value),
+            None => Moment::Stuck,
+        }
+    }
+
+    fn negate(self, width: Width, dst: Register) -> Moment<A>
+        requires slot { self.slot < 2 ^ 32 }
+        requires steps { self.steps < 2 ^ 32 }
+        ensures { (tables : Tables) →
+            moment_of result ≡ execute tables (Negate width dst) (state_of self) }
+    {
+        match number(self.register(dst)) {
+            Some(a) => self.with_result(
+                dst,
+                Value::Number(arithmetic(width, Operation::Neg, a, 0)),
+            ),
+            None => Moment::Stuck,
+        }
+    }
+
+    fn move_sign_extended(self, kind: SignExtendingMove, dst: Register, src: Register) -> Moment<A>
+        requires slot { self.slot < 2 ^ 32 }
+        requires steps { self.steps < 2 ^ 32 }
+        ensures { (tables : Tables) →
+            moment_of result ≡ execute tables (MoveSignExtended kind dst src) (state_of self) }
+    {
+        let (width, low) = match kind {
+            SignExtendingMove::From8To32 => (Width::Bits32, SignExtension::From8),
+            SignExtendingMove::From16To32 => (Width::Bits32, SignExtension::From16),
+            SignExtendingMove::From8To64 => (Width::Bits64, SignExtension::From8),
+            SignExtendingMove::From16To64 => (Width::Bits64, SignExtension::From16),
+            SignExtendingMove::From32To64 => (Width::Bits64, SignExtension::From32),
+        };
+        match number(self.register(src)) {
+            Some(b) => {
+                let number = arithmetic(width, Operation::Movsx(low), 0, b);
+                self.with_result(dst, Value::Number(number))
+            }
+            None => Moment::Stuck,
+        }
+    }
+
+    fn end(self, order: ByteOrder, width: EndWidth, dst: Register) -> Moment<A>
+        requires slot { self.slot < 2 ^ 32 }
+        requires steps { self.steps < 2 ^ 32 }
+        ensures { (tables : Tables) →
+            moment_of result ≡ execute tables (End order width dst) (state_of self) }
+    {
+        match number(self.register(dst)) {
+            Some(a) => self.with_result(dst, Value::Number(end(order, width, a))),
+            None => Moment::Stuck,
+        }
+    }
+
+    fn branch(
+        self,
+        width: Width,
+        condition: Condition,
+        dst: Register,
+        source: Source,
+        distance: i16,
+    ) -> Moment<A>
+        requires slot { self.slot < 2 ^ 32 }
+        requires steps { self.steps < 2 ^ 32 }
+        ensures { (tables : Tables) → moment_of result
+            ≡ execute tables (Branch width condition dst source distance) (state_of self) }
+    {
+        let Some(a) = number(self.register(dst)) else {
+            return Moment::Stuck;
+        };
+        let Some(b) = number(self.operand(source)) else {
+            return Moment::Stuck;
+        };
+        if holds(width, condition, a, b) {
+            self.jumped(i32::from(distance))
+        } else {
+            Moment::Going(self.past(1))
+        }
+    }
+
+    fn call<B: Allocator>(
+        self,
+        alloc: A,
+        schema: &Schema<B>,
+        number: i32,
+    ) -> Result<Moment<A>, AllocError>
+        requires slot { self.slot < 2 ^ 32 }
+        requires steps { self.steps < 2 ^ 32 }
+        ensures { IfOk result (λ m.
+            moment_of m ≡ execute schema.now (Call number) (state_of self)) }
+    {
+        let Some(helper) = Helper::from_number(number) else {
+            return Ok(Moment::Stuck);
+        };
+        match self.called(alloc, schema, helper)? {
+            Some(next) => Ok(Moment::Going(next.past(1))),
+            None => Ok(Moment::Stuck),
+        }
+    }
+
+    fn exit(self) -> Moment<A>
+        requires slot { self.slot < 2 ^ 32 }
+        requires steps { self.steps < 2 ^ 32 }
+        ensures { (tables : Tables) → moment_of result ≡ execute tables Exit (state_of self) }
+    {
+        match number(self.register(Register::Zero)) {
+            Some(reply) => Moment::Ended(reply, self.past(0)),
+            None => Moment::Stuck,
+        }
+    }
+
+    /// One instruction.
+    fn execute<B: Allocator>(
+        self,
+        alloc: A,
+        schema: &Schema<B>,
+        instruction: Instruction,
+    ) -> Result<Moment<A>, AllocError>
+        requires slot { self.slot < 2 ^ 32 }
+        requires steps { self.steps < 2 ^ 32 }
+        ensures { IfOk result (λ m.
+            moment_of m ≡ execute schema.now instruction (state_of self)) }
+    {
+        match instruction {
+            Instruction::LoadWide { dst, value } => {
+                let next = self.past(2).with_register(dst, Value::Number(value));
+                Ok(Moment::Going(next))
+            }
+            Instruction::Load {
+                kind,
+                dst,
+                src,
+                offset,
+            } => { self.load(alloc, kind, dst, src, offset) }
+            Instruction::StoreImmediate {
+                size,
+                dst,
+                offset,
+                immediate,
+            } => {
+                let number = i64::from(immediate).cast_unsigned();
+                self.store(alloc, size, dst, offset, number)
+            }
+            Instruction::StoreRegister {
+                size,
+                dst,
+                src,
+                offset,
+            } => { self.store_register(alloc, size, dst, src, offset) }
+            Instruction::Arithmetic {
+                width,
+                operation,
+                dst,
+                source,
+            } => { Ok(self.arithmetic(width, operation, dst, source)) }
+            Instruction::Negate { width, dst } => Ok(self.negate(width, dst)),
+            Instruction::MoveSignExtended { kind, dst, src } => {
+                Ok(self.move_sign_extended(kind, dst, src))
+            }
+            Instruction::End { order, width, dst } => Ok(self.end(order, width, dst)),
+            Instruction::Jump { distance } => Ok(self.jumped(i32::from(distance))),
+            Instruction::LongJump { distance } => Ok(self.jumped(distance)),
+            Instruction::Branch {
+                width,
+                condition,
+                dst,
+                source,
+                distance,
+            } => { Ok(self.branch(width, condition, dst, source, distance)) }
+            Instruction::Call { helper } => self.call(alloc, schema, helper),
+            Instruction::Exit => Ok(self.exit()),
+        }
+    }
+
+    /// The instruction at the state's slot.
+    #[tactic(auto, unfolding(bpf_semantics::specs::Step::step, bpf_semantics::specs::Step::or_stuck))]
+    pub(crate) fn step<B: Allocator, C: Allocator>(
+        self,
+        alloc: A,
+        code: &Code<B>,
+        schema: &Schema<C>,
+    ) -> Result<Moment<A>, AllocError>
+        requires { self.steps < 2 ^ 32 }
+        ensures { IfOk result (λ m. moment_of m ≡ step code.now schema.now (state_of self)) }
+    {
+        match code.at(self.slot) {
+            Some(instruction) => self.execute(alloc, schema, instruction),
+            None => Ok(Moment::Stuck),
+        }
+    }
+}
+
+impl<A: Allocator + Copy> Moment<A> {
+    /// A step further, unless the run has ended or is stuck.
+    pub(crate) fn next<B: Allocator, C: Allocator>(
+        self,
+        alloc: A,
+        code: &Code<B>,
+        schema: &Schema<C>,
+    ) -> Result<Moment<A>, AllocError>
+        requires { steps_before (moment_of self) < 2 ^ 32 }
+        ensures { IfOk result (λ m.
+            moment_of m ≡ go_on (step code.now schema.now) (moment_of self)) }
+    {
+        match self {
+            Moment::Going(state) => state.step(alloc, code, schema),
+            Moment::Ended(reply, state) => Ok(Moment::Ended(reply, state)),
+            Moment::Stuck => Ok(Moment::Stuck),
+        }
+    }
+}

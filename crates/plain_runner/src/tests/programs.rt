@@ -1,0 +1,626 @@
+//! Whole programs, with what comes of them.
+
+use super::{TABLES, run};
+use crate::{CompletedRun, Row, run_program};
+use bpf_code::decode;
+use scarce::Scarce;
+use schema::Schema;
+use std::alloc::{AllocError, Allocator, Global};
+use std::fmt::Write as _;
+use std::test::Fail;
+
+/// A program in hex, its arguments, the rows before it (table, key and value), and what comes of it:
+/// the reply and how many instructions were run, then the looks, the writes, the cancel code and the
+/// rows.
+struct Case {
+    program: &'static str,
+    args: &'static [u64],
+    rows: &'static [(u8, u64, u64)],
+    outcome: &'static str,
+}
+
+/// Adds to the row at a key: the arguments are key and amount.
+const ADD: &str = "7916000000000000 7917080000000000 b701000001000000 bf62000000000000 \
+    bfa3000000000000 07030000f8ffffff 8500000001000000 79a8f8ff00000000 \
+    0f78000000000000 7b8af8ff00000000 b701000001000000 bf62000000000000 \
+    bfa3000000000000 07030000f8ffffff 8500000002000000 bf80000000000000 \
+    9500000000000000";
+
+/// Gets the rows at two keys and puts 1 at the first.
+const SKEW: &str = "7916000000000000 7917080000000000 b701000001000000 bf62000000000000 \
+    bfa3000000000000 07030000f8ffffff 8500000001000000 b701000001000000 \
+    bf72000000000000 bfa3000000000000 07030000f0ffffff 8500000001000000 \
+    7a0af8ff01000000 b701000001000000 bf62000000000000 bfa3000000000000 \
+    07030000f8ffffff 8500000002000000 9500000000000000";
+
+/// Puts a value at a key.
+const PUT: &str = "7912000000000000 7914080000000000 7b4af8ff00000000 bfa3000000000000 \
+    07030000f8ffffff b701000001000000 8500000002000000 9500000000000000";
+
+/// Counts the rows from lo to hi, puts the count at a key and replies it.
+const COUNT: &str = "7916100000000000 7912000000000000 7913080000000000 b701000001000000 \
+    8500000004000000 bf07000000000000 7b7af8ff00000000 b701000001000000 \
+    bf62000000000000 bfa3000000000000 07030000f8ffffff 8500000002000000 \
+    bf70000000000000 9500000000000000";
+
+/// Puts the first row from lo to hi at a key, and replies the key that was found.
+const NEXT: &str = "7916100000000000 7912000000000000 7913080000000000 bfa4000000000000 \
+    07040000f8ffffff bfa5000000000000 07050000f0ffffff b701000001000000 \
+    8500000005000000 b701000001000000 bf62000000000000 bfa3000000000000 \
+    07030000f0ffffff 8500000002000000 79a0f8ff00000000 9500000000000000";
+
+/// Removes the row at a key.
+const DELETE: &str = "7912000000000000 b701000001000000 8500000003000000 9500000000000000";
+
+/// PUT that cancels with code 9 before its end.
+const PUT_AND_CANCEL: &str = "7912000000000000 7914080000000000 7b4af8ff00000000 bfa3000000000000 \
+    07030000f8ffffff b701000001000000 8500000002000000 b701000009000000 \
+    8500000006000000 9500000000000000";
+
+/// PUT that is stuck before its end, where it reads r9, which holds nothing.
+const PUT_AND_STICK: &str = "7912000000000000 7914080000000000 7b4af8ff00000000 bfa3000000000000 \
+    07030000f8ffffff b701000001000000 8500000002000000 bf90000000000000 \
+    9500000000000000";
+
+/// Adds 1 to the row of table 2 at key 5.
+const INCREMENT: &str = "b702000005000000 bfa3000000000000 07030000feffffff b701000002000000 \
+    8500000001000000 69a8feff00000000 0708000001000000 6b8afeff00000000 \
+    b702000005000000 bfa3000000000000 07030000feffffff b701000002000000 \
+    8500000002000000 bf80000000000000 9500000000000000";
+
+/// Replies eight bytes of the arguments at the place that the first word gives, or 0 from 249 on.
+const INDEX: &str = "7912000000000000 25020300f8000000 0f21000000000000 7910000000000000 \
+    9500000000000000 b700000000000000 9500000000000000";
+
+/// The same, but 0 only from 250 on.
+const INDEX_TOO_FAR: &str = "7912000000000000 25020300f9000000 0f21000000000000 7910000000000000 \
+    9500000000000000 b700000000000000 9500000000000000";
+
+static CASES: [Case; 57] = [
+    Case {
+        program: "b700000001000000 9500000000000000",
+        args: &[],
+        rows: &[],
+        outcome: "1 in 2",
+    },
+    Case {
+        program: ADD,
+        args: &[5, 7],
+        rows: &[],
+        outcome: "7 in 17 look 1:5-5 put 1:5=0700000000000000 row 1:5=0700000000000000",
+    },
+    Case {
+        program: SKEW,
+        args: &[2, 1],
+        rows: &[],
+        outcome: "0 in 19 look 1:2-2 look 1:1-1 put 1:2=0100000000000000 row 1:2=0100000000000000",
+    },
+    Case {
+        program: PUT,
+        args: &[7, 1],
+        rows: &[],
+        outcome: "0 in 8 put 1:7=0100000000000000 row 1:7=0100000000000000",
+    },
+    Case {
+        program: PUT,
+        args: &[12, 1],
+        rows: &[],
+        outcome: "0 in 8 put 1:12=0100000000000000 row 1:12=0100000000000000",
+    },
+    Case {
+        program: PUT,
+        args: &[15, 9],
+        rows: &[],
+        outcome: "0 in 8 put 1:15=0900000000000000 row 1:15=0900000000000000",
+    },
+    Case {
+        program: NEXT,
+        args: &[10, 20, 101],
+        rows: &[(1, 12, 1)],
+        outcome: "12 in 16 look 1:10-12 put 1:101=0100000000000000 row 1:12=0100000000000000 \
+            row 1:101=0100000000000000",
+    },
+    Case {
+        program: ADD,
+        args: &[5, 10],
+        rows: &[],
+        outcome: "10 in 17 look 1:5-5 put 1:5=0a00000000000000 row 1:5=0a00000000000000",
+    },
+    Case {
+        program: ADD,
+        args: &[5, 7],
+        rows: &[(1, 5, 10)],
+        outcome: "17 in 17 look 1:5-5 put 1:5=1100000000000000 row 1:5=1100000000000000",
+    },
+    Case {
+        program: SKEW,
+        args: &[1, 2],
+        rows: &[],
+        outcome: "0 in 19 look 1:1-1 look 1:2-2 put 1:1=0100000000000000 row 1:1=0100000000000000",
+    },
+    Case {
+        program: SKEW,
+        args: &[2, 1],
+        rows: &[(1, 1, 1)],
+        outcome: "0 in 19 look 1:2-2 look 1:1-1 put 1:2=0100000000000000 row 1:1=0100000000000000 \
+            row 1:2=0100000000000000",
+    },
+    Case {
+        program: PUT,
+        args: &[7, 2],
+        rows: &[(1, 7, 1)],
+        outcome: "0 in 8 put 1:7=0200000000000000 row 1:7=0200000000000000",
+    },
+    // An empty range looks at nothing.
+    Case {
+        program: COUNT,
+        args: &[20, 10, 100],
+        rows: &[(1, 15, 9)],
+        outcome: "0 in 14 put 1:100=0000000000000000 row 1:15=0900000000000000 row 1:100=0000000000000000",
+    },
+    // Where nothing stands the whole range is looked at.
+    Case {
+        program: COUNT,
+        args: &[10, 20, 100],
+        rows: &[],
+        outcome: "0 in 14 look 1:10-20 put 1:100=0000000000000000 row 1:100=0000000000000000",
+    },
+    Case {
+        program: COUNT,
+        args: &[10, 20, 100],
+        rows: &[(1, 12, 1)],
+        outcome: "1 in 14 look 1:10-20 put 1:100=0100000000000000 row 1:12=0100000000000000 \
+            row 1:100=0100000000000000",
+    },
+    // The ends of a range are in it.
+    Case {
+        program: COUNT,
+        args: &[10, 20, 100],
+        rows: &[(1, 9, 1), (1, 10, 1), (1, 20, 1), (1, 21, 1)],
+        outcome: "2 in 14 look 1:10-20 put 1:100=0200000000000000 row 1:9=0100000000000000 \
+            row 1:10=0100000000000000 row 1:20=0100000000000000 row 1:21=0100000000000000 \
+            row 1:100=0200000000000000",
+    },
+    // What was found ends the look.
+    Case {
+        program: NEXT,
+        args: &[10, 20, 101],
+        rows: &[(1, 12, 1), (1, 15, 9)],
+        outcome: "12 in 16 look 1:10-12 put 1:101=0100000000000000 row 1:12=0100000000000000 \
+            row 1:15=0900000000000000 row 1:101=0100000000000000",
+    },
+    Case {
+        program: NEXT,
+        args: &[10, 20, 101],
+        rows: &[(1, 9, 3), (1, 21, 4)],
+        outcome: "0 in 16 look 1:10-20 put 1:101=0000000000000000 row 1:9=0300000000000000 \
+            row 1:21=0400000000000000 row 1:101=0000000000000000",
+    },
+    Case {
+        program: NEXT,
+        args: &[20, 10, 101],
+        rows: &[(1, 15, 9)],
+        outcome: "0 in 16 put 1:101=0000000000000000 row 1:15=0900000000000000 row 1:101=0000000000000000",
+    },
+    Case {
+        program: DELETE,
+        args: &[9],
+        rows: &[],
+        outcome: "0 in 4 remove 1:9",
+    },
+    Case {
+        program: DELETE,
+        args: &[9],
+        rows: &[(1, 8, 1), (1, 9, 2)],
+        outcome: "0 in 4 remove 1:9 row 1:8=0100000000000000",
+    },
+    // A call that cancelled has no writes, and the rows stay as they were.
+    Case {
+        program: PUT_AND_CANCEL,
+        args: &[7, 2],
+        rows: &[],
+        outcome: "0 in 10 cancelled 9",
+    },
+    Case {
+        program: PUT_AND_CANCEL,
+        args: &[7, 2],
+        rows: &[(1, 7, 1)],
+        outcome: "0 in 10 cancelled 9 row 1:7=0100000000000000",
+    },
+    // A run that is stuck after a write has no outcome.
+    Case {
+        program: PUT_AND_STICK,
+        args: &[7, 2],
+        rows: &[],
+        outcome: "stuck",
+    },
+    // What it looked at stays.
+    Case {
+        program: "7916000000000000 7917080000000000 b701000001000000 bf62000000000000 \
+            bfa3000000000000 07030000f8ffffff 8500000001000000 79a8f8ff00000000 \
+            0f78000000000000 7b8af8ff00000000 b701000001000000 bf62000000000000 \
+            bfa3000000000000 07030000f8ffffff 8500000002000000 bf80000000000000 \
+            b701000009000000 8500000006000000 b700000000000000 9500000000000000",
+        args: &[5, 10],
+        rows: &[(1, 5, 1)],
+        outcome: "0 in 20 look 1:5-5 cancelled 9 row 1:5=0100000000000000",
+    },
+    // The last code counts.
+    Case {
+        program: "b701000001000000 8500000006000000 b701000002000000 8500000006000000 \
+            9500000000000000",
+        args: &[],
+        rows: &[],
+        outcome: "0 in 5 cancelled 2",
+    },
+    // A get of a key that was put or removed before is no look.
+    Case {
+        program: "7a0af8ff03000000 b702000005000000 bfa3000000000000 07030000f8ffffff \
+            b701000001000000 8500000002000000 b702000005000000 bfa3000000000000 \
+            07030000f0ffffff b701000001000000 8500000001000000 79a0f0ff00000000 \
+            9500000000000000",
+        args: &[],
+        rows: &[(1, 5, 1)],
+        outcome: "3 in 13 put 1:5=0300000000000000 row 1:5=0300000000000000",
+    },
+    Case {
+        program: "b702000005000000 b701000001000000 8500000003000000 b702000005000000 \
+            bfa3000000000000 07030000f0ffffff b701000001000000 8500000001000000 \
+            9500000000000000",
+        args: &[],
+        rows: &[(1, 5, 1)],
+        outcome: "0 in 9 remove 1:5",
+    },
+    // A get before its key is written is a look, and repeats are kept.
+    Case {
+        program: "b702000005000000 bfa3000000000000 07030000f0ffffff b701000001000000 \
+            8500000001000000 b702000005000000 bfa3000000000000 07030000f0ffffff \
+            b701000001000000 8500000001000000 7a0af8ff03000000 b702000005000000 \
+            bfa3000000000000 07030000f8ffffff b701000001000000 8500000002000000 \
+            b702000005000000 bfa3000000000000 07030000f0ffffff b701000001000000 \
+            8500000001000000 9500000000000000",
+        args: &[],
+        rows: &[(1, 5, 1)],
+        outcome: "1 in 22 look 1:5-5 look 1:5-5 put 1:5=0300000000000000 row 1:5=0300000000000000",
+    },
+    // A count sees what was written, and looks there.
+    Case {
+        program: "7a0af8ff03000000 b702000005000000 bfa3000000000000 07030000f8ffffff \
+            b701000001000000 8500000002000000 b702000001000000 b703000009000000 \
+            b701000001000000 8500000004000000 9500000000000000",
+        args: &[],
+        rows: &[(1, 5, 1), (1, 6, 1)],
+        outcome: "2 in 11 look 1:1-9 put 1:5=0300000000000000 row 1:5=0300000000000000 row 1:6=0100000000000000",
+    },
+    // The last write of a key stands.
+    Case {
+        program: "7a0af8ff03000000 b702000005000000 bfa3000000000000 07030000f8ffffff \
+            b701000001000000 8500000002000000 7a0af8ff04000000 b702000005000000 \
+            bfa3000000000000 07030000f8ffffff b701000001000000 8500000002000000 \
+            9500000000000000",
+        args: &[],
+        rows: &[],
+        outcome: "0 in 13 put 1:5=0400000000000000 row 1:5=0400000000000000",
+    },
+    Case {
+        program: "7a0af8ff03000000 b702000005000000 bfa3000000000000 07030000f8ffffff \
+            b701000001000000 8500000002000000 b702000005000000 b701000001000000 \
+            8500000003000000 9500000000000000",
+        args: &[],
+        rows: &[(1, 5, 1)],
+        outcome: "0 in 10 remove 1:5",
+    },
+    // The row buffer is written after the key buffer.
+    Case {
+        program: "b70200000a000000 b703000014000000 bfa4000000000000 07040000f8ffffff \
+            bfa5000000000000 07050000f8ffffff b701000001000000 8500000005000000 \
+            79a0f8ff00000000 9500000000000000",
+        args: &[],
+        rows: &[(1, 12, 1)],
+        outcome: "1 in 10 look 1:10-12 row 1:12=0100000000000000",
+    },
+    // A next replies whether there was a row.
+    Case {
+        program: "b70200000a000000 b703000014000000 bfa4000000000000 07040000f8ffffff \
+            bfa5000000000000 07050000f0ffffff b701000001000000 8500000005000000 \
+            9500000000000000",
+        args: &[],
+        rows: &[(1, 9, 1), (1, 12, 1)],
+        outcome: "1 in 9 look 1:10-12 row 1:9=0100000000000000 row 1:12=0100000000000000",
+    },
+    // A jump over the reading of a register that holds nothing, and one that isn't taken.
+    Case {
+        program: "b700000001000000 1500010001000000 bf60000000000000 9500000000000000",
+        args: &[],
+        rows: &[],
+        outcome: "1 in 3",
+    },
+    Case {
+        program: "b700000001000000 1500010002000000 bf60000000000000 9500000000000000",
+        args: &[],
+        rows: &[],
+        outcome: "stuck",
+    },
+    // A load at a place that the arguments give, unless it is too far.
+    Case {
+        program: "7912000000000000 2502030008000000 0f21000000000000 7910000000000000 \
+            9500000000000000 b700000000000000 9500000000000000",
+        args: &[8, 7],
+        rows: &[],
+        outcome: "7 in 5",
+    },
+    Case {
+        program: "7912000000000000 2502030008000000 0f21000000000000 7910000000000000 \
+            9500000000000000 b700000000000000 9500000000000000",
+        args: &[9, 7],
+        rows: &[],
+        outcome: "0 in 4",
+    },
+    // A wide load is one instruction.
+    Case {
+        program: "0500000000000000 1800000001000000 0000000000000000 9500000000000000",
+        args: &[],
+        rows: &[],
+        outcome: "1 in 3",
+    },
+    // Rows are taken in any order, and the last at a key stands.
+    Case {
+        program: "b700000000000000 9500000000000000",
+        args: &[],
+        rows: &[(1, 12, 1), (1, 5, 2), (1, 12, 3)],
+        outcome: "0 in 2 row 1:5=0200000000000000 row 1:12=0300000000000000",
+    },
+    // A count and a next stay within their table, and rows come out by table and then by key.
+    Case {
+        program: COUNT,
+        args: &[10, 20, 100],
+        rows: &[(2, 13, 5), (1, 12, 1)],
+        outcome: "1 in 14 look 1:10-20 put 1:100=0100000000000000 row 1:12=0100000000000000 row 1:100=0100000000000000 \
+            row 2:13=0500",
+    },
+    Case {
+        program: NEXT,
+        args: &[10, 20, 101],
+        rows: &[(2, 11, 5), (1, 12, 1)],
+        outcome: "12 in 16 look 1:10-12 put 1:101=0100000000000000 row 1:12=0100000000000000 \
+            row 1:101=0100000000000000 row 2:11=0500",
+    },
+    Case {
+        program: NEXT,
+        args: &[10, 20, 101],
+        rows: &[(2, 11, 5)],
+        outcome: "0 in 16 look 1:10-20 put 1:101=0000000000000000 row 1:101=0000000000000000 row 2:11=0500",
+    },
+    Case {
+        program: "b70200000a000000 b703000014000000 b701000002000000 8500000004000000 \
+            9500000000000000",
+        args: &[],
+        rows: &[(1, 12, 1), (2, 11, 5), (1, 13, 1), (2, 20, 6), (1, 14, 1)],
+        outcome: "2 in 5 look 2:10-20 row 1:12=0100000000000000 row 1:13=0100000000000000 row 1:14=0100000000000000 \
+            row 2:11=0500 row 2:20=0600",
+    },
+    // A next of table 2 writes two bytes, and no more.
+    Case {
+        program: "b70200000a000000 b703000014000000 bfa4000000000000 07040000f8ffffff \
+            bfa5000000000000 07050000f0ffffff b701000002000000 8500000005000000 \
+            69a0f0ff00000000 9500000000000000",
+        args: &[],
+        rows: &[(1, 11, 1), (2, 13, 1541)],
+        outcome: "1541 in 10 look 2:10-13 row 1:11=0100000000000000 row 2:13=0506",
+    },
+    Case {
+        program: "b70200000a000000 b703000014000000 bfa4000000000000 07040000f8ffffff \
+            bfa5000000000000 07050000f0ffffff b701000002000000 8500000005000000 \
+            61a0f0ff00000000 9500000000000000",
+        args: &[],
+        rows: &[(2, 13, 1541)],
+        outcome: "stuck",
+    },
+    // Its key has eight bytes.
+    Case {
+        program: "b70200000a000000 b703000014000000 bfa4000000000000 07040000f8ffffff \
+            bfa5000000000000 07050000f0ffffff b701000002000000 8500000005000000 \
+            79a0f8ff00000000 9500000000000000",
+        args: &[],
+        rows: &[(1, 11, 1), (2, 13, 1541)],
+        outcome: "13 in 10 look 2:10-13 row 1:11=0100000000000000 row 2:13=0506",
+    },
+    // A get of table 2 after a put at the same key of table 1 is a look.
+    Case {
+        program: "7a0af8ff03000000 b702000005000000 bfa3000000000000 07030000f8ffffff \
+            b701000001000000 8500000002000000 b702000005000000 bfa3000000000000 \
+            07030000f0ffffff b701000002000000 8500000001000000 9500000000000000",
+        args: &[],
+        rows: &[(2, 5, 9)],
+        outcome: "1 in 12 look 2:5-5 put 1:5=0300000000000000 row 1:5=0300000000000000 row 2:5=0900",
+    },
+    // A row of table 2 has two bytes, which are read and written: one is added to it.
+    Case {
+        program: INCREMENT,
+        args: &[],
+        rows: &[(2, 5, 511)],
+        outcome: "512 in 15 look 2:5-5 put 2:5=0002 row 2:5=0002",
+    },
+    Case {
+        program: INCREMENT,
+        args: &[],
+        rows: &[(1, 5, 7)],
+        outcome: "1 in 15 look 2:5-5 put 2:5=0100 row 1:5=0700000000000000 row 2:5=0100",
+    },
+    // A table that the schema doesn't have keeps its rows, and nothing reaches them.
+    Case {
+        program: "b700000000000000 9500000000000000",
+        args: &[],
+        rows: &[(9, 3, 4), (2, 1, 1), (1, 9, 2)],
+        outcome: "0 in 2 row 1:9=0200000000000000 row 2:1=0100 row 9:3=0400000000000000",
+    },
+    Case {
+        program: PUT,
+        args: &[3, 1],
+        rows: &[(9, 3, 4)],
+        outcome: "0 in 8 put 1:3=0100000000000000 row 1:3=0100000000000000 row 9:3=0400000000000000",
+    },
+    Case {
+        program: "b702000003000000 b701000009000000 8500000003000000 9500000000000000",
+        args: &[],
+        rows: &[(9, 3, 4)],
+        outcome: "stuck",
+    },
+    // After a cancel a get still reads what was put and is no look, and a later put is dropped too.
+    Case {
+        program: "7a0af8ff03000000 b702000005000000 bfa3000000000000 07030000f8ffffff \
+            b701000001000000 8500000002000000 b701000009000000 8500000006000000 \
+            b702000005000000 bfa3000000000000 07030000f0ffffff b701000001000000 \
+            8500000001000000 79a8f0ff00000000 7a0af8ff04000000 b702000006000000 \
+            bfa3000000000000 07030000f8ffffff b701000001000000 8500000002000000 \
+            bf80000000000000 9500000000000000",
+        args: &[],
+        rows: &[(1, 5, 1)],
+        outcome: "3 in 22 cancelled 9 row 1:5=0100000000000000",
+    },
+    // A next finds a row that the run put, and none that it removed. Key and row are added.
+    Case {
+        program: "7a0af8ff03000000 b70200000c000000 bfa3000000000000 07030000f8ffffff \
+            b701000001000000 8500000002000000 b70200000a000000 b703000014000000 \
+            bfa4000000000000 07040000f0ffffff bfa5000000000000 07050000e8ffffff \
+            b701000001000000 8500000005000000 79a0f0ff00000000 79a6e8ff00000000 \
+            0f60000000000000 9500000000000000",
+        args: &[],
+        rows: &[(1, 13, 9)],
+        outcome: "15 in 18 look 1:10-12 put 1:12=0300000000000000 row 1:12=0300000000000000 row 1:13=0900000000000000",
+    },
+    Case {
+        program: "b70200000c000000 b701000001000000 8500000003000000 b70200000a000000 \
+            b703000014000000 bfa4000000000000 07040000f0ffffff bfa5000000000000 \
+            07050000e8ffffff b701000001000000 8500000005000000 79a0f0ff00000000 \
+            79a6e8ff00000000 0f60000000000000 9500000000000000",
+        args: &[],
+        rows: &[(1, 12, 1), (1, 13, 9)],
+        outcome: "22 in 15 look 1:10-13 remove 1:12 row 1:13=0900000000000000",
+    },
+    // A count leaves out what the run removed, and looks there.
+    Case {
+        program: "b702000005000000 b701000001000000 8500000003000000 b702000001000000 \
+            b703000009000000 b701000001000000 8500000004000000 9500000000000000",
+        args: &[],
+        rows: &[(1, 5, 1), (1, 6, 1)],
+        outcome: "1 in 8 look 1:1-9 remove 1:5 row 1:6=0100000000000000",
+    },
+];
+
+/// The bytes of a program in hex.
+fn bytes_of(alloc: Global, hex: &str) -> Result<Vec<u8>, Fail> {
+    let mut bytes = Vec::new(alloc);
+    for slot in hex.split_whitespace() {
+        bytes.extend_from_slice(&hex::decode(alloc, slot)?)?;
+    }
+    Ok(bytes)
+}
+
+/// What came of a run, in a line.
+fn described(alloc: Global, run: Option<&CompletedRun>) -> Result<String, Fail> {
+    let Some(run) = run else {
+        return Ok(String::from_str(alloc, "stuck")?);
+    };
+    let mut text = format!(in alloc; "{} in {}", run.reply(), run.steps())?;
+    for look in run.looks() {
+        write!(text, " look {}:{}-{}", look.table, look.lo, look.hi)?;
+    }
+    for write in run.writes() {
+        match write.bytes() {
+            Some(bytes) => {
+                let bytes = hex::encode(alloc, bytes)?;
+                write!(text, " put {}:{}={bytes}", write.table(), write.key())?;
+            }
+            None => write!(text, " remove {}:{}", write.table(), write.key())?,
+        }
+    }
+    if let Some(code) = run.cancelled() {
+        write!(text, " cancelled {code}")?;
+    }
+    for row in run.rows() {
+        let bytes = hex::encode(alloc, row.bytes())?;
+        write!(text, " row {}:{}={bytes}", row.table(), row.key())?;
+    }
+    Ok(text)
+}
+
+#[test]
+fn programs_do_what_they_are_to_do(rt: HostRuntime) -> Result<(), Fail> {
+    let alloc = rt.alloc();
+    for case in &CASES {
+        let mut args = Vec::new(alloc);
+        for word in case.args {
+            args.extend_from_slice(&word.to_le_bytes())?;
+        }
+        let found = run(alloc, &bytes_of(alloc, case.program)?, &args, case.rows)?;
+        let text = described(alloc, found.as_ref())?;
+        assert_eq!(rt; text.as_str(), case.outcome, "{}", case.program);
+    }
+    Ok(())
+}
+
+#[test]
+fn arguments_end_at_their_last_byte(rt: HostRuntime) -> Result<(), Fail> {
+    let alloc = rt.alloc();
+    for (program, first, outcome) in [
+        (INDEX, 248u64, "31 in 5"),
+        (INDEX, 249, "0 in 4"),
+        (INDEX_TOO_FAR, 248, "31 in 5"),
+        (INDEX_TOO_FAR, 249, "stuck"),
+        (INDEX_TOO_FAR, 250, "0 in 4"),
+    ] {
+        // 256 bytes: the first word, and then each word its number.
+        let mut args = Vec::from_slice(alloc, &first.to_le_bytes())?;
+        for word in 1..32u64 {
+            args.extend_from_slice(&word.to_le_bytes())?;
+        }
+        let found = run(alloc, &bytes_of(alloc, program)?, &args, &[])?;
+        let text = described(alloc, found.as_ref())?;
+        assert_eq!(rt; text.as_str(), outcome, "{program} {first}");
+    }
+    Ok(())
+}
+
+/// Programs to be run with little memory: the key of the row that stands, of arguments that begin
+/// with 10, and whether the program gets to its end.
+const SCARCE: [(&str, u64, bool); 12] = [
+    (ADD, 12, true),
+    (ADD, 10, true),
+    (SKEW, 12, true),
+    (PUT, 12, true),
+    (PUT, 10, true),
+    (COUNT, 12, true),
+    (NEXT, 12, true),
+    (NEXT, 21, true),
+    (DELETE, 12, true),
+    (DELETE, 10, true),
+    (PUT_AND_CANCEL, 12, true),
+    (PUT_AND_STICK, 12, false),
+];
+
+#[test]
+fn each_refused_growth_is_want_of_memory(rt: HostRuntime) -> Result<(), Fail> {
+    let alloc = rt.alloc();
+    let schema = Schema::new(alloc, &TABLES)?;
+    let args = [
+        10, 0, 0, 0, 0, 0, 0, 0, 20, 0, 0, 0, 0, 0, 0, 0, 101, 0, 0, 0, 0, 0, 0, 0,
+    ];
+    for (program, key, ends) in SCARCE {
+        let code = decode(alloc, &bytes_of(alloc, program)?)?;
+        let row = Row::new(1, key, Vec::from_slice(alloc, &[1; 8])?);
+        let rows = [row];
+        let scarce = Scarce::new(alloc);
+        let succeeds = || match run_program(&scarce, &code, &schema, &args, &rows) {
+            Ok(run) => {
+                assert_eq!(rt; run.is_some(), ends);
+                true
+            }
+            Err(AllocError) => false,
+        };
+        assert!(rt; succeeds());
+        let growths = scarce.growths();
+        assert_eq!(rt; scarce.refuse_each(succeeds), Some(growths));
+    }
+    Ok(())
+}

@@ -1,0 +1,96 @@
+//! What operations give on values.
+
+ghost use Rattle.std.specs.Prelude.{◌≡◌, ◌≤◌, ◌^◌, unsigned_abs};
+ghost use Rattle.bpf_words.specs.Operation.{alu};
+ghost use Rattle.bpf_words.specs.Condition.{holds};
+ghost use Rattle.bpf_semantics.specs.declared.value.Value.TheVariants.{Number};
+ghost use Rattle.bpf_semantics.specs.State.{number};
+ghost use Rattle.bpf_semantics.specs.Step.{width_bits, near, moved, computed};
+
+use bpf_code::Width;
+use bpf_semantics::Value;
+use bpf_words::{BinaryOperation, Condition, Operation, alu32, alu64, holds32, holds64};
+
+/// The number, where the value is one.
+pub(crate) fn number(value: Value) -> Option<u64>
+    ensures { result ≡ number value }
+{
+    match value {
+        Value::Number(n) => Some(n),
+        _ => None,
+    }
+}
+
+/// The place so far on; none where the value isn't a place, or that is too far away.
+fn moved(value: Value, distance: i128) -> Option<Value>
+    requires { unsigned_abs distance ≤ 2 ^ 64 }
+    ensures { result ≡ moved value distance }
+{
+    match value {
+        Value::Stack(place) => near(i128::from(place) + distance).map(Value::Stack),
+        Value::Args(place) => near(i128::from(place) + distance).map(Value::Args),
+        _ => None,
+    }
+}
+
+/// The place, where it isn't too far away.
+fn near(place: i128) -> Option<i32>
+    ensures { result ≡ near place }
+{
+    if (-65_536..=65_536).contains(&place) {
+        Some(place as i32)
+    } else {
+        None
+    }
+}
+
+/// What an operation gives on two values; none where it has no step.
+#[tactic(auto, unfolding(bpf_semantics::specs::Step::computed))]
+pub(crate) fn computed(width: Width, op: BinaryOperation, a: Value, b: Value) -> Option<Value>
+    ensures { result ≡ computed width op a b }
+{
+    match b {
+        Value::Number(b) => with_number(width, op, a, b),
+        Value::Stack(_) | Value::Args(_) => match (width, op) {
+            (Width::Bits64, BinaryOperation::Mov) => Some(b),
+            _ => None,
+        },
+        Value::Nothing => None,
+    }
+}
+
+/// The same where the second value is a number.
+#[tactic(auto, using(crate::proofs::RunnerLemmas::computed_numbers), unfolding(bpf_semantics::specs::Step::computed))]
+fn with_number(width: Width, op: BinaryOperation, a: Value, b: u64) -> Option<Value>
+    ensures { result ≡ computed width op a (Number b) }
+{
+    match (a, width, op) {
+        (Value::Number(a), _, _) => {
+            Some(Value::Number(arithmetic(width, Operation::Binary(op), a, b)))
+        }
+        (_, _, BinaryOperation::Mov) => {
+            Some(Value::Number(arithmetic(width, Operation::Binary(op), 0, b)))
+        }
+        (_, Width::Bits64, BinaryOperation::Add) => moved(a, i128::from(b.cast_signed())),
+        (_, Width::Bits64, BinaryOperation::Sub) => moved(a, -i128::from(b.cast_signed())),
+        _ => None,
+    }
+}
+
+pub(crate) fn arithmetic(width: Width, op: Operation, a: u64, b: u64) -> u64
+    ensures { result ≡ alu (width_bits width) op a b }
+{
+    match width {
+        Width::Bits32 => alu32(op, a, b),
+        Width::Bits64 => alu64(op, a, b),
+    }
+}
+
+pub(crate) fn holds(width: Width, condition: Condition, a: u64, b: u64) -> bool
+    ensures { result ≡ holds (width_bits width) condition a b }
+{
+    match width {
+        Width::Bits32 => holds32(condition, a, b),
+        Width::Bits64 => holds64(condition, a, b),
+    }
+}
