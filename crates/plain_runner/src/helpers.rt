@@ -5,7 +5,7 @@ ghost use Rattle.bpf_semantics.specs.declared.value.Value.TheVariants.{Nothing, 
 ghost use Rattle.schema.specs.Schema.{Tables};
 ghost use Rattle.schema.specs.declared.helper.Helper.TheVariants.{RowGet, RowPut, RowDelete, RangeCount, RangeNext, Cancel};
 ghost use Rattle.bpf_semantics.specs.Helpers.{Table, table_of, answered, with_point_look};
-ghost use Rattle.bpf_semantics.specs.Helpers.{with_range_look, wrote, flag, row_or_zeros, called};
+ghost use Rattle.bpf_semantics.specs.Helpers.{with_range_look, wrote, row_get, row_put, range_next, called};
 ghost use Rattle.plain_runner.specs.Runner.{state_of};
 
 use crate::memory::{buffer_of, known_from, overwritten};
@@ -92,9 +92,8 @@ impl<A: Allocator + Copy> State<A> {
     }
 
     /// Gets a row.
-    #[tactic(auto, unfolding(bpf_semantics::specs::Helpers::called, bpf_semantics::specs::Helpers::row_get, bpf_semantics::specs::Memory::and_then))]
     fn row_get<B: Allocator>(
-        mut self,
+        self,
         alloc: A,
         schema: &Schema<B>,
     ) -> Result<Option<State<A>>, AllocError>
@@ -106,7 +105,24 @@ impl<A: Allocator + Copy> State<A> {
         let Some(key) = number(self.register(Register::Two)) else {
             return Ok(None);
         };
-        let Some(buffer) = buffer_of(self.register(Register::Three), width) else {
+        let to = self.register(Register::Three);
+        self.row_read(alloc, table, width, key, to)
+    }
+
+    /// The buffer gets a row of this width, or zeros.
+    #[tactic(auto, unfolding(bpf_semantics::specs::Helpers::row_get, bpf_semantics::specs::Memory::and_then))]
+    fn row_read(
+        mut self,
+        alloc: A,
+        table: u8,
+        width: usize,
+        key: u64,
+        to: Value,
+    ) -> Result<Option<State<A>>, AllocError>
+        ensures { IfOk result (λ s. option_map state_of s
+            ≡ row_get (state_of self) (record { table = table; width = width }) key to) }
+    {
+        let Some(buffer) = buffer_of(to, width) else {
             return Ok(None);
         };
         let (answer, row) = match self.rows.get(table, key) {
@@ -144,7 +160,6 @@ impl<A: Allocator + Copy> State<A> {
     }
 
     /// Puts a row.
-    #[tactic(auto, unfolding(bpf_semantics::specs::Helpers::called, bpf_semantics::specs::Helpers::row_put, bpf_semantics::specs::Memory::and_then))]
     fn row_put<B: Allocator>(
         self,
         alloc: A,
@@ -158,7 +173,24 @@ impl<A: Allocator + Copy> State<A> {
         let Some(key) = number(self.register(Register::Two)) else {
             return Ok(None);
         };
-        let Some(buffer) = buffer_of(self.register(Register::Three), width) else {
+        let from = self.register(Register::Three);
+        self.row_written(alloc, table, width, key, from)
+    }
+
+    /// The row becomes the bytes of a buffer of this width.
+    #[tactic(auto, unfolding(bpf_semantics::specs::Helpers::row_put, bpf_semantics::specs::Memory::and_then))]
+    fn row_written(
+        self,
+        alloc: A,
+        table: u8,
+        width: usize,
+        key: u64,
+        from: Value,
+    ) -> Result<Option<State<A>>, AllocError>
+        ensures { IfOk result (λ s. option_map state_of s
+            ≡ row_put (state_of self) (record { table = table; width = width }) key from) }
+    {
+        let Some(buffer) = buffer_of(from, width) else {
             return Ok(None);
         };
         let Some(bytes) = known_from(alloc, &self.stack, buffer, width)? else {
@@ -207,9 +239,8 @@ impl<A: Allocator + Copy> State<A> {
     }
 
     /// Finds the row of the least key of an interval.
-    #[tactic(auto, unfolding(bpf_semantics::specs::Helpers::called, bpf_semantics::specs::Helpers::range_next, bpf_semantics::specs::Memory::and_then))]
     fn range_next<B: Allocator>(
-        mut self,
+        self,
         alloc: A,
         schema: &Schema<B>,
     ) -> Result<Option<State<A>>, AllocError>
@@ -225,13 +256,33 @@ impl<A: Allocator + Copy> State<A> {
         let Some(hi) = number(self.register(Register::Three)) else {
             return Ok(None);
         };
-        let Some(key_buffer) = buffer_of(self.register(Register::Four), 8) else {
+        let key_to = self.register(Register::Four);
+        let row_to = self.register(Register::Five);
+        self.first_read(alloc, Look { table, lo, hi }, width, key_to, row_to)
+    }
+
+    /// The buffers get the least key that a look covers, and its row of this width, or zeros.
+    #[tactic(auto, unfolding(bpf_semantics::specs::Helpers::range_next, bpf_semantics::specs::Memory::and_then))]
+    fn first_read(
+        mut self,
+        alloc: A,
+        look: Look,
+        width: usize,
+        key_to: Value,
+        row_to: Value,
+    ) -> Result<Option<State<A>>, AllocError>
+        ensures { IfOk result (λ s. option_map state_of s
+            ≡ range_next (state_of self) (record { table = look.table; width = width })
+            look.lo look.hi key_to row_to) }
+    {
+        let Some(key_buffer) = buffer_of(key_to, 8) else {
             return Ok(None);
         };
-        let Some(row_buffer) = buffer_of(self.register(Register::Five), width) else {
+        let Some(row_buffer) = buffer_of(row_to, width) else {
             return Ok(None);
         };
-        let (answer, last, key, row) = match self.rows.first(Look { table, lo, hi }) {
+        let Look { table, lo, hi } = look;
+        let (answer, last, key, row) = match self.rows.first(look) {
             Some((key, row)) => (1, key.1, key.1, Vec::from_slice(alloc, row.as_slice())?),
             None => (0, hi, 0, vec![in alloc; 0; width]?),
         };

@@ -1,4 +1,7 @@
 //! A plain runner of programs: it computes what `bpf_semantics` defines, slow and plain on purpose.
+//!
+//! Begin with `run_program` in `run.rt`. `step.rt`, `helpers.rt` and `memory.rt` have a function for
+//! each definition of a step, each with that definition as its contract.
 #![tactic(auto)]
 
 pub use row::{Bytes, Keyed, Row, Write};

@@ -6,6 +6,7 @@ ghost use Rattle.byteorder.specs.Endian.{little_number, little_bytes};
 ghost use Rattle.bpf_semantics.specs.Memory.{size_bytes, load_bytes, extended, index_in};
 ghost use Rattle.bpf_semantics.specs.Memory.{stack_index, known_from, overwritten, read};
 ghost use Rattle.bpf_semantics.specs.Memory.{written_at};
+ghost use Rattle.bpf_semantics.specs.Memory.{stack_read, args_read};
 ghost use Rattle.bpf_semantics.specs.Helpers.{buffer_of};
 
 use bpf_code::{LoadKind, Size};
@@ -125,8 +126,47 @@ pub(crate) fn overwritten<A: Allocator>(
     Ok(new)
 }
 
+/// So many known bytes of the stack from a place on.
+#[tactic(auto, unfolding(bpf_semantics::specs::Memory::stack_read, bpf_semantics::specs::Memory::and_then))]
+fn stack_read<A: Allocator>(
+    alloc: A,
+    stack: &[Option<u8>],
+    place: i64,
+    count: usize,
+) -> Result<Option<Vec<u8, A>>, AllocError>
+    requires { unsigned_abs place ≤ 2 ^ 40 }
+    ensures bytes { IfOk result (λ bytes.
+        option_map (λ v. v.items) bytes ≡ stack_read stack.now place count) }
+    ensures short { IfOk result (λ bytes. IfSome bytes (λ v. length v.items ≤ count)) }
+{
+    match stack_index(place, count) {
+        Some(index) => known_from(alloc, stack, index, count),
+        None => Ok(None),
+    }
+}
+
+/// So many bytes of the arguments from a place on.
+#[tactic(auto, unfolding(bpf_semantics::specs::Memory::args_read, bpf_semantics::specs::Memory::and_then))]
+fn args_read<A: Allocator>(
+    alloc: A,
+    args: &[u8],
+    place: i64,
+    count: usize,
+) -> Result<Option<Vec<u8, A>>, AllocError>
+    ensures bytes { IfOk result (λ bytes.
+        option_map (λ v. v.items) bytes ≡ args_read args.now place count) }
+    ensures short { IfOk result (λ bytes. IfSome bytes (λ v. length v.items ≤ count)) }
+{
+    match index_in(place, count, args.len()) {
+        Some(index) => {
+            let bytes = Vec::from_slice(alloc, front(after(args, index), count))?;
+            Ok(Some(bytes))
+        }
+        None => Ok(None),
+    }
+}
+
 /// So many bytes from where a value points, with an offset.
-#[tactic(auto, unfolding(bpf_semantics::specs::Memory::stack_read, bpf_semantics::specs::Memory::args_read, bpf_semantics::specs::Memory::and_then))]
 pub(crate) fn read<A: Allocator>(
     alloc: A,
     stack: &[Option<u8>],
@@ -141,20 +181,9 @@ pub(crate) fn read<A: Allocator>(
 {
     match address {
         Value::Stack(place) => {
-            match stack_index(i64::from(place) + i64::from(offset), count) {
-                Some(index) => known_from(alloc, stack, index, count),
-                None => Ok(None),
-            }
+            stack_read(alloc, stack, i64::from(place) + i64::from(offset), count)
         }
-        Value::Args(place) => {
-            match index_in(i64::from(place) + i64::from(offset), count, args.len()) {
-                Some(index) => {
-                    let bytes = Vec::from_slice(alloc, front(after(args, index), count))?;
-                    Ok(Some(bytes))
-                }
-                None => Ok(None),
-            }
-        }
+        Value::Args(place) => args_read(alloc, args, i64::from(place) + i64::from(offset), count),
         Value::Nothing | Value::Number(_) => Ok(None),
     }
 }

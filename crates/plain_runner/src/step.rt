@@ -1,10 +1,12 @@
 //! One instruction, as the definitions say it.
 
-ghost use Rattle.std.specs.Prelude.{◌≡◌, ◌<◌, ◌^◌, IfOk};
+ghost use Rattle.std.specs.Prelude.{◌≡◌, ◌<◌, ◌^◌, IfOk, option_map};
 ghost use Rattle.std.specs.Int.{w64, cast_unsigned};
 ghost use Rattle.byteorder.specs.Endian.{little_bytes};
 ghost use Rattle.bpf_semantics.specs.State.{register, past, with_register};
-ghost use Rattle.bpf_semantics.specs.Memory.{size_bytes, written_at};
+ghost use Rattle.schema.specs.Helper.{helper_of};
+ghost use Rattle.bpf_semantics.specs.Memory.{and_then, size_bytes, written_at};
+ghost use Rattle.bpf_semantics.specs.Helpers.{called};
 ghost use Rattle.bpf_code.specs.declared.instruction.Instruction.TheVariants.{Load, StoreRegister};
 ghost use Rattle.bpf_code.specs.declared.instruction.Instruction.TheVariants.{Arithmetic, Negate};
 ghost use Rattle.bpf_code.specs.declared.instruction.Instruction.TheVariants.{MoveSignExtended};
@@ -32,7 +34,7 @@ pub(crate) enum Moment<A: Allocator> {
     Stuck,
 }
 
-#[tactic(auto, unfolding(bpf_semantics::specs::Step::execute, bpf_semantics::specs::Step::or_stuck, bpf_semantics::specs::Memory::and_then))]
+#[tactic(auto, unfolding(bpf_semantics::specs::Step::execute, bpf_semantics::specs::Step::or_stuck))]
 impl<A: Allocator + Copy> State<A> {
     fn with_result(self, dst: Register, value: Value) -> Moment<A>
         requires slot { self.slot < 2 ^ 32 }
@@ -215,6 +217,23 @@ impl<A: Allocator + Copy> State<A> {
         }
     }
 
+    /// The state after a call by the helper's number; none where it can't be made.
+    #[tactic(auto, unfolding(bpf_semantics::specs::Memory::and_then))]
+    fn called_by_number<B: Allocator>(
+        self,
+        alloc: A,
+        schema: &Schema<B>,
+        number: i32,
+    ) -> Result<Option<State<A>>, AllocError>
+        ensures { IfOk result (λ s. option_map state_of s
+            ≡ and_then (helper_of number) (λ h. called schema.now h (state_of self))) }
+    {
+        match Helper::from_number(number) {
+            Some(helper) => self.called(alloc, schema, helper),
+            None => Ok(None),
+        }
+    }
+
     fn call<B: Allocator>(
         self,
         alloc: A,
@@ -226,10 +245,7 @@ impl<A: Allocator + Copy> State<A> {
         ensures { IfOk result (λ m.
             moment_of m ≡ execute schema.now (Call number) (state_of self)) }
     {
-        let Some(helper) = Helper::from_number(number) else {
-            return Ok(Moment::Stuck);
-        };
-        match self.called(alloc, schema, helper)? {
+        match self.called_by_number(alloc, schema, number)? {
             Some(next) => Ok(Moment::Going(next.past(1))),
             None => Ok(Moment::Stuck),
         }
