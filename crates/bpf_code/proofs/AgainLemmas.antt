@@ -11,7 +11,7 @@ use Rattle.bpf_words.specs.declared.operation.EndWidth.TheVariants.{Low16, Low32
 use Rattle.bpf_words.specs.declared.condition.Condition.TheVariants as condition
 use Rattle.bpf_code.specs.declared.fields.Fields.{Fields}
 use Rattle.bpf_code.specs.declared.instruction.Register.{Register}
-use Rattle.bpf_code.specs.declared.instruction.Register.TheVariants.{Zero, One, Two, Three, Four, Five, Six, Seven, Eight, Nine, Ten}
+use Rattle.bpf_code.specs.declared.instruction.Register.TheVariants.{R0, R1, R2, R3, R4, R5, R6, R7, R8, R9, R10}
 use Rattle.bpf_code.specs.declared.instruction.Width.{Width}
 use Rattle.bpf_code.specs.declared.instruction.Width.TheVariants.{Bits32, Bits64}
 use Rattle.bpf_code.specs.declared.instruction.Size.TheVariants.{Byte, HalfWord, Word, DoubleWord}
@@ -27,21 +27,21 @@ use Rattle.bpf_code.specs.declared.opcode.Opcode.{Opcode}
 use Rattle.bpf_code.specs.declared.opcode.Opcode.TheVariants as opcode
 use Rattle.bpf_code.specs.Register.{number_of, register_of}
 use Rattle.bpf_code.specs.Opcode.{byte_of, opcode_of, binary_of, branch_of, memory_of}
-use Rattle.bpf_code.specs.Reading.{read, read_half, uses_of, unused_are_zero, instruction_of, on_register, operation_of, extension_of, end_width_of}
+use Rattle.bpf_code.specs.Reading.{reading_of, half_reading_of, uses_of, unused_are_zero, instruction_of, on_register, operation_of, extension_of, end_width_of}
 use Rattle.bpf_code.specs.Spelling.{slot, fields_of, second_half, code_of, operation_offset, extension_width, extension_offset, end_immediate}
 
 register_again : (r : Register) → register_of (number_of r) ≡ Some r
-register_again Zero = refl
-register_again One = refl
-register_again Two = refl
-register_again Three = refl
-register_again Four = refl
-register_again Five = refl
-register_again Six = refl
-register_again Seven = refl
-register_again Eight = refl
-register_again Nine = refl
-register_again Ten = refl
+register_again R0 = refl
+register_again R1 = refl
+register_again R2 = refl
+register_again R3 = refl
+register_again R4 = refl
+register_again R5 = refl
+register_again R6 = refl
+register_again R7 = refl
+register_again R8 = refl
+register_again R9 = refl
+register_again R10 = refl
 
 -- each opcode is read again from its byte
 opcode_again : (o : Opcode) → opcode_of (byte_of o) ≡ Some o
@@ -168,8 +168,8 @@ opcode_again opcode.Exit = refl
 
 -- a slot with a known opcode and registers reads as what its opcode makes of it
 read_known : (o : Opcode) (dst src : Register) (offset immediate : ℤ) (made : Instruction) (f : Fields) → f ≡ slot o (number_of dst) (number_of src) offset immediate
-    → unused_are_zero (uses_of o) f ≡ true → instruction_of o dst src f ≡ Some made → read f ≡ Ok made
-unfolding read
+    → unused_are_zero (uses_of o) f ≡ true → instruction_of o dst src f ≡ Some made → reading_of f ≡ Ok made
+unfolding reading_of
 read_known o dst src offset immediate made f e unused makes =
     rw (ap (λ (g : Fields). opcode_of g.opcode) e ∙ opcode_again o, ap (λ (g : Fields). register_of g.dst) e ∙ register_again dst, ap (λ (g : Fields). register_of g.src) e ∙ register_again src, unused, makes) refl
 
@@ -265,41 +265,41 @@ end_width_again Low32 = refl
 end_width_again Low64 = refl
 
 -- each instruction is read again from its slot
-pub read_again : (i : Instruction) → read (fields_of i) ≡ Ok (first_of i)
+pub read_again : (i : Instruction) → reading_of (fields_of i) ≡ Ok (first_of i)
 unfolding fields_of unused_are_zero instruction_of
 read_again (LoadWide dst value) =
     let low : cast_unsigned w32 (cast_signed w32 (value % 2 ^ 32)) ≡ value % 2 ^ 32 = of_z-to_z w32 (value % 2 ^ 32) (omega arith) in
-    read_known opcode.LoadWide dst Zero (pos 0) (cast_signed w32 (value % 2 ^ 32)) (LoadWide dst (value % 2 ^ 32)) (fields_of (LoadWide dst value)) refl refl (ap (λ (v : ℕ). Some (LoadWide dst v)) low)
+    read_known opcode.LoadWide dst R0 (pos 0) (cast_signed w32 (value % 2 ^ 32)) (LoadWide dst (value % 2 ^ 32)) (fields_of (LoadWide dst value)) refl refl (ap (λ (v : ℕ). Some (LoadWide dst v)) low)
 read_again (Load kind dst src offset) = read_known (opcode.Load kind) dst src offset (pos 0) (Load kind dst src offset) (fields_of (Load kind dst src offset)) refl refl refl
 read_again (StoreImmediate size dst offset immediate) =
-    read_known (opcode.StoreImmediate size) dst Zero offset immediate (StoreImmediate size dst offset immediate) (fields_of (StoreImmediate size dst offset immediate)) refl refl refl
+    read_known (opcode.StoreImmediate size) dst R0 offset immediate (StoreImmediate size dst offset immediate) (fields_of (StoreImmediate size dst offset immediate)) refl refl refl
 read_again (StoreRegister size dst src offset) =
     read_known (opcode.StoreRegister size) dst src offset (pos 0) (StoreRegister size dst src offset) (fields_of (StoreRegister size dst src offset)) refl refl refl
 read_again (Arithmetic width op dst (source.Immediate immediate)) =
-    read_known (opcode.Arithmetic width (code_of op) Immediate) dst Zero (operation_offset op) immediate (Arithmetic width op dst (source.Immediate immediate))
+    read_known (opcode.Arithmetic width (code_of op) Immediate) dst R0 (operation_offset op) immediate (Arithmetic width op dst (source.Immediate immediate))
     (fields_of (Arithmetic width op dst (source.Immediate immediate))) refl (unused_immediate width op dst immediate)
     (ap (option_map (λ (o : BinaryOperation). Arithmetic width o dst (source.Immediate immediate))) (operation_again op))
 read_again (Arithmetic width op dst (source.Register src)) =
     read_known (opcode.Arithmetic width (code_of op) InRegister) dst src (operation_offset op) (pos 0) (Arithmetic width op dst (source.Register src))
     (fields_of (Arithmetic width op dst (source.Register src))) refl (unused_register width op dst src) (on_register_again width op dst src)
-read_again (Negate width dst) = read_known (opcode.Negate width) dst Zero (pos 0) (pos 0) (Negate width dst) (fields_of (Negate width dst)) refl refl refl
+read_again (Negate width dst) = read_known (opcode.Negate width) dst R0 (pos 0) (pos 0) (Negate width dst) (fields_of (Negate width dst)) refl refl refl
 read_again (MoveSignExtended kind dst src) =
     read_known (opcode.Arithmetic (extension_width kind) code.Mov InRegister) dst src (extension_offset kind) (pos 0) (MoveSignExtended kind dst src)
     (fields_of (MoveSignExtended kind dst src)) refl refl (move_again kind dst src)
 read_again (End order width dst) =
-    read_known (opcode.End order) dst Zero (pos 0) (end_immediate width) (End order width dst) (fields_of (End order width dst)) refl refl
+    read_known (opcode.End order) dst R0 (pos 0) (end_immediate width) (End order width dst) (fields_of (End order width dst)) refl refl
     (ap (option_map (λ (w : EndWidth). End order w dst)) (end_width_again width))
-read_again (Jump distance) = read_known (opcode.Jump Bits64) Zero Zero distance (pos 0) (Jump distance) (fields_of (Jump distance)) refl refl refl
-read_again (LongJump distance) = read_known (opcode.Jump Bits32) Zero Zero (pos 0) distance (LongJump distance) (fields_of (LongJump distance)) refl refl refl
+read_again (Jump distance) = read_known (opcode.Jump Bits64) R0 R0 distance (pos 0) (Jump distance) (fields_of (Jump distance)) refl refl refl
+read_again (LongJump distance) = read_known (opcode.Jump Bits32) R0 R0 (pos 0) distance (LongJump distance) (fields_of (LongJump distance)) refl refl refl
 read_again (Branch width condition dst (source.Immediate immediate) distance) =
-    read_known (opcode.Branch width condition Immediate) dst Zero distance immediate (Branch width condition dst (source.Immediate immediate) distance)
+    read_known (opcode.Branch width condition Immediate) dst R0 distance immediate (Branch width condition dst (source.Immediate immediate) distance)
     (fields_of (Branch width condition dst (source.Immediate immediate) distance)) refl refl refl
 read_again (Branch width condition dst (source.Register src) distance) =
     read_known (opcode.Branch width condition InRegister) dst src distance (pos 0) (Branch width condition dst (source.Register src) distance)
     (fields_of (Branch width condition dst (source.Register src) distance)) refl refl refl
-read_again (Call helper) = read_known opcode.Call Zero Zero (pos 0) helper (Call helper) (fields_of (Call helper)) refl refl refl
-read_again Exit = read_known opcode.Exit Zero Zero (pos 0) (pos 0) Exit (fields_of Exit) refl refl refl
+read_again (Call helper) = read_known opcode.Call R0 R0 (pos 0) helper (Call helper) (fields_of (Call helper)) refl refl refl
+read_again Exit = read_known opcode.Exit R0 R0 (pos 0) (pos 0) Exit (fields_of Exit) refl refl refl
 
-pub read_half_again : (high : ℕ) → high < 2 ^ 32 → read_half (second_half high) ≡ Ok high
-unfolding read_half unused_are_zero
+pub read_half_again : (high : ℕ) → high < 2 ^ 32 → half_reading_of (second_half high) ≡ Ok high
+unfolding half_reading_of unused_are_zero
 read_half_again high fits = ap (λ (h : ℕ). Ok h) (of_z-to_z w32 high fits)

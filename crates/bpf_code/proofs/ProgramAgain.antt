@@ -10,7 +10,7 @@ use Rattle.bpf_words.specs.declared.operation.BinaryOperation.TheVariants as ope
 use Rattle.bpf_words.specs.declared.operation.EndWidth.{EndWidth}
 use Rattle.bpf_words.specs.declared.operation.EndWidth.TheVariants.{Low16, Low32, Low64}
 use Rattle.bpf_code.specs.declared.instruction.Register.{Register}
-use Rattle.bpf_code.specs.declared.instruction.Register.TheVariants.{Zero, One, Two, Three, Four, Five, Six, Seven, Eight, Nine, Ten}
+use Rattle.bpf_code.specs.declared.instruction.Register.TheVariants.{R0, R1, R2, R3, R4, R5, R6, R7, R8, R9, R10}
 use Rattle.bpf_code.specs.declared.instruction.SignExtendingMove.{SignExtendingMove}
 use Rattle.bpf_code.specs.declared.instruction.SignExtendingMove.TheVariants.{From8To32, From16To32, From8To64, From16To64, From32To64}
 use Rattle.bpf_code.specs.Register.{number_of}
@@ -18,10 +18,10 @@ use Rattle.bpf_code.specs.declared.instruction.Instruction.{Instruction}
 use Rattle.bpf_code.specs.declared.instruction.Instruction.TheVariants.{LoadWide, Load, StoreImmediate, StoreRegister, Arithmetic, Negate, MoveSignExtended, End, Jump, LongJump, Branch, Call, Exit}
 use Rattle.bpf_code.specs.declared.instruction.Source.TheVariants as source
 use Rattle.bpf_code.specs.Fields.{bytes_of, fields_of_bytes, slots_of}
-use Rattle.bpf_code.specs.Reading.{read}
+use Rattle.bpf_code.specs.Reading.{reading_of}
 use Rattle.bpf_code.specs.Spelling.{fields_of, second_half, instruction_bytes, operation_offset, extension_offset, end_immediate}
 use Rattle.bpf_code.specs.Program.{Program, spelling, spelling_at, is_wide, AreSlots, IsInRange, AllInRange}
-use Rattle.bpf_code.specs.Decoding.{read_slots}
+use Rattle.bpf_code.specs.Decoding.{reading_of_slots}
 use Rattle.bpf_code.proofs.SpellingLemmas.{instruction_bytes-short}
 use Rattle.bpf_code.proofs.AgainLemmas.{first_of, read_again, read_half_again}
 
@@ -71,17 +71,17 @@ unfolding slots_of
 slots_again f rest fits = ap (λ (g : Fields). g ∷ slots_of rest) (fields_again f fits)
 
 number_below : (r : Register) → number_of r < 16
-number_below Zero = omega arith
-number_below One = omega arith
-number_below Two = omega arith
-number_below Three = omega arith
-number_below Four = omega arith
-number_below Five = omega arith
-number_below Six = omega arith
-number_below Seven = omega arith
-number_below Eight = omega arith
-number_below Nine = omega arith
-number_below Ten = omega arith
+number_below R0 = omega arith
+number_below R1 = omega arith
+number_below R2 = omega arith
+number_below R3 = omega arith
+number_below R4 = omega arith
+number_below R5 = omega arith
+number_below R6 = omega arith
+number_below R7 = omega arith
+number_below R8 = omega arith
+number_below R9 = omega arith
+number_below R10 = omega arith
 
 fits_16 : (n : ℕ) → n < 2 ^ 15 → FitsSigned w16 (pos n)
 fits_16 n h = record { sfits = h }
@@ -145,19 +145,19 @@ short_first : (i : Instruction) → is_wide i ≡ false → first_of i ≡ i
 short_first (LoadWide dst value) e = absurd cc
 short_first i e = refl
 
-read_short : (i : Instruction) (rest : Program) (k : ℕ) → is_wide i ≡ false → IsInRange i → read_slots None (k + 1) (slots_of (spelling rest)) ≡ Ok rest
-    → read_slots None k (slots_of (spelling (Some i ∷ rest))) ≡ Ok (Some i ∷ rest)
-unfolding read_slots
+read_short : (i : Instruction) (rest : Program) (k : ℕ) → is_wide i ≡ false → IsInRange i → reading_of_slots None (k + 1) (slots_of (spelling rest)) ≡ Ok rest
+    → reading_of_slots None k (slots_of (spelling (Some i ∷ rest))) ≡ Ok (Some i ∷ rest)
+unfolding reading_of_slots
 read_short i rest k short fits again =
     let bytes : spelling (Some i ∷ rest) ≡ bytes_of (fields_of i) ++ spelling rest =
     flat_map-cons spelling_at (Some i) rest ∙ ap (λ (b : List ℕ). b ++ spelling rest) (instruction_bytes-short i short) in
     let slots : slots_of (spelling (Some i ∷ rest)) ≡ fields_of i ∷ slots_of (spelling rest) = ap slots_of bytes ∙ slots_again (fields_of i) (spelling rest) (fields_fit i fits) in
-    let reads : read (fields_of i) ≡ Ok i = read_again i ∙ ap (λ (j : Instruction). Ok j) (short_first i short) in
-    ap (read_slots None k) slots ∙ rw (reads, short, again) refl
+    let reads : reading_of (fields_of i) ≡ Ok i = read_again i ∙ ap (λ (j : Instruction). Ok j) (short_first i short) in
+    ap (reading_of_slots None k) slots ∙ rw (reads, short, again) refl
 
-read_wide : (dst : Register) (value : ℕ) (rest : Program) (k : ℕ) → value < 2 ^ 64 → read_slots None (k + 1 + 1) (slots_of (spelling rest)) ≡ Ok rest
-    → read_slots None k (slots_of (spelling (Some (LoadWide dst value) ∷ None ∷ rest))) ≡ Ok (Some (LoadWide dst value) ∷ None ∷ rest)
-unfolding read_slots instruction_bytes
+read_wide : (dst : Register) (value : ℕ) (rest : Program) (k : ℕ) → value < 2 ^ 64 → reading_of_slots None (k + 1 + 1) (slots_of (spelling rest)) ≡ Ok rest
+    → reading_of_slots None k (slots_of (spelling (Some (LoadWide dst value) ∷ None ∷ rest))) ≡ Ok (Some (LoadWide dst value) ∷ None ∷ rest)
+unfolding reading_of_slots instruction_bytes
 read_wide dst value rest k fits again =
     let i = LoadWide dst value in
     let high : value / 2 ^ 32 < 2 ^ 32 = omega arith in
@@ -168,13 +168,13 @@ read_wide dst value rest k fits again =
     ap slots_of bytes ∙ slots_again (fields_of (LoadWide dst value)) (bytes_of (second_half (value / 2 ^ 32)) ++ spelling rest) (fields_fit (LoadWide dst value) fits)
     ∙ ap (λ (fs : List Fields). fields_of (LoadWide dst value) ∷ fs) (slots_again (second_half (value / 2 ^ 32)) (spelling rest) (half_fits (value / 2 ^ 32) high)) in
     let whole : value % 2 ^ 32 + 2 ^ 32 * (value / 2 ^ 32) ≡ value = omega arith in
-    ap (read_slots None k) slots ∙ rw (read_again (LoadWide dst value), read_half_again (value / 2 ^ 32) high, again, whole) refl
+    ap (reading_of_slots None k) slots ∙ rw (read_again (LoadWide dst value), read_half_again (value / 2 ^ 32) high, again, whole) refl
 
-nothing_read : (k : ℕ) → read_slots None k (slots_of []) ≡ Ok []
-unfolding read_slots slots_of
+nothing_read : (k : ℕ) → reading_of_slots None k (slots_of []) ≡ Ok []
+unfolding reading_of_slots slots_of
 nothing_read k = refl
 
-pub slots_read_again : (p : Program) (k : ℕ) → AreSlots false p → AllInRange p → read_slots None k (slots_of (spelling p)) ≡ Ok p
+pub slots_read_again : (p : Program) (k : ℕ) → AreSlots false p → AllInRange p → reading_of_slots None k (slots_of (spelling p)) ≡ Ok p
 unfolding AreSlots
 slots_read_again [] k slots fits = nothing_read k
 slots_read_again (None ∷ p) k slots fits = absurd slots

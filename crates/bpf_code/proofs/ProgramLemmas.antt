@@ -6,9 +6,9 @@ use Rattle.bpf_code.specs.declared.fault.DecodeFault.{DecodeFault}
 use Rattle.bpf_code.specs.declared.fields.Fields.{Fields}
 use Rattle.bpf_code.specs.declared.instruction.Instruction.{Instruction}
 use Rattle.bpf_code.specs.declared.instruction.Instruction.TheVariants.{LoadWide, Exit}
-use Rattle.bpf_code.specs.Reading.{read, read_half}
+use Rattle.bpf_code.specs.Reading.{reading_of, half_reading_of}
 use Rattle.bpf_code.specs.Program.{Program, is_wide, AreSlots, Lands, instruction_at, distance_of}
-use Rattle.bpf_code.specs.Decoding.{at_slot, with_front, completed, read_slots, or_else, landing_fault, distance_fault, jump_fault, jump_faults, last_fault, exit_fault}
+use Rattle.bpf_code.specs.Decoding.{at_slot, with_front, completed_load, reading_of_slots, or_else, landing_fault, distance_fault, jump_fault, jump_faults, last_fault, exit_fault}
 
 -- ---- the slots
 
@@ -17,9 +17,9 @@ abbrev pub IsWaiting : Option Instruction → Type 0
 IsWaiting None = Unit {0}
 IsWaiting (Some i) = is_wide i ≡ true
 
-completed-wide : (i : Instruction) (high : ℕ) → is_wide i ≡ true → is_wide (completed i high) ≡ true
-completed-wide (LoadWide dst low) high e = refl
-completed-wide i high e = e
+completed_load-wide : (i : Instruction) (high : ℕ) → is_wide i ≡ true → is_wide (completed_load i high) ≡ true
+completed_load-wide (LoadWide dst low) high e = refl
+completed_load-wide i high e = e
 
 abbrev okay : Program → Result Program DecodeFault
 okay p = Ok p
@@ -28,10 +28,10 @@ with_front_ok : (front : Program) (r : Result Program DecodeFault) (p : Program)
 with_front_ok front (Ok q) p e = (q, refl, cc)
 with_front_ok front (Err e) p h = absurd cc
 
-AreSlots-completed : (i : Instruction) (high : ℕ) (q : Program) → is_wide i ≡ true → AreSlots false q → AreSlots false (Some (completed i high) ∷ None ∷ q)
+AreSlots-completed_load : (i : Instruction) (high : ℕ) (q : Program) → is_wide i ≡ true → AreSlots false q → AreSlots false (Some (completed_load i high) ∷ None ∷ q)
 unfolding AreSlots
-AreSlots-completed i high q wide slots =
-    subst (λ (due : Bool). AreSlots due (None ∷ q)) (sym (completed-wide i high wide)) slots
+AreSlots-completed_load i high q wide slots =
+    subst (λ (due : Bool). AreSlots due (None ∷ q)) (sym (completed_load-wide i high wide)) slots
 
 AreSlots-short : (i : Instruction) (q : Program) → is_wide i ≡ false → AreSlots false q → AreSlots false (Some i ∷ q)
 unfolding AreSlots
@@ -45,25 +45,25 @@ program_is : (p q : Program) → okay p ≡ okay q → p ≡ q
 program_is p q e = cc
 
 -- slots that were read are laid out as a program's
-pub AreSlots-read : (fs : List Fields) (half : Option Instruction) (slot : ℕ) (p : Program) → IsWaiting half → read_slots half slot fs ≡ Ok p → AreSlots false p
-unfolding read_slots
-AreSlots-read [] None slot p waits e = subst (λ (q : Program). AreSlots false q) (program_is [] p e) AreSlots-nil
-AreSlots-read [] (Some first) slot p waits e = absurd cc
-AreSlots-read (f ∷ fs) None slot p waits e =
-    elim (read f) as (λ r. at_slot slot r (λ i. cond (is_wide i) (read_slots (Some i) (slot + 1) fs) (with_front (Some i ∷ []) (read_slots None (slot + 1) fs))) ≡ Ok p → AreSlots false p) [
-      | Ok i ↦ elim (is_wide i) as (λ w. is_wide i ≡ w → cond w (read_slots (Some i) (slot + 1) fs) (with_front (Some i ∷ []) (read_slots None (slot + 1) fs)) ≡ Ok p → AreSlots false p) [
-        | true ↦ λ wide h. AreSlots-read fs (Some i) (slot + 1) p wide h
+pub AreSlots-reading_of : (fs : List Fields) (half : Option Instruction) (slot : ℕ) (p : Program) → IsWaiting half → reading_of_slots half slot fs ≡ Ok p → AreSlots false p
+unfolding reading_of_slots
+AreSlots-reading_of [] None slot p waits e = subst (λ (q : Program). AreSlots false q) (program_is [] p e) AreSlots-nil
+AreSlots-reading_of [] (Some first) slot p waits e = absurd cc
+AreSlots-reading_of (f ∷ fs) None slot p waits e =
+    elim (reading_of f) as (λ r. at_slot slot r (λ i. cond (is_wide i) (reading_of_slots (Some i) (slot + 1) fs) (with_front (Some i ∷ []) (reading_of_slots None (slot + 1) fs))) ≡ Ok p → AreSlots false p) [
+      | Ok i ↦ elim (is_wide i) as (λ w. is_wide i ≡ w → cond w (reading_of_slots (Some i) (slot + 1) fs) (with_front (Some i ∷ []) (reading_of_slots None (slot + 1) fs)) ≡ Ok p → AreSlots false p) [
+        | true ↦ λ wide h. AreSlots-reading_of fs (Some i) (slot + 1) p wide h
         | false ↦ λ short h.
-            let q = with_front_ok (Some i ∷ []) (read_slots None (slot + 1) fs) p h in
-            subst (λ (x : Program). AreSlots false x) (sym q.2) (AreSlots-short i q.0 short (AreSlots-read fs None (slot + 1) q.0 tt q.1))
+            let q = with_front_ok (Some i ∷ []) (reading_of_slots None (slot + 1) fs) p h in
+            subst (λ (x : Program). AreSlots false x) (sym q.2) (AreSlots-short i q.0 short (AreSlots-reading_of fs None (slot + 1) q.0 tt q.1))
       ] refl
       | Err cause ↦ λ h. absurd cc
     ] e
-AreSlots-read (f ∷ fs) (Some first) slot p waits e =
-    elim (read_half f) as (λ r. at_slot slot r (λ high. with_front (Some (completed first high) ∷ None ∷ []) (read_slots None (slot + 1) fs)) ≡ Ok p → AreSlots false p) [
+AreSlots-reading_of (f ∷ fs) (Some first) slot p waits e =
+    elim (half_reading_of f) as (λ r. at_slot slot r (λ high. with_front (Some (completed_load first high) ∷ None ∷ []) (reading_of_slots None (slot + 1) fs)) ≡ Ok p → AreSlots false p) [
       | Ok high ↦ λ h.
-          let q = with_front_ok (Some (completed first high) ∷ None ∷ []) (read_slots None (slot + 1) fs) p h in
-          subst (λ (x : Program). AreSlots false x) (sym q.2) (AreSlots-completed first high q.0 waits (AreSlots-read fs None (slot + 1) q.0 tt q.1))
+          let q = with_front_ok (Some (completed_load first high) ∷ None ∷ []) (reading_of_slots None (slot + 1) fs) p h in
+          subst (λ (x : Program). AreSlots false x) (sym q.2) (AreSlots-completed_load first high q.0 waits (AreSlots-reading_of fs None (slot + 1) q.0 tt q.1))
       | Err cause ↦ λ h. absurd cc
     ] e
 

@@ -8,7 +8,7 @@ use Rattle.bpf_code.specs.declared.fields.Fields.{Fields}
 use Rattle.bpf_code.specs.declared.instruction.Instruction.{Instruction}
 use Rattle.bpf_code.specs.declared.instruction.Instruction.TheVariants.{LoadWide, Exit}
 use Rattle.bpf_code.specs.Fields.{slots_of}
-use Rattle.bpf_code.specs.Reading.{read, read_half}
+use Rattle.bpf_code.specs.Reading.{reading_of, half_reading_of}
 use Rattle.bpf_code.specs.Program.{Program, max_slots, is_wide, distance_of}
 
 abbrev pub fault : DecodeCause → ℕ → DecodeFault
@@ -24,19 +24,19 @@ with_front front (Ok p) = Ok (front ++ p)
 with_front front (Err e) = Err e
 
 -- the wide load of a first half and the upper half of its value
-abbrev pub completed : Instruction → ℕ → Instruction
-completed (LoadWide dst low) high = LoadWide dst (low + 2 ^ 32 * high)
-completed i _ = i
+abbrev pub completed_load : Instruction → ℕ → Instruction
+completed_load (LoadWide dst low) high = LoadWide dst (low + 2 ^ 32 * high)
+completed_load i _ = i
 
 -- the slots in rising order; a first half waits for the second
-unfoldable pub read_slots : Option Instruction → ℕ → List Fields → Result Program DecodeFault
-read_slots None slot [] = Ok []
-read_slots (Some first) slot [] = Err (fault CutShort (slot - 1))
-read_slots None slot (f ∷ rest) = at_slot slot (read f) (λ i.
-    if is_wide i then read_slots (Some i) (slot + 1) rest
-    else with_front (Some i ∷ []) (read_slots None (slot + 1) rest))
-read_slots (Some first) slot (f ∷ rest) = at_slot slot (read_half f) (λ high.
-    with_front (Some (completed first high) ∷ None ∷ []) (read_slots None (slot + 1) rest))
+unfoldable pub reading_of_slots : Option Instruction → ℕ → List Fields → Result Program DecodeFault
+reading_of_slots None slot [] = Ok []
+reading_of_slots (Some first) slot [] = Err (fault CutShort (slot - 1))
+reading_of_slots None slot (f ∷ rest) = at_slot slot (reading_of f) (λ i.
+    if is_wide i then reading_of_slots (Some i) (slot + 1) rest
+    else with_front (Some i ∷ []) (reading_of_slots None (slot + 1) rest))
+reading_of_slots (Some first) slot (f ∷ rest) = at_slot slot (half_reading_of f) (λ high.
+    with_front (Some (completed_load first high) ∷ None ∷ []) (reading_of_slots None (slot + 1) rest))
 
 -- the first of two faults, where there is one
 abbrev pub or_else : Option DecodeFault → Option DecodeFault → Option DecodeFault
@@ -71,17 +71,17 @@ last_fault slot _ = Some (fault NoExit (slot - 1))
 unfoldable pub exit_fault : Program → Option DecodeFault
 exit_fault p = last_fault (length p - 1) (slice_get p (length p - 1))
 
-abbrev pub unless : Option DecodeFault → Program → Result Program DecodeFault
-unless None p = Ok p
-unless (Some f) _ = Err f
+abbrev pub program_unless : Option DecodeFault → Program → Result Program DecodeFault
+program_unless None p = Ok p
+program_unless (Some f) _ = Err f
 
-abbrev pub checked : Result Program DecodeFault → Result Program DecodeFault
-checked (Err f) = Err f
-checked (Ok p) = unless (or_else (jump_faults p 0 p) (exit_fault p)) p
+abbrev pub checked_program : Result Program DecodeFault → Result Program DecodeFault
+checked_program (Err f) = Err f
+checked_program (Ok p) = program_unless (or_else (jump_faults p 0 p) (exit_fault p)) p
 
 -- first the length, then the slots, then the jumps, then the end
 unfoldable pub program_of : List ℕ → Result Program DecodeFault
 program_of bytes =
     if length bytes == 0 || not (length bytes % 8 == 0) then Err (fault Length 0)
     else if nat_lt max_slots (length bytes / 8) then Err (fault TooManySlots 0)
-    else checked (read_slots None 0 (slots_of bytes))
+    else checked_program (reading_of_slots None 0 (slots_of bytes))

@@ -32,11 +32,11 @@ abbrev pub source_bit : SourceKind → ℕ
 source_bit Immediate = 0
 source_bit Register = 1
 
-abbrev pub size_bits : Size → ℕ
-size_bits Word = 0
-size_bits HalfWord = 1
-size_bits Byte = 2
-size_bits DoubleWord = 3
+abbrev pub size_code : Size → ℕ
+size_code Word = 0
+size_code HalfWord = 1
+size_code Byte = 2
+size_code DoubleWord = 3
 
 abbrev pub arithmetic_number : ArithmeticCode → ℕ
 arithmetic_number Add = 0
@@ -78,8 +78,8 @@ load_byte I8 = 0x91
 abbrev pub byte_of : Opcode → ℕ
 byte_of LoadWide = 0x18
 byte_of (Load kind) = load_byte kind
-byte_of (StoreImmediate size) = 0x62 + 8 * size_bits size
-byte_of (StoreRegister size) = 0x63 + 8 * size_bits size
+byte_of (StoreImmediate size) = 0x62 + 8 * size_code size
+byte_of (StoreRegister size) = 0x63 + 8 * size_code size
 byte_of (Arithmetic width code source) = 16 * arithmetic_number code + 8 * source_bit source + arithmetic_class width
 byte_of (Negate width) = 0x80 + arithmetic_class width
 byte_of (End Little) = 0xd4

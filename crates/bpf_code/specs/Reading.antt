@@ -139,8 +139,8 @@ or_fault cause None next = Err cause
 or_fault cause (Some x) next = next x
 
 -- the first slot of an instruction: its opcode, its registers, its unused fields, its values
-unfoldable pub read : Fields → Result Instruction DecodeCause
-read f =
+unfoldable pub reading_of : Fields → Result Instruction DecodeCause
+reading_of f =
     or_fault UnknownOpcode (opcode_of f.opcode) (λ opcode.
     or_fault RegisterNumber (register_of f.dst) (λ dst.
     or_fault RegisterNumber (register_of f.src) (λ src.
@@ -149,5 +149,5 @@ read f =
     else Err UnusedField)))
 
 -- the second slot of a wide load has an immediate and nothing else: the upper half of the value
-unfoldable pub read_half : Fields → Result ℕ DecodeCause
-read_half f = if unused_are_zero (fields_used false false false true) f && f.opcode == 0 then Ok (cast_unsigned w32 f.immediate) else Err UnusedField
+unfoldable pub half_reading_of : Fields → Result ℕ DecodeCause
+half_reading_of f = if unused_are_zero (fields_used false false false true) f && f.opcode == 0 then Ok (cast_unsigned w32 f.immediate) else Err UnusedField

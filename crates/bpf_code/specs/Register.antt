@@ -1,24 +1,24 @@
 -- The registers and their numbers (RFC 9669 section 3.1).
 use Rattle.std.specs.Prelude.{ℕ, List, [], ◌∷◌, Option, slice_get}
 use Rattle.bpf_code.specs.declared.instruction.Register.{Register}
-use Rattle.bpf_code.specs.declared.instruction.Register.TheVariants.{Zero, One, Two, Three, Four, Five, Six, Seven, Eight, Nine, Ten}
+use Rattle.bpf_code.specs.declared.instruction.Register.TheVariants.{R0, R1, R2, R3, R4, R5, R6, R7, R8, R9, R10}
 
 abbrev pub number_of : Register → ℕ
-number_of Zero = 0
-number_of One = 1
-number_of Two = 2
-number_of Three = 3
-number_of Four = 4
-number_of Five = 5
-number_of Six = 6
-number_of Seven = 7
-number_of Eight = 8
-number_of Nine = 9
-number_of Ten = 10
+number_of R0 = 0
+number_of R1 = 1
+number_of R2 = 2
+number_of R3 = 3
+number_of R4 = 4
+number_of R5 = 5
+number_of R6 = 6
+number_of R7 = 7
+number_of R8 = 8
+number_of R9 = 9
+number_of R10 = 10
 
 -- the registers, each at the place of its number
 abbrev pub registers : List Register
-registers = Zero ∷ One ∷ Two ∷ Three ∷ Four ∷ Five ∷ Six ∷ Seven ∷ Eight ∷ Nine ∷ Ten ∷ []
+registers = R0 ∷ R1 ∷ R2 ∷ R3 ∷ R4 ∷ R5 ∷ R6 ∷ R7 ∷ R8 ∷ R9 ∷ R10 ∷ []
 
 abbrev pub register_of : ℕ → Option Register
 register_of number = slice_get registers number

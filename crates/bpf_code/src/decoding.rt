@@ -6,7 +6,7 @@ ghost use Rattle.bpf_code.specs.declared.fault.DecodeCause.TheVariants.{OutOfMem
 ghost use Rattle.bpf_code.specs.Fields.{bytes_of, slots_of};
 ghost use Rattle.bpf_code.specs.declared.fields.Fields.{Fields};
 ghost use Rattle.bpf_code.specs.Program.{Program, AllInRange, spelling, is_wide as wide, distance_of, instruction_at, IsProgram};
-ghost use Rattle.bpf_code.specs.Decoding.{fault as fault_at, with_front, completed as completed_by};
+ghost use Rattle.bpf_code.specs.Decoding.{fault as fault_at, with_front, completed_load as completed_by};
 ghost use Rattle.bpf_code.specs.Decoding.{read_slots as slots_read, jump_fault as fault_of_jump, jump_faults};
 ghost use Rattle.bpf_code.specs.Decoding.{exit_fault, program_of};
 ghost use Rattle.bpf_code.specs.Spelling.{fields_of, second_half, instruction_bytes};
@@ -28,7 +28,7 @@ fn is_wide(instruction: Instruction) -> bool
 
 /// The wide load of its first half and the upper half of its value.
 #[tactic(auto, unfolding(crate::specs::Spelling::instruction_bytes, crate::specs::Spelling::fields_of))]
-fn completed(first: Instruction, high: u32) -> Instruction
+fn completed_load(first: Instruction, high: u32) -> Instruction
     requires { IsFirstHalf first }
     ensures value { result ≡ completed_by first high }
     ensures bytes { instruction_bytes result ≡ bytes_of (fields_of first) ++ bytes_of (second_half high) }
@@ -71,7 +71,7 @@ fn read_slot<A: Allocator>(
         return Ok(None);
     };
     let high = read_half(fields).map_err(|cause| DecodeFault { cause, slot })?;
-    slots.push_reserved(Some(completed(first, high)));
+    slots.push_reserved(Some(completed_load(first, high)));
     slots.push_reserved(None);
     Ok(None)
 }

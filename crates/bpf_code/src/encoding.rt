@@ -6,7 +6,7 @@ ghost use Rattle.bpf_code.specs.Program.{spelling, spelling_at};
 ghost use Rattle.bpf_code.specs.Spelling.{slot as slot_of};
 ghost use Rattle.bpf_code.specs.Register.{number_of};
 ghost use Rattle.bpf_code.specs.declared.instruction.Register.{Register};
-ghost use Rattle.bpf_code.specs.declared.instruction.Register.TheVariants.{Zero};
+ghost use Rattle.bpf_code.specs.declared.instruction.Register.TheVariants.{R0};
 ghost use Rattle.bpf_code.specs.declared.instruction.Source.TheVariants.{Register as InRegister, Immediate as InImmediate};
 ghost use Rattle.bpf_code.specs.declared.opcode.SourceKind.TheVariants.{Register as OfRegister, Immediate as OfImmediate};
 
@@ -54,7 +54,7 @@ impl Instruction {
         ensures dst { result.dst ≤ 10 }
         ensures src { result.src ≤ 10 }
     {
-        let none = Register::Zero;
+        let none = Register::R0;
         match self {
             Instruction::LoadWide { dst, value } => {
                 let low = (value & 0xffff_ffff) as u32;
@@ -158,10 +158,10 @@ fn slot(opcode: Opcode, dst: Register, src: Register, offset: i16, immediate: i3
 /// Where the operand is, its register, r0 for none, and its immediate, 0 for none.
 fn operand(source: Source) -> (SourceKind, Register, i32)
     ensures register { (src : Register) → source ≡ InRegister src → result ≡ (OfRegister, src, pos 0) }
-    ensures immediate { (immediate : ℤ) → source ≡ InImmediate immediate → result ≡ (OfImmediate, Zero, immediate) }
+    ensures immediate { (immediate : ℤ) → source ≡ InImmediate immediate → result ≡ (OfImmediate, R0, immediate) }
 {
     match source {
-        Source::Immediate(immediate) => (SourceKind::Immediate, Register::Zero, immediate),
+        Source::Immediate(immediate) => (SourceKind::Immediate, Register::R0, immediate),
         Source::Register(src) => (SourceKind::Register, src, 0),
     }
 }

@@ -6,17 +6,17 @@ use bpf_words::{BinaryOperation, ByteOrder, Condition, EndWidth};
 /// A register, r0 to r10 (RFC 9669 section 3.1); r10 is the frame pointer.
 #[derive(Clone, Copy, Debug, PartialEq, Eq)]
 pub enum Register {
-    Zero,
-    One,
-    Two,
-    Three,
-    Four,
-    Five,
-    Six,
-    Seven,
-    Eight,
-    Nine,
-    Ten,
+    R0,
+    R1,
+    R2,
+    R3,
+    R4,
+    R5,
+    R6,
+    R7,
+    R8,
+    R9,
+    R10,
 }
 
 impl Register {
@@ -26,17 +26,17 @@ impl Register {
         ensures numbered { IfSome result (λ register. number_of register ≡ number) }
     {
         Some(match number {
-            0 => Register::Zero,
-            1 => Register::One,
-            2 => Register::Two,
-            3 => Register::Three,
-            4 => Register::Four,
-            5 => Register::Five,
-            6 => Register::Six,
-            7 => Register::Seven,
-            8 => Register::Eight,
-            9 => Register::Nine,
-            10 => Register::Ten,
+            0 => Register::R0,
+            1 => Register::R1,
+            2 => Register::R2,
+            3 => Register::R3,
+            4 => Register::R4,
+            5 => Register::R5,
+            6 => Register::R6,
+            7 => Register::R7,
+            8 => Register::R8,
+            9 => Register::R9,
+            10 => Register::R10,
             11.. => return None,
         })
     }
@@ -46,17 +46,17 @@ impl Register {
         ensures { result ≡ number_of self }
     {
         match self {
-            Register::Zero => 0,
-            Register::One => 1,
-            Register::Two => 2,
-            Register::Three => 3,
-            Register::Four => 4,
-            Register::Five => 5,
-            Register::Six => 6,
-            Register::Seven => 7,
-            Register::Eight => 8,
-            Register::Nine => 9,
-            Register::Ten => 10,
+            Register::R0 => 0,
+            Register::R1 => 1,
+            Register::R2 => 2,
+            Register::R3 => 3,
+            Register::R4 => 4,
+            Register::R5 => 5,
+            Register::R6 => 6,
+            Register::R7 => 7,
+            Register::R8 => 8,
+            Register::R9 => 9,
+            Register::R10 => 10,
         }
     }
 }

@@ -2,7 +2,7 @@ ghost use Rattle.std.specs.Prelude.{◌≡◌, ◌/◌, ◌%◌, IfSome};
 ghost use Rattle.bpf_code.specs.Opcode.{byte_of, opcode_of, binary_of, branch_of, memory_of, source_of};
 ghost use Rattle.bpf_code.specs.Opcode.{arithmetic_of, condition_of, arithmetic_number};
 ghost use Rattle.bpf_code.specs.Opcode.{condition_number as number_of_condition, load_byte as byte_of_load};
-ghost use Rattle.bpf_code.specs.Opcode.{size_bits as bits_of_size, source_bit as bit_of_source};
+ghost use Rattle.bpf_code.specs.Opcode.{size_code as bits_of_size, source_bit as bit_of_source};
 ghost use Rattle.bpf_code.specs.Opcode.{arithmetic_class as class_of_arithmetic, jump_class as class_of_jump};
 
 use crate::instruction::{LoadKind, Size, Width};
@@ -123,8 +123,8 @@ impl Opcode {
         match self {
             Opcode::LoadWide => 0x18,
             Opcode::Load(kind) => load_byte(kind),
-            Opcode::StoreImmediate(size) => 0x62 + 8 * size_bits(size),
-            Opcode::StoreRegister(size) => 0x63 + 8 * size_bits(size),
+            Opcode::StoreImmediate(size) => 0x62 + 8 * size_code(size),
+            Opcode::StoreRegister(size) => 0x63 + 8 * size_code(size),
             Opcode::Arithmetic(width, code, source) => {
                 16 * code.number() + 8 * source_bit(source) + arithmetic_class(width)
             }
@@ -321,7 +321,7 @@ fn load_byte(kind: LoadKind) -> u8
     }
 }
 
-fn size_bits(size: Size) -> u8
+fn size_code(size: Size) -> u8
     ensures { result ≡ bits_of_size size }
 {
     match size {

@@ -365,37 +365,37 @@ fn instructions(rt: HostRuntime) -> Result<(), Fail> {
     let expected = [
         Some(Instruction::MoveSignExtended {
             kind: SignExtendingMove::From16To64,
-            dst: Register::Nine,
-            src: Register::One,
+            dst: Register::R9,
+            src: Register::R1,
         }),
         Some(Instruction::StoreImmediate {
             size: Size::DoubleWord,
-            dst: Register::Ten,
+            dst: Register::R10,
             offset: -8,
             immediate: -1,
         }),
         Some(Instruction::End {
             order: ByteOrder::Big,
             width: EndWidth::Low64,
-            dst: Register::One,
+            dst: Register::R1,
         }),
         Some(Instruction::Arithmetic {
             width: Width::Bits64,
             operation: BinaryOperation::Smod,
-            dst: Register::Two,
-            source: Source::Register(Register::Three),
+            dst: Register::R2,
+            source: Source::Register(Register::R3),
         }),
         Some(Instruction::Branch {
             width: Width::Bits32,
             condition: Condition::Lt,
-            dst: Register::Two,
+            dst: Register::R2,
             source: Source::Immediate(-2),
             distance: 4,
         }),
         Some(Instruction::Jump { distance: 0 }),
         Some(Instruction::LongJump { distance: 0 }),
         Some(Instruction::LoadWide {
-            dst: Register::Ten,
+            dst: Register::R10,
             value: 0x2_0000_0001,
         }),
         None,
@@ -430,7 +430,7 @@ fn parts_of_a_slot(rt: HostRuntime) -> Result<(), Fail> {
     assert_eq!(rt; fields.to_bytes(), bytes);
 
     let load = Instruction::LoadWide {
-        dst: Register::Three,
+        dst: Register::R3,
         value: 0x8000_0000_ffff_ffff,
     };
     assert_eq!(rt;

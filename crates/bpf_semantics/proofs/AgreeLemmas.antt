@@ -12,8 +12,8 @@ use Rattle.schema.proofs.LookLemmas.{rows_in_agree, is_first, first_is}
 use Rattle.schema.specs.declared.helper.Helper.{Helper}
 use Rattle.schema.specs.declared.helper.Helper.TheVariants.{RowGet, RowPut, RowDelete, RangeCount, RangeNext, Cancel}
 use Rattle.bpf_semantics.specs.State.{State}
-use Rattle.bpf_semantics.specs.Memory.{and_then, overwritten}
-use Rattle.bpf_semantics.specs.Helpers.{Table, called, row_get, row_put, range_count, range_next, with_point_look, with_range_look, with_row_read, with_next_read, look_at, last_seen, answered, flag, with_stack, row_or_zeros, key_or_zeros, row_of}
+use Rattle.bpf_semantics.specs.Memory.{and_then, stack_with}
+use Rattle.bpf_semantics.specs.Helpers.{Table, state_after_call, row_get, row_put, range_count, range_next, with_point_look, with_range_look, with_row_read, with_next_read, look_at, last_seen, with_answer, flag, with_stack, row_or_zeros, key_or_zeros, row_of}
 use Rattle.bpf_semantics.specs.Agree.{any_covers}
 use Rattle.bpf_semantics.proofs.StepLemmas.{just}
 
@@ -101,8 +101,8 @@ first_found table lo hi m n (Some (k, bytes)) e agree =
           elim (cases_lt q.1 k.1) [
             | inl lt ↦
                 let c = covered_is table lo hi q inside in
-                let near : covers (look_at table lo k.1) q ≡ true = covered table lo k.1 q c.table_is c.from (omega arith) in
-                first.least q inside (subst (λ o. IsSome o) (sym (agree q near)) present)
+                let near_place : covers (look_at table lo k.1) q ≡ true = covered table lo k.1 q c.table_is c.from (omega arith) in
+                first.least q inside (subst (λ o. IsSome o) (sym (agree q near_place)) present)
             | inr le ↦ le
           ];
     })
@@ -147,13 +147,13 @@ twin_of rows u v e = e ∙ ap (λ (r : Rows). over r u) (sym (ap (λ (x : State)
 
 row_read_over : (rows : Rows) (s : State) (t : Table) (key buffer : ℕ) (found : Option (List ℕ)) → with_row_read (over rows s) t key buffer found ≡ over rows (with_row_read s t key buffer found)
 row_read_over rows s t key buffer found =
-    ap (answered (flag found)) (point_over t.table key rows (with_stack (overwritten s.stack buffer (row_or_zeros t.width found)) s))
+    ap (with_answer (flag found)) (point_over t.table key rows (with_stack (stack_with s.stack buffer (row_or_zeros t.width found)) s))
 
 next_read_over : (rows : Rows) (s : State) (t : Table) (lo hi key_buffer row_buffer : ℕ) (found : Option (Key × List ℕ))
     → with_next_read (over rows s) t lo hi key_buffer row_buffer found ≡ over rows (with_next_read s t lo hi key_buffer row_buffer found)
 next_read_over rows s t lo hi key_buffer row_buffer found =
-    ap (answered (flag found)) (range_over t.table lo hi (last_seen hi found) rows
-    (with_stack (overwritten (overwritten s.stack key_buffer (key_or_zeros found)) row_buffer (row_or_zeros t.width (row_of found))) s))
+    ap (with_answer (flag found)) (range_over t.table lo hi (last_seen hi found) rows
+    (with_stack (stack_with (stack_with s.stack key_buffer (key_or_zeros found)) row_buffer (row_or_zeros t.width (row_of found))) s))
 
 row_read_twins : (m n rows : Rows) (s : State) (t : Table) (key buffer : ℕ) → s.rows ≡ after s.writes m → rows ≡ after s.writes n
     → AgreeOn (any_covers (with_row_read s t key buffer (row_at s.rows t.table key)).looks) m n
@@ -161,7 +161,7 @@ row_read_twins : (m n rows : Rows) (s : State) (t : Table) (key buffer : ℕ) �
 row_read_twins m n rows s t key buffer e f agree =
     let same : row_at rows t.table key ≡ row_at s.rows t.table key =
     ap (λ (r : Rows). get r (t.table, key)) f
-    ∙ sym (point_same t.table key (with_stack (overwritten s.stack buffer (row_or_zeros t.width (row_at s.rows t.table key))) s) m n agree)
+    ∙ sym (point_same t.table key (with_stack (stack_with s.stack buffer (row_or_zeros t.width (row_at s.rows t.table key))) s) m n agree)
     ∙ ap (λ (r : Rows). get r (t.table, key)) (sym e) in
     twin_of rows (with_row_read s t key buffer (row_at s.rows t.table key)) (with_row_read (over rows s) t key buffer (row_at rows t.table key))
     (ap (with_row_read (over rows s) t key buffer) same ∙ row_read_over rows s t key buffer (row_at s.rows t.table key))
@@ -172,8 +172,8 @@ count_twins m n rows s t lo hi e f agree =
     let same : count_in (look_at t.table lo hi) rows ≡ count_in (look_at t.table lo hi) s.rows =
     ap (count_in (look_at t.table lo hi)) f ∙ sym (count_same t.table lo hi s m n agree) ∙ ap (count_in (look_at t.table lo hi)) (sym e) in
     twin_of rows (range_count s t lo hi) (range_count (over rows s) t lo hi)
-    (ap (λ (count : ℕ). answered (count % 2 ^ 64) (with_range_look t.table lo hi hi (over rows s))) same
-    ∙ ap (answered (count_in (look_at t.table lo hi) s.rows % 2 ^ 64)) (range_over t.table lo hi hi rows s))
+    (ap (λ (count : ℕ). with_answer (count % 2 ^ 64) (with_range_look t.table lo hi hi (over rows s))) same
+    ∙ ap (with_answer (count_in (look_at t.table lo hi) s.rows % 2 ^ 64)) (range_over t.table lo hi hi rows s))
 
 -- the stack has no part in the looks
 range_looks : (table lo hi last : ℕ) (stack : List (Option ℕ)) (s : State) → (with_range_look table lo hi last (with_stack stack s)).looks ≡ (with_range_look table lo hi last s).looks
@@ -182,7 +182,7 @@ range_looks table lo hi last stack s = elim (nat_le lo hi) as (λ b. (cond b (re
 next_looks : (s : State) (t : Table) (lo hi key_buffer row_buffer : ℕ) (found : Option (Key × List ℕ))
     → (with_next_read s t lo hi key_buffer row_buffer found).looks ≡ (with_range_look t.table lo hi (last_seen hi found) s).looks
 next_looks s t lo hi key_buffer row_buffer found =
-    range_looks t.table lo hi (last_seen hi found) (overwritten (overwritten s.stack key_buffer (key_or_zeros found)) row_buffer (row_or_zeros t.width (row_of found))) s
+    range_looks t.table lo hi (last_seen hi found) (stack_with (stack_with s.stack key_buffer (key_or_zeros found)) row_buffer (row_or_zeros t.width (row_of found))) s
 
 next_twins : (m n rows : Rows) (s : State) (t : Table) (lo hi key_buffer row_buffer : ℕ) → s.rows ≡ after s.writes m → rows ≡ after s.writes n
     → AgreeOn (any_covers (with_next_read s t lo hi key_buffer row_buffer (first_in (look_at t.table lo hi) s.rows)).looks) m n
@@ -197,8 +197,8 @@ next_twins m n rows s t lo hi key_buffer row_buffer e f agree =
     (ap (with_next_read (over rows s) t lo hi key_buffer row_buffer) same ∙ next_read_over rows s t lo hi key_buffer row_buffer (first_in (look_at t.table lo hi) s.rows))
 
 pub called_twins : (m n rows : Rows) (tables : Tables) (h : Helper) (s : State) → s.rows ≡ after s.writes m → rows ≡ after s.writes n
-    → ((u : State) → called tables h s ≡ just u → AgreeOn (any_covers u.looks) m n) → AreTwins (called tables h s) (called tables h (over rows s))
-unfolding called row_get row_put range_next
+    → ((u : State) → state_after_call tables h s ≡ just u → AgreeOn (any_covers u.looks) m n) → AreTwins (state_after_call tables h s) (state_after_call tables h (over rows s))
+unfolding state_after_call row_get row_put range_next
 called_twins m n rows tables RowGet s e f agree =
     bound_twins (λ u. AgreeOn (any_covers u.looks) m n) _ _ _ agree (λ t a. bound_twins (λ u. AgreeOn (any_covers u.looks) m n) _ _ _ a (λ key b. bound_twins (λ u. AgreeOn (any_covers u.looks) m n) _ _ _ b (λ buffer d.
     row_read_twins m n rows s t key buffer e f (d (with_row_read s t key buffer (row_at s.rows t.table key)) refl))))

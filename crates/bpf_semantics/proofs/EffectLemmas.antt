@@ -15,10 +15,10 @@ use Rattle.schema.specs.declared.helper.Helper.{Helper}
 use Rattle.schema.specs.declared.helper.Helper.TheVariants.{RowGet, RowPut, RowDelete, RangeCount, RangeNext, Cancel}
 use Rattle.bpf_semantics.specs.declared.value.Value.{Value}
 use Rattle.bpf_semantics.specs.State.{State, with_register, past, entry_state}
-use Rattle.bpf_semantics.specs.Helpers.{Table, called, row_get, row_put, range_next, with_stack, with_point_look, with_range_look, with_row_read, with_next_read, look_at, last_seen, row_or_zeros, key_or_zeros, row_of}
-use Rattle.bpf_semantics.specs.Memory.{overwritten}
-use Rattle.bpf_semantics.specs.Step.{Going, Ended, Stuck, jumped, with_result, with_stored, execute, step, width_bits}
-use Rattle.bpf_semantics.specs.Run.{go_on, moment, Run, run_of, run, unless_cancelled}
+use Rattle.bpf_semantics.specs.Helpers.{Table, state_after_call, row_get, row_put, range_next, with_stack, with_point_look, with_range_look, with_row_read, with_next_read, look_at, last_seen, row_or_zeros, key_or_zeros, row_of}
+use Rattle.bpf_semantics.specs.Memory.{stack_with}
+use Rattle.bpf_semantics.specs.Step.{Going, Ended, Stuck, after_jump, with_result, with_store, execute, step, width_bits}
+use Rattle.bpf_semantics.specs.Run.{next_moment, moment, Run, run_of, run, unless_cancelled}
 use Rattle.bpf_semantics.proofs.StepLemmas.{just, bound, going_on, some_is, going_is}
 use Rattle.bpf_semantics.proofs.RunLemmas.{moment-front, not_ended, ended_is, exit_is, step_runs, going_runs, ended_runs, run_ended}
 
@@ -57,17 +57,17 @@ more rows s u v table key write e f is k =
 
 row_read_same : (s : State) (t : Table) (key buffer : ℕ) (found : Option (List ℕ)) → SameRows s (with_row_read s t key buffer found)
 row_read_same s t key buffer found =
-    let p = point t.table key s (with_stack (overwritten s.stack buffer (row_or_zeros t.width found)) s) (record { rows = refl; writes = refl }) in
+    let p = point t.table key s (with_stack (stack_with s.stack buffer (row_or_zeros t.width found)) s) (record { rows = refl; writes = refl }) in
     record { rows = p.rows; writes = p.writes }
 
 next_read_same : (s : State) (t : Table) (lo hi key_buffer row_buffer : ℕ) (found : Option (Key × List ℕ)) → SameRows s (with_next_read s t lo hi key_buffer row_buffer found)
 next_read_same s t lo hi key_buffer row_buffer found =
     let p = range t.table lo hi (last_seen hi found) s
-    (with_stack (overwritten (overwritten s.stack key_buffer (key_or_zeros found)) row_buffer (row_or_zeros t.width (row_of found))) s) (record { rows = refl; writes = refl }) in
+    (with_stack (stack_with (stack_with s.stack key_buffer (key_or_zeros found)) row_buffer (row_or_zeros t.width (row_of found))) s) (record { rows = refl; writes = refl }) in
     record { rows = p.rows; writes = p.writes }
 
-pub called_keeps : (rows : Rows) (tables : Tables) (h : Helper) (s u : State) → called tables h s ≡ just u → Kept rows s → Kept rows u
-unfolding called row_get row_put range_next
+pub called_keeps : (rows : Rows) (tables : Tables) (h : Helper) (s u : State) → state_after_call tables h s ≡ just u → Kept rows s → Kept rows u
+unfolding state_after_call row_get row_put range_next
 called_keeps rows tables RowGet s u e k =
     let a = bound _ _ u e in
     let b = bound _ _ u a.2 in
@@ -103,15 +103,15 @@ called_keeps rows tables Cancel s u e k =
 leaves : (rows : Rows) (n : ℕ) (s u t : State) → SameRows s u → Going (past n u) ≡ Going t → Kept rows s → Kept rows t
 leaves rows n s u t p e k = same rows s u (past n u) t p refl refl (going_is (past n u) t e) k
 
-jump_leaves : (rows : Rows) (d : ℤ) (s t : State) → jumped d s ≡ Going t → Kept rows s → Kept rows t
+jump_leaves : (rows : Rows) (d : ℤ) (s t : State) → after_jump d s ≡ Going t → Kept rows s → Kept rows t
 jump_leaves rows (pos n) s t e k = leaves rows (1 + n) s s t (itself s) e k
 jump_leaves rows (negsuc n) s t e k = absurd cc
 
-branch_leaves : (rows : Rows) (b : Bool) (d : ℤ) (s t : State) → cond b (jumped d s) (Going (past 1 s)) ≡ Going t → Kept rows s → Kept rows t
+branch_leaves : (rows : Rows) (b : Bool) (d : ℤ) (s t : State) → cond b (after_jump d s) (Going (past 1 s)) ≡ Going t → Kept rows s → Kept rows t
 branch_leaves rows true d s t e k = jump_leaves rows d s t e k
 branch_leaves rows false d s t e k = leaves rows 1 s s t (itself s) e k
 
-store_leaves : (rows : Rows) (o : Option (List (Option ℕ))) (s t : State) → with_stored o s ≡ Going t → Kept rows s → Kept rows t
+store_leaves : (rows : Rows) (o : Option (List (Option ℕ))) (s t : State) → with_store o s ≡ Going t → Kept rows s → Kept rows t
 store_leaves rows o s t e k = let a = going_on o _ t e in leaves rows 1 s (with_stack a.0 s) t (record { rows = refl; writes = refl }) a.2 k
 
 set_leaves : (rows : Rows) (dst : Register) (v : Value) (s t : State) → with_result dst v s ≡ Going t → Kept rows s → Kept rows t
@@ -142,7 +142,7 @@ execute_keeps rows tables Exit s t e k = let a = going_on _ _ t e in absurd cc
 ended_keeps : (rows : Rows) (p : Program) (tables : Tables) (k : ℕ) (s : State) (reply : ℕ) (t : State) → moment p tables k s ≡ Ended reply t → Kept rows s → Kept rows t
 ended_keeps rows p tables zero s reply t e kept = absurd (not_ended p tables s reply t e)
 ended_keeps rows p tables (suc k) s reply t e kept =
-    elim (step p tables s) as (λ m. step p tables s ≡ m → go_on (moment p tables k) m ≡ Ended reply t → Kept rows t) [
+    elim (step p tables s) as (λ m. step p tables s ≡ m → next_moment (moment p tables k) m ≡ Ended reply t → Kept rows t) [
       | Going u ↦ λ is h.
           let runs = step_runs p tables s (Going u) is (going_runs u) in
           ended_keeps rows p tables k u reply t h (execute_keeps rows tables runs.0 s u runs.2 kept)
@@ -153,26 +153,26 @@ ended_keeps rows p tables (suc k) s reply t e kept =
     ] refl (sym (moment-front p tables k s) ∙ e)
 
 -- a run that didn't cancel leaves the rows after its writes
-pub effect_kept : (p : Program) (tables : Tables) (args : List ℕ) (rows : Rows) (r : Run) → run p tables args rows ≡ just r → r.cancelled ≡ None → r.effect ≡ after r.writes rows
+pub effect_kept : (p : Program) (tables : Tables) (args : List ℕ) (rows : Rows) (r : Run) → run p tables args rows ≡ just r → r.cancel_code ≡ None → r.effect ≡ after r.writes rows
 unfolding run
 effect_kept p tables args rows r e none =
     let at = run_ended rows (moment p tables (length p) (entry_state args rows)) r e in
     let kept = ended_keeps rows p tables (length p) (entry_state args rows) at.0 at.1 at.2 (sym (after-empty rows)) in
-    let none : at.1.cancelled ≡ None = ap (λ (q : Run). q.cancelled) at.3 ∙ none in
+    let none : at.1.cancel_code ≡ None = ap (λ (q : Run). q.cancel_code) at.3 ∙ none in
     let here : (run_of rows at.0 at.1).effect ≡ after (run_of rows at.0 at.1).writes rows = rw none kept in
     subst (λ (q : Run). q.effect ≡ after q.writes rows) at.3 here
 
-cancelled_of : (rows : Rows) (reply : ℕ) (s : State) → IsSome s.cancelled → ((run_of rows reply s).effect ≡ rows) × ((run_of rows reply s).writes ≡ empty)
+cancelled_of : (rows : Rows) (reply : ℕ) (s : State) → IsSome s.cancel_code → ((run_of rows reply s).effect ≡ rows) × ((run_of rows reply s).writes ≡ empty)
 cancelled_of rows reply s some =
-    elim s.cancelled as (λ o. IsSome o → (unless_cancelled o s.rows rows ≡ rows) × (unless_cancelled o s.writes empty ≡ empty)) [
+    elim s.cancel_code as (λ o. IsSome o → (unless_cancelled o s.rows rows ≡ rows) × (unless_cancelled o s.writes empty ≡ empty)) [
       | None ↦ λ h. absurd cc
       | Some code ↦ λ h. (refl, refl)
     ] some
 
 -- one that did leaves the rows as they were, and has no writes
-pub effect_cancelled : (p : Program) (tables : Tables) (args : List ℕ) (rows : Rows) (r : Run) → run p tables args rows ≡ just r → IsSome r.cancelled → (r.effect ≡ rows) × (r.writes ≡ empty)
+pub effect_cancelled : (p : Program) (tables : Tables) (args : List ℕ) (rows : Rows) (r : Run) → run p tables args rows ≡ just r → IsSome r.cancel_code → (r.effect ≡ rows) × (r.writes ≡ empty)
 unfolding run
 effect_cancelled p tables args rows r e some =
     let at = run_ended rows (moment p tables (length p) (entry_state args rows)) r e in
-    let some : IsSome at.1.cancelled = subst (λ (q : Run). IsSome q.cancelled) (sym at.3) some in
+    let some : IsSome at.1.cancel_code = subst (λ (q : Run). IsSome q.cancel_code) (sym at.3) some in
     subst (λ (q : Run). (q.effect ≡ rows) × (q.writes ≡ empty)) at.3 (cancelled_of rows at.0 at.1 some)

@@ -7,7 +7,7 @@ use Rattle.schema.specs.Schema.{Tables}
 use Rattle.schema.specs.Rows.{Rows}
 use Rattle.bpf_semantics.specs.State.{State, entry_state}
 use Rattle.bpf_semantics.specs.Step.{Moment, Going, Ended, Stuck, or_stuck, execute, step}
-use Rattle.bpf_semantics.specs.Run.{go_on, moment, run, run_at, run_of}
+use Rattle.bpf_semantics.specs.Run.{next_moment, moment, run, run_at, run_of}
 use Rattle.bpf_semantics.specs.Path.{fall_through, jump_of}
 use Rattle.bpf_semantics.proofs.StepLemmas.{just, Leads, Steps, execute_leads}
 use Rattle.bpf_semantics.proofs.PathLemmas.{fall_further, jump_further}
@@ -29,7 +29,7 @@ abbrev FarOn : ℕ → Moment → Type 0
 FarOn k (Going s) = k ≤ s.slot
 FarOn k _ = Unit {0}
 
-step_far : (p : Program) (tables : Tables) (k : ℕ) (m : Moment) → FarOn k m → FarOn (suc k) (go_on (step p tables) m)
+step_far : (p : Program) (tables : Tables) (k : ℕ) (m : Moment) → FarOn k m → FarOn (suc k) (next_moment (step p tables) m)
 step_far p tables k (Ended reply s) h = tt
 step_far p tables k Stuck h = tt
 step_far p tables k (Going s) h =
@@ -54,7 +54,7 @@ none_behind [] slot h = refl
 none_behind (i ∷ p) zero h = absurd (omega arith)
 none_behind (i ∷ p) (suc slot) h = none_behind p slot (omega arith)
 
-no_step : (p : Program) (tables : Tables) (m : Moment) → FarOn (length p) m → (m ≡ Stuck) ⊎ ((s : State) × (m ≡ Going s)) → go_on (step p tables) m ≡ Stuck
+no_step : (p : Program) (tables : Tables) (m : Moment) → FarOn (length p) m → (m ≡ Stuck) ⊎ ((s : State) × (m ≡ Going s)) → next_moment (step p tables) m ≡ Stuck
 unfolding step or_stuck
 no_step p tables (Going s) h either = ap (λ o. or_stuck o (λ i. execute tables i s)) (none_behind p s.slot h)
 no_step p tables (Ended reply s) h either = elim either [ inl e ↦ absurd cc | inr e ↦ absurd (let f = e.1 in cc) ]
@@ -65,7 +65,7 @@ not_ended_then rows (Going s) e = inr (s, refl)
 not_ended_then rows (Ended reply s) e = absurd cc
 not_ended_then rows Stuck e = inl refl
 
-one_later : (p : Program) (tables : Tables) (args : List ℕ) (rows : Rows) → moment p tables (length p + 1) (entry_state args rows) ≡ go_on (step p tables) (moment p tables (length p) (entry_state args rows))
+one_later : (p : Program) (tables : Tables) (args : List ℕ) (rows : Rows) → moment p tables (length p + 1) (entry_state args rows) ≡ next_moment (step p tables) (moment p tables (length p) (entry_state args rows))
 unfolding moment
 one_later p tables args rows = let same : length p + 1 ≡ suc (length p) = omega arith in ap (λ (k : ℕ). moment p tables k (entry_state args rows)) same
 
@@ -75,7 +75,7 @@ stuck_at_the_end p tables args rows e =
     one_later p tables args rows
     ∙ no_step p tables (moment p tables (length p) (entry_state args rows)) (far_on p tables args rows (length p)) (not_ended_then rows _ e)
 
-none_of : (rows : Rows) (next : State → Moment) (m : Moment) → go_on next m ≡ Stuck → run_at rows m ≡ None
+none_of : (rows : Rows) (next : State → Moment) (m : Moment) → next_moment next m ≡ Stuck → run_at rows m ≡ None
 none_of rows next (Going s) e = refl
 none_of rows next (Ended reply s) e = absurd cc
 none_of rows next Stuck e = refl

@@ -13,10 +13,10 @@ use Rattle.schema.specs.Helper.{helper_of}
 use Rattle.schema.specs.declared.helper.Helper.{Helper}
 use Rattle.schema.specs.declared.helper.Helper.TheVariants.{RowGet, RowPut, RowDelete, RangeCount, RangeNext, Cancel}
 use Rattle.bpf_semantics.specs.State.{State, past, with_register, entry_state}
-use Rattle.bpf_semantics.specs.Memory.{overwritten}
-use Rattle.bpf_semantics.specs.Helpers.{Table, table_of, with_look, range_count, called, row_get, row_put, range_next, with_stack, with_point_look, with_range_look, with_row_read, with_next_read, look_at, last_seen, row_or_zeros, key_or_zeros, row_of}
-use Rattle.bpf_semantics.specs.Step.{Going, Ended, Stuck, jumped, with_stored, execute, step, width_bits}
-use Rattle.bpf_semantics.specs.Run.{go_on, moment, Run, run}
+use Rattle.bpf_semantics.specs.Memory.{stack_with}
+use Rattle.bpf_semantics.specs.Helpers.{Table, table_of, with_look, range_count, state_after_call, row_get, row_put, range_next, with_stack, with_point_look, with_range_look, with_row_read, with_next_read, look_at, last_seen, row_or_zeros, key_or_zeros, row_of}
+use Rattle.bpf_semantics.specs.Step.{Going, Ended, Stuck, after_jump, with_store, execute, step, width_bits}
+use Rattle.bpf_semantics.specs.Run.{next_moment, moment, Run, run}
 use Rattle.bpf_semantics.specs.Agree.{any_covers, looks_of, AgreeOnLooks, in_tables}
 use Rattle.std.proofs.lemmas.Bool.Decides.{nat_tests}
 use Rattle.bpf_semantics.specs.declared.value.Value.{Value}
@@ -51,13 +51,13 @@ range tables table lo hi last s known =
       | false ↦ inl refl
     ]
 
-called_looks : (tables : Tables) (h : Helper) (s u : State) → called tables h s ≡ just u → LooksOn tables s.looks u.looks
-unfolding called row_get row_put range_next
+called_looks : (tables : Tables) (h : Helper) (s u : State) → state_after_call tables h s ≡ just u → LooksOn tables s.looks u.looks
+unfolding state_after_call row_get row_put range_next
 called_looks tables RowGet s u e =
     let a = bound _ _ u e in
     let b = bound _ _ u a.2 in
     let d = bound _ _ u b.2 in
-    let stack = overwritten s.stack d.0 (row_or_zeros a.0.width (row_at s.rows a.0.table b.0)) in
+    let stack = stack_with s.stack d.0 (row_or_zeros a.0.width (row_at s.rows a.0.table b.0)) in
     same tables s.looks (with_row_read s a.0 b.0 d.0 (row_at s.rows a.0.table b.0)) u (point tables a.0.table b.0 (with_stack stack s) (known_table tables _ a.0 a.1)) (some_is _ u d.2)
 called_looks tables RowPut s u e =
     let a = bound _ _ u e in
@@ -81,7 +81,7 @@ called_looks tables RangeNext s u e =
     let f = bound _ _ u d.2 in
     let g = bound _ _ u f.2 in
     let found = first_in (look_at a.0.table b.0 d.0) s.rows in
-    let stack = overwritten (overwritten s.stack f.0 (key_or_zeros found)) g.0 (row_or_zeros a.0.width (row_of found)) in
+    let stack = stack_with (stack_with s.stack f.0 (key_or_zeros found)) g.0 (row_or_zeros a.0.width (row_of found)) in
     same tables s.looks (with_next_read s a.0 b.0 d.0 f.0 g.0 found) u (range tables a.0.table b.0 d.0 (last_seen d.0 found) (with_stack stack s) (known_table tables _ a.0 a.1)) (some_is _ u g.2)
 called_looks tables Cancel s u e =
     let a = bound _ _ u e in
@@ -91,15 +91,15 @@ called_looks tables Cancel s u e =
 leaves : (tables : Tables) (n : ℕ) (s u t : State) → u.looks ≡ s.looks → Going (past n u) ≡ Going t → LooksOn tables s.looks t.looks
 leaves tables n s u t p e = same tables s.looks (past n u) t (inl p) (going_is (past n u) t e)
 
-jump_leaves : (tables : Tables) (d : ℤ) (s t : State) → jumped d s ≡ Going t → LooksOn tables s.looks t.looks
+jump_leaves : (tables : Tables) (d : ℤ) (s t : State) → after_jump d s ≡ Going t → LooksOn tables s.looks t.looks
 jump_leaves tables (pos n) s t e = leaves tables (1 + n) s s t refl e
 jump_leaves tables (negsuc n) s t e = absurd cc
 
-branch_leaves : (tables : Tables) (b : Bool) (d : ℤ) (s t : State) → cond b (jumped d s) (Going (past 1 s)) ≡ Going t → LooksOn tables s.looks t.looks
+branch_leaves : (tables : Tables) (b : Bool) (d : ℤ) (s t : State) → cond b (after_jump d s) (Going (past 1 s)) ≡ Going t → LooksOn tables s.looks t.looks
 branch_leaves tables true d s t e = jump_leaves tables d s t e
 branch_leaves tables false d s t e = leaves tables 1 s s t refl e
 
-store_leaves : (tables : Tables) (o : Option (List (Option ℕ))) (s t : State) → with_stored o s ≡ Going t → LooksOn tables s.looks t.looks
+store_leaves : (tables : Tables) (o : Option (List (Option ℕ))) (s t : State) → with_store o s ≡ Going t → LooksOn tables s.looks t.looks
 store_leaves tables o s t e = let a = going_on o _ t e in leaves tables 1 s (with_stack a.0 s) t refl a.2
 
 execute_looks : (tables : Tables) (i : Instruction) (s t : State) → execute tables i s ≡ Going t → LooksOn tables s.looks t.looks
@@ -147,7 +147,7 @@ execute_grows tables i s t e = grows_by tables s t (execute_looks tables i s t e
 ended_grows : (p : Program) (tables : Tables) (k : ℕ) (s : State) (reply : ℕ) (t : State) → moment p tables k s ≡ Ended reply t → Grows s t
 ended_grows p tables zero s reply t e = absurd (not_ended p tables s reply t e)
 ended_grows p tables (suc k) s reply t e =
-    elim (step p tables s) as (λ m. step p tables s ≡ m → go_on (moment p tables k) m ≡ Ended reply t → Grows s t) [
+    elim (step p tables s) as (λ m. step p tables s ≡ m → next_moment (moment p tables k) m ≡ Ended reply t → Grows s t) [
       | Going u ↦ λ is h.
           let runs = step_runs p tables s (Going u) is (going_runs u) in
           λ q c. ended_grows p tables k u reply t h q (execute_grows tables runs.0 s u runs.2 q c)
@@ -158,24 +158,24 @@ ended_grows p tables (suc k) s reply t e =
     ] refl (sym (moment-front p tables k s) ∙ e)
 
 -- so many steps after a moment
-moment-add : (p : Program) (tables : Tables) (i j : ℕ) (s : State) → moment p tables (i + j) s ≡ go_on (moment p tables i) (moment p tables j s)
+moment-add : (p : Program) (tables : Tables) (i j : ℕ) (s : State) → moment p tables (i + j) s ≡ next_moment (moment p tables i) (moment p tables j s)
 unfolding moment
 moment-add p tables zero j s =
     let same : 0 + j ≡ j = omega arith in
-    ap (λ (k : ℕ). moment p tables k s) same ∙ elim (moment p tables j s) as (λ m. m ≡ go_on (λ t. Going t) m) [ Going t ↦ refl | Ended r t ↦ refl | Stuck ↦ refl ]
+    ap (λ (k : ℕ). moment p tables k s) same ∙ elim (moment p tables j s) as (λ m. m ≡ next_moment (λ t. Going t) m) [ Going t ↦ refl | Ended r t ↦ refl | Stuck ↦ refl ]
 moment-add p tables (suc i) j s =
     let same : suc i + j ≡ suc (i + j) = omega arith in
-    ap (λ (k : ℕ). moment p tables k s) same ∙ ap (go_on (step p tables)) (moment-add p tables i j s)
-    ∙ elim (moment p tables j s) as (λ m. go_on (step p tables) (go_on (moment p tables i) m) ≡ go_on (moment p tables (suc i)) m) [ Going t ↦ refl | Ended r t ↦ refl | Stuck ↦ refl ]
+    ap (λ (k : ℕ). moment p tables k s) same ∙ ap (next_moment (step p tables)) (moment-add p tables i j s)
+    ∙ elim (moment p tables j s) as (λ m. next_moment (step p tables) (next_moment (moment p tables i) m) ≡ next_moment (moment p tables (suc i)) m) [ Going t ↦ refl | Ended r t ↦ refl | Stuck ↦ refl ]
 
 -- what was looked at before the end is looked at by the end
 looked_before : (p : Program) (tables : Tables) (k j : ℕ) (s : State) (reply : ℕ) (t : State) (q : Key) → moment p tables k s ≡ Ended reply t
     → any_covers (looks_of (moment p tables j s)) q ≡ true → any_covers t.looks q ≡ true
 looked_before p tables k j s reply t q e c =
     let order : j + k ≡ k + j = omega arith in
-    let later : go_on (moment p tables k) (moment p tables j s) ≡ Ended reply t =
+    let later : next_moment (moment p tables k) (moment p tables j s) ≡ Ended reply t =
     sym (moment-add p tables k j s) ∙ ap (λ (i : ℕ). moment p tables i s) (sym order) ∙ ended_stays p tables k j reply s t e in
-    elim (moment p tables j s) as (λ m. go_on (moment p tables k) m ≡ Ended reply t → any_covers (looks_of m) q ≡ true → any_covers t.looks q ≡ true) [
+    elim (moment p tables j s) as (λ m. next_moment (moment p tables k) m ≡ Ended reply t → any_covers (looks_of m) q ≡ true → any_covers t.looks q ≡ true) [
       | Going u ↦ λ h d. ended_grows p tables k u reply t h q d
       | Ended r u ↦ λ h d. subst (λ (x : State). any_covers x.looks q ≡ true) (ended_is r u reply t h) d
       | Stuck ↦ λ h d. absurd (ended_runs reply t (sym h))
@@ -224,7 +224,7 @@ moment_inside : (p : Program) (tables : Tables) (k : ℕ) (s : State) → Inside
 unfolding moment
 moment_inside p tables zero s h = h
 moment_inside p tables (suc k) s h =
-    elim (moment p tables k s) as (λ m. Inside tables (looks_of m) → Inside tables (looks_of (go_on (step p tables) m))) [
+    elim (moment p tables k s) as (λ m. Inside tables (looks_of m) → Inside tables (looks_of (next_moment (step p tables) m))) [
       | Going t ↦ λ inside. step_inside p tables t inside
       | Ended r t ↦ λ inside. inside
       | Stuck ↦ λ inside. inside

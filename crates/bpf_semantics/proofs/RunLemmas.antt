@@ -6,19 +6,19 @@ use Rattle.bpf_code.specs.Program.{Program, instruction_at}
 use Rattle.schema.specs.Schema.{Tables}
 use Rattle.schema.specs.Rows.{Rows}
 use Rattle.bpf_semantics.specs.State.{State, past, entry_state}
-use Rattle.bpf_semantics.specs.Step.{Moment, Going, Ended, Stuck, or_stuck, jumped, with_stored, execute, step}
-use Rattle.bpf_semantics.specs.Run.{go_on, moment, Run, run_of, run_at, run}
+use Rattle.bpf_semantics.specs.Step.{Moment, Going, Ended, Stuck, or_stuck, after_jump, with_store, execute, step}
+use Rattle.bpf_semantics.specs.Run.{next_moment, moment, Run, run_of, run_at, run}
 use Rattle.bpf_semantics.specs.Path.{fall_through, jump_of, from_there, one_more, path, longest_path}
 use Rattle.bpf_semantics.proofs.StepLemmas.{just, Leads, Steps, execute_leads}
 
 -- ---- the first step first
 
-pub moment-front : (p : Program) (tables : Tables) (k : ℕ) (s : State) → moment p tables (suc k) s ≡ go_on (moment p tables k) (step p tables s)
+pub moment-front : (p : Program) (tables : Tables) (k : ℕ) (s : State) → moment p tables (suc k) s ≡ next_moment (moment p tables k) (step p tables s)
 unfolding moment
-moment-front p tables zero s = elim (step p tables s) as (λ m. m ≡ go_on (λ t. Going t) m) [ Going t ↦ refl | Ended r t ↦ refl | Stuck ↦ refl ]
+moment-front p tables zero s = elim (step p tables s) as (λ m. m ≡ next_moment (λ t. Going t) m) [ Going t ↦ refl | Ended r t ↦ refl | Stuck ↦ refl ]
 moment-front p tables (suc k) s =
-    ap (go_on (step p tables)) (moment-front p tables k s)
-    ∙ elim (step p tables s) as (λ m. go_on (step p tables) (go_on (moment p tables k) m) ≡ go_on (moment p tables (suc k)) m) [ Going t ↦ refl | Ended r t ↦ refl | Stuck ↦ refl ]
+    ap (next_moment (step p tables)) (moment-front p tables k s)
+    ∙ elim (step p tables s) as (λ m. next_moment (step p tables) (next_moment (moment p tables k) m) ≡ next_moment (moment p tables (suc k)) m) [ Going t ↦ refl | Ended r t ↦ refl | Stuck ↦ refl ]
 
 -- ---- what has ended or is stuck stays so
 
@@ -27,14 +27,14 @@ unfolding moment
 stuck_stays p tables k zero s e = let same : 0 + k ≡ k = omega arith in ap (λ (j : ℕ). moment p tables j s) same ∙ e
 stuck_stays p tables k (suc n) s e =
     let same : suc n + k ≡ suc (n + k) = omega arith in
-    ap (λ (j : ℕ). moment p tables j s) same ∙ ap (go_on (step p tables)) (stuck_stays p tables k n s e)
+    ap (λ (j : ℕ). moment p tables j s) same ∙ ap (next_moment (step p tables)) (stuck_stays p tables k n s e)
 
 pub ended_stays : (p : Program) (tables : Tables) (k n reply : ℕ) (s t : State) → moment p tables k s ≡ Ended reply t → moment p tables (n + k) s ≡ Ended reply t
 unfolding moment
 ended_stays p tables k zero reply s t e = let same : 0 + k ≡ k = omega arith in ap (λ (j : ℕ). moment p tables j s) same ∙ e
 ended_stays p tables k (suc n) reply s t e =
     let same : suc n + k ≡ suc (n + k) = omega arith in
-    ap (λ (j : ℕ). moment p tables j s) same ∙ ap (go_on (step p tables)) (ended_stays p tables k n reply s t e)
+    ap (λ (j : ℕ). moment p tables j s) same ∙ ap (next_moment (step p tables)) (ended_stays p tables k n reply s t e)
 
 -- ---- the length of a run
 
@@ -46,15 +46,15 @@ unfolding or_stuck
 ending None next r t e = absurd cc
 ending (Some x) next r t e = (x, refl, e)
 
-pub jump_goes : (d : ℤ) (s : State) (r : ℕ) (t : State) → jumped d s ≡ Ended r t → ⊥
+pub jump_goes : (d : ℤ) (s : State) (r : ℕ) (t : State) → after_jump d s ≡ Ended r t → ⊥
 jump_goes (pos n) s r t e = cc
 jump_goes (negsuc n) s r t e = cc
 
-pub branch_goes : (b : Bool) (d : ℤ) (s : State) (r : ℕ) (t : State) → cond b (jumped d s) (Going (past 1 s)) ≡ Ended r t → ⊥
+pub branch_goes : (b : Bool) (d : ℤ) (s : State) (r : ℕ) (t : State) → cond b (after_jump d s) (Going (past 1 s)) ≡ Ended r t → ⊥
 branch_goes true d s r t e = jump_goes d s r t e
 branch_goes false d s r t e = cc
 
-pub store_goes : (o : Option (List (Option ℕ))) (s : State) (r : ℕ) (t : State) → with_stored o s ≡ Ended r t → ⊥
+pub store_goes : (o : Option (List (Option ℕ))) (s : State) (r : ℕ) (t : State) → with_store o s ≡ Ended r t → ⊥
 store_goes o s r t e = let a = ending o _ r t e in let bad = a.2 in cc
 
 -- EXIT is counted, and nothing else ends
@@ -115,7 +115,7 @@ ended_within : (p : Program) (tables : Tables) (k : ℕ) (s : State) (reply : �
 unfolding path
 ended_within p tables zero s reply t e = absurd (not_ended p tables s reply t e)
 ended_within p tables (suc k) s reply t e =
-    elim (step p tables s) as (λ m. step p tables s ≡ m → go_on (moment p tables k) m ≡ Ended reply t → t.steps ≤ s.steps + one_more (path p k) s.slot (instruction_at p s.slot)) [
+    elim (step p tables s) as (λ m. step p tables s ≡ m → next_moment (moment p tables k) m ≡ Ended reply t → t.steps ≤ s.steps + one_more (path p k) s.slot (instruction_at p s.slot)) [
       | Going u ↦ λ is h.
           let runs = step_runs p tables s (Going u) is (going_runs u) in
           let leads = execute_leads tables runs.0 s u runs.2 in

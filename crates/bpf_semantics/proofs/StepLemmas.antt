@@ -4,7 +4,7 @@ use Rattle.std.specs.Prelude.{is_some, nat_le}
 use Rattle.std.specs.FinMap.{get}
 use Rattle.bpf_words.specs.Condition.{holds}
 use Rattle.bpf_code.specs.declared.instruction.Register.{Register}
-use Rattle.bpf_code.specs.declared.instruction.Register.TheVariants.{Three, Four, Five}
+use Rattle.bpf_code.specs.declared.instruction.Register.TheVariants.{R3, R4, R5}
 use Rattle.bpf_code.specs.declared.instruction.Instruction.{Instruction}
 use Rattle.bpf_code.specs.declared.instruction.Instruction.TheVariants.{LoadWide, Load, StoreImmediate, StoreRegister, Arithmetic, Negate, MoveSignExtended, End, Jump, LongJump, Branch, Call, Exit}
 use Rattle.schema.specs.Schema.{Tables}
@@ -14,9 +14,9 @@ use Rattle.schema.specs.declared.helper.Helper.{Helper}
 use Rattle.schema.specs.declared.helper.Helper.TheVariants.{RowGet, RowPut, RowDelete, RangeCount, RangeNext, Cancel}
 use Rattle.bpf_semantics.specs.declared.value.Value.{Value}
 use Rattle.bpf_semantics.specs.State.{State, register, with_register, past}
-use Rattle.bpf_semantics.specs.Memory.{and_then, overwritten}
-use Rattle.bpf_semantics.specs.Helpers.{Table, called, row_get, row_put, range_count, range_next, with_stack, with_point_look, with_range_look, with_row_read, with_next_read, look_at, last_seen, row_or_zeros, key_or_zeros, row_of}
-use Rattle.bpf_semantics.specs.Step.{Moment, Going, or_stuck, jumped, with_result, with_stored, execute, width_bits}
+use Rattle.bpf_semantics.specs.Memory.{and_then, stack_with}
+use Rattle.bpf_semantics.specs.Helpers.{Table, state_after_call, row_get, row_put, range_count, range_next, with_stack, with_point_look, with_range_look, with_row_read, with_next_read, look_at, last_seen, row_or_zeros, key_or_zeros, row_of}
+use Rattle.bpf_semantics.specs.Step.{Moment, Going, or_stuck, after_jump, with_result, with_store, execute, width_bits}
 use Rattle.bpf_semantics.specs.Path.{fall_through, slots_of_jump, jump_of}
 
 -- ---- options and moments
@@ -67,7 +67,7 @@ itself s = record { slot = refl; steps = refl }
 
 row_read_place : (s : State) (t : Table) (key buffer : ℕ) (found : Option (List ℕ)) → SamePlace s (with_row_read s t key buffer found)
 row_read_place s t key buffer found =
-    let p = point_place t.table key s (with_stack (overwritten s.stack buffer (row_or_zeros t.width found)) s) (record { slot = refl; steps = refl }) in
+    let p = point_place t.table key s (with_stack (stack_with s.stack buffer (row_or_zeros t.width found)) s) (record { slot = refl; steps = refl }) in
     record { slot = p.slot; steps = p.steps }
 
 get_place : (s : State) (t : Table) (key : ℕ) (to : Value) (u : State) → row_get s t key to ≡ just u → SamePlace s u
@@ -86,7 +86,7 @@ put_place s t key from u e =
 next_read_place : (s : State) (t : Table) (lo hi key_buffer row_buffer : ℕ) (found : Option (Key × List ℕ)) → SamePlace s (with_next_read s t lo hi key_buffer row_buffer found)
 next_read_place s t lo hi key_buffer row_buffer found =
     let p = range_place t.table lo hi (last_seen hi found) s
-    (with_stack (overwritten (overwritten s.stack key_buffer (key_or_zeros found)) row_buffer (row_or_zeros t.width (row_of found))) s) (record { slot = refl; steps = refl }) in
+    (with_stack (stack_with (stack_with s.stack key_buffer (key_or_zeros found)) row_buffer (row_or_zeros t.width (row_of found))) s) (record { slot = refl; steps = refl }) in
     record { slot = p.slot; steps = p.steps }
 
 next_place : (s : State) (t : Table) (lo hi : ℕ) (key_to row_to : Value) (u : State) → range_next s t lo hi key_to row_to ≡ just u → SamePlace s u
@@ -101,16 +101,16 @@ count_place s t lo hi u e =
     let p = range_place t.table lo hi hi s s (itself s) in
     same s _ _ u p refl refl (some_is _ u e)
 
-pub called_place : (tables : Tables) (h : Helper) (s u : State) → called tables h s ≡ just u → SamePlace s u
-unfolding called
+pub called_place : (tables : Tables) (h : Helper) (s u : State) → state_after_call tables h s ≡ just u → SamePlace s u
+unfolding state_after_call
 called_place tables RowGet s u e =
     let a = bound _ _ u e in
     let b = bound _ _ u a.2 in
-    get_place s a.0 b.0 (register s Three) u b.2
+    get_place s a.0 b.0 (register s R3) u b.2
 called_place tables RowPut s u e =
     let a = bound _ _ u e in
     let b = bound _ _ u a.2 in
-    put_place s a.0 b.0 (register s Three) u b.2
+    put_place s a.0 b.0 (register s R3) u b.2
 called_place tables RowDelete s u e =
     let a = bound _ _ u e in
     let b = bound _ _ u a.2 in
@@ -124,7 +124,7 @@ called_place tables RangeNext s u e =
     let a = bound _ _ u e in
     let b = bound _ _ u a.2 in
     let c = bound _ _ u b.2 in
-    next_place s a.0 b.0 c.0 (register s Four) (register s Five) u c.2
+    next_place s a.0 b.0 c.0 (register s R4) (register s R5) u c.2
 called_place tables Cancel s u e =
     let a = bound _ _ u e in
     same s s _ u (itself s) refl refl (some_is _ u a.2)
@@ -148,17 +148,17 @@ falls n i s u t through p e =
     let steps : t.steps ≡ s.steps + 1 = sym (ap (λ (v : State). v.steps) is) ∙ ap (λ (k : ℕ). k + 1) p.steps in
     record { leads = inl (subst (λ o. Leads o s.slot t.slot) (sym through) slot); counts = steps }
 
-jumps : (d : ℤ) (i : Instruction) (s t : State) → jump_of i ≡ slots_of_jump (just d) → jumped d s ≡ Going t → Steps i s t
+jumps : (d : ℤ) (i : Instruction) (s t : State) → jump_of i ≡ slots_of_jump (just d) → after_jump d s ≡ Going t → Steps i s t
 jumps (pos n) i s t is e =
     let at = going_is (past (1 + n) s) t e in
     record { leads = inr (subst (λ o. Leads o s.slot t.slot) (sym is) (sym (ap (λ (v : State). v.slot) at))); counts = sym (ap (λ (v : State). v.steps) at) }
 jumps (negsuc n) i s t is e = absurd cc
 
-branches : (b : Bool) (d : ℤ) (i : Instruction) (s t : State) → fall_through i ≡ just 1 → jump_of i ≡ slots_of_jump (just d) → cond b (jumped d s) (Going (past 1 s)) ≡ Going t → Steps i s t
+branches : (b : Bool) (d : ℤ) (i : Instruction) (s t : State) → fall_through i ≡ just 1 → jump_of i ≡ slots_of_jump (just d) → cond b (after_jump d s) (Going (past 1 s)) ≡ Going t → Steps i s t
 branches true d i s t through is e = jumps d i s t is e
 branches false d i s t through is e = falls 1 i s s t through (itself s) e
 
-stores : (i : Instruction) (o : Option (List (Option ℕ))) (s t : State) → fall_through i ≡ just 1 → with_stored o s ≡ Going t → Steps i s t
+stores : (i : Instruction) (o : Option (List (Option ℕ))) (s t : State) → fall_through i ≡ just 1 → with_store o s ≡ Going t → Steps i s t
 stores i o s t through e = let a = going_on o _ t e in falls 1 i s (record s { stack = a.0 }) t through (record { slot = refl; steps = refl }) a.2
 
 sets : (i : Instruction) (dst : Register) (v : Value) (s t : State) → fall_through i ≡ just 1 → with_result dst v s ≡ Going t → Steps i s t

@@ -14,9 +14,9 @@ use Rattle.schema.proofs.RowsLemmas.{after-empty, get-after}
 use Rattle.schema.specs.declared.helper.Helper.{Helper}
 use Rattle.bpf_semantics.specs.State.{State, past, entry_state}
 use Rattle.bpf_semantics.specs.Memory.{and_then}
-use Rattle.bpf_semantics.specs.Helpers.{called}
-use Rattle.bpf_semantics.specs.Step.{Moment, Going, Ended, Stuck, or_stuck, jumped, with_stored, execute, step, width_bits}
-use Rattle.bpf_semantics.specs.Run.{go_on, moment, Run, run_of, run_at, run}
+use Rattle.bpf_semantics.specs.Helpers.{state_after_call}
+use Rattle.bpf_semantics.specs.Step.{Moment, Going, Ended, Stuck, or_stuck, after_jump, with_store, execute, step, width_bits}
+use Rattle.bpf_semantics.specs.Run.{next_moment, moment, Run, run_of, run_at, run}
 use Rattle.bpf_semantics.specs.Agree.{any_covers, looks_of, AgreeOnLooks, in_tables, same_on, AreElsewhere, after_each}
 use Rattle.bpf_semantics.proofs.LookLemmas.{agree_on_run, agree_on_tables}
 use Rattle.bpf_semantics.proofs.StepLemmas.{just}
@@ -36,15 +36,15 @@ unfolding or_stuck
 or_stuck_twins None f g h = tt
 or_stuck_twins (Some x) f g h = h x
 
-jump_twins : (d : ℤ) (s : State) (rows : Rows) → SameMoments (jumped d s) (jumped d (over rows s))
+jump_twins : (d : ℤ) (s : State) (rows : Rows) → SameMoments (after_jump d s) (after_jump d (over rows s))
 jump_twins (pos n) s rows = refl
 jump_twins (negsuc n) s rows = tt
 
-branch_twins : (b : Bool) (d : ℤ) (s : State) (rows : Rows) → SameMoments (cond b (jumped d s) (Going (past 1 s))) (cond b (jumped d (over rows s)) (Going (past 1 (over rows s))))
+branch_twins : (b : Bool) (d : ℤ) (s : State) (rows : Rows) → SameMoments (cond b (after_jump d s) (Going (past 1 s))) (cond b (after_jump d (over rows s)) (Going (past 1 (over rows s))))
 branch_twins true d s rows = jump_twins d s rows
 branch_twins false d s rows = refl
 
-store_twins : (o : Option (List (Option ℕ))) (s : State) (rows : Rows) → SameMoments (with_stored o s) (with_stored o (over rows s))
+store_twins : (o : Option (List (Option ℕ))) (s : State) (rows : Rows) → SameMoments (with_store o s) (with_store o (over rows s))
 store_twins o s rows = or_stuck_twins o _ _ (λ stack. refl)
 
 after_call : (a b : Option State) → AreTwins a b → SameMoments (or_stuck a (λ t. Going (past 1 t))) (or_stuck b (λ t. Going (past 1 t)))
@@ -55,12 +55,12 @@ after_call None (Some v) h = h
 after_call (Some u) None h = h
 
 call_twins : (m n rows : Rows) (tables : Tables) (o : Option Helper) (s : State) → s.rows ≡ after s.writes m → rows ≡ after s.writes n
-    → AgreeOn (any_covers (looks_of (or_stuck (and_then o (λ h. called tables h s)) (λ t. Going (past 1 t))))) m n
-    → SameMoments (or_stuck (and_then o (λ h. called tables h s)) (λ t. Going (past 1 t))) (or_stuck (and_then o (λ h. called tables h (over rows s))) (λ t. Going (past 1 t)))
+    → AgreeOn (any_covers (looks_of (or_stuck (and_then o (λ h. state_after_call tables h s)) (λ t. Going (past 1 t))))) m n
+    → SameMoments (or_stuck (and_then o (λ h. state_after_call tables h s)) (λ t. Going (past 1 t))) (or_stuck (and_then o (λ h. state_after_call tables h (over rows s))) (λ t. Going (past 1 t)))
 unfolding or_stuck and_then
 call_twins m n rows tables None s e f agree = tt
 call_twins m n rows tables (Some h) s e f agree =
-    after_call (called tables h s) (called tables h (over rows s))
+    after_call (state_after_call tables h s) (state_after_call tables h (over rows s))
     (called_twins m n rows tables h s e f (λ u is. subst (λ o. AgreeOn (any_covers (looks_of (or_stuck o (λ t. Going (past 1 t))))) m n) is agree))
 
 execute_twins : (m n rows : Rows) (tables : Tables) (i : Instruction) (s : State) → s.rows ≡ after s.writes m → rows ≡ after s.writes n
@@ -120,8 +120,8 @@ together m n (Ended r u) Stuck h f g = h
 together m n Stuck (Going v) h f g = h
 together m n Stuck (Ended q v) h f g = h
 
-next_together : (m n : Rows) (p : Program) (tables : Tables) (a b : Moment) → AreTogether m n a b → AgreeOn (any_covers (looks_of (go_on (step p tables) a))) m n
-    → AreTogether m n (go_on (step p tables) a) (go_on (step p tables) b)
+next_together : (m n : Rows) (p : Program) (tables : Tables) (a b : Moment) → AreTogether m n a b → AgreeOn (any_covers (looks_of (next_moment (step p tables) a))) m n
+    → AreTogether m n (next_moment (step p tables) a) (next_moment (step p tables) b)
 next_together m n p tables (Going u) (Going v) h agree =
     let kept : Kept n (over v.rows u) = subst (Kept n) h.same h.kept_too in
     let twins : SameMoments (step p tables u) (step p tables v) =
@@ -160,7 +160,7 @@ ended_alike m n r u (Ended q v) h =
 -- the effect is that of the writes, whether it cancelled or not
 effect_is : (p : Program) (tables : Tables) (args : List ℕ) (rows : Rows) (r : Run) → run p tables args rows ≡ just r → r.effect ≡ after r.writes rows
 effect_is p tables args rows r e =
-    elim r.cancelled as (λ o. r.cancelled ≡ o → r.effect ≡ after r.writes rows) [
+    elim r.cancel_code as (λ o. r.cancel_code ≡ o → r.effect ≡ after r.writes rows) [
       | None ↦ λ none. effect_kept p tables args rows r e none
       | Some code ↦ λ some.
           let c = effect_cancelled p tables args rows r e (subst (λ o. IsSome o) (sym some) refl) in

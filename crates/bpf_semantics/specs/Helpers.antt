@@ -5,7 +5,7 @@ use Rattle.std.specs.Prelude.{ℕ, ◌%◌, ◌^◌, List, [], ◌∷◌, ◌++�
 use Rattle.std.specs.Option.{option_map}
 use Rattle.std.specs.FinMap.{get}
 use Rattle.byteorder.specs.Endian.{little_bytes}
-use Rattle.bpf_code.specs.declared.instruction.Register.TheVariants.{One, Two, Three, Four, Five}
+use Rattle.bpf_code.specs.declared.instruction.Register.TheVariants.{R1, R2, R3, R4, R5}
 use Rattle.schema.specs.Schema.{Tables}
 use Rattle.schema.specs.declared.look.Look.{Look}
 use Rattle.schema.specs.Rows.{Key, row_at, written, with_write, count_in, first_in}
@@ -14,7 +14,7 @@ use Rattle.schema.specs.declared.helper.Helper.TheVariants.{RowGet, RowPut, RowD
 use Rattle.bpf_semantics.specs.declared.value.Value.{Value}
 use Rattle.bpf_semantics.specs.declared.value.Value.TheVariants.{Nothing, Number, Stack}
 use Rattle.bpf_semantics.specs.State.{State, register, number}
-use Rattle.bpf_semantics.specs.Memory.{◌>>=◌, stack_index, known_from, overwritten}
+use Rattle.bpf_semantics.specs.Memory.{◌>>=◌, stack_index, known_bytes, stack_with}
 
 -- a table of the schema, and its width
 pub record Table : Type 0 where
@@ -33,8 +33,8 @@ buffer_of (Stack place) width = stack_index place width
 buffer_of _ width = None
 
 -- r0 gets the answer, and r1 to r5 nothing
-abbrev pub answered : ℕ → State → State
-answered answer s = record s { registers = Number answer ∷ (replicate 5 Nothing ++ drop 6 s.registers) }
+abbrev pub with_answer : ℕ → State → State
+with_answer answer s = record s { registers = Number answer ∷ (replicate 5 Nothing ++ drop 6 s.registers) }
 
 abbrev pub with_stack : List (Option ℕ) → State → State
 with_stack stack s = record s { stack = stack }
@@ -56,8 +56,8 @@ abbrev pub with_range_look : ℕ → ℕ → ℕ → ℕ → State → State
 with_range_look table lo hi last s = if nat_le lo hi then with_look (look_at table lo last) s else s
 
 -- a put has bytes, a removal none
-abbrev pub wrote : ℕ → ℕ → Option (List ℕ) → State → State
-wrote table key write s = record s { rows = written (table, key) write s.rows; writes = with_write s.writes (table, key) write }
+abbrev pub with_row_write : ℕ → ℕ → Option (List ℕ) → State → State
+with_row_write table key write s = record s { rows = written (table, key) write s.rows; writes = with_write s.writes (table, key) write }
 
 -- ---- the helpers
 
@@ -72,8 +72,8 @@ row_or_zeros width (Some bytes) = bytes
 
 abbrev pub with_row_read : State → Table → ℕ → ℕ → Option (List ℕ) → State
 with_row_read s t key buffer found =
-    let stack = overwritten s.stack buffer (row_or_zeros t.width found) in
-    answered (flag found) (with_point_look t.table key (with_stack stack s))
+    let stack = stack_with s.stack buffer (row_or_zeros t.width found) in
+    with_answer (flag found) (with_point_look t.table key (with_stack stack s))
 
 unfoldable pub row_get : State → Table → ℕ → Value → Option State
 row_get s t key to = do
@@ -83,15 +83,15 @@ row_get s t key to = do
 unfoldable pub row_put : State → Table → ℕ → Value → Option State
 row_put s t key from = do
   buffer ← buffer_of from t.width
-  bytes ← known_from s.stack buffer t.width
-  Some (answered 0 (wrote t.table key (Some bytes) s))
+  bytes ← known_bytes s.stack buffer t.width
+  Some (with_answer 0 (with_row_write t.table key (Some bytes) s))
 
 abbrev pub row_delete : State → Table → ℕ → State
-row_delete s t key = answered 0 (wrote t.table key None s)
+row_delete s t key = with_answer 0 (with_row_write t.table key None s)
 
 -- a count looks at all of lo to hi
 abbrev pub range_count : State → Table → ℕ → ℕ → State
-range_count s t lo hi = answered (count_in (look_at t.table lo hi) s.rows % 2 ^ 64) (with_range_look t.table lo hi hi s)
+range_count s t lo hi = with_answer (count_in (look_at t.table lo hi) s.rows % 2 ^ 64) (with_range_look t.table lo hi hi s)
 
 -- the found key, or hi where there is none
 abbrev pub last_seen : ℕ → Option (Key × List ℕ) → ℕ
@@ -108,9 +108,9 @@ row_of = option_map (λ found. found.1)
 -- the key buffer is written before the row buffer
 abbrev pub with_next_read : State → Table → ℕ → ℕ → ℕ → ℕ → Option (Key × List ℕ) → State
 with_next_read s t lo hi key_buffer row_buffer found =
-    let keyed = overwritten s.stack key_buffer (key_or_zeros found) in
-    let stack = overwritten keyed row_buffer (row_or_zeros t.width (row_of found)) in
-    answered (flag found) (with_range_look t.table lo hi (last_seen hi found) (with_stack stack s))
+    let keyed = stack_with s.stack key_buffer (key_or_zeros found) in
+    let stack = stack_with keyed row_buffer (row_or_zeros t.width (row_of found)) in
+    with_answer (flag found) (with_range_look t.table lo hi (last_seen hi found) (with_stack stack s))
 
 unfoldable pub range_next : State → Table → ℕ → ℕ → Value → Value → Option State
 range_next s t lo hi key_to row_to = do
@@ -119,33 +119,33 @@ range_next s t lo hi key_to row_to = do
   Some (with_next_read s t lo hi key_buffer row_buffer (first_in (look_at t.table lo hi) s.rows))
 
 abbrev pub cancel : State → ℕ → State
-cancel s code = answered 0 (record s { cancelled = Some code })
+cancel s code = with_answer 0 (record s { cancel_code = Some code })
 
 -- ---- a call, by its arguments
 
-unfoldable pub called : Tables → Helper → State → Option State
-called tables RowGet s = do
-  t ← table_of tables (register s One)
-  key ← number (register s Two)
-  row_get s t key (register s Three)
-called tables RowPut s = do
-  t ← table_of tables (register s One)
-  key ← number (register s Two)
-  row_put s t key (register s Three)
-called tables RowDelete s = do
-  t ← table_of tables (register s One)
-  key ← number (register s Two)
+unfoldable pub state_after_call : Tables → Helper → State → Option State
+state_after_call tables RowGet s = do
+  t ← table_of tables (register s R1)
+  key ← number (register s R2)
+  row_get s t key (register s R3)
+state_after_call tables RowPut s = do
+  t ← table_of tables (register s R1)
+  key ← number (register s R2)
+  row_put s t key (register s R3)
+state_after_call tables RowDelete s = do
+  t ← table_of tables (register s R1)
+  key ← number (register s R2)
   Some (row_delete s t key)
-called tables RangeCount s = do
-  t ← table_of tables (register s One)
-  lo ← number (register s Two)
-  hi ← number (register s Three)
+state_after_call tables RangeCount s = do
+  t ← table_of tables (register s R1)
+  lo ← number (register s R2)
+  hi ← number (register s R3)
   Some (range_count s t lo hi)
-called tables RangeNext s = do
-  t ← table_of tables (register s One)
-  lo ← number (register s Two)
-  hi ← number (register s Three)
-  range_next s t lo hi (register s Four) (register s Five)
-called tables Cancel s = do
-  code ← number (register s One)
+state_after_call tables RangeNext s = do
+  t ← table_of tables (register s R1)
+  lo ← number (register s R2)
+  hi ← number (register s R3)
+  range_next s t lo hi (register s R4) (register s R5)
+state_after_call tables Cancel s = do
+  code ← number (register s R1)
   Some (cancel s code)

@@ -3,7 +3,7 @@
 use Rattle.std.specs.Prelude.{ℕ, ◌+◌, ℤ, pos, negsuc, ◌+ℤ◌, List, [], ◌∷◌, ◌++◌, length, take, drop, map, nat_le, if◌then◌else◌, Option, Some, None}
 use Rattle.std.specs.Option.{option_map}
 use Rattle.bpf_words.specs.declared.operation.SignExtension.TheVariants.{From8, From16, From32}
-use Rattle.bpf_words.specs.Operation.{sign_extended}
+use Rattle.bpf_words.specs.Operation.{sign_extension}
 use Rattle.bpf_code.specs.declared.instruction.Size.{Size}
 use Rattle.bpf_code.specs.declared.instruction.Size.TheVariants.{Byte, HalfWord, Word, DoubleWord}
 use Rattle.bpf_code.specs.declared.instruction.LoadKind.{LoadKind}
@@ -37,11 +37,11 @@ load_bytes I16 = 2
 load_bytes I32 = 4
 
 -- a load zero-extends to 64 bits, or sign-extends
-abbrev pub extended : LoadKind → ℕ → ℕ
-extended I8 n = sign_extended 64 From8 n
-extended I16 n = sign_extended 64 From16 n
-extended I32 n = sign_extended 64 From32 n
-extended _ n = n
+abbrev pub load_value : LoadKind → ℕ → ℕ
+load_value I8 n = sign_extension 64 From8 n
+load_value I16 n = sign_extension 64 From16 n
+load_value I32 n = sign_extension 64 From32 n
+load_value _ n = n
 
 -- ---- places
 
@@ -55,44 +55,44 @@ abbrev pub stack_index : ℤ → ℕ → Option ℕ
 stack_index place count = index_in (place +ℤ pos 512) count 512
 
 -- the bytes, where each is known
-unfoldable pub all_known : List (Option ℕ) → Option (List ℕ)
-all_known [] = Some []
-all_known (None ∷ rest) = None
-all_known (Some b ∷ rest) = option_map (λ bs. b ∷ bs) (all_known rest)
+unfoldable pub known_list : List (Option ℕ) → Option (List ℕ)
+known_list [] = Some []
+known_list (None ∷ rest) = None
+known_list (Some b ∷ rest) = option_map (λ bs. b ∷ bs) (known_list rest)
 
 -- so many bytes of the stack from an index on, where each is known
-abbrev pub known_from : List (Option ℕ) → ℕ → ℕ → Option (List ℕ)
-known_from stack k count = all_known (take count (drop k stack))
+abbrev pub known_bytes : List (Option ℕ) → ℕ → ℕ → Option (List ℕ)
+known_bytes stack k count = known_list (take count (drop k stack))
 
 -- the stack with these bytes from an index on
-abbrev pub overwritten : List (Option ℕ) → ℕ → List ℕ → List (Option ℕ)
-overwritten stack k bytes = take k stack ++ map (λ b. Some b) bytes ++ drop (k + length bytes) stack
+abbrev pub stack_with : List (Option ℕ) → ℕ → List ℕ → List (Option ℕ)
+stack_with stack k bytes = take k stack ++ map (λ b. Some b) bytes ++ drop (k + length bytes) stack
 
 -- so many known bytes of the stack from a place on
-unfoldable pub stack_read : List (Option ℕ) → ℤ → ℕ → Option (List ℕ)
-stack_read stack place count = do
+unfoldable pub stack_bytes : List (Option ℕ) → ℤ → ℕ → Option (List ℕ)
+stack_bytes stack place count = do
   k ← stack_index place count
-  known_from stack k count
+  known_bytes stack k count
 
 -- the stack with these bytes from a place on
-unfoldable pub stack_written : List (Option ℕ) → ℤ → List ℕ → Option (List (Option ℕ))
-stack_written stack place bytes = do
+unfoldable pub stack_with_store : List (Option ℕ) → ℤ → List ℕ → Option (List (Option ℕ))
+stack_with_store stack place bytes = do
   k ← stack_index place (length bytes)
-  Some (overwritten stack k bytes)
+  Some (stack_with stack k bytes)
 
 -- so many bytes of the arguments from a place on
-unfoldable pub args_read : List ℕ → ℤ → ℕ → Option (List ℕ)
-args_read args place count = do
+unfoldable pub args_bytes : List ℕ → ℤ → ℕ → Option (List ℕ)
+args_bytes args place count = do
   k ← index_in place count (length args)
   Some (take count (drop k args))
 
 -- so many bytes from where a value points, with an offset
-abbrev pub read : List (Option ℕ) → List ℕ → Value → ℤ → ℕ → Option (List ℕ)
-read stack args (Stack place) offset count = stack_read stack (place +ℤ offset) count
-read stack args (Args place) offset count = args_read args (place +ℤ offset) count
-read stack args _ offset count = None
+abbrev pub memory_bytes : List (Option ℕ) → List ℕ → Value → ℤ → ℕ → Option (List ℕ)
+memory_bytes stack args (Stack place) offset count = stack_bytes stack (place +ℤ offset) count
+memory_bytes stack args (Args place) offset count = args_bytes args (place +ℤ offset) count
+memory_bytes stack args _ offset count = None
 
 -- the stack with these bytes where a value points, with an offset
-abbrev pub written_at : List (Option ℕ) → Value → ℤ → List ℕ → Option (List (Option ℕ))
-written_at stack (Stack place) offset bytes = stack_written stack (place +ℤ offset) bytes
-written_at stack _ offset bytes = None
+abbrev pub memory_with_store : List (Option ℕ) → Value → ℤ → List ℕ → Option (List (Option ℕ))
+memory_with_store stack (Stack place) offset bytes = stack_with_store stack (place +ℤ offset) bytes
+memory_with_store stack _ offset bytes = None

@@ -9,15 +9,15 @@ use Rattle.bpf_semantics.specs.State.{State, entry_state}
 use Rattle.bpf_semantics.specs.Step.{Moment, Going, Ended, Stuck, step}
 
 -- what has ended or is stuck stays so
-abbrev pub go_on : (State → Moment) → Moment → Moment
-go_on next (Going s) = next s
-go_on next (Ended reply s) = Ended reply s
-go_on next Stuck = Stuck
+abbrev pub next_moment : (State → Moment) → Moment → Moment
+next_moment next (Going s) = next s
+next_moment next (Ended reply s) = Ended reply s
+next_moment next Stuck = Stuck
 
 -- the moment after so many steps
 unfoldable pub moment : Program → Tables → ℕ → State → Moment
 moment p tables zero s = Going s
-moment p tables (suc k) s = go_on (step p tables) (moment p tables k s)
+moment p tables (suc k) s = next_moment (step p tables) (moment p tables k s)
 
 -- a run, and what came of it
 pub record Run : Type 0 where
@@ -25,7 +25,7 @@ pub record Run : Type 0 where
   pub reply : ℕ  -- r0 at EXIT
   pub looks : List Look  -- also where it cancelled
   pub writes : Writes  -- none where it cancelled
-  pub cancelled : Option ℕ
+  pub cancel_code : Option ℕ
   pub effect : Rows  -- the rows afterwards; those before where it cancelled
 
 abbrev pub unless_cancelled : {X : Type 0} → Option ℕ → X → X → X
@@ -37,9 +37,9 @@ run_of rows reply s = record {
   steps = s.steps;
   reply = reply;
   looks = s.looks;
-  writes = unless_cancelled s.cancelled s.writes empty;
-  cancelled = s.cancelled;
-  effect = unless_cancelled s.cancelled s.rows rows;
+  writes = unless_cancelled s.cancel_code s.writes empty;
+  cancel_code = s.cancel_code;
+  effect = unless_cancelled s.cancel_code s.rows rows;
 }
 
 -- the run that ended there; None where it is stuck

@@ -16,7 +16,7 @@ pub record State : Type 0 where
   pub stack : List (Option ℕ)  -- 512 bytes, the last of them before r10, each known or not
   pub args : List ℕ  -- the argument block
   pub rows : Rows  -- as the run sees them: with its own writes, after a cancel too
-  pub cancelled : Option ℕ  -- the last cancel code
+  pub cancel_code : Option ℕ  -- the last cancel code
   pub looks : List Look  -- what it looked at, in order, repeats kept
   pub writes : Writes  -- what it wrote, the last write of each key
   pub steps : ℕ  -- how many instructions it has run
@@ -30,7 +30,7 @@ entry_state args rows = record {
   stack = replicate 512 None;
   args = args;
   rows = rows;
-  cancelled = None;
+  cancel_code = None;
   looks = [];
   writes = empty;
   steps = 0;

@@ -12,9 +12,9 @@ use Rattle.bpf_words.specs.declared.operation.SignExtension.TheVariants.{From8, 
 use Rattle.bpf_words.specs.declared.operation.Operation.TheVariants.{Binary, Neg, Movsx}
 use Rattle.bpf_words.specs.Operation.{alu}
 use Rattle.bpf_words.specs.Condition.{holds}
-use Rattle.bpf_words.specs.End.{ended}
+use Rattle.bpf_words.specs.End.{end_value}
 use Rattle.bpf_code.specs.declared.instruction.Register.{Register}
-use Rattle.bpf_code.specs.declared.instruction.Register.TheVariants.{Zero}
+use Rattle.bpf_code.specs.declared.instruction.Register.TheVariants.{R0}
 use Rattle.bpf_code.specs.declared.instruction.Width.{Width}
 use Rattle.bpf_code.specs.declared.instruction.Width.TheVariants.{Bits32, Bits64}
 use Rattle.bpf_code.specs.declared.instruction.SignExtendingMove.{SignExtendingMove}
@@ -30,8 +30,8 @@ use Rattle.schema.specs.Helper.{helper_of}
 use Rattle.bpf_semantics.specs.declared.value.Value.{Value}
 use Rattle.bpf_semantics.specs.declared.value.Value.TheVariants.{Number, Stack, Args}
 use Rattle.bpf_semantics.specs.State.{State, register, with_register, past, number}
-use Rattle.bpf_semantics.specs.Memory.{◌>>=◌, size_bytes, load_bytes, extended, read, written_at}
-use Rattle.bpf_semantics.specs.Helpers.{with_stack, called}
+use Rattle.bpf_semantics.specs.Memory.{◌>>=◌, size_bytes, load_bytes, load_value, memory_bytes, memory_with_store}
+use Rattle.bpf_semantics.specs.Helpers.{with_stack, state_after_call}
 
 -- the state after an instruction; the reply at EXIT, and the state there; or that there is no step
 pub data Moment : Type 0 where
@@ -62,69 +62,69 @@ low_bits From32To64 = From32
 -- ---- places
 
 -- a place may be as far away as 65,536
-abbrev pub near : ℤ → Option ℤ
-near place = if nat_le (unsigned_abs place) 65536 then Some place else None
+abbrev pub near_place : ℤ → Option ℤ
+near_place place = if nat_le (unsigned_abs place) 65536 then Some place else None
 
-abbrev pub moved : Value → ℤ → Option Value
-moved (Stack place) distance = option_map (λ p. Stack p) (near (place +ℤ distance))
-moved (Args place) distance = option_map (λ p. Args p) (near (place +ℤ distance))
-moved _ distance = None
+abbrev pub moved_place : Value → ℤ → Option Value
+moved_place (Stack place) distance = option_map (λ p. Stack p) (near_place (place +ℤ distance))
+moved_place (Args place) distance = option_map (λ p. Args p) (near_place (place +ℤ distance))
+moved_place _ distance = None
 
 -- What an operation gives. MOV reads its source alone, and at 64 bits copies a place. Of other operations numbers give
 -- numbers, and a 64-bit ADD or SUB moves a place by a number, read as signed; nothing else has a step: no number plus
 -- a place, no place minus a place
-unfoldable pub computed : Width → BinaryOperation → Value → Value → Option Value
-computed Bits64 Mov _ (Stack place) = Some (Stack place)
-computed Bits64 Mov _ (Args place) = Some (Args place)
-computed width Mov _ (Number b) = Some (Number (alu (width_bits width) (Binary Mov) 0 b))
-computed _ Mov _ _ = None
-computed width op (Number a) (Number b) = Some (Number (alu (width_bits width) (Binary op) a b))
-computed Bits64 Add a (Number b) = moved a (cast_signed w64 b)
-computed Bits64 Sub a (Number b) = moved a (neg_ℤ (cast_signed w64 b))
-computed _ _ _ _ = None
+unfoldable pub operation_result : Width → BinaryOperation → Value → Value → Option Value
+operation_result Bits64 Mov _ (Stack place) = Some (Stack place)
+operation_result Bits64 Mov _ (Args place) = Some (Args place)
+operation_result width Mov _ (Number b) = Some (Number (alu (width_bits width) (Binary Mov) 0 b))
+operation_result _ Mov _ _ = None
+operation_result width op (Number a) (Number b) = Some (Number (alu (width_bits width) (Binary op) a b))
+operation_result Bits64 Add a (Number b) = moved_place a (cast_signed w64 b)
+operation_result Bits64 Sub a (Number b) = moved_place a (neg_ℤ (cast_signed w64 b))
+operation_result _ _ _ _ = None
 
 -- ---- the step
 
 abbrev pub with_result : Register → Value → State → Moment
 with_result dst v s = Going (past 1 (with_register s dst v))
 
-abbrev pub with_stored : Option (List (Option ℕ)) → State → Moment
-with_stored written s = or_stuck written (λ stack. Going (past 1 (with_stack stack s)))
+abbrev pub with_store : Option (List (Option ℕ)) → State → Moment
+with_store written s = or_stuck written (λ stack. Going (past 1 (with_stack stack s)))
 
 -- to the slot this far past the next one
-abbrev pub jumped : ℤ → State → Moment
-jumped (pos distance) s = Going (past (1 + distance) s)
-jumped (negsuc _) s = Stuck
+abbrev pub after_jump : ℤ → State → Moment
+after_jump (pos distance) s = Going (past (1 + distance) s)
+after_jump (negsuc _) s = Stuck
 
 unfoldable pub execute : Tables → Instruction → State → Moment
 execute tables (LoadWide dst value) s = Going (past 2 (with_register s dst (Number value)))
 execute tables (Load kind dst src offset) s =
-    or_stuck (read s.stack s.args (register s src) offset (load_bytes kind)) (λ bytes.
-    with_result dst (Number (extended kind (little_number (length bytes) bytes))) s)
+    or_stuck (memory_bytes s.stack s.args (register s src) offset (load_bytes kind)) (λ bytes.
+    with_result dst (Number (load_value kind (little_number (length bytes) bytes))) s)
 execute tables (StoreImmediate size dst offset immediate) s =
     let bytes = little_bytes (size_bytes size) (cast_unsigned w64 immediate) in
-    with_stored (written_at s.stack (register s dst) offset bytes) s
+    with_store (memory_with_store s.stack (register s dst) offset bytes) s
 execute tables (StoreRegister size dst src offset) s =
     or_stuck (number (register s src)) (λ n.
-    with_stored (written_at s.stack (register s dst) offset (little_bytes (size_bytes size) n)) s)
+    with_store (memory_with_store s.stack (register s dst) offset (little_bytes (size_bytes size) n)) s)
 execute tables (Arithmetic width op dst src) s =
-    or_stuck (computed width op (register s dst) (operand s src)) (λ v. with_result dst v s)
+    or_stuck (operation_result width op (register s dst) (operand s src)) (λ v. with_result dst v s)
 execute tables (Negate width dst) s =
     or_stuck (number (register s dst)) (λ a. with_result dst (Number (alu (width_bits width) Neg a 0)) s)
 execute tables (MoveSignExtended kind dst src) s =
     or_stuck (number (register s src)) (λ b.
     with_result dst (Number (alu (width_bits (extension_width kind)) (Movsx (low_bits kind)) 0 b)) s)
 execute tables (End order width dst) s =
-    or_stuck (number (register s dst)) (λ a. with_result dst (Number (ended order width a)) s)
-execute tables (Jump distance) s = jumped distance s
-execute tables (LongJump distance) s = jumped distance s
+    or_stuck (number (register s dst)) (λ a. with_result dst (Number (end_value order width a)) s)
+execute tables (Jump distance) s = after_jump distance s
+execute tables (LongJump distance) s = after_jump distance s
 execute tables (Branch width condition dst src distance) s =
     or_stuck (number (register s dst)) (λ a.
     or_stuck (number (operand s src)) (λ b.
-    if holds (width_bits width) condition a b then jumped distance s else Going (past 1 s)))
+    if holds (width_bits width) condition a b then after_jump distance s else Going (past 1 s)))
 execute tables (Call helper) s =
-    or_stuck (helper_of helper >>= λ h. called tables h s) (λ t. Going (past 1 t))
-execute tables Exit s = or_stuck (number (register s Zero)) (λ reply. Ended reply (past 0 s))
+    or_stuck (helper_of helper >>= λ h. state_after_call tables h s) (λ t. Going (past 1 t))
+execute tables Exit s = or_stuck (number (register s R0)) (λ reply. Ended reply (past 0 s))
 
 -- the instruction at the state's slot; stuck where none begins there
 unfoldable pub step : Program → Tables → State → Moment

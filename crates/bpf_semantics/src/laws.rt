@@ -47,9 +47,9 @@ pub fn runs_are_short()
 /// A run that didn't cancel leaves the rows after its writes; one that did leaves them as they were.
 pub fn the_effect_is_that_of_the_writes()
     ensures kept { (p : Program) (tables : Tables) (args : List ℕ) (rows : Rows) (r : Run)
-        → run p tables args rows ≡ Some r → r.cancelled ≡ None → r.effect ≡ after r.writes rows }
-    ensures cancelled { (p : Program) (tables : Tables) (args : List ℕ) (rows : Rows) (r : Run)
-        → run p tables args rows ≡ Some r → IsSome r.cancelled → (r.effect ≡ rows) × (r.writes ≡ empty) }
+        → run p tables args rows ≡ Some r → r.cancel_code ≡ None → r.effect ≡ after r.writes rows }
+    ensures cancel_code { (p : Program) (tables : Tables) (args : List ℕ) (rows : Rows) (r : Run)
+        → run p tables args rows ≡ Some r → IsSome r.cancel_code → (r.effect ≡ rows) × (r.writes ≡ empty) }
 {}
 
 /// A run depends on the rows only where it looks. On others that have the same there, present or

@@ -4,10 +4,10 @@ use Rattle.std.proofs.Math.Nat.{mod-eq_of_lt, div-le_self, mod-le}
 use Rattle.std.proofs.lemmas.Nat.{pow_pos, mod_below, or_lt, xor_lt, and_le_l, shr_le}
 use Rattle.std.proofs.lemmas.Int.{ints}
 use Rattle.std.proofs.lemmas.Bool.Decides.{nat_tests}
-use Rattle.bpf_words.specs.Word.{signed, word}
-use Rattle.bpf_words.specs.Operation.{alu, binary}
-use Rattle.bpf_words.specs.Condition.{compared, holds, opposite}
-use Rattle.bpf_words.specs.End.{ended, end_bits, reversed}
+use Rattle.bpf_words.specs.Word.{signed_value, word}
+use Rattle.bpf_words.specs.Operation.{alu, binary_value}
+use Rattle.bpf_words.specs.Condition.{comparison, holds, opposite}
+use Rattle.bpf_words.specs.End.{end_value, end_bits, byte_reversal}
 use Rattle.bpf_words.specs.declared.condition.Condition.{Condition}
 use Rattle.bpf_words.specs.declared.condition.Condition.TheVariants.{Eq, Gt, Ge, Set, Ne, Sgt, Sge, Lt, Le, Slt, Sle}
 use Rattle.bpf_words.specs.declared.operation.BinaryOperation.{BinaryOperation}
@@ -37,8 +37,8 @@ word_below n (negsuc a) = omega (arith, pow_pos n)
 zero_or : (m b x y : ℕ) → x < m → y < m → (if b == 0 then x else y) < m
 zero_or m b x y p q = grind (arith, nat_tests)
 
-binary_below : (n : ℕ) (op : BinaryOperation) (a b : ℕ) → a < 2 ^ n → b < 2 ^ n → binary n op a b < 2 ^ n
-unfolding binary
+binary_below : (n : ℕ) (op : BinaryOperation) (a b : ℕ) → a < 2 ^ n → b < 2 ^ n → binary_value n op a b < 2 ^ n
+unfolding binary_value
 binary_below n Add a b p q = cut_below n (a + b)
 binary_below n Sub a b p q = word_below n _
 binary_below n Mul a b p q = cut_below n (a * b)
@@ -60,19 +60,19 @@ alu_below n (Binary op) a b = binary_below n op (a % 2 ^ n) (b % 2 ^ n) (cut_bel
 alu_below n Neg a b = word_below n _
 alu_below n (Movsx _) a b = word_below n _
 
-reversed_below : (width : EndWidth) (a : ℕ) → reversed width a < 2 ^ end_bits width
+reversed_below : (width : EndWidth) (a : ℕ) → byte_reversal width a < 2 ^ end_bits width
 reversed_below Low16 a = omega arith
 reversed_below Low32 a = omega arith
 reversed_below Low64 a = omega arith
 
-pub ended_below : (order : ByteOrder) (width : EndWidth) (a : ℕ) → ended order width a < 2 ^ end_bits width
-unfolding ended
+pub ended_below : (order : ByteOrder) (width : EndWidth) (a : ℕ) → end_value order width a < 2 ^ end_bits width
+unfolding end_value
 ended_below Little width a = cut_below (end_bits width) a
 ended_below Big width a = reversed_below width a
 ended_below Swap width a = reversed_below width a
 
-pub reversed_twice : (width : EndWidth) (a : ℕ) → ended Swap width (ended Swap width a) ≡ ended Little width a
-unfolding ended
+pub reversed_twice : (width : EndWidth) (a : ℕ) → end_value Swap width (end_value Swap width a) ≡ end_value Little width a
+unfolding end_value
 reversed_twice Low16 a = omega arith
 reversed_twice Low32 a = omega arith
 reversed_twice Low64 a = omega arith
@@ -83,13 +83,13 @@ below_zero a m h = omega (arith, ints)
 back : (a m : ℕ) → a < m → m - 1 - (m - a - 1) % m ≡ a
 back a m h = let p : m - a - 1 < m = omega arith in omega (arith, mod-eq_of_lt p)
 
-pub signed_back : (n a : ℕ) → a < 2 ^ n → word n (signed n a) ≡ a
+pub signed_back : (n a : ℕ) → a < 2 ^ n → word n (signed_value n a) ≡ a
 signed_back n a h =
     elim (nat_lt a (2 ^ (n - 1))) as (λ t. word n (if t then pos a else pos a -ℤ pos (2 ^ n)) ≡ a)
     [ true ↦ cut_word n a h | false ↦ rw (below_zero a (2 ^ n) h) (back a (2 ^ n) h) ]
 
 pub opposite_excludes : (condition : Condition) → IfSome (opposite condition) (λ other. (n a b : ℕ) → holds n other a b ≡ not (holds n condition a b))
-unfolding holds compared
+unfolding holds comparison
 opposite_excludes Eq = λ n a b. refl
 opposite_excludes Gt = λ n a b. grind (arith, nat_tests)
 opposite_excludes Ge = λ n a b. grind (arith, nat_tests)

@@ -19,11 +19,11 @@ end_type Low32 = w32
 end_type Low64 = w64
 
 -- the number whose bytes, the highest first, are the low bytes of a, the lowest first
-abbrev pub reversed : EndWidth → ℕ → ℕ
-reversed width a = from_be_bytes (end_type width) (to_le_bytes (end_type width) a)
+abbrev pub byte_reversal : EndWidth → ℕ → ℕ
+byte_reversal width a = from_be_bytes (end_type width) (to_le_bytes (end_type width) a)
 
 -- what the instruction gives (RFC 9669 section 4.2)
-unfoldable pub ended : ByteOrder → EndWidth → ℕ → ℕ
-ended Little width a = a % 2 ^ end_bits width
-ended Big width a = reversed width a
-ended Swap width a = reversed width a
+unfoldable pub end_value : ByteOrder → EndWidth → ℕ → ℕ
+end_value Little width a = a % 2 ^ end_bits width
+end_value Big width a = byte_reversal width a
+end_value Swap width a = byte_reversal width a

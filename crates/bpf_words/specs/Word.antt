@@ -3,8 +3,8 @@ use Rattle.std.specs.Prelude.{ℕ, ◌-◌, ◌^◌, ℤ, pos, ◌-ℤ◌, nat_l
 use Rattle.std.specs.Int.{int_rem_euclid}
 
 -- the whole number that a word stands for as a signed one: its highest bit counts as -(2 ^ (n - 1))
-abbrev pub signed : ℕ → ℕ → ℤ
-signed n a = if nat_lt a (2 ^ (n - 1)) then pos a else pos a -ℤ pos (2 ^ n)
+abbrev pub signed_value : ℕ → ℕ → ℤ
+signed_value n a = if nat_lt a (2 ^ (n - 1)) then pos a else pos a -ℤ pos (2 ^ n)
 
 -- the word that differs from a whole number by a multiple of 2 ^ n
 abbrev pub word : ℕ → ℤ → ℕ

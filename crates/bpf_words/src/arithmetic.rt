@@ -12,9 +12,9 @@ pub fn alu64(op: Operation, a: u64, b: u64) -> u64
     ensures { result ≡ alu 64 op a b }
 {
     match op {
-        Operation::Binary(op) => word64::binary(op, a, b),
+        Operation::Binary(op) => word64::binary_value(op, a, b),
         Operation::Neg => a.wrapping_neg(),
-        Operation::Movsx(from) => word64::sign_extended(from, b),
+        Operation::Movsx(from) => word64::sign_extension(from, b),
     }
 }
 
@@ -25,9 +25,9 @@ pub fn alu32(op: Operation, a: u64, b: u64) -> u64
     ensures { result ≡ alu 32 op a b }
 {
     let low = match op {
-        Operation::Binary(op) => word32::binary(op, low32(a), low32(b)),
+        Operation::Binary(op) => word32::binary_value(op, low32(a), low32(b)),
         Operation::Neg => low32(a).wrapping_neg(),
-        Operation::Movsx(from) => word32::sign_extended(from, b),
+        Operation::Movsx(from) => word32::sign_extension(from, b),
     };
     u64::from(low)
 }

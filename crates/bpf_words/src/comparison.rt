@@ -11,7 +11,7 @@ use crate::{word32, word64};
 pub fn holds64(condition: Condition, a: u64, b: u64) -> bool
     ensures { result ≡ holds 64 condition a b }
 {
-    word64::compared(condition, a, b)
+    word64::comparison(condition, a, b)
 }
 
 /// Whether a condition holds of the low 32 bits of both values: `a` is the destination's value and
@@ -20,5 +20,5 @@ pub fn holds64(condition: Condition, a: u64, b: u64) -> bool
 pub fn holds32(condition: Condition, a: u64, b: u64) -> bool
     ensures { result ≡ holds 32 condition a b }
 {
-    word32::compared(condition, low32(a), low32(b))
+    word32::comparison(condition, low32(a), low32(b))
 }

@@ -1,8 +1,8 @@
 ghost use Rattle.std.specs.Prelude.{◌≡◌, ℕ, ◌-◌, ◌%◌, ◌^◌, ◌<◌, ◌≤◌, ◌≢◌, ◌↔◌, pos, neg_ℤ, ◌≤ℤ◌, ◌<ℤ◌, not, bit_and, IsTrue, IfSome, Some};
 ghost use Rattle.bpf_words.specs.Condition.{holds, opposite};
-ghost use Rattle.bpf_words.specs.End.{ended, end_bits};
+ghost use Rattle.bpf_words.specs.End.{end_value, end_bits};
 ghost use Rattle.bpf_words.specs.Operation.{alu};
-ghost use Rattle.bpf_words.specs.Word.{signed, word};
+ghost use Rattle.bpf_words.specs.Word.{signed_value, word};
 ghost use Rattle.bpf_words.specs.declared.condition.Condition.{Condition};
 ghost use Rattle.bpf_words.specs.declared.condition.Condition.TheVariants.{Eq, Gt, Ge, Set, Ne, Sgt, Sge, Lt, Le, Slt, Sle};
 ghost use Rattle.bpf_words.specs.declared.operation.ByteOrder.{ByteOrder};
@@ -23,18 +23,18 @@ pub fn results_are_words()
 #[tactic(auto, using(crate::proofs::Words::ended_below))]
 pub fn end_is_narrow()
     ensures { (order : ByteOrder) → (width : EndWidth) → (a : ℕ)
-        → ended order width a < 2 ^ end_bits width }
+        → end_value order width a < 2 ^ end_bits width }
 {}
 
 /// Bytes that are reversed twice are in their order again.
 #[tactic(auto, using(crate::proofs::Words::reversed_twice))]
 pub fn swaps_undo()
     ensures { (width : EndWidth) → (a : ℕ)
-        → ended Swap width (ended Swap width a) ≡ ended Little width a }
+        → end_value Swap width (end_value Swap width a) ≡ end_value Little width a }
 {}
 
 /// A quotient by zero is 0, and a remainder by zero is the dividend's word.
-#[tactic(auto, using(crate::proofs::Words::cut_zero), unfolding(crate::specs::Operation::alu, crate::specs::Operation::binary))]
+#[tactic(auto, using(crate::proofs::Words::cut_zero), unfolding(crate::specs::Operation::alu, crate::specs::Operation::binary_value))]
 pub fn division_by_zero()
     ensures quotient { (n a : ℕ) → alu n (Binary Div) a 0 ≡ 0 }
     ensures remainder { (n a : ℕ) → alu n (Binary Mod) a 0 ≡ a % 2 ^ n }
@@ -43,7 +43,7 @@ pub fn division_by_zero()
 {}
 
 /// The least signed number by -1 gives itself, and the remainder 0.
-#[tactic(auto, unfolding(crate::specs::Operation::alu, crate::specs::Operation::binary))]
+#[tactic(auto, unfolding(crate::specs::Operation::alu, crate::specs::Operation::binary_value))]
 pub fn least_by_minus_one()
     ensures quotient64 { alu 64 (Binary Sdiv) (2 ^ 63) (2 ^ 64 - 1) ≡ 2 ^ 63 }
     ensures remainder64 { alu 64 (Binary Smod) (2 ^ 63) (2 ^ 64 - 1) ≡ 0 }
@@ -54,9 +54,9 @@ pub fn least_by_minus_one()
 /// The signed number of a word is in the type's range, and is the word's modulo 2^n.
 #[tactic(auto, using(crate::proofs::Words::signed_back))]
 pub fn signed_reads_words()
-    ensures least { (n a : ℕ) → 0 < n → a < 2 ^ n → neg_ℤ (pos (2 ^ (n - 1))) ≤ℤ signed n a }
-    ensures greatest { (n a : ℕ) → 0 < n → a < 2 ^ n → signed n a <ℤ pos (2 ^ (n - 1)) }
-    ensures back { (n a : ℕ) → a < 2 ^ n → word n (signed n a) ≡ a }
+    ensures least { (n a : ℕ) → 0 < n → a < 2 ^ n → neg_ℤ (pos (2 ^ (n - 1))) ≤ℤ signed_value n a }
+    ensures greatest { (n a : ℕ) → 0 < n → a < 2 ^ n → signed_value n a <ℤ pos (2 ^ (n - 1)) }
+    ensures back { (n a : ℕ) → a < 2 ^ n → word n (signed_value n a) ≡ a }
 {}
 
 /// Of a condition and its opposite just one holds, and the opposite's opposite is the condition.
@@ -69,7 +69,7 @@ pub fn opposites_exclude()
 {}
 
 /// What each condition says of two words.
-#[tactic(auto, using(crate::proofs::Words::cut_word), unfolding(crate::specs::Condition::holds, crate::specs::Condition::compared))]
+#[tactic(auto, using(crate::proofs::Words::cut_word), unfolding(crate::specs::Condition::holds, crate::specs::Condition::comparison))]
 pub fn conditions_compare()
     ensures eq { (n a b : ℕ) → a < 2 ^ n → b < 2 ^ n → IsTrue (holds n Eq a b) ↔ (a ≡ b) }
     ensures ne { (n a b : ℕ) → a < 2 ^ n → b < 2 ^ n → IsTrue (holds n Ne a b) ↔ (a ≢ b) }
@@ -78,13 +78,13 @@ pub fn conditions_compare()
     ensures lt { (n a b : ℕ) → a < 2 ^ n → b < 2 ^ n → IsTrue (holds n Lt a b) ↔ (a < b) }
     ensures le { (n a b : ℕ) → a < 2 ^ n → b < 2 ^ n → IsTrue (holds n Le a b) ↔ (a ≤ b) }
     ensures sgt { (n a b : ℕ) → a < 2 ^ n → b < 2 ^ n
-        → IsTrue (holds n Sgt a b) ↔ (signed n b <ℤ signed n a) }
+        → IsTrue (holds n Sgt a b) ↔ (signed_value n b <ℤ signed_value n a) }
     ensures sge { (n a b : ℕ) → a < 2 ^ n → b < 2 ^ n
-        → IsTrue (holds n Sge a b) ↔ (signed n b ≤ℤ signed n a) }
+        → IsTrue (holds n Sge a b) ↔ (signed_value n b ≤ℤ signed_value n a) }
     ensures slt { (n a b : ℕ) → a < 2 ^ n → b < 2 ^ n
-        → IsTrue (holds n Slt a b) ↔ (signed n a <ℤ signed n b) }
+        → IsTrue (holds n Slt a b) ↔ (signed_value n a <ℤ signed_value n b) }
     ensures sle { (n a b : ℕ) → a < 2 ^ n → b < 2 ^ n
-        → IsTrue (holds n Sle a b) ↔ (signed n a ≤ℤ signed n b) }
+        → IsTrue (holds n Sle a b) ↔ (signed_value n a ≤ℤ signed_value n b) }
     ensures set { (n a b : ℕ) → a < 2 ^ n → b < 2 ^ n
         → IsTrue (holds n Set a b) ↔ (bit_and a b ≢ 0) }
 {}

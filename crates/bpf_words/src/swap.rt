@@ -1,14 +1,14 @@
 ghost use Rattle.std.specs.Prelude.{◌≡◌};
-ghost use Rattle.bpf_words.specs.End.{ended, reversed};
+ghost use Rattle.bpf_words.specs.End.{end_value, byte_reversal};
 
 use crate::cut::{low16, low32};
 use crate::operation::{ByteOrder, EndWidth};
 
 /// The low bits of `a`, in little-endian or in reversed byte order, with zeros above them (RFC 9669
 /// section 4.2). It takes the whole 64-bit value in every class.
-#[tactic(auto, unfolding(crate::specs::End::ended))]
+#[tactic(auto, unfolding(crate::specs::End::end_value))]
 pub fn end(order: ByteOrder, width: EndWidth, a: u64) -> u64
-    ensures { result ≡ ended order width a }
+    ensures { result ≡ end_value order width a }
 {
     match order {
         ByteOrder::Little => match width {
@@ -21,7 +21,7 @@ pub fn end(order: ByteOrder, width: EndWidth, a: u64) -> u64
 }
 
 fn swapped(width: EndWidth, a: u64) -> u64
-    ensures { result ≡ reversed width a }
+    ensures { result ≡ byte_reversal width a }
 {
     match width {
         EndWidth::Low16 => u64::from(low16(a).swap_bytes()),

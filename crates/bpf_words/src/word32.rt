@@ -9,9 +9,9 @@ use crate::cut::{low8, low16, low32};
 use crate::operation::{BinaryOperation, SignExtension};
 
 /// What an operation gives on two words of 32 bits.
-#[tactic(auto, unfolding(crate::specs::Operation::binary))]
-pub fn binary(op: BinaryOperation, a: u32, b: u32) -> u32
-    ensures { result ≡ operations.binary 32 op a b }
+#[tactic(auto, unfolding(crate::specs::Operation::binary_value))]
+pub fn binary_value(op: BinaryOperation, a: u32, b: u32) -> u32
+    ensures { result ≡ operations.binary_value 32 op a b }
 {
     match op {
         BinaryOperation::Add => a.wrapping_add(b),
@@ -32,8 +32,8 @@ pub fn binary(op: BinaryOperation, a: u32, b: u32) -> u32
 }
 
 /// The low bits of a word, sign-extended to 32 bits.
-pub fn sign_extended(from: SignExtension, b: u64) -> u32
-    ensures { result ≡ operations.sign_extended 32 from b }
+pub fn sign_extension(from: SignExtension, b: u64) -> u32
+    ensures { result ≡ operations.sign_extension 32 from b }
 {
     match from {
         SignExtension::From8 => i32::from(low8(b).cast_signed()),
@@ -44,9 +44,9 @@ pub fn sign_extended(from: SignExtension, b: u64) -> u32
 }
 
 /// Whether a condition holds of two words of 32 bits.
-#[tactic(auto, unfolding(crate::specs::Condition::compared))]
-pub fn compared(condition: Condition, a: u32, b: u32) -> bool
-    ensures { result ≡ conditions.compared 32 condition a b }
+#[tactic(auto, unfolding(crate::specs::Condition::comparison))]
+pub fn comparison(condition: Condition, a: u32, b: u32) -> bool
+    ensures { result ≡ conditions.comparison 32 condition a b }
 {
     match condition {
         Condition::Eq => a == b,
@@ -63,9 +63,9 @@ pub fn compared(condition: Condition, a: u32, b: u32) -> bool
     }
 }
 
-#[tactic(auto, unfolding(crate::specs::Operation::binary))]
+#[tactic(auto, unfolding(crate::specs::Operation::binary_value))]
 fn signed_quotient(a: u32, b: u32) -> u32
-    ensures { result ≡ operations.binary 32 Sdiv a b }
+    ensures { result ≡ operations.binary_value 32 Sdiv a b }
 {
     if b == 0 {
         return 0;
@@ -75,9 +75,9 @@ fn signed_quotient(a: u32, b: u32) -> u32
         .cast_unsigned()
 }
 
-#[tactic(auto, unfolding(crate::specs::Operation::binary))]
+#[tactic(auto, unfolding(crate::specs::Operation::binary_value))]
 fn signed_remainder(a: u32, b: u32) -> u32
-    ensures { result ≡ operations.binary 32 Smod a b }
+    ensures { result ≡ operations.binary_value 32 Smod a b }
 {
     if b == 0 {
         return a;

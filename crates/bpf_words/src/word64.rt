@@ -9,9 +9,9 @@ use crate::cut::{low8, low16, low32};
 use crate::operation::{BinaryOperation, SignExtension};
 
 /// What an operation gives on two words of 64 bits.
-#[tactic(auto, unfolding(crate::specs::Operation::binary))]
-pub fn binary(op: BinaryOperation, a: u64, b: u64) -> u64
-    ensures { result ≡ operations.binary 64 op a b }
+#[tactic(auto, unfolding(crate::specs::Operation::binary_value))]
+pub fn binary_value(op: BinaryOperation, a: u64, b: u64) -> u64
+    ensures { result ≡ operations.binary_value 64 op a b }
 {
     match op {
         BinaryOperation::Add => a.wrapping_add(b),
@@ -32,8 +32,8 @@ pub fn binary(op: BinaryOperation, a: u64, b: u64) -> u64
 }
 
 /// The low bits of a word, sign-extended to 64 bits.
-pub fn sign_extended(from: SignExtension, b: u64) -> u64
-    ensures { result ≡ operations.sign_extended 64 from b }
+pub fn sign_extension(from: SignExtension, b: u64) -> u64
+    ensures { result ≡ operations.sign_extension 64 from b }
 {
     match from {
         SignExtension::From8 => i64::from(low8(b).cast_signed()),
@@ -44,9 +44,9 @@ pub fn sign_extended(from: SignExtension, b: u64) -> u64
 }
 
 /// Whether a condition holds of two words of 64 bits.
-#[tactic(auto, unfolding(crate::specs::Condition::compared))]
-pub fn compared(condition: Condition, a: u64, b: u64) -> bool
-    ensures { result ≡ conditions.compared 64 condition a b }
+#[tactic(auto, unfolding(crate::specs::Condition::comparison))]
+pub fn comparison(condition: Condition, a: u64, b: u64) -> bool
+    ensures { result ≡ conditions.comparison 64 condition a b }
 {
     match condition {
         Condition::Eq => a == b,
@@ -63,9 +63,9 @@ pub fn compared(condition: Condition, a: u64, b: u64) -> bool
     }
 }
 
-#[tactic(auto, unfolding(crate::specs::Operation::binary))]
+#[tactic(auto, unfolding(crate::specs::Operation::binary_value))]
 fn signed_quotient(a: u64, b: u64) -> u64
-    ensures { result ≡ operations.binary 64 Sdiv a b }
+    ensures { result ≡ operations.binary_value 64 Sdiv a b }
 {
     if b == 0 {
         return 0;
@@ -75,9 +75,9 @@ fn signed_quotient(a: u64, b: u64) -> u64
         .cast_unsigned()
 }
 
-#[tactic(auto, unfolding(crate::specs::Operation::binary))]
+#[tactic(auto, unfolding(crate::specs::Operation::binary_value))]
 fn signed_remainder(a: u64, b: u64) -> u64
-    ensures { result ≡ operations.binary 64 Smod a b }
+    ensures { result ≡ operations.binary_value 64 Smod a b }
 {
     if b == 0 {
         return a;

@@ -11,12 +11,12 @@ file_rule = record (new_rule (codes "FILE")) { required = true; action = Some Se
 abbrev pub list_line : App
 list_line = with_rule (new_app (codes "list")) file_rule
 
-abbrev pub named : App
-named = new_app (codes "dsmdb")
+abbrev pub named_command : App
+named_command = new_app (codes "dsmdb")
 
 -- a command is required
 abbrev pub command_line : App
-command_line = with_subcommand (record named { top = record named.top { subcommand_required = true } }) list_line.top
+command_line = with_subcommand (record named_command { top = record named_command.top { subcommand_required = true } }) list_line.top
 
 -- the plan is the command that was met, with the values that were read for it
 abbrev pub IsPlanOf : Option (Text × List Row) → Plan → Type 0

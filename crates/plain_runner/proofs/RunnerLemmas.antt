@@ -9,18 +9,18 @@ use Rattle.std.proofs.lemmas.List.{append_assoc, drop_all}
 use Rattle.bpf_words.specs.declared.operation.BinaryOperation.{BinaryOperation}
 use Rattle.bpf_words.specs.declared.operation.BinaryOperation.TheVariants.{Add, Sub, Mul, Div, Sdiv, Or, And, Lsh, Rsh, Mod, Smod, Xor, Mov, Arsh}
 use Rattle.bpf_words.specs.declared.operation.Operation.TheVariants.{Binary}
-use Rattle.bpf_words.specs.Operation.{alu, binary}
+use Rattle.bpf_words.specs.Operation.{alu, binary_value}
 use Rattle.bpf_code.specs.declared.instruction.Width.{Width}
 use Rattle.bpf_code.specs.declared.instruction.Width.TheVariants.{Bits32, Bits64}
 use Rattle.bpf_code.specs.Program.{Program}
 use Rattle.schema.specs.Schema.{Tables, AreTables}
 use Rattle.schema.specs.Rows.{Key, Rows, key_cmp, key_cmp_total, key_cmp-IsAntisymmetric}
 use Rattle.bpf_semantics.specs.declared.value.Value.TheVariants.{Number}
-use Rattle.bpf_semantics.specs.Memory.{all_known, and_then}
+use Rattle.bpf_semantics.specs.Memory.{known_list, and_then}
 use Rattle.bpf_semantics.specs.Helpers.{table_of}
 use Rattle.bpf_semantics.specs.State.{State, entry_state}
-use Rattle.bpf_semantics.specs.Step.{computed, width_bits, Moment, Going, Ended, Stuck, step}
-use Rattle.bpf_semantics.specs.Run.{moment, go_on, run, run_at}
+use Rattle.bpf_semantics.specs.Step.{operation_result, width_bits, Moment, Going, Ended, Stuck, step}
+use Rattle.bpf_semantics.specs.Run.{moment, next_moment, run, run_at}
 use Rattle.plain_runner.specs.Runner.{AreInOrder, steps_before}
 use Rattle.bpf_semantics.proofs.StepLemmas.{execute_leads}
 use Rattle.bpf_semantics.proofs.RunLemmas.{step_runs, going_runs}
@@ -32,10 +32,10 @@ find-filter test (x ∷ xs) = elim (test x) as (λ b. cond b (Some x) (prelude.f
 -- ---- operations
 
 -- numbers give numbers, a MOV too
-pub computed_numbers : (width : Width) (op : BinaryOperation) (a b : ℕ) → computed width op (Number a) (Number b) ≡ Some (Number (alu (width_bits width) (Binary op) a b))
-unfolding computed alu binary
-computed_numbers Bits32 op a b = elim op as (λ o. computed Bits32 o (Number a) (Number b) ≡ Some (Number (alu 32 (Binary o) a b))) [ Add ↦ refl | Sub ↦ refl | Mul ↦ refl | Div ↦ refl | Sdiv ↦ refl | Or ↦ refl | And ↦ refl | Lsh ↦ refl | Rsh ↦ refl | Mod ↦ refl | Smod ↦ refl | Xor ↦ refl | Mov ↦ refl | Arsh ↦ refl ]
-computed_numbers Bits64 op a b = elim op as (λ o. computed Bits64 o (Number a) (Number b) ≡ Some (Number (alu 64 (Binary o) a b))) [ Add ↦ refl | Sub ↦ refl | Mul ↦ refl | Div ↦ refl | Sdiv ↦ refl | Or ↦ refl | And ↦ refl | Lsh ↦ refl | Rsh ↦ refl | Mod ↦ refl | Smod ↦ refl | Xor ↦ refl | Mov ↦ refl | Arsh ↦ refl ]
+pub computed_numbers : (width : Width) (op : BinaryOperation) (a b : ℕ) → operation_result width op (Number a) (Number b) ≡ Some (Number (alu (width_bits width) (Binary op) a b))
+unfolding operation_result alu binary_value
+computed_numbers Bits32 op a b = elim op as (λ o. operation_result Bits32 o (Number a) (Number b) ≡ Some (Number (alu 32 (Binary o) a b))) [ Add ↦ refl | Sub ↦ refl | Mul ↦ refl | Div ↦ refl | Sdiv ↦ refl | Or ↦ refl | And ↦ refl | Lsh ↦ refl | Rsh ↦ refl | Mod ↦ refl | Smod ↦ refl | Xor ↦ refl | Mov ↦ refl | Arsh ↦ refl ]
+computed_numbers Bits64 op a b = elim op as (λ o. operation_result Bits64 o (Number a) (Number b) ≡ Some (Number (alu 64 (Binary o) a b))) [ Add ↦ refl | Sub ↦ refl | Mul ↦ refl | Div ↦ refl | Sdiv ↦ refl | Or ↦ refl | And ↦ refl | Lsh ↦ refl | Rsh ↦ refl | Mod ↦ refl | Smod ↦ refl | Xor ↦ refl | Mov ↦ refl | Arsh ↦ refl ]
 
 -- ---- bytes that are known
 
@@ -47,19 +47,19 @@ one_on : {X : Type 0} (xs : List X) (i : ℕ) (d : X) → i < length xs → drop
 one_on xs i d h = let e : suc i ≡ i + 1 = omega arith in drop-cons xs i d h ∙ ap (λ k. get_or xs i d ∷ drop k xs) e
 
 -- those from an index on, where the one there is known, and where it isn't
-pub known_here : (xs : List (Option ℕ)) (i b : ℕ) (front next : List ℕ) → i < length xs → get_or xs i None ≡ Some b → next ≡ front ++ b ∷ [] → option_map (λ bs. next ++ bs) (all_known (drop (i + 1) xs)) ≡ option_map (λ bs. front ++ bs) (all_known (drop i xs))
-unfolding all_known
+pub known_here : (xs : List (Option ℕ)) (i b : ℕ) (front next : List ℕ) → i < length xs → get_or xs i None ≡ Some b → next ≡ front ++ b ∷ [] → option_map (λ bs. next ++ bs) (known_list (drop (i + 1) xs)) ≡ option_map (λ bs. front ++ bs) (known_list (drop i xs))
+unfolding known_list
 known_here xs i b front next h is e =
-    ap (λ l. option_map (λ bs. l ++ bs) (all_known (drop (i + 1) xs))) e
-    ∙ sym (ap (λ l. option_map (λ bs. front ++ bs) (all_known l)) (one_on xs i None h ∙ ap (λ o. o ∷ drop (i + 1) xs) is) ∙ joined front b (all_known (drop (i + 1) xs)))
+    ap (λ l. option_map (λ bs. l ++ bs) (known_list (drop (i + 1) xs))) e
+    ∙ sym (ap (λ l. option_map (λ bs. front ++ bs) (known_list l)) (one_on xs i None h ∙ ap (λ o. o ∷ drop (i + 1) xs) is) ∙ joined front b (known_list (drop (i + 1) xs)))
 
-pub unknown_here : (xs : List (Option ℕ)) (i : ℕ) → i < length xs → get_or xs i None ≡ None → all_known (drop i xs) ≡ None
-unfolding all_known
-unknown_here xs i h is = ap all_known (one_on xs i None h ∙ ap (λ o. o ∷ drop (i + 1) xs) is)
+pub unknown_here : (xs : List (Option ℕ)) (i : ℕ) → i < length xs → get_or xs i None ≡ None → known_list (drop i xs) ≡ None
+unfolding known_list
+unknown_here xs i h is = ap known_list (one_on xs i None h ∙ ap (λ o. o ∷ drop (i + 1) xs) is)
 
-pub known_end : (xs : List (Option ℕ)) (i : ℕ) → length xs ≤ i → all_known (drop i xs) ≡ Some []
-unfolding all_known
-known_end xs i h = ap all_known (drop_all i xs h)
+pub known_end : (xs : List (Option ℕ)) (i : ℕ) → length xs ≤ i → known_list (drop i xs) ≡ Some []
+unfolding known_list
+known_end xs i h = ap known_list (drop_all i xs h)
 
 -- ---- helpers
 
@@ -106,7 +106,7 @@ pub listed_order : {V : Type 0} (es : List (Key × V)) (m : FinMap key_cmp V) �
 listed_order es m e = ap entries (listed_map es m e) ∙ sym e
 
 -- after so many steps that many instructions were run
-going_on_after : (p : Program) (tables : Tables) (k : ℕ) (m : Moment) → steps_before m ≤ k → steps_before (go_on (step p tables) m) ≤ suc k
+going_on_after : (p : Program) (tables : Tables) (k : ℕ) (m : Moment) → steps_before m ≤ k → steps_before (next_moment (step p tables) m) ≤ suc k
 going_on_after p tables k (Ended reply s) h = omega arith
 going_on_after p tables k Stuck h = omega arith
 going_on_after p tables k (Going s) h =
@@ -125,9 +125,9 @@ unfolding moment
 few_steps p tables args rows zero = omega arith
 few_steps p tables args rows (suc k) = going_on_after p tables k (moment p tables k (entry_state args rows)) (few_steps p tables args rows k)
 
-pub next_moment : (p : Program) (tables : Tables) (s : State) (k : ℕ) (m n : Moment) → m ≡ moment p tables k s → n ≡ go_on (step p tables) m → n ≡ moment p tables (k + 1) s
+pub next_moment : (p : Program) (tables : Tables) (s : State) (k : ℕ) (m n : Moment) → m ≡ moment p tables k s → n ≡ next_moment (step p tables) m → n ≡ moment p tables (k + 1) s
 unfolding moment
-next_moment p tables s k m n e f = let same : suc k ≡ k + 1 = omega arith in f ∙ ap (go_on (step p tables)) e ∙ ap (λ (j : ℕ). moment p tables j s) same
+next_moment p tables s k m n e f = let same : suc k ≡ k + 1 = omega arith in f ∙ ap (next_moment (step p tables)) e ∙ ap (λ (j : ℕ). moment p tables j s) same
 
 pub first_moment : (p : Program) (tables : Tables) (s t : State) → s ≡ t → Going s ≡ moment p tables 0 t
 unfolding moment

@@ -30,7 +30,7 @@ state_of s = record {
   stack = s.stack.items;
   args = s.args.items;
   rows = s.rows;
-  cancelled = s.cancelled;
+  cancel_code = s.cancel_code;
   looks = s.looks.items;
   writes = s.writes;
   steps = s.steps;
@@ -59,6 +59,6 @@ abbrev pub run_code : Coded Run
 run_code = code_by (ℕ × (ℕ × (List Look × (Writes × (Option ℕ × Rows)))))
     (coded× coded_ℕ (coded× coded_ℕ (coded× (coded_list look_code) (coded× (code key_code (coded_option (coded_list coded_ℕ)))
     (coded× (coded_option coded_ℕ) (code key_code (coded_list coded_ℕ)))))))
-    (λ r. (r.steps, (r.reply, (r.looks, (r.writes, (r.cancelled, r.effect))))))
-    (λ c. record { steps = c.0; reply = c.1.0; looks = c.1.1.0; writes = c.1.1.1.0; cancelled = c.1.1.1.1.0; effect = c.1.1.1.1.1 })
+    (λ r. (r.steps, (r.reply, (r.looks, (r.writes, (r.cancel_code, r.effect))))))
+    (λ c. record { steps = c.0; reply = c.1.0; looks = c.1.1.0; writes = c.1.1.1.0; cancel_code = c.1.1.1.1.0; effect = c.1.1.1.1.1 })
     (λ _. refl)

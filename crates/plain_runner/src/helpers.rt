@@ -4,11 +4,11 @@ ghost use Rattle.std.specs.Prelude.{◌≡◌, ◌∷◌, ◌++◌, replicate, d
 ghost use Rattle.bpf_semantics.specs.declared.value.Value.TheVariants.{Nothing, Number};
 ghost use Rattle.schema.specs.Schema.{Tables};
 ghost use Rattle.schema.specs.declared.helper.Helper.TheVariants.{RowGet, RowPut, RowDelete, RangeCount, RangeNext, Cancel};
-ghost use Rattle.bpf_semantics.specs.Helpers.{Table, table_of, answered, with_point_look};
-ghost use Rattle.bpf_semantics.specs.Helpers.{with_range_look, wrote, row_get, row_put, range_next, called};
+ghost use Rattle.bpf_semantics.specs.Helpers.{Table, table_of, with_answer, with_point_look};
+ghost use Rattle.bpf_semantics.specs.Helpers.{with_range_look, with_row_write, row_get, row_put, range_next, state_after_call};
 ghost use Rattle.plain_runner.specs.Runner.{state_of};
 
-use crate::memory::{buffer_of, known_from, overwritten};
+use crate::memory::{buffer_of, known_bytes, stack_with};
 use crate::row::Bytes;
 use crate::state::State;
 use crate::value::number;
@@ -36,7 +36,7 @@ fn table_of<B: Allocator>(schema: &Schema<B>, value: Value) -> Option<(u8, usize
 }
 
 /// The registers after a call: r0 has the answer, r1 to r5 nothing, and the others stay.
-fn after_call(registers: &[Value; 11], answer: u64) -> [Value; 11]
+fn registers_after_call(registers: &[Value; 11], answer: u64) -> [Value; 11]
     ensures { result ≡ Number answer ∷ (replicate 5 Nothing ++ drop 6 registers.now) }
 {
     let [_, _, _, _, _, _, six, seven, eight, nine, ten] = *registers;
@@ -47,13 +47,13 @@ fn after_call(registers: &[Value; 11], answer: u64) -> [Value; 11]
     ]
 }
 
-#[tactic(auto, unfolding(bpf_semantics::specs::Helpers::called, bpf_semantics::specs::Memory::and_then))]
+#[tactic(auto, unfolding(bpf_semantics::specs::Helpers::state_after_call, bpf_semantics::specs::Memory::and_then))]
 impl<A: Allocator + Copy> State<A> {
     /// r0 gets the answer, and r1 to r5 nothing.
-    fn answered(mut self, answer: u64) -> State<A>
-        ensures { state_of result ≡ answered answer (state_of self) }
+    fn with_answer(mut self, answer: u64) -> State<A>
+        ensures { state_of result ≡ with_answer answer (state_of self) }
     {
-        self.registers = after_call(&self.registers, answer);
+        self.registers = registers_after_call(&self.registers, answer);
         self
     }
 
@@ -97,15 +97,15 @@ impl<A: Allocator + Copy> State<A> {
         alloc: A,
         schema: &Schema<B>,
     ) -> Result<Option<State<A>>, AllocError>
-        ensures { IfOk result (λ s. option_map state_of s ≡ called schema.now RowGet (state_of self)) }
+        ensures { IfOk result (λ s. option_map state_of s ≡ state_after_call schema.now RowGet (state_of self)) }
     {
-        let Some((table, width)) = table_of(schema, self.register(Register::One)) else {
+        let Some((table, width)) = table_of(schema, self.register(Register::R1)) else {
             return Ok(None);
         };
-        let Some(key) = number(self.register(Register::Two)) else {
+        let Some(key) = number(self.register(Register::R2)) else {
             return Ok(None);
         };
-        let to = self.register(Register::Three);
+        let to = self.register(Register::R3);
         self.row_read(alloc, table, width, key, to)
     }
 
@@ -129,13 +129,13 @@ impl<A: Allocator + Copy> State<A> {
             Some(row) => (1, Vec::from_slice(alloc, row.as_slice())?),
             None => (0, vec![in alloc; 0; width]?),
         };
-        self.stack = overwritten(alloc, &self.stack, buffer, &row)?;
+        self.stack = stack_with(alloc, &self.stack, buffer, &row)?;
         let looked = self.with_point_look(table, key)?;
-        Ok(Some(looked.answered(answer)))
+        Ok(Some(looked.with_answer(answer)))
     }
 
     /// A put has bytes, a removal none.
-    fn wrote(
+    fn with_row_write(
         mut self,
         alloc: A,
         table: u8,
@@ -143,7 +143,7 @@ impl<A: Allocator + Copy> State<A> {
         bytes: Option<Vec<u8, A>>,
     ) -> Result<State<A>, AllocError>
         ensures { IfOk result (λ s.
-            state_of s ≡ wrote table key (option_map (λ v. v.items) bytes) (state_of self)) }
+            state_of s ≡ with_row_write table key (option_map (λ v. v.items) bytes) (state_of self)) }
     {
         match bytes {
             Some(bytes) => {
@@ -165,15 +165,15 @@ impl<A: Allocator + Copy> State<A> {
         alloc: A,
         schema: &Schema<B>,
     ) -> Result<Option<State<A>>, AllocError>
-        ensures { IfOk result (λ s. option_map state_of s ≡ called schema.now RowPut (state_of self)) }
+        ensures { IfOk result (λ s. option_map state_of s ≡ state_after_call schema.now RowPut (state_of self)) }
     {
-        let Some((table, width)) = table_of(schema, self.register(Register::One)) else {
+        let Some((table, width)) = table_of(schema, self.register(Register::R1)) else {
             return Ok(None);
         };
-        let Some(key) = number(self.register(Register::Two)) else {
+        let Some(key) = number(self.register(Register::R2)) else {
             return Ok(None);
         };
-        let from = self.register(Register::Three);
+        let from = self.register(Register::R3);
         self.row_written(alloc, table, width, key, from)
     }
 
@@ -193,11 +193,11 @@ impl<A: Allocator + Copy> State<A> {
         let Some(buffer) = buffer_of(from, width) else {
             return Ok(None);
         };
-        let Some(bytes) = known_from(alloc, &self.stack, buffer, width)? else {
+        let Some(bytes) = known_bytes(alloc, &self.stack, buffer, width)? else {
             return Ok(None);
         };
-        let written = self.wrote(alloc, table, key, Some(bytes))?;
-        Ok(Some(written.answered(0)))
+        let written = self.with_row_write(alloc, table, key, Some(bytes))?;
+        Ok(Some(written.with_answer(0)))
     }
 
     /// Removes a row.
@@ -207,35 +207,35 @@ impl<A: Allocator + Copy> State<A> {
         schema: &Schema<B>,
     ) -> Result<Option<State<A>>, AllocError>
         ensures { IfOk result (λ s.
-            option_map state_of s ≡ called schema.now RowDelete (state_of self)) }
+            option_map state_of s ≡ state_after_call schema.now RowDelete (state_of self)) }
     {
-        let Some((table, _)) = table_of(schema, self.register(Register::One)) else {
+        let Some((table, _)) = table_of(schema, self.register(Register::R1)) else {
             return Ok(None);
         };
-        let Some(key) = number(self.register(Register::Two)) else {
+        let Some(key) = number(self.register(Register::R2)) else {
             return Ok(None);
         };
-        let written = self.wrote(alloc, table, key, None)?;
-        Ok(Some(written.answered(0)))
+        let written = self.with_row_write(alloc, table, key, None)?;
+        Ok(Some(written.with_answer(0)))
     }
 
     /// Counts the rows of an interval.
     fn range_count<B: Allocator>(self, schema: &Schema<B>) -> Result<Option<State<A>>, AllocError>
         ensures { IfOk result (λ s.
-            option_map state_of s ≡ called schema.now RangeCount (state_of self)) }
+            option_map state_of s ≡ state_after_call schema.now RangeCount (state_of self)) }
     {
-        let Some((table, _)) = table_of(schema, self.register(Register::One)) else {
+        let Some((table, _)) = table_of(schema, self.register(Register::R1)) else {
             return Ok(None);
         };
-        let Some(lo) = number(self.register(Register::Two)) else {
+        let Some(lo) = number(self.register(Register::R2)) else {
             return Ok(None);
         };
-        let Some(hi) = number(self.register(Register::Three)) else {
+        let Some(hi) = number(self.register(Register::R3)) else {
             return Ok(None);
         };
         let count = self.rows.count(Look { table, lo, hi });
         let looked = self.with_range_look(table, lo, hi, hi)?;
-        Ok(Some(looked.answered(count as u64)))
+        Ok(Some(looked.with_answer(count as u64)))
     }
 
     /// Finds the row of the least key of an interval.
@@ -245,19 +245,19 @@ impl<A: Allocator + Copy> State<A> {
         schema: &Schema<B>,
     ) -> Result<Option<State<A>>, AllocError>
         ensures { IfOk result (λ s.
-            option_map state_of s ≡ called schema.now RangeNext (state_of self)) }
+            option_map state_of s ≡ state_after_call schema.now RangeNext (state_of self)) }
     {
-        let Some((table, width)) = table_of(schema, self.register(Register::One)) else {
+        let Some((table, width)) = table_of(schema, self.register(Register::R1)) else {
             return Ok(None);
         };
-        let Some(lo) = number(self.register(Register::Two)) else {
+        let Some(lo) = number(self.register(Register::R2)) else {
             return Ok(None);
         };
-        let Some(hi) = number(self.register(Register::Three)) else {
+        let Some(hi) = number(self.register(Register::R3)) else {
             return Ok(None);
         };
-        let key_to = self.register(Register::Four);
-        let row_to = self.register(Register::Five);
+        let key_to = self.register(Register::R4);
+        let row_to = self.register(Register::R5);
         self.first_read(alloc, Look { table, lo, hi }, width, key_to, row_to)
     }
 
@@ -286,30 +286,30 @@ impl<A: Allocator + Copy> State<A> {
             Some((key, row)) => (1, key.1, key.1, Vec::from_slice(alloc, row.as_slice())?),
             None => (0, hi, 0, vec![in alloc; 0; width]?),
         };
-        self.stack = overwritten(alloc, &self.stack, key_buffer, &key.to_le_bytes())?;
-        self.stack = overwritten(alloc, &self.stack, row_buffer, &row)?;
+        self.stack = stack_with(alloc, &self.stack, key_buffer, &key.to_le_bytes())?;
+        self.stack = stack_with(alloc, &self.stack, row_buffer, &row)?;
         let looked = self.with_range_look(table, lo, hi, last)?;
-        Ok(Some(looked.answered(answer)))
+        Ok(Some(looked.with_answer(answer)))
     }
 
     /// Has the writes dropped at the end.
     fn cancel(mut self) -> Option<State<A>>
-        ensures { (tables : Tables) → option_map state_of result ≡ called tables Cancel (state_of self) }
+        ensures { (tables : Tables) → option_map state_of result ≡ state_after_call tables Cancel (state_of self) }
     {
-        let code = number(self.register(Register::One))?;
-        self.cancelled = Some(code);
-        Some(self.answered(0))
+        let code = number(self.register(Register::R1))?;
+        self.cancel_code = Some(code);
+        Some(self.with_answer(0))
     }
 
     /// The state after a call; none where it can't be made.
     #[tactic(auto)]
-    pub(crate) fn called<B: Allocator>(
+    pub(crate) fn state_after_call<B: Allocator>(
         self,
         alloc: A,
         schema: &Schema<B>,
         helper: Helper,
     ) -> Result<Option<State<A>>, AllocError>
-        ensures { IfOk result (λ s. option_map state_of s ≡ called schema.now helper (state_of self)) }
+        ensures { IfOk result (λ s. option_map state_of s ≡ state_after_call schema.now helper (state_of self)) }
     {
         match helper {
             Helper::RowGet => self.row_get(alloc, schema),

@@ -3,10 +3,10 @@
 ghost use Rattle.std.specs.Prelude.{◌≡◌, ◌≤◌, ◌^◌, ◌+ℤ◌, unsigned_abs, length, take, drop, IfOk};
 ghost use Rattle.std.specs.Prelude.{Option, Some, None, IfSome, option_map};
 ghost use Rattle.byteorder.specs.Endian.{little_number, little_bytes};
-ghost use Rattle.bpf_semantics.specs.Memory.{size_bytes, load_bytes, extended, index_in};
-ghost use Rattle.bpf_semantics.specs.Memory.{stack_index, known_from, overwritten, read};
-ghost use Rattle.bpf_semantics.specs.Memory.{written_at};
-ghost use Rattle.bpf_semantics.specs.Memory.{stack_read, args_read};
+ghost use Rattle.bpf_semantics.specs.Memory.{size_bytes, load_bytes, load_value, index_in};
+ghost use Rattle.bpf_semantics.specs.Memory.{stack_index, known_bytes, stack_with, memory_bytes};
+ghost use Rattle.bpf_semantics.specs.Memory.{memory_with_store};
+ghost use Rattle.bpf_semantics.specs.Memory.{stack_bytes, args_bytes};
 ghost use Rattle.bpf_semantics.specs.Helpers.{buffer_of};
 
 use bpf_code::{LoadKind, Size};
@@ -88,14 +88,14 @@ fn front<T>(all: &[T], count: usize) -> &[T]
 }
 
 /// So many bytes of the stack from an index on, where each is known.
-pub(crate) fn known_from<A: Allocator>(
+pub(crate) fn known_bytes<A: Allocator>(
     alloc: A,
     stack: &[Option<u8>],
     from: usize,
     count: usize,
 ) -> Result<Option<Vec<u8, A>>, AllocError>
     ensures bytes { IfOk result (λ bytes.
-        option_map (λ v. v.items) bytes ≡ known_from stack.now from count) }
+        option_map (λ v. v.items) bytes ≡ known_bytes stack.now from count) }
     ensures short { IfOk result (λ bytes. IfSome bytes (λ v. length v.items ≤ count)) }
 {
     let mut bytes = Vec::new(alloc);
@@ -109,13 +109,13 @@ pub(crate) fn known_from<A: Allocator>(
 }
 
 /// The stack with these bytes from an index on.
-pub(crate) fn overwritten<A: Allocator>(
+pub(crate) fn stack_with<A: Allocator>(
     alloc: A,
     stack: &[Option<u8>],
     from: usize,
     bytes: &[u8],
 ) -> Result<Vec<Option<u8>, A>, AllocError>
-    ensures { IfOk result (λ new. new.items ≡ overwritten stack.now from bytes.now) }
+    ensures { IfOk result (λ new. new.items ≡ stack_with stack.now from bytes.now) }
 {
     let mut new = Vec::new(alloc);
     new.extend_from_slice(front(stack, from))?;
@@ -127,8 +127,8 @@ pub(crate) fn overwritten<A: Allocator>(
 }
 
 /// So many known bytes of the stack from a place on.
-#[tactic(auto, unfolding(bpf_semantics::specs::Memory::stack_read, bpf_semantics::specs::Memory::and_then))]
-fn stack_read<A: Allocator>(
+#[tactic(auto, unfolding(bpf_semantics::specs::Memory::stack_bytes, bpf_semantics::specs::Memory::and_then))]
+fn stack_bytes<A: Allocator>(
     alloc: A,
     stack: &[Option<u8>],
     place: i64,
@@ -136,25 +136,25 @@ fn stack_read<A: Allocator>(
 ) -> Result<Option<Vec<u8, A>>, AllocError>
     requires { unsigned_abs place ≤ 2 ^ 40 }
     ensures bytes { IfOk result (λ bytes.
-        option_map (λ v. v.items) bytes ≡ stack_read stack.now place count) }
+        option_map (λ v. v.items) bytes ≡ stack_bytes stack.now place count) }
     ensures short { IfOk result (λ bytes. IfSome bytes (λ v. length v.items ≤ count)) }
 {
     match stack_index(place, count) {
-        Some(index) => known_from(alloc, stack, index, count),
+        Some(index) => known_bytes(alloc, stack, index, count),
         None => Ok(None),
     }
 }
 
 /// So many bytes of the arguments from a place on.
-#[tactic(auto, unfolding(bpf_semantics::specs::Memory::args_read, bpf_semantics::specs::Memory::and_then))]
-fn args_read<A: Allocator>(
+#[tactic(auto, unfolding(bpf_semantics::specs::Memory::args_bytes, bpf_semantics::specs::Memory::and_then))]
+fn args_bytes<A: Allocator>(
     alloc: A,
     args: &[u8],
     place: i64,
     count: usize,
 ) -> Result<Option<Vec<u8, A>>, AllocError>
     ensures bytes { IfOk result (λ bytes.
-        option_map (λ v. v.items) bytes ≡ args_read args.now place count) }
+        option_map (λ v. v.items) bytes ≡ args_bytes args.now place count) }
     ensures short { IfOk result (λ bytes. IfSome bytes (λ v. length v.items ≤ count)) }
 {
     match index_in(place, count, args.len()) {
@@ -167,7 +167,7 @@ fn args_read<A: Allocator>(
 }
 
 /// So many bytes from where a value points, with an offset.
-pub(crate) fn read<A: Allocator>(
+pub(crate) fn memory_bytes<A: Allocator>(
     alloc: A,
     stack: &[Option<u8>],
     args: &[u8],
@@ -176,21 +176,21 @@ pub(crate) fn read<A: Allocator>(
     count: usize,
 ) -> Result<Option<Vec<u8, A>>, AllocError>
     ensures bytes { IfOk result (λ bytes.
-        option_map (λ v. v.items) bytes ≡ read stack.now args.now address offset count) }
+        option_map (λ v. v.items) bytes ≡ memory_bytes stack.now args.now address offset count) }
     ensures short { IfOk result (λ bytes. IfSome bytes (λ v. length v.items ≤ count)) }
 {
     match address {
         Value::Stack(place) => {
-            stack_read(alloc, stack, i64::from(place) + i64::from(offset), count)
+            stack_bytes(alloc, stack, i64::from(place) + i64::from(offset), count)
         }
-        Value::Args(place) => args_read(alloc, args, i64::from(place) + i64::from(offset), count),
+        Value::Args(place) => args_bytes(alloc, args, i64::from(place) + i64::from(offset), count),
         Value::Nothing | Value::Number(_) => Ok(None),
     }
 }
 
 /// The stack with these bytes where a value points, with an offset.
-#[tactic(auto, unfolding(bpf_semantics::specs::Memory::stack_written, bpf_semantics::specs::Memory::and_then))]
-pub(crate) fn written_at<A: Allocator>(
+#[tactic(auto, unfolding(bpf_semantics::specs::Memory::stack_with_store, bpf_semantics::specs::Memory::and_then))]
+pub(crate) fn memory_with_store<A: Allocator>(
     alloc: A,
     stack: &[Option<u8>],
     address: Value,
@@ -198,13 +198,13 @@ pub(crate) fn written_at<A: Allocator>(
     bytes: &[u8],
 ) -> Result<Option<Vec<Option<u8>, A>>, AllocError>
     ensures { IfOk result (λ new.
-        option_map (λ v. v.items) new ≡ written_at stack.now address offset bytes.now) }
+        option_map (λ v. v.items) new ≡ memory_with_store stack.now address offset bytes.now) }
 {
     match address {
         Value::Stack(place) => {
             match stack_index(i64::from(place) + i64::from(offset), bytes.len()) {
                 Some(index) => {
-                    let new = overwritten(alloc, stack, index, bytes)?;
+                    let new = stack_with(alloc, stack, index, bytes)?;
                     Ok(Some(new))
                 }
                 None => Ok(None),
@@ -227,8 +227,8 @@ pub(crate) fn little_number(bytes: &[u8]) -> u64
 
 /// The number that a load makes of what it read.
 #[tactic(auto, unfolding(bpf_words::specs::Operation::alu))]
-pub(crate) fn extended(kind: LoadKind, number: u64) -> u64
-    ensures { result ≡ extended kind number }
+pub(crate) fn load_value(kind: LoadKind, number: u64) -> u64
+    ensures { result ≡ load_value kind number }
 {
     match kind {
         LoadKind::U8 | LoadKind::U16 | LoadKind::U32 | LoadKind::U64 => number,

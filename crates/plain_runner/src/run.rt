@@ -23,7 +23,7 @@ pub struct CompletedRun<A: Allocator = Global> {
     reply: u64,
     looks: Vec<Look, A>,
     writes: Vec<Write<A>, A>,
-    cancelled: Option<u64>,
+    cancel_code: Option<u64>,
     rows: Vec<Row<A>, A>,
 }
 
@@ -41,7 +41,7 @@ impl<A: Allocator> Model for CompletedRun<A> {
       reply = r.reply;
       looks = r.looks.items;
       writes = from_entries r.writes.items;
-      cancelled = r.cancelled;
+      cancel_code = r.cancel_code;
       effect = from_entries r.rows.items;
     } };
 
@@ -78,10 +78,10 @@ impl<A: Allocator> CompletedRun<A> {
     }
 
     /// The last cancel code, where it cancelled.
-    pub fn cancelled(&self) -> Option<u64>
-        ensures { result ≡ self.now.cancelled }
+    pub fn cancel_code(&self) -> Option<u64>
+        ensures { result ≡ self.now.cancel_code }
     {
-        self.cancelled
+        self.cancel_code
     }
 
     /// The rows afterwards, in the order of tables and keys; those before where it cancelled.
@@ -118,7 +118,7 @@ pub fn run_program<A: Allocator + Copy, B: Allocator, C: Allocator, D: Allocator
     for _ in 0..code.slots() {
         moment = moment.next(alloc, code, schema)?;
     }
-    answered(alloc, moment, rows)
+    run_at(alloc, moment, rows)
 }
 
 /// The stack at entry.
@@ -145,7 +145,7 @@ fn entry<A: Allocator + Copy, D: Allocator>(
         stack: unknown_bytes(alloc)?,
         args: Vec::from_slice(alloc, args)?,
         rows: KeyMap::from_rows(alloc, rows)?,
-        cancelled: None,
+        cancel_code: None,
         looks: Vec::new(alloc),
         writes: KeyMap::new(alloc),
         steps: 0,
@@ -153,7 +153,7 @@ fn entry<A: Allocator + Copy, D: Allocator>(
 }
 
 /// What is read off the last moment of a run on these rows.
-fn answered<A: Allocator + Copy, D: Allocator>(
+fn run_at<A: Allocator + Copy, D: Allocator>(
     alloc: A,
     moment: Moment<A>,
     rows: &[Row<D>],
@@ -162,7 +162,7 @@ fn answered<A: Allocator + Copy, D: Allocator>(
 {
     match moment {
         Moment::Ended(reply, state) => {
-            let run = completed(alloc, reply, state, rows)?;
+            let run = completed_run(alloc, reply, state, rows)?;
             Ok(Some(run))
         }
         Moment::Going(_state) => Ok(None),
@@ -171,7 +171,7 @@ fn answered<A: Allocator + Copy, D: Allocator>(
 }
 
 /// What is read off the end of a run on these rows.
-fn completed<A: Allocator + Copy, D: Allocator>(
+fn completed_run<A: Allocator + Copy, D: Allocator>(
     alloc: A,
     reply: u64,
     mut state: State<A>,
@@ -179,18 +179,18 @@ fn completed<A: Allocator + Copy, D: Allocator>(
 ) -> Result<CompletedRun<A>, AllocError>
     ensures { IfOk result (λ r. r ≡ run_of (rows_of rows.now) reply (state_of state)) }
 {
-    match state.cancelled {
-        None => listed(alloc, reply, state),
+    match state.cancel_code {
+        None => listed_run(alloc, reply, state),
         Some(_) => {
             state.writes = KeyMap::new(alloc);
             state.rows = KeyMap::from_rows(alloc, rows)?;
-            listed(alloc, reply, state)
+            listed_run(alloc, reply, state)
         }
     }
 }
 
 /// The end of a run that keeps its writes and rows.
-fn listed<A: Allocator + Copy>(
+fn listed_run<A: Allocator + Copy>(
     alloc: A,
     reply: u64,
     state: State<A>,
@@ -200,7 +200,7 @@ fn listed<A: Allocator + Copy>(
       reply = reply;
       looks = state.looks.items;
       writes = state.writes;
-      cancelled = state.cancelled;
+      cancel_code = state.cancel_code;
       effect = state.rows;
     }) }
 {
@@ -211,7 +211,7 @@ fn listed<A: Allocator + Copy>(
         reply,
         looks: state.looks,
         writes,
-        cancelled: state.cancelled,
+        cancel_code: state.cancel_code,
         rows,
     })
 }

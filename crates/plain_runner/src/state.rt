@@ -20,7 +20,7 @@ pub(crate) struct State<A: Allocator> {
     pub(crate) stack: Vec<Option<u8>, A>,
     pub(crate) args: Vec<u8, A>,
     pub(crate) rows: KeyMap<Bytes<A>, A>,
-    pub(crate) cancelled: Option<u64>,
+    pub(crate) cancel_code: Option<u64>,
     pub(crate) looks: Vec<Look, A>,
     pub(crate) writes: KeyMap<Option<Bytes<A>>, A>,
     pub(crate) steps: usize,

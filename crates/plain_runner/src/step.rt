@@ -5,21 +5,23 @@ ghost use Rattle.std.specs.Int.{w64, cast_unsigned};
 ghost use Rattle.byteorder.specs.Endian.{little_bytes};
 ghost use Rattle.bpf_semantics.specs.State.{register, past, with_register};
 ghost use Rattle.schema.specs.Helper.{helper_of};
-ghost use Rattle.bpf_semantics.specs.Memory.{and_then, size_bytes, written_at};
-ghost use Rattle.bpf_semantics.specs.Helpers.{called};
+ghost use Rattle.bpf_semantics.specs.Memory.{and_then, size_bytes, memory_with_store};
+ghost use Rattle.bpf_semantics.specs.Helpers.{state_after_call};
 ghost use Rattle.bpf_code.specs.declared.instruction.Instruction.TheVariants.{Load, StoreRegister};
 ghost use Rattle.bpf_code.specs.declared.instruction.Instruction.TheVariants.{Arithmetic, Negate};
 ghost use Rattle.bpf_code.specs.declared.instruction.Instruction.TheVariants.{MoveSignExtended};
 ghost use Rattle.bpf_code.specs.declared.instruction.Instruction.TheVariants.{End, Branch, Call};
 ghost use Rattle.bpf_code.specs.declared.instruction.Instruction.TheVariants.{Exit};
 ghost use Rattle.schema.specs.Schema.{Tables};
-ghost use Rattle.bpf_semantics.specs.Step.{jumped, with_result, with_stored, execute, step};
-ghost use Rattle.bpf_semantics.specs.Run.{go_on};
+ghost use Rattle.bpf_semantics.specs.Step.{after_jump, with_result, with_store, execute, step};
+ghost use Rattle.bpf_semantics.specs.Run.{next_moment};
 ghost use Rattle.plain_runner.specs.Runner.{state_of, moment_of, steps_before};
 
-use crate::memory::{extended, little_number, load_bytes, read, size_bytes, written_at};
+use crate::memory::{
+    little_number, load_bytes, load_value, memory_bytes, memory_with_store, size_bytes,
+};
 use crate::state::State;
-use crate::value::{arithmetic, computed, holds, number};
+use crate::value::{arithmetic, holds, number, operation_result};
 use bpf_code::{Code, Instruction, LoadKind, Register, SignExtendingMove, Size, Source, Width};
 use bpf_semantics::Value;
 use bpf_words::{BinaryOperation, ByteOrder, Condition, EndWidth, Operation, SignExtension, end};
@@ -45,10 +47,10 @@ impl<A: Allocator + Copy> State<A> {
     }
 
     /// To the slot this far past the next one.
-    fn jumped(self, distance: i32) -> Moment<A>
+    fn after_jump(self, distance: i32) -> Moment<A>
         requires slot { self.slot < 2 ^ 32 }
         requires steps { self.steps < 2 ^ 32 }
-        ensures { moment_of result ≡ jumped distance (state_of self) }
+        ensures { moment_of result ≡ after_jump distance (state_of self) }
     {
         match usize::try_from(distance) {
             Ok(distance) => Moment::Going(self.past(1 + distance)),
@@ -71,10 +73,11 @@ impl<A: Allocator + Copy> State<A> {
     {
         let address = self.register(src);
         let count = load_bytes(kind);
-        let Some(bytes) = read(alloc, &self.stack, &self.args, address, offset, count)? else {
+        let Some(bytes) = memory_bytes(alloc, &self.stack, &self.args, address, offset, count)?
+        else {
             return Ok(Moment::Stuck);
         };
-        let number = extended(kind, little_number(&bytes));
+        let number = load_value(kind, little_number(&bytes));
         Ok(self.with_result(dst, Value::Number(number)))
     }
 
@@ -90,12 +93,12 @@ impl<A: Allocator + Copy> State<A> {
         requires slot { self.slot < 2 ^ 32 }
         requires steps { self.steps < 2 ^ 32 }
         ensures { IfOk result (λ m.
-            moment_of m ≡ with_stored (written_at (state_of self).stack (register (state_of self) dst)
+            moment_of m ≡ with_store (memory_with_store (state_of self).stack (register (state_of self) dst)
             offset (little_bytes (size_bytes size) number)) (state_of self)) }
     {
         let bytes = number.to_le_bytes();
         let bytes = &bytes[..size_bytes(size)];
-        match written_at(alloc, &self.stack, self.register(dst), offset, bytes)? {
+        match memory_with_store(alloc, &self.stack, self.register(dst), offset, bytes)? {
             Some(stack) => {
                 let mut next = self.past(1);
                 next.stack = stack;
@@ -136,7 +139,7 @@ impl<A: Allocator + Copy> State<A> {
         ensures { (tables : Tables) →
             moment_of result ≡ execute tables (Arithmetic width op dst source) (state_of self) }
     {
-        match computed(width, op, self.register(dst), self.operand(source)) {
+        match operation_result(width, op, self.register(dst), self.operand(source)) {
             Some(value) => self.with_result(dst, value),
             None => Moment::Stuck,
         }
@@ -211,7 +214,7 @@ impl<A: Allocator + Copy> State<A> {
             return Moment::Stuck;
         };
         if holds(width, condition, a, b) {
-            self.jumped(i32::from(distance))
+            self.after_jump(i32::from(distance))
         } else {
             Moment::Going(self.past(1))
         }
@@ -226,10 +229,10 @@ impl<A: Allocator + Copy> State<A> {
         number: i32,
     ) -> Result<Option<State<A>>, AllocError>
         ensures { IfOk result (λ s. option_map state_of s
-            ≡ and_then (helper_of number) (λ h. called schema.now h (state_of self))) }
+            ≡ and_then (helper_of number) (λ h. state_after_call schema.now h (state_of self))) }
     {
         match Helper::from_number(number) {
-            Some(helper) => self.called(alloc, schema, helper),
+            Some(helper) => self.state_after_call(alloc, schema, helper),
             None => Ok(None),
         }
     }
@@ -256,7 +259,7 @@ impl<A: Allocator + Copy> State<A> {
         requires steps { self.steps < 2 ^ 32 }
         ensures { (tables : Tables) → moment_of result ≡ execute tables Exit (state_of self) }
     {
-        match number(self.register(Register::Zero)) {
+        match number(self.register(Register::R0)) {
             Some(reply) => Moment::Ended(reply, self.past(0)),
             None => Moment::Stuck,
         }
@@ -311,8 +314,8 @@ impl<A: Allocator + Copy> State<A> {
                 Ok(self.move_sign_extended(kind, dst, src))
             }
             Instruction::End { order, width, dst } => Ok(self.end(order, width, dst)),
-            Instruction::Jump { distance } => Ok(self.jumped(i32::from(distance))),
-            Instruction::LongJump { distance } => Ok(self.jumped(distance)),
+            Instruction::Jump { distance } => Ok(self.after_jump(i32::from(distance))),
+            Instruction::LongJump { distance } => Ok(self.after_jump(distance)),
             Instruction::Branch {
                 width,
                 condition,
@@ -353,7 +356,7 @@ impl<A: Allocator + Copy> Moment<A> {
     ) -> Result<Moment<A>, AllocError>
         requires { steps_before (moment_of self) < 2 ^ 32 }
         ensures { IfOk result (λ m.
-            moment_of m ≡ go_on (step code.now schema.now) (moment_of self)) }
+            moment_of m ≡ next_moment (step code.now schema.now) (moment_of self)) }
     {
         match self {
             Moment::Going(state) => state.step(alloc, code, schema),

@@ -5,7 +5,7 @@ ghost use Rattle.bpf_words.specs.Operation.{alu};
 ghost use Rattle.bpf_words.specs.Condition.{holds};
 ghost use Rattle.bpf_semantics.specs.declared.value.Value.TheVariants.{Number};
 ghost use Rattle.bpf_semantics.specs.State.{number};
-ghost use Rattle.bpf_semantics.specs.Step.{width_bits, near, moved, computed};
+ghost use Rattle.bpf_semantics.specs.Step.{width_bits, near_place, moved_place, operation_result};
 
 use bpf_code::Width;
 use bpf_semantics::Value;
@@ -22,20 +22,20 @@ pub(crate) fn number(value: Value) -> Option<u64>
 }
 
 /// The place so far on; none where the value isn't a place, or that is too far away.
-fn moved(value: Value, distance: i128) -> Option<Value>
+fn moved_place(value: Value, distance: i128) -> Option<Value>
     requires { unsigned_abs distance ≤ 2 ^ 64 }
-    ensures { result ≡ moved value distance }
+    ensures { result ≡ moved_place value distance }
 {
     match value {
-        Value::Stack(place) => near(i128::from(place) + distance).map(Value::Stack),
-        Value::Args(place) => near(i128::from(place) + distance).map(Value::Args),
+        Value::Stack(place) => near_place(i128::from(place) + distance).map(Value::Stack),
+        Value::Args(place) => near_place(i128::from(place) + distance).map(Value::Args),
         _ => None,
     }
 }
 
 /// The place, where it isn't too far away.
-fn near(place: i128) -> Option<i32>
-    ensures { result ≡ near place }
+fn near_place(place: i128) -> Option<i32>
+    ensures { result ≡ near_place place }
 {
     if (-65_536..=65_536).contains(&place) {
         Some(place as i32)
@@ -45,9 +45,14 @@ fn near(place: i128) -> Option<i32>
 }
 
 /// What an operation gives on two values; none where it has no step.
-#[tactic(auto, unfolding(bpf_semantics::specs::Step::computed))]
-pub(crate) fn computed(width: Width, op: BinaryOperation, a: Value, b: Value) -> Option<Value>
-    ensures { result ≡ computed width op a b }
+#[tactic(auto, unfolding(bpf_semantics::specs::Step::operation_result))]
+pub(crate) fn operation_result(
+    width: Width,
+    op: BinaryOperation,
+    a: Value,
+    b: Value,
+) -> Option<Value>
+    ensures { result ≡ operation_result width op a b }
 {
     match b {
         Value::Number(b) => with_number(width, op, a, b),
@@ -60,9 +65,9 @@ pub(crate) fn computed(width: Width, op: BinaryOperation, a: Value, b: Value) ->
 }
 
 /// The same where the second value is a number.
-#[tactic(auto, using(crate::proofs::RunnerLemmas::computed_numbers), unfolding(bpf_semantics::specs::Step::computed))]
+#[tactic(auto, using(crate::proofs::RunnerLemmas::computed_numbers), unfolding(bpf_semantics::specs::Step::operation_result))]
 fn with_number(width: Width, op: BinaryOperation, a: Value, b: u64) -> Option<Value>
-    ensures { result ≡ computed width op a (Number b) }
+    ensures { result ≡ operation_result width op a (Number b) }
 {
     match (a, width, op) {
         (Value::Number(a), _, _) => {
@@ -71,8 +76,8 @@ fn with_number(width: Width, op: BinaryOperation, a: Value, b: u64) -> Option<Va
         (_, _, BinaryOperation::Mov) => {
             Some(Value::Number(arithmetic(width, Operation::Binary(op), 0, b)))
         }
-        (_, Width::Bits64, BinaryOperation::Add) => moved(a, i128::from(b.cast_signed())),
-        (_, Width::Bits64, BinaryOperation::Sub) => moved(a, -i128::from(b.cast_signed())),
+        (_, Width::Bits64, BinaryOperation::Add) => moved_place(a, i128::from(b.cast_signed())),
+        (_, Width::Bits64, BinaryOperation::Sub) => moved_place(a, -i128::from(b.cast_signed())),
         _ => None,
     }
 }

@@ -38,14 +38,14 @@ fault_of tables table width =
     else None
 
 -- the fault, where there is one
-abbrev pub unless : Option SchemaFault → Result Tables SchemaFault → Result Tables SchemaFault
-unless (Some fault) tables = Err fault
-unless None tables = tables
+abbrev pub fault_or : Option SchemaFault → Result Tables SchemaFault → Result Tables SchemaFault
+fault_or (Some fault) tables = Err fault
+fault_or None tables = tables
 
 -- these tables and those of the pairs, or the first fault
 abbrev pub with_pairs : List (ℕ × ℕ) → Tables → Result Tables SchemaFault
 with_pairs [] tables = Ok tables
-with_pairs (pair ∷ pairs) tables = unless (fault_of tables pair.0 pair.1) (with_pairs pairs (insert tables pair.0 pair.1))
+with_pairs (pair ∷ pairs) tables = fault_or (fault_of tables pair.0 pair.1) (with_pairs pairs (insert tables pair.0 pair.1))
 
 -- the tables of the pairs, or the first fault
 abbrev pub schema_of : List (ℕ × ℕ) → Result Tables SchemaFault

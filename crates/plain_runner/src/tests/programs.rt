@@ -535,7 +535,7 @@ fn described(alloc: Global, run: Option<&CompletedRun>) -> Result<String, Fail> 
             None => write!(text, " remove {}:{}", write.table(), write.key())?,
         }
     }
-    if let Some(code) = run.cancelled() {
+    if let Some(code) = run.cancel_code() {
         write!(text, " cancelled {code}")?;
     }
     for row in run.rows() {

@@ -18,5 +18,5 @@ pub returns-clause-bytes : goal.returns-clause-bytes
 returns-clause-bytes g c =
     let spelled : second_half c.in_ok-high.high ≡ c.args.fields.now = search rules in
     let half : half_bytes c.args.half ≡ bytes_of (fields_of c.in-Some.first) = search rules in
-    pushes_wide c.args.slots.now.items c.push_reserved-2.new.self.items _ _ c.completed.result (fields_of c.in-Some.first) (second_half c.in_ok-high.high) c.args.fields.now
-    c.push_reserved-2.ensures.items c.push_reserved-3.ensures.items c.completed.ensures.bytes half spelled
+    pushes_wide c.args.slots.now.items c.push_reserved-2.new.self.items _ _ c.completed_load.result (fields_of c.in-Some.first) (second_half c.in_ok-high.high) c.args.fields.now
+    c.push_reserved-2.ensures.items c.push_reserved-3.ensures.items c.completed_load.ensures.bytes half spelled

@@ -25,4 +25,4 @@ returns g c =
     let last : moment_of c.loop.moment ≡ moment c.args.code.now c.args.schema.now (length c.args.code.now) (entry_state c.args.args.now (rows_of c.args.rows.now)) =
     c.loop.invariant ∙ ap (λ (k : ℕ). moment c.args.code.now c.args.schema.now k (entry_state c.args.args.now (rows_of c.args.rows.now))) all in
     let told = read_off c.args.code.now c.args.schema.now c.args.args.now (rows_of c.args.rows.now) _ last in
-    IfOk-weaker c.answered.result (λ answer. answer ≡ run_at (rows_of c.args.rows.now) (moment_of c.loop.moment)) _ (λ answer is. is ∙ told) c.answered.ensures
+    IfOk-weaker c.with_answer.result (λ answer. answer ≡ run_at (rows_of c.args.rows.now) (moment_of c.loop.moment)) _ (λ answer is. is ∙ told) c.with_answer.ensures

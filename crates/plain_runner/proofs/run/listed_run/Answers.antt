@@ -1,5 +1,5 @@
 use Rattle.plain_runner.proofs.RunnerLemmas.{listed_map, listed_order}
-use Rattle.plain_runner.proofs.run.listed.Goals as goal
+use Rattle.plain_runner.proofs.run.listed_run.Goals as goal
 
 pub invariant_of-result : goal.invariant_of-result
 invariant_of-result g c = (listed_order _ c.args.state.writes c.in_ok-writes.ensures, listed_order _ c.args.state.rows c.in_ok-rows.ensures)
@@ -13,6 +13,6 @@ returns g c =
       reply = c.args.reply;
       looks = c.args.state.looks.items;
       writes = writes i;
-      cancelled = c.args.state.cancelled;
+      cancel_code = c.args.state.cancel_code;
       effect = rows i;
     }

@@ -2,7 +2,7 @@ use Rattle.std.proofs.Common.{◌∙◌, sym, ap, ◌++◌, Some, option_map, ar
 use Rattle.std.proofs.lemmas.Grind.{common_steps}
 use Rattle.std.proofs.lemmas.List.{append-nil}
 use Rattle.plain_runner.proofs.RunnerLemmas.{known_here, unknown_here, known_end}
-use Rattle.plain_runner.proofs.memory.known_from.Goals as goal
+use Rattle.plain_runner.proofs.memory.known_bytes.Goals as goal
 
 pub returns-in-None-clause-bytes : goal.returns-in-None-clause-bytes
 returns-in-None-clause-bytes g c = ap (option_map (λ bs. c.loop-byte.bytes.items ++ bs)) (sym (unknown_here c.front-byte-items.result.now c.loop-byte.byte-index c.loop-byte-test.true c.in-None.is)) ∙ c.loop-byte.invariant.told

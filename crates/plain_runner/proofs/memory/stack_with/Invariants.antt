@@ -1,5 +1,5 @@
 use Rattle.std.proofs.Common.{◌≡◌, ◌++◌, take, map, Some}
-use Rattle.plain_runner.proofs.memory.overwritten.Given as goal
+use Rattle.plain_runner.proofs.memory.stack_with.Given as goal
 
 -- the bytes so far stand behind those before them
 abbrev pub invariant-loop-byte : goal.invariant-loop-byte
