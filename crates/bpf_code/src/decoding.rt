@@ -7,7 +7,7 @@ ghost use Rattle.bpf_code.specs.Fields.{bytes_of, slots_of};
 ghost use Rattle.bpf_code.specs.declared.fields.Fields.{Fields};
 ghost use Rattle.bpf_code.specs.Program.{Program, AllInRange, spelling, is_wide as wide, distance_of, instruction_at, IsProgram};
 ghost use Rattle.bpf_code.specs.Decoding.{fault as fault_at, with_front, completed_load as completed_by};
-ghost use Rattle.bpf_code.specs.Decoding.{read_slots as slots_read, jump_fault as fault_of_jump, jump_faults};
+ghost use Rattle.bpf_code.specs.Decoding.{reading_of_slots as slots_read, jump_fault as fault_of_jump, jump_faults};
 ghost use Rattle.bpf_code.specs.Decoding.{exit_fault, program_of};
 ghost use Rattle.bpf_code.specs.Spelling.{fields_of, second_half, instruction_bytes};
 ghost use Rattle.bpf_code.specs.Steps.{half_bytes, half_count, IsFirstHalf, IsHalf};
@@ -43,7 +43,7 @@ fn completed_load(first: Instruction, high: u32) -> Instruction
 }
 
 /// What one slot adds to the slots so far; the answer is the first half whose second is due.
-#[tactic(auto, unfolding(crate::specs::Decoding::read_slots))]
+#[tactic(auto, unfolding(crate::specs::Decoding::reading_of_slots))]
 fn read_slot<A: Allocator>(
     slots: &mut Vec<Option<Instruction>, A>,
     half: Option<Instruction>,

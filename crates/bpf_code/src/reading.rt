@@ -1,6 +1,6 @@
 ghost use Rattle.std.specs.Prelude.{◌≡◌, IsTrue, IfOk, IfSome, true, false, pos};
 ghost use Rattle.std.specs.Int.{w32};
-ghost use Rattle.bpf_code.specs.Reading.{read as read_of, read_half as half_of, unused_are_zero as unused_of};
+ghost use Rattle.bpf_code.specs.Reading.{reading_of as read_of, half_reading_of as half_of, unused_are_zero as unused_of};
 ghost use Rattle.bpf_code.specs.Reading.{uses_of, offset_chooses, operation_of, extension_of, end_width_of};
 ghost use Rattle.bpf_code.specs.Reading.{on_register as register_form, instruction_of};
 ghost use Rattle.bpf_code.specs.Register.{number_of};
@@ -19,7 +19,7 @@ use crate::opcode::{ArithmeticCode, Opcode, SourceKind, Uses};
 use bpf_words::{BinaryOperation, EndWidth};
 
 /// The instruction of a slot; of a wide load its first half.
-#[tactic(auto, unfolding(crate::specs::Reading::read))]
+#[tactic(auto, unfolding(crate::specs::Reading::reading_of))]
 pub fn read(fields: &Fields) -> Result<Instruction, DecodeCause>
     ensures exact { result ≡ read_of fields.now }
     ensures spelled { IfOk result (λ i. fields_of i ≡ fields.now) }
@@ -35,7 +35,7 @@ pub fn read(fields: &Fields) -> Result<Instruction, DecodeCause>
 }
 
 /// The upper half of a wide load's value, from its second slot.
-#[tactic(auto, unfolding(crate::specs::Reading::read_half, crate::specs::Reading::unused_are_zero))]
+#[tactic(auto, unfolding(crate::specs::Reading::half_reading_of, crate::specs::Reading::unused_are_zero))]
 pub fn read_half(fields: &Fields) -> Result<u32, DecodeCause>
     ensures exact { result ≡ half_of fields.now }
     ensures spelled { IfOk result (λ high. second_half high ≡ fields.now) }
