@@ -19,7 +19,7 @@ use Rattle.bpf_semantics.specs.Helpers.{Table, state_after_call, row_get, row_pu
 use Rattle.bpf_semantics.specs.Memory.{stack_with}
 use Rattle.bpf_semantics.specs.Step.{Going, Ended, Stuck, after_jump, with_result, with_store, execute, step, width_bits}
 use Rattle.bpf_semantics.specs.Run.{next_moment, moment, Run, run_of, run, unless_cancelled}
-use Rattle.bpf_semantics.proofs.StepLemmas.{just, bound, going_on, some_is, going_is}
+use Rattle.bpf_semantics.proofs.StepLemmas.{just, bound, going_on, some_is, going_is, set_is}
 use Rattle.bpf_semantics.proofs.RunLemmas.{moment-front, not_ended, ended_is, exit_is, step_runs, going_runs, ended_runs, run_ended}
 
 abbrev pub Kept : Rows → State → Type 0
@@ -114,19 +114,19 @@ branch_leaves rows false d s t e k = leaves rows 1 s s t (itself s) e k
 store_leaves : (rows : Rows) (o : Option (List (Option ℕ))) (s t : State) → with_store o s ≡ Going t → Kept rows s → Kept rows t
 store_leaves rows o s t e k = let a = going_on o _ t e in leaves rows 1 s (with_stack a.0 s) t (record { rows = refl; writes = refl }) a.2 k
 
-set_leaves : (rows : Rows) (dst : Register) (v : Value) (s t : State) → with_result dst v s ≡ Going t → Kept rows s → Kept rows t
-set_leaves rows dst v s t e k = leaves rows 1 s (with_register s dst v) t (record { rows = refl; writes = refl }) e k
+set_leaves : (rows : Rows) (n : ℕ) (dst : Register) (v : Value) (s t : State) → with_result n dst v s ≡ Going t → Kept rows s → Kept rows t
+set_leaves rows n dst v s t e k = leaves rows n s (with_register s dst v) t (record { rows = refl; writes = refl }) (set_is n dst v s t e) k
 
 pub execute_keeps : (rows : Rows) (tables : Tables) (i : Instruction) (s t : State) → execute tables i s ≡ Going t → Kept rows s → Kept rows t
 unfolding execute
-execute_keeps rows tables (LoadWide dst value) s t e k = leaves rows 2 s (with_register s dst _) t (record { rows = refl; writes = refl }) e k
-execute_keeps rows tables (Load kind dst src offset) s t e k = let a = going_on _ _ t e in set_leaves rows dst _ s t a.2 k
+execute_keeps rows tables (LoadWide dst value) s t e k = set_leaves rows 2 dst _ s t e k
+execute_keeps rows tables (Load kind dst src offset) s t e k = let a = going_on _ _ t e in set_leaves rows 1 dst _ s t a.2 k
 execute_keeps rows tables (StoreImmediate size dst offset immediate) s t e k = store_leaves rows _ s t e k
 execute_keeps rows tables (StoreRegister size dst src offset) s t e k = let a = going_on _ _ t e in store_leaves rows _ s t a.2 k
-execute_keeps rows tables (Arithmetic width op dst src) s t e k = let a = going_on _ _ t e in set_leaves rows dst _ s t a.2 k
-execute_keeps rows tables (Negate width dst) s t e k = let a = going_on _ _ t e in set_leaves rows dst _ s t a.2 k
-execute_keeps rows tables (MoveSignExtended kind dst src) s t e k = let a = going_on _ _ t e in set_leaves rows dst _ s t a.2 k
-execute_keeps rows tables (End order width dst) s t e k = let a = going_on _ _ t e in set_leaves rows dst _ s t a.2 k
+execute_keeps rows tables (Arithmetic width op dst src) s t e k = let a = going_on _ _ t e in set_leaves rows 1 dst _ s t a.2 k
+execute_keeps rows tables (Negate width dst) s t e k = let a = going_on _ _ t e in set_leaves rows 1 dst _ s t a.2 k
+execute_keeps rows tables (MoveSignExtended kind dst src) s t e k = let a = going_on _ _ t e in set_leaves rows 1 dst _ s t a.2 k
+execute_keeps rows tables (End order width dst) s t e k = let a = going_on _ _ t e in set_leaves rows 1 dst _ s t a.2 k
 execute_keeps rows tables (Jump distance) s t e k = jump_leaves rows distance s t e k
 execute_keeps rows tables (LongJump distance) s t e k = jump_leaves rows distance s t e k
 execute_keeps rows tables (Branch width condition dst src distance) s t e k =

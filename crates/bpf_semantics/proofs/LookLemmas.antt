@@ -3,6 +3,7 @@ use Rattle.std.proofs.Common.{◌≡◌, ◌⊎◌, inl, inr, ℕ, zero, suc, �
 use Rattle.std.specs.Prelude.{is_some, nat_le, ◌||◌}
 use Rattle.std.specs.FinMap.{get}
 use Rattle.bpf_words.specs.Condition.{holds}
+use Rattle.bpf_code.specs.declared.instruction.Register.{Register}
 use Rattle.bpf_code.specs.declared.instruction.Instruction.{Instruction}
 use Rattle.bpf_code.specs.declared.instruction.Instruction.TheVariants.{LoadWide, Load, StoreImmediate, StoreRegister, Arithmetic, Negate, MoveSignExtended, End, Jump, LongJump, Branch, Call, Exit}
 use Rattle.bpf_code.specs.Program.{Program}
@@ -15,12 +16,12 @@ use Rattle.schema.specs.declared.helper.Helper.TheVariants.{RowGet, RowPut, RowD
 use Rattle.bpf_semantics.specs.State.{State, past, with_register, entry_state}
 use Rattle.bpf_semantics.specs.Memory.{stack_with}
 use Rattle.bpf_semantics.specs.Helpers.{Table, table_of, with_look, range_count, state_after_call, row_get, row_put, range_next, with_stack, with_point_look, with_range_look, with_row_read, with_next_read, look_at, last_seen, row_or_zeros, key_or_zeros, row_of}
-use Rattle.bpf_semantics.specs.Step.{Going, Ended, Stuck, after_jump, with_store, execute, step, width_bits}
+use Rattle.bpf_semantics.specs.Step.{Going, Ended, Stuck, after_jump, with_result, with_store, execute, step, width_bits}
 use Rattle.bpf_semantics.specs.Run.{next_moment, moment, Run, run}
 use Rattle.bpf_semantics.specs.Agree.{any_covers, looks_of, AgreeOnLooks, in_tables}
 use Rattle.std.proofs.lemmas.Bool.Decides.{nat_tests}
 use Rattle.bpf_semantics.specs.declared.value.Value.{Value}
-use Rattle.bpf_semantics.proofs.StepLemmas.{just, bound, going_on, some_is, going_is}
+use Rattle.bpf_semantics.proofs.StepLemmas.{just, bound, going_on, some_is, going_is, set_is}
 use Rattle.bpf_semantics.proofs.RunLemmas.{moment-front, not_ended, ended_is, ended_stays, exit_is, step_runs, going_runs, ended_runs, run_ended}
 
 -- ---- the looks stay, or there is one more, at a table of the schema
@@ -102,16 +103,19 @@ branch_leaves tables false d s t e = leaves tables 1 s s t refl e
 store_leaves : (tables : Tables) (o : Option (List (Option ℕ))) (s t : State) → with_store o s ≡ Going t → LooksOn tables s.looks t.looks
 store_leaves tables o s t e = let a = going_on o _ t e in leaves tables 1 s (with_stack a.0 s) t refl a.2
 
+set_leaves : (tables : Tables) (n : ℕ) (dst : Register) (v : Value) (s t : State) → with_result n dst v s ≡ Going t → LooksOn tables s.looks t.looks
+set_leaves tables n dst v s t e = leaves tables n s (with_register s dst v) t refl (set_is n dst v s t e)
+
 execute_looks : (tables : Tables) (i : Instruction) (s t : State) → execute tables i s ≡ Going t → LooksOn tables s.looks t.looks
 unfolding execute
-execute_looks tables (LoadWide dst value) s t e = leaves tables 2 s (with_register s dst _) t refl e
-execute_looks tables (Load kind dst src offset) s t e = let a = going_on _ _ t e in leaves tables 1 s (with_register s dst _) t refl a.2
+execute_looks tables (LoadWide dst value) s t e = set_leaves tables 2 dst _ s t e
+execute_looks tables (Load kind dst src offset) s t e = let a = going_on _ _ t e in set_leaves tables 1 dst _ s t a.2
 execute_looks tables (StoreImmediate size dst offset immediate) s t e = store_leaves tables _ s t e
 execute_looks tables (StoreRegister size dst src offset) s t e = let a = going_on _ _ t e in store_leaves tables _ s t a.2
-execute_looks tables (Arithmetic width op dst src) s t e = let a = going_on _ _ t e in leaves tables 1 s (with_register s dst _) t refl a.2
-execute_looks tables (Negate width dst) s t e = let a = going_on _ _ t e in leaves tables 1 s (with_register s dst _) t refl a.2
-execute_looks tables (MoveSignExtended kind dst src) s t e = let a = going_on _ _ t e in leaves tables 1 s (with_register s dst _) t refl a.2
-execute_looks tables (End order width dst) s t e = let a = going_on _ _ t e in leaves tables 1 s (with_register s dst _) t refl a.2
+execute_looks tables (Arithmetic width op dst src) s t e = let a = going_on _ _ t e in set_leaves tables 1 dst _ s t a.2
+execute_looks tables (Negate width dst) s t e = let a = going_on _ _ t e in set_leaves tables 1 dst _ s t a.2
+execute_looks tables (MoveSignExtended kind dst src) s t e = let a = going_on _ _ t e in set_leaves tables 1 dst _ s t a.2
+execute_looks tables (End order width dst) s t e = let a = going_on _ _ t e in set_leaves tables 1 dst _ s t a.2
 execute_looks tables (Jump distance) s t e = jump_leaves tables distance s t e
 execute_looks tables (LongJump distance) s t e = jump_leaves tables distance s t e
 execute_looks tables (Branch width condition dst src distance) s t e =

@@ -9,7 +9,7 @@ use Rattle.bpf_semantics.specs.State.{State, past, entry_state}
 use Rattle.bpf_semantics.specs.Step.{Moment, Going, Ended, Stuck, or_stuck, after_jump, with_store, execute, step}
 use Rattle.bpf_semantics.specs.Run.{next_moment, moment, Run, run_of, run_at, run}
 use Rattle.bpf_semantics.specs.Path.{fall_through, jump_of, from_there, one_more, path, longest_path}
-use Rattle.bpf_semantics.proofs.StepLemmas.{just, Leads, Steps, execute_leads}
+use Rattle.bpf_semantics.proofs.StepLemmas.{just, Leads, Steps, execute_leads, set_goes}
 
 -- ---- the first step first
 
@@ -60,14 +60,14 @@ store_goes o s r t e = let a = ending o _ r t e in let bad = a.2 in cc
 -- EXIT is counted, and nothing else ends
 pub exit_is : (tables : Tables) (i : Instruction) (s : State) (reply : ℕ) (t : State) → execute tables i s ≡ Ended reply t → past 0 s ≡ t
 unfolding execute
-exit_is tables (LoadWide dst value) s r t e = absurd cc
-exit_is tables (Load kind dst src offset) s r t e = let a = ending _ _ r t e in let bad = a.2 in absurd cc
+exit_is tables (LoadWide dst value) s r t e = absurd (set_goes 2 dst _ s r t e)
+exit_is tables (Load kind dst src offset) s r t e = let a = ending _ _ r t e in absurd (set_goes 1 dst _ s r t a.2)
 exit_is tables (StoreImmediate size dst offset immediate) s r t e = absurd (store_goes _ s r t e)
 exit_is tables (StoreRegister size dst src offset) s r t e = let a = ending _ _ r t e in absurd (store_goes _ s r t a.2)
-exit_is tables (Arithmetic width op dst src) s r t e = let a = ending _ _ r t e in let bad = a.2 in absurd cc
-exit_is tables (Negate width dst) s r t e = let a = ending _ _ r t e in let bad = a.2 in absurd cc
-exit_is tables (MoveSignExtended kind dst src) s r t e = let a = ending _ _ r t e in let bad = a.2 in absurd cc
-exit_is tables (End order width dst) s r t e = let a = ending _ _ r t e in let bad = a.2 in absurd cc
+exit_is tables (Arithmetic width op dst src) s r t e = let a = ending _ _ r t e in absurd (set_goes 1 dst _ s r t a.2)
+exit_is tables (Negate width dst) s r t e = let a = ending _ _ r t e in absurd (set_goes 1 dst _ s r t a.2)
+exit_is tables (MoveSignExtended kind dst src) s r t e = let a = ending _ _ r t e in absurd (set_goes 1 dst _ s r t a.2)
+exit_is tables (End order width dst) s r t e = let a = ending _ _ r t e in absurd (set_goes 1 dst _ s r t a.2)
 exit_is tables (Jump distance) s r t e = absurd (jump_goes distance s r t e)
 exit_is tables (LongJump distance) s r t e = absurd (jump_goes distance s r t e)
 exit_is tables (Branch width condition dst src distance) s r t e =

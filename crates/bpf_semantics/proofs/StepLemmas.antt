@@ -16,7 +16,7 @@ use Rattle.bpf_semantics.specs.declared.value.Value.{Value}
 use Rattle.bpf_semantics.specs.State.{State, register, with_register, past}
 use Rattle.bpf_semantics.specs.Memory.{and_then, stack_with}
 use Rattle.bpf_semantics.specs.Helpers.{Table, state_after_call, row_get, row_put, range_count, range_next, with_stack, with_point_look, with_range_look, with_row_read, with_next_read, look_at, last_seen, row_or_zeros, key_or_zeros, row_of}
-use Rattle.bpf_semantics.specs.Step.{Moment, Going, or_stuck, after_jump, with_result, with_store, execute, width_bits}
+use Rattle.bpf_semantics.specs.Step.{Moment, Going, Ended, Stuck, or_stuck, after_jump, is_read_only, with_result, with_store, execute, width_bits}
 use Rattle.bpf_semantics.specs.Path.{fall_through, slots_of_jump, jump_of}
 
 -- ---- options and moments
@@ -161,19 +161,31 @@ branches false d i s t through is e = falls 1 i s s t through (itself s) e
 stores : (i : Instruction) (o : Option (List (Option ℕ))) (s t : State) → fall_through i ≡ just 1 → with_store o s ≡ Going t → Steps i s t
 stores i o s t through e = let a = going_on o _ t e in falls 1 i s (record s { stack = a.0 }) t through (record { slot = refl; steps = refl }) a.2
 
-sets : (i : Instruction) (dst : Register) (v : Value) (s t : State) → fall_through i ≡ just 1 → with_result dst v s ≡ Going t → Steps i s t
-sets i dst v s t through e = falls 1 i s (with_register s dst v) t through (record { slot = refl; steps = refl }) e
+-- a result goes on where its register may be written, and never ends
+pub set_is : (n : ℕ) (dst : Register) (v : Value) (s t : State) → with_result n dst v s ≡ Going t → Going (past n (with_register s dst v)) ≡ Going t
+set_is n dst v s t e =
+    elim (is_read_only dst) as (λ b. cond b Stuck (Going (past n (with_register s dst v))) ≡ Going t → Going (past n (with_register s dst v)) ≡ Going t) [
+      | true ↦ λ h. absurd cc
+      | false ↦ λ h. h
+    ] e
+
+pub set_goes : (n : ℕ) (dst : Register) (v : Value) (s : State) (r : ℕ) (t : State) → with_result n dst v s ≡ Ended r t → ⊥
+set_goes n dst v s r t e =
+    elim (is_read_only dst) as (λ b. cond b Stuck (Going (past n (with_register s dst v))) ≡ Ended r t → ⊥) [ true ↦ λ h. cc | false ↦ λ h. cc ] e
+
+sets : (n : ℕ) (i : Instruction) (dst : Register) (v : Value) (s t : State) → fall_through i ≡ just n → with_result n dst v s ≡ Going t → Steps i s t
+sets n i dst v s t through e = falls n i s (with_register s dst v) t through (record { slot = refl; steps = refl }) (set_is n dst v s t e)
 
 pub execute_leads : (tables : Tables) (i : Instruction) (s t : State) → execute tables i s ≡ Going t → Steps i s t
 unfolding execute
-execute_leads tables (LoadWide dst value) s t e = falls 2 (LoadWide dst value) s (with_register s dst _) t refl (record { slot = refl; steps = refl }) e
-execute_leads tables (Load kind dst src offset) s t e = let a = going_on _ _ t e in sets (Load kind dst src offset) dst _ s t refl a.2
+execute_leads tables (LoadWide dst value) s t e = sets 2 (LoadWide dst value) dst _ s t refl e
+execute_leads tables (Load kind dst src offset) s t e = let a = going_on _ _ t e in sets 1 (Load kind dst src offset) dst _ s t refl a.2
 execute_leads tables (StoreImmediate size dst offset immediate) s t e = stores (StoreImmediate size dst offset immediate) _ s t refl e
 execute_leads tables (StoreRegister size dst src offset) s t e = let a = going_on _ _ t e in stores (StoreRegister size dst src offset) _ s t refl a.2
-execute_leads tables (Arithmetic width op dst src) s t e = let a = going_on _ _ t e in sets (Arithmetic width op dst src) dst _ s t refl a.2
-execute_leads tables (Negate width dst) s t e = let a = going_on _ _ t e in sets (Negate width dst) dst _ s t refl a.2
-execute_leads tables (MoveSignExtended kind dst src) s t e = let a = going_on _ _ t e in sets (MoveSignExtended kind dst src) dst _ s t refl a.2
-execute_leads tables (End order width dst) s t e = let a = going_on _ _ t e in sets (End order width dst) dst _ s t refl a.2
+execute_leads tables (Arithmetic width op dst src) s t e = let a = going_on _ _ t e in sets 1 (Arithmetic width op dst src) dst _ s t refl a.2
+execute_leads tables (Negate width dst) s t e = let a = going_on _ _ t e in sets 1 (Negate width dst) dst _ s t refl a.2
+execute_leads tables (MoveSignExtended kind dst src) s t e = let a = going_on _ _ t e in sets 1 (MoveSignExtended kind dst src) dst _ s t refl a.2
+execute_leads tables (End order width dst) s t e = let a = going_on _ _ t e in sets 1 (End order width dst) dst _ s t refl a.2
 execute_leads tables (Jump distance) s t e = jumps distance (Jump distance) s t refl e
 execute_leads tables (LongJump distance) s t e = jumps distance (LongJump distance) s t refl e
 execute_leads tables (Branch width condition dst src distance) s t e =

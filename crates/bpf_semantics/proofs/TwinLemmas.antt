@@ -4,6 +4,7 @@ use Rattle.std.specs.Prelude.{IsSome, ◌↔◌, All}
 use Rattle.std.specs.FinMap.{get}
 use Rattle.std.proofs.lemmas.List.Elements.{All-head, All-tail}
 use Rattle.bpf_words.specs.Condition.{holds}
+use Rattle.bpf_code.specs.declared.instruction.Register.{Register}
 use Rattle.bpf_code.specs.declared.instruction.Instruction.{Instruction}
 use Rattle.bpf_code.specs.declared.instruction.Instruction.TheVariants.{LoadWide, Load, StoreImmediate, StoreRegister, Arithmetic, Negate, MoveSignExtended, End, Jump, LongJump, Branch, Call, Exit}
 use Rattle.bpf_code.specs.Program.{Program, instruction_at}
@@ -12,10 +13,11 @@ use Rattle.schema.specs.Rows.{Rows, AgreeOn, after, Writes}
 use Rattle.schema.specs.Helper.{helper_of}
 use Rattle.schema.proofs.RowsLemmas.{after-empty, get-after}
 use Rattle.schema.specs.declared.helper.Helper.{Helper}
-use Rattle.bpf_semantics.specs.State.{State, past, entry_state}
+use Rattle.bpf_semantics.specs.State.{State, past, entry_state, with_register}
+use Rattle.bpf_semantics.specs.declared.value.Value.{Value}
 use Rattle.bpf_semantics.specs.Memory.{and_then}
 use Rattle.bpf_semantics.specs.Helpers.{state_after_call}
-use Rattle.bpf_semantics.specs.Step.{Moment, Going, Ended, Stuck, or_stuck, after_jump, with_store, execute, step, width_bits}
+use Rattle.bpf_semantics.specs.Step.{Moment, Going, Ended, Stuck, or_stuck, after_jump, is_read_only, with_result, with_store, execute, step, width_bits}
 use Rattle.bpf_semantics.specs.Run.{next_moment, moment, Run, run_of, run_at, run}
 use Rattle.bpf_semantics.specs.Agree.{any_covers, looks_of, AgreeOnLooks, in_tables, same_on, AreElsewhere, after_each}
 use Rattle.bpf_semantics.proofs.LookLemmas.{agree_on_run, agree_on_tables}
@@ -54,6 +56,13 @@ after_call (Some u) (Some v) h = ap (past 1) h
 after_call None (Some v) h = h
 after_call (Some u) None h = h
 
+set_twins : (n : ℕ) (dst : Register) (v : Value) (s : State) (rows : Rows) → SameMoments (with_result n dst v s) (with_result n dst v (over rows s))
+set_twins n dst v s rows =
+    elim (is_read_only dst) as (λ b. SameMoments (cond b Stuck (Going (past n (with_register s dst v)))) (cond b Stuck (Going (past n (with_register (over rows s) dst v))))) [
+      | true ↦ tt
+      | false ↦ refl
+    ]
+
 call_twins : (m n rows : Rows) (tables : Tables) (o : Option Helper) (s : State) → s.rows ≡ after s.writes m → rows ≡ after s.writes n
     → AgreeOn (any_covers (looks_of (or_stuck (and_then o (λ h. state_after_call tables h s)) (λ t. Going (past 1 t))))) m n
     → SameMoments (or_stuck (and_then o (λ h. state_after_call tables h s)) (λ t. Going (past 1 t))) (or_stuck (and_then o (λ h. state_after_call tables h (over rows s))) (λ t. Going (past 1 t)))
@@ -66,14 +75,14 @@ call_twins m n rows tables (Some h) s e f agree =
 execute_twins : (m n rows : Rows) (tables : Tables) (i : Instruction) (s : State) → s.rows ≡ after s.writes m → rows ≡ after s.writes n
     → AgreeOn (any_covers (looks_of (execute tables i s))) m n → SameMoments (execute tables i s) (execute tables i (over rows s))
 unfolding execute
-execute_twins m n rows tables (LoadWide dst value) s e f agree = refl
-execute_twins m n rows tables (Load kind dst src offset) s e f agree = or_stuck_twins _ _ _ (λ bytes. refl)
+execute_twins m n rows tables (LoadWide dst value) s e f agree = set_twins 2 dst _ s rows
+execute_twins m n rows tables (Load kind dst src offset) s e f agree = or_stuck_twins _ _ _ (λ bytes. set_twins 1 dst _ s rows)
 execute_twins m n rows tables (StoreImmediate size dst offset immediate) s e f agree = store_twins _ s rows
 execute_twins m n rows tables (StoreRegister size dst src offset) s e f agree = or_stuck_twins _ _ _ (λ a. store_twins _ s rows)
-execute_twins m n rows tables (Arithmetic width op dst src) s e f agree = or_stuck_twins _ _ _ (λ v. refl)
-execute_twins m n rows tables (Negate width dst) s e f agree = or_stuck_twins _ _ _ (λ v. refl)
-execute_twins m n rows tables (MoveSignExtended kind dst src) s e f agree = or_stuck_twins _ _ _ (λ v. refl)
-execute_twins m n rows tables (End order width dst) s e f agree = or_stuck_twins _ _ _ (λ v. refl)
+execute_twins m n rows tables (Arithmetic width op dst src) s e f agree = or_stuck_twins _ _ _ (λ v. set_twins 1 dst _ s rows)
+execute_twins m n rows tables (Negate width dst) s e f agree = or_stuck_twins _ _ _ (λ v. set_twins 1 dst _ s rows)
+execute_twins m n rows tables (MoveSignExtended kind dst src) s e f agree = or_stuck_twins _ _ _ (λ v. set_twins 1 dst _ s rows)
+execute_twins m n rows tables (End order width dst) s e f agree = or_stuck_twins _ _ _ (λ v. set_twins 1 dst _ s rows)
 execute_twins m n rows tables (Jump distance) s e f agree = jump_twins distance s rows
 execute_twins m n rows tables (LongJump distance) s e f agree = jump_twins distance s rows
 execute_twins m n rows tables (Branch width condition dst src distance) s e f agree =

@@ -1,7 +1,8 @@
 -- One instruction, one equation a form (RFC 9669 sections 4 and 5; places, and what is stuck, are this product's
 -- own). What can't be run is stuck: a value that is nothing is read, a place is stored, computed with or moved too far,
--- an address or a call is wrong, a jump goes backwards, no instruction begins at the slot, r0 is no number at EXIT.
-use Rattle.std.specs.Prelude.{ℕ, ◌+◌, ℤ, pos, negsuc, ◌+ℤ◌, neg_ℤ, nat_le, unsigned_abs, if◌then◌else◌, List, length, Option, Some, None}
+-- an address or a call is wrong, r10 is written, a jump goes backwards, no instruction begins at the slot, r0 is no
+-- number at EXIT.
+use Rattle.std.specs.Prelude.{ℕ, Bool, true, false, ◌+◌, ℤ, pos, negsuc, ◌+ℤ◌, neg_ℤ, nat_le, unsigned_abs, if◌then◌else◌, List, length, Option, Some, None}
 use Rattle.std.specs.Option.{option_map}
 use Rattle.std.specs.Int.{w64, cast_signed, cast_unsigned}
 use Rattle.byteorder.specs.Endian.{little_number, little_bytes}
@@ -14,7 +15,7 @@ use Rattle.bpf_words.specs.Operation.{alu}
 use Rattle.bpf_words.specs.Condition.{holds}
 use Rattle.bpf_words.specs.End.{end_value}
 use Rattle.bpf_code.specs.declared.instruction.Register.{Register}
-use Rattle.bpf_code.specs.declared.instruction.Register.TheVariants.{R0}
+use Rattle.bpf_code.specs.declared.instruction.Register.TheVariants.{R0, R10}
 use Rattle.bpf_code.specs.declared.instruction.Width.{Width}
 use Rattle.bpf_code.specs.declared.instruction.Width.TheVariants.{Bits32, Bits64}
 use Rattle.bpf_code.specs.declared.instruction.SignExtendingMove.{SignExtendingMove}
@@ -85,8 +86,14 @@ operation_result _ _ _ _ = None
 
 -- ---- the step
 
-abbrev pub with_result : Register → Value → State → Moment
-with_result dst v s = Going (past 1 (with_register s dst v))
+-- r10 is read only
+abbrev pub is_read_only : Register → Bool
+is_read_only R10 = true
+is_read_only _ = false
+
+-- so many slots on, with a value in a register that may be written
+abbrev pub with_result : ℕ → Register → Value → State → Moment
+with_result slots dst v s = if is_read_only dst then Stuck else Going (past slots (with_register s dst v))
 
 abbrev pub with_store : Option (List (Option ℕ)) → State → Moment
 with_store written s = or_stuck written (λ stack. Going (past 1 (with_stack stack s)))
@@ -97,10 +104,10 @@ after_jump (pos distance) s = Going (past (1 + distance) s)
 after_jump (negsuc _) s = Stuck
 
 unfoldable pub execute : Tables → Instruction → State → Moment
-execute tables (LoadWide dst value) s = Going (past 2 (with_register s dst (Number value)))
+execute tables (LoadWide dst value) s = with_result 2 dst (Number value) s
 execute tables (Load kind dst src offset) s =
     or_stuck (memory_bytes s.stack s.args (register s src) offset (load_bytes kind)) (λ bytes.
-    with_result dst (Number (load_value kind (little_number (length bytes) bytes))) s)
+    with_result 1 dst (Number (load_value kind (little_number (length bytes) bytes))) s)
 execute tables (StoreImmediate size dst offset immediate) s =
     let bytes = little_bytes (size_bytes size) (cast_unsigned w64 immediate) in
     with_store (memory_with_store s.stack (register s dst) offset bytes) s
@@ -108,14 +115,14 @@ execute tables (StoreRegister size dst src offset) s =
     or_stuck (number (register s src)) (λ n.
     with_store (memory_with_store s.stack (register s dst) offset (little_bytes (size_bytes size) n)) s)
 execute tables (Arithmetic width op dst src) s =
-    or_stuck (operation_result width op (register s dst) (operand s src)) (λ v. with_result dst v s)
+    or_stuck (operation_result width op (register s dst) (operand s src)) (λ v. with_result 1 dst v s)
 execute tables (Negate width dst) s =
-    or_stuck (number (register s dst)) (λ a. with_result dst (Number (alu (width_bits width) Neg a 0)) s)
+    or_stuck (number (register s dst)) (λ a. with_result 1 dst (Number (alu (width_bits width) Neg a 0)) s)
 execute tables (MoveSignExtended kind dst src) s =
     or_stuck (number (register s src)) (λ b.
-    with_result dst (Number (alu (width_bits (extension_width kind)) (Movsx (low_bits kind)) 0 b)) s)
+    with_result 1 dst (Number (alu (width_bits (extension_width kind)) (Movsx (low_bits kind)) 0 b)) s)
 execute tables (End order width dst) s =
-    or_stuck (number (register s dst)) (λ a. with_result dst (Number (end_value order width a)) s)
+    or_stuck (number (register s dst)) (λ a. with_result 1 dst (Number (end_value order width a)) s)
 execute tables (Jump distance) s = after_jump distance s
 execute tables (LongJump distance) s = after_jump distance s
 execute tables (Branch width condition dst src distance) s =

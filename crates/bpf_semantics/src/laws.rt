@@ -11,12 +11,6 @@ ghost use Rattle.bpf_semantics.specs.Run.{Run, moment, run, run_of};
 ghost use Rattle.bpf_semantics.specs.Agree.{any_covers, AgreeOnLooks, in_tables, same_on, AreElsewhere, after_each};
 ghost use Rattle.bpf_semantics.specs.Path.{longest_path, instructions};
 
-/// No state has two steps.
-pub fn one_step()
-    ensures { (p : Program) (tables : Tables) (s : State) (m n : Moment)
-        → step p tables s ≡ m → step p tables s ≡ n → m ≡ n }
-{}
-
 /// What is stuck stays stuck, and what has ended stays as it ended.
 pub fn the_end_stays()
     ensures stuck { (p : Program) (tables : Tables) (k n : ℕ) (s : State)
@@ -48,7 +42,7 @@ pub fn runs_are_short()
 pub fn the_effect_is_that_of_the_writes()
     ensures kept { (p : Program) (tables : Tables) (args : List ℕ) (rows : Rows) (r : Run)
         → run p tables args rows ≡ Some r → r.cancel_code ≡ None → r.effect ≡ after r.writes rows }
-    ensures cancel_code { (p : Program) (tables : Tables) (args : List ℕ) (rows : Rows) (r : Run)
+    ensures cancelled { (p : Program) (tables : Tables) (args : List ℕ) (rows : Rows) (r : Run)
         → run p tables args rows ≡ Some r → IsSome r.cancel_code → (r.effect ≡ rows) × (r.writes ≡ empty) }
 {}
 

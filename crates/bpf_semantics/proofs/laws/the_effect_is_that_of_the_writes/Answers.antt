@@ -4,5 +4,5 @@ use Rattle.bpf_semantics.proofs.laws.the_effect_is_that_of_the_writes.Goals as g
 pub returns-clause-kept : goal.returns-clause-kept
 returns-clause-kept c = effect_kept
 
-pub returns-clause-cancel_code : goal.returns-clause-cancel_code
-returns-clause-cancel_code c = effect_cancelled
+pub returns-clause-cancelled : goal.returns-clause-cancelled
+returns-clause-cancelled c = effect_cancelled
