@@ -14,6 +14,4 @@ mod row;
 mod run;
 mod state;
 mod step;
-#[cfg(test)]
-mod tests;
 mod value;

@@ -1,6 +1,6 @@
 //! One instruction, as the definitions say it.
 
-ghost use Rattle.std.specs.Prelude.{◌≡◌, ◌<◌, ◌^◌, IfOk, option_map};
+ghost use Rattle.std.specs.Prelude.{◌≡◌, ◌<◌, ◌≤◌, ◌^◌, IfOk, option_map};
 ghost use Rattle.std.specs.Int.{w64, cast_unsigned};
 ghost use Rattle.byteorder.specs.Endian.{little_bytes};
 ghost use Rattle.bpf_semantics.specs.State.{register, past, with_register};
@@ -13,7 +13,7 @@ ghost use Rattle.bpf_code.specs.declared.instruction.Instruction.TheVariants.{Mo
 ghost use Rattle.bpf_code.specs.declared.instruction.Instruction.TheVariants.{End, Branch, Call};
 ghost use Rattle.bpf_code.specs.declared.instruction.Instruction.TheVariants.{Exit};
 ghost use Rattle.schema.specs.Schema.{Tables};
-ghost use Rattle.bpf_semantics.specs.Step.{after_jump, with_result, with_store, execute, step};
+ghost use Rattle.bpf_semantics.specs.Step.{after_jump, is_read_only, with_result, with_store, execute, step};
 ghost use Rattle.bpf_semantics.specs.Run.{next_moment};
 ghost use Rattle.plain_runner.specs.Runner.{state_of, moment_of, steps_before};
 
@@ -36,14 +36,26 @@ pub(crate) enum Moment<A: Allocator> {
     Stuck,
 }
 
+fn is_read_only(register: Register) -> bool
+    ensures { result ≡ is_read_only register }
+{
+    matches!(register, Register::R10)
+}
+
 #[tactic(auto, unfolding(bpf_semantics::specs::Step::execute, bpf_semantics::specs::Step::or_stuck))]
 impl<A: Allocator + Copy> State<A> {
-    fn with_result(self, dst: Register, value: Value) -> Moment<A>
+    /// So many slots on, with a value in a register that may be written.
+    fn with_result(self, slots: usize, dst: Register, value: Value) -> Moment<A>
+        requires few { slots ≤ 2 }
         requires slot { self.slot < 2 ^ 32 }
         requires steps { self.steps < 2 ^ 32 }
-        ensures { moment_of result ≡ with_result dst value (state_of self) }
+        ensures { moment_of result ≡ with_result slots dst value (state_of self) }
     {
-        Moment::Going(self.past(1).with_register(dst, value))
+        if is_read_only(dst) {
+            Moment::Stuck
+        } else {
+            Moment::Going(self.past(slots).with_register(dst, value))
+        }
     }
 
     /// To the slot this far past the next one.
@@ -78,7 +90,7 @@ impl<A: Allocator + Copy> State<A> {
             return Ok(Moment::Stuck);
         };
         let number = load_value(kind, little_number(&bytes));
-        Ok(self.with_result(dst, Value::Number(number)))
+        Ok(self.with_result(1, dst, Value::Number(number)))
     }
 
     /// Stores the low bytes of a number.
@@ -140,7 +152,7 @@ impl<A: Allocator + Copy> State<A> {
             moment_of result ≡ execute tables (Arithmetic width op dst source) (state_of self) }
     {
         match operation_result(width, op, self.register(dst), self.operand(source)) {
-            Some(value) => self.with_result(dst, value),
+            Some(value) => self.with_result(1, dst, value),
             None => Moment::Stuck,
         }
     }
@@ -153,6 +165,7 @@ impl<A: Allocator + Copy> State<A> {
     {
         match number(self.register(dst)) {
             Some(a) => self.with_result(
+                1,
                 dst,
                 Value::Number(arithmetic(width, Operation::Neg, a, 0)),
             ),
@@ -176,7 +189,7 @@ impl<A: Allocator + Copy> State<A> {
         match number(self.register(src)) {
             Some(b) => {
                 let number = arithmetic(width, Operation::Movsx(low), 0, b);
-                self.with_result(dst, Value::Number(number))
+                self.with_result(1, dst, Value::Number(number))
             }
             None => Moment::Stuck,
         }
@@ -189,7 +202,7 @@ impl<A: Allocator + Copy> State<A> {
             moment_of result ≡ execute tables (End order width dst) (state_of self) }
     {
         match number(self.register(dst)) {
-            Some(a) => self.with_result(dst, Value::Number(end(order, width, a))),
+            Some(a) => self.with_result(1, dst, Value::Number(end(order, width, a))),
             None => Moment::Stuck,
         }
     }
@@ -279,8 +292,7 @@ impl<A: Allocator + Copy> State<A> {
     {
         match instruction {
             Instruction::LoadWide { dst, value } => {
-                let next = self.past(2).with_register(dst, Value::Number(value));
-                Ok(Moment::Going(next))
+                Ok(self.with_result(2, dst, Value::Number(value)))
             }
             Instruction::Load {
                 kind,

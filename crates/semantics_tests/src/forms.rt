@@ -1,7 +1,7 @@
 //! Each form of instruction: states where it steps, and for each reason one where it is stuck. A wide
-//! load and both jumps have no reason to be stuck that a decoded program can reach.
+//! load and both jumps have no reason to be stuck that a decoded program can reach, but for a write to r10.
 
-use super::assembly::{add, copy, gives, pull, push, reply, set, slot, sticks, wide};
+use crate::assembly::{add, copy, pull, push, replies, set, slot, wide};
 use std::test::Fail;
 
 /// Loads by opcode: how many bytes, and what the first and the last such bytes of the arguments give.
@@ -17,25 +17,32 @@ const LOADS: [(u8, i16, u64, u64); 7] = [
 
 #[test]
 fn loads(rt: HostRuntime) -> Result<(), Fail> {
-    let alloc = rt.alloc();
     for (opcode, count, first, last) in LOADS {
         let load = |src: u8, offset: i16| slot(opcode, 0, src, offset, 0);
         let back = 0i16.wrapping_sub(count);
-        gives(&rt, alloc, &[load(1, 0)], first)?;
-        gives(&rt, alloc, &[load(1, back.wrapping_add(8))], last)?;
-        gives(&rt, alloc, &[push(-8, 1), load(10, -8)], 1)?;
-        gives(&rt, alloc, &[push(-512, 1), load(10, -512)], 1)?;
-        // From nothing, and from a number.
-        sticks(&rt, alloc, &[load(2, 0)])?;
-        sticks(&rt, alloc, &[set(2, 0), load(2, 0)])?;
-        // Before and behind the arguments, and the stack.
-        sticks(&rt, alloc, &[load(1, -1)])?;
-        sticks(&rt, alloc, &[load(1, back.wrapping_add(9))])?;
-        sticks(&rt, alloc, &[push(-512, 1), load(10, -513)])?;
-        sticks(&rt, alloc, &[push(-8, 1), load(10, back.wrapping_add(1))])?;
-        // Of bytes that were never stored.
-        sticks(&rt, alloc, &[load(10, -8)])?;
-        sticks(&rt, alloc, &[push(-16, 1), load(10, back.wrapping_add(-7))])?;
+        replies(
+            &rt,
+            rt.alloc(),
+            &[
+                (&[load(1, 0)], Some(first)),
+                (&[load(1, back.wrapping_add(8))], Some(last)),
+                (&[push(-8, 1), load(10, -8)], Some(1)),
+                (&[push(-512, 1), load(10, -512)], Some(1)),
+                // From nothing, and from a number.
+                (&[load(2, 0)], None),
+                (&[set(2, 0), load(2, 0)], None),
+                // Before and behind the arguments, and the stack.
+                (&[load(1, -1)], None),
+                (&[load(1, back.wrapping_add(9))], None),
+                (&[push(-512, 1), load(10, -513)], None),
+                (&[push(-8, 1), load(10, back.wrapping_add(1))], None),
+                // Of bytes that were never stored.
+                (&[load(10, -8)], None),
+                (&[push(-16, 1), load(10, back.wrapping_add(-7))], None),
+                // To r10.
+                (&[slot(opcode, 10, 1, 0, 0), set(0, 1)], None),
+            ],
+        )?;
     }
     Ok(())
 }
@@ -51,29 +58,33 @@ const STORES: [(u8, u8, i16, u64); 4] = [
 
 #[test]
 fn stores(rt: HostRuntime) -> Result<(), Fail> {
-    let alloc = rt.alloc();
     for (immediate, register, count, left) in STORES {
         let behind = 1i16.wrapping_sub(count);
         for (opcode, src, number) in [(immediate, 0, -2), (register, 3, 0)] {
             let store = |dst: u8, offset: i16| slot(opcode, dst, src, offset, number);
-            gives(
+            let (three, one) = (set(3, -2), set(0, 1));
+            replies(
                 &rt,
-                alloc,
-                &[set(3, -2), push(-8, 0), store(10, -8), pull(0, -8)],
-                left,
+                rt.alloc(),
+                &[
+                    (
+                        &[three, push(-8, 0), store(10, -8), pull(0, -8)],
+                        Some(left),
+                    ),
+                    (&[three, store(10, -512), one], Some(1)),
+                    // To nothing, to a number, and to the arguments.
+                    (&[three, store(2, -8), one], None),
+                    (&[three, store(3, -8), one], None),
+                    (&[three, store(1, 0), one], None),
+                    // Before and behind the stack.
+                    (&[three, store(10, -513), one], None),
+                    (&[three, store(10, behind), one], None),
+                    // Of nothing, and of places.
+                    (&[slot(register, 10, 3, -8, 0), one], None),
+                    (&[slot(register, 10, 1, -8, 0), one], None),
+                    (&[slot(register, 10, 10, -8, 0), one], None),
+                ],
             )?;
-            gives(&rt, alloc, &[set(3, -2), store(10, -512), set(0, 1)], 1)?;
-            // To nothing, to a number, and to the arguments.
-            sticks(&rt, alloc, &[set(3, -2), store(2, -8), set(0, 1)])?;
-            sticks(&rt, alloc, &[set(3, -2), store(3, -8), set(0, 1)])?;
-            sticks(&rt, alloc, &[set(3, -2), store(1, 0), set(0, 1)])?;
-            // Before and behind the stack.
-            sticks(&rt, alloc, &[set(3, -2), store(10, -513), set(0, 1)])?;
-            sticks(&rt, alloc, &[set(3, -2), store(10, behind), set(0, 1)])?;
-        }
-        // Of nothing, and of places.
-        for src in [3, 1, 10] {
-            sticks(&rt, alloc, &[slot(register, 10, src, -8, 0), set(0, 1)])?;
         }
     }
     Ok(())
@@ -101,50 +112,54 @@ const ARITHMETIC: [(u8, i16, u64); 14] = [
 const CLASSES: [u8; 2] = [0x04, 0x07];
 
 #[test]
-fn arithmetic_of_numbers(rt: HostRuntime) -> Result<(), Fail> {
-    let alloc = rt.alloc();
+fn arithmetic_of_kinds(rt: HostRuntime) -> Result<(), Fail> {
     for (high, offset, result) in ARITHMETIC {
         for class in CLASSES {
             let immediate = |dst: u8| slot(high | class, dst, 0, offset, 5);
             let register = |dst: u8, src: u8| slot(high | 0x08 | class, dst, src, offset, 0);
-            gives(&rt, alloc, &[set(0, 12), immediate(0)], result)?;
-            gives(&rt, alloc, &[set(0, 12), set(3, 5), register(0, 3)], result)?;
-            // With nothing.
-            sticks(&rt, alloc, &[set(0, 12), register(0, 3), set(0, 1)])?;
-            // A move doesn't read its destination.
+            let (one, five, twelve) = (set(0, 1), set(3, 5), set(0, 12));
+            // A move doesn't read its destination, and at 64 bits copies a place. Such an addition or
+            // subtraction moves one.
             let is_move = high == 0xb0;
-            let nothing = reply(alloc, &[immediate(2), copy(0, 2)])?;
-            assert_eq!(rt; nothing.is_some(), is_move, "{high} {class}");
-            let nothing = reply(alloc, &[set(3, 5), register(2, 3), copy(0, 2)])?;
-            assert_eq!(rt; nothing.is_some(), is_move, "{high} {class}");
-        }
-    }
-    Ok(())
-}
-
-#[test]
-fn arithmetic_of_places(rt: HostRuntime) -> Result<(), Fail> {
-    let alloc = rt.alloc();
-    for (high, offset, _) in ARITHMETIC {
-        for class in CLASSES {
-            let immediate = |dst: u8| slot(high | class, dst, 0, offset, 5);
-            let register = |dst: u8, src: u8| slot(high | 0x08 | class, dst, src, offset, 0);
-            // A move doesn't read its destination, and at 64 bits copies a place.
-            let is_move = high == 0xb0;
-            let copies = is_move && class == 0x07;
-            let moves_place = is_move || class == 0x07 && high <= 0x10;
-            for place in [1, 10] {
-                let steps = reply(alloc, &[immediate(place), set(0, 1)])?;
-                assert_eq!(rt; steps.is_some(), moves_place, "{high} {class}");
-                let steps = reply(alloc, &[set(3, 5), register(place, 3), set(0, 1)])?;
-                assert_eq!(rt; steps.is_some(), moves_place, "{high} {class}");
-                let steps = reply(alloc, &[set(3, 5), register(3, place), set(0, 1)])?;
-                assert_eq!(rt; steps.is_some(), copies, "{high} {class}");
-                let steps = reply(alloc, &[copy(3, place), register(3, place), set(0, 1)])?;
-                assert_eq!(rt; steps.is_some(), copies, "{high} {class}");
-                // With nothing.
-                sticks(&rt, alloc, &[register(place, 3), set(0, 1)])?;
-            }
+            let moved = if is_move { Some(5) } else { None };
+            let copied = if is_move && class == 0x07 {
+                Some(1)
+            } else {
+                None
+            };
+            let on_place = if is_move || class == 0x07 && high <= 0x10 {
+                Some(1)
+            } else {
+                None
+            };
+            let args = copy(4, 1);
+            let stack = copy(4, 10);
+            replies(
+                &rt,
+                rt.alloc(),
+                &[
+                    (&[twelve, immediate(0)], Some(result)),
+                    (&[twelve, five, register(0, 3)], Some(result)),
+                    // With nothing.
+                    (&[twelve, register(0, 3), one], None),
+                    (&[immediate(2), copy(0, 2)], moved),
+                    (&[five, register(2, 3), copy(0, 2)], moved),
+                    (&[args, register(4, 3), one], None),
+                    (&[stack, register(4, 3), one], None),
+                    // With places.
+                    (&[args, immediate(4), one], on_place),
+                    (&[stack, immediate(4), one], on_place),
+                    (&[args, five, register(4, 3), one], on_place),
+                    (&[stack, five, register(4, 3), one], on_place),
+                    (&[args, five, register(3, 4), one], copied),
+                    (&[stack, five, register(3, 4), one], copied),
+                    (&[args, copy(3, 4), register(3, 4), one], copied),
+                    (&[stack, copy(3, 4), register(3, 4), one], copied),
+                    // r10 is read only.
+                    (&[immediate(10), one], None),
+                    (&[five, register(10, 3), one], None),
+                ],
+            )?;
         }
     }
     Ok(())
@@ -243,21 +258,6 @@ const OF_REGISTERS: [(u8, i16, u64, u64, u64, u64); 40] = [
     (0xc0, 0, 0x7000_0000_8000_0000, 63, 0xffff_ffff, 0),
 ];
 
-#[test]
-fn arithmetic_of_registers(rt: HostRuntime) -> Result<(), Fail> {
-    let alloc = rt.alloc();
-    for (high, offset, a, b, at_32, at_64) in OF_REGISTERS {
-        let [a_low, a_high] = wide(0, a);
-        let [b_low, b_high] = wide(3, b);
-        for (class, result) in [(0x04, at_32), (0x07, at_64)] {
-            let register = slot(high | 0x08 | class, 0, 3, offset, 0);
-            let slots = [a_low, a_high, b_low, b_high, register];
-            gives(&rt, alloc, &slots, result)?;
-        }
-    }
-    Ok(())
-}
-
 /// The same on a register and an immediate.
 const OF_IMMEDIATES: [(u8, i16, u64, i32, u64, u64); 22] = [
     (0x00, 0, 0x9_0000_0007, -3, 4, 0x9_0000_0004),
@@ -313,13 +313,25 @@ const OF_IMMEDIATES: [(u8, i16, u64, i32, u64, u64); 22] = [
 ];
 
 #[test]
-fn arithmetic_of_immediates(rt: HostRuntime) -> Result<(), Fail> {
-    let alloc = rt.alloc();
+fn arithmetic_of_numbers(rt: HostRuntime) -> Result<(), Fail> {
+    for (high, offset, a, b, at_32, at_64) in OF_REGISTERS {
+        let [a_low, a_high] = wide(0, a);
+        let [b_low, b_high] = wide(3, b);
+        for (class, result) in [(0x04, at_32), (0x07, at_64)] {
+            let register = slot(high | 0x08 | class, 0, 3, offset, 0);
+            let slots = [a_low, a_high, b_low, b_high, register];
+            replies(&rt, rt.alloc(), &[(&slots, Some(result))])?;
+        }
+    }
     for (high, offset, a, number, at_32, at_64) in OF_IMMEDIATES {
         let [a_low, a_high] = wide(0, a);
         for (class, result) in [(0x04, at_32), (0x07, at_64)] {
             let immediate = slot(high | class, 0, 0, offset, number);
-            gives(&rt, alloc, &[a_low, a_high, immediate], result)?;
+            replies(
+                &rt,
+                rt.alloc(),
+                &[(&[a_low, a_high, immediate], Some(result))],
+            )?;
         }
     }
     Ok(())
@@ -347,104 +359,102 @@ const UNARY: [(u8, i16, i32, u64); 16] = [
 
 #[test]
 fn one_operand(rt: HostRuntime) -> Result<(), Fail> {
-    let alloc = rt.alloc();
     let [low, high] = wide(2, MIXED);
     for (opcode, offset, immediate, result) in UNARY {
         // A sign-extending move reads its source, the others their destination.
-        let is_move = offset != 0;
         let of = |dst: u8, register: u8| {
-            let src = if is_move { register } else { 0 };
+            let src = if offset != 0 { register } else { 0 };
             slot(opcode, dst, src, offset, immediate)
         };
-        gives(&rt, alloc, &[low, high, of(2, 2), copy(0, 2)], result)?;
-        if is_move {
-            gives(&rt, alloc, &[low, high, of(0, 2)], result)?;
-        }
-        for register in [2, 1, 10] {
-            sticks(&rt, alloc, &[of(register, register), set(0, 1)])?;
-        }
+        let other = if offset != 0 { Some(result) } else { None };
+        let one = set(0, 1);
+        replies(
+            &rt,
+            rt.alloc(),
+            &[
+                (&[low, high, of(2, 2), copy(0, 2)], Some(result)),
+                (&[low, high, of(0, 2)], other),
+                (&[of(2, 2), one], None),
+                (&[of(1, 1), one], None),
+                (&[copy(4, 10), of(4, 4), one], None),
+                // r10 is read only.
+                (&[low, high, of(10, 2), one], None),
+            ],
+        )?;
     }
     Ok(())
 }
 
 #[test]
-fn a_wide_load_sets_a_number(rt: HostRuntime) -> Result<(), Fail> {
-    let alloc = rt.alloc();
-    let both = [slot(0x18, 0, 0, 0, 1), slot(0, 0, 0, 0, 2)];
-    gives(&rt, alloc, &both, 0x2_0000_0001)?;
-    // Neither half is sign-extended.
-    let both = [slot(0x18, 0, 0, 0, -2), slot(0, 0, 0, 0, 3)];
-    gives(&rt, alloc, &both, 0x3_ffff_fffe)?;
-    let both = [slot(0x18, 0, 0, 0, 3), slot(0, 0, 0, 0, -2)];
-    gives(&rt, alloc, &both, 0xffff_fffe_0000_0003)
-}
-
-#[test]
-fn places_move(rt: HostRuntime) -> Result<(), Fail> {
-    let alloc = rt.alloc();
+fn wide_loads_and_places(rt: HostRuntime) -> Result<(), Fail> {
     let first = slot(0x71, 0, 1, 0, 0);
     let sub = |number: i32| slot(0x17, 1, 0, 0, number);
     let add_register = slot(0x0f, 1, 2, 0, 0);
     let sub_register = slot(0x1f, 1, 2, 0, 0);
-    gives(&rt, alloc, &[copy(2, 1), slot(0x71, 0, 2, 0, 0)], 0x81)?;
-    gives(&rt, alloc, &[add(1, 7), first], 0x88)?;
-    gives(&rt, alloc, &[add(1, 7), sub(1), first], 0x87)?;
-    gives(&rt, alloc, &[set(2, 2), add_register, first], 0x83)?;
-    gives(&rt, alloc, &[set(2, -2), sub_register, first], 0x83)?;
-    let in_stack = [push(-8, 1), copy(2, 10), add(2, -8), slot(0x79, 0, 2, 0, 0)];
-    gives(&rt, alloc, &in_stack, 1)?;
-    // As far as a place may be, and past that.
-    gives(&rt, alloc, &[add(1, 65_536), add(1, -65_536), first], 0x81)?;
-    gives(&rt, alloc, &[add(1, -65_536), add(1, 65_536), first], 0x81)?;
-    sticks(&rt, alloc, &[add(1, 65_537), set(0, 1)])?;
-    sticks(&rt, alloc, &[sub(65_537), set(0, 1)])?;
     let [low, high] = wide(2, LEAST);
-    sticks(&rt, alloc, &[low, high, sub_register, set(0, 1)])?;
-    sticks(&rt, alloc, &[low, high, add_register, set(0, 1)])
+    let one = set(0, 1);
+    let load = slot(0x79, 0, 2, -8, 0);
+    let stack = |far: i32, back: i32| [push(-8, 1), copy(2, 10), add(2, far), add(2, back), load];
+    replies(
+        &rt,
+        rt.alloc(),
+        &[
+            // A wide load sets a number, of which neither half is sign-extended.
+            (
+                &[slot(0x18, 0, 0, 0, 1), slot(0, 0, 0, 0, 2)],
+                Some(0x2_0000_0001),
+            ),
+            (
+                &[slot(0x18, 0, 0, 0, -2), slot(0, 0, 0, 0, 3)],
+                Some(0x3_ffff_fffe),
+            ),
+            (
+                &[slot(0x18, 0, 0, 0, 3), slot(0, 0, 0, 0, -2)],
+                Some(0xffff_fffe_0000_0003),
+            ),
+            (&[slot(0x18, 10, 0, 0, 1), slot(0, 0, 0, 0, 0), one], None),
+            // Places move.
+            (&[copy(2, 1), slot(0x71, 0, 2, 0, 0)], Some(0x81)),
+            (&[add(1, 7), first], Some(0x88)),
+            (&[add(1, 7), sub(1), first], Some(0x87)),
+            (&[set(2, 2), add_register, first], Some(0x83)),
+            (&[set(2, -2), sub_register, first], Some(0x83)),
+            (
+                &[push(-8, 1), copy(2, 10), add(2, -8), slot(0x79, 0, 2, 0, 0)],
+                Some(1),
+            ),
+            // As far as a place may be, and past that.
+            (&[add(1, 65_536), add(1, -65_536), first], Some(0x81)),
+            (&[add(1, -65_536), add(1, 65_536), first], Some(0x81)),
+            (&[add(1, 65_537), one], None),
+            (&[sub(65_537), one], None),
+            (&[low, high, sub_register, one], None),
+            (&[low, high, add_register, one], None),
+            (&stack(65_536, -65_536), Some(1)),
+            (&stack(-65_536, 65_536), Some(1)),
+            (&stack(65_537, -65_537), None),
+            (&stack(-65_537, 65_537), None),
+            (&[copy(2, 10), add(2, 65_537), one], None),
+            (&[copy(2, 10), add(2, -65_537), one], None),
+        ],
+    )
 }
 
 #[test]
-fn places_move_in_the_stack(rt: HostRuntime) -> Result<(), Fail> {
-    let alloc = rt.alloc();
-    let moved = |far: i32, back: i32| {
-        let load = slot(0x79, 0, 2, -8, 0);
-        [push(-8, 1), copy(2, 10), add(2, far), add(2, back), load]
-    };
-    // As far as a place may be, and past that.
-    gives(&rt, alloc, &moved(65_536, -65_536), 1)?;
-    gives(&rt, alloc, &moved(-65_536, 65_536), 1)?;
-    sticks(&rt, alloc, &moved(65_537, -65_537))?;
-    sticks(&rt, alloc, &moved(-65_537, 65_537))?;
-    sticks(&rt, alloc, &[copy(2, 10), add(2, 65_537), set(0, 1)])?;
-    sticks(&rt, alloc, &[copy(2, 10), add(2, -65_537), set(0, 1)])
-}
-
-#[test]
-fn jumps(rt: HostRuntime) -> Result<(), Fail> {
-    let alloc = rt.alloc();
-    gives(
+fn jumps_and_exits(rt: HostRuntime) -> Result<(), Fail> {
+    replies(
         &rt,
-        alloc,
-        &[set(0, 1), slot(0x05, 0, 0, 1, 0), set(0, 2)],
-        1,
-    )?;
-    gives(
-        &rt,
-        alloc,
-        &[set(0, 1), slot(0x05, 0, 0, 0, 0), set(0, 2)],
-        2,
-    )?;
-    gives(
-        &rt,
-        alloc,
-        &[set(0, 1), slot(0x06, 0, 0, 0, 1), set(0, 2)],
-        1,
-    )?;
-    gives(
-        &rt,
-        alloc,
-        &[set(0, 1), slot(0x06, 0, 0, 0, 0), set(0, 2)],
-        2,
+        rt.alloc(),
+        &[
+            (&[set(0, 1), slot(0x05, 0, 0, 1, 0), set(0, 2)], Some(1)),
+            (&[set(0, 1), slot(0x05, 0, 0, 0, 0), set(0, 2)], Some(2)),
+            (&[set(0, 1), slot(0x06, 0, 0, 0, 1), set(0, 2)], Some(1)),
+            (&[set(0, 1), slot(0x06, 0, 0, 0, 0), set(0, 2)], Some(2)),
+            (&[set(0, 7)], Some(7)),
+            (&[], None),
+            (&[copy(0, 10)], None),
+            (&[copy(0, 1)], None),
+        ],
     )
 }
 
@@ -462,47 +472,6 @@ const CONDITIONS: [(u8, [i32; 2], [i32; 2]); 11] = [
     (0xc0, [-1, 1], [1, -1]),
     (0xd0, [5, 5], [1, -1]),
 ];
-
-#[test]
-fn branches(rt: HostRuntime) -> Result<(), Fail> {
-    let alloc = rt.alloc();
-    for (high, holds, fails) in CONDITIONS {
-        for class in [0x05, 0x06] {
-            let by_number = |dst: u8, number: i32| slot(high | class, dst, 0, 1, number);
-            let by_register = |dst: u8, src: u8| slot(high | 0x08 | class, dst, src, 1, 0);
-            for ([a, b], left) in [(holds, 1), (fails, 2)] {
-                gives(
-                    &rt,
-                    alloc,
-                    &[set(0, 1), set(2, a), by_number(2, b), set(0, 2)],
-                    left,
-                )?;
-                let by_register = [
-                    set(0, 1),
-                    set(2, a),
-                    set(3, b),
-                    by_register(2, 3),
-                    set(0, 2),
-                ];
-                gives(&rt, alloc, &by_register, left)?;
-            }
-            for register in [2, 1, 10] {
-                sticks(&rt, alloc, &[by_number(register, 5), set(0, 1), set(0, 1)])?;
-                sticks(
-                    &rt,
-                    alloc,
-                    &[set(3, 5), by_register(register, 3), set(0, 1), set(0, 1)],
-                )?;
-                sticks(
-                    &rt,
-                    alloc,
-                    &[set(3, 5), by_register(3, register), set(0, 1), set(0, 1)],
-                )?;
-            }
-        }
-    }
-    Ok(())
-}
 
 /// Conditions on 64 bits and on their low 32: the operands, and the high four bits of the opcode of
 /// each condition that holds of them, at 32 and at 64 bits.
@@ -552,30 +521,67 @@ const WIDTHS: [(u64, i32, &[u8], &[u8]); 6] = [
 ];
 
 #[test]
-fn branches_at_both_widths(rt: HostRuntime) -> Result<(), Fail> {
-    let alloc = rt.alloc();
-    for (a, b, at_32, at_64) in WIDTHS {
-        let [low, high] = wide(2, a);
-        for (condition, _, _) in CONDITIONS {
-            for (class, holding) in [(0x06, at_32), (0x05, at_64)] {
-                let left = if holding.contains(&condition) { 1 } else { 2 };
-                let by_number = slot(condition | class, 2, 0, 1, b);
-                let slots = [set(0, 1), low, high, by_number, set(0, 2)];
-                gives(&rt, alloc, &slots, left)?;
-                let by_register = slot(condition | 0x08 | class, 2, 3, 1, 0);
-                let slots = [set(0, 1), low, high, set(3, b), by_register, set(0, 2)];
-                gives(&rt, alloc, &slots, left)?;
-            }
+fn branches(rt: HostRuntime) -> Result<(), Fail> {
+    for (high, [a, b], [c, d]) in CONDITIONS {
+        for class in [0x05, 0x06] {
+            let by_number = |dst: u8, number: i32| slot(high | class, dst, 0, 1, number);
+            let by_register = |dst: u8, src: u8| slot(high | 0x08 | class, dst, src, 1, 0);
+            let (one, two, five) = (set(0, 1), set(0, 2), set(3, 5));
+            replies(
+                &rt,
+                rt.alloc(),
+                &[
+                    (&[one, set(2, a), by_number(2, b), two], Some(1)),
+                    (
+                        &[one, set(2, a), set(3, b), by_register(2, 3), two],
+                        Some(1),
+                    ),
+                    (&[one, set(2, c), by_number(2, d), two], Some(2)),
+                    (
+                        &[one, set(2, c), set(3, d), by_register(2, 3), two],
+                        Some(2),
+                    ),
+                    // Of nothing, and of places.
+                    (&[by_number(2, 5), one, one], None),
+                    (&[by_number(1, 5), one, one], None),
+                    (&[by_number(10, 5), one, one], None),
+                    (&[five, by_register(2, 3), one, one], None),
+                    (&[five, by_register(1, 3), one, one], None),
+                    (&[five, by_register(10, 3), one, one], None),
+                    (&[five, by_register(3, 2), one, one], None),
+                    (&[five, by_register(3, 1), one, one], None),
+                    (&[five, by_register(3, 10), one, one], None),
+                ],
+            )?;
         }
     }
     Ok(())
 }
 
 #[test]
-fn exits(rt: HostRuntime) -> Result<(), Fail> {
-    let alloc = rt.alloc();
-    gives(&rt, alloc, &[set(0, 7)], 7)?;
-    sticks(&rt, alloc, &[])?;
-    sticks(&rt, alloc, &[copy(0, 10)])?;
-    sticks(&rt, alloc, &[copy(0, 1)])
+fn branches_at_both_widths(rt: HostRuntime) -> Result<(), Fail> {
+    for (a, b, at_32, at_64) in WIDTHS {
+        let [low, high] = wide(2, a);
+        for (condition, _, _) in CONDITIONS {
+            for (class, holding) in [(0x06, at_32), (0x05, at_64)] {
+                let left = if holding.contains(&condition) {
+                    Some(1)
+                } else {
+                    Some(2)
+                };
+                let (one, two) = (set(0, 1), set(0, 2));
+                let by_number = slot(condition | class, 2, 0, 1, b);
+                let by_register = slot(condition | 0x08 | class, 2, 3, 1, 0);
+                replies(
+                    &rt,
+                    rt.alloc(),
+                    &[
+                        (&[one, low, high, by_number, two], left),
+                        (&[one, low, high, set(3, b), by_register, two], left),
+                    ],
+                )?;
+            }
+        }
+    }
+    Ok(())
 }

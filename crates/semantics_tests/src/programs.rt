@@ -1,8 +1,8 @@
 //! Whole programs, with what comes of them.
 
-use super::{TABLES, run};
-use crate::{CompletedRun, Row, run_program};
+use crate::assembly::{TABLES, run};
 use bpf_code::decode;
+use plain_runner::{CompletedRun, Row, run_program};
 use scarce::Scarce;
 use schema::Schema;
 use std::alloc::{AllocError, Allocator, Global};
