@@ -7,7 +7,7 @@ use Rattle.bpf_code.specs.declared.fields.Fields.{Fields}
 use Rattle.bpf_code.specs.declared.instruction.Instruction.{Instruction}
 use Rattle.bpf_code.specs.declared.instruction.Instruction.TheVariants.{LoadWide, Exit}
 use Rattle.bpf_code.specs.Reading.{reading_of, half_reading_of}
-use Rattle.bpf_code.specs.Program.{Program, is_wide, AreSlots, Lands, instruction_at, distance_of}
+use Rattle.bpf_code.specs.Program.{Program, IsInRange, AllInRange, is_wide, AreSlots, Lands, instruction_at, distance_of}
 use Rattle.bpf_code.specs.Decoding.{at_slot, with_front, completed_load, reading_of_slots, or_else, landing_fault, distance_fault, jump_fault, jump_faults, last_fault, exit_fault}
 
 -- ---- the slots
@@ -119,3 +119,15 @@ ends_at slot None e = absurd cc
 pub ends_with_exit : (p : Program) → exit_fault p ≡ None → instruction_at p (length p - 1) ≡ Some Exit
 unfolding exit_fault
 ends_with_exit p e = ap (λ (s : Option (Option Instruction)). option_and_then (λ i. i) s) (ends_at (length p - 1) (slice_get p (length p - 1)) e)
+
+-- ---- what is pushed is in range
+
+pub AllInRange-push : (p : Program) (i : Instruction) → AllInRange p → IsInRange i → AllInRange (p ++ Some i ∷ [])
+AllInRange-push [] i all fits = (fits, tt)
+AllInRange-push (None ∷ p) i all fits = AllInRange-push p i all fits
+AllInRange-push (Some j ∷ p) i all fits = (all.0, AllInRange-push p i all.1 fits)
+
+pub AllInRange-second : (p : Program) → AllInRange p → AllInRange (p ++ None ∷ [])
+AllInRange-second [] all = tt
+AllInRange-second (None ∷ p) all = AllInRange-second p all
+AllInRange-second (Some j ∷ p) all = (all.0, AllInRange-second p all.1)

@@ -10,7 +10,7 @@ use Rattle.bpf_code.specs.declared.instruction.Instruction.{Instruction}
 use Rattle.bpf_code.specs.declared.instruction.Instruction.TheVariants.{LoadWide, Exit}
 use Rattle.bpf_code.specs.Fields.{bytes_of}
 use Rattle.bpf_code.specs.Spelling.{fields_of, instruction_bytes}
-use Rattle.bpf_code.specs.Program.{Program, spelling, spelling_at, is_wide, AreSlots, IsProgram, AllInRange, Lands, distance_of}
+use Rattle.bpf_code.specs.Program.{Program, spelling, spelling_at, is_wide, AreSlots, IsProgram, Lands, distance_of}
 use Rattle.bpf_code.specs.Decoding.{or_else, landing_fault, distance_fault, jump_fault, jump_faults, last_fault, exit_fault, program_of}
 use Rattle.bpf_code.proofs.SpellingLemmas.{instruction_bytes-short, instruction_at-index}
 use Rattle.bpf_code.proofs.ProgramAgain.{slots_read_again}
@@ -109,13 +109,13 @@ exit_well p is = exits (length p - 1) (slice_get p (length p - 1)) is.ends
 
 -- ---- the whole
 
-pub program_again : (p : Program) → IsProgram p → AllInRange p → program_of (spelling p) ≡ Ok p
+pub program_again : (p : Program) → IsProgram p → program_of (spelling p) ≡ Ok p
 unfolding program_of
-program_again p is fits =
+program_again p is =
     let len = length-spelling p is.slots in
     let some = is.not_empty in
     let short = is.not_long in
     let not_zero : nat_eq (length (spelling p)) 0 ≡ false = grind (arith, nat_tests) in
     let whole : nat_eq (length (spelling p) % 8) 0 ≡ true = grind (arith, nat_tests) in
     let not_many : nat_lt max_slots (length (spelling p) / 8) ≡ false = grind (arith, nat_tests) in
-    rw (not_zero, whole, not_many, slots_read_again p 0 is.slots fits, jumps_well p is, exit_well p is) refl
+    rw (not_zero, whole, not_many, slots_read_again p 0 is.slots is.in_range, jumps_well p is, exit_well p is) refl

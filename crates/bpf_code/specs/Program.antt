@@ -56,15 +56,7 @@ abbrev pub Lands : Program → ℕ → ℤ → Type 0
 Lands p slot (pos n) = IsSome (instruction_at p (slot + 1 + n))
 Lands p slot (negsuc _) = ⊥
 
-pub record IsProgram (p : Program) : Type 0 where
-  pub not_empty : 0 < length p
-  pub not_long : length p ≤ max_slots
-  pub slots : AreSlots false p
-  pub jumps : (slot : ℕ) (i : Instruction) (d : ℤ) → instruction_at p slot ≡ Some i → distance_of i ≡ Some d → Lands p slot d
-  pub ends : instruction_at p (length p - 1) ≡ Some Exit
-
--- ---- its numbers fit their fields, as those of every value of the code do
-
+-- its numbers fit their fields
 abbrev pub IsInRange : Instruction → Type 0
 IsInRange (LoadWide _ value) = value < 2 ^ 64
 IsInRange (Load _ _ _ offset) = FitsSigned w16 offset
@@ -78,7 +70,16 @@ IsInRange (Branch _ _ _ (Register _) distance) = FitsSigned w16 distance
 IsInRange (Call helper) = FitsSigned w32 helper
 IsInRange _ = Unit {0}
 
+-- and so do all of a program
 abbrev pub AllInRange : Program → Type 0
 AllInRange [] = Unit {0}
 AllInRange (None ∷ rest) = AllInRange rest
 AllInRange (Some i ∷ rest) = IsInRange i × AllInRange rest
+
+pub record IsProgram (p : Program) : Type 0 where
+  pub not_empty : 0 < length p
+  pub not_long : length p ≤ max_slots
+  pub slots : AreSlots false p
+  pub jumps : (slot : ℕ) (i : Instruction) (d : ℤ) → instruction_at p slot ≡ Some i → distance_of i ≡ Some d → Lands p slot d
+  pub in_range : AllInRange p
+  pub ends : instruction_at p (length p - 1) ≡ Some Exit

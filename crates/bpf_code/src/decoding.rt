@@ -5,7 +5,7 @@ ghost use Rattle.bpf_code.specs.Program.{max_slots};
 ghost use Rattle.bpf_code.specs.declared.fault.DecodeCause.TheVariants.{OutOfMemory};
 ghost use Rattle.bpf_code.specs.Fields.{bytes_of, slots_of};
 ghost use Rattle.bpf_code.specs.declared.fields.Fields.{Fields};
-ghost use Rattle.bpf_code.specs.Program.{Program, AllInRange, spelling, is_wide as wide, distance_of, instruction_at, IsProgram};
+ghost use Rattle.bpf_code.specs.Program.{Program, IsInRange, AllInRange, spelling, is_wide as wide, distance_of, instruction_at, IsProgram};
 ghost use Rattle.bpf_code.specs.Decoding.{fault as fault_at, with_front, completed_load as completed_by};
 ghost use Rattle.bpf_code.specs.Decoding.{reading_of_slots as slots_read, jump_fault as fault_of_jump, jump_faults};
 ghost use Rattle.bpf_code.specs.Decoding.{exit_fault, program_of};
@@ -32,6 +32,7 @@ fn completed_load(first: Instruction, high: u32) -> Instruction
     requires { IsFirstHalf first }
     ensures value { result ≡ completed_by first high }
     ensures bytes { instruction_bytes result ≡ bytes_of (fields_of first) ++ bytes_of (second_half high) }
+    ensures in_range { IsInRange result }
 {
     match first {
         Instruction::LoadWide { dst, value } => Instruction::LoadWide {
@@ -60,6 +61,7 @@ fn read_slot<A: Allocator>(
     ensures count { IfOk result (λ next. vec_len slots.new + half_count next ≡ vec_len slots.old + half_count half + 1) }
     ensures bytes { IfOk result (λ next. spelling slots.new.items ++ half_bytes next
         ≡ (spelling slots.old.items ++ half_bytes half) ++ bytes_of fields.now) }
+    ensures in_range { OnOk result (AllInRange slots.old.items → AllInRange slots.new.items) }
     ensures capacity { vec_capacity slots.new ≡ vec_capacity slots.old }
 {
     let Some(first) = half else {
@@ -88,6 +90,7 @@ fn read_slots<A: Allocator>(
     ensures err { IfErr result (λ e. (e ≡ fault_at OutOfMemory 0) ⊎ (slots_read None 0 (slots_of bytes.now) ≡ Err e)) }
     ensures bytes { IfOk result (λ slots. spelling slots.items ≡ bytes.now) }
     ensures count { IfOk result (λ slots. 8 * vec_len slots ≡ length bytes.now) }
+    ensures in_range { IfOk result (λ slots. AllInRange slots.items) }
 {
     let count = bytes.len() / 8;
     let Ok(mut slots) = Vec::with_capacity(alloc, count) else {
@@ -138,7 +141,7 @@ pub fn decode<A: Allocator>(alloc: A, bytes: &[u8]) -> Result<Code<A>, DecodeFau
     ensures program { IfOk result IsProgram }
 
     // The bytes of a program are decoded to it, unless memory runs out.
-    ensures only { (p : Program) → IsProgram p → AllInRange p → spelling p ≡ bytes.now
+    ensures only { (p : Program) → IsProgram p → spelling p ≡ bytes.now
         → (result ≡ Err (fault_at OutOfMemory 0)) ⊎ (result ≡ Ok p) }
 
     // Other bytes have their one fault, unless memory runs out.

@@ -9,7 +9,7 @@ ghost use Rattle.bpf_code.specs.declared.opcode.SourceKind.TheVariants.{Immediat
 ghost use Rattle.bpf_code.specs.declared.opcode.Opcode.TheVariants.{Arithmetic};
 ghost use Rattle.bpf_code.specs.Spelling.{fields_of, code_of, operation_offset, extension_width};
 ghost use Rattle.bpf_code.specs.Spelling.{extension_offset, end_immediate, second_half};
-ghost use Rattle.bpf_code.specs.Program.{is_wide};
+ghost use Rattle.bpf_code.specs.Program.{is_wide, IsInRange};
 ghost use Rattle.bpf_code.specs.Steps.{IsFirstHalf};
 
 use crate::fault::DecodeCause;
@@ -24,6 +24,7 @@ pub fn read(fields: &Fields) -> Result<Instruction, DecodeCause>
     ensures exact { result ≡ read_of fields.now }
     ensures spelled { IfOk result (λ i. fields_of i ≡ fields.now) }
     ensures half { IfOk result (λ i. is_wide i ≡ true → IsFirstHalf i) }
+    ensures in_range { IfOk result IsInRange }
 {
     let opcode = Opcode::from_byte(fields.opcode).ok_or(DecodeCause::UnknownOpcode)?;
     let dst = Register::from_number(fields.dst).ok_or(DecodeCause::RegisterNumber)?;
@@ -72,6 +73,7 @@ fn instruction(opcode: Opcode, dst: Register, src: Register, fields: &Fields) ->
     ensures exact { result ≡ instruction_of opcode dst src fields.now }
     ensures spelled { IfSome result (λ i. fields_of i ≡ fields.now) }
     ensures half { IfSome result (λ i. is_wide i ≡ true → IsFirstHalf i) }
+    ensures in_range { IfSome result IsInRange }
 {
     let offset = fields.offset;
     let immediate = fields.immediate;
@@ -150,6 +152,7 @@ fn on_register(
     ensures exact { result ≡ register_form width code dst src fields.now.offset }
     ensures spelled { IfSome result (λ i. fields_of i ≡ fields.now) }
     ensures half { IfSome result (λ i. is_wide i ≡ false) }
+    ensures in_range { IfSome result IsInRange }
 {
     let offset = fields.offset;
     if matches!(code, ArithmeticCode::Mov) && offset != 0 {

@@ -6,3 +6,4 @@ pub mod AgreeLemmas
 pub mod TwinLemmas
 pub mod LookLemmas
 pub mod EndLemmas
+pub mod FitLemmas

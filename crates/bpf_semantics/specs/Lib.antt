@@ -5,3 +5,4 @@ pub mod Step
 pub mod Run
 pub mod Path
 pub mod Agree
+pub mod Fit

@@ -71,18 +71,32 @@ moved_place (Stack place) distance = option_map (λ p. Stack p) (near_place (pla
 moved_place (Args place) distance = option_map (λ p. Args p) (near_place (place +ℤ distance))
 moved_place _ distance = None
 
--- What an operation gives. MOV reads its source alone, and at 64 bits copies a place. Of other operations numbers give
--- numbers, and a 64-bit ADD or SUB moves a place by a number, read as signed; nothing else has a step: no number plus
--- a place, no place minus a place
+-- MOV reads its source alone, and at 64 bits copies a place
+abbrev pub move_result : Width → Value → Option Value
+move_result width (Number b) = Some (Number (alu (width_bits width) (Binary Mov) 0 b))
+move_result Bits64 (Stack place) = Some (Stack place)
+move_result Bits64 (Args place) = Some (Args place)
+move_result _ _ = None
+
+-- a 64-bit ADD or SUB moves a place by a number, read as signed; nothing else has a step
+abbrev pub place_result : Width → BinaryOperation → Value → ℕ → Option Value
+place_result Bits64 Add a b = moved_place a (cast_signed w64 b)
+place_result Bits64 Sub a b = moved_place a (neg_ℤ (cast_signed w64 b))
+place_result _ _ a b = None
+
+-- numbers give numbers; no number plus a place, no place minus a place
+abbrev pub binary_result : Width → BinaryOperation → Value → Value → Option Value
+binary_result width op (Number a) (Number b) = Some (Number (alu (width_bits width) (Binary op) a b))
+binary_result width op a (Number b) = place_result width op a b
+binary_result _ _ _ _ = None
+
+abbrev pub is_move : BinaryOperation → Bool
+is_move Mov = true
+is_move _ = false
+
+-- what an operation gives on two values
 unfoldable pub operation_result : Width → BinaryOperation → Value → Value → Option Value
-operation_result Bits64 Mov _ (Stack place) = Some (Stack place)
-operation_result Bits64 Mov _ (Args place) = Some (Args place)
-operation_result width Mov _ (Number b) = Some (Number (alu (width_bits width) (Binary Mov) 0 b))
-operation_result _ Mov _ _ = None
-operation_result width op (Number a) (Number b) = Some (Number (alu (width_bits width) (Binary op) a b))
-operation_result Bits64 Add a (Number b) = moved_place a (cast_signed w64 b)
-operation_result Bits64 Sub a (Number b) = moved_place a (neg_ℤ (cast_signed w64 b))
-operation_result _ _ _ _ = None
+operation_result width op a b = if is_move op then move_result width b else binary_result width op a b
 
 -- ---- the step
 

@@ -6,12 +6,6 @@ use Rattle.std.specs.Option.{option_map}
 use Rattle.std.specs.FinMap.{FinMap, get, entries, from_entries, find, get-from_entries, get-entries, same_map}
 use Rattle.std.proofs.Math.Seq.{drop-cons}
 use Rattle.std.proofs.lemmas.List.{append_assoc, drop_all}
-use Rattle.bpf_words.specs.declared.operation.BinaryOperation.{BinaryOperation}
-use Rattle.bpf_words.specs.declared.operation.BinaryOperation.TheVariants.{Add, Sub, Mul, Div, Sdiv, Or, And, Lsh, Rsh, Mod, Smod, Xor, Mov, Arsh}
-use Rattle.bpf_words.specs.declared.operation.Operation.TheVariants.{Binary}
-use Rattle.bpf_words.specs.Operation.{alu, binary_value}
-use Rattle.bpf_code.specs.declared.instruction.Width.{Width}
-use Rattle.bpf_code.specs.declared.instruction.Width.TheVariants.{Bits32, Bits64}
 use Rattle.bpf_code.specs.Program.{Program}
 use Rattle.schema.specs.Schema.{Tables, AreTables}
 use Rattle.schema.specs.Rows.{Key, Rows, key_cmp, key_cmp_total, key_cmp-IsAntisymmetric}
@@ -19,7 +13,7 @@ use Rattle.bpf_semantics.specs.declared.value.Value.TheVariants.{Number}
 use Rattle.bpf_semantics.specs.Memory.{known_list, and_then}
 use Rattle.bpf_semantics.specs.Helpers.{table_of}
 use Rattle.bpf_semantics.specs.State.{State, entry_state}
-use Rattle.bpf_semantics.specs.Step.{operation_result, width_bits, Moment, Going, Ended, Stuck, step}
+use Rattle.bpf_semantics.specs.Step.{Moment, Going, Ended, Stuck, step}
 use Rattle.bpf_semantics.specs.Run.{moment, next_moment, run, run_at}
 use Rattle.plain_runner.specs.Runner.{AreInOrder, steps_before}
 use Rattle.bpf_semantics.proofs.StepLemmas.{execute_leads}
@@ -28,14 +22,6 @@ use Rattle.bpf_semantics.proofs.RunLemmas.{step_runs, going_runs}
 pub find-filter : {X : Type 0} (test : X → Bool) (xs : List X) → prelude.find test xs ≡ slice_get (filter test xs) 0
 find-filter test [] = refl
 find-filter test (x ∷ xs) = elim (test x) as (λ b. cond b (Some x) (prelude.find test xs) ≡ slice_get (cond b (x ∷ filter test xs) (filter test xs)) 0) [ true ↦ refl | false ↦ find-filter test xs ]
-
--- ---- operations
-
--- numbers give numbers, a MOV too
-pub computed_numbers : (width : Width) (op : BinaryOperation) (a b : ℕ) → operation_result width op (Number a) (Number b) ≡ Some (Number (alu (width_bits width) (Binary op) a b))
-unfolding operation_result alu binary_value
-computed_numbers Bits32 op a b = elim op as (λ o. operation_result Bits32 o (Number a) (Number b) ≡ Some (Number (alu 32 (Binary o) a b))) [ Add ↦ refl | Sub ↦ refl | Mul ↦ refl | Div ↦ refl | Sdiv ↦ refl | Or ↦ refl | And ↦ refl | Lsh ↦ refl | Rsh ↦ refl | Mod ↦ refl | Smod ↦ refl | Xor ↦ refl | Mov ↦ refl | Arsh ↦ refl ]
-computed_numbers Bits64 op a b = elim op as (λ o. operation_result Bits64 o (Number a) (Number b) ≡ Some (Number (alu 64 (Binary o) a b))) [ Add ↦ refl | Sub ↦ refl | Mul ↦ refl | Div ↦ refl | Sdiv ↦ refl | Or ↦ refl | And ↦ refl | Lsh ↦ refl | Rsh ↦ refl | Mod ↦ refl | Smod ↦ refl | Xor ↦ refl | Mov ↦ refl | Arsh ↦ refl ]
 
 -- ---- bytes that are known
 

@@ -3,9 +3,9 @@
 ghost use Rattle.std.specs.Prelude.{◌≡◌, ◌≤◌, ◌^◌, unsigned_abs};
 ghost use Rattle.bpf_words.specs.Operation.{alu};
 ghost use Rattle.bpf_words.specs.Condition.{holds};
-ghost use Rattle.bpf_semantics.specs.declared.value.Value.TheVariants.{Number};
 ghost use Rattle.bpf_semantics.specs.State.{number};
-ghost use Rattle.bpf_semantics.specs.Step.{width_bits, near_place, moved_place, operation_result};
+ghost use Rattle.bpf_semantics.specs.Step.{width_bits, near_place, moved_place, is_move, move_result, place_result, binary_result};
+ghost use Rattle.bpf_semantics.specs.Step.{operation_result};
 
 use bpf_code::Width;
 use bpf_semantics::Value;
@@ -54,30 +54,53 @@ pub(crate) fn operation_result(
 ) -> Option<Value>
     ensures { result ≡ operation_result width op a b }
 {
-    match b {
-        Value::Number(b) => with_number(width, op, a, b),
-        Value::Stack(_) | Value::Args(_) => match (width, op) {
-            (Width::Bits64, BinaryOperation::Mov) => Some(b),
-            _ => None,
-        },
-        Value::Nothing => None,
+    if is_move(op) {
+        move_result(width, b)
+    } else {
+        binary_result(width, op, a, b)
     }
 }
 
-/// The same where the second value is a number.
-#[tactic(auto, using(crate::proofs::RunnerLemmas::computed_numbers), unfolding(bpf_semantics::specs::Step::operation_result))]
-fn with_number(width: Width, op: BinaryOperation, a: Value, b: u64) -> Option<Value>
-    ensures { result ≡ operation_result width op a (Number b) }
+fn is_move(op: BinaryOperation) -> bool
+    ensures { result ≡ is_move op }
 {
-    match (a, width, op) {
-        (Value::Number(a), _, _) => {
+    matches!(op, BinaryOperation::Mov)
+}
+
+/// What a move gives.
+fn move_result(width: Width, b: Value) -> Option<Value>
+    ensures { result ≡ move_result width b }
+{
+    match (width, b) {
+        (_, Value::Number(b)) => {
+            let number = arithmetic(width, Operation::Binary(BinaryOperation::Mov), 0, b);
+            Some(Value::Number(number))
+        }
+        (Width::Bits64, Value::Stack(_) | Value::Args(_)) => Some(b),
+        _ => None,
+    }
+}
+
+/// What another operation gives.
+fn binary_result(width: Width, op: BinaryOperation, a: Value, b: Value) -> Option<Value>
+    ensures { result ≡ binary_result width op a b }
+{
+    match (a, b) {
+        (Value::Number(a), Value::Number(b)) => {
             Some(Value::Number(arithmetic(width, Operation::Binary(op), a, b)))
         }
-        (_, _, BinaryOperation::Mov) => {
-            Some(Value::Number(arithmetic(width, Operation::Binary(op), 0, b)))
-        }
-        (_, Width::Bits64, BinaryOperation::Add) => moved_place(a, i128::from(b.cast_signed())),
-        (_, Width::Bits64, BinaryOperation::Sub) => moved_place(a, -i128::from(b.cast_signed())),
+        (_, Value::Number(b)) => place_result(width, op, a, b),
+        _ => None,
+    }
+}
+
+/// What another operation gives on what is no number and a number.
+fn place_result(width: Width, op: BinaryOperation, a: Value, b: u64) -> Option<Value>
+    ensures { result ≡ place_result width op a b }
+{
+    match (width, op) {
+        (Width::Bits64, BinaryOperation::Add) => moved_place(a, i128::from(b.cast_signed())),
+        (Width::Bits64, BinaryOperation::Sub) => moved_place(a, -i128::from(b.cast_signed())),
         _ => None,
     }
 }

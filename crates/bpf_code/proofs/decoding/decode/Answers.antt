@@ -17,5 +17,5 @@ decodes (Err f) whole p exact other e =
     ]
 
 pub returns-clause-only : goal.returns-clause-only
-returns-clause-only g c = λ p is fits e.
-    decodes c.program.result (program_of c.args.bytes.now) p c.program.ensures.exact c.program.ensures.fault (ap program_of (sym e) ∙ program_again p is fits)
+returns-clause-only g c = λ p is e.
+    decodes c.program.result (program_of c.args.bytes.now) p c.program.ensures.exact c.program.ensures.fault (ap program_of (sym e) ∙ program_again p is)

@@ -19,5 +19,6 @@ new-requires g c =
       not_long = short;
       slots = AreSlots-reading_of (slots_of c.args.bytes.now) None 0 p tt read;
       jumps = all_land p jumps;
+      in_range = c.in_ok-slots.ensures.in_range;
       ends = ends_with_exit p exit;
     }

@@ -13,6 +13,7 @@ loop-slot-preserved g c =
           (λ i. omega (arith, c.type_inv.bytes i)) (omega arith) (omega arith) c.from_bytes-fields.ensures.value so_far
           c.in_ok-half.ensures.goes_on c.in_ok-half.ensures.half (omega (arith, c.in_ok-half.ensures.count, c.read_slot.new.slots.ok.0, c.loop-slot.slots.ok.0)) c.in_ok-half.ensures.bytes,
       omega (arith, c.read_slot.ensures.capacity),
+      c.in_ok-half.ensures.in_range c.loop-slot.invariant.2,
     )
 
 pub returns-in_err-half-clause-err : goal.returns-in_err-half-clause-err
@@ -32,3 +33,6 @@ returns-then-is_some-clause-err g c =
 pub returns-clause-ok : goal.returns-clause-ok
 returns-clause-ok g c =
     IsReadTo-end c.args.bytes.now c.loop-slot.slots.items c.loop-slot.slot c.loop-slot.half (omega arith) (search rules) c.loop-slot.invariant.0
+
+pub returns-clause-in_range : goal.returns-clause-in_range
+returns-clause-in_range g c = c.loop-slot.invariant.2

@@ -1,0 +1,60 @@
+-- What holds of each state of a run on rows of the schema and arguments of bytes: what registers, stack and writes may
+-- hold, and what a look may be.
+use Rattle.std.specs.Prelude.{◌≡◌, ℕ, ◌<◌, ◌≤◌, ◌^◌, ℤ, pos, negsuc, ◌≤ℤ◌, All, List, length, Option, Some, None, IsSome, IfSome}
+use Rattle.std.specs.FinMap.{get, len}
+use Rattle.bpf_code.specs.declared.instruction.Register.TheVariants.{R10}
+use Rattle.schema.specs.Schema.{Tables}
+use Rattle.schema.specs.declared.look.Look.{Look}
+use Rattle.schema.specs.Rows.{AreRows, AreWrites}
+use Rattle.bpf_semantics.specs.declared.value.Value.{Value}
+use Rattle.bpf_semantics.specs.declared.value.Value.TheVariants.{Nothing, Number, Stack, Args}
+use Rattle.bpf_semantics.specs.State.{State, register}
+use Rattle.bpf_semantics.specs.Run.{Run}
+
+-- a place is at most 65,536 away
+abbrev pub IsPlace : ℤ → Type 0
+IsPlace place = (negsuc 65535 ≤ℤ place) × (place ≤ℤ pos 65536)
+
+-- what a register may hold
+abbrev pub IsValue : Value → Type 0
+IsValue Nothing = Unit {0}
+IsValue (Number n) = n < 2 ^ 64
+IsValue (Stack place) = IsPlace place
+IsValue (Args place) = IsPlace place
+
+-- a byte of the stack, where it is known
+abbrev pub IsStackByte : Option ℕ → Type 0
+IsStackByte None = Unit {0}
+IsStackByte (Some b) = b < 256
+
+-- a look at keys of one of the schema's tables
+pub record IsLook (tables : Tables) (look : Look) : Type 0 where
+  pub known : IsSome (get tables look.table)
+  pub ordered : look.lo ≤ look.hi
+  pub fits : look.hi < 2 ^ 64
+
+-- a state that a run on the schema's rows may come to
+pub record IsState (tables : Tables) (s : State) : Type 0 where
+  pub registers : length s.registers ≡ 11
+  pub frame_pointer : register s R10 ≡ Stack (pos 0)
+  pub values : All IsValue s.registers
+  pub stack : length s.stack ≡ 512
+  pub stack_bytes : All IsStackByte s.stack
+  pub args : All (λ b. b < 256) s.args
+  pub rows : AreRows tables s.rows
+  pub writes : AreWrites tables s.writes
+  pub looks : All (IsLook tables) s.looks
+  pub code : IfSome s.cancel_code (λ code. code < 2 ^ 64)
+
+-- each step makes at most one look or one write
+pub record IsSparse (steps : ℕ) (looks : ℕ) (writes : ℕ) : Type 0 where
+  pub looks_at_most : looks ≤ steps
+  pub writes_at_most : writes ≤ steps
+
+-- what came of such a run
+pub record IsRunOf (tables : Tables) (r : Run) : Type 0 where
+  pub reply : r.reply < 2 ^ 64
+  pub effect : AreRows tables r.effect
+  pub writes : AreWrites tables r.writes
+  pub looks : All (IsLook tables) r.looks
+  pub code : IfSome r.cancel_code (λ code. code < 2 ^ 64)
