@@ -6,15 +6,14 @@ use Rattle.std.proofs.lemmas.Bool.Decides.{nat_tests}
 use Rattle.std.proofs.lemmas.Bool.{cases_lt}
 use Rattle.schema.specs.Schema.{Tables}
 use Rattle.schema.specs.declared.look.Look.{Look}
-use Rattle.schema.specs.Rows.{Rows, Key, Writes, covers, AgreeOn, row_at, after, count_in, first_in}
-use Rattle.schema.proofs.RowsLemmas.{get-after}
+use Rattle.schema.specs.Rows.{Rows, Key, Writes, covers, any_covers, AgreeOn, row_at, after_writes, count_in, first_in}
+use Rattle.schema.proofs.RowsLemmas.{get-after_writes}
 use Rattle.schema.proofs.LookLemmas.{rows_in_agree, is_first, first_is}
 use Rattle.schema.specs.declared.helper.Helper.{Helper}
 use Rattle.schema.specs.declared.helper.Helper.TheVariants.{RowGet, RowPut, RowDelete, RangeCount, RangeNext, Cancel}
 use Rattle.bpf_semantics.specs.State.{State}
 use Rattle.bpf_semantics.specs.Memory.{and_then, stack_with}
 use Rattle.bpf_semantics.specs.Helpers.{Table, state_after_call, row_get, row_put, range_count, range_next, with_point_look, with_range_look, with_row_read, with_next_read, look_at, last_seen, with_answer, flag, with_stack, row_or_zeros, key_or_zeros, row_of}
-use Rattle.bpf_semantics.specs.Agree.{any_covers}
 use Rattle.bpf_semantics.proofs.StepLemmas.{just}
 
 -- the same state over other rows
@@ -53,11 +52,11 @@ covered_is table lo hi k e =
     record { table_is = x; from = y; to = z }
 
 -- maps that agree still do after the same writes
-agree_after : (passes : Key → Bool) (w : Writes) (m n : Rows) → AgreeOn passes m n → AgreeOn passes (after w m) (after w n)
-agree_after passes w m n h k e = get-after w m k ∙ ap (λ (o : Option (List ℕ)). unwrap_or (get w k) o) (h k e) ∙ sym (get-after w n k)
+agree_after : (passes : Key → Bool) (w : Writes) (m n : Rows) → AgreeOn passes m n → AgreeOn passes (after_writes w m) (after_writes w n)
+agree_after passes w m n h k e = get-after_writes w m k ∙ ap (λ (o : Option (List ℕ)). unwrap_or (get w k) o) (h k e) ∙ sym (get-after_writes w n k)
 
 point_same : (table key : ℕ) (s : State) (m n : Rows) → AgreeOn (any_covers (with_point_look table key s).looks) m n
-    → get (after s.writes m) (table, key) ≡ get (after s.writes n) (table, key)
+    → get (after_writes s.writes m) (table, key) ≡ get (after_writes s.writes n) (table, key)
 point_same table key s m n h =
     let inner : unwrap_or (get s.writes (table, key)) (get m (table, key)) ≡ unwrap_or (get s.writes (table, key)) (get n (table, key)) =
     elim (get s.writes (table, key)) as (λ o. AgreeOn (any_covers (cond (is_some o) s (record s { looks = s.looks ++ look_at table key key ∷ [] })).looks) m n
@@ -65,7 +64,7 @@ point_same table key s m n h =
       | Some write ↦ λ a. refl
       | None ↦ λ a. agree_last s.looks (look_at table key key) m n a (table, key) (covered table key key (table, key) refl (omega arith) (omega arith))
     ] h in
-    get-after s.writes m (table, key) ∙ inner ∙ sym (get-after s.writes n (table, key))
+    get-after_writes s.writes m (table, key) ∙ inner ∙ sym (get-after_writes s.writes n (table, key))
 
 -- a look that is recorded, or over an empty range
 range_agrees : (table lo hi last : ℕ) (s : State) (m n : Rows) → last ≤ hi → AgreeOn (any_covers (with_range_look table lo hi last s).looks) m n → AgreeOn (covers (look_at table lo last)) m n
@@ -80,10 +79,10 @@ range_agrees table lo hi last s m n within h =
     ] refl h
 
 count_same : (table lo hi : ℕ) (s : State) (m n : Rows) → AgreeOn (any_covers (with_range_look table lo hi hi s).looks) m n
-    → count_in (look_at table lo hi) (after s.writes m) ≡ count_in (look_at table lo hi) (after s.writes n)
+    → count_in (look_at table lo hi) (after_writes s.writes m) ≡ count_in (look_at table lo hi) (after_writes s.writes n)
 count_same table lo hi s m n h =
     let agree = agree_after (covers (look_at table lo hi)) s.writes m n (range_agrees table lo hi hi s m n (omega arith) h) in
-    ap len (rows_in_agree (look_at table lo hi) (after s.writes m) (after s.writes n) agree)
+    ap len (rows_in_agree (look_at table lo hi) (after_writes s.writes m) (after_writes s.writes n) agree)
 
 -- the first row from lo on is the same where the maps agree up to it, or up to hi where there is none
 first_found : (table lo hi : ℕ) (m n : Rows) (found : Option (Key × List ℕ)) → first_in (look_at table lo hi) m ≡ found → AgreeOn (covers (look_at table lo (last_seen hi found))) m n
@@ -112,14 +111,14 @@ last_within table lo hi m None e = omega arith
 last_within table lo hi m (Some (k, bytes)) e = (covered_is table lo hi k (is_first (look_at table lo hi) m k bytes e).covered).to
 
 first_same : (table lo hi : ℕ) (s : State) (m n : Rows)
-    → AgreeOn (any_covers (with_range_look table lo hi (last_seen hi (first_in (look_at table lo hi) (after s.writes m))) s).looks) m n
-    → first_in (look_at table lo hi) (after s.writes n) ≡ first_in (look_at table lo hi) (after s.writes m)
+    → AgreeOn (any_covers (with_range_look table lo hi (last_seen hi (first_in (look_at table lo hi) (after_writes s.writes m))) s).looks) m n
+    → first_in (look_at table lo hi) (after_writes s.writes n) ≡ first_in (look_at table lo hi) (after_writes s.writes m)
 first_same table lo hi s m n h =
-    let found = first_in (look_at table lo hi) (after s.writes m) in
-    let last = last_seen hi (first_in (look_at table lo hi) (after s.writes m)) in
-    let within = last_within table lo hi (after s.writes m) (first_in (look_at table lo hi) (after s.writes m)) refl in
+    let found = first_in (look_at table lo hi) (after_writes s.writes m) in
+    let last = last_seen hi (first_in (look_at table lo hi) (after_writes s.writes m)) in
+    let within = last_within table lo hi (after_writes s.writes m) (first_in (look_at table lo hi) (after_writes s.writes m)) refl in
     let agree = agree_after (covers (look_at table lo last)) s.writes m n (range_agrees table lo hi last s m n within h) in
-    first_found table lo hi (after s.writes m) (after s.writes n) (first_in (look_at table lo hi) (after s.writes m)) refl agree
+    first_found table lo hi (after_writes s.writes m) (after_writes s.writes n) (first_in (look_at table lo hi) (after_writes s.writes m)) refl agree
 
 -- ---- a helper on the same state over other rows
 
@@ -155,7 +154,7 @@ next_read_over rows s t lo hi key_buffer row_buffer found =
     ap (with_answer (flag found)) (range_over t.table lo hi (last_seen hi found) rows
     (with_stack (stack_with (stack_with s.stack key_buffer (key_or_zeros found)) row_buffer (row_or_zeros t.width (row_of found))) s))
 
-row_read_twins : (m n rows : Rows) (s : State) (t : Table) (key buffer : ℕ) → s.rows ≡ after s.writes m → rows ≡ after s.writes n
+row_read_twins : (m n rows : Rows) (s : State) (t : Table) (key buffer : ℕ) → s.rows ≡ after_writes s.writes m → rows ≡ after_writes s.writes n
     → AgreeOn (any_covers (with_row_read s t key buffer (row_at s.rows t.table key)).looks) m n
     → AreTwins (just (with_row_read s t key buffer (row_at s.rows t.table key))) (just (with_row_read (over rows s) t key buffer (row_at rows t.table key)))
 row_read_twins m n rows s t key buffer e f agree =
@@ -166,7 +165,7 @@ row_read_twins m n rows s t key buffer e f agree =
     twin_of rows (with_row_read s t key buffer (row_at s.rows t.table key)) (with_row_read (over rows s) t key buffer (row_at rows t.table key))
     (ap (with_row_read (over rows s) t key buffer) same ∙ row_read_over rows s t key buffer (row_at s.rows t.table key))
 
-count_twins : (m n rows : Rows) (s : State) (t : Table) (lo hi : ℕ) → s.rows ≡ after s.writes m → rows ≡ after s.writes n
+count_twins : (m n rows : Rows) (s : State) (t : Table) (lo hi : ℕ) → s.rows ≡ after_writes s.writes m → rows ≡ after_writes s.writes n
     → AgreeOn (any_covers (range_count s t lo hi).looks) m n → AreTwins (just (range_count s t lo hi)) (just (range_count (over rows s) t lo hi))
 count_twins m n rows s t lo hi e f agree =
     let same : count_in (look_at t.table lo hi) rows ≡ count_in (look_at t.table lo hi) s.rows =
@@ -184,11 +183,11 @@ next_looks : (s : State) (t : Table) (lo hi key_buffer row_buffer : ℕ) (found 
 next_looks s t lo hi key_buffer row_buffer found =
     range_looks t.table lo hi (last_seen hi found) (stack_with (stack_with s.stack key_buffer (key_or_zeros found)) row_buffer (row_or_zeros t.width (row_of found))) s
 
-next_twins : (m n rows : Rows) (s : State) (t : Table) (lo hi key_buffer row_buffer : ℕ) → s.rows ≡ after s.writes m → rows ≡ after s.writes n
+next_twins : (m n rows : Rows) (s : State) (t : Table) (lo hi key_buffer row_buffer : ℕ) → s.rows ≡ after_writes s.writes m → rows ≡ after_writes s.writes n
     → AgreeOn (any_covers (with_next_read s t lo hi key_buffer row_buffer (first_in (look_at t.table lo hi) s.rows)).looks) m n
     → AreTwins (just (with_next_read s t lo hi key_buffer row_buffer (first_in (look_at t.table lo hi) s.rows))) (just (with_next_read (over rows s) t lo hi key_buffer row_buffer (first_in (look_at t.table lo hi) rows)))
 next_twins m n rows s t lo hi key_buffer row_buffer e f agree =
-    let agree' : AgreeOn (any_covers (with_range_look t.table lo hi (last_seen hi (first_in (look_at t.table lo hi) (after s.writes m))) s).looks) m n =
+    let agree' : AgreeOn (any_covers (with_range_look t.table lo hi (last_seen hi (first_in (look_at t.table lo hi) (after_writes s.writes m))) s).looks) m n =
     subst (λ (r : Rows). AgreeOn (any_covers (with_range_look t.table lo hi (last_seen hi (first_in (look_at t.table lo hi) r)) s).looks) m n) e
     (subst (λ (l : List Look). AgreeOn (any_covers l) m n) (next_looks s t lo hi key_buffer row_buffer (first_in (look_at t.table lo hi) s.rows)) agree) in
     let same : first_in (look_at t.table lo hi) rows ≡ first_in (look_at t.table lo hi) s.rows =
@@ -196,7 +195,7 @@ next_twins m n rows s t lo hi key_buffer row_buffer e f agree =
     twin_of rows (with_next_read s t lo hi key_buffer row_buffer (first_in (look_at t.table lo hi) s.rows)) (with_next_read (over rows s) t lo hi key_buffer row_buffer (first_in (look_at t.table lo hi) rows))
     (ap (with_next_read (over rows s) t lo hi key_buffer row_buffer) same ∙ next_read_over rows s t lo hi key_buffer row_buffer (first_in (look_at t.table lo hi) s.rows))
 
-pub called_twins : (m n rows : Rows) (tables : Tables) (h : Helper) (s : State) → s.rows ≡ after s.writes m → rows ≡ after s.writes n
+pub called_twins : (m n rows : Rows) (tables : Tables) (h : Helper) (s : State) → s.rows ≡ after_writes s.writes m → rows ≡ after_writes s.writes n
     → ((u : State) → state_after_call tables h s ≡ just u → AgreeOn (any_covers u.looks) m n) → AreTwins (state_after_call tables h s) (state_after_call tables h (over rows s))
 unfolding state_after_call row_get row_put range_next
 called_twins m n rows tables RowGet s e f agree =

@@ -8,8 +8,8 @@ use Rattle.bpf_code.specs.declared.instruction.Instruction.{Instruction}
 use Rattle.bpf_code.specs.declared.instruction.Instruction.TheVariants.{LoadWide, Load, StoreImmediate, StoreRegister, Arithmetic, Negate, MoveSignExtended, End, Jump, LongJump, Branch, Call, Exit}
 use Rattle.bpf_code.specs.Program.{Program}
 use Rattle.schema.specs.Schema.{Tables}
-use Rattle.schema.specs.Rows.{Key, Rows, Writes, row_at, first_in, written, with_write, after}
-use Rattle.schema.proofs.RowsLemmas.{after-with_write, after-empty}
+use Rattle.schema.specs.Rows.{Key, Rows, Writes, row_at, first_in, after_write, with_write, after_writes}
+use Rattle.schema.proofs.RowsLemmas.{after_writes-with_write, after_writes-empty}
 use Rattle.schema.specs.Helper.{helper_of}
 use Rattle.schema.specs.declared.helper.Helper.{Helper}
 use Rattle.schema.specs.declared.helper.Helper.TheVariants.{RowGet, RowPut, RowDelete, RangeCount, RangeNext, Cancel}
@@ -23,7 +23,7 @@ use Rattle.bpf_semantics.proofs.StepLemmas.{just, bound, going_on, some_is, goin
 use Rattle.bpf_semantics.proofs.RunLemmas.{moment-front, not_ended, ended_is, exit_is, step_runs, going_runs, ended_runs, run_ended}
 
 abbrev pub Kept : Rows → State → Type 0
-Kept rows s = s.rows ≡ after s.writes rows
+Kept rows s = s.rows ≡ after_writes s.writes rows
 
 -- the same rows and writes
 record SameRows (s t : State) : Type 0 where
@@ -34,7 +34,7 @@ itself : (s : State) → SameRows s s
 itself s = record { rows = refl; writes = refl }
 
 keeps : (rows : Rows) (s t : State) → SameRows s t → Kept rows s → Kept rows t
-keeps rows s t p k = p.rows ∙ k ∙ ap (λ (w : Writes). after w rows) (sym p.writes)
+keeps rows s t p k = p.rows ∙ k ∙ ap (λ (w : Writes). after_writes w rows) (sym p.writes)
 
 either : (b : Bool) (s t u : State) → SameRows s t → SameRows s u → SameRows s (cond b t u)
 either true s t u p q = p
@@ -50,9 +50,9 @@ same : (rows : Rows) (s t u v : State) → SameRows s t → t.rows ≡ u.rows �
 same rows s t u v p e f is k = subst (Kept rows) is (keeps rows s u (record { rows = sym e ∙ p.rows; writes = sym f ∙ p.writes }) k)
 
 -- one more write
-more : (rows : Rows) (s u v : State) (table key : ℕ) (write : Option (List ℕ)) → u.rows ≡ written (table, key) write s.rows → u.writes ≡ with_write s.writes (table, key) write → u ≡ v → Kept rows s → Kept rows v
+more : (rows : Rows) (s u v : State) (table key : ℕ) (write : Option (List ℕ)) → u.rows ≡ after_write (table, key) write s.rows → u.writes ≡ with_write s.writes (table, key) write → u ≡ v → Kept rows s → Kept rows v
 more rows s u v table key write e f is k =
-    let one : u.rows ≡ after u.writes rows = e ∙ ap (written (table, key) write) k ∙ sym (after-with_write s.writes (table, key) write rows) ∙ ap (λ (w : Writes). after w rows) (sym f) in
+    let one : u.rows ≡ after_writes u.writes rows = e ∙ ap (after_write (table, key) write) k ∙ sym (after_writes-with_write s.writes (table, key) write rows) ∙ ap (λ (w : Writes). after_writes w rows) (sym f) in
     subst (Kept rows) is one
 
 row_read_same : (s : State) (t : Table) (key buffer : ℕ) (found : Option (List ℕ)) → SameRows s (with_row_read s t key buffer found)
@@ -153,14 +153,14 @@ ended_keeps rows p tables (suc k) s reply t e kept =
     ] refl (sym (moment-front p tables k s) ∙ e)
 
 -- a run that didn't cancel leaves the rows after its writes
-pub effect_kept : (p : Program) (tables : Tables) (args : List ℕ) (rows : Rows) (r : Run) → run p tables args rows ≡ just r → r.cancel_code ≡ None → r.effect ≡ after r.writes rows
+pub effect_kept : (p : Program) (tables : Tables) (args : List ℕ) (rows : Rows) (r : Run) → run p tables args rows ≡ just r → r.cancel_code ≡ None → r.effect ≡ after_writes r.writes rows
 unfolding run
 effect_kept p tables args rows r e none =
     let at = run_ended rows (moment p tables (length p) (entry_state args rows)) r e in
-    let kept = ended_keeps rows p tables (length p) (entry_state args rows) at.0 at.1 at.2 (sym (after-empty rows)) in
+    let kept = ended_keeps rows p tables (length p) (entry_state args rows) at.0 at.1 at.2 (sym (after_writes-empty rows)) in
     let none : at.1.cancel_code ≡ None = ap (λ (q : Run). q.cancel_code) at.3 ∙ none in
-    let here : (run_of rows at.0 at.1).effect ≡ after (run_of rows at.0 at.1).writes rows = rw none kept in
-    subst (λ (q : Run). q.effect ≡ after q.writes rows) at.3 here
+    let here : (run_of rows at.0 at.1).effect ≡ after_writes (run_of rows at.0 at.1).writes rows = rw none kept in
+    subst (λ (q : Run). q.effect ≡ after_writes q.writes rows) at.3 here
 
 cancelled_of : (rows : Rows) (reply : ℕ) (s : State) → IsSome s.cancel_code → ((run_of rows reply s).effect ≡ rows) × ((run_of rows reply s).writes ≡ empty)
 cancelled_of rows reply s some =

@@ -9,7 +9,7 @@ use Rattle.bpf_code.specs.declared.instruction.Instruction.TheVariants.{LoadWide
 use Rattle.bpf_code.specs.Program.{Program}
 use Rattle.schema.specs.Schema.{Tables}
 use Rattle.schema.specs.declared.look.Look.{Look}
-use Rattle.schema.specs.Rows.{Key, Rows, AgreeOn, covers, row_at, first_in}
+use Rattle.schema.specs.Rows.{Key, Rows, AgreeOn, covers, any_covers, row_at, first_in}
 use Rattle.schema.specs.Helper.{helper_of}
 use Rattle.schema.specs.declared.helper.Helper.{Helper}
 use Rattle.schema.specs.declared.helper.Helper.TheVariants.{RowGet, RowPut, RowDelete, RangeCount, RangeNext, Cancel}
@@ -18,7 +18,7 @@ use Rattle.bpf_semantics.specs.Memory.{stack_with}
 use Rattle.bpf_semantics.specs.Helpers.{Table, table_of, with_look, range_count, state_after_call, row_get, row_put, range_next, with_stack, with_point_look, with_range_look, with_row_read, with_next_read, look_at, last_seen, row_or_zeros, key_or_zeros, row_of}
 use Rattle.bpf_semantics.specs.Step.{Going, Ended, Stuck, after_jump, with_result, with_store, execute, step, width_bits}
 use Rattle.bpf_semantics.specs.Run.{next_moment, moment, Run, run}
-use Rattle.bpf_semantics.specs.Agree.{any_covers, looks_of, AgreeOnLooks, in_tables}
+use Rattle.bpf_semantics.specs.Agree.{looks_of, AgreeOnLooks, in_tables}
 use Rattle.std.proofs.lemmas.Bool.Decides.{nat_tests}
 use Rattle.bpf_semantics.specs.declared.value.Value.{Value}
 use Rattle.bpf_semantics.proofs.StepLemmas.{just, bound, going_on, some_is, going_is, set_is}

@@ -9,9 +9,9 @@ use Rattle.bpf_code.specs.declared.instruction.Instruction.{Instruction}
 use Rattle.bpf_code.specs.declared.instruction.Instruction.TheVariants.{LoadWide, Load, StoreImmediate, StoreRegister, Arithmetic, Negate, MoveSignExtended, End, Jump, LongJump, Branch, Call, Exit}
 use Rattle.bpf_code.specs.Program.{Program, instruction_at}
 use Rattle.schema.specs.Schema.{Tables}
-use Rattle.schema.specs.Rows.{Rows, AgreeOn, after, Writes}
+use Rattle.schema.specs.Rows.{Rows, AgreeOn, any_covers, after_writes, Writes}
 use Rattle.schema.specs.Helper.{helper_of}
-use Rattle.schema.proofs.RowsLemmas.{after-empty, get-after}
+use Rattle.schema.proofs.RowsLemmas.{after_writes-empty, get-after_writes}
 use Rattle.schema.specs.declared.helper.Helper.{Helper}
 use Rattle.bpf_semantics.specs.State.{State, past, entry_state, with_register}
 use Rattle.bpf_semantics.specs.declared.value.Value.{Value}
@@ -19,7 +19,7 @@ use Rattle.bpf_semantics.specs.Memory.{and_then}
 use Rattle.bpf_semantics.specs.Helpers.{state_after_call}
 use Rattle.bpf_semantics.specs.Step.{Moment, Going, Ended, Stuck, or_stuck, after_jump, is_read_only, with_result, with_store, execute, step, width_bits}
 use Rattle.bpf_semantics.specs.Run.{next_moment, moment, Run, run_of, run_at, run}
-use Rattle.bpf_semantics.specs.Agree.{any_covers, looks_of, AgreeOnLooks, in_tables, same_on, AreElsewhere, after_each}
+use Rattle.bpf_semantics.specs.Agree.{looks_of, AgreeOnLooks, in_tables, same_on, AreElsewhere, after_each}
 use Rattle.bpf_semantics.proofs.LookLemmas.{agree_on_run, agree_on_tables}
 use Rattle.bpf_semantics.proofs.StepLemmas.{just}
 use Rattle.bpf_semantics.proofs.RunLemmas.{run_ended, step_runs, going_runs}
@@ -63,7 +63,7 @@ set_twins n dst v s rows =
       | false ↦ refl
     ]
 
-call_twins : (m n rows : Rows) (tables : Tables) (o : Option Helper) (s : State) → s.rows ≡ after s.writes m → rows ≡ after s.writes n
+call_twins : (m n rows : Rows) (tables : Tables) (o : Option Helper) (s : State) → s.rows ≡ after_writes s.writes m → rows ≡ after_writes s.writes n
     → AgreeOn (any_covers (looks_of (or_stuck (and_then o (λ h. state_after_call tables h s)) (λ t. Going (past 1 t))))) m n
     → SameMoments (or_stuck (and_then o (λ h. state_after_call tables h s)) (λ t. Going (past 1 t))) (or_stuck (and_then o (λ h. state_after_call tables h (over rows s))) (λ t. Going (past 1 t)))
 unfolding or_stuck and_then
@@ -72,7 +72,7 @@ call_twins m n rows tables (Some h) s e f agree =
     after_call (state_after_call tables h s) (state_after_call tables h (over rows s))
     (called_twins m n rows tables h s e f (λ u is. subst (λ o. AgreeOn (any_covers (looks_of (or_stuck o (λ t. Going (past 1 t))))) m n) is agree))
 
-execute_twins : (m n rows : Rows) (tables : Tables) (i : Instruction) (s : State) → s.rows ≡ after s.writes m → rows ≡ after s.writes n
+execute_twins : (m n rows : Rows) (tables : Tables) (i : Instruction) (s : State) → s.rows ≡ after_writes s.writes m → rows ≡ after_writes s.writes n
     → AgreeOn (any_covers (looks_of (execute tables i s))) m n → SameMoments (execute tables i s) (execute tables i (over rows s))
 unfolding execute
 execute_twins m n rows tables (LoadWide dst value) s e f agree = set_twins 2 dst _ s rows
@@ -107,7 +107,7 @@ AreTogether m n _ _ = ⊥
 step_keeps : (rows : Rows) (p : Program) (tables : Tables) (s t : State) → step p tables s ≡ Going t → Kept rows s → Kept rows t
 step_keeps rows p tables s t e k = let runs = step_runs p tables s (Going t) e (going_runs t) in execute_keeps rows tables runs.0 s t runs.2 k
 
-step_twins : (m n rows : Rows) (p : Program) (tables : Tables) (s : State) → s.rows ≡ after s.writes m → rows ≡ after s.writes n
+step_twins : (m n rows : Rows) (p : Program) (tables : Tables) (s : State) → s.rows ≡ after_writes s.writes m → rows ≡ after_writes s.writes n
     → AgreeOn (any_covers (looks_of (step p tables s))) m n → SameMoments (step p tables s) (step p tables (over rows s))
 unfolding step or_stuck
 step_twins m n rows p tables s e f agree =
@@ -148,7 +148,7 @@ next_together m n p tables Stuck (Ended q v) h agree = absurd h
 moments_together : (p : Program) (tables : Tables) (args : List ℕ) (m n : Rows) → AgreeOnLooks p tables args m n → (k : ℕ)
     → AreTogether m n (moment p tables k (entry_state args m)) (moment p tables k (entry_state args n))
 unfolding moment
-moments_together p tables args m n agree zero = record { same = refl; kept = sym (after-empty m); kept_too = sym (after-empty n) }
+moments_together p tables args m n agree zero = record { same = refl; kept = sym (after_writes-empty m); kept_too = sym (after_writes-empty n) }
 moments_together p tables args m n agree (suc k) =
     next_together m n p tables (moment p tables k (entry_state args m)) (moment p tables k (entry_state args n)) (moments_together p tables args m n agree k) (agree (suc k))
 
@@ -167,13 +167,13 @@ ended_alike m n r u (Ended q v) h =
     (run_of n q v, refl, alike)
 
 -- the effect is that of the writes, whether it cancelled or not
-effect_is : (p : Program) (tables : Tables) (args : List ℕ) (rows : Rows) (r : Run) → run p tables args rows ≡ just r → r.effect ≡ after r.writes rows
+effect_is : (p : Program) (tables : Tables) (args : List ℕ) (rows : Rows) (r : Run) → run p tables args rows ≡ just r → r.effect ≡ after_writes r.writes rows
 effect_is p tables args rows r e =
-    elim r.cancel_code as (λ o. r.cancel_code ≡ o → r.effect ≡ after r.writes rows) [
+    elim r.cancel_code as (λ o. r.cancel_code ≡ o → r.effect ≡ after_writes r.writes rows) [
       | None ↦ λ none. effect_kept p tables args rows r e none
       | Some code ↦ λ some.
           let c = effect_cancelled p tables args rows r e (subst (λ o. IsSome o) (sym some) refl) in
-          c.0 ∙ sym (after-empty rows) ∙ ap (λ (w : Writes). after w rows) (sym c.1)
+          c.0 ∙ sym (after_writes-empty rows) ∙ ap (λ (w : Writes). after_writes w rows) (sym c.1)
     ] refl
 
 same_run : (p : Program) (tables : Tables) (args : List ℕ) (m n : Rows) (r : Run) → AgreeOnLooks p tables args m n → run p tables args m ≡ Some r → run p tables args n ≡ Some (same_on n r)
@@ -185,7 +185,7 @@ same_run p tables args m n r agree e =
     let other = ended_alike m n at.0 at.1 (moment p tables (length p) (entry_state args n)) pair in
     let alike : other.0 ≡ with_effect r other.0.effect = other.2 ∙ ap (λ (x : Run). with_effect x other.0.effect) at.3 in
     let writes : other.0.writes ≡ r.writes = ap (λ (x : Run). x.writes) alike in
-    let effect : other.0.effect ≡ after r.writes n = effect_is p tables args n other.0 other.1 ∙ ap (λ (w : Writes). after w n) writes in
+    let effect : other.0.effect ≡ after_writes r.writes n = effect_is p tables args n other.0 other.1 ∙ ap (λ (w : Writes). after_writes w n) writes in
     other.1 ∙ ap just (alike ∙ ap (with_effect r) effect)
 
 pub same_on_looks : (p : Program) (tables : Tables) (args : List ℕ) (m n : Rows) (r : Run) → run p tables args m ≡ Some r → AgreeOn (any_covers r.looks) m n
@@ -198,16 +198,16 @@ same_on_tables p tables args m n r e agree = same_run p tables args m n r (agree
 
 -- ---- runs that go on, and stuck ones
 
-going_alike : (m n : Rows) (u : State) (b : Moment) → AreTogether m n (Going u) b → b ≡ Going (over (after u.writes n) u)
+going_alike : (m n : Rows) (u : State) (b : Moment) → AreTogether m n (Going u) b → b ≡ Going (over (after_writes u.writes n) u)
 going_alike m n u (Going v) h =
     let writes : v.writes ≡ u.writes = ap (λ (x : State). x.writes) h.same in
-    let rows : v.rows ≡ after u.writes n = h.kept_too ∙ ap (λ (w : Writes). after w n) writes in
+    let rows : v.rows ≡ after_writes u.writes n = h.kept_too ∙ ap (λ (w : Writes). after_writes w n) writes in
     ap (λ (x : State). Going x) (h.same ∙ ap (λ (r : Rows). over r u) rows)
 going_alike m n u (Ended q v) h = absurd h
 going_alike m n u Stuck h = absurd h
 
 pub going_on_alike : (p : Program) (tables : Tables) (args : List ℕ) (m n : Rows) → AgreeOnLooks p tables args m n → (k : ℕ) (s : State)
-    → moment p tables k (entry_state args m) ≡ Going s → moment p tables k (entry_state args n) ≡ Going (record s { rows = after s.writes n })
+    → moment p tables k (entry_state args m) ≡ Going s → moment p tables k (entry_state args n) ≡ Going (record s { rows = after_writes s.writes n })
 going_on_alike p tables args m n agree k s e =
     going_alike m n s (moment p tables k (entry_state args n))
     (subst (λ (x : Moment). AreTogether m n x (moment p tables k (entry_state args n))) e (moments_together p tables args m n agree k))
@@ -251,14 +251,14 @@ none_on_tables p tables args m n agree = none_where p tables args m n (agree_on_
 -- ---- writes elsewhere
 
 pub elsewhere : (p : Program) (tables : Tables) (args : List ℕ) (rows : Rows) (r : Run) (w : Writes) → run p tables args rows ≡ Some r → AreElsewhere r.looks w
-    → run p tables args (after w rows) ≡ Some (same_on (after w rows) r)
+    → run p tables args (after_writes w rows) ≡ Some (same_on (after_writes w rows) r)
 elsewhere p tables args rows r w e apart =
-    same_on_looks p tables args rows (after w rows) r e (λ k inside.
-    sym (get-after w rows k ∙ ap (λ (o : Option (Option (List ℕ))). unwrap_or o (get rows k)) (apart k inside)))
+    same_on_looks p tables args rows (after_writes w rows) r e (λ k inside.
+    sym (get-after_writes w rows k ∙ ap (λ (o : Option (Option (List ℕ))). unwrap_or o (get rows k)) (apart k inside)))
 
 pub elsewhere_each : (p : Program) (tables : Tables) (args : List ℕ) (rows : Rows) (r : Run) (ws : List Writes) → run p tables args rows ≡ Some r → All (AreElsewhere r.looks) ws
     → run p tables args (after_each ws rows) ≡ Some (same_on (after_each ws rows) r)
 elsewhere_each p tables args rows r [] e apart = same_on_looks p tables args rows rows r e (λ k inside. refl)
 elsewhere_each p tables args rows r (w ∷ ws) e apart =
-    elsewhere_each p tables args (after w rows) (same_on (after w rows) r) ws
+    elsewhere_each p tables args (after_writes w rows) (same_on (after_writes w rows) r) ws
     (elsewhere p tables args rows r w e (All-head (AreElsewhere r.looks) w ws apart)) (All-tail (AreElsewhere r.looks) w ws apart)

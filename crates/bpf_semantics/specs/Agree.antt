@@ -1,19 +1,14 @@
 -- Rows that a run can't tell apart: two maps that have the same where it looks, or in the schema's tables, and writes to
 -- other keys.
-use Rattle.std.specs.Prelude.{◌≡◌, IsTrue, is_some, None, ℕ, Bool, false, ◌||◌, List, [], ◌∷◌}
+use Rattle.std.specs.Prelude.{◌≡◌, IsTrue, is_some, None, ℕ, Bool, List, [], ◌∷◌}
 use Rattle.std.specs.FinMap.{get}
 use Rattle.bpf_code.specs.Program.{Program}
 use Rattle.schema.specs.Schema.{Tables}
 use Rattle.schema.specs.declared.look.Look.{Look}
-use Rattle.schema.specs.Rows.{Rows, Key, Writes, covers, AgreeOn, after}
+use Rattle.schema.specs.Rows.{Rows, Key, Writes, AgreeOn, any_covers, after_writes}
 use Rattle.bpf_semantics.specs.State.{entry_state}
 use Rattle.bpf_semantics.specs.Step.{Moment, Going, Ended, Stuck}
 use Rattle.bpf_semantics.specs.Run.{moment, Run}
-
--- whether a key lies in one of the looks
-abbrev pub any_covers : List Look → Key → Bool
-any_covers [] k = false
-any_covers (look ∷ looks) k = covers look k || any_covers looks k
 
 -- what was looked at up to a moment; of one that is stuck, the moments before it tell
 abbrev pub looks_of : Moment → List Look
@@ -31,7 +26,7 @@ in_tables tables k = is_some (get tables k.0)
 
 -- the run on other rows that is the same but for its effect: those rows after its writes
 abbrev pub same_on : Rows → Run → Run
-same_on rows r = record r { effect = after r.writes rows }
+same_on rows r = record r { effect = after_writes r.writes rows }
 
 -- no key inside a look is written
 abbrev pub AreElsewhere : List Look → Writes → Type 0
@@ -40,4 +35,4 @@ AreElsewhere looks writes = (k : Key) → IsTrue (any_covers looks k) → get wr
 -- the rows after some writes, and then after the next
 abbrev pub after_each : List Writes → Rows → Rows
 after_each [] rows = rows
-after_each (writes ∷ later) rows = after_each later (after writes rows)
+after_each (writes ∷ later) rows = after_each later (after_writes writes rows)

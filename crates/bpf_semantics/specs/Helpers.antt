@@ -8,7 +8,7 @@ use Rattle.byteorder.specs.Endian.{little_bytes}
 use Rattle.bpf_code.specs.declared.instruction.Register.TheVariants.{R1, R2, R3, R4, R5}
 use Rattle.schema.specs.Schema.{Tables}
 use Rattle.schema.specs.declared.look.Look.{Look}
-use Rattle.schema.specs.Rows.{Key, row_at, written, with_write, count_in, first_in}
+use Rattle.schema.specs.Rows.{Key, row_at, after_write, with_write, count_in, first_in}
 use Rattle.schema.specs.declared.helper.Helper.{Helper}
 use Rattle.schema.specs.declared.helper.Helper.TheVariants.{RowGet, RowPut, RowDelete, RangeCount, RangeNext, Cancel}
 use Rattle.bpf_semantics.specs.declared.value.Value.{Value}
@@ -57,7 +57,7 @@ with_range_look table lo hi last s = if nat_le lo hi then with_look (look_at tab
 
 -- a put has bytes, a removal none
 abbrev pub with_row_write : ℕ → ℕ → Option (List ℕ) → State → State
-with_row_write table key write s = record s { rows = written (table, key) write s.rows; writes = with_write s.writes (table, key) write }
+with_row_write table key write s = record s { rows = after_write (table, key) write s.rows; writes = with_write s.writes (table, key) write }
 
 -- ---- the helpers
 

@@ -4,11 +4,11 @@ ghost use Rattle.std.specs.Prelude.{◌≡◌, ◌↔◌, All, ℕ, ◌+◌, ◌
 ghost use Rattle.std.specs.FinMap.{empty};
 ghost use Rattle.bpf_code.specs.Program.{Program};
 ghost use Rattle.schema.specs.Schema.{Tables};
-ghost use Rattle.schema.specs.Rows.{Rows, Writes, AgreeOn, after};
+ghost use Rattle.schema.specs.Rows.{Rows, Writes, AgreeOn, any_covers, after_writes};
 ghost use Rattle.bpf_semantics.specs.State.{State, entry_state};
 ghost use Rattle.bpf_semantics.specs.Step.{Moment, Going, Ended, Stuck, step};
 ghost use Rattle.bpf_semantics.specs.Run.{Run, moment, run, run_of};
-ghost use Rattle.bpf_semantics.specs.Agree.{any_covers, AgreeOnLooks, in_tables, same_on, AreElsewhere, after_each};
+ghost use Rattle.bpf_semantics.specs.Agree.{AgreeOnLooks, in_tables, same_on, AreElsewhere, after_each};
 ghost use Rattle.bpf_semantics.specs.Path.{longest_path, instructions};
 
 /// What is stuck stays stuck, and what has ended stays as it ended.
@@ -41,7 +41,7 @@ pub fn runs_are_short()
 /// A run that didn't cancel leaves the rows after its writes; one that did leaves them as they were.
 pub fn the_effect_is_that_of_the_writes()
     ensures kept { (p : Program) (tables : Tables) (args : List ℕ) (rows : Rows) (r : Run)
-        → run p tables args rows ≡ Some r → r.cancel_code ≡ None → r.effect ≡ after r.writes rows }
+        → run p tables args rows ≡ Some r → r.cancel_code ≡ None → r.effect ≡ after_writes r.writes rows }
     ensures cancelled { (p : Program) (tables : Tables) (args : List ℕ) (rows : Rows) (r : Run)
         → run p tables args rows ≡ Some r → IsSome r.cancel_code → (r.effect ≡ rows) × (r.writes ≡ empty) }
 {}
@@ -56,7 +56,7 @@ pub fn a_run_depends_on_its_looks()
     ensures going { (p : Program) (tables : Tables) (args : List ℕ) (m n : Rows)
         → AgreeOnLooks p tables args m n → (k : ℕ) (s : State)
         → moment p tables k (entry_state args m) ≡ Going s
-        → moment p tables k (entry_state args n) ≡ Going (record s { rows = after s.writes n }) }
+        → moment p tables k (entry_state args n) ≡ Going (record s { rows = after_writes s.writes n }) }
     ensures stuck { (p : Program) (tables : Tables) (args : List ℕ) (m n : Rows)
         → AgreeOnLooks p tables args m n → (k : ℕ)
         → (moment p tables k (entry_state args m) ≡ Stuck)
@@ -76,7 +76,7 @@ pub fn a_run_depends_on_its_schemas_tables()
     ensures going { (p : Program) (tables : Tables) (args : List ℕ) (m n : Rows)
         → AgreeOn (in_tables tables) m n → (k : ℕ) (s : State)
         → moment p tables k (entry_state args m) ≡ Going s
-        → moment p tables k (entry_state args n) ≡ Going (record s { rows = after s.writes n }) }
+        → moment p tables k (entry_state args n) ≡ Going (record s { rows = after_writes s.writes n }) }
     ensures stuck { (p : Program) (tables : Tables) (args : List ℕ) (m n : Rows)
         → AgreeOn (in_tables tables) m n → (k : ℕ)
         → (moment p tables k (entry_state args m) ≡ Stuck)
@@ -90,7 +90,7 @@ pub fn a_run_depends_on_its_schemas_tables()
 pub fn writes_elsewhere_leave_the_run()
     ensures once { (p : Program) (tables : Tables) (args : List ℕ) (rows : Rows) (r : Run) (writes : Writes)
         → run p tables args rows ≡ Some r → AreElsewhere r.looks writes
-        → run p tables args (after writes rows) ≡ Some (same_on (after writes rows) r) }
+        → run p tables args (after_writes writes rows) ≡ Some (same_on (after_writes writes rows) r) }
     ensures each { (p : Program) (tables : Tables) (args : List ℕ) (rows : Rows) (r : Run) (later : List Writes)
         → run p tables args rows ≡ Some r → All (AreElsewhere r.looks) later
         → run p tables args (after_each later rows) ≡ Some (same_on (after_each later rows) r) }

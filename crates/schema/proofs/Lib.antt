@@ -4,3 +4,6 @@ pub mod LookLemmas
 pub mod SchemaLemmas
 pub mod EqualLemmas
 pub mod CountLemmas
+pub mod ShareLemmas
+pub mod SplitLemmas
+pub mod OverlayLemmas

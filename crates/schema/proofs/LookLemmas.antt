@@ -41,7 +41,7 @@ less Less p = refl
 less Equal p = absurd p
 less Greater p = absurd p
 
-above_all : (x : Key) (es : List (Key × List ℕ)) → T (below_all key_cmp x es) → (q : Key) → IsSome (find key_cmp q es) → key_cmp x q ≡ Less
+pub above_all : {X : Type 0} (x : Key) (es : List (Key × X)) → T (below_all key_cmp x es) → (q : Key) → IsSome (find key_cmp q es) → key_cmp x q ≡ Less
 above_all x [] h q s = absurd (cc)
 above_all x (e ∷ es) h q s =
     let parts : T (is_lt (key_cmp x e.0)) × T (below_all key_cmp x es) = split_and _ _ h in
@@ -128,7 +128,7 @@ zero_where_vacant look rows none = len-entries (rows_in look rows) ∙ ap length
 -- ---- the first
 
 -- two covered keys are in the order of their keys alone
-in_order : (look : Look) (k q : Key) → IsTrue (covers look k) → IsTrue (covers look q) → is_gt (key_cmp k q) ≡ false → k.1 ≤ q.1
+pub in_order : (look : Look) (k q : Key) → IsTrue (covers look k) → IsTrue (covers look q) → is_gt (key_cmp k q) ≡ false → k.1 ≤ q.1
 in_order look k q s t e = grind (arith, nat_tests)
 
 ordered : (look : Look) (k q : Key) → IsTrue (covers look k) → IsTrue (covers look q) → k.1 ≤ q.1 → is_gt (key_cmp k q) ≡ false

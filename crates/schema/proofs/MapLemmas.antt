@@ -1,6 +1,6 @@
 -- How a map of std, as its entries, is a finite map.
-use Rattle.std.proofs.Common.{◌≡◌, List, [], ◌∷◌, refl, sym, ap, subst, ◌∙◌, cond, Bool, true, false}
-use Rattle.std.specs.Prelude.{Option, Some, None, T, ◌&&◌, filter}
+use Rattle.std.proofs.Common.{◌≡◌, ◌+◌, List, [], ◌∷◌, length, refl, sym, ap, subst, ◌∙◌, cond, Bool, true, false}
+use Rattle.std.specs.Prelude.{Option, Some, None, T, ◌&&◌, not, filter}
 use Rattle.std.specs.declared.cmp.Ordering.{Ordering}
 use Rattle.std.specs.declared.cmp.Ordering.TheVariants.{Less, Equal}
 use Rattle.std.specs.Ordering.{is_lt}
@@ -9,7 +9,8 @@ use Rattle.std.specs.List.{AllByRecursion}
 use Rattle.std.specs.List.Sorted.{IsStrictlySortedBy}
 use Rattle.std.specs.Map.{lookup, keys_of}
 use Rattle.std.specs.BTreeMap.{is_at}
-use Rattle.std.specs.FinMap.{IsAntisymmetric, get, insert, remove, entries, from_entries, from_sorted, retain_keys, find, is_sorted, get-from_entries, get-insert, get-remove, get-from_sorted, get-retain_keys, entries-from_sorted, same_map}
+use Rattle.std.specs.FinMap.{FinMap, IsAntisymmetric, get, insert, remove, entries, from_entries, from_sorted, retain_keys, len, len-entries, entries_sorted, get-entries, find, is_sorted, get-from_entries, get-insert, get-remove, get-from_sorted, get-retain_keys, entries-from_sorted, same_map}
+use Rattle.std.proofs.lemmas.List.Filters.{length-filter_both}
 use Rattle.std.specs.FinMap.Entries.{below_all, where_key, is_sorted-where_key, find-where_key}
 
 -- what std's map finds at a key
@@ -56,12 +57,25 @@ entries-from_entries {R = R} o exact es h =
     let same : from_entries {R = R} es ≡ from_sorted es = same_map o exact _ _ (λ q. get-from_entries o es q ∙ sym (get-from_sorted R es q s)) in
     ap entries same ∙ entries-from_sorted R es s
 
--- and so are those that pass a test
-pub entries-retain_keys : {K X : Type 0} {R : K → K → Ordering} → IsTotalOrder R → IsAntisymmetric R → (es : List (K × X)) (p : K → Bool) → IsStrictlySortedBy R (keys_of es) → entries (retain_keys (from_entries {R = R} es) p) ≡ filter (λ e. p e.0) es
-entries-retain_keys {K} {X} {R = R} o exact es p h =
-    let s : T (is_sorted R (where_key R p es)) = is_sorted-where_key R p es (in_order R es h) in
+-- ---- entries whose keys pass a test
+
+pub entries-kept : {K X : Type 0} {R : K → K → Ordering} → IsTotalOrder R → IsAntisymmetric R → (m : FinMap R X) (p : K → Bool) → entries (retain_keys m p) ≡ filter (λ e. p e.0) (entries m)
+entries-kept {K = K} {R = R} o exact m p =
+    let s : T (is_sorted R (where_key R p (entries m))) = is_sorted-where_key R p (entries m) (entries_sorted m) in
     let alike : (q x : K) → R q x ≡ Equal → p x ≡ p q = λ q x e. ap p (sym (exact q x e)) in
-    let same : retain_keys (from_entries {R = R} es) p ≡ from_sorted (where_key R p es) = same_map o exact _ _ (λ q.
-    get-retain_keys (from_entries {R = R} es) p q (alike q) ∙ ap (λ x. cond (p q) x None) (get-from_entries o es q)
-    ∙ sym (get-from_sorted R (where_key R p es) q s ∙ find-where_key R p q (alike q) es)) in
-    ap entries same ∙ entries-from_sorted R (where_key R p es) s
+    let same : retain_keys m p ≡ from_sorted (where_key R p (entries m)) = same_map o exact _ _ (λ q.
+    get-retain_keys m p q (alike q) ∙ ap (λ x. cond (p q) x None) (get-entries m q)
+    ∙ sym (get-from_sorted R (where_key R p (entries m)) q s ∙ find-where_key R p q (alike q) (entries m))) in
+    ap entries same ∙ entries-from_sorted R (where_key R p (entries m)) s
+
+pub entries-retain_keys : {K X : Type 0} {R : K → K → Ordering} → IsTotalOrder R → IsAntisymmetric R → (es : List (K × X)) (p : K → Bool) → IsStrictlySortedBy R (keys_of es) → entries (retain_keys (from_entries {R = R} es) p) ≡ filter (λ e. p e.0) es
+entries-retain_keys {R = R} o exact es p h = entries-kept o exact (from_entries {R = R} es) p ∙ ap (filter (λ e. p e.0)) (entries-from_entries o exact es h)
+
+-- those that pass and those that don't are all
+pub len_split : {K X : Type 0} {R : K → K → Ordering} → IsTotalOrder R → IsAntisymmetric R → (m : FinMap R X) (p : K → Bool) → len m ≡ len (retain_keys m p) + len (retain_keys m (λ k. not (p k)))
+len_split o exact m p =
+    let yes : len (retain_keys m p) ≡ length (filter (λ e. p e.0) (entries m)) = len-entries _ ∙ ap length (entries-kept o exact m p) in
+    let no : len (retain_keys m (λ k. not (p k))) ≡ length (filter (λ e. not (p e.0)) (entries m)) = len-entries _ ∙ ap length (entries-kept o exact m (λ k. not (p k))) in
+    let both : length (filter (λ e. p e.0) (entries m)) + length (filter (λ e. not (p e.0)) (entries m)) ≡ length (entries m) =
+    length-filter_both (λ e. p e.0) (λ e. not (p e.0)) (λ e. refl) (entries m) in
+    len-entries m ∙ sym both ∙ (λ i. sym yes i + sym no i)

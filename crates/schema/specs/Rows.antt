@@ -1,8 +1,9 @@
 -- The words for rows: the plain map of rows, what a call looks at, and what it writes.
-use Rattle.std.specs.Prelude.{◌≡◌, ℕ, ◌<◌, ◌≤◌, ◌^◌, Bool, ◌==◌, ◌&&◌, nat_le, IsTrue, All, List, [], ◌∷◌, length, Option, Some, None, IsSome, slice_get}
+use Rattle.std.specs.Prelude.{◌≡◌, ℕ, ◌+◌, ◌<◌, ◌≤◌, ◌^◌, Bool, false, ◌==◌, ◌&&◌, ◌||◌, not, nat_le, if◌then◌else◌, IsTrue, All, List, [], ◌∷◌, length, Option, Some, None, IsSome, slice_get}
+use Rattle.std.specs.List.{list_any}
 use Rattle.std.specs.declared.cmp.Ordering.{Ordering}
 use Rattle.std.specs.Ordering.{nat_cmp, ordering_then}
-use Rattle.std.specs.FinMap.{FinMap, IsAntisymmetric, nat_cmp-IsAntisymmetric, get, insert, remove, retain_keys, len, entries}
+use Rattle.std.specs.FinMap.{FinMap, IsAntisymmetric, nat_cmp-IsAntisymmetric, empty, get, contains_key, insert, remove, retain_keys, len, keys, entries}
 use Rattle.std.specs.Cmp.{IsTotalOrder, nat_cmp_total, on_total, then_total}
 use Rattle.std.proofs.lemmas.Map.Lookups.{exact_pairs}
 use Rattle.schema.specs.declared.look.Look.{Look}
@@ -30,19 +31,16 @@ Rows = FinMap key_cmp (List ℕ)
 abbrev pub row_at : Rows → ℕ → ℕ → Option (List ℕ)
 row_at rows table key = get rows (table, key)
 
--- the rows with this one in its place
-abbrev pub with_row : Rows → ℕ → ℕ → List ℕ → Rows
-with_row rows table key bytes = insert rows (table, key) bytes
+-- a key at which a row may stand: of one of the schema's tables, and a number of 64 bits
+pub record IsKey (tables : Tables) (k : Key) : Type 0 where
+  pub table_is : IsSome (get tables k.0)
+  pub key_fits : k.1 < 2 ^ 64
 
--- the rows without the one there
-abbrev pub without_row : Rows → ℕ → ℕ → Rows
-without_row rows table key = remove rows (table, key)
-
--- bytes that may stand as a row there: the table is the schema's, they have its width, and the numbers fit
+-- bytes that may stand there as a row: as many as the table is wide
 pub record IsRow (tables : Tables) (table key : ℕ) (bytes : List ℕ) : Type 0 where
+  pub at_key : IsKey tables (table, key)
   pub width : get tables table ≡ Some (length bytes)
   pub each_byte : All (λ b. b < 256) bytes
-  pub key_fits : key < 2 ^ 64
 
 -- each row is one of the schema's
 abbrev pub AreRows : Tables → Rows → Type 0
@@ -53,6 +51,18 @@ AreRows tables rows = (table key : ℕ) (bytes : List ℕ) → row_at rows table
 -- whether a key is one that was looked at: of the look's table, from lo to hi, both included
 abbrev pub covers : Look → Key → Bool
 covers look k = (look.table == k.0) && nat_le look.lo k.1 && nat_le k.1 look.hi
+
+-- whether a key lies in one of the looks
+abbrev pub any_covers : List Look → Key → Bool
+any_covers [] k = false
+any_covers (look ∷ looks) k = covers look k || any_covers looks k
+
+-- the part of a look up to a key, and the part above it
+abbrev pub low_part : Look → ℕ → Look
+low_part look key = record look { hi = key }
+
+abbrev pub high_part : Look → ℕ → Look
+high_part look key = record look { lo = key + 1 }
 
 -- the rows that a look covers
 abbrev pub rows_in : Look → Rows → Rows
@@ -90,20 +100,48 @@ Writes = FinMap key_cmp (Option (List ℕ))
 abbrev pub with_write : Writes → Key → Option (List ℕ) → Writes
 with_write writes k write = insert writes k write
 
--- the rows after one write
-abbrev pub written : Key → Option (List ℕ) → Rows → Rows
-written k (Some bytes) rows = insert rows k bytes
-written k None rows = remove rows k
+-- the rows after one write: a put has bytes, a removal none
+abbrev pub after_write : Key → Option (List ℕ) → Rows → Rows
+after_write k (Some bytes) rows = insert rows k bytes
+after_write k None rows = remove rows k
 
 -- the rows after one write at each of these keys
-abbrev pub all_written : List (Key × Option (List ℕ)) → Rows → Rows
-all_written [] rows = rows
-all_written (write ∷ writes) rows = written write.0 write.1 (all_written writes rows)
+abbrev pub after_write_list : List (Key × Option (List ℕ)) → Rows → Rows
+after_write_list [] rows = rows
+after_write_list (write ∷ writes) rows = after_write write.0 write.1 (after_write_list writes rows)
 
 -- the rows after the writes
-abbrev pub after : Writes → Rows → Rows
-after writes rows = all_written (entries writes) rows
+abbrev pub after_writes : Writes → Rows → Rows
+after_writes writes rows = after_write_list (entries writes) rows
 
--- each row that is written is one of the schema's
+-- a write that may be made there: of a put the bytes are a row, and a removal is at one of the schema's keys
+abbrev pub IsWrite : Tables → Key → Option (List ℕ) → Type 0
+IsWrite tables k (Some bytes) = IsRow tables k.0 k.1 bytes
+IsWrite tables k None = IsKey tables k
+
+-- each write is one of the schema's
 abbrev pub AreWrites : Tables → Writes → Type 0
-AreWrites tables writes = (table key : ℕ) (bytes : List ℕ) → get writes (table, key) ≡ Some (Some bytes) → IsRow tables table key bytes
+AreWrites tables writes = (k : Key) (write : Option (List ℕ)) → get writes k ≡ Some write → IsWrite tables k write
+
+-- ---- writes over rows and looks
+
+-- the rows that are put
+abbrev pub puts : Writes → Rows
+puts writes = after_writes writes empty
+
+-- the rows that stand at written keys, and those at all other keys
+abbrev pub rows_under : Writes → Rows → Rows
+rows_under writes rows = retain_keys rows (contains_key writes)
+
+abbrev pub rows_elsewhere : Writes → Rows → Rows
+rows_elsewhere writes rows = retain_keys rows (λ k. not (contains_key writes k))
+
+-- of two rows of one table, where they are there, that of the lesser key
+abbrev pub lesser_row : Option (Key × List ℕ) → Option (Key × List ℕ) → Option (Key × List ℕ)
+lesser_row None b = b
+lesser_row (Some a) None = Some a
+lesser_row (Some a) (Some b) = if nat_le a.0.1 b.0.1 then Some a else Some b
+
+-- whether a written key, put or removed, lies in one of the looks
+abbrev pub shares_key : List Look → Writes → Bool
+shares_key looks writes = list_any (any_covers looks) (keys writes)

@@ -1,8 +1,9 @@
 //! The tables of a database, and the width of each.
 
-ghost use Rattle.std.specs.Prelude.{◌≡◌, ◌⊎◌, ◌↔◌, IsTrue, Some, None, Ok, Err, IfOk, IfErr, OnOk, OnErr};
+ghost use Rattle.std.specs.Prelude.{◌≡◌, ◌⊎◌, ◌↔◌, ℕ, ◌<◌, ◌^◌, length, IsTrue, Some, None, Ok, Err, IfOk, IfErr, OnOk, OnErr};
 ghost use Rattle.std.specs.FinMap as map;
 ghost use Rattle.schema.specs.Schema.{Tables, AreTables, fault_of, schema_of, tables_eq};
+ghost use Rattle.schema.specs.Rows.{IsRow};
 ghost use Rattle.schema.specs.declared.fault.SchemaFault.TheVariants.{OutOfMemory};
 
 use crate::fault::SchemaFault;
@@ -74,6 +75,16 @@ impl<A: Allocator> Schema<A> {
         ensures tables { AreTables self.now }
     {
         self.widths.get(&table).copied()
+    }
+
+    /// Whether these bytes may stand as a row of this table, at whatever key.
+    pub fn fits(&self, table: u8, bytes: &[u8]) -> bool
+        ensures width { IsTrue result ↔ (map.get self.now table ≡ Some (length bytes.now)) }
+        ensures row { (key : ℕ) → key < 2 ^ 64
+            → IsTrue result ↔ IsRow self.now table key bytes.now }
+    {
+        self.width(table)
+            .is_some_and(|width| usize::from(width) == bytes.len())
     }
 
     /// What is wrong with this pair, given the tables so far.

@@ -7,6 +7,7 @@ use std::test::Fail;
 #[test]
 fn a_schema_knows_its_widths(rt: HostRuntime) -> Result<(), Fail> {
     let schema = Schema::new(rt.alloc(), &[(2, 128), (64, 1), (1, 8)])?;
+    let bytes = [0; 128];
     for (table, width) in [
         (0, None),
         (1, Some(8)),
@@ -17,14 +18,37 @@ fn a_schema_knows_its_widths(rt: HostRuntime) -> Result<(), Fail> {
         (255, None),
     ] {
         assert_eq!(rt; schema.width(table), width, "at {table}");
+        for length in [0, 1, 7, 8, 9, 128] {
+            let fits = width.map(usize::from) == Some(length);
+            assert_eq!(rt;
+                schema.fits(table, &bytes[..length]),
+                fits,
+                "{length} at {table}"
+            );
+        }
     }
     let none = Schema::new(rt.alloc(), &[])?;
     assert_eq!(rt; none.width(1), None);
+
+    let mut pairs = Vec::new(rt.alloc());
+    for table in 1..=64u8 {
+        pairs.push((table, 2 * u16::from(table)))?;
+    }
+    let full = Schema::new(rt.alloc(), &pairs)?;
+    for table in 1..=64u8 {
+        assert_eq!(rt; full.width(table), Some(2 * u16::from(table)));
+    }
+
+    let two = Schema::new(rt.alloc(), &[(1, 8), (2, 16)])?;
+    assert_eq!(rt; two, Schema::new(rt.alloc(), &[(2, 16), (1, 8)])?);
+    for pairs in [&[(1, 8), (2, 17)][..], &[(1, 8), (3, 16)], &[(1, 8)]] {
+        assert_ne!(rt; two, Schema::new(rt.alloc(), pairs)?);
+    }
     Ok(())
 }
 
 #[test]
-fn the_first_faulty_pair_decides(rt: HostRuntime) {
+fn the_first_faulty_pair_decides(rt: HostRuntime) -> Result<(), Fail> {
     let cases: [(&[(u8, u16)], SchemaFault); 11] = [
         (&[(0, 8)], SchemaFault::TableNumber),
         (&[(65, 8)], SchemaFault::TableNumber),
@@ -46,10 +70,6 @@ fn the_first_faulty_pair_decides(rt: HostRuntime) {
             Err(found) => assert_eq!(rt; found, fault),
         }
     }
-}
-
-#[test]
-fn faults_are_printed_by_number(rt: HostRuntime) -> Result<(), Fail> {
     for (fault, text) in [
         (SchemaFault::TableNumber, "S1"),
         (SchemaFault::Width, "S2"),
@@ -63,31 +83,7 @@ fn faults_are_printed_by_number(rt: HostRuntime) -> Result<(), Fail> {
 }
 
 #[test]
-fn looks_cover_their_ends(rt: HostRuntime) {
-    let look = Look {
-        table: 1,
-        lo: 10,
-        hi: 20,
-    };
-    for (table, key, covered) in [
-        (1, 9, false),
-        (1, 10, true),
-        (1, 20, true),
-        (1, 21, false),
-        (2, 15, false),
-    ] {
-        assert_eq!(rt; look.covers(table, key), covered, "{table} {key}");
-    }
-    let empty = Look {
-        table: 1,
-        lo: 20,
-        hi: 10,
-    };
-    assert!(rt; !empty.covers(1, 15));
-}
-
-#[test]
-fn each_refused_growth_is_out_of_memory(rt: HostRuntime) {
+fn each_refused_growth_is_out_of_memory(rt: HostRuntime) -> Result<(), Fail> {
     let scarce = Scarce::new(rt.alloc());
     let failed = scarce.refuse_each(|| match Schema::new(&scarce, &[(1, 8), (2, 16), (3, 32)]) {
         Ok(schema) => {
@@ -100,34 +96,7 @@ fn each_refused_growth_is_out_of_memory(rt: HostRuntime) {
         }
     });
     assert_eq!(rt; failed, Some(1));
-}
 
-#[test]
-fn a_full_schema_has_each_table(rt: HostRuntime) -> Result<(), Fail> {
-    let mut pairs = Vec::new(rt.alloc());
-    for table in 1..=64u8 {
-        pairs.push((table, 2 * u16::from(table)))?;
-    }
-    let schema = Schema::new(rt.alloc(), &pairs)?;
-    for table in 1..=64u8 {
-        assert_eq!(rt; schema.width(table), Some(2 * u16::from(table)));
-    }
-    Ok(())
-}
-
-#[test]
-fn schemas_are_equal_by_their_widths(rt: HostRuntime) -> Result<(), Fail> {
-    let schema = Schema::new(rt.alloc(), &[(1, 8), (2, 16)])?;
-    assert_eq!(rt; schema, Schema::new(rt.alloc(), &[(2, 16), (1, 8)])?);
-    assert_ne!(rt; schema, Schema::new(rt.alloc(), &[(1, 8), (2, 17)])?);
-    assert_ne!(rt; schema, Schema::new(rt.alloc(), &[(1, 8), (3, 16)])?);
-    assert_ne!(rt; schema, Schema::new(rt.alloc(), &[(1, 8)])?);
-    Ok(())
-}
-
-#[test]
-fn a_clone_is_equal_or_out_of_memory(rt: HostRuntime) -> Result<(), Fail> {
-    let scarce = Scarce::new(rt.alloc());
     let schema = Schema::new(&scarce, &[(1, 8), (2, 16)])?;
     let failed = scarce.refuse_each(|| match schema.clone() {
         Ok(copy) => {
@@ -141,6 +110,21 @@ fn a_clone_is_equal_or_out_of_memory(rt: HostRuntime) -> Result<(), Fail> {
     });
     assert_eq!(rt; failed, Some(1));
     Ok(())
+}
+
+#[test]
+fn looks_cover_their_ends(rt: HostRuntime) {
+    for (lo, hi, table, key, covered) in [
+        (10, 20, 1, 9, false),
+        (10, 20, 1, 10, true),
+        (10, 20, 1, 20, true),
+        (10, 20, 1, 21, false),
+        (10, 20, 2, 15, false),
+        (20, 10, 1, 15, false),
+    ] {
+        let look = Look { table: 1, lo, hi };
+        assert_eq!(rt; look.covers(table, key), covered, "{lo} {hi} {table} {key}");
+    }
 }
 
 #[test]
