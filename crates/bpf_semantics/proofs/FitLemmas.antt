@@ -1,14 +1,15 @@
 -- Runs on rows of the schema and arguments of bytes stay in states that fit: values, bytes and states.
-use Rattle.std.proofs.Common.{◌≡◌, ◌≢◌, ℕ, zero, suc, ℤ, pos, negsuc, Bool, true, false, cond, ◌+◌, ◌-◌, ◌*◌, ◌^◌, ◌%◌, ◌<◌, ◌≤◌, List, [], ◌∷◌, ◌++◌, length, take, drop, map, Option, Some, None, refl, sym, ap, subst, ◌∙◌, arith, inl, inr, get_or}
-use Rattle.std.specs.Prelude.{◌≤ℤ◌, ◌+ℤ◌, neg_ℤ, unsigned_abs, nat_le, is_some, IsSome, IfSome, All, replicate, slice_index}
+use Rattle.std.proofs.Common.{◌≡◌, ◌≢◌, ℕ, zero, suc, ℤ, pos, negsuc, Bool, true, false, cond, ◌+◌, ◌-◌, ◌*◌, ◌^◌, ◌%◌, ◌<◌, ◌≤◌, List, [], ◌∷◌, ◌++◌, length, take, drop, Option, Some, None, refl, sym, ap, subst, ◌∙◌, arith, inl, inr, get_or}
+use Rattle.std.specs.Prelude.{◌≤ℤ◌, ◌+ℤ◌, neg_ℤ, unsigned_abs, nat_le, is_some, IsSome, IfSome, All, map, slice_index}
 use Rattle.std.specs.Option.{option_map}
 use Rattle.std.specs.Int.{w64, cast_signed, byte_at, bytes_low_first}
 use Rattle.std.proofs.Math.Nat.{pow-succ'}
 use Rattle.std.specs.FinMap.{get}
 use Rattle.std.proofs.lemmas.Bool.Decides.{nat_tests}
 use Rattle.std.proofs.lemmas.Bool.{cases_lt}
+use Rattle.std.proofs.lemmas.Int.{ints}
 use Rattle.std.proofs.lemmas.List.{length-take-le, length-drop, length-append, length-map, get_or_past}
-use Rattle.std.proofs.lemmas.List.Elements.{All-take, All-drop, All-append, All-map, All-get_or, All-head, All-tail}
+use Rattle.std.proofs.lemmas.List.Elements.{All-take, All-drop, All-append, All-map, All-get_or, All-head, All-tail, All-nil, All-cons}
 use Rattle.byteorder.specs.Endian.{little_number, little_from, little_bytes}
 use Rattle.bpf_words.specs.declared.operation.Operation.{Operation}
 use Rattle.bpf_words.specs.declared.operation.Operation.TheVariants.{Binary, Movsx}
@@ -45,12 +46,12 @@ alu_fits Bits64 op a b = alu_below 64 op a b
 near_fits : (z place : ℤ) → near_place z ≡ just place → IsPlace place
 near_fits (pos n) place e =
     elim (nat_le n 65536) as (λ b. nat_le n 65536 ≡ b → cond b (just (pos n)) None ≡ just place → IsPlace place) [
-      | true ↦ λ within h. let near : n ≤ 65536 = grind (arith, nat_tests) in subst IsPlace (some_is (pos n) place h) (tt, near)
+      | true ↦ λ within h. let near : n ≤ 65536 = grind (arith, nat_tests) in subst IsPlace (some_is (pos n) place h) (search (arith, ints, near), search (arith, ints, near))
       | false ↦ λ outside h. absurd cc
     ] refl e
 near_fits (negsuc n) place e =
     elim (nat_le (suc n) 65536) as (λ b. nat_le (suc n) 65536 ≡ b → cond b (just (negsuc n)) None ≡ just place → IsPlace place) [
-      | true ↦ λ within h. let near : suc n ≤ 65536 = grind (arith, nat_tests) in let far : n ≤ 65535 = omega arith in subst IsPlace (some_is (negsuc n) place h) (far, tt)
+      | true ↦ λ within h. let near : suc n ≤ 65536 = grind (arith, nat_tests) in let far : n ≤ 65535 = omega arith in subst IsPlace (some_is (negsuc n) place h) (search (arith, ints, far), search (arith, ints, far))
       | false ↦ λ outside h. absurd cc
     ] refl e
 
@@ -64,7 +65,19 @@ moved_fits (Args place) distance w e = let m = mapped (λ p. Args p) (near_place
 moved_fits Nothing distance w e = absurd cc
 moved_fits (Number n) distance w e = absurd cc
 
-move_fits : (width : Width) (b v : Value) → IsValue b → move_result width b ≡ just v → IsValue v
+-- where it is a place, it is near
+abbrev pub PlaceFits : Value → Type 0
+PlaceFits (Stack place) = IsPlace place
+PlaceFits (Args place) = IsPlace place
+PlaceFits _ = Unit {0}
+
+pub place_part : (v : Value) → IsValue v → PlaceFits v
+place_part Nothing fits = tt
+place_part (Number n) fits = tt
+place_part (Stack place) fits = fits
+place_part (Args place) fits = fits
+
+move_fits : (width : Width) (b v : Value) → PlaceFits b → move_result width b ≡ just v → IsValue v
 move_fits width (Number b) v fits e = subst IsValue (some_is (Number (alu (width_bits width) (Binary Mov) 0 b)) v e) (alu_fits width (Binary Mov) 0 b)
 move_fits Bits64 (Stack place) v fits e = subst IsValue (some_is (Stack place) v e) fits
 move_fits Bits64 (Args place) v fits e = subst IsValue (some_is (Args place) v e) fits
@@ -110,7 +123,7 @@ binary_fits width op (Number a) (Args q) v e = absurd cc
 binary_fits width op (Stack place) (Args q) v e = absurd cc
 binary_fits width op (Args place) (Args q) v e = absurd cc
 
-pub operation_fits : (width : Width) (op : BinaryOperation) (a b v : Value) → IsValue b → operation_result width op a b ≡ just v → IsValue v
+pub operation_fits : (width : Width) (op : BinaryOperation) (a b v : Value) → PlaceFits b → operation_result width op a b ≡ just v → IsValue v
 unfolding operation_result
 operation_fits width op a b v fits e =
     elim (is_move op) as (λ m. cond m (move_result width b) (binary_result width op a b) ≡ just v → IsValue v) [
@@ -150,12 +163,16 @@ pub record AreBytes (count : ℕ) (bytes : List ℕ) : Type 0 where
   pub counted : length bytes ≡ count
   pub each : All (λ b. b < 256) bytes
 
+low_byte : (i x : ℕ) → byte_at i x < 256
+low_byte zero x = omega arith
+low_byte (suc i) x = omega arith
+
 pub low_bytes_are : (n i x : ℕ) → AreBytes n (bytes_low_first i n x)
-low_bytes_are zero i x = record { counted = refl; each = tt }
+low_bytes_are zero i x = record { counted = refl; each = All-nil (λ b. b < 256) }
 low_bytes_are (suc n) i x =
     let rest = low_bytes_are n (suc i) x in
-    let here : byte_at i x < 256 = omega arith in
-    record { counted = ap suc rest.counted; each = (here, rest.each) }
+    let here = low_byte i x in
+    record { counted = ap suc rest.counted; each = All-cons (λ b. b < 256) (byte_at i x) (bytes_low_first (suc i) n x) here rest.each }
 
 index_fits : (place : ℤ) (count all k : ℕ) → index_in place count all ≡ just k → k + count ≤ all
 index_fits (pos n) count all k e =
@@ -167,12 +184,12 @@ index_fits (negsuc n) count all k e = absurd cc
 
 known_fits : (xs : List (Option ℕ)) (bytes : List ℕ) → All IsStackByte xs → known_list xs ≡ just bytes → AreBytes (length xs) bytes
 unfolding known_list
-known_fits [] bytes all e = subst (AreBytes 0) (some_is [] bytes e) (record { counted = refl; each = tt })
+known_fits [] bytes all e = subst (AreBytes 0) (some_is [] bytes e) (record { counted = refl; each = All-nil (λ b. b < 256) })
 known_fits (None ∷ xs) bytes all e = absurd cc
 known_fits (Some b ∷ xs) bytes all e =
     let m = mapped (λ bs. b ∷ bs) (known_list xs) bytes e in
     let rest = known_fits xs m.0 (All-tail IsStackByte (Some b) xs all) m.1 in
-    subst (AreBytes (suc (length xs))) m.2 (record { counted = ap suc rest.counted; each = (All-head IsStackByte (Some b) xs all, rest.each) })
+    subst (AreBytes (suc (length xs))) m.2 (record { counted = ap suc rest.counted; each = All-cons (λ b. b < 256) b m.0 (All-head IsStackByte (just b) xs all) rest.each })
 
 -- the stack's bytes from an index on
 pub stack_part_fits : (stack : List (Option ℕ)) (k count : ℕ) (bytes : List ℕ) → length stack ≡ 512 → All IsStackByte stack → k + count ≤ 512 → known_bytes stack k count ≡ just bytes → AreBytes count bytes
@@ -205,7 +222,7 @@ overwrite_fits stack k count bytes whole are within =
     let a = length-append (take k stack ++ map (λ b. just b) bytes) (drop (k + length bytes) stack) in
     let b = length-append (take k stack) (map (λ b. just b) bytes) in
     let c = length-take-le k stack (omega (arith, whole.long)) in
-    let d = length-map (λ b. just b) bytes in
+    let d : length (map (λ b. just b) bytes) ≡ length bytes = length-map bytes (λ b. just b) in
     let f = length-drop (k + length bytes) stack in
     let counted = are.counted in
     let long = whole.long in

@@ -7,3 +7,4 @@ pub mod TwinLemmas
 pub mod LookLemmas
 pub mod EndLemmas
 pub mod FitLemmas
+pub mod StateLemmas
