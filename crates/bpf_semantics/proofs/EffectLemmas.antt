@@ -139,7 +139,7 @@ execute_keeps rows tables (Call helper) s t e k =
     leaves rows 1 a.0 a.0 t (itself a.0) a.2 (called_keeps rows tables h.0 s a.0 h.2 k)
 execute_keeps rows tables Exit s t e k = let a = going_on _ _ t e in absurd cc
 
-ended_keeps : (rows : Rows) (p : Program) (tables : Tables) (k : ℕ) (s : State) (reply : ℕ) (t : State) → moment p tables k s ≡ Ended reply t → Kept rows s → Kept rows t
+pub ended_keeps : (rows : Rows) (p : Program) (tables : Tables) (k : ℕ) (s : State) (reply : ℕ) (t : State) → moment p tables k s ≡ Ended reply t → Kept rows s → Kept rows t
 ended_keeps rows p tables zero s reply t e kept = absurd (not_ended p tables s reply t e)
 ended_keeps rows p tables (suc k) s reply t e kept =
     elim (step p tables s) as (λ m. step p tables s ≡ m → next_moment (moment p tables k) m ≡ Ended reply t → Kept rows t) [

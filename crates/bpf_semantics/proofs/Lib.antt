@@ -8,3 +8,6 @@ pub mod LookLemmas
 pub mod EndLemmas
 pub mod FitLemmas
 pub mod StateLemmas
+pub mod SparseLemmas
+pub mod NextLemmas
+pub mod MomentLemmas

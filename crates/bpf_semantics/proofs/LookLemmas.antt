@@ -106,7 +106,7 @@ store_leaves tables o s t e = let a = going_on o _ t e in leaves tables 1 s (wit
 set_leaves : (tables : Tables) (n : ℕ) (dst : Register) (v : Value) (s t : State) → with_result n dst v s ≡ Going t → LooksOn tables s.looks t.looks
 set_leaves tables n dst v s t e = leaves tables n s (with_register s dst v) t refl (set_is n dst v s t e)
 
-execute_looks : (tables : Tables) (i : Instruction) (s t : State) → execute tables i s ≡ Going t → LooksOn tables s.looks t.looks
+pub execute_looks : (tables : Tables) (i : Instruction) (s t : State) → execute tables i s ≡ Going t → LooksOn tables s.looks t.looks
 unfolding execute
 execute_looks tables (LoadWide dst value) s t e = set_leaves tables 2 dst _ s t e
 execute_looks tables (Load kind dst src offset) s t e = let a = going_on _ _ t e in set_leaves tables 1 dst _ s t a.2
@@ -145,7 +145,7 @@ grows_by tables s t (inl e) q h = ap (λ (l : List Look). any_covers l q) e ∙ 
 grows_by tables s t (inr (look, known, e)) q h =
     ap (λ (l : List Look). any_covers l q) e ∙ any_append s.looks look q ∙ ap (λ b. b || covers look q) h
 
-execute_grows : (tables : Tables) (i : Instruction) (s t : State) → execute tables i s ≡ Going t → Grows s t
+pub execute_grows : (tables : Tables) (i : Instruction) (s t : State) → execute tables i s ≡ Going t → Grows s t
 execute_grows tables i s t e = grows_by tables s t (execute_looks tables i s t e)
 
 ended_grows : (p : Program) (tables : Tables) (k : ℕ) (s : State) (reply : ℕ) (t : State) → moment p tables k s ≡ Ended reply t → Grows s t

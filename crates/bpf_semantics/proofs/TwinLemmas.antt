@@ -93,12 +93,12 @@ execute_twins m n rows tables Exit s e f agree = or_stuck_twins _ _ _ (λ reply.
 -- ---- whole runs
 
 -- two runs at one moment
-record Together (m n : Rows) (u v : State) : Type 0 where
-  same : v ≡ over v.rows u
-  kept : Kept m u
-  kept_too : Kept n v
+pub record Together (m n : Rows) (u v : State) : Type 0 where
+  pub same : v ≡ over v.rows u
+  pub kept : Kept m u
+  pub kept_too : Kept n v
 
-abbrev AreTogether : Rows → Rows → Moment → Moment → Type 0
+abbrev pub AreTogether : Rows → Rows → Moment → Moment → Type 0
 AreTogether m n (Going u) (Going v) = Together m n u v
 AreTogether m n (Ended r u) (Ended q v) = (q ≡ r) × (v ≡ over v.rows u)
 AreTogether m n Stuck Stuck = Unit {0}
@@ -129,7 +129,7 @@ together m n (Ended r u) Stuck h f g = h
 together m n Stuck (Going v) h f g = h
 together m n Stuck (Ended q v) h f g = h
 
-next_together : (m n : Rows) (p : Program) (tables : Tables) (a b : Moment) → AreTogether m n a b → AgreeOn (any_covers (looks_of (next_moment (step p tables) a))) m n
+pub next_together : (m n : Rows) (p : Program) (tables : Tables) (a b : Moment) → AreTogether m n a b → AgreeOn (any_covers (looks_of (next_moment (step p tables) a))) m n
     → AreTogether m n (next_moment (step p tables) a) (next_moment (step p tables) b)
 next_together m n p tables (Going u) (Going v) h agree =
     let kept : Kept n (over v.rows u) = subst (Kept n) h.same h.kept_too in
@@ -198,7 +198,7 @@ same_on_tables p tables args m n r e agree = same_run p tables args m n r (agree
 
 -- ---- runs that go on, and stuck ones
 
-going_alike : (m n : Rows) (u : State) (b : Moment) → AreTogether m n (Going u) b → b ≡ Going (over (after_writes u.writes n) u)
+pub going_alike : (m n : Rows) (u : State) (b : Moment) → AreTogether m n (Going u) b → b ≡ Going (over (after_writes u.writes n) u)
 going_alike m n u (Going v) h =
     let writes : v.writes ≡ u.writes = ap (λ (x : State). x.writes) h.same in
     let rows : v.rows ≡ after_writes u.writes n = h.kept_too ∙ ap (λ (w : Writes). after_writes w n) writes in
