@@ -20,7 +20,7 @@ use Rattle.bpf_semantics.specs.Memory.{stack_with}
 use Rattle.bpf_semantics.specs.Step.{Going, Ended, Stuck, after_jump, with_result, with_store, execute, step, width_bits}
 use Rattle.bpf_semantics.specs.Run.{next_moment, moment, Run, run_of, run, unless_cancelled}
 use Rattle.bpf_semantics.proofs.StepLemmas.{just, bound, going_on, some_is, going_is, set_is}
-use Rattle.bpf_semantics.proofs.RunLemmas.{moment-front, not_ended, ended_is, exit_is, step_runs, going_runs, ended_runs, run_ended}
+use Rattle.bpf_semantics.proofs.RunLemmas.{first_moment, moment-front, not_ended, ended_is, exit_is, step_runs, going_runs, ended_runs, run_ended}
 
 abbrev pub Kept : Rows → State → Type 0
 Kept rows s = s.rows ≡ after_writes s.writes rows
@@ -150,6 +150,18 @@ ended_keeps rows p tables (suc k) s reply t e kept =
           let runs = step_runs p tables s (Ended r u) is (ended_runs r u) in
           same rows s s (past 0 s) t (itself s) refl refl (exit_is tables runs.0 s r u runs.2 ∙ ended_is r u reply t h) kept
       | Stuck ↦ λ is h. absurd (ended_runs reply t (sym h))
+    ] refl (sym (moment-front p tables k s) ∙ e)
+
+-- while it goes on too
+pub going_keeps : (rows : Rows) (p : Program) (tables : Tables) (k : ℕ) (s t : State) → moment p tables k s ≡ Going t → Kept rows s → Kept rows t
+going_keeps rows p tables zero s t e kept = subst (Kept rows) (going_is s t (first_moment p tables s ∙ e)) kept
+going_keeps rows p tables (suc k) s t e kept =
+    elim (step p tables s) as (λ m. step p tables s ≡ m → next_moment (moment p tables k) m ≡ Going t → Kept rows t) [
+      | Going u ↦ λ is h.
+          let runs = step_runs p tables s (Going u) is (going_runs u) in
+          going_keeps rows p tables k u t h (execute_keeps rows tables runs.0 s u runs.2 kept)
+      | Ended r u ↦ λ is h. absurd cc
+      | Stuck ↦ λ is h. absurd cc
     ] refl (sym (moment-front p tables k s) ∙ e)
 
 -- a run that didn't cancel leaves the rows after its writes

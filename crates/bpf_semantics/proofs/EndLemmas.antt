@@ -9,7 +9,8 @@ use Rattle.bpf_semantics.specs.State.{State, entry_state}
 use Rattle.bpf_semantics.specs.Step.{Moment, Going, Ended, Stuck, or_stuck, execute, step}
 use Rattle.bpf_semantics.specs.Run.{next_moment, moment, run, run_at, run_of}
 use Rattle.bpf_semantics.specs.Path.{fall_through, jump_of}
-use Rattle.bpf_semantics.proofs.StepLemmas.{just, Leads, Steps, execute_leads}
+use Rattle.bpf_semantics.specs.Fit.{Leads}
+use Rattle.bpf_semantics.proofs.StepLemmas.{just, Steps, execute_leads}
 use Rattle.bpf_semantics.proofs.PathLemmas.{fall_further, jump_further}
 use Rattle.bpf_semantics.proofs.RunLemmas.{stuck_stays, ended_stays, step_runs, going_runs, ended_runs}
 

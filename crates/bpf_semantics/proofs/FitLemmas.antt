@@ -43,7 +43,7 @@ pub alu_fits : (width : Width) (op : Operation) (a b : ℕ) → alu (width_bits 
 alu_fits Bits32 op a b = let below : alu 32 op a b < 2 ^ 32 = alu_below 32 op a b in omega arith
 alu_fits Bits64 op a b = alu_below 64 op a b
 
-near_fits : (z place : ℤ) → near_place z ≡ just place → IsPlace place
+pub near_fits : (z place : ℤ) → near_place z ≡ just place → IsPlace place
 near_fits (pos n) place e =
     elim (nat_le n 65536) as (λ b. nat_le n 65536 ≡ b → cond b (just (pos n)) None ≡ just place → IsPlace place) [
       | true ↦ λ within h. let near : n ≤ 65536 = grind (arith, nat_tests) in subst IsPlace (some_is (pos n) place h) (search (arith, ints, near), search (arith, ints, near))
@@ -55,7 +55,7 @@ near_fits (negsuc n) place e =
       | false ↦ λ outside h. absurd cc
     ] refl e
 
-mapped : {X Y : Type 0} (f : X → Y) (o : Option X) (y : Y) → option_map f o ≡ just y → (x : X) × (o ≡ just x) × (f x ≡ y)
+pub mapped : {X Y : Type 0} (f : X → Y) (o : Option X) (y : Y) → option_map f o ≡ just y → (x : X) × (o ≡ just x) × (f x ≡ y)
 mapped f None y e = absurd cc
 mapped f (Some x) y e = (x, refl, some_is (f x) y e)
 

@@ -11,3 +11,5 @@ pub mod StateLemmas
 pub mod SparseLemmas
 pub mod NextLemmas
 pub mod MomentLemmas
+pub mod CallLemmas
+pub mod FitRunLemmas

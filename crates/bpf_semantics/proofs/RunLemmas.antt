@@ -9,9 +9,14 @@ use Rattle.bpf_semantics.specs.State.{State, past, entry_state}
 use Rattle.bpf_semantics.specs.Step.{Moment, Going, Ended, Stuck, or_stuck, after_jump, with_store, execute, step}
 use Rattle.bpf_semantics.specs.Run.{next_moment, moment, Run, run_of, run_at, run}
 use Rattle.bpf_semantics.specs.Path.{fall_through, jump_of, from_there, one_more, path, longest_path}
-use Rattle.bpf_semantics.proofs.StepLemmas.{just, Leads, Steps, execute_leads, set_goes}
+use Rattle.bpf_semantics.specs.Fit.{Leads}
+use Rattle.bpf_semantics.proofs.StepLemmas.{just, Steps, execute_leads, set_goes}
 
 -- ---- the first step first
+
+pub first_moment : (p : Program) (tables : Tables) (s : State) → Going s ≡ moment p tables zero s
+unfolding moment
+first_moment p tables s = refl
 
 pub moment-front : (p : Program) (tables : Tables) (k : ℕ) (s : State) → moment p tables (suc k) s ≡ next_moment (moment p tables k) (step p tables s)
 unfolding moment

@@ -18,6 +18,7 @@ use Rattle.bpf_semantics.specs.Memory.{and_then, stack_with}
 use Rattle.bpf_semantics.specs.Helpers.{Table, state_after_call, row_get, row_put, range_count, range_next, with_stack, with_point_look, with_range_look, with_row_read, with_next_read, look_at, last_seen, row_or_zeros, key_or_zeros, row_of}
 use Rattle.bpf_semantics.specs.Step.{Moment, Going, Ended, Stuck, or_stuck, after_jump, is_read_only, with_result, with_store, execute, width_bits}
 use Rattle.bpf_semantics.specs.Path.{fall_through, slots_of_jump, jump_of}
+use Rattle.bpf_semantics.specs.Fit.{Leads}
 
 -- ---- options and moments
 
@@ -130,11 +131,6 @@ called_place tables Cancel s u e =
     same s s _ u (itself s) refl refl (some_is _ u a.2)
 
 -- ---- where a step leads
-
--- to the next instruction, or to the target of the jump
-abbrev pub Leads : Option ℕ → ℕ → ℕ → Type 0
-Leads None from to = ⊥
-Leads (Some slots) from to = to ≡ from + slots
 
 pub record Steps (i : Instruction) (s t : State) : Type 0 where
   pub leads : Leads (fall_through i) s.slot t.slot ⊎ Leads (jump_of i) s.slot t.slot

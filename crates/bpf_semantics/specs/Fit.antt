@@ -1,7 +1,7 @@
 -- What holds of each state of a run on rows of the schema and arguments of bytes: what registers, stack and writes may
 -- hold, and what a look may be.
-use Rattle.std.specs.Prelude.{◌≡◌, ℕ, ◌<◌, ◌≤◌, ◌^◌, ℤ, pos, negsuc, ◌≤ℤ◌, All, List, length, Option, Some, None, IsSome, IfSome}
-use Rattle.std.specs.FinMap.{get, len}
+use Rattle.std.specs.Prelude.{◌≡◌, ◌⊎◌, ℕ, ◌+◌, ◌<◌, ◌≤◌, ◌^◌, ℤ, pos, negsuc, ◌≤ℤ◌, All, List, [], ◌∷◌, ◌++◌, length, take, drop, map, Option, Some, None, IsSome, IfSome}
+use Rattle.std.specs.FinMap.{get}
 use Rattle.bpf_code.specs.declared.instruction.Register.TheVariants.{R10}
 use Rattle.schema.specs.Schema.{Tables}
 use Rattle.schema.specs.declared.look.Look.{Look}
@@ -9,6 +9,7 @@ use Rattle.schema.specs.Rows.{AreRows, AreWrites}
 use Rattle.bpf_semantics.specs.declared.value.Value.{Value}
 use Rattle.bpf_semantics.specs.declared.value.Value.TheVariants.{Nothing, Number, Stack, Args}
 use Rattle.bpf_semantics.specs.State.{State, register}
+use Rattle.bpf_semantics.specs.Memory.{stack_index}
 use Rattle.bpf_semantics.specs.Run.{Run}
 
 -- a place is at most 65,536 away
@@ -46,11 +47,6 @@ pub record IsState (tables : Tables) (s : State) : Type 0 where
   pub looks : All (IsLook tables) s.looks
   pub code : IfSome s.cancel_code (λ code. code < 2 ^ 64)
 
--- each step makes at most one look or one write
-pub record IsSparse (steps : ℕ) (looks : ℕ) (writes : ℕ) : Type 0 where
-  pub looks_at_most : looks ≤ steps
-  pub writes_at_most : writes ≤ steps
-
 -- what came of such a run
 pub record IsRunOf (tables : Tables) (r : Run) : Type 0 where
   pub reply : r.reply < 2 ^ 64
@@ -58,3 +54,23 @@ pub record IsRunOf (tables : Tables) (r : Run) : Type 0 where
   pub writes : AreWrites tables r.writes
   pub looks : All (IsLook tables) r.looks
   pub code : IfSome r.cancel_code (λ code. code < 2 ^ 64)
+
+-- ---- what a step adds
+
+-- the slot behind the instruction or the one that it jumps to, so many slots on
+abbrev pub Leads : Option ℕ → ℕ → ℕ → Type 0
+Leads None from to = ⊥
+Leads (Some slots) from to = to ≡ from + slots
+
+-- the same looks, or one more
+abbrev pub AddsAtMostOne : List Look → List Look → Type 0
+AddsAtMostOne before after = (after ≡ before) ⊎ ((look : Look) × (after ≡ before ++ look ∷ []))
+
+-- what a put leaves: the bytes of the table's width that stood on the stack, as the row at its key and as the write of
+-- that key
+pub record PutLeaves (s t : State) (table key width : ℕ) (place : ℤ) (bytes : List ℕ) : Type 0 where
+  pub from : ℕ
+  pub at : stack_index place width ≡ Some from
+  pub read : take width (drop from s.stack) ≡ map (λ b. Some b) bytes
+  pub row : get t.rows (table, key) ≡ Some bytes
+  pub write : get t.writes (table, key) ≡ Some (Some bytes)
