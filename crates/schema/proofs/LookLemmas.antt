@@ -32,7 +32,7 @@ found_covered look rows q t = found look rows q ∙ ap (λ b. cond b (get rows q
 
 -- ---- entries in order
 
-split_and : (a b : Bool) → T (a && b) → T a × T b
+pub split_and : (a b : Bool) → T (a && b) → T a × T b
 split_and true b p = (tt, p)
 split_and false b p = absurd p
 

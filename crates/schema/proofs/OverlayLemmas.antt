@@ -15,7 +15,7 @@ use Rattle.schema.specs.Rows.{Key, key_cmp, Rows, covers, count_in, first_in, Ag
 use Rattle.schema.specs.Rows.{Writes, after_write, after_write_list, after_writes, puts, rows_under, rows_elsewhere, lesser_row}
 use Rattle.schema.proofs.RowsLemmas.{is_key, one_key, here, same_rows, get-after_write, get-after_write_list, get-after_writes, get-puts}
 use Rattle.schema.proofs.SplitLemmas.{get-kept, count_parts, inside_look, low_inside, rows_above, same_place}
-use Rattle.schema.proofs.LookLemmas.{above_all, in_order, rows_in_agree, is_first, first_is, vacant_where_no_first, no_first_where_vacant, zero_where_vacant}
+use Rattle.schema.proofs.LookLemmas.{split_and, above_all, in_order, rows_in_agree, is_first, first_is, vacant_where_no_first, no_first_where_vacant, zero_where_vacant}
 use Rattle.schema.proofs.CountLemmas.{count_new, count_absent, count_outside}
 
 -- ---- counts in two parts
@@ -51,10 +51,6 @@ count_after look writes rows = count_parts look look look (after_writes writes r
     ∙ ap (λ x. cond (covers look q) x None) (sym (get-kept rows (λ k. not (contains_key writes k)) q)))
 
 -- ---- counts along the writes
-
-split_and : (a b : Bool) → T (a && b) → T a × T b
-split_and true b p = (tt, p)
-split_and false b p = absurd p
 
 not_equal : (o : Ordering) → T (is_lt o) → is_eq o ≡ false
 not_equal Less p = refl

@@ -1,11 +1,11 @@
 -- When writes and looks share a key.
 use Rattle.std.proofs.Common.{◌≡◌, ℕ, List, [], ◌∷◌, refl, sym, ap, subst, ◌∙◌, Bool, true, false, cond}
-use Rattle.std.specs.Prelude.{IsTrue, IsFalse, IsSome, Option, Some, None, is_some, ◌||◌, Any, map}
+use Rattle.std.specs.Prelude.{IsTrue, IsSome, Option, Some, None, is_some, ◌||◌, Any, map}
 use Rattle.std.specs.List.{list_any}
-use Rattle.std.specs.FinMap.{get, entries, get-entries, find}
+use Rattle.std.specs.FinMap.{get, keys, entries, get-entries, find}
 use Rattle.std.proofs.lemmas.List.Folds.{Any-from_list_any, list_any-from_Any}
 use Rattle.schema.specs.declared.look.Look.{Look}
-use Rattle.schema.specs.Rows.{Key, key_cmp, covers, any_covers, Writes, shares_key}
+use Rattle.schema.specs.Rows.{Key, key_cmp, covers, any_covers, Writes}
 use Rattle.schema.proofs.RowsLemmas.{is_key, one_key, same_key}
 
 -- ---- several looks
@@ -47,22 +47,23 @@ any_of p k (e ∷ es) passes some = elim (is_key k e.0) as (λ b. is_key k e.0 �
   | false ↦ λ _ rest. or_true (p e.0) _ (any_of p k es passes rest)
 ] refl some
 
-pub shared : (looks : List Look) (writes : Writes) → IsTrue (shares_key looks writes) → (k : Key) × IsTrue (any_covers looks k) × IsSome (get writes k)
+-- of the test that `shares_key` is
+pub shared : (looks : List Look) (writes : Writes) → list_any (any_covers looks) (keys writes) ≡ true → (k : Key) × IsTrue (any_covers looks k) × IsSome (get writes k)
 shared looks writes t =
     let at : Common (any_covers looks) (entries writes) = common (any_covers looks) (entries writes) t in
     (at.0, at.1, subst IsSome (sym (get-entries writes at.0)) at.2)
 
-pub shares : (looks : List Look) (writes : Writes) (k : Key) → IsTrue (any_covers looks k) → IsSome (get writes k) → IsTrue (shares_key looks writes)
+pub shares : (looks : List Look) (writes : Writes) (k : Key) → IsTrue (any_covers looks k) → IsSome (get writes k) → list_any (any_covers looks) (keys writes) ≡ true
 shares looks writes k covered some = any_of (any_covers looks) k (entries writes) covered (subst IsSome (get-entries writes k) some)
 
-pub apart : (looks : List Look) (writes : Writes) → IsFalse (shares_key looks writes) → (k : Key) → IsTrue (any_covers looks k) → get writes k ≡ None
+pub apart : (looks : List Look) (writes : Writes) → list_any (any_covers looks) (keys writes) ≡ false → (k : Key) → IsTrue (any_covers looks k) → get writes k ≡ None
 apart looks writes f k covered = elim (get writes k) as (λ w. get writes k ≡ w → w ≡ None) [
   | None ↦ λ e. refl
   | Some w ↦ λ e. absurd (let both = shares looks writes k covered (ap is_some e) in cc)
 ] refl
 
-pub shares_none : (looks : List Look) (writes : Writes) → ((k : Key) → IsTrue (any_covers looks k) → get writes k ≡ None) → IsFalse (shares_key looks writes)
-shares_none looks writes none = elim (shares_key looks writes) as (λ b. shares_key looks writes ≡ b → b ≡ false) [
+pub shares_none : (looks : List Look) (writes : Writes) → ((k : Key) → IsTrue (any_covers looks k) → get writes k ≡ None) → list_any (any_covers looks) (keys writes) ≡ false
+shares_none looks writes none = elim (list_any (any_covers looks) (keys writes)) as (λ b. list_any (any_covers looks) (keys writes) ≡ b → b ≡ false) [
   | true ↦ λ t. absurd (
       let at : (k : Key) × IsTrue (any_covers looks k) × IsSome (get writes k) = shared looks writes t in
       let some = at.2 in
