@@ -28,7 +28,8 @@ use Rattle.bpf_code.specs.declared.opcode.Opcode.TheVariants as opcode
 use Rattle.bpf_code.specs.Register.{number_of, register_of}
 use Rattle.bpf_code.specs.Opcode.{byte_of, opcode_of, binary_of, branch_of, memory_of}
 use Rattle.bpf_code.specs.Reading.{reading_of, half_reading_of, uses_of, unused_are_zero, instruction_of, on_register, operation_of, extension_of, end_width_of}
-use Rattle.bpf_code.specs.Spelling.{slot, fields_of, second_half, code_of, operation_offset, extension_width, extension_offset, end_immediate}
+use Rattle.bpf_code.specs.Spelling.{slot, fields_of, second_half, code_of, operation_offset, extension_offset, end_immediate}
+use Rattle.bpf_code.specs.Sizes.{extension_width}
 
 register_again : (r : Register) → register_of (number_of r) ≡ Some r
 register_again R0 = refl

@@ -1,4 +1,5 @@
 pub mod Register
+pub mod Sizes
 pub mod Opcode
 pub mod Fields
 pub mod Fault

@@ -20,6 +20,7 @@ use Rattle.bpf_code.specs.declared.opcode.SourceKind.TheVariants.{Immediate, Reg
 use Rattle.bpf_code.specs.declared.opcode.Opcode.{Opcode}
 use Rattle.bpf_code.specs.declared.opcode.Opcode.TheVariants as opcode
 use Rattle.bpf_code.specs.Register.{number_of}
+use Rattle.bpf_code.specs.Sizes.{extension_width}
 use Rattle.bpf_code.specs.Opcode.{byte_of}
 use Rattle.bpf_code.specs.Fields.{bytes_of}
 
@@ -44,13 +45,6 @@ abbrev pub operation_offset : BinaryOperation → ℤ
 operation_offset operation.Sdiv = pos 1
 operation_offset operation.Smod = pos 1
 operation_offset _ = pos 0
-
-abbrev pub extension_width : SignExtendingMove → Width
-extension_width From8To32 = Bits32
-extension_width From16To32 = Bits32
-extension_width From8To64 = Bits64
-extension_width From16To64 = Bits64
-extension_width From32To64 = Bits64
 
 abbrev pub extension_offset : SignExtendingMove → ℤ
 extension_offset From8To32 = pos 8

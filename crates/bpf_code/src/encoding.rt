@@ -1,5 +1,5 @@
 ghost use Rattle.std.specs.Prelude.{◌≡◌, ◌<◌, ◌≤◌, ◌++◌, ◌*◌, ◌+◌, IfOk, OnOk, None, Some, ℤ, pos};
-ghost use Rattle.bpf_code.specs.Spelling.{code_of, operation_offset, extension_width as width_of};
+ghost use Rattle.bpf_code.specs.Spelling.{code_of, operation_offset};
 ghost use Rattle.bpf_code.specs.Spelling.{extension_offset as offset_of, end_immediate, fields_of};
 ghost use Rattle.bpf_code.specs.Spelling.{second_slot, instruction_bytes};
 ghost use Rattle.bpf_code.specs.Program.{spelling, spelling_at};
@@ -90,7 +90,7 @@ impl Instruction {
             }
             Instruction::Negate { width, dst } => slot(Opcode::Negate(width), dst, none, 0, 0),
             Instruction::MoveSignExtended { kind, dst, src } => {
-                let width = extension_width(kind);
+                let width = kind.width();
                 let opcode = Opcode::Arithmetic(width, ArithmeticCode::Mov, SourceKind::Register);
                 slot(opcode, dst, src, extension_offset(kind), 0)
             }
@@ -191,17 +191,6 @@ fn arithmetic_offset(operation: BinaryOperation) -> i16
     match operation {
         BinaryOperation::Sdiv | BinaryOperation::Smod => 1,
         _ => 0,
-    }
-}
-
-fn extension_width(kind: SignExtendingMove) -> Width
-    ensures { result ≡ width_of kind }
-{
-    match kind {
-        SignExtendingMove::From8To32 | SignExtendingMove::From16To32 => Width::Bits32,
-        SignExtendingMove::From8To64
-        | SignExtendingMove::From16To64
-        | SignExtendingMove::From32To64 => Width::Bits64,
     }
 }
 

@@ -1,4 +1,5 @@
-ghost use Rattle.std.specs.Prelude.{◌≡◌, IfSome};
+ghost use Rattle.std.specs.Prelude.{◌≡◌, ◌≤◌, IfSome};
+ghost use Rattle.bpf_code.specs.Sizes.{width_bits, size_bytes, load_bytes, extension_width};
 ghost use Rattle.bpf_code.specs.Register.{number_of, register_of};
 
 use bpf_words::{BinaryOperation, ByteOrder, Condition, EndWidth};
@@ -68,6 +69,18 @@ pub enum Width {
     Bits64,
 }
 
+impl Width {
+    /// The number of bits.
+    pub fn bits(self) -> u8
+        ensures { result ≡ width_bits self }
+    {
+        match self {
+            Width::Bits32 => 32,
+            Width::Bits64 => 64,
+        }
+    }
+}
+
 /// How much a store writes (RFC 9669 section 5).
 #[derive(Clone, Copy, Debug, PartialEq, Eq)]
 pub enum Size {
@@ -81,6 +94,21 @@ pub enum Size {
     DoubleWord,
 }
 
+impl Size {
+    /// How many bytes it writes.
+    pub fn bytes(self) -> u8
+        ensures count { result ≡ size_bytes self }
+        ensures few { result ≤ 8 }
+    {
+        match self {
+            Size::Byte => 1,
+            Size::HalfWord => 2,
+            Size::Word => 4,
+            Size::DoubleWord => 8,
+        }
+    }
+}
+
 /// What a load reads, as Rust names the type: the unsigned ones are zero-extended to 64 bits, the
 /// signed ones sign-extended (RFC 9669 sections 5.1 and 5.2).
 #[derive(Clone, Copy, Debug, PartialEq, Eq)]
@@ -92,6 +120,21 @@ pub enum LoadKind {
     I8,
     I16,
     I32,
+}
+
+impl LoadKind {
+    /// How many bytes it reads.
+    pub fn bytes(self) -> u8
+        ensures count { result ≡ load_bytes self }
+        ensures few { result ≤ 8 }
+    {
+        match self {
+            LoadKind::U8 | LoadKind::I8 => 1,
+            LoadKind::U16 | LoadKind::I16 => 2,
+            LoadKind::U32 | LoadKind::I32 => 4,
+            LoadKind::U64 => 8,
+        }
+    }
 }
 
 /// The second operand: a register or the instruction's immediate (RFC 9669 section 4).
@@ -109,6 +152,20 @@ pub enum SignExtendingMove {
     From8To64,
     From16To64,
     From32To64,
+}
+
+impl SignExtendingMove {
+    /// The width that it extends to.
+    pub fn width(self) -> Width
+        ensures { result ≡ extension_width self }
+    {
+        match self {
+            SignExtendingMove::From8To32 | SignExtendingMove::From16To32 => Width::Bits32,
+            SignExtendingMove::From8To64
+            | SignExtendingMove::From16To64
+            | SignExtendingMove::From32To64 => Width::Bits64,
+        }
+    }
 }
 
 /// An instruction. Each value is spelled by one string of 8 bytes, the wide load by one of 16.

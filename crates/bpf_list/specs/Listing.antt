@@ -1,5 +1,5 @@
 -- The listing of a program: a line for each instruction.
-use Rattle.std.specs.Prelude.{ℕ, ◌+◌, ◌-◌, List, [], ◌∷◌, ◌++◌, length, replicate, codes, Option, Some, None}
+use Rattle.std.specs.Prelude.{ℕ, ◌+◌, ◌-◌, ◌*◌, List, [], ◌∷◌, ◌++◌, length, replicate, codes, Option, Some, None}
 use Rattle.std.specs.Fmt.{decimal, signed_decimal}
 use Rattle.hex.specs.Hex.{encode_lower}
 use Rattle.bpf_words.specs.declared.operation.BinaryOperation.{BinaryOperation}
@@ -8,16 +8,13 @@ use Rattle.bpf_words.specs.declared.operation.ByteOrder.TheVariants.{Little, Big
 use Rattle.bpf_words.specs.declared.condition.Condition.{Condition}
 use Rattle.bpf_words.specs.declared.condition.Condition.TheVariants as condition
 use Rattle.bpf_code.specs.declared.fields.Fields.{Fields}
-use Rattle.bpf_code.specs.declared.instruction.Width.{Width}
-use Rattle.bpf_code.specs.declared.instruction.Width.TheVariants.{Bits32, Bits64}
-use Rattle.bpf_code.specs.declared.instruction.Size.{Size}
-use Rattle.bpf_code.specs.declared.instruction.Size.TheVariants.{Byte, HalfWord, Word, DoubleWord}
 use Rattle.bpf_code.specs.declared.instruction.LoadKind.{LoadKind}
-use Rattle.bpf_code.specs.declared.instruction.LoadKind.TheVariants.{U8, U16, U32, U64, I8, I16, I32}
+use Rattle.bpf_code.specs.declared.instruction.LoadKind.TheVariants.{I8, I16, I32}
 use Rattle.bpf_code.specs.declared.instruction.Instruction.{Instruction}
 use Rattle.bpf_code.specs.declared.instruction.Instruction.TheVariants.{LoadWide, Load, StoreImmediate, StoreRegister, Arithmetic, Negate, MoveSignExtended, End, Jump, LongJump, Branch, Call, Exit}
 use Rattle.bpf_code.specs.Fields.{bytes_of}
-use Rattle.bpf_code.specs.Spelling.{fields_of, second_slot, extension_width}
+use Rattle.bpf_code.specs.Spelling.{fields_of, second_slot}
+use Rattle.bpf_code.specs.Sizes.{width_bits, size_bytes, load_bytes, extension_width}
 use Rattle.bpf_code.specs.Program.{Program}
 
 -- ---- names
@@ -51,32 +48,19 @@ condition_name condition.Le = codes "jle"
 condition_name condition.Slt = codes "jslt"
 condition_name condition.Sle = codes "jsle"
 
-abbrev pub width_bits : Width → ℕ
-width_bits Bits32 = 32
-width_bits Bits64 = 64
-
-abbrev pub size_bits : Size → ℕ
-size_bits Byte = 8
-size_bits HalfWord = 16
-size_bits Word = 32
-size_bits DoubleWord = 64
-
--- a load's name and the bits that it loads
-abbrev pub load_name : LoadKind → List ℕ × ℕ
-load_name U8 = (codes "ldx", 8)
-load_name U16 = (codes "ldx", 16)
-load_name U32 = (codes "ldx", 32)
-load_name U64 = (codes "ldx", 64)
-load_name I8 = (codes "ldsx", 8)
-load_name I16 = (codes "ldsx", 16)
-load_name I32 = (codes "ldsx", 32)
+-- a load's name
+abbrev pub load_name : LoadKind → List ℕ
+load_name I8 = codes "ldsx"
+load_name I16 = codes "ldsx"
+load_name I32 = codes "ldsx"
+load_name _ = codes "ldx"
 
 -- a name, and the bits that follow it where they do
 abbrev pub name_parts : Instruction → List ℕ × Option ℕ
 name_parts (LoadWide _ _) = (codes "lddw", None)
-name_parts (Load kind _ _ _) = ((load_name kind).0, Some (load_name kind).1)
-name_parts (StoreImmediate size _ _ _) = (codes "st", Some (size_bits size))
-name_parts (StoreRegister size _ _ _) = (codes "stx", Some (size_bits size))
+name_parts (Load kind _ _ _) = (load_name kind, Some (8 * load_bytes kind))
+name_parts (StoreImmediate size _ _ _) = (codes "st", Some (8 * size_bytes size))
+name_parts (StoreRegister size _ _ _) = (codes "stx", Some (8 * size_bytes size))
 name_parts (Arithmetic width op _ _) = (operation_name op, Some (width_bits width))
 name_parts (Negate width _) = (codes "neg", Some (width_bits width))
 name_parts (MoveSignExtended kind _ _) = (codes "movsx", Some (width_bits (extension_width kind)))

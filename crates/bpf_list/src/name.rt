@@ -1,11 +1,9 @@
 //! What instructions are called in a listing.
 
-ghost use Rattle.std.specs.Prelude.{◌≡◌, ◌≤◌, length, Some};
-ghost use Rattle.bpf_code.specs.Spelling.{extension_width};
-ghost use Rattle.bpf_list.specs.Listing.{operation_name, condition_name, width_bits as bits_of_width};
-ghost use Rattle.bpf_list.specs.Listing.{size_bits as bits_of_size, load_name, name_parts};
+ghost use Rattle.std.specs.Prelude.{◌≡◌, ◌≤◌, length};
+ghost use Rattle.bpf_list.specs.Listing.{operation_name, condition_name, load_name, name_parts};
 
-use bpf_code::{Instruction, LoadKind, SignExtendingMove, Size, Width};
+use bpf_code::{Instruction, LoadKind};
 use bpf_words::{BinaryOperation, ByteOrder, Condition};
 
 /// A name, and the bits that follow it where they do.
@@ -16,16 +14,16 @@ pub fn name(instruction: Instruction) -> (&'static str, Option<u8>)
 {
     match instruction {
         Instruction::LoadWide { .. } => ("lddw", None),
-        Instruction::Load { kind, .. } => load(kind),
-        Instruction::StoreImmediate { size, .. } => ("st", Some(size_bits(size))),
-        Instruction::StoreRegister { size, .. } => ("stx", Some(size_bits(size))),
+        Instruction::Load { kind, .. } => (load(kind), Some(8 * kind.bytes())),
+        Instruction::StoreImmediate { size, .. } => ("st", Some(8 * size.bytes())),
+        Instruction::StoreRegister { size, .. } => ("stx", Some(8 * size.bytes())),
         Instruction::Arithmetic {
             width,
             operation,
             ..
-        } => (arithmetic(operation), Some(width_bits(width))),
-        Instruction::Negate { width, .. } => ("neg", Some(width_bits(width))),
-        Instruction::MoveSignExtended { kind, .. } => ("movsx", Some(extended_bits(kind))),
+        } => (arithmetic(operation), Some(width.bits())),
+        Instruction::Negate { width, .. } => ("neg", Some(width.bits())),
+        Instruction::MoveSignExtended { kind, .. } => ("movsx", Some(kind.width().bits())),
         Instruction::End { order, .. } => match order {
             ByteOrder::Little => ("le", None),
             ByteOrder::Big => ("be", None),
@@ -37,24 +35,18 @@ pub fn name(instruction: Instruction) -> (&'static str, Option<u8>)
             width,
             condition,
             ..
-        } => (branch(condition), Some(width_bits(width))),
+        } => (branch(condition), Some(width.bits())),
         Instruction::Call { .. } => ("call", None),
         Instruction::Exit => ("exit", None),
     }
 }
 
-fn load(kind: LoadKind) -> (&'static str, Option<u8>)
-    ensures text { result.0.now ≡ (load_name kind).0 }
-    ensures bits { result.1 ≡ Some (load_name kind).1 }
+fn load(kind: LoadKind) -> &'static str
+    ensures { result.now ≡ load_name kind }
 {
     match kind {
-        LoadKind::U8 => ("ldx", Some(8)),
-        LoadKind::U16 => ("ldx", Some(16)),
-        LoadKind::U32 => ("ldx", Some(32)),
-        LoadKind::U64 => ("ldx", Some(64)),
-        LoadKind::I8 => ("ldsx", Some(8)),
-        LoadKind::I16 => ("ldsx", Some(16)),
-        LoadKind::I32 => ("ldsx", Some(32)),
+        LoadKind::U8 | LoadKind::U16 | LoadKind::U32 | LoadKind::U64 => "ldx",
+        LoadKind::I8 | LoadKind::I16 | LoadKind::I32 => "ldsx",
     }
 }
 
@@ -94,36 +86,5 @@ fn branch(condition: Condition) -> &'static str
         Condition::Le => "jle",
         Condition::Slt => "jslt",
         Condition::Sle => "jsle",
-    }
-}
-
-fn width_bits(width: Width) -> u8
-    ensures { result ≡ bits_of_width width }
-{
-    match width {
-        Width::Bits32 => 32,
-        Width::Bits64 => 64,
-    }
-}
-
-fn size_bits(size: Size) -> u8
-    ensures { result ≡ bits_of_size size }
-{
-    match size {
-        Size::Byte => 8,
-        Size::HalfWord => 16,
-        Size::Word => 32,
-        Size::DoubleWord => 64,
-    }
-}
-
-fn extended_bits(kind: SignExtendingMove) -> u8
-    ensures { result ≡ bits_of_width (extension_width kind) }
-{
-    match kind {
-        SignExtendingMove::From8To32 | SignExtendingMove::From16To32 => 32,
-        SignExtendingMove::From8To64
-        | SignExtendingMove::From16To64
-        | SignExtendingMove::From32To64 => 64,
     }
 }

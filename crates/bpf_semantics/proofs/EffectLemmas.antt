@@ -6,6 +6,7 @@ use Rattle.bpf_words.specs.Condition.{holds}
 use Rattle.bpf_code.specs.declared.instruction.Register.{Register}
 use Rattle.bpf_code.specs.declared.instruction.Instruction.{Instruction}
 use Rattle.bpf_code.specs.declared.instruction.Instruction.TheVariants.{LoadWide, Load, StoreImmediate, StoreRegister, Arithmetic, Negate, MoveSignExtended, End, Jump, LongJump, Branch, Call, Exit}
+use Rattle.bpf_code.specs.Sizes.{width_bits}
 use Rattle.bpf_code.specs.Program.{Program}
 use Rattle.schema.specs.Schema.{Tables}
 use Rattle.schema.specs.Rows.{Key, Rows, Writes, row_at, first_in, after_write, with_write, after_writes}
@@ -17,7 +18,7 @@ use Rattle.bpf_semantics.specs.declared.value.Value.{Value}
 use Rattle.bpf_semantics.specs.State.{State, with_register, past, entry_state}
 use Rattle.bpf_semantics.specs.Helpers.{Table, state_after_call, row_get, row_put, range_next, with_stack, with_point_look, with_range_look, with_row_read, with_next_read, look_at, last_seen, row_or_zeros, key_or_zeros, row_of}
 use Rattle.bpf_semantics.specs.Memory.{stack_with}
-use Rattle.bpf_semantics.specs.Step.{Going, Ended, Stuck, after_jump, with_result, with_store, execute, step, width_bits}
+use Rattle.bpf_semantics.specs.Step.{Going, Ended, Stuck, after_jump, with_result, with_store, execute, step}
 use Rattle.bpf_semantics.specs.Run.{next_moment, moment, Run, run_of, run, unless_cancelled}
 use Rattle.bpf_semantics.proofs.StepLemmas.{just, bound, going_on, some_is, going_is, set_is}
 use Rattle.bpf_semantics.proofs.RunLemmas.{first_moment, moment-front, not_ended, ended_is, exit_is, step_runs, going_runs, ended_runs, run_ended}

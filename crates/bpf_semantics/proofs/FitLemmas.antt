@@ -22,12 +22,13 @@ use Rattle.bpf_code.specs.declared.instruction.Width.{Width}
 use Rattle.bpf_code.specs.declared.instruction.Width.TheVariants.{Bits32, Bits64}
 use Rattle.bpf_code.specs.declared.instruction.LoadKind.{LoadKind}
 use Rattle.bpf_code.specs.declared.instruction.LoadKind.TheVariants.{U8, U16, U32, U64, I8, I16, I32}
+use Rattle.bpf_code.specs.Sizes.{load_bytes, width_bits}
 use Rattle.bpf_semantics.specs.declared.value.Value.{Value}
 use Rattle.bpf_semantics.specs.declared.value.Value.TheVariants.{Nothing, Number, Stack, Args}
 use Rattle.bpf_semantics.specs.State.{number}
 use Rattle.bpf_semantics.specs.Helpers.{buffer_of}
-use Rattle.bpf_semantics.specs.Memory.{and_then, load_bytes, load_value, index_in, stack_index, known_list, known_bytes, stack_with, stack_bytes, args_bytes, memory_bytes, stack_with_store, memory_with_store}
-use Rattle.bpf_semantics.specs.Step.{width_bits, near_place, moved_place, is_move, move_result, place_result, binary_result, operation_result}
+use Rattle.bpf_semantics.specs.Memory.{and_then, load_value, index_in, stack_index, known_list, known_bytes, stack_with, stack_bytes, args_bytes, memory_bytes, stack_with_store, memory_with_store}
+use Rattle.bpf_semantics.specs.Step.{near_place, moved_place, is_move, move_result, place_result, binary_result, operation_result}
 use Rattle.bpf_semantics.specs.Fit.{IsPlace, IsValue, IsStackByte}
 use Rattle.bpf_semantics.proofs.StepLemmas.{just, bound, some_is}
 

@@ -6,6 +6,7 @@ use Rattle.bpf_words.specs.Condition.{holds}
 use Rattle.bpf_code.specs.declared.instruction.Register.{Register}
 use Rattle.bpf_code.specs.declared.instruction.Instruction.{Instruction}
 use Rattle.bpf_code.specs.declared.instruction.Instruction.TheVariants.{LoadWide, Load, StoreImmediate, StoreRegister, Arithmetic, Negate, MoveSignExtended, End, Jump, LongJump, Branch, Call, Exit}
+use Rattle.bpf_code.specs.Sizes.{width_bits}
 use Rattle.bpf_code.specs.Program.{Program}
 use Rattle.schema.specs.Schema.{Tables}
 use Rattle.schema.specs.declared.look.Look.{Look}
@@ -16,7 +17,7 @@ use Rattle.schema.specs.declared.helper.Helper.TheVariants.{RowGet, RowPut, RowD
 use Rattle.bpf_semantics.specs.State.{State, past, with_register, entry_state}
 use Rattle.bpf_semantics.specs.Memory.{stack_with}
 use Rattle.bpf_semantics.specs.Helpers.{Table, table_of, with_look, range_count, state_after_call, row_get, row_put, range_next, with_stack, with_point_look, with_range_look, with_row_read, with_next_read, look_at, last_seen, row_or_zeros, key_or_zeros, row_of}
-use Rattle.bpf_semantics.specs.Step.{Going, Ended, Stuck, after_jump, with_result, with_store, execute, step, width_bits}
+use Rattle.bpf_semantics.specs.Step.{Going, Ended, Stuck, after_jump, with_result, with_store, execute, step}
 use Rattle.bpf_semantics.specs.Run.{next_moment, moment, Run, run}
 use Rattle.bpf_semantics.specs.Agree.{looks_of, AgreeOnLooks, in_tables}
 use Rattle.std.proofs.lemmas.Bool.Decides.{nat_tests}

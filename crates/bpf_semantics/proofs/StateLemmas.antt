@@ -21,7 +21,7 @@ use Rattle.bpf_code.specs.declared.instruction.Source.TheVariants as source
 use Rattle.bpf_code.specs.declared.instruction.Instruction.{Instruction}
 use Rattle.bpf_code.specs.declared.instruction.Instruction.TheVariants.{LoadWide, Load, StoreImmediate, StoreRegister, Arithmetic, Negate, MoveSignExtended, End, Jump, LongJump, Branch, Call, Exit}
 use Rattle.bpf_code.specs.Register.{number_of}
-use Rattle.bpf_code.specs.Spelling.{extension_width}
+use Rattle.bpf_code.specs.Sizes.{size_bytes, load_bytes, width_bits, extension_width}
 use Rattle.bpf_code.specs.Program.{Program, instruction_at, IsInRange, AllInRange}
 use Rattle.std.proofs.lemmas.Int.{ints}
 use Rattle.std.specs.Int.{w64, cast_unsigned}
@@ -37,10 +37,10 @@ use Rattle.schema.proofs.SplitLemmas.{inside_look}
 use Rattle.bpf_semantics.specs.declared.value.Value.{Value}
 use Rattle.bpf_semantics.specs.declared.value.Value.TheVariants.{Nothing, Number, Stack, Args}
 use Rattle.bpf_semantics.specs.State.{State, register, with_register, past, entry_state, number}
-use Rattle.bpf_semantics.specs.Memory.{size_bytes, load_bytes, stack_with, known_bytes, memory_bytes, memory_with_store}
+use Rattle.bpf_semantics.specs.Memory.{stack_with, known_bytes, memory_bytes, memory_with_store}
 use Rattle.bpf_semantics.specs.Helpers.{Table, table_of, state_after_call, row_get, row_put, range_count, range_next, with_answer, with_stack, with_look, with_point_look, with_range_look, with_row_write, with_row_read, with_next_read, look_at, last_seen, row_or_zeros, key_or_zeros, row_of, flag}
 use Rattle.bpf_semantics.specs.Run.{moment, next_moment}
-use Rattle.bpf_semantics.specs.Step.{Moment, Going, Ended, Stuck, operand, low_bits, width_bits, is_read_only, after_jump, with_result, with_store, execute, step}
+use Rattle.bpf_semantics.specs.Step.{Moment, Going, Ended, Stuck, operand, low_bits, is_read_only, after_jump, with_result, with_store, execute, step}
 use Rattle.bpf_semantics.specs.Fit.{IsPlace, IsValue, IsStackByte, IsLook, IsState}
 use Rattle.bpf_semantics.proofs.StepLemmas.{just, bound, going_on, some_is, going_is, set_goes}
 use Rattle.bpf_semantics.proofs.RunLemmas.{ending, jump_goes, branch_goes, store_goes, exit_is, step_runs, going_runs, ended_runs}

@@ -7,6 +7,7 @@ use Rattle.bpf_code.specs.declared.instruction.Register.{Register}
 use Rattle.bpf_code.specs.declared.instruction.Register.TheVariants.{R3, R4, R5}
 use Rattle.bpf_code.specs.declared.instruction.Instruction.{Instruction}
 use Rattle.bpf_code.specs.declared.instruction.Instruction.TheVariants.{LoadWide, Load, StoreImmediate, StoreRegister, Arithmetic, Negate, MoveSignExtended, End, Jump, LongJump, Branch, Call, Exit}
+use Rattle.bpf_code.specs.Sizes.{width_bits}
 use Rattle.schema.specs.Schema.{Tables}
 use Rattle.schema.specs.Rows.{Key, row_at, first_in}
 use Rattle.schema.specs.Helper.{helper_of}
@@ -16,7 +17,7 @@ use Rattle.bpf_semantics.specs.declared.value.Value.{Value}
 use Rattle.bpf_semantics.specs.State.{State, register, with_register, past}
 use Rattle.bpf_semantics.specs.Memory.{and_then, stack_with}
 use Rattle.bpf_semantics.specs.Helpers.{Table, state_after_call, row_get, row_put, range_count, range_next, with_stack, with_point_look, with_range_look, with_row_read, with_next_read, look_at, last_seen, row_or_zeros, key_or_zeros, row_of}
-use Rattle.bpf_semantics.specs.Step.{Moment, Going, Ended, Stuck, or_stuck, after_jump, is_read_only, with_result, with_store, execute, width_bits}
+use Rattle.bpf_semantics.specs.Step.{Moment, Going, Ended, Stuck, or_stuck, after_jump, is_read_only, with_result, with_store, execute}
 use Rattle.bpf_semantics.specs.Path.{fall_through, slots_of_jump, jump_of}
 use Rattle.bpf_semantics.specs.Fit.{Leads}
 

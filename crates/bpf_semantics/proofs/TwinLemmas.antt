@@ -7,6 +7,7 @@ use Rattle.bpf_words.specs.Condition.{holds}
 use Rattle.bpf_code.specs.declared.instruction.Register.{Register}
 use Rattle.bpf_code.specs.declared.instruction.Instruction.{Instruction}
 use Rattle.bpf_code.specs.declared.instruction.Instruction.TheVariants.{LoadWide, Load, StoreImmediate, StoreRegister, Arithmetic, Negate, MoveSignExtended, End, Jump, LongJump, Branch, Call, Exit}
+use Rattle.bpf_code.specs.Sizes.{width_bits}
 use Rattle.bpf_code.specs.Program.{Program, instruction_at}
 use Rattle.schema.specs.Schema.{Tables}
 use Rattle.schema.specs.Rows.{Rows, AgreeOn, any_covers, after_writes, Writes}
@@ -17,7 +18,7 @@ use Rattle.bpf_semantics.specs.State.{State, past, entry_state, with_register}
 use Rattle.bpf_semantics.specs.declared.value.Value.{Value}
 use Rattle.bpf_semantics.specs.Memory.{and_then}
 use Rattle.bpf_semantics.specs.Helpers.{state_after_call}
-use Rattle.bpf_semantics.specs.Step.{Moment, Going, Ended, Stuck, or_stuck, after_jump, is_read_only, with_result, with_store, execute, step, width_bits}
+use Rattle.bpf_semantics.specs.Step.{Moment, Going, Ended, Stuck, or_stuck, after_jump, is_read_only, with_result, with_store, execute, step}
 use Rattle.bpf_semantics.specs.Run.{next_moment, moment, Run, run_of, run_at, run}
 use Rattle.bpf_semantics.specs.Agree.{looks_of, AgreeOnLooks, in_tables, same_on, AreElsewhere, after_each}
 use Rattle.bpf_semantics.proofs.LookLemmas.{agree_on_run, agree_on_tables}

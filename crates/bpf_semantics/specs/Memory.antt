@@ -4,10 +4,8 @@ use Rattle.std.specs.Prelude.{ℕ, ◌+◌, ℤ, pos, negsuc, ◌+ℤ◌, List, 
 use Rattle.std.specs.Option.{option_map}
 use Rattle.bpf_words.specs.declared.operation.SignExtension.TheVariants.{From8, From16, From32}
 use Rattle.bpf_words.specs.Operation.{sign_extension}
-use Rattle.bpf_code.specs.declared.instruction.Size.{Size}
-use Rattle.bpf_code.specs.declared.instruction.Size.TheVariants.{Byte, HalfWord, Word, DoubleWord}
 use Rattle.bpf_code.specs.declared.instruction.LoadKind.{LoadKind}
-use Rattle.bpf_code.specs.declared.instruction.LoadKind.TheVariants.{U8, U16, U32, U64, I8, I16, I32}
+use Rattle.bpf_code.specs.declared.instruction.LoadKind.TheVariants.{I8, I16, I32}
 use Rattle.bpf_semantics.specs.declared.value.Value.{Value}
 use Rattle.bpf_semantics.specs.declared.value.Value.TheVariants.{Stack, Args}
 
@@ -18,23 +16,6 @@ and_then (Some x) f = f x
 infixl 10 ◌>>=◌
 abbrev pub ◌>>=◌ : {X Y : Type 0} → Option X → (X → Option Y) → Option Y
 o >>= f = and_then o f
-
--- ---- sizes
-
-abbrev pub size_bytes : Size → ℕ
-size_bytes Byte = 1
-size_bytes HalfWord = 2
-size_bytes Word = 4
-size_bytes DoubleWord = 8
-
-abbrev pub load_bytes : LoadKind → ℕ
-load_bytes U8 = 1
-load_bytes U16 = 2
-load_bytes U32 = 4
-load_bytes U64 = 8
-load_bytes I8 = 1
-load_bytes I16 = 2
-load_bytes I32 = 4
 
 -- a load zero-extends to 64 bits, or sign-extends
 abbrev pub load_value : LoadKind → ℕ → ℕ

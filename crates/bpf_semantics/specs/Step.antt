@@ -24,14 +24,14 @@ use Rattle.bpf_code.specs.declared.instruction.Source.{Source}
 use Rattle.bpf_code.specs.declared.instruction.Source.TheVariants as source
 use Rattle.bpf_code.specs.declared.instruction.Instruction.{Instruction}
 use Rattle.bpf_code.specs.declared.instruction.Instruction.TheVariants.{LoadWide, Load, StoreImmediate, StoreRegister, Arithmetic, Negate, MoveSignExtended, End, Jump, LongJump, Branch, Call, Exit}
-use Rattle.bpf_code.specs.Spelling.{extension_width}
+use Rattle.bpf_code.specs.Sizes.{width_bits, size_bytes, load_bytes, extension_width}
 use Rattle.bpf_code.specs.Program.{Program, instruction_at}
 use Rattle.schema.specs.Schema.{Tables}
 use Rattle.schema.specs.Helper.{helper_of}
 use Rattle.bpf_semantics.specs.declared.value.Value.{Value}
 use Rattle.bpf_semantics.specs.declared.value.Value.TheVariants.{Number, Stack, Args}
 use Rattle.bpf_semantics.specs.State.{State, register, with_register, past, number}
-use Rattle.bpf_semantics.specs.Memory.{◌>>=◌, size_bytes, load_bytes, load_value, memory_bytes, memory_with_store}
+use Rattle.bpf_semantics.specs.Memory.{◌>>=◌, load_value, memory_bytes, memory_with_store}
 use Rattle.bpf_semantics.specs.Helpers.{with_stack, state_after_call}
 
 -- the state after an instruction; the reply at EXIT, and the state there; or that there is no step
@@ -43,10 +43,6 @@ pub data Moment : Type 0 where
 unfoldable pub or_stuck : {X : Type 0} → Option X → (X → Moment) → Moment
 or_stuck None next = Stuck
 or_stuck (Some x) next = next x
-
-abbrev pub width_bits : Width → ℕ
-width_bits Bits32 = 32
-width_bits Bits64 = 64
 
 -- an immediate is sign-extended to 64 bits; 32-bit forms take the low 32 bits (in `alu` and `holds`)
 abbrev pub operand : State → Source → Value

@@ -1,5 +1,6 @@
 -- The laws, by cases on the operations and the conditions.
-use Rattle.std.proofs.Common.{◌≡◌, ℕ, ◌+◌, ◌-◌, ◌*◌, ◌/◌, ◌%◌, ◌^◌, ◌<◌, ℤ, pos, negsuc, true, false, not, IfSome, Some, refl, arith, if◌then◌else◌, ◌==◌, ◌-ℤ◌, nat_lt}
+use Rattle.std.proofs.Common.{◌≡◌, ℕ, ◌+◌, ◌-◌, ◌*◌, ◌/◌, ◌%◌, ◌^◌, ◌<◌, ℤ, pos, negsuc, true, false, not, IfSome, Some, None, refl, arith, if◌then◌else◌, ◌==◌, ◌-ℤ◌, nat_lt}
+use Rattle.std.specs.Prelude.{◌↔◌}
 use Rattle.std.proofs.Math.Nat.{mod-eq_of_lt, div-le_self, mod-le}
 use Rattle.std.proofs.lemmas.Nat.{pow_pos, mod_below, or_lt, xor_lt, and_le_l, shr_le}
 use Rattle.std.proofs.lemmas.Int.{ints}
@@ -114,3 +115,16 @@ opposite_back Lt = refl
 opposite_back Le = refl
 opposite_back Slt = refl
 opposite_back Sle = refl
+
+pub opposite_none : (condition : Condition) → (opposite condition ≡ None) ↔ (condition ≡ Set)
+opposite_none Eq = (λ e. absurd cc, λ e. absurd cc)
+opposite_none Gt = (λ e. absurd cc, λ e. absurd cc)
+opposite_none Ge = (λ e. absurd cc, λ e. absurd cc)
+opposite_none Set = (λ e. refl, λ e. refl)
+opposite_none Ne = (λ e. absurd cc, λ e. absurd cc)
+opposite_none Sgt = (λ e. absurd cc, λ e. absurd cc)
+opposite_none Sge = (λ e. absurd cc, λ e. absurd cc)
+opposite_none Lt = (λ e. absurd cc, λ e. absurd cc)
+opposite_none Le = (λ e. absurd cc, λ e. absurd cc)
+opposite_none Slt = (λ e. absurd cc, λ e. absurd cc)
+opposite_none Sle = (λ e. absurd cc, λ e. absurd cc)

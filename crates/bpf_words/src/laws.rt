@@ -1,4 +1,4 @@
-ghost use Rattle.std.specs.Prelude.{◌≡◌, ℕ, ◌-◌, ◌%◌, ◌^◌, ◌<◌, ◌≤◌, ◌≢◌, ◌↔◌, pos, neg_ℤ, ◌≤ℤ◌, ◌<ℤ◌, not, bit_and, IsTrue, IfSome, Some};
+ghost use Rattle.std.specs.Prelude.{◌≡◌, ℕ, ◌-◌, ◌%◌, ◌^◌, ◌<◌, ◌≤◌, ◌≢◌, ◌↔◌, pos, neg_ℤ, ◌≤ℤ◌, ◌<ℤ◌, not, bit_and, IsTrue, IfSome, Some, None};
 ghost use Rattle.bpf_words.specs.Condition.{holds, opposite};
 ghost use Rattle.bpf_words.specs.End.{end_value, end_bits};
 ghost use Rattle.bpf_words.specs.Operation.{alu};
@@ -59,13 +59,15 @@ pub fn signed_reads_words()
     ensures back { (n a : ℕ) → a < 2 ^ n → word n (signed_value n a) ≡ a }
 {}
 
-/// Of a condition and its opposite just one holds, and the opposite's opposite is the condition.
-#[tactic(auto, using(crate::proofs::Words::opposite_excludes, crate::proofs::Words::opposite_back))]
+/// Of a condition and its opposite just one holds, and the opposite's opposite is the condition. The
+/// bit test alone has none.
+#[tactic(auto, using(crate::proofs::Words::opposite_excludes, crate::proofs::Words::opposite_back, crate::proofs::Words::opposite_none))]
 pub fn opposites_exclude()
     ensures excludes { (condition : Condition) → IfSome (opposite condition) (λ other.
         (n a b : ℕ) → holds n other a b ≡ not (holds n condition a b)) }
     ensures back { (condition : Condition) → IfSome (opposite condition) (λ other.
         opposite other ≡ Some condition) }
+    ensures none { (condition : Condition) → (opposite condition ≡ None) ↔ (condition ≡ Set) }
 {}
 
 /// What each condition says of two words.

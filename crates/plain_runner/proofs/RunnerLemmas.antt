@@ -111,9 +111,9 @@ unfolding moment
 few_steps p tables args rows zero = omega arith
 few_steps p tables args rows (suc k) = going_on_after p tables k (moment p tables k (entry_state args rows)) (few_steps p tables args rows k)
 
-pub next_moment : (p : Program) (tables : Tables) (s : State) (k : ℕ) (m n : Moment) → m ≡ moment p tables k s → n ≡ next_moment (step p tables) m → n ≡ moment p tables (k + 1) s
+pub one_later : (p : Program) (tables : Tables) (s : State) (k : ℕ) (m n : Moment) → m ≡ moment p tables k s → n ≡ next_moment (step p tables) m → n ≡ moment p tables (k + 1) s
 unfolding moment
-next_moment p tables s k m n e f = let same : suc k ≡ k + 1 = omega arith in f ∙ ap (next_moment (step p tables)) e ∙ ap (λ (j : ℕ). moment p tables j s) same
+one_later p tables s k m n e f = let same : suc k ≡ k + 1 = omega arith in f ∙ ap (next_moment (step p tables)) e ∙ ap (λ (j : ℕ). moment p tables j s) same
 
 pub first_moment : (p : Program) (tables : Tables) (s t : State) → s ≡ t → Going s ≡ moment p tables 0 t
 unfolding moment

@@ -3,13 +3,13 @@
 ghost use Rattle.std.specs.Prelude.{◌≡◌, ◌≤◌, ◌^◌, ◌+ℤ◌, unsigned_abs, length, take, drop, IfOk};
 ghost use Rattle.std.specs.Prelude.{Option, Some, None, IfSome, option_map};
 ghost use Rattle.byteorder.specs.Endian.{little_number, little_bytes};
-ghost use Rattle.bpf_semantics.specs.Memory.{size_bytes, load_bytes, load_value, index_in};
+ghost use Rattle.bpf_semantics.specs.Memory.{load_value, index_in};
 ghost use Rattle.bpf_semantics.specs.Memory.{stack_index, known_bytes, stack_with, memory_bytes};
 ghost use Rattle.bpf_semantics.specs.Memory.{memory_with_store};
 ghost use Rattle.bpf_semantics.specs.Memory.{stack_bytes, args_bytes};
 ghost use Rattle.bpf_semantics.specs.Helpers.{buffer_of};
 
-use bpf_code::{LoadKind, Size};
+use bpf_code::LoadKind;
 use bpf_semantics::Value;
 use bpf_words::{Operation, SignExtension, alu64};
 use byteorder::{ByteOrder, LittleEndian};
@@ -17,32 +17,6 @@ use std::alloc::{AllocError, Allocator};
 
 /// How many bytes the stack has.
 const STACK_BYTES: usize = 512;
-
-/// How many bytes a store writes.
-pub(crate) fn size_bytes(size: Size) -> usize
-    ensures count { result ≡ size_bytes size }
-    ensures few { result ≤ 8 }
-{
-    match size {
-        Size::Byte => 1,
-        Size::HalfWord => 2,
-        Size::Word => 4,
-        Size::DoubleWord => 8,
-    }
-}
-
-/// How many bytes a load reads.
-pub(crate) fn load_bytes(kind: LoadKind) -> usize
-    ensures count { result ≡ load_bytes kind }
-    ensures few { result ≤ 8 }
-{
-    match kind {
-        LoadKind::U8 | LoadKind::I8 => 1,
-        LoadKind::U16 | LoadKind::I16 => 2,
-        LoadKind::U32 | LoadKind::I32 => 4,
-        LoadKind::U64 => 8,
-    }
-}
 
 /// The index of a place in a memory of `all` bytes that begins at place 0, where `count` bytes from
 /// there on lie inside.

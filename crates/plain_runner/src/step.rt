@@ -5,7 +5,8 @@ ghost use Rattle.std.specs.Int.{w64, cast_unsigned};
 ghost use Rattle.byteorder.specs.Endian.{little_bytes};
 ghost use Rattle.bpf_semantics.specs.State.{register, past, with_register};
 ghost use Rattle.schema.specs.Helper.{helper_of};
-ghost use Rattle.bpf_semantics.specs.Memory.{and_then, size_bytes, memory_with_store};
+ghost use Rattle.bpf_semantics.specs.Memory.{and_then, memory_with_store};
+ghost use Rattle.bpf_code.specs.Sizes.{size_bytes};
 ghost use Rattle.bpf_semantics.specs.Helpers.{state_after_call};
 ghost use Rattle.bpf_code.specs.declared.instruction.Instruction.TheVariants.{Load, StoreRegister};
 ghost use Rattle.bpf_code.specs.declared.instruction.Instruction.TheVariants.{Arithmetic, Negate};
@@ -17,9 +18,7 @@ ghost use Rattle.bpf_semantics.specs.Step.{after_jump, is_read_only, with_result
 ghost use Rattle.bpf_semantics.specs.Run.{next_moment};
 ghost use Rattle.plain_runner.specs.Runner.{state_of, moment_of, steps_before};
 
-use crate::memory::{
-    little_number, load_bytes, load_value, memory_bytes, memory_with_store, size_bytes,
-};
+use crate::memory::{little_number, load_value, memory_bytes, memory_with_store};
 use crate::state::State;
 use crate::value::{arithmetic, holds, number, operation_result};
 use bpf_code::{Code, Instruction, LoadKind, Register, SignExtendingMove, Size, Source, Width};
@@ -84,7 +83,7 @@ impl<A: Allocator + Copy> State<A> {
             moment_of m ≡ execute tables (Load kind dst src offset) (state_of self)) }
     {
         let address = self.register(src);
-        let count = load_bytes(kind);
+        let count = usize::from(kind.bytes());
         let Some(bytes) = memory_bytes(alloc, &self.stack, &self.args, address, offset, count)?
         else {
             return Ok(Moment::Stuck);
@@ -109,7 +108,7 @@ impl<A: Allocator + Copy> State<A> {
             offset (little_bytes (size_bytes size) number)) (state_of self)) }
     {
         let bytes = number.to_le_bytes();
-        let bytes = &bytes[..size_bytes(size)];
+        let bytes = &bytes[..usize::from(size.bytes())];
         match memory_with_store(alloc, &self.stack, self.register(dst), offset, bytes)? {
             Some(stack) => {
                 let mut next = self.past(1);

@@ -3,8 +3,9 @@
 ghost use Rattle.std.specs.Prelude.{◌≡◌, ◌≤◌, ◌^◌, unsigned_abs};
 ghost use Rattle.bpf_words.specs.Operation.{alu};
 ghost use Rattle.bpf_words.specs.Condition.{holds};
+ghost use Rattle.bpf_code.specs.Sizes.{width_bits};
 ghost use Rattle.bpf_semantics.specs.State.{number};
-ghost use Rattle.bpf_semantics.specs.Step.{width_bits, near_place, moved_place, is_move, move_result, place_result, binary_result};
+ghost use Rattle.bpf_semantics.specs.Step.{near_place, moved_place, is_move, move_result, place_result, binary_result};
 ghost use Rattle.bpf_semantics.specs.Step.{operation_result};
 
 use bpf_code::Width;

@@ -3,7 +3,7 @@ use Rattle.std.proofs.lemmas.Result.{IfOk-weaker}
 use Rattle.bpf_semantics.specs.State.{entry_state}
 use Rattle.bpf_semantics.specs.Run.{moment, run_at}
 use Rattle.plain_runner.specs.Runner.{rows_of, moment_of, steps_before}
-use Rattle.plain_runner.proofs.RunnerLemmas.{few_steps, first_moment, next_moment, read_off}
+use Rattle.plain_runner.proofs.RunnerLemmas.{few_steps, first_moment, one_later, read_off}
 use Rattle.plain_runner.proofs.run.run_program.Goals as goal
 
 pub loop-init : goal.loop-init
@@ -17,7 +17,7 @@ next-requires g c =
     omega (arith, few, short)
 
 pub loop-preserved : goal.loop-preserved
-loop-preserved g c = next_moment c.args.code.now c.args.schema.now _ c.loop.counter _ _ c.loop.invariant c.in_ok-moment.ensures
+loop-preserved g c = one_later c.args.code.now c.args.schema.now _ c.loop.counter _ _ c.loop.invariant c.in_ok-moment.ensures
 
 pub returns : goal.returns
 returns g c =
@@ -25,4 +25,4 @@ returns g c =
     let last : moment_of c.loop.moment ≡ moment c.args.code.now c.args.schema.now (length c.args.code.now) (entry_state c.args.args.now (rows_of c.args.rows.now)) =
     c.loop.invariant ∙ ap (λ (k : ℕ). moment c.args.code.now c.args.schema.now k (entry_state c.args.args.now (rows_of c.args.rows.now))) all in
     let told = read_off c.args.code.now c.args.schema.now c.args.args.now (rows_of c.args.rows.now) _ last in
-    IfOk-weaker c.with_answer.result (λ answer. answer ≡ run_at (rows_of c.args.rows.now) (moment_of c.loop.moment)) _ (λ answer is. is ∙ told) c.with_answer.ensures
+    IfOk-weaker c.run_at.result (λ answer. answer ≡ run_at (rows_of c.args.rows.now) (moment_of c.loop.moment)) _ (λ answer is. is ∙ told) c.run_at.ensures
