@@ -1,12 +1,12 @@
 //! The listing of a program, a line for each instruction.
 #![tactic(auto)]
 
-ghost use Rattle.std.specs.Prelude.{◌<◌};
-ghost use Rattle.byte_output.specs.Writes.{Writes};
+ghost use Rattle.std.specs.Prelude.{◌≡◌, ◌<◌};
+ghost use Rattle.byte_output.specs.Pending.{output_of, Takes};
 ghost use Rattle.bpf_list.specs.Listing.{line_at, listing_of};
 
 use bpf_code::{Code, Instruction};
-use byte_output::put;
+use byte_output::paged::PagedOutput;
 use std::alloc::Allocator;
 use std::io;
 use std::io::Write;
@@ -14,21 +14,30 @@ use std::io::Write;
 mod line;
 mod name;
 
-fn put_line<W: Write>(output: &mut W, slot: usize, begins: Option<Instruction>) -> io::Result<()>
+fn put_line<W: Write>(
+    output: &mut PagedOutput<'_, W>,
+    slot: usize,
+    begins: Option<Instruction>,
+) -> io::Result<()>
     requires { slot < 10000 }
-    ensures { Writes (W.contents output.old) (W.contents output.new) result (line_at slot begins) }
+    ensures same_output { (output_of output.new).ghost_name ≡ (output_of output.old).ghost_name }
+    ensures bytes { Takes W.contents output.old output.new result (line_at slot begins) }
 {
     let Some(instruction) = begins else {
         return Ok(());
     };
-    put(output, &line::line(slot, instruction))
+    output.put(&line::line(slot, instruction))
 }
 
-/// Writes a line for each instruction: the slot, its bytes, its name and its fields. It takes no
+/// Gives a line for each instruction: the slot, its bytes, its name and its fields. It takes no
 /// memory; an error comes only from a write of the output.
-pub fn listing<A: Allocator, W: Write>(code: &Code<A>, output: &mut W) -> io::Result<()>
-    // At `Ok` the listing is appended, at `Err` a beginning of it.
-    ensures { Writes (W.contents output.old) (W.contents output.new) result (listing_of code.now) }
+pub fn listing<A: Allocator, W: Write>(
+    code: &Code<A>,
+    output: &mut PagedOutput<'_, W>,
+) -> io::Result<()>
+    ensures same_output { (output_of output.new).ghost_name ≡ (output_of output.old).ghost_name }
+    // At `Ok` the listing was given, at `Err` a beginning of it has left.
+    ensures bytes { Takes W.contents output.old output.new result (listing_of code.now) }
 {
     for slot in 0..code.slots() {
         put_line(output, slot, code.at(slot))?;

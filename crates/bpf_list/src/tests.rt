@@ -148,7 +148,9 @@ const EXIT: [u8; 8] = [0x95, 0, 0, 0, 0, 0, 0, 0];
 fn listed(rt: &HostRuntime, program: &[u8]) -> Result<Vec<u8>, Fail> {
     let code = decode(rt.alloc(), program)?;
     let mut text = Vec::new(rt.alloc());
-    listing(&code, &mut text)?;
+    let mut output = PagedOutput::new(&mut text);
+    listing(&code, &mut output)?;
+    output.finish()?;
     Ok(text)
 }
 
@@ -199,11 +201,18 @@ impl Write for Failing {
     }
 }
 
+/// Eighty lines of 51 bytes fit a page, which leaves for the next line.
 #[test]
 fn a_failed_write_ends_the_listing(rt: HostRuntime) -> Result<(), Fail> {
-    let code = decode(rt.alloc(), &EXIT)?;
-    // The line has 51 bytes.
-    assert!(rt; listing(&code, &mut Failing { room: 50 }).is_err());
-    assert!(rt; listing(&code, &mut Failing { room: 51 }).is_ok());
+    let mut program = Vec::new(rt.alloc());
+    for _ in 0..81 {
+        program.extend_from_slice(&EXIT)?;
+    }
+    let code = decode(rt.alloc(), &program)?;
+    for (room, is_listed) in [(0, false), (4079, false), (4080, true)] {
+        let mut failing = Failing { room };
+        let mut output = PagedOutput::new(&mut failing);
+        assert_eq!(rt; listing(&code, &mut output).is_ok(), is_listed);
+    }
     Ok(())
 }

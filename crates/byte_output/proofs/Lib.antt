@@ -1,1 +1,2 @@
 pub mod WritesLemmas
+pub mod PendingLemmas

@@ -1,12 +1,7 @@
 -- Texts that are written one after another.
-use Rattle.std.proofs.Common.{◌≡◌, ℕ, List, [], ◌++◌, take, drop, Option, Some, None, sym, ap, ◌∙◌, append_assoc, take-append-drop}
-use Rattle.std.proofs.lemmas.List.{append-nil}
-use Rattle.std.specs.Io.KnownBytes.{Appends, Keeps}
+use Rattle.std.proofs.Common.{◌≡◌, ℕ, List, ◌++◌, take, drop, Option, Some, None, sym, ap, ◌∙◌, append_assoc, take-append-drop}
+use Rattle.std.specs.Io.KnownBytes.{Appends}
 use Rattle.byte_output.specs.Writes.{AppendsBeginning}
-
-pub Appends-none : (a : Option (List ℕ)) → Appends a a []
-Appends-none None = tt
-Appends-none (Some x) = sym (append-nil x)
 
 pub Appends-then : (a b c : Option (List ℕ)) (xs ys : List ℕ) → Appends a b xs → Appends b c ys → Appends a c (xs ++ ys)
 Appends-then None b c xs ys p q = tt
@@ -32,9 +27,6 @@ takes_more a b c text rest left n (front, split, so_far) took behind = (
   Appends-then a b c front (take n rest) so_far took,
 )
 
--- the whole is a beginning, also after a call that keeps it
-pub AppendsBeginning-whole : (a b c : Option (List ℕ)) (text : List ℕ) → Appends a b text → Keeps b c → AppendsBeginning a c text
-AppendsBeginning-whole None b c text p q = (text, [], sym (append-nil text), tt)
-AppendsBeginning-whole (Some x) None c text p q = absurd p
-AppendsBeginning-whole (Some x) (Some y) None text p q = absurd q
-AppendsBeginning-whole (Some x) (Some y) (Some z) text p q = (text, [], sym (append-nil text), q ∙ p)
+-- a beginning of a text is one of the text with more behind it
+pub AppendsBeginning-more : (a b : Option (List ℕ)) (text more : List ℕ) → AppendsBeginning a b text → AppendsBeginning a b (text ++ more)
+AppendsBeginning-more a b text more (front, rest, split, p) = (front, rest ++ more, ap (λ (t : List ℕ). t ++ more) split ∙ append_assoc front rest more, p)

@@ -1,4 +1,5 @@
 use super::*;
+use paged::{PAGE_BYTES, PagedOutput};
 use std::test::Fail;
 
 /// What a write answers in turn: so many bytes, an interruption or a failure.
@@ -9,11 +10,12 @@ enum Turn {
     Fails,
 }
 
-/// An output that keeps what it took.
+/// An output that keeps what it took, and may refuse to be flushed.
 #[derive(Drop)]
 struct Scripted {
     turns: Vec<Turn>,
     held: Vec<u8>,
+    flushes: bool,
 }
 
 impl Write for Scripted {
@@ -29,7 +31,11 @@ impl Write for Scripted {
     }
 
     fn flush(&mut self) -> io::Result<()> {
-        Ok(())
+        if self.flushes {
+            Ok(())
+        } else {
+            Err(io::Error::from(ErrorKind::Other))
+        }
     }
 }
 
@@ -38,6 +44,7 @@ fn output_of(rt: &HostRuntime, turns: &[Turn]) -> Result<Scripted, Fail> {
     Ok(Scripted {
         turns: turns.to_vec(rt.alloc())?,
         held: Vec::new(rt.alloc()),
+        flushes: true,
     })
 }
 
@@ -78,4 +85,42 @@ fn a_line_has_its_labels_and_numbers(rt: HostRuntime) {
         line.as_slice(),
         b"a b 18446744073709551615 c -2147483648".as_slice()
     );
+}
+
+/// Small texts leave in one write, and one that is longer than a page by itself.
+#[test]
+fn a_page_is_kept_in_front_of_the_output(rt: HostRuntime) -> Result<(), Fail> {
+    let long = [7u8; PAGE_BYTES + 1];
+    // A text, how often it is given, and how many of five writes are then left.
+    let rows: [(&[u8], usize, usize); 5] = [
+        (b"", 3, 5),
+        (b"abc", 3, 4),
+        (&[7; 1000], 5, 3),
+        (&[7; PAGE_BYTES], 2, 3),
+        (&long, 2, 3),
+    ];
+    for (text, times, left) in rows {
+        let mut output = output_of(&rt, &[Turn::Takes(usize::MAX); 5])?;
+        let mut expected = Vec::new(rt.alloc());
+        let mut pages = PagedOutput::new(&mut output);
+        for _ in 0..times {
+            pages.put(text)?;
+            expected.extend_from_slice(text)?;
+        }
+        pages.finish()?;
+        assert_eq!(rt; output.held.as_slice(), expected.as_slice());
+        assert_eq!(rt; output.turns.len(), left);
+    }
+    Ok(())
+}
+
+#[test]
+fn a_flush_that_fails_is_a_failure(rt: HostRuntime) -> Result<(), Fail> {
+    let mut output = output_of(&rt, &[Turn::Takes(9)])?;
+    output.flushes = false;
+    let mut pages = PagedOutput::new(&mut output);
+    pages.put(b"hello")?;
+    assert!(rt; pages.finish().is_err());
+    assert_eq!(rt; output.held.as_slice(), b"hello".as_slice());
+    Ok(())
 }

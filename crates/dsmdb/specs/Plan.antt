@@ -14,9 +14,9 @@ list_line = with_rule (new_app (codes "list")) file_rule
 abbrev pub named_command : App
 named_command = new_app (codes "dsmdb")
 
--- a command is required
+-- a command is required, but for the flags `--help` and `--version`
 abbrev pub command_line : App
-command_line = with_subcommand (record named_command { top = record named_command.top { subcommand_required = true } }) list_line.top
+command_line = with_subcommand (record named_command { top = record named_command.top { has_version = true; subcommand_required = true } }) list_line.top
 
 -- the plan is the command that was met, with the values that were read for it
 abbrev pub IsPlanOf : Option (Text × List Row) → Plan → Type 0

@@ -2,7 +2,8 @@
 
 ghost use Rattle.std.specs.Prelude.{◌≡◌, ◌≢◌, ◌⊎◌, ℕ, List, IfOk, IfSome, OnErr};
 ghost use Rattle.std.specs.Io.KnownBytes.{Appends};
-ghost use Rattle.byte_output.specs.Writes.{AppendsBeginning, Writes};
+ghost use Rattle.byte_output.specs.Writes.{AppendsBeginning};
+ghost use Rattle.byte_output.specs.Pending.{output_of, Takes};
 ghost use Rattle.bpf_code.specs.Decoding.{program_of};
 ghost use Rattle.dsmdb.specs.Source.{IsReadOf};
 ghost use Rattle.dsmdb.specs.Listing.{refused_text, text_of, status_of};
@@ -12,7 +13,7 @@ use crate::source::{Source, read_source};
 use bpf_code::{Code, DecodeCause, DecodeFault, decode};
 use bpf_list::listing;
 use byte_output::line::{Line, push, push_unsigned};
-use byte_output::put;
+use byte_output::paged::PagedOutput;
 use std::alloc::{AllocError, Allocator};
 use std::io;
 use std::io::{Read, Write};
@@ -37,6 +38,9 @@ pub fn list_over<A: Allocator + Copy, R: Read, W: Write, E: Write>(
         result ≢ FAILED → Appends (W.contents output.old) (W.contents output.new) (text_of (program_of bytes))) }
     ensures beginning { IfSome (R.remaining input.old) (λ bytes.
         AppendsBeginning (W.contents output.old) (W.contents output.new) (text_of (program_of bytes))) }
+
+    // Nothing is said where nothing failed.
+    ensures silent { result ≢ FAILED → faults.new ≡ faults.old }
 {
     match list(alloc, input, output) {
         Ok(status) => status,
@@ -61,8 +65,9 @@ fn list<A: Allocator + Copy, R: Read, W: Write>(
 {
     let source = read_source(alloc, input)?;
     let decoded = decode_source(alloc, &source)?;
-    print(&decoded, output)?;
-    output.flush()?;
+    let mut pages = PagedOutput::new(output);
+    print(&decoded, &mut pages)?;
+    pages.finish()?;
     Ok(match decoded {
         Ok(_) => 0,
         Err(_) => 1,
@@ -72,13 +77,14 @@ fn list<A: Allocator + Copy, R: Read, W: Write>(
 /// Prints what was decoded.
 fn print<A: Allocator, W: Write>(
     decoded: &Result<Code<A>, DecodeFault>,
-    output: &mut W,
+    output: &mut PagedOutput<'_, W>,
 ) -> io::Result<()>
-    ensures { Writes (W.contents output.old) (W.contents output.new) result (text_of decoded.now) }
+    ensures same_output { (output_of output.new).ghost_name ≡ (output_of output.old).ghost_name }
+    ensures bytes { Takes W.contents output.old output.new result (text_of decoded.now) }
 {
     match decoded {
         Ok(code) => listing(code, output),
-        Err(fault) => put(output, &refused_line(*fault)),
+        Err(fault) => output.put(&refused_line(*fault)),
     }
 }
 

@@ -5,7 +5,7 @@ use list::{FAILED, list_over};
 use plan::plan;
 use request::{Plan, PlanFault};
 use std::fs::File;
-use std::io::{BufWriter, Write};
+use std::io::Write;
 use std::process::ExitCode;
 use std::{env, io};
 
@@ -22,7 +22,7 @@ fn list_file(rt: &HostRuntime, path: &str) -> io::Result<u8> {
     let mut faults = rt.stderr();
     match File::open(rt, path) {
         Ok(mut file) => {
-            let mut output = BufWriter::new(rt.alloc(), rt.stdout())?;
+            let mut output = rt.stdout();
             Ok(list_over(rt.alloc(), &mut file, &mut output, &mut faults))
         }
         Err(error) => {

@@ -9,6 +9,9 @@ use clap::{Arg, ArgAction, ArgMatches, Command};
 use std::alloc::Global;
 use std::convert::AsStr;
 
+/// What `--version` prints behind the name.
+const VERSION: &str = "0.1.0";
+
 /// The words after the program's name, which is the first, as a plan.
 pub fn plan<'a, S: AsStr>(alloc: Global, words: &'a [S]) -> Result<Plan<'a>, PlanFault>
     ensures { IfOk result (λ plan. IsPlanOf (subcommand_of command_line (map S.text words.entry.now)) plan) }
@@ -36,6 +39,7 @@ fn matches<'a, S: AsStr>(alloc: Global, words: &'a [S]) -> Result<ArgMatches<'a>
         .arg(file)?;
     let dsmdb = Command::new(alloc, "dsmdb")
         .about("A multi-master row database with verified BPF procedures")
+        .version(VERSION)
         .subcommand_required(true)
         .subcommand(list)?;
     Ok(dsmdb.try_get_matches_from(words)?)

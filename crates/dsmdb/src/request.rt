@@ -13,7 +13,7 @@ pub enum Plan<'a> {
 /// Why the words are no plan.
 #[derive(Debug, Drop, Error)]
 pub enum PlanFault {
-    /// They can't be read, or ask for help: clap has the text and the exit status.
+    /// They can't be read, or ask for help or the version: clap has the text and the exit status.
     #[error(transparent)]
     CommandLine(clap::Error),
     #[error("no command was given")]
