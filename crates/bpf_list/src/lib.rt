@@ -2,6 +2,7 @@
 #![tactic(auto)]
 
 ghost use Rattle.std.specs.Prelude.{◌≡◌, ◌<◌};
+ghost use Rattle.byte_output.specs.Writes.{Writes};
 ghost use Rattle.byte_output.specs.Pending.{output_of, Takes};
 ghost use Rattle.bpf_list.specs.Listing.{line_at, listing_of};
 
@@ -29,9 +30,19 @@ fn put_line<W: Write>(
     output.put(&line::line(slot, instruction))
 }
 
-/// Gives a line for each instruction: the slot, its bytes, its name and its fields. It takes no
-/// memory; an error comes only from a write of the output.
-pub fn listing<A: Allocator, W: Write>(
+/// Writes a line for each instruction: the slot, its bytes, its name and its fields; then flushes. It
+/// takes no memory; an error comes only from the output.
+pub fn listing<A: Allocator, W: Write>(code: &Code<A>, output: &mut W) -> io::Result<()>
+    // At `Ok` the listing was appended, at `Err` a beginning of it.
+    ensures { Writes (W.contents output.old) (W.contents output.new) result (listing_of code.now) }
+{
+    let mut pages = PagedOutput::new(output);
+    put_listing(code, &mut pages)?;
+    pages.finish()
+}
+
+/// Gives the same lines to an output with a page in front of it, and flushes nothing.
+pub fn put_listing<A: Allocator, W: Write>(
     code: &Code<A>,
     output: &mut PagedOutput<'_, W>,
 ) -> io::Result<()>

@@ -148,9 +148,7 @@ const EXIT: [u8; 8] = [0x95, 0, 0, 0, 0, 0, 0, 0];
 fn listed(rt: &HostRuntime, program: &[u8]) -> Result<Vec<u8>, Fail> {
     let code = decode(rt.alloc(), program)?;
     let mut text = Vec::new(rt.alloc());
-    let mut output = PagedOutput::new(&mut text);
-    listing(&code, &mut output)?;
-    output.finish()?;
+    listing(&code, &mut text)?;
     Ok(text)
 }
 
@@ -209,10 +207,18 @@ fn a_failed_write_ends_the_listing(rt: HostRuntime) -> Result<(), Fail> {
         program.extend_from_slice(&EXIT)?;
     }
     let code = decode(rt.alloc(), &program)?;
-    for (room, is_listed) in [(0, false), (4079, false), (4080, true)] {
+    for (room, is_given, is_written) in [
+        (0, false, false),
+        (4079, false, false),
+        (4080, true, false),
+        (4130, true, false),
+        (4131, true, true),
+    ] {
         let mut failing = Failing { room };
         let mut output = PagedOutput::new(&mut failing);
-        assert_eq!(rt; listing(&code, &mut output).is_ok(), is_listed);
+        assert_eq!(rt; put_listing(&code, &mut output).is_ok(), is_given);
+        let mut failing = Failing { room };
+        assert_eq!(rt; listing(&code, &mut failing).is_ok(), is_written);
     }
     Ok(())
 }

@@ -41,3 +41,14 @@ AppendsBeginning-finished contents a b old new text same none (left, split, p) q
     subst (AppendsBeginning (contents old) new) (ap (λ (t : List ℕ). left ++ t) (append-nil (pending_of b)) ∙ sym split ∙ ap (λ (t : List ℕ). t ++ text) none)
     (AppendsBeginning-then (contents old) (contents (output_of b).now) new left (pending_of b) []
     (subst (λ w. Appends (contents w) (contents (output_of b).now) left) same p) q)
+
+-- a text that was given where nothing was pending, and then what was pending of it, or a beginning of that
+pub Writes-finished : {W T E : Type 0} (contents : W → Option (List ℕ)) (a b : PagedOutput W) (old : W) (new left : Option (List ℕ)) (text : List ℕ) (result : Result T E) → new ≡ left → (output_of a).now ≡ old
+    → pending_of a ≡ [] → Passes contents a b text → Writes (contents (output_of b).now) left result (pending_of b) → Writes (contents old) new result text
+Writes-finished contents a b old new left text (Err e) is same none passes q =
+    subst (λ (t : Option (List ℕ)). AppendsBeginning (contents old) t text) (sym is) (AppendsBeginning-finished contents a b old left text same none passes q)
+Writes-finished contents a b old new left text (Ok x) is same none (front, split, p) q =
+    let whole : front ++ pending_of b ≡ text = sym split ∙ ap (λ (t : List ℕ). t ++ text) none in
+    let gone = Appends-then (contents (output_of a).now) (contents (output_of b).now) left front (pending_of b) p q in
+    subst (λ (t : Option (List ℕ)). Appends (contents old) t text) (sym is)
+    (subst (λ w. Appends (contents w) left text) same (subst (Appends (contents (output_of a).now) left) whole gone))

