@@ -1,6 +1,6 @@
 //! An output in front of which a page is kept, so that few writes reach it.
 
-ghost use Rattle.std.specs.Prelude.{◌≡◌, [], OnErr};
+ghost use Rattle.std.specs.Prelude.{◌≡◌, ◌≤◌, ◌+◌, [], length, IsOk, OnErr};
 ghost use Rattle.byte_output.specs.Writes.{Writes};
 
 use crate::put;
@@ -41,6 +41,10 @@ impl<'a, W: Write> PagedOutput<'a, W> {
         ensures same_output { (output_of self.new).ghost_name ≡ (output_of self.old).ghost_name }
         ensures bytes { Takes W.contents self.old self.new result bytes.now }
         ensures given_up { OnErr result (pending_of self.new ≡ []) }
+
+        // Where there is room nothing leaves, so nothing can fail.
+        ensures succeeds { length (pending_of self.old) + length bytes.now ≤ PAGE_BYTES → IsOk result }
+        ensures kept { length (pending_of self.old) + length bytes.now ≤ PAGE_BYTES → (output_of self.new).now ≡ (output_of self.old).now }
     {
         if bytes.len() > self.pending.remaining_capacity() {
             self.put_out()?;
