@@ -7,7 +7,8 @@ use Rattle.bpf_code.specs.declared.fields.Fields.{Fields}
 use Rattle.bpf_code.specs.declared.instruction.Instruction.{Instruction}
 use Rattle.bpf_code.specs.declared.instruction.Instruction.TheVariants.{LoadWide, Exit}
 use Rattle.bpf_code.specs.Reading.{reading_of, half_reading_of}
-use Rattle.bpf_code.specs.Program.{Program, IsInRange, AllInRange, is_wide, AreSlots, Lands, instruction_at, distance_of}
+use Rattle.std.specs.Prelude.{IfSome}
+use Rattle.bpf_code.specs.Program.{Program, IsProgram, IsInRange, AllInRange, is_wide, AreSlots, Lands, instruction_at, distance_of}
 use Rattle.bpf_code.specs.Decoding.{at_slot, with_front, completed_load, reading_of_slots, or_else, landing_fault, distance_fault, jump_fault, jump_faults, last_fault, exit_fault}
 
 -- ---- the slots
@@ -131,3 +132,19 @@ pub AllInRange-second : (p : Program) → AllInRange p → AllInRange (p ++ None
 AllInRange-second [] all = tt
 AllInRange-second (None ∷ p) all = AllInRange-second p all
 AllInRange-second (Some j ∷ p) all = (all.0, AllInRange-second p all.1)
+
+-- ---- what begins at a slot is in range
+
+some_one : (i j : Instruction) → Some i ≡ Some j → i ≡ j
+some_one i j e = cc
+
+pub range_at : (p : Program) (slot : ℕ) (i : Instruction) → AllInRange p → instruction_at p slot ≡ Some i → IsInRange i
+range_at [] slot i all e = absurd cc
+range_at (None ∷ p) zero i all e = absurd cc
+range_at (None ∷ p) (suc slot) i all e = range_at p slot i all e
+range_at (Some j ∷ p) zero i all e = subst IsInRange (some_one j i e) all.0
+range_at (Some j ∷ p) (suc slot) i all e = range_at p slot i all.1 e
+
+pub range_if : (p : Program) (slot : ℕ) (o : Option Instruction) → IsProgram p → o ≡ instruction_at p slot → IfSome o IsInRange
+range_if p slot None is e = tt
+range_if p slot (Some i) is e = range_at p slot i is.in_range (sym e)

@@ -1,5 +1,5 @@
-ghost use Rattle.std.specs.Prelude.{◌≡◌, length};
-ghost use Rattle.bpf_code.specs.Program.{instruction_at, IsProgram};
+ghost use Rattle.std.specs.Prelude.{◌≡◌, length, IfSome};
+ghost use Rattle.bpf_code.specs.Program.{instruction_at, IsInRange, IsProgram};
 
 use crate::instruction::Instruction;
 use std::alloc::{Allocator, Global};
@@ -45,6 +45,7 @@ impl<A: Allocator> Code<A> {
     /// The instruction that begins at this slot; none at a second half and past the end.
     pub fn at(&self, slot: usize) -> Option<Instruction>
         ensures instruction { result ≡ instruction_at self.now slot }
+        ensures in_range { IfSome result IsInRange }
         ensures program { IsProgram self.now }
     {
         self.slots.get(slot).copied().flatten()

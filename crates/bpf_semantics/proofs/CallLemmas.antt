@@ -20,7 +20,8 @@ use Rattle.bpf_semantics.specs.Helpers.{Table, table_of, buffer_of, state_after_
 use Rattle.bpf_semantics.specs.Step.{near_place, moved_place}
 use Rattle.bpf_semantics.specs.Fit.{IsPlace, PutLeaves}
 use Rattle.bpf_semantics.proofs.StepLemmas.{just, bound, some_is}
-use Rattle.bpf_semantics.proofs.FitLemmas.{near_fits, mapped}
+use Rattle.std.proofs.lemmas.List.{length-map, length-drop, length-take-le}
+use Rattle.bpf_semantics.proofs.FitLemmas.{near_fits, mapped, buffer_within}
 
 -- ---- arguments
 
@@ -148,10 +149,15 @@ width_of tables v m width t is known e =
 buffer_at : (v : Value) (place : ℤ) (width k : ℕ) → v ≡ Stack place → buffer_of v width ≡ just k → stack_index place width ≡ just k
 buffer_at v place width k is e = sym (ap (λ (x : Value). buffer_of x width) is) ∙ e
 
+wide_as : (stack : List (Option ℕ)) (k count : ℕ) (bytes : List ℕ) → length stack ≡ 512 → k + count ≤ 512 → take count (drop k stack) ≡ map (λ b. just b) bytes → length bytes ≡ count
+wide_as stack k count bytes whole within same =
+    let mapped_length : length (map (λ b. just b) bytes) ≡ length bytes = length-map bytes (λ b. just b) in
+    sym mapped_length ∙ ap length (sym same) ∙ length-take-le count (drop k stack) (let l = length-drop k stack in omega arith)
+
 pub put_leaves : (tables : Tables) (s u : State) (table key width : ℕ) (place : ℤ) → state_after_call tables RowPut s ≡ just u → register s R1 ≡ Number table → register s R2 ≡ Number key → register s R3 ≡ Stack place
-    → get tables table ≡ just width → (bytes : List ℕ) × PutLeaves s u table key width place bytes
+    → get tables table ≡ just width → length s.stack ≡ 512 → (bytes : List ℕ) × PutLeaves s u table key width place bytes
 unfolding state_after_call row_put
-put_leaves tables s u table key width place e is_table is_key is_place known =
+put_leaves tables s u table key width place e is_table is_key is_place known whole =
     let a = bound _ _ u e in
     let b = bound _ _ u a.2 in
     let d = bound _ _ u b.2 in
@@ -162,6 +168,7 @@ put_leaves tables s u table key width place e is_table is_key is_place known =
     let from = buffer_at (register s R3) place a.0.width d.0 is_place d.1 in
     let bytes = known_are (take a.0.width (drop d.0 s.stack)) f.0 f.1 in
     let at = some_is _ u f.2 in
+    let wide : length f.0 ≡ a.0.width = wide_as s.stack d.0 a.0.width f.0 whole (buffer_within (register s R3) a.0.width d.0 d.1) bytes in
     let same : (a.0.table, b.0) ≡ (table, key) = ap (λ (m : ℕ). (m, b.0)) t ∙ ap (λ (n : ℕ). (table, n)) k in
     let row : get u.rows (a.0.table, b.0) ≡ just f.0 =
     ap (λ (x : State). get x.rows (a.0.table, b.0)) (sym at) ∙ get-after_write s.rows (a.0.table, b.0) (a.0.table, b.0) (Some f.0) ∙ here (a.0.table, b.0) _ _ in
@@ -172,10 +179,27 @@ put_leaves tables s u table key width place e is_table is_key is_place known =
         from = d.0;
         at = subst (λ (n : ℕ). stack_index place n ≡ just d.0) w from;
         read = subst (λ (n : ℕ). take n (drop d.0 s.stack) ≡ map (λ b. just b) f.0) w bytes;
+        wide = wide ∙ w;
         row = ap (get u.rows) (sym same) ∙ row;
         write = ap (get u.writes) (sym same) ∙ write;
       },
     )
+
+pub removal_leaves : (tables : Tables) (s u : State) (table key : ℕ) → state_after_call tables RowDelete s ≡ just u → register s R1 ≡ Number table → register s R2 ≡ Number key
+    → (get u.rows (table, key) ≡ None) × (get u.writes (table, key) ≡ just None)
+unfolding state_after_call
+removal_leaves tables s u table key e is_table is_key =
+    let a = bound _ _ u e in
+    let b = bound _ _ u a.2 in
+    let t = table_is tables (register s R1) table a.0 is_table a.1 in
+    let k = number_is (register s R2) key b.0 is_key b.1 in
+    let at = some_is _ u b.2 in
+    let row : get u.rows (a.0.table, b.0) ≡ None =
+    ap (λ (x : State). get x.rows (a.0.table, b.0)) (sym at) ∙ get-after_write s.rows (a.0.table, b.0) (a.0.table, b.0) None ∙ here (a.0.table, b.0) _ _ in
+    let write : get u.writes (a.0.table, b.0) ≡ just None =
+    ap (λ (x : State). get x.writes (a.0.table, b.0)) (sym at) ∙ get-insert key_cmp_total s.writes (a.0.table, b.0) None (a.0.table, b.0) ∙ here (a.0.table, b.0) _ _ in
+    let P : ℕ → ℕ → Type 0 = λ (m : ℕ) (n : ℕ). (get u.rows (m, n) ≡ None) × (get u.writes (m, n) ≡ just None) in
+    subst (λ (m : ℕ). P m key) t (subst (λ (n : ℕ). P a.0.table n) k (row, write))
 
 -- ---- places
 

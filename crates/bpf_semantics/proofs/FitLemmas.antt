@@ -28,7 +28,7 @@ use Rattle.bpf_semantics.specs.declared.value.Value.TheVariants.{Nothing, Number
 use Rattle.bpf_semantics.specs.State.{number}
 use Rattle.bpf_semantics.specs.Helpers.{buffer_of}
 use Rattle.bpf_semantics.specs.Memory.{and_then, load_value, index_in, stack_index, known_list, known_bytes, stack_with, stack_bytes, args_bytes, memory_bytes, stack_with_store, memory_with_store}
-use Rattle.bpf_semantics.specs.Step.{near_place, moved_place, is_move, move_result, place_result, binary_result, operation_result}
+use Rattle.bpf_semantics.specs.Step.{near_place, moved_place, is_move_operation, move_result, place_result, binary_result, operation_result}
 use Rattle.bpf_semantics.specs.Fit.{IsPlace, IsValue, IsStackByte}
 use Rattle.bpf_semantics.proofs.StepLemmas.{just, bound, some_is}
 
@@ -127,7 +127,7 @@ binary_fits width op (Args place) (Args q) v e = absurd cc
 pub operation_fits : (width : Width) (op : BinaryOperation) (a b v : Value) → PlaceFits b → operation_result width op a b ≡ just v → IsValue v
 unfolding operation_result
 operation_fits width op a b v fits e =
-    elim (is_move op) as (λ m. cond m (move_result width b) (binary_result width op a b) ≡ just v → IsValue v) [
+    elim (is_move_operation op) as (λ m. cond m (move_result width b) (binary_result width op a b) ≡ just v → IsValue v) [
       | true ↦ λ h. move_fits width b v fits h
       | false ↦ λ h. binary_fits width op a b v h
     ] e

@@ -20,6 +20,10 @@ pub state_fits : (p : Program) (tables : Tables) (args : List ℕ) (rows : Rows)
     → moment p tables k (entry_state args rows) ≡ Going s → IsState tables s
 state_fits p tables args rows k s is bytes are e = subst (MomentFits tables) e (moment_fits p tables args rows k is.in_range bytes are)
 
+pub ended_fits : (p : Program) (tables : Tables) (args : List ℕ) (rows : Rows) (k reply : ℕ) (s : State) → IsProgram p → All (λ b. b < 256) args → AreRows tables rows
+    → moment p tables k (entry_state args rows) ≡ Ended reply s → IsState tables s × (reply < 2 ^ 64)
+ended_fits p tables args rows k reply s is bytes are e = subst (MomentFits tables) e (moment_fits p tables args rows k is.in_range bytes are)
+
 pub state_rows : (p : Program) (tables : Tables) (args : List ℕ) (rows : Rows) (k : ℕ) (s : State) → moment p tables k (entry_state args rows) ≡ Going s → s.rows ≡ after_writes s.writes rows
 state_rows p tables args rows k s e = going_keeps rows p tables k (entry_state args rows) s e (sym (after_writes-empty rows))
 

@@ -129,6 +129,53 @@ execute_looks tables (Call helper) s t e =
     same tables s.looks (past 1 a.0) t (called_looks tables h.0 s a.0 h.2) (going_is (past 1 a.0) t a.2)
 execute_looks tables Exit s t e = let a = going_on _ _ t e in absurd cc
 
+-- ---- an instruction that is no call looks at nothing
+
+quiet : (n : ℕ) (s u t : State) → u.looks ≡ s.looks → Going (past n u) ≡ Going t → t.looks ≡ s.looks
+quiet n s u t p e = ap (λ (x : State). x.looks) (sym (going_is (past n u) t e)) ∙ p
+
+set_quiet : (n : ℕ) (dst : Register) (v : Value) (s t : State) → with_result n dst v s ≡ Going t → t.looks ≡ s.looks
+set_quiet n dst v s t e = quiet n s (with_register s dst v) t refl (set_is n dst v s t e)
+
+store_quiet : (o : Option (List (Option ℕ))) (s t : State) → with_store o s ≡ Going t → t.looks ≡ s.looks
+store_quiet o s t e = let a = going_on o _ t e in quiet 1 s (with_stack a.0 s) t refl a.2
+
+jump_quiet : (d : ℤ) (s t : State) → after_jump d s ≡ Going t → t.looks ≡ s.looks
+jump_quiet (pos n) s t e = quiet (1 + n) s s t refl e
+jump_quiet (negsuc n) s t e = absurd cc
+
+branch_quiet : (b : Bool) (d : ℤ) (s t : State) → cond b (after_jump d s) (Going (past 1 s)) ≡ Going t → t.looks ≡ s.looks
+branch_quiet true d s t e = jump_quiet d s t e
+branch_quiet false d s t e = quiet 1 s s t refl e
+
+pub execute_quiet : (tables : Tables) (i : Instruction) (s t : State) → ((n : ℤ) → i ≡ Call n → ⊥) → execute tables i s ≡ Going t → t.looks ≡ s.looks
+unfolding execute
+execute_quiet tables (LoadWide dst value) s t no_call e = set_quiet 2 dst _ s t e
+execute_quiet tables (Load kind dst src offset) s t no_call e = let a = going_on _ _ t e in set_quiet 1 dst _ s t a.2
+execute_quiet tables (StoreImmediate size dst offset immediate) s t no_call e = store_quiet _ s t e
+execute_quiet tables (StoreRegister size dst src offset) s t no_call e = let a = going_on _ _ t e in store_quiet _ s t a.2
+execute_quiet tables (Arithmetic width op dst src) s t no_call e = let a = going_on _ _ t e in set_quiet 1 dst _ s t a.2
+execute_quiet tables (Negate width dst) s t no_call e = let a = going_on _ _ t e in set_quiet 1 dst _ s t a.2
+execute_quiet tables (MoveSignExtended kind dst src) s t no_call e = let a = going_on _ _ t e in set_quiet 1 dst _ s t a.2
+execute_quiet tables (End order width dst) s t no_call e = let a = going_on _ _ t e in set_quiet 1 dst _ s t a.2
+execute_quiet tables (Jump distance) s t no_call e = jump_quiet distance s t e
+execute_quiet tables (LongJump distance) s t no_call e = jump_quiet distance s t e
+execute_quiet tables (Branch width condition dst src distance) s t no_call e =
+    let a = going_on _ _ t e in
+    let b = going_on _ _ t a.2 in
+    branch_quiet (holds (width_bits width) condition a.0 b.0) distance s t b.2
+execute_quiet tables (Call helper) s t no_call e = absurd (no_call helper refl)
+execute_quiet tables Exit s t no_call e = let a = going_on _ _ t e in absurd cc
+
+-- a call leaves what its helper does
+pub execute_call : (tables : Tables) (n : ℤ) (s t : State) → execute tables (Call n) s ≡ Going t
+    → (h : Helper) × (u : State) × (helper_of n ≡ just h) × (state_after_call tables h s ≡ just u) × (t ≡ past 1 u)
+unfolding execute
+execute_call tables n s t e =
+    let a = going_on _ _ t e in
+    let h = bound (helper_of n) _ a.0 a.1 in
+    (h.0, a.0, h.1, h.2, sym (going_is (past 1 a.0) t a.2))
+
 -- ---- what was looked at stays so
 
 any_append : (looks : List Look) (look : Look) (q : Key) → any_covers (looks ++ look ∷ []) q ≡ (any_covers looks q || covers look q)

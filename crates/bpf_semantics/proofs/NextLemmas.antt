@@ -24,7 +24,7 @@ wide_or_not (Call a) n e = inr (refl, sym (some_is 1 n e))
 wide_or_not Exit n e = absurd cc
 
 -- of slots that are such, at the first an instruction begins, where there is one
-first_begins : (p : Program) → AreSlots false p → 0 < length p → IsSome (instruction_at p 0)
+pub first_begins : (p : Program) → AreSlots false p → 0 < length p → IsSome (instruction_at p 0)
 unfolding AreSlots
 first_begins [] slots some = absurd (omega arith)
 first_begins (None ∷ p) slots some = absurd slots

@@ -25,6 +25,7 @@ use Rattle.bpf_code.specs.Sizes.{size_bytes, load_bytes, width_bits, extension_w
 use Rattle.bpf_code.specs.Program.{Program, instruction_at, IsInRange, AllInRange}
 use Rattle.std.proofs.lemmas.Int.{ints}
 use Rattle.std.specs.Int.{w64, cast_unsigned}
+use Rattle.bpf_code.proofs.ProgramLemmas.{range_at}
 use Rattle.schema.specs.Schema.{Tables}
 use Rattle.schema.specs.declared.look.Look.{Look}
 use Rattle.schema.specs.Rows.{Key, Rows, Writes, IsKey, IsRow, IsWrite, AreRows, AreWrites, row_at, first_in, after_write, with_write, after_writes, key_cmp, key_cmp_total}
@@ -78,7 +79,7 @@ fits_register tables s dst v free value h = record {
   frame_pointer = get_or-set_other s.registers (number_of dst) 10 v Nothing (not_frame dst free) ∙ h.frame_pointer;
   values = All-set IsValue s.registers (number_of dst) v value h.values;
   stack = h.stack;
-  stack_bytes = h.stack_bytes;
+  each_stack_byte = h.each_stack_byte;
   args = h.args;
   rows = h.rows;
   writes = h.writes;
@@ -92,7 +93,7 @@ fits_past tables n s h = record {
   frame_pointer = h.frame_pointer;
   values = h.values;
   stack = h.stack;
-  stack_bytes = h.stack_bytes;
+  each_stack_byte = h.each_stack_byte;
   args = h.args;
   rows = h.rows;
   writes = h.writes;
@@ -101,7 +102,7 @@ fits_past tables n s h = record {
 }
 
 whole : (tables : Tables) (s : State) → IsState tables s → IsWhole s.stack
-whole tables s h = record { long = h.stack; each = h.stack_bytes }
+whole tables s h = record { long = h.stack; each = h.each_stack_byte }
 
 pub fits_stack : (tables : Tables) (stack : List (Option ℕ)) (s : State) → IsWhole stack → IsState tables s → IsState tables (with_stack stack s)
 fits_stack tables stack s w h = record {
@@ -109,7 +110,7 @@ fits_stack tables stack s w h = record {
   frame_pointer = h.frame_pointer;
   values = h.values;
   stack = w.long;
-  stack_bytes = w.each;
+  each_stack_byte = w.each;
   args = h.args;
   rows = h.rows;
   writes = h.writes;
@@ -131,7 +132,7 @@ fits_answer tables answer s small h =
       frame_pointer = frame;
       values = All-cons IsValue (Number answer) (replicate 5 Nothing ++ drop 6 s.registers) small (All-append IsValue (replicate 5 Nothing) (drop 6 s.registers) (All-replicate IsValue 5 Nothing tt) (All-drop IsValue 6 s.registers h.values));
       stack = h.stack;
-      stack_bytes = h.stack_bytes;
+      each_stack_byte = h.each_stack_byte;
       args = h.args;
       rows = h.rows;
       writes = h.writes;
@@ -145,7 +146,7 @@ fits_look tables look s is h = record {
   frame_pointer = h.frame_pointer;
   values = h.values;
   stack = h.stack;
-  stack_bytes = h.stack_bytes;
+  each_stack_byte = h.each_stack_byte;
   args = h.args;
   rows = h.rows;
   writes = h.writes;
@@ -174,7 +175,7 @@ fits_put tables table key bytes s row h = record {
   frame_pointer = h.frame_pointer;
   values = h.values;
   stack = h.stack;
-  stack_bytes = h.stack_bytes;
+  each_stack_byte = h.each_stack_byte;
   args = h.args;
   rows = rows_with_put tables s.rows table key bytes row h.rows;
   writes = writes_with_put tables s.writes table key bytes row h.writes;
@@ -188,7 +189,7 @@ fits_removal tables table key s at h = record {
   frame_pointer = h.frame_pointer;
   values = h.values;
   stack = h.stack;
-  stack_bytes = h.stack_bytes;
+  each_stack_byte = h.each_stack_byte;
   args = h.args;
   rows = rows_with_removal tables s.rows (table, key) h.rows;
   writes = writes_with_removal tables s.writes (table, key) at h.writes;
@@ -202,7 +203,7 @@ fits_code tables code s small h = record {
   frame_pointer = h.frame_pointer;
   values = h.values;
   stack = h.stack;
-  stack_bytes = h.stack_bytes;
+  each_stack_byte = h.each_stack_byte;
   args = h.args;
   rows = h.rows;
   writes = h.writes;
@@ -298,7 +299,7 @@ called_fits tables RowPut s u e fits =
     let f = bound _ _ u d.2 in
     let known = width_is tables (register s R1) a.0 a.1 in
     let small = number_fits (register s R2) b.0 (register_fits tables s R2 fits) b.1 in
-    let bytes = stack_part_fits s.stack d.0 a.0.width f.0 fits.stack fits.stack_bytes (buffer_within (register s R3) a.0.width d.0 d.1) f.1 in
+    let bytes = stack_part_fits s.stack d.0 a.0.width f.0 fits.stack fits.each_stack_byte (buffer_within (register s R3) a.0.width d.0 d.1) f.1 in
     let row : IsRow tables a.0.table b.0 f.0 = record {
       at_key = record { table_is = known_at tables a.0.table a.0.width known; key_fits = small };
       width = known ∙ ap (λ (n : ℕ). just n) (sym bytes.counted);
@@ -376,7 +377,7 @@ unfolding execute
 execute_fits tables (LoadWide dst value) s t range e h = set_fits tables 2 dst (Number value) s t range e h
 execute_fits tables (Load kind dst src offset) s t range e h =
     let a = going_on _ _ t e in
-    let bytes = memory_fits s.stack s.args (register s src) offset (load_bytes kind) a.0 h.stack h.stack_bytes h.args a.1 in
+    let bytes = memory_fits s.stack s.args (register s src) offset (load_bytes kind) a.0 h.stack h.each_stack_byte h.args a.1 in
     set_fits tables 1 dst _ s t (load_fits kind a.0 bytes.counted bytes.each) a.2 h
 execute_fits tables (StoreImmediate size dst offset immediate) s t range e h =
     stored_fits tables (register s dst) offset (little_bytes (size_bytes size) (cast_unsigned w64 immediate)) s t (stored_bytes (size_bytes size) (cast_unsigned w64 immediate)) e h
@@ -404,13 +405,6 @@ execute_fits tables (Call helper) s t range e h =
 execute_fits tables Exit s t range e h = let a = going_on _ _ t e in absurd cc
 
 -- ---- runs
-
-pub range_at : (p : Program) (slot : ℕ) (i : Instruction) → AllInRange p → instruction_at p slot ≡ just i → IsInRange i
-range_at [] slot i all e = absurd cc
-range_at (None ∷ p) zero i all e = absurd cc
-range_at (None ∷ p) (suc slot) i all e = range_at p slot i all e
-range_at (Some j ∷ p) zero i all e = subst IsInRange (some_is j i e) all.0
-range_at (Some j ∷ p) (suc slot) i all e = range_at p slot i all.1 e
 
 ended_reply : (r : ℕ) (s : State) (q : ℕ) (t : State) → Ended r s ≡ Ended q t → r ≡ q
 ended_reply r s q t e = cc
@@ -446,7 +440,7 @@ entry_fits tables args rows bytes are =
           (All-cons IsValue (Args (pos 0)) (replicate 8 Nothing ++ Stack (pos 0) ∷ []) zero_fits
           (All-append IsValue (replicate 8 Nothing) (Stack (pos 0) ∷ []) (All-replicate IsValue 8 Nothing tt) (All-cons IsValue (Stack (pos 0)) [] zero_fits (All-nil IsValue))));
       stack = length-replicate 512 (none {X = ℕ});
-      stack_bytes = All-replicate IsStackByte 512 (none {X = ℕ}) tt;
+      each_stack_byte = All-replicate IsStackByte 512 (none {X = ℕ}) tt;
       args = bytes;
       rows = are;
       writes = no_writes tables;

@@ -40,7 +40,7 @@ pub record IsState (tables : Tables) (s : State) : Type 0 where
   pub frame_pointer : register s R10 ≡ Stack (pos 0)
   pub values : All IsValue s.registers
   pub stack : length s.stack ≡ 512
-  pub stack_bytes : All IsStackByte s.stack
+  pub each_stack_byte : All IsStackByte s.stack
   pub args : All (λ b. b < 256) s.args
   pub rows : AreRows tables s.rows
   pub writes : AreWrites tables s.writes
@@ -57,7 +57,7 @@ pub record IsRunOf (tables : Tables) (r : Run) : Type 0 where
 
 -- ---- what a step adds
 
--- the slot behind the instruction or the one that it jumps to, so many slots on
+-- so many slots on from there; nowhere where there is no such way
 abbrev pub Leads : Option ℕ → ℕ → ℕ → Type 0
 Leads None from to = ⊥
 Leads (Some slots) from to = to ≡ from + slots
@@ -72,5 +72,6 @@ pub record PutLeaves (s t : State) (table key width : ℕ) (place : ℤ) (bytes 
   pub from : ℕ
   pub at : stack_index place width ≡ Some from
   pub read : take width (drop from s.stack) ≡ map (λ b. Some b) bytes
+  pub wide : length bytes ≡ width
   pub row : get t.rows (table, key) ≡ Some bytes
   pub write : get t.writes (table, key) ≡ Some (Some bytes)

@@ -86,13 +86,13 @@ binary_result width op (Number a) (Number b) = Some (Number (alu (width_bits wid
 binary_result width op a (Number b) = place_result width op a b
 binary_result _ _ _ _ = None
 
-abbrev pub is_move : BinaryOperation → Bool
-is_move Mov = true
-is_move _ = false
+abbrev pub is_move_operation : BinaryOperation → Bool
+is_move_operation Mov = true
+is_move_operation _ = false
 
 -- what an operation gives on two values
 unfoldable pub operation_result : Width → BinaryOperation → Value → Value → Option Value
-operation_result width op a b = if is_move op then move_result width b else binary_result width op a b
+operation_result width op a b = if is_move_operation op then move_result width b else binary_result width op a b
 
 -- ---- the step
 

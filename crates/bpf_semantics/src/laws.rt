@@ -19,8 +19,8 @@ pub fn the_end_stays()
         → moment p tables k s ≡ Ended reply t → moment p tables (n + k) s ≡ Ended reply t }
 {}
 
-/// There is a run exactly where some moment has ended, and then it is what is read off there; there
-/// is none exactly where some moment is stuck.
+/// Where some moment has ended there is a run, which is what is read off there; there is none exactly
+/// where the moment after as many steps as slots and one is stuck.
 pub fn a_run_ends_or_is_stuck()
     ensures ended { (p : Program) (tables : Tables) (args : List ℕ) (rows : Rows) (k reply : ℕ) (s : State)
         → moment p tables k (entry_state args rows) ≡ Ended reply s

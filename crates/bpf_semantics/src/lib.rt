@@ -14,9 +14,9 @@ pub use states::{
     states_fit,
 };
 pub use steps::{
-    a_program_does_not_run_off_its_end, a_put_leaves_its_bytes, a_step_leads_on,
-    counts_look_at_their_interval, gets_look_at_their_key, nexts_look_to_what_they_find,
-    places_move_so_far, writes_and_cancels_look_at_nothing,
+    a_program_does_not_run_off_its_end, a_put_leaves_its_bytes, a_removal_leaves_nothing,
+    a_step_leads_on, counts_look_at_their_interval, gets_look_at_their_key,
+    nexts_look_to_what_they_find, places_move_so_far, writes_and_cancels_look_at_nothing,
 };
 pub use value::Value;
 

@@ -1,7 +1,7 @@
 //! Runs moment by moment: how long one goes on, which states it comes to, and what an open call
 //! depends on.
 
-ghost use Rattle.std.specs.Prelude.{◌≡◌, All, ℕ, ◌<◌, ◌≤◌, List, length, Some};
+ghost use Rattle.std.specs.Prelude.{◌≡◌, All, ℕ, ◌^◌, ◌<◌, ◌≤◌, List, length, Some};
 ghost use Rattle.std.specs.FinMap.{len};
 ghost use Rattle.bpf_code.specs.Program.{Program, IsProgram};
 ghost use Rattle.schema.specs.Schema.{Tables};
@@ -24,11 +24,15 @@ pub fn a_run_goes_on_to_its_length()
 {}
 
 /// On rows of the schema and arguments of bytes a program's run is in a state that fits while it goes
-/// on, its rows are those of the beginning after its writes, and what comes of it fits too.
+/// on and where it ends, its rows are those of the beginning after its writes, and what comes of it fits too.
 pub fn states_fit()
     ensures going { (p : Program) (tables : Tables) (args : List ℕ) (rows : Rows) (k : ℕ) (s : State)
         → IsProgram p → All (λ b. b < 256) args → AreRows tables rows
         → moment p tables k (entry_state args rows) ≡ Going s → IsState tables s }
+    ensures ended { (p : Program) (tables : Tables) (args : List ℕ) (rows : Rows) (k reply : ℕ) (s : State)
+        → IsProgram p → All (λ b. b < 256) args → AreRows tables rows
+        → moment p tables k (entry_state args rows) ≡ Ended reply s
+        → IsState tables s × (reply < 2 ^ 64) }
     ensures rows { (p : Program) (tables : Tables) (args : List ℕ) (rows : Rows) (k : ℕ) (s : State)
         → moment p tables k (entry_state args rows) ≡ Going s → s.rows ≡ after_writes s.writes rows }
     ensures run { (p : Program) (tables : Tables) (args : List ℕ) (rows : Rows) (r : Run)
@@ -47,7 +51,8 @@ pub fn looks_and_writes_are_few()
 {}
 
 /// An open call depends on the rows only where it has looked so far: on others that have the same
-/// there, present or absent, it is at the same moment in the same state but for the rows.
+/// there, present or absent, it is at the same moment in the same state but for the rows. (Of stuck
+/// runs `a_run_depends_on_its_looks` says it.)
 pub fn an_open_call_depends_on_its_looks()
     ensures going { (p : Program) (tables : Tables) (args : List ℕ) (m n : Rows) (k : ℕ) (s : State)
         → moment p tables k (entry_state args m) ≡ Going s → AgreeOn (any_covers s.looks) m n

@@ -1,23 +1,27 @@
 //! Single steps: where one leads, what it looks at and leaves, how far a place goes.
 
-ghost use Rattle.std.specs.Prelude.{◌≡◌, ◌⊎◌, ◌↔◌, ℕ, ℤ, ◌+◌, ◌<◌, ◌≤◌, ◌+ℤ◌, List, [], ◌∷◌, ◌++◌, Some, None, IsSome};
+ghost use Rattle.std.specs.Prelude.{◌≡◌, ◌≢◌, ◌⊎◌, ℕ, ℤ, ◌+◌, ◌<◌, ◌≤◌, ◌+ℤ◌, List, [], ◌∷◌, ◌++◌, length, Some, None, IsSome};
 ghost use Rattle.std.specs.FinMap.{get};
 ghost use Rattle.bpf_code.specs.declared.instruction.Instruction.{Instruction};
+ghost use Rattle.bpf_code.specs.declared.instruction.Instruction.TheVariants.{Call};
 ghost use Rattle.bpf_code.specs.declared.instruction.Register.TheVariants.{R1, R2, R3};
 ghost use Rattle.bpf_code.specs.Program.{Program, instruction_at, IsProgram};
 ghost use Rattle.schema.specs.Schema.{Tables};
 ghost use Rattle.schema.specs.Rows.{Key, first_in};
+ghost use Rattle.schema.specs.Helper.{helper_of};
+ghost use Rattle.schema.specs.declared.helper.Helper.{Helper};
 ghost use Rattle.schema.specs.declared.helper.Helper.TheVariants.{RowGet, RowPut, RowDelete, RangeCount, RangeNext, Cancel};
 ghost use Rattle.bpf_semantics.specs.declared.value.Value.TheVariants.{Number, Stack, Args};
-ghost use Rattle.bpf_semantics.specs.State.{State, register};
+ghost use Rattle.bpf_semantics.specs.State.{State, register, past};
 ghost use Rattle.bpf_semantics.specs.Helpers.{look_at, state_after_call};
 ghost use Rattle.bpf_semantics.specs.Step.{Going, moved_place, step};
 ghost use Rattle.bpf_semantics.specs.Path.{fall_through, jump_of};
 ghost use Rattle.bpf_semantics.specs.Fit.{IsPlace, Leads, AddsAtMostOne, PutLeaves};
 
-/// A program doesn't run off its end: behind an instruction that falls through, and where it jumps
-/// to, an instruction begins.
+/// A program doesn't run off its end: at its first slot, behind an instruction that falls through, and
+/// where one jumps to, an instruction begins.
 pub fn a_program_does_not_run_off_its_end()
+    ensures first { (p : Program) → IsProgram p → IsSome (instruction_at p 0) }
     ensures next { (p : Program) (slot n : ℕ) (i : Instruction) → IsProgram p
         → instruction_at p slot ≡ Some i → fall_through i ≡ Some n
         → IsSome (instruction_at p (slot + n)) }
@@ -26,7 +30,8 @@ pub fn a_program_does_not_run_off_its_end()
         → IsSome (instruction_at p (slot + n)) }
 {}
 
-/// A step goes on by falling through or by its jump, is counted, and adds at most one look.
+/// A step goes on by falling through or by its jump, and is counted. A call leaves what its helper
+/// does; no other instruction looks at anything, so a step adds at most one look.
 pub fn a_step_leads_on()
     ensures leads { (p : Program) (tables : Tables) (s t : State) → step p tables s ≡ Going t
         → (i : Instruction) × (instruction_at p s.slot ≡ Some i)
@@ -35,6 +40,13 @@ pub fn a_step_leads_on()
         → t.steps ≡ s.steps + 1 }
     ensures looks { (p : Program) (tables : Tables) (s t : State) → step p tables s ≡ Going t
         → AddsAtMostOne s.looks t.looks }
+    ensures call { (p : Program) (tables : Tables) (s t : State) (n : ℤ)
+        → instruction_at p s.slot ≡ Some (Call n) → step p tables s ≡ Going t
+        → (h : Helper) × (u : State) × (helper_of n ≡ Some h)
+        × (state_after_call tables h s ≡ Some u) × (t ≡ past 1 u) }
+    ensures others { (p : Program) (tables : Tables) (s t : State) (i : Instruction)
+        → instruction_at p s.slot ≡ Some i → ((n : ℤ) → i ≢ Call n)
+        → step p tables s ≡ Going t → t.looks ≡ s.looks }
 {}
 
 /// A get looks at its key, and at nothing where the run wrote that key.
@@ -68,7 +80,7 @@ pub fn nexts_look_to_what_they_find()
         → state_after_call tables RangeNext s ≡ Some t → register s R1 ≡ Number table
         → register s R2 ≡ Number lo → register s R3 ≡ Number hi
         → first_in (look_at table lo hi) s.rows ≡ Some (k, bytes)
-        → lo ≤ hi → t.looks ≡ s.looks ++ look_at table lo k.1 ∷ [] }
+        → t.looks ≡ s.looks ++ look_at table lo k.1 ∷ [] }
     ensures none { (tables : Tables) (s t : State) (table lo hi : ℕ)
         → state_after_call tables RangeNext s ≡ Some t → register s R1 ≡ Number table
         → register s R2 ≡ Number lo → register s R3 ≡ Number hi
@@ -95,8 +107,18 @@ pub fn a_put_leaves_its_bytes()
     ensures { (tables : Tables) (s t : State) (table key width : ℕ) (place : ℤ)
         → state_after_call tables RowPut s ≡ Some t → register s R1 ≡ Number table
         → register s R2 ≡ Number key → register s R3 ≡ Stack place
-        → get tables table ≡ Some width
+        → get tables table ≡ Some width → length s.stack ≡ 512
         → (bytes : List ℕ) × PutLeaves s t table key width place bytes }
+{}
+
+/// A removal leaves no row at its key, and is a write there, whether a row stood or not.
+pub fn a_removal_leaves_nothing()
+    ensures row { (tables : Tables) (s t : State) (table key : ℕ)
+        → state_after_call tables RowDelete s ≡ Some t → register s R1 ≡ Number table
+        → register s R2 ≡ Number key → get t.rows (table, key) ≡ None }
+    ensures write { (tables : Tables) (s t : State) (table key : ℕ)
+        → state_after_call tables RowDelete s ≡ Some t → register s R1 ≡ Number table
+        → register s R2 ≡ Number key → get t.writes (table, key) ≡ Some None }
 {}
 
 /// A place moves to each other that is at most 65,536 away, and no further.

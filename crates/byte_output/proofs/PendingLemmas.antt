@@ -3,12 +3,12 @@ use Rattle.std.proofs.Common.{◌≡◌, ℕ, List, [], ◌++◌, Option, Result
 use Rattle.std.proofs.lemmas.List.{append-nil}
 use Rattle.std.specs.Io.KnownBytes.{Appends}
 use Rattle.byte_output.specs.declared.paged.PagedOutput.{PagedOutput}
-use Rattle.byte_output.specs.Writes.{AppendsBeginning, Writes}
+use Rattle.byte_output.specs.Writes.{AppendsBeginning, WritesText}
 use Rattle.byte_output.specs.Pending.{output_of, pending_of, Passes}
 use Rattle.byte_output.proofs.WritesLemmas.{Appends-then, AppendsBeginning-then}
 
 -- what was pending left, and then the text did
-pub Takes-directly : {T E : Type 0} (a b c : Option (List ℕ)) (pending text : List ℕ) (result : Result T E) → Appends a b pending → Writes b c result text
+pub Takes-directly : {T E : Type 0} (a b c : Option (List ℕ)) (pending text : List ℕ) (result : Result T E) → Appends a b pending → WritesText b c result text
     → MatchResult result (λ _. (left : List ℕ) × (pending ++ text ≡ left ++ []) × Appends a c left) (λ _. AppendsBeginning a c (pending ++ text))
 Takes-directly a b c pending text (Ok x) p q = (pending ++ text, sym (append-nil (pending ++ text)), Appends-then a b c pending text p q)
 Takes-directly a b c pending text (Err e) p q =
@@ -44,7 +44,7 @@ AppendsBeginning-finished contents a b old new text same none (left, split, p) q
 
 -- a text that was given where nothing was pending, and then what was pending of it, or a beginning of that
 pub Writes-finished : {W T E : Type 0} (contents : W → Option (List ℕ)) (a b : PagedOutput W) (old : W) (new left : Option (List ℕ)) (text : List ℕ) (result : Result T E) → new ≡ left → (output_of a).now ≡ old
-    → pending_of a ≡ [] → Passes contents a b text → Writes (contents (output_of b).now) left result (pending_of b) → Writes (contents old) new result text
+    → pending_of a ≡ [] → Passes contents a b text → WritesText (contents (output_of b).now) left result (pending_of b) → WritesText (contents old) new result text
 Writes-finished contents a b old new left text (Err e) is same none passes q =
     subst (λ (t : Option (List ℕ)). AppendsBeginning (contents old) t text) (sym is) (AppendsBeginning-finished contents a b old left text same none passes q)
 Writes-finished contents a b old new left text (Ok x) is same none (front, split, p) q =

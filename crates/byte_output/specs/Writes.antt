@@ -7,5 +7,5 @@ abbrev pub AppendsBeginning : Option (List ℕ) → Option (List ℕ) → List �
 AppendsBeginning old new text = (front : List ℕ) × (rest : List ℕ) × (text ≡ front ++ rest) × Appends old new front
 
 -- at `Ok` the whole text is appended, at `Err` a beginning of it
-abbrev pub Writes : {T E : Type 0} → Option (List ℕ) → Option (List ℕ) → Result T E → List ℕ → Type 0
-Writes old new result text = MatchResult result (λ _. Appends old new text) (λ _. AppendsBeginning old new text)
+abbrev pub WritesText : {T E : Type 0} → Option (List ℕ) → Option (List ℕ) → Result T E → List ℕ → Type 0
+WritesText old new result text = MatchResult result (λ _. Appends old new text) (λ _. AppendsBeginning old new text)

@@ -3,7 +3,7 @@
 
 ghost use Rattle.std.specs.Prelude.{◌≤◌, length, IfOk};
 ghost use Rattle.std.specs.Io.KnownBytes.{WriteAppends};
-ghost use Rattle.byte_output.specs.Writes.{Writes};
+ghost use Rattle.byte_output.specs.Writes.{WritesText};
 
 use std::io;
 use std::io::{ErrorKind, Write};
@@ -29,7 +29,7 @@ fn write_some<W: Write>(output: &mut W, bytes: &[u8]) -> io::Result<usize>
 /// that fails, or takes nothing, ends the call.
 pub fn put<W: Write>(output: &mut W, bytes: &[u8]) -> io::Result<()>
     // At `Ok` the bytes are appended, at `Err` some of them from the front.
-    ensures { Writes (W.contents output.old) (W.contents output.new) result bytes.now }
+    ensures { WritesText (W.contents output.old) (W.contents output.new) result bytes.now }
 {
     let mut rest = bytes;
     for _ in 0..u64::MAX {

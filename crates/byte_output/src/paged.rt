@@ -1,7 +1,7 @@
 //! An output in front of which a page is kept, so that few writes reach it.
 
 ghost use Rattle.std.specs.Prelude.{◌≡◌, ◌≤◌, ◌+◌, [], length, IsOk, OnErr};
-ghost use Rattle.byte_output.specs.Writes.{Writes};
+ghost use Rattle.byte_output.specs.Writes.{WritesText};
 
 use crate::put;
 use arrayvec::ArrayVec;
@@ -58,7 +58,7 @@ impl<'a, W: Write> PagedOutput<'a, W> {
 
     /// Puts out what is pending, and flushes the output.
     pub fn finish(self) -> io::Result<()>
-        ensures { Writes (W.contents (output_of self.entry).now) (W.contents self.exit.0.now) result (pending_of self.entry) }
+        ensures { WritesText (W.contents (output_of self.entry).now) (W.contents self.exit.0.now) result (pending_of self.entry) }
     {
         let PagedOutput { output, pending } = self;
         put(output, &pending)?;
@@ -67,7 +67,7 @@ impl<'a, W: Write> PagedOutput<'a, W> {
 
     fn put_out(&mut self) -> io::Result<()>
         ensures same_output { (output_of self.new).ghost_name ≡ (output_of self.old).ghost_name }
-        ensures bytes { Writes (W.contents (output_of self.old).now) (W.contents (output_of self.new).now) result (pending_of self.old) }
+        ensures bytes { WritesText (W.contents (output_of self.old).now) (W.contents (output_of self.new).now) result (pending_of self.old) }
         ensures empty { pending_of self.new ≡ [] }
     {
         let written = put(self.output, &self.pending);

@@ -30,6 +30,7 @@ pub fn list_over<A: Allocator + Copy, R: Read, W: Write, E: Write>(
     faults: &mut E,
 ) -> u8
     // The status is that of the bytes, or something failed.
+    ensures range { ((result ≡ 0) ⊎ (result ≡ 1)) ⊎ (result ≡ FAILED) }
     ensures status { IfSome (R.remaining input.old) (λ bytes.
         (result ≡ FAILED) ⊎ (result ≡ status_of (program_of bytes))) }
 
@@ -60,6 +61,7 @@ fn list<A: Allocator + Copy, R: Read, W: Write>(
     ensures ok { IfOk result (λ status. IfSome (R.remaining input.old) (λ bytes.
         Appends (W.contents output.old) (W.contents output.new) (text_of (program_of bytes))
         × (status ≡ status_of (program_of bytes)))) }
+    ensures range { IfOk result (λ status. (status ≡ 0) ⊎ (status ≡ 1)) }
     ensures err { OnErr result (IfSome (R.remaining input.old) (λ bytes.
         AppendsBeginning (W.contents output.old) (W.contents output.new) (text_of (program_of bytes)))) }
 {

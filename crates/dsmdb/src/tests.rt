@@ -69,6 +69,8 @@ impl Write for Output {
 fn listed(rt: &HostRuntime, mut input: Input<'_>, mut output: Output) -> (u8, Vec<u8>) {
     let mut faults = Vec::new(rt.alloc());
     let status = list_over(rt.alloc(), &mut input, &mut output, &mut faults);
+    // A fault is told where there was one.
+    assert_eq!(rt; faults.is_empty(), status != 3);
     (status, output.held)
 }
 

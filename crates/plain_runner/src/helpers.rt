@@ -1,10 +1,10 @@
 //! What each helper does, as the definitions say it.
 
-ghost use Rattle.std.specs.Prelude.{◌≡◌, ◌∷◌, ◌++◌, replicate, drop, IfOk, option_map};
+ghost use Rattle.std.specs.Prelude.{◌≡◌, ◌∷◌, ◌++◌, replicate, drop, IfOk, option_map, Some, None};
 ghost use Rattle.bpf_semantics.specs.declared.value.Value.TheVariants.{Nothing, Number};
 ghost use Rattle.schema.specs.Schema.{Tables};
 ghost use Rattle.schema.specs.declared.helper.Helper.TheVariants.{RowGet, RowPut, RowDelete, RangeCount, RangeNext, Cancel};
-ghost use Rattle.bpf_semantics.specs.Helpers.{Table, table_of, with_answer, with_point_look};
+ghost use Rattle.bpf_semantics.specs.Helpers.{Table, table_of, with_answer, with_look, with_point_look};
 ghost use Rattle.bpf_semantics.specs.Helpers.{with_range_look, with_row_write, row_get, row_put, range_next, state_after_call};
 ghost use Rattle.plain_runner.specs.Runner.{state_of};
 
@@ -57,38 +57,39 @@ impl<A: Allocator + Copy> State<A> {
         self
     }
 
-    /// A get looks at its key, unless the run put or removed it before.
-    fn with_point_look(mut self, table: u8, key: u64) -> Result<State<A>, AllocError>
-        ensures { IfOk result (λ s. state_of s ≡ with_point_look table key (state_of self)) }
+    fn with_look(mut self, look: Look) -> Result<State<A>, AllocError>
+        ensures { IfOk result (λ s. state_of s ≡ with_look look (state_of self)) }
     {
-        if self.writes.get(table, key).is_none() {
-            self.looks.push(Look {
-                table,
-                lo: key,
-                hi: key,
-            })?;
-        }
+        self.looks.push(look)?;
         Ok(self)
     }
 
+    /// A get looks at its key, unless the run put or removed it before.
+    fn with_point_look(self, table: u8, key: u64) -> Result<State<A>, AllocError>
+        ensures { IfOk result (λ s. state_of s ≡ with_point_look table key (state_of self)) }
+    {
+        if self.writes.get(table, key).is_some() {
+            return Ok(self);
+        }
+        self.with_look(Look {
+            table,
+            lo: key,
+            hi: key,
+        })
+    }
+
     /// A range looks from lo to the last key that its answer depends on.
-    fn with_range_look(
-        mut self,
-        table: u8,
-        lo: u64,
-        hi: u64,
-        last: u64,
-    ) -> Result<State<A>, AllocError>
+    fn with_range_look(self, table: u8, lo: u64, hi: u64, last: u64) -> Result<State<A>, AllocError>
         ensures { IfOk result (λ s. state_of s ≡ with_range_look table lo hi last (state_of self)) }
     {
-        if lo <= hi {
-            self.looks.push(Look {
-                table,
-                lo,
-                hi: last,
-            })?;
+        if lo > hi {
+            return Ok(self);
         }
-        Ok(self)
+        self.with_look(Look {
+            table,
+            lo,
+            hi: last,
+        })
     }
 
     /// Gets a row.
@@ -134,28 +135,29 @@ impl<A: Allocator + Copy> State<A> {
         Ok(Some(looked.with_answer(answer)))
     }
 
-    /// A put has bytes, a removal none.
-    fn with_row_write(
+    /// The row becomes these bytes.
+    fn with_put(
         mut self,
         alloc: A,
         table: u8,
         key: u64,
-        bytes: Option<Vec<u8, A>>,
+        bytes: Vec<u8, A>,
     ) -> Result<State<A>, AllocError>
         ensures { IfOk result (λ s.
-            state_of s ≡ with_row_write table key (option_map (λ v. v.items) bytes) (state_of self)) }
+            state_of s ≡ with_row_write table key (Some bytes.items) (state_of self)) }
     {
-        match bytes {
-            Some(bytes) => {
-                let copy = Vec::from_slice(alloc, &bytes)?;
-                self.rows.insert(table, key, Bytes::new(bytes))?;
-                self.writes.insert(table, key, Some(Bytes::new(copy)))?;
-            }
-            None => {
-                self.rows.remove(table, key);
-                self.writes.insert(table, key, None)?;
-            }
-        }
+        let copy = Vec::from_slice(alloc, &bytes)?;
+        self.rows.insert(table, key, Bytes::new(bytes))?;
+        self.writes.insert(table, key, Some(Bytes::new(copy)))?;
+        Ok(self)
+    }
+
+    /// The row is removed.
+    fn with_removal(mut self, table: u8, key: u64) -> Result<State<A>, AllocError>
+        ensures { IfOk result (λ s. state_of s ≡ with_row_write table key None (state_of self)) }
+    {
+        self.rows.remove(table, key);
+        self.writes.insert(table, key, None)?;
         Ok(self)
     }
 
@@ -196,16 +198,12 @@ impl<A: Allocator + Copy> State<A> {
         let Some(bytes) = known_bytes(alloc, &self.stack, buffer, width)? else {
             return Ok(None);
         };
-        let written = self.with_row_write(alloc, table, key, Some(bytes))?;
+        let written = self.with_put(alloc, table, key, bytes)?;
         Ok(Some(written.with_answer(0)))
     }
 
     /// Removes a row.
-    fn row_delete<B: Allocator>(
-        self,
-        alloc: A,
-        schema: &Schema<B>,
-    ) -> Result<Option<State<A>>, AllocError>
+    fn row_delete<B: Allocator>(self, schema: &Schema<B>) -> Result<Option<State<A>>, AllocError>
         ensures { IfOk result (λ s.
             option_map state_of s ≡ state_after_call schema.now RowDelete (state_of self)) }
     {
@@ -215,7 +213,7 @@ impl<A: Allocator + Copy> State<A> {
         let Some(key) = number(self.register(Register::R2)) else {
             return Ok(None);
         };
-        let written = self.with_row_write(alloc, table, key, None)?;
+        let written = self.with_removal(table, key)?;
         Ok(Some(written.with_answer(0)))
     }
 
@@ -314,7 +312,7 @@ impl<A: Allocator + Copy> State<A> {
         match helper {
             Helper::RowGet => self.row_get(alloc, schema),
             Helper::RowPut => self.row_put(alloc, schema),
-            Helper::RowDelete => self.row_delete(alloc, schema),
+            Helper::RowDelete => self.row_delete(schema),
             Helper::RangeCount => self.range_count(schema),
             Helper::RangeNext => self.range_next(alloc, schema),
             Helper::Cancel => Ok(self.cancel()),

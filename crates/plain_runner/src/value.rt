@@ -5,7 +5,7 @@ ghost use Rattle.bpf_words.specs.Operation.{alu};
 ghost use Rattle.bpf_words.specs.Condition.{holds};
 ghost use Rattle.bpf_code.specs.Sizes.{width_bits};
 ghost use Rattle.bpf_semantics.specs.State.{number};
-ghost use Rattle.bpf_semantics.specs.Step.{near_place, moved_place, is_move, move_result, place_result, binary_result};
+ghost use Rattle.bpf_semantics.specs.Step.{near_place, moved_place, is_move_operation, move_result, place_result, binary_result};
 ghost use Rattle.bpf_semantics.specs.Step.{operation_result};
 
 use bpf_code::Width;
@@ -55,15 +55,15 @@ pub(crate) fn operation_result(
 ) -> Option<Value>
     ensures { result ≡ operation_result width op a b }
 {
-    if is_move(op) {
+    if is_move_operation(op) {
         move_result(width, b)
     } else {
         binary_result(width, op, a, b)
     }
 }
 
-fn is_move(op: BinaryOperation) -> bool
-    ensures { result ≡ is_move op }
+fn is_move_operation(op: BinaryOperation) -> bool
+    ensures { result ≡ is_move_operation op }
 {
     matches!(op, BinaryOperation::Mov)
 }

@@ -1,15 +1,12 @@
-// What no clause says: which growth is refused, what the counters show, and that each collection can use it.
+// What no clause says: which growth is refused, what the counters show, and that a collection can use it.
 use crate::Scarce;
-use indexmap::IndexMap;
-use std::alloc::{AllocError, Allocator};
+use std::alloc::AllocError;
 use std::collections::BTreeMap;
 use std::process::Abort;
-use std::string::String;
 use std::sync::atomic::{AtomicU64, Ordering};
-use std::sync::{Arc, Barrier, Wait};
+use std::sync::{Barrier, Wait};
 use std::test::Fail;
 use std::thread;
-use std::thread::Threads;
 
 #[test]
 fn a_list_keeps_its_elements(rt: HostRuntime) -> Result<(), Fail> {
@@ -27,22 +24,6 @@ fn a_list_keeps_its_elements(rt: HostRuntime) -> Result<(), Fail> {
     assert!(rt; list.capacity() >= 101);
     assert_eq!(rt; list.as_slice(), [1].as_slice());
     Ok(())
-}
-
-#[test]
-fn a_box_gives_its_value_back(rt: HostRuntime) {
-    let scarce = Scarce::new(rt.alloc());
-    let failed = scarce.refuse_each(|| match Box::new(&scarce, 7u8) {
-        Ok(boxed) => {
-            assert_eq!(rt; *boxed, 7);
-            true
-        }
-        Err(refused) => {
-            assert_eq!(rt; refused.value, 7);
-            false
-        }
-    });
-    assert_eq!(rt; failed, Some(1));
 }
 
 #[test]
@@ -71,103 +52,36 @@ fn a_tree_keeps_its_entries(rt: HostRuntime) {
     assert!(rt; scarce.refused() > 1);
 }
 
+/// What is asked for, and which of the next growths are refused then.
 #[test]
-fn a_map_keeps_its_entries(rt: HostRuntime) {
+fn growths_are_refused_as_asked(rt: HostRuntime) {
     let scarce = Scarce::new(rt.alloc());
-    let mut map = IndexMap::new(&scarce);
-    for key in 0..100u32 {
-        let len = map.len();
-        let failed = scarce.refuse_each(|| match map.insert(key, key) {
-            Ok(old) => {
-                assert_eq!(rt; old, None);
-                true
-            }
-            Err(refused) => {
-                assert_eq!(rt; refused.value, (key, key));
-                assert_eq!(rt; map.len(), len);
-                assert_eq!(rt; map.get(&key), None);
-                false
-            }
-        });
-        assert!(rt; failed.is_some(), "{key}");
-        assert_eq!(rt; map.get(&0).copied(), Some(0));
-        assert_eq!(rt; map.get(&key).copied(), Some(key));
+    for (nth, all, refused) in [
+        (None, None, [false, false, false]),
+        (Some(2), None, [false, true, false]),
+        (Some(0), None, [false, false, false]),
+        (None, Some(true), [true, true, true]),
+        (None, Some(false), [false, false, false]),
+        // The later of two replaces the earlier.
+        (Some(1), Some(false), [false, false, false]),
+        (Some(3), Some(true), [true, true, true]),
+        (Some(1), None, [true, false, false]),
+    ] {
+        let before = (scarce.growths(), scarce.refused());
+        if let Some(nth) = nth {
+            scarce.refuse_nth(nth);
+        }
+        if let Some(all) = all {
+            scarce.refuse_all(all);
+        }
+        let mut count = 0u64;
+        for is_refused in refused {
+            assert_eq!(rt; Box::new(&scarce, 1u8).is_err(), is_refused);
+            count = count.saturating_add(u64::from(is_refused));
+        }
+        let after = (before.0.wrapping_add(3), before.1.wrapping_add(count));
+        assert_eq!(rt; (scarce.growths(), scarce.refused()), after);
     }
-    assert_eq!(rt; map.len(), 100);
-    assert!(rt; scarce.refused() > 1);
-}
-
-#[test]
-fn a_text_keeps_its_bytes(rt: HostRuntime) -> Result<(), Fail> {
-    let scarce = Scarce::new(rt.alloc());
-    let mut text = String::from_str(&scarce, "ab")?;
-    let failed = scarce.refuse_each(|| match text.push_str(" and a longer one") {
-        Ok(()) => true,
-        Err(_) => {
-            assert_eq!(rt; text.as_str(), "ab");
-            false
-        }
-    });
-    assert_eq!(rt; failed, Some(1));
-    assert_eq!(rt; text.as_str(), "ab and a longer one");
-    let failed = scarce.refuse_each(|| String::from_str(&scarce, "ab").is_ok());
-    assert_eq!(rt; failed, Some(1));
-    Ok(())
-}
-
-#[test]
-fn a_shared_value_stays(rt: HostRuntime) -> Result<(), Fail> {
-    let scarce = Scarce::new(rt.alloc());
-    let failed = scarce.refuse_each(|| match Arc::new(&scarce, 7u8) {
-        Ok(shared) => {
-            assert_eq!(rt; *shared, 7);
-            true
-        }
-        Err(refused) => {
-            assert_eq!(rt; refused.value, 7);
-            false
-        }
-    });
-    assert_eq!(rt; failed, Some(1));
-    let mut shared = Arc::new(&scarce, 7u8)?;
-    let other = Arc::try_clone(&shared)?;
-    scarce.refuse_nth(1);
-    assert!(rt; Arc::make_mut(&mut shared).is_err());
-    assert_eq!(rt; *shared, 7);
-    *Arc::make_mut(&mut shared)? = 8;
-    assert_eq!(rt; (*shared, *other), (8, 7));
-    Ok(())
-}
-
-#[test]
-fn the_nth_growth_is_refused(rt: HostRuntime) {
-    let scarce = Scarce::new(rt.alloc());
-    assert!(rt; Box::new(&scarce, 1u8).is_ok());
-    scarce.refuse_nth(2);
-    assert!(rt; Box::new(&scarce, 2u8).is_ok());
-    assert!(rt; Box::new(&scarce, 3u8).is_err());
-    assert!(rt; Box::new(&scarce, 4u8).is_ok());
-    assert_eq!(rt; (scarce.growths(), scarce.refused()), (4, 1));
-    scarce.refuse_nth(1);
-    scarce.refuse_nth(0);
-    assert!(rt; Box::new(&scarce, 5u8).is_ok());
-    assert_eq!(rt; (scarce.growths(), scarce.refused()), (5, 1));
-}
-
-#[test]
-fn all_growths_are_refused(rt: HostRuntime) {
-    let scarce = Scarce::new(rt.alloc());
-    scarce.refuse_all(true);
-    assert!(rt; Box::new(&scarce, 1u8).is_err());
-    assert!(rt; Box::new(&scarce, 2u8).is_err());
-    scarce.refuse_all(false);
-    assert!(rt; Box::new(&scarce, 3u8).is_ok());
-    scarce.refuse_all(true);
-    scarce.refuse_nth(2);
-    assert!(rt; Box::new(&scarce, 4u8).is_ok());
-    scarce.refuse_all(false);
-    assert!(rt; Box::new(&scarce, 5u8).is_ok());
-    assert_eq!(rt; (scarce.growths(), scarce.refused()), (5, 2));
 }
 
 #[test]
@@ -185,37 +99,6 @@ fn a_smaller_block_is_a_growth(rt: HostRuntime) -> Result<(), Fail> {
     assert_eq!(rt; list.capacity(), 1);
     assert_eq!(rt; list.as_slice(), [1].as_slice());
     assert_eq!(rt; (scarce.growths(), scarce.refused()), (3, 1));
-    Ok(())
-}
-
-#[derive(Drop, Debug, PartialEq, Eq)]
-struct Note<A: Allocator> {
-    text: String<A>,
-}
-
-#[test]
-fn a_derived_comparison_serves(rt: HostRuntime) -> Result<(), Fail> {
-    let scarce = Scarce::new(rt.alloc());
-    let mut pair = (
-        Note {
-            text: String::from_str(&scarce, "ab")?,
-        },
-        Note {
-            text: String::from_str(&scarce, "ab")?,
-        },
-    );
-    let failed = scarce.refuse_each(|| {
-        let (note, before) = &mut pair;
-        match note.text.push_str(" and a longer one") {
-            Ok(()) => true,
-            Err(_) => {
-                assert_eq!(rt; note, before);
-                false
-            }
-        }
-    });
-    assert_eq!(rt; failed, Some(1));
-    assert_ne!(rt; pair.0, pair.1);
     Ok(())
 }
 
@@ -364,22 +247,4 @@ fn threads_see_each_refusal(rt: HostRuntime) {
     });
     assert!(rt; refused >= 3);
     assert_eq!(rt; refused, scarce.refused());
-}
-
-#[test]
-fn a_shared_value_crosses_threads(rt: HostRuntime) -> Result<(), Fail> {
-    let scarce = Scarce::new(rt.alloc());
-    let shared = Arc::new(&scarce, 7u8)?;
-    let theirs = Arc::try_clone(&shared)?;
-    let boxed = Box::new(&scarce, 3u8)?;
-    let sum = thread::scope(thread::scope_env(), &rt, |scope| {
-        let handle = scope.spawn(move || u32::from(*theirs) + u32::from(*boxed));
-        match handle {
-            Ok(handle) => handle.join(&rt),
-            Err(_) => 0,
-        }
-    });
-    assert_eq!(rt; sum, 10);
-    assert!(rt; Arc::into_inner(shared).is_some());
-    Ok(())
 }

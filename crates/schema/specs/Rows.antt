@@ -57,7 +57,7 @@ abbrev pub any_covers : List Look → Key → Bool
 any_covers [] k = false
 any_covers (look ∷ looks) k = covers look k || any_covers looks k
 
--- the part of a look up to a key, and the part above it
+-- the part of a look up to one of its keys, and the part above it
 abbrev pub low_part : Look → ℕ → Look
 low_part look key = record look { hi = key }
 

@@ -5,45 +5,18 @@ use scarce::Scarce;
 use std::test::Fail;
 
 #[test]
-fn a_schema_knows_its_widths(rt: HostRuntime) -> Result<(), Fail> {
-    let schema = Schema::new(rt.alloc(), &[(2, 128), (64, 1), (1, 8)])?;
-    let bytes = [0; 128];
-    for (table, width) in [
-        (0, None),
-        (1, Some(8)),
-        (2, Some(128)),
-        (3, None),
-        (64, Some(1)),
-        (65, None),
-        (255, None),
-    ] {
+fn a_schema_has_the_tables_of_its_pairs(rt: HostRuntime) -> Result<(), Fail> {
+    let schema = Schema::new(rt.alloc(), &[(2, 128), (64, 1)])?;
+    for (table, width) in [(1, None), (2, Some(128)), (64, Some(1)), (65, None)] {
         assert_eq!(rt; schema.width(table), width, "at {table}");
-        for length in [0, 1, 7, 8, 9, 128] {
-            let fits = width.map(usize::from) == Some(length);
-            assert_eq!(rt;
-                schema.fits(table, u64::MAX, &bytes[..length]),
-                fits,
-                "{length} at {table}"
-            );
-        }
+        assert_eq!(rt;
+            schema.fits(table, u64::MAX, &[0]),
+            width == Some(1),
+            "at {table}"
+        );
     }
-    let none = Schema::new(rt.alloc(), &[])?;
-    assert_eq!(rt; none.width(1), None);
-
-    let mut pairs = Vec::new(rt.alloc());
-    for table in 1..=64u8 {
-        pairs.push((table, 2 * u16::from(table)))?;
-    }
-    let full = Schema::new(rt.alloc(), &pairs)?;
-    for table in 1..=64u8 {
-        assert_eq!(rt; full.width(table), Some(2 * u16::from(table)));
-    }
-
-    let two = Schema::new(rt.alloc(), &[(1, 8), (2, 16)])?;
-    assert_eq!(rt; two, Schema::new(rt.alloc(), &[(2, 16), (1, 8)])?);
-    for pairs in [&[(1, 8), (2, 17)][..], &[(1, 8), (3, 16)], &[(1, 8)]] {
-        assert_ne!(rt; two, Schema::new(rt.alloc(), pairs)?);
-    }
+    assert_eq!(rt; schema, Schema::new(rt.alloc(), &[(64, 1), (2, 128)])?);
+    assert_ne!(rt; schema, Schema::new(rt.alloc(), &[(64, 1)])?);
     Ok(())
 }
 
@@ -113,22 +86,7 @@ fn each_refused_growth_is_out_of_memory(rt: HostRuntime) -> Result<(), Fail> {
 }
 
 #[test]
-fn looks_cover_their_ends(rt: HostRuntime) {
-    for (lo, hi, table, key, covered) in [
-        (10, 20, 1, 9, false),
-        (10, 20, 1, 10, true),
-        (10, 20, 1, 20, true),
-        (10, 20, 1, 21, false),
-        (10, 20, 2, 15, false),
-        (20, 10, 1, 15, false),
-    ] {
-        let look = Look { table: 1, lo, hi };
-        assert_eq!(rt; look.covers(table, key), covered, "{lo} {hi} {table} {key}");
-    }
-}
-
-#[test]
-fn helpers_are_those_of_the_table(rt: HostRuntime) {
+fn helpers_and_looks(rt: HostRuntime) {
     use AnswerKind::{Count, Flag, Zero};
     use ArgumentKind::{KeyWritten, Number, RowRead, RowWritten, Table};
 
@@ -145,6 +103,14 @@ fn helpers_are_those_of_the_table(rt: HostRuntime) {
         ),
         (6, Helper::Cancel, &[Number], Zero),
     ];
+    assert!(rt;
+        Look {
+            table: 1,
+            lo: 10,
+            hi: 20
+        }
+        .covers(1, 20)
+    );
     for (number, helper, arguments, answer) in rows {
         assert_eq!(rt; Helper::from_number(number), Some(helper));
         assert_eq!(rt; helper.number(), number);

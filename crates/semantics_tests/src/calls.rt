@@ -119,7 +119,7 @@ fn arguments(rt: HostRuntime) -> Result<(), Fail> {
     Ok(())
 }
 
-/// A buffer of table 2, whose rows have two bytes.
+/// Rows of table 1 have eight bytes, those of table 2 two.
 #[test]
 fn buffers_have_the_tables_width(rt: HostRuntime) -> Result<(), Fail> {
     let (key, table, three) = (set(2, 5), set(1, 2), copy(3, 10));

@@ -155,7 +155,8 @@ fn arithmetic_of_kinds(rt: HostRuntime) -> Result<(), Fail> {
                     (&[stack, five, register(3, 4), one], copied),
                     (&[args, copy(3, 4), register(3, 4), one], copied),
                     (&[stack, copy(3, 4), register(3, 4), one], copied),
-                    // r10 is read only.
+                    // r10 is read only: a move alone, and at 64 bits an addition and a subtraction, would
+                    // have a step.
                     (&[immediate(10), one], None),
                     (&[five, register(10, 3), one], None),
                 ],
@@ -377,7 +378,7 @@ fn one_operand(rt: HostRuntime) -> Result<(), Fail> {
                 (&[of(2, 2), one], None),
                 (&[of(1, 1), one], None),
                 (&[copy(4, 10), of(4, 4), one], None),
-                // r10 is read only.
+                // r10 is read only; the forms but the move are stuck on a place in any case.
                 (&[low, high, of(10, 2), one], None),
             ],
         )?;

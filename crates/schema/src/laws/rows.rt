@@ -30,8 +30,8 @@ pub fn rows_are_of_bytes_and_words()
         × (key ≤ 18446744073709551615)) }
 {}
 
-/// Each row of the schema's may stand at its key, and so may each that its writes put; each removal
-/// among them is at a key of the schema's.
+/// In rows that are the schema's each row may stand at its key; in such writes each row that is put may,
+/// and each removal is at a key of the schema's.
 pub fn each_row_is_the_schemas()
     ensures row { (tables : Tables) (rows : Rows) (table key : ℕ) (bytes : List ℕ)
         → AreRows tables rows → row_at rows table key ≡ Some bytes

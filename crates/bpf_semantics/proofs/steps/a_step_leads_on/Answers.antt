@@ -1,8 +1,10 @@
-use Rattle.std.proofs.Common.{◌≡◌, inl, inr}
+use Rattle.std.proofs.Common.{◌≡◌, ◌∙◌, sym, subst, inl, inr}
+use Rattle.bpf_code.specs.declared.instruction.Instruction.{Instruction}
+use Rattle.bpf_code.specs.declared.instruction.Instruction.TheVariants.{Call}
 use Rattle.bpf_semantics.proofs.RunLemmas.{step_runs, going_runs}
-use Rattle.bpf_semantics.specs.Step.{Going}
-use Rattle.bpf_semantics.proofs.StepLemmas.{execute_leads}
-use Rattle.bpf_semantics.proofs.LookLemmas.{execute_looks}
+use Rattle.bpf_semantics.specs.Step.{Going, execute}
+use Rattle.bpf_semantics.proofs.StepLemmas.{just, some_is, execute_leads}
+use Rattle.bpf_semantics.proofs.LookLemmas.{execute_looks, execute_quiet, execute_call}
 use Rattle.bpf_semantics.proofs.steps.a_step_leads_on.Goals as goal
 
 pub returns-clause-leads : goal.returns-clause-leads
@@ -18,3 +20,15 @@ returns-clause-looks c p tables s t e =
       | inl same ↦ inl same
       | inr more ↦ inr (more.0, more.2)
     ]
+
+pub returns-clause-call : goal.returns-clause-call
+returns-clause-call c p tables s t n at e =
+    let runs = step_runs p tables s (Going t) e (going_runs t) in
+    let is = some_is runs.0 (Call n) (sym runs.1 ∙ at) in
+    execute_call tables n s t (subst (λ (j : Instruction). execute tables j s ≡ Going t) is runs.2)
+
+pub returns-clause-others : goal.returns-clause-others
+returns-clause-others c p tables s t i at no_call e =
+    let runs = step_runs p tables s (Going t) e (going_runs t) in
+    let is = some_is runs.0 i (sym runs.1 ∙ at) in
+    execute_quiet tables i s t no_call (subst (λ (j : Instruction). execute tables j s ≡ Going t) is runs.2)
