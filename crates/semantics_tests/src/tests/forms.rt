@@ -1,7 +1,7 @@
 //! Each form of instruction: states where it steps, and for each reason one where it is stuck. A wide
 //! load and both jumps have no reason to be stuck that a decoded program can reach, but for a write to r10.
 
-use crate::assembly::{add, copy, pull, push, replies, set, slot, wide};
+use super::assembly::{add, copy, pull, push, replies, set, slot, wide};
 use std::test::Fail;
 
 /// Loads by opcode: how many bytes, and what the first and the last such bytes of the arguments give.

@@ -1,6 +1,6 @@
 //! Each helper: a call that is made, and for each argument calls that can't be.
 
-use crate::assembly::{add, call, copy, push, replies, set};
+use super::assembly::{add, call, copy, push, replies, set};
 use std::alloc::Global;
 use std::process::Abort;
 use std::test::Fail;

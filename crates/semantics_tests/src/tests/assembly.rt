@@ -14,7 +14,7 @@ const EXIT: [u8; 8] = [0x95, 0, 0, 0, 0, 0, 0, 0];
 const ARGS: [u8; 8] = [0x81, 0x82, 0x83, 0x84, 0x85, 0x86, 0x87, 0x88];
 
 /// A slot by its fields (RFC 9669 section 3).
-pub(crate) fn slot(opcode: u8, dst: u8, src: u8, offset: i16, immediate: i32) -> [u8; 8] {
+pub(super) fn slot(opcode: u8, dst: u8, src: u8, offset: i16, immediate: i32) -> [u8; 8] {
     let [offset_low, offset_high] = offset.to_le_bytes();
     let [a, b, c, d] = immediate.to_le_bytes();
     [
@@ -30,45 +30,45 @@ pub(crate) fn slot(opcode: u8, dst: u8, src: u8, offset: i16, immediate: i32) ->
 }
 
 /// Sets a register to a number.
-pub(crate) fn set(dst: u8, number: i32) -> [u8; 8] {
+pub(super) fn set(dst: u8, number: i32) -> [u8; 8] {
     slot(0xb7, dst, 0, 0, number)
 }
 
 /// Sets a register to a number of 64 bits by a wide load, which has two slots.
-pub(crate) fn wide(dst: u8, number: u64) -> [[u8; 8]; 2] {
+pub(super) fn wide(dst: u8, number: u64) -> [[u8; 8]; 2] {
     let [a, b, c, d, e, f, g, h] = number.to_le_bytes();
     [[0x18, dst, 0, 0, a, b, c, d], [0, 0, 0, 0, e, f, g, h]]
 }
 
 /// Copies a register.
-pub(crate) fn copy(dst: u8, src: u8) -> [u8; 8] {
+pub(super) fn copy(dst: u8, src: u8) -> [u8; 8] {
     slot(0xbf, dst, src, 0, 0)
 }
 
 /// Adds a number to a register.
-pub(crate) fn add(dst: u8, number: i32) -> [u8; 8] {
+pub(super) fn add(dst: u8, number: i32) -> [u8; 8] {
     slot(0x07, dst, 0, 0, number)
 }
 
 /// Stores eight bytes on the stack.
-pub(crate) fn push(offset: i16, number: i32) -> [u8; 8] {
+pub(super) fn push(offset: i16, number: i32) -> [u8; 8] {
     slot(0x7a, 10, 0, offset, number)
 }
 
 /// Loads eight bytes from the stack.
-pub(crate) fn pull(dst: u8, offset: i16) -> [u8; 8] {
+pub(super) fn pull(dst: u8, offset: i16) -> [u8; 8] {
     slot(0x79, dst, 10, offset, 0)
 }
 
-pub(crate) fn call(helper: i32) -> [u8; 8] {
+pub(super) fn call(helper: i32) -> [u8; 8] {
     slot(0x85, 0, 0, 0, helper)
 }
 
 /// A program without its EXIT, and its reply on no rows; none where it is stuck.
-pub(crate) type Case<'a> = (&'a [[u8; 8]], Option<u64>);
+pub(super) type Case<'a> = (&'a [[u8; 8]], Option<u64>);
 
 /// Runs each program, followed by EXIT, and compares its reply.
-pub(crate) fn replies(rt: &impl Abort, alloc: Global, cases: &[Case<'_>]) -> Result<(), Fail> {
+pub(super) fn replies(rt: &impl Abort, alloc: Global, cases: &[Case<'_>]) -> Result<(), Fail> {
     for (slots, expected) in cases {
         let mut program = Vec::new(alloc);
         for slot in *slots {
@@ -82,11 +82,11 @@ pub(crate) fn replies(rt: &impl Abort, alloc: Global, cases: &[Case<'_>]) -> Res
 }
 
 /// Table 1 of width 8, and table 2 of width 2.
-pub(crate) const TABLES: [(u8, u16); 2] = [(1, 8), (2, 2)];
+pub(super) const TABLES: [(u8, u16); 2] = [(1, 8), (2, 2)];
 
 /// The run of a program on arguments and rows, which are table, key and value: 2 bytes of it in
 /// table 2, and 8 in the others. None where it is stuck.
-pub(crate) fn run(
+pub(super) fn run(
     alloc: Global,
     program: &[u8],
     args: &[u8],

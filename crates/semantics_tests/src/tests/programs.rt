@@ -1,6 +1,6 @@
 //! Whole programs, with what comes of them.
 
-use crate::assembly::{TABLES, run};
+use super::assembly::{TABLES, run};
 use bpf_code::decode;
 use plain_runner::{CompletedRun, Row, run_program};
 use scarce::Scarce;

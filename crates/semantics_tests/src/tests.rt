@@ -1,0 +1,7 @@
+//! `programs.rt` has whole programs, `forms.rt` each form of instruction and `calls.rt` each helper: where
+//! it steps, and for each reason one state where it doesn't.
+
+mod assembly;
+mod calls;
+mod forms;
+mod programs;
