@@ -19,5 +19,3 @@ mod instruction;
 mod jumps;
 mod opcode;
 mod reading;
-#[cfg(test)]
-mod tests;

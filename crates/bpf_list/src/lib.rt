@@ -58,6 +58,3 @@ pub fn put_listing<A: Allocator, W: Write>(
     }
     Ok(())
 }
-
-#[cfg(test)]
-mod tests;

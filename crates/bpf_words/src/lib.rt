@@ -19,7 +19,5 @@ mod cut;
 mod laws;
 mod operation;
 mod swap;
-#[cfg(test)]
-mod tests;
 mod word32;
 mod word64;

@@ -19,5 +19,3 @@ mod helper;
 mod laws;
 mod look;
 mod schema;
-#[cfg(test)]
-mod tests;

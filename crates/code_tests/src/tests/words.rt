@@ -1,12 +1,12 @@
-use super::*;
-use crate::BinaryOperation::{
+use bpf_words::BinaryOperation::{
     Add, And, Arsh, Div, Lsh, Mod, Mov, Mul, Or, Rsh, Sdiv, Smod, Sub, Xor,
 };
-use crate::ByteOrder::{Big, Little, Swap};
-use crate::Condition::{Eq, Ge, Gt, Le, Lt, Ne, Set, Sge, Sgt, Sle, Slt};
-use crate::EndWidth::{Low16, Low32, Low64};
-use crate::Operation::{Binary, Movsx, Neg};
-use crate::SignExtension::{From8, From16, From32};
+use bpf_words::ByteOrder::{Big, Little, Swap};
+use bpf_words::Condition::{Eq, Ge, Gt, Le, Lt, Ne, Set, Sge, Sgt, Sle, Slt};
+use bpf_words::EndWidth::{Low16, Low32, Low64};
+use bpf_words::Operation::{Binary, Movsx, Neg};
+use bpf_words::SignExtension::{From8, From16, From32};
+use bpf_words::{ByteOrder, Condition, Operation, alu32, alu64, end, holds32, holds64};
 use std::process::Abort;
 
 #[test]

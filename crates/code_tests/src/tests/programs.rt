@@ -1,5 +1,8 @@
 // What no clause says: that the definitions are the format's, what is printed, and that each call succeeds.
-use super::*;
+use bpf_code::{
+    DecodeCause, DecodeFault, Instruction, Opcode, Register, SignExtendingMove, Size, Source, Uses,
+    Width, decode, encode,
+};
 use bpf_words::{BinaryOperation, ByteOrder, Condition, EndWidth};
 use scarce::Scarce;
 use std::alloc::Allocator;

@@ -1,6 +1,8 @@
-use super::*;
 use bpf_code::decode;
-use std::io::ErrorKind;
+use bpf_list::{listing, put_listing};
+use byte_output::paged::PagedOutput;
+use std::io;
+use std::io::{ErrorKind, Write};
 use std::test::Fail;
 
 /// The first slot of a program that EXIT follows, and how its line goes on: one for each opcode and

@@ -1,7 +1,7 @@
 //! What no clause says: that memory suffices, what is printed, and the helpers' table as it was given.
 
-use crate::{AnswerKind, ArgumentKind, Helper, Look, Schema, SchemaFault};
 use scarce::Scarce;
+use schema::{AnswerKind, ArgumentKind, Helper, Look, Schema, SchemaFault};
 use std::test::Fail;
 
 #[test]

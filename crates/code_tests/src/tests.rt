@@ -1,0 +1,6 @@
+//! `words.rt` has operations and conditions with rows that a C program computed, `programs.rt` bytes with what
+//! they decode to, `listings.rt` a line for each opcode.
+
+mod listings;
+mod programs;
+mod words;
