@@ -2,8 +2,10 @@ use crate::list::list_over;
 use crate::plan::plan;
 use crate::request::{Plan, PlanFault};
 use scarce::Scarce;
+use std::alloc::Global;
 use std::io;
 use std::io::{ErrorKind, Read, Write};
+use std::process::Abort;
 use std::test::Fail;
 
 const EXIT: [u8; 8] = [0x95, 0, 0, 0, 0, 0, 0, 0];
@@ -66,9 +68,14 @@ impl Write for Output {
 }
 
 /// The exit status for an input, and what the output then holds.
-fn listed(rt: &HostRuntime, mut input: Input<'_>, mut output: Output) -> (u8, Vec<u8>) {
-    let mut faults = Vec::new(rt.alloc());
-    let status = list_over(rt.alloc(), &mut input, &mut output, &mut faults);
+fn listed(
+    rt: &impl Abort,
+    alloc: Global,
+    mut input: Input<'_>,
+    mut output: Output,
+) -> (u8, Vec<u8>) {
+    let mut faults = Vec::new(alloc);
+    let status = list_over(alloc, &mut input, &mut output, &mut faults);
     // A fault is told where there was one.
     assert_eq!(rt; faults.is_empty(), status != 3);
     (status, output.held)
@@ -105,7 +112,7 @@ fn a_program_is_listed(rt: HostRuntime) -> Result<(), Fail> {
         let (program, expected) = exits(&rt, count)?;
         let mut output = Output::new(&rt, usize::MAX);
         output.at_once = at_once;
-        let (status, text) = listed(&rt, whole(&program), output);
+        let (status, text) = listed(&rt, rt.alloc(), whole(&program), output);
         assert_eq!(rt; status, 0);
         assert_eq!(rt; text.as_slice(), expected.as_bytes());
     }
@@ -117,11 +124,16 @@ fn a_program_is_listed(rt: HostRuntime) -> Result<(), Fail> {
 fn a_failing_output_answers_3(rt: HostRuntime) -> Result<(), Fail> {
     let (program, expected) = exits(&rt, 90)?;
     for room in 0..expected.len() {
-        let (status, text) = listed(&rt, whole(&program), Output::new(&rt, room));
+        let (status, text) = listed(&rt, rt.alloc(), whole(&program), Output::new(&rt, room));
         assert_eq!(rt; status, 3);
         assert_eq!(rt; Some(text.as_slice()), expected.as_bytes().get(..room));
     }
-    let (status, _) = listed(&rt, whole(&program), Output::new(&rt, expected.len()));
+    let (status, _) = listed(
+        &rt,
+        rt.alloc(),
+        whole(&program),
+        Output::new(&rt, expected.len()),
+    );
     assert_eq!(rt; status, 0);
     for (input, text) in [
         (program.as_slice(), expected.as_str()),
@@ -129,7 +141,7 @@ fn a_failing_output_answers_3(rt: HostRuntime) -> Result<(), Fail> {
     ] {
         let mut output = Output::new(&rt, usize::MAX);
         output.flushes = false;
-        let (status, held) = listed(&rt, whole(input), output);
+        let (status, held) = listed(&rt, rt.alloc(), whole(input), output);
         assert_eq!(rt; status, 3);
         assert_eq!(rt; held.as_slice(), text.as_bytes());
     }
@@ -139,13 +151,13 @@ fn a_failing_output_answers_3(rt: HostRuntime) -> Result<(), Fail> {
 #[test]
 fn a_refusal_is_one_line(rt: HostRuntime) -> Result<(), Fail> {
     let (mut long, _) = exits(&rt, 4097)?;
-    let (status, text) = listed(&rt, whole(&long), Output::new(&rt, 1000));
+    let (status, text) = listed(&rt, rt.alloc(), whole(&long), Output::new(&rt, 1000));
     assert_eq!(rt; status, 1);
     assert_eq!(rt; text.as_slice(), b"refused B2 slot 0\n".as_slice());
     // A length that is no whole number of slots is the lower fault.
     long.push(0)?;
     for bytes in [&[], long.as_slice()] {
-        let (status, text) = listed(&rt, whole(bytes), Output::new(&rt, 1000));
+        let (status, text) = listed(&rt, rt.alloc(), whole(bytes), Output::new(&rt, 1000));
         assert_eq!(rt; status, 1);
         assert_eq!(rt; text.as_slice(), b"refused B1 slot 0\n".as_slice());
     }
@@ -158,7 +170,7 @@ fn a_failing_input_answers_3(rt: HostRuntime) {
         left: &EXIT,
         fails: true,
     };
-    let (status, text) = listed(&rt, input, Output::new(&rt, 1000));
+    let (status, text) = listed(&rt, rt.alloc(), input, Output::new(&rt, 1000));
     assert_eq!(rt; status, 3);
     assert!(rt; text.is_empty());
 }
