@@ -1,1 +1,3 @@
 pub mod Range
+pub mod Table
+pub mod Width

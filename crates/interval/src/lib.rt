@@ -3,6 +3,12 @@
 
 pub use laws::{join_holds_both, join_is_least};
 pub use range::Range;
+pub use table::{alu32_range, alu64_range, end_range};
 
+mod arithmetic;
+mod bitwise;
 mod laws;
 mod range;
+mod shift;
+mod table;
+mod width;
