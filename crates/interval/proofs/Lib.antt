@@ -1,1 +1,4 @@
+pub mod Words
 pub mod Up
+pub mod Ordered
+pub mod Sound
