@@ -14,4 +14,6 @@ mod laws;
 mod range;
 mod shift;
 mod table;
+#[cfg(test)]
+mod tests;
 mod width;
