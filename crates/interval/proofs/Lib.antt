@@ -1,4 +1,4 @@
 pub mod Words
 pub mod Up
-pub mod Ordered
+pub mod Below
 pub mod Sound

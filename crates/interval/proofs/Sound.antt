@@ -1,8 +1,8 @@
 -- The table's rows hold each result.
 use Rattle.std.proofs.Common.{◌≡◌, ℕ, ◌+◌, ◌-◌, ◌*◌, ◌/◌, ◌%◌, ◌^◌, ◌<◌, ◌≤◌, max, min, bit_or, bit_and, bit_xor, arith, refl, ap, ◌∙◌, lit<, true, nat_lt, nat_le, pos, ◌-ℤ◌, ◌==◌, ◌&&◌, if◌then◌else◌}
-use Rattle.std.proofs.Math.Nat.{mod-eq_of_lt, mod-le, div-le_self, pow-le-pow_right}
+use Rattle.std.proofs.Math.Nat.{mod-eq_of_lt, mod-le, div-le_self, div-mul-le_self, le_refl, pow-le-pow_right}
 use Rattle.std.proofs.Math.Pow.{shr_mono}
-use Rattle.std.proofs.lemmas.Nat.{or_lt, xor_lt, and_le_l, and_le_r, le_or_l, le_or_r, mod_below, mul-le, shr_le}
+use Rattle.std.proofs.lemmas.Nat.{or_lt, xor_lt, and_le_l, and_le_r, le_or_l, le_or_r, mod_below, mul-le, le-div, shr_le}
 use Rattle.std.proofs.lemmas.Int.{ints}
 use Rattle.std.proofs.lemmas.Bool.{and_from}
 use Rattle.std.proofs.lemmas.Bool.Decides.{nat_tests}
@@ -21,7 +21,6 @@ use Rattle.bpf_words.proofs.Words.{alu_below, ended_below}
 use Rattle.interval.specs.Range.{Bounds, IsRange, IsWithin, from_to, single, is_single}
 use Rattle.interval.specs.Table.{any_word, fitting, shifted_right, table, are_single, cut, word_range, alu_range, end_range, up}
 use Rattle.interval.proofs.Up.{up_bits, below_up}
-use Rattle.interval.proofs.Ordered.{div_mono}
 use Rattle.interval.proofs.Words.{IsCut, within_if, within_any, any_sound, cut_is_cut, cut_sound, alu_of_cut}
 
 fitting_sound : (n lo hi v : ℕ) → lo ≤ v → v ≤ hi → IsWithin (fitting n lo hi) (v % 2 ^ n)
@@ -38,6 +37,9 @@ sub_sound n a b x y ca wa wb h = within_if (nat_le b.hi a.lo) _ _ _
     let e : pos x -ℤ pos y ≡ pos (x - y) = omega (arith, ints) in
     rw (e, word_of_pos n (x - y) (omega arith)) (record { from = omega arith; to = omega arith }))
     (λ t. within_any n _ h)
+
+div_mono : (a b c d : ℕ) → a ≤ b → d ≤ c → 0 < d → a / c ≤ b / d
+div_mono a b c d p q above = le-div (a / c) b d above (omega (arith, div-mul-le_self a c, mul-le (a / c) d (a / c) c (le_refl (a / c)) q))
 
 div_sound : (a b : Bounds) (x y : ℕ) → IsWithin a x → IsWithin b y → IsWithin (if b.lo == 0 then from_to 0 a.hi else from_to (a.lo / b.hi) (a.hi / b.lo)) (if y == 0 then 0 else x / y)
 div_sound a b x y wa wb = within_if (b.lo == 0) _ _ _
@@ -184,6 +186,12 @@ unfolding end_range
 end_sound order width a x w = within_if (is_single a) _ _ _
     (λ t. let e : a.lo ≡ x = grind (arith, nat_tests) in rw e (of_single _))
     (λ t. within_any _ _ (ended_below order width x))
+
+-- so the range has a number
+pub alu_ordered : (n : ℕ) (op : Operation) (a b : Bounds) → IsRange a → IsRange b → (alu_range n op a b).lo ≤ (alu_range n op a b).hi
+alu_ordered n op a b ra rb =
+    let w = alu_sound n op a b a.lo b.lo ra rb (record { from = omega arith; to = ra.ordered }) (record { from = omega arith; to = rb.ordered }) in
+    omega arith
 
 cut_single : (n v : ℕ) → cut n (single v) ≡ single (v % 2 ^ n)
 unfolding cut

@@ -22,16 +22,17 @@ pub fn results_are_within()
         → IsWithin a x → IsWithin (end_range order width a) (end_value order width x) }
 {}
 
-/// The result's range has a number, and all of them are words of n bits.
-#[tactic(auto, using(crate::proofs::Ordered::alu_ordered, crate::proofs::Ordered::alu_word, crate::proofs::Ordered::end_ordered, crate::proofs::Ordered::end_word))]
+/// The result's range has a number, and all of them are below 2^n, or
+/// below 2 to the power of a byte swap's bits.
+#[tactic(auto, using(crate::proofs::Sound::alu_ordered, crate::proofs::Below::alu_range_below, crate::proofs::Below::end_range_ordered, crate::proofs::Below::end_range_below))]
 pub fn results_are_ranges()
     ensures ordered { (n : ℕ) (op : Operation) (a b : Bounds) → IsRange a → IsRange b
         → (alu_range n op a b).lo ≤ (alu_range n op a b).hi }
-    ensures word { (n : ℕ) (op : Operation) (a b : Bounds) → IsRange a → IsRange b
+    ensures below { (n : ℕ) (op : Operation) (a b : Bounds) → IsRange a → IsRange b
         → (alu_range n op a b).hi < 2 ^ n }
     ensures end_ordered { (order : ByteOrder) (width : EndWidth) (a : Bounds)
         → (end_range order width a).lo ≤ (end_range order width a).hi }
-    ensures end_word { (order : ByteOrder) (width : EndWidth) (a : Bounds)
+    ensures end_below { (order : ByteOrder) (width : EndWidth) (a : Bounds)
         → (end_range order width a).hi < 2 ^ end_bits width }
 {}
 
