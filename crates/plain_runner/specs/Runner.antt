@@ -1,40 +1,16 @@
 -- How the plain runner's own types stand for those of the definitions.
-use Rattle.std.specs.Prelude.{◌≡◌, ℕ, List, Option, refl}
+use Rattle.std.specs.Prelude.{ℕ, List, Option, refl}
 use Rattle.std.specs.Coded.{Coded, code_by, coded×, coded_ℕ, coded_list, coded_option}
-use Rattle.std.specs.List.{fold}
-use Rattle.std.specs.FinMap.{empty, insert, entries, from_entries, code}
-use Rattle.schema.specs.Rows.{Rows, Writes, Key, key_cmp}
+use Rattle.std.specs.FinMap.{code}
+use Rattle.schema.specs.Rows.{Rows, Writes, Key}
 use Rattle.schema.specs.declared.look.Look.{Look}
 use Rattle.bpf_semantics.specs.Run.{Run}
-use Rattle.plain_runner.specs.declared.state.State as rust
+use Rattle.plain_calls.specs.State.{state_of}
 use Rattle.plain_runner.specs.declared.step.Moment as rust_moment
 use Rattle.plain_runner.specs.declared.step.Moment.TheVariants as rust_moment_variants
-use Rattle.bpf_semantics.specs.State.{State}
 use Rattle.bpf_semantics.specs.Step.{Moment, Going, Ended, Stuck}
 
--- the rows of a list, put one after another
-abbrev pub rows_of : List (Key × List ℕ) → Rows
-rows_of = fold (λ rows row. insert rows row.0 row.1) empty
-
--- ---- no clause that a caller sees speaks of what follows
-
--- the list of a map, by tables and keys
-abbrev pub AreInOrder : {V : Type 0} → List (Key × V) → Type 0
-AreInOrder es = entries (from_entries {R = key_cmp} es) ≡ es
-
--- the state that the runner holds
-abbrev pub state_of : {A : Type 0} → rust.State A → State
-state_of s = record {
-  slot = s.slot;
-  registers = s.registers;
-  stack = s.stack.items;
-  args = s.args.items;
-  rows = s.rows;
-  cancel_code = s.cancel_code;
-  looks = s.looks.items;
-  writes = s.writes;
-  steps = s.steps;
-}
+-- No clause that a caller sees speaks of what follows.
 
 -- where the runner's step leads
 abbrev pub moment_of : {A : Type 0} → rust_moment.Moment A → Moment
