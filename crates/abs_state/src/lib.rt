@@ -1,0 +1,9 @@
+//! What is known of a program's state before an instruction: the kind of each register's value, and which bytes
+//! of the stack are initialised.
+#![tactic(auto)]
+
+pub use kind::Kind;
+pub use state::AbsState;
+
+mod kind;
+mod state;

@@ -1,0 +1,111 @@
+//! What is known of a state.
+ghost use Rattle.std.specs.Prelude.{◌≡◌, ◌++◌, replicate, true, ◌+◌, ◌≤◌, ◌↔◌, IsTrue, All, take, drop, length};
+ghost use Rattle.abs_state.specs.State.{abs_entry, in_both, kind_join, kind_of, state_join, with_initialised, with_kind, zip_with};
+
+use crate::kind::Kind;
+use bpf_code::Register;
+
+static ALL_INITIALISED: [bool; 512] = [true; 512];
+
+/// What is known of a state: the kind of each register's value, r0 first, and which of the stack's 512 bytes,
+/// the lowest first, are initialised.
+#[derive(Clone, Copy, Debug, PartialEq, Eq)]
+pub struct AbsState {
+    pub kinds: [Kind; 11],
+    pub initialised: [bool; 512],
+}
+
+impl AbsState {
+    /// What is known at entry.
+    pub fn entry() -> AbsState
+        ensures { result ≡ abs_entry }
+    {
+        let mut kinds = [Kind::Nothing; 11];
+        kinds[1] = Kind::Args(0, 0);
+        kinds[10] = Kind::Stack(0, 0);
+        AbsState {
+            kinds,
+            initialised: [false; 512],
+        }
+    }
+
+    /// What is known where either of two is.
+    #[tactic(auto, unfolding(crate::specs::State::state_join))]
+    pub fn join(&mut self, other: &AbsState)
+        ensures { self.new ≡ state_join self.old other.now }
+    {
+        join_kinds(&mut self.kinds, &other.kinds);
+        join_initialised(&mut self.initialised, &other.initialised);
+    }
+
+    /// The kind of a register's value.
+    pub fn kind(&self, register: Register) -> Kind
+        ensures { result ≡ kind_of self.now register }
+    {
+        self.kinds[usize::from(register.number())]
+    }
+
+    /// A register's value is of this kind.
+    pub fn set_kind(&mut self, register: Register, kind: Kind)
+        ensures { self.new ≡ with_kind self.old register kind }
+    {
+        self.kinds[usize::from(register.number())] = kind;
+    }
+
+    /// So many bytes of the stack from an index on are initialised.
+    pub fn set_initialised(&mut self, from: usize, count: usize)
+        requires { from + count ≤ 512 }
+        ensures { self.new ≡ with_initialised self.old from count }
+    {
+        put(&mut self.initialised, from, all_initialised(count));
+    }
+
+    /// Whether so many bytes of the stack from an index on all are.
+    pub fn is_initialised(&self, from: usize, count: usize) -> bool
+        requires { from + count ≤ 512 }
+        ensures { IsTrue result ↔ All (λ byte. IsTrue byte) (take count (drop from self.now.initialised)) }
+    {
+        self.initialised[from..from + count]
+            .iter()
+            .all(|byte| *byte)
+    }
+}
+
+fn join_kinds(all: &mut [Kind], others: &[Kind])
+    requires { length all.old ≡ length others.now }
+    ensures { all.new ≡ zip_with kind_join all.old others.now }
+{
+    for index in 0..all.len() {
+        all[index] = all[index].join(others[index]);
+    }
+}
+
+fn join_initialised(all: &mut [bool], others: &[bool])
+    requires { length all.old ≡ length others.now }
+    ensures { all.new ≡ zip_with in_both all.old others.now }
+{
+    for index in 0..all.len() {
+        all[index] = in_both(all[index], others[index]);
+    }
+}
+
+fn in_both(one: bool, other: bool) -> bool
+    ensures { result ≡ in_both one other }
+{
+    one && other
+}
+
+fn put(all: &mut [bool], from: usize, some: &[bool])
+    requires { from + length some.now ≤ length all.old }
+    ensures { all.new ≡ take from all.old ++ some.now ++ drop (from + length some.now) all.old }
+{
+    all[from..from + some.len()].copy_from_slice(some);
+}
+
+#[tactic(auto, using(crate::proofs::ListLemmas::trues_taken))]
+fn all_initialised(count: usize) -> &'static [bool]
+    requires { count ≤ 512 }
+    ensures { result.now ≡ replicate count true }
+{
+    &ALL_INITIALISED[..count]
+}
