@@ -47,12 +47,7 @@ fn near_place(place: i128) -> Option<i32>
 
 /// What an operation gives on two values; none where it has no step.
 #[tactic(auto, unfolding(bpf_semantics::specs::Step::operation_result))]
-pub fn operation_result(
-    width: Width,
-    op: BinaryOperation,
-    a: Value,
-    b: Value,
-) -> Option<Value>
+pub fn operation_result(width: Width, op: BinaryOperation, a: Value, b: Value) -> Option<Value>
     ensures { result ≡ operation_result width op a b }
 {
     if is_move_operation(op) {
