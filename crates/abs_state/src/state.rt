@@ -1,5 +1,6 @@
 //! What is known of a state.
-ghost use Rattle.std.specs.Prelude.{◌≡◌, ◌++◌, replicate, true, ◌+◌, ◌≤◌, ◌↔◌, IsTrue, All, take, drop, length};
+ghost use Rattle.std.specs.Prelude.{◌≡◌, ◌++◌, replicate, true, ◌+◌, ◌≤◌, take, drop, length};
+ghost use Rattle.std.specs.List.{list_all};
 ghost use Rattle.abs_state.specs.State.{abs_entry, in_both, kind_join, kind_of, state_join, with_initialised, with_kind, zip_with};
 
 use crate::kind::Kind;
@@ -63,7 +64,7 @@ impl AbsState {
     /// Whether so many bytes of the stack from an index on all are.
     pub fn is_initialised(&self, from: usize, count: usize) -> bool
         requires { from + count ≤ 512 }
-        ensures { IsTrue result ↔ All (λ byte. IsTrue byte) (take count (drop from self.now.initialised)) }
+        ensures { result ≡ list_all (λ byte. byte) (take count (drop from self.now.initialised)) }
     {
         self.initialised[from..from + count]
             .iter()

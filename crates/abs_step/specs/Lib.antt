@@ -1,0 +1,4 @@
+pub mod Access
+pub mod Cause
+pub mod Kind
+pub mod Result

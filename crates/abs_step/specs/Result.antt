@@ -1,0 +1,147 @@
+-- What is known after an instruction that has no cause to be refused, on each edge that may be taken.
+use Rattle.std.specs.Prelude.{ℕ, ◌-◌, ◌*◌, ◌%◌, ◌^◌, ℤ, ◌+ℤ◌, Bool, true, false, ◌==◌, ◌&&◌, if◌then◌else◌, List, [], ◌∷◌, ◌++◌, replicate, drop, Option, Some, None}
+use Rattle.std.specs.Int.{w64, cast_unsigned}
+use Rattle.std.specs.Ordering.{int_eq}
+use Rattle.bpf_words.specs.declared.condition.Condition.{Condition}
+use Rattle.bpf_words.specs.declared.operation.Operation.TheVariants.{Neg, Movsx}
+use Rattle.bpf_words.specs.declared.operation.ByteOrder.{ByteOrder}
+use Rattle.bpf_words.specs.declared.operation.EndWidth.{EndWidth}
+use Rattle.bpf_code.specs.declared.instruction.LoadKind.{LoadKind}
+use Rattle.bpf_code.specs.declared.instruction.LoadKind.TheVariants.{I8, I16, I32}
+use Rattle.bpf_code.specs.declared.instruction.Register.{Register}
+use Rattle.bpf_code.specs.declared.instruction.Register.TheVariants.{R1, R3, R4, R5}
+use Rattle.bpf_code.specs.declared.instruction.Width.{Width}
+use Rattle.bpf_code.specs.declared.instruction.Width.TheVariants.{Bits32, Bits64}
+use Rattle.bpf_code.specs.declared.instruction.Source.{Source}
+use Rattle.bpf_code.specs.declared.instruction.Source.TheVariants as source
+use Rattle.bpf_code.specs.declared.instruction.Instruction.{Instruction}
+use Rattle.bpf_code.specs.declared.instruction.Instruction.TheVariants.{LoadWide, Load, StoreImmediate, StoreRegister, Arithmetic, Negate, MoveSignExtended, End, Jump, LongJump, Branch, Call, Exit}
+use Rattle.bpf_code.specs.Register.{number_of}
+use Rattle.bpf_code.specs.Sizes.{width_bits, size_bytes, load_bytes, extension_width}
+use Rattle.schema.specs.Schema.{Tables}
+use Rattle.schema.specs.Helper.{helper_of, answer_of}
+use Rattle.schema.specs.declared.helper.Helper.{Helper}
+use Rattle.schema.specs.declared.helper.Helper.TheVariants.{RowGet, RangeNext}
+use Rattle.schema.specs.declared.helper.AnswerKind.{AnswerKind}
+use Rattle.schema.specs.declared.helper.AnswerKind.TheVariants.{Flag, Zero, Count}
+use Rattle.bpf_semantics.specs.Step.{low_bits}
+use Rattle.interval.specs.Range.{Bounds, from_to, single}
+use Rattle.interval.specs.Table.{any_word, end_range}
+use Rattle.range_refine.specs.Refine.{refinement}
+use Rattle.abs_state.specs.declared.kind.Kind.{Kind}
+use Rattle.abs_state.specs.declared.kind.Kind.TheVariants.{Nothing, Number, Stack, Args}
+use Rattle.abs_state.specs.declared.state.AbsState.{AbsState}
+use Rattle.abs_state.specs.State.{kind_of, with_kind, with_initialised}
+use Rattle.abs_step.specs.Kind.{operand_kind, operation_kind, number_kind}
+use Rattle.abs_step.specs.declared.access.Bytes.{Bytes}
+use Rattle.abs_step.specs.Access.{stack_reach, buffer_bytes}
+use Rattle.abs_step.specs.Cause.{table_width}
+
+-- ---- loads and stores
+
+-- a load that zero-extends gives a number of its bytes, one that sign-extends any
+abbrev pub loaded_range : LoadKind → Bounds
+loaded_range I8 = any_word 64
+loaded_range I16 = any_word 64
+loaded_range I32 = any_word 64
+loaded_range kind = any_word (8 * load_bytes kind)
+
+abbrev pub with_bytes : Option Bytes → AbsState → AbsState
+with_bytes None s = s
+with_bytes (Some bytes) s = with_initialised s bytes.index bytes.count
+
+-- a store at one place initialises its bytes; one at several initialises none
+abbrev pub with_store : AbsState → Kind → ℤ → ℕ → AbsState
+with_store s (Stack lo hi) offset size = if int_eq lo hi then with_bytes (stack_reach lo hi offset size) s else s
+with_store s _ offset size = s
+
+-- ---- calls
+
+abbrev pub answer_range : AnswerKind → Bounds
+answer_range Flag = from_to 0 1
+answer_range Zero = single 0
+answer_range Count = any_word 64
+
+-- r0 has the answer, and r1 to r5 hold nothing
+abbrev pub kinds_after_call : Helper → List Kind → List Kind
+kinds_after_call helper kinds = Number (answer_range (answer_of helper)) ∷ (replicate 5 Nothing ++ drop 6 kinds)
+
+abbrev pub with_buffer : AbsState → Kind → Option ℕ → AbsState
+with_buffer s k None = s
+with_buffer s k (Some count) = with_bytes (buffer_bytes k count) s
+
+-- a get initialises its row's buffer, a next its key's and its row's
+abbrev pub with_buffers : Tables → Helper → AbsState → AbsState
+with_buffers tables RowGet s = with_buffer s (kind_of s R3) (table_width tables (kind_of s R1))
+with_buffers tables RangeNext s =
+    with_buffer (with_buffer s (kind_of s R4) (Some 8)) (kind_of s R5) (table_width tables (kind_of s R1))
+with_buffers tables _ s = s
+
+abbrev pub after_call : Tables → Option Helper → AbsState → AbsState
+after_call tables None s = s
+after_call tables (Some helper) s =
+    let written = with_buffers tables helper s in
+    record written { kinds = kinds_after_call helper s.kinds }
+
+-- ---- conditions
+
+-- an immediate's 32 bits are read as unsigned by a condition on 32 bits
+abbrev pub compared_kind : Width → AbsState → Source → Kind
+compared_kind Bits32 s (source.Immediate immediate) = Number (single (cast_unsigned w64 immediate % 2 ^ 32))
+compared_kind _ s src = operand_kind s src
+
+abbrev pub is_same_register : Register → Source → Bool
+is_same_register dst (source.Immediate _) = false
+is_same_register dst (source.Register src) = number_of dst == number_of src
+
+-- an immediate's own refined range is dropped
+abbrev pub with_source : Source → Bounds → AbsState → AbsState
+with_source (source.Immediate _) b s = s
+with_source (source.Register src) b s = with_kind s src (Number b)
+
+abbrev pub with_sides : Register → Source → AbsState → Option (Bounds × Bounds) → Option AbsState
+with_sides dst src s None = None
+with_sides dst src s (Some sides) = Some (with_source src sides.1 (with_kind s dst (Number sides.0)))
+
+abbrev pub refined_state : Width → Condition → Bool → Register → Source → AbsState → Kind → Kind → Option AbsState
+refined_state width condition taken dst src s (Number a) (Number b) =
+    with_sides dst src s (refinement (width_bits width) condition taken a b)
+refined_state width condition taken dst src s _ _ = None
+
+-- what is known where the condition holds, or doesn't; None where that edge is never taken. A register that is compared
+-- with itself tells nothing
+abbrev pub edge_state : Width → Condition → Bool → Register → Source → AbsState → Option AbsState
+edge_state width condition taken dst src s =
+    if is_same_register dst src then Some s else
+    refined_state width condition taken dst src s (kind_of s dst) (compared_kind width s src)
+
+-- ---- the edges
+
+abbrev pub end_kind : ByteOrder → EndWidth → Kind → Kind
+end_kind order width (Number a) = Number (end_range order width a)
+end_kind order width _ = Nothing
+
+-- what goes on to the next instruction
+unfoldable pub sent_on : Tables → Instruction → AbsState → Option AbsState
+sent_on tables (LoadWide dst value) s = Some (with_kind s dst (Number (single value)))
+sent_on tables (Load kind dst _ _) s = Some (with_kind s dst (Number (loaded_range kind)))
+sent_on tables (StoreImmediate size dst offset _) s = Some (with_store s (kind_of s dst) offset (size_bytes size))
+sent_on tables (StoreRegister size dst _ offset) s = Some (with_store s (kind_of s dst) offset (size_bytes size))
+sent_on tables (Arithmetic width op dst src) s =
+    Some (with_kind s dst (operation_kind width op (kind_of s dst) (operand_kind s src)))
+sent_on tables (Negate width dst) s = Some (with_kind s dst (number_kind width Neg (kind_of s dst)))
+sent_on tables (MoveSignExtended kind dst src) s =
+    Some (with_kind s dst (number_kind (extension_width kind) (Movsx (low_bits kind)) (kind_of s src)))
+sent_on tables (End order width dst) s = Some (with_kind s dst (end_kind order width (kind_of s dst)))
+sent_on tables (Jump _) s = None
+sent_on tables (LongJump _) s = None
+sent_on tables (Branch width condition dst src _) s = edge_state width condition false dst src s
+sent_on tables (Call helper) s = Some (after_call tables (helper_of helper) s)
+sent_on tables Exit s = None
+
+-- what goes to a jump's target
+unfoldable pub sent_by_jump : Instruction → AbsState → Option AbsState
+sent_by_jump (Jump _) s = Some s
+sent_by_jump (LongJump _) s = Some s
+sent_by_jump (Branch width condition dst src _) s = edge_state width condition true dst src s
+sent_by_jump _ s = None

@@ -1,0 +1,28 @@
+//! The causes.
+
+/// Why an instruction is refused, the lowest first.
+#[derive(Clone, Copy, Debug, PartialEq, Eq)]
+pub enum Cause {
+    /// A register that is read holds nothing.
+    ReadsNothing,
+    /// It writes r10, the frame pointer.
+    WritesFramePointer,
+    /// A pointer stands where only a number may, or is moved too far.
+    UsesPointer,
+    /// A load or a store at a number, or at a byte outside the stack or the arguments.
+    OutsideMemory,
+    /// It reads a byte of the stack that nothing was written to before.
+    Uninitialised,
+    /// It calls a helper that there isn't.
+    UnknownHelper,
+    /// The table that a call names isn't one known number of the schema.
+    UnknownTable,
+    /// A key, the bound of an interval or a code isn't a number.
+    NoNumber,
+    /// A buffer isn't at one place of the stack, or isn't whole inside.
+    NoBuffer,
+    /// r0 is a pointer at EXIT.
+    RepliesPointer,
+    /// A store to the arguments.
+    StoresToArguments,
+}

@@ -1,0 +1,169 @@
+//! Kinds of values: tests, and what operations give.
+ghost use Rattle.std.specs.Prelude.{◌≡◌};
+ghost use Rattle.abs_step.specs.Kind.{is_nothing, is_number, is_pointer, operand_kind, has_both_signs, near_places, is_near, moved_places, stack_of, args_of, move_kind, binary_kind, operation_kind, number_kind};
+ghost use Rattle.bpf_code.specs.Sizes.{width_bits};
+ghost use Rattle.interval.specs.Table.{alu_range};
+ghost use Rattle.bpf_semantics.specs.Step.{is_move_operation};
+
+use abs_state::{AbsState, Kind};
+use bpf_code::{Source, Width};
+use bpf_words::{BinaryOperation, Operation};
+use interval::{Range, alu32_range, alu64_range};
+
+pub(crate) fn is_nothing(kind: Kind) -> bool
+    ensures { result ≡ is_nothing kind }
+{
+    match kind {
+        Kind::Nothing => true,
+        _ => false,
+    }
+}
+
+pub(crate) fn is_number(kind: Kind) -> bool
+    ensures { result ≡ is_number kind }
+{
+    match kind {
+        Kind::Number(_) => true,
+        _ => false,
+    }
+}
+
+pub(crate) fn is_pointer(kind: Kind) -> bool
+    ensures { result ≡ is_pointer kind }
+{
+    match kind {
+        Kind::Stack(_, _) => true,
+        Kind::Args(_, _) => true,
+        _ => false,
+    }
+}
+
+/// What is known of the second operand.
+pub(crate) fn operand_kind(state: &AbsState, source: Source) -> Kind
+    ensures { result ≡ operand_kind state.now source }
+{
+    match source {
+        Source::Immediate(immediate) => {
+            Kind::Number(Range::single(i64::from(immediate).cast_unsigned()))
+        }
+        Source::Register(register) => state.kind(register),
+    }
+}
+
+/// Whether some numbers of the range are below 2^63 and some aren't.
+fn has_both_signs(range: Range) -> bool
+    ensures { result ≡ has_both_signs range }
+{
+    range.lo() < 1 << 63 && 1 << 63 <= range.hi()
+}
+
+fn is_near(place: i128) -> bool
+    ensures { result ≡ is_near place }
+{
+    (-65_536..=65_536).contains(&place)
+}
+
+fn near_places(lo: i128, hi: i128) -> Option<(i32, i32)>
+    ensures { result ≡ near_places lo hi }
+{
+    if is_near(lo) && is_near(hi) {
+        Some((lo as i32, hi as i32))
+    } else {
+        None
+    }
+}
+
+/// Where a pointer from lo to hi is after a 64-bit ADD or SUB of a number; none where that may be too far.
+pub(crate) fn moved_places(op: BinaryOperation, lo: i32, hi: i32, range: Range) -> Option<(i32, i32)>
+    ensures { result ≡ moved_places op lo hi range }
+{
+    let (lo, hi) = (i128::from(lo), i128::from(hi));
+    let (least, greatest) = (i128::from(range.lo().cast_signed()), i128::from(range.hi().cast_signed()));
+    match op {
+        BinaryOperation::Add if !has_both_signs(range) => near_places(lo + least, hi + greatest),
+        BinaryOperation::Sub if !has_both_signs(range) => near_places(lo - greatest, hi - least),
+        _ => None,
+    }
+}
+
+fn alu_range(width: Width, op: Operation, a: Range, b: Range) -> Range
+    ensures { result ≡ alu_range (width_bits width) op a b }
+{
+    match width {
+        Width::Bits32 => alu32_range(op, a, b),
+        Width::Bits64 => alu64_range(op, a, b),
+    }
+}
+
+fn move_kind(width: Width, b: Kind) -> Kind
+    ensures { result ≡ move_kind width b }
+{
+    match b {
+        Kind::Number(b) => Kind::Number(alu_range(width, Operation::Binary(BinaryOperation::Mov), b, b)),
+        _ => match width {
+            Width::Bits64 => b,
+            Width::Bits32 => Kind::Nothing,
+        },
+    }
+}
+
+fn stack_of(places: Option<(i32, i32)>) -> Kind
+    ensures { result ≡ stack_of places }
+{
+    match places {
+        Some((lo, hi)) => Kind::Stack(lo, hi),
+        None => Kind::Nothing,
+    }
+}
+
+fn args_of(places: Option<(i32, i32)>) -> Kind
+    ensures { result ≡ args_of places }
+{
+    match places {
+        Some((lo, hi)) => Kind::Args(lo, hi),
+        None => Kind::Nothing,
+    }
+}
+
+fn binary_kind(width: Width, op: BinaryOperation, a: Kind, b: Kind) -> Kind
+    ensures { result ≡ binary_kind width op a b }
+{
+    let Kind::Number(b) = b else {
+        return Kind::Nothing;
+    };
+    match a {
+        Kind::Nothing => Kind::Nothing,
+        Kind::Number(a) => Kind::Number(alu_range(width, Operation::Binary(op), a, b)),
+        Kind::Stack(lo, hi) => match width {
+            Width::Bits32 => Kind::Nothing,
+            Width::Bits64 => stack_of(moved_places(op, lo, hi, b)),
+        },
+        Kind::Args(lo, hi) => match width {
+            Width::Bits32 => Kind::Nothing,
+            Width::Bits64 => args_of(moved_places(op, lo, hi, b)),
+        },
+    }
+}
+
+pub(crate) fn is_move(op: BinaryOperation) -> bool
+    ensures { result ≡ is_move_operation op }
+{
+    matches!(op, BinaryOperation::Mov)
+}
+
+/// What an arithmetic operation gives.
+pub(crate) fn operation_kind(width: Width, op: BinaryOperation, a: Kind, b: Kind) -> Kind
+    ensures { result ≡ operation_kind width op a b }
+{
+    if is_move(op) { move_kind(width, b) } else { binary_kind(width, op, a, b) }
+}
+
+/// What an operation on one number gives.
+pub(crate) fn number_kind(width: Width, op: Operation, a: Kind) -> Kind
+    ensures { result ≡ number_kind width op a }
+{
+    match a {
+        Kind::Number(a) => Kind::Number(alu_range(width, op, a, a)),
+        _ => Kind::Nothing,
+    }
+}
