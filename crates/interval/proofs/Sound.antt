@@ -19,12 +19,12 @@ use Rattle.bpf_words.specs.declared.operation.Operation.{Operation}
 use Rattle.bpf_words.specs.declared.operation.Operation.TheVariants.{Binary, Neg, Movsx}
 use Rattle.bpf_words.proofs.Words.{alu_below, ended_below}
 use Rattle.interval.specs.Range.{Bounds, IsRange, IsWithin, from_to, single, is_single}
-use Rattle.interval.specs.Table.{any_word, fitting, shifted_right, table, are_single, cut, word_range, alu_range, end_range, up}
+use Rattle.interval.specs.Table.{any_word, from_to_or_any, right_shift, table, are_single, cut, word_range, alu_range, end_range, up}
 use Rattle.interval.proofs.Up.{up_bits, below_up}
 use Rattle.interval.proofs.Words.{IsCut, within_if, within_any, any_sound, cut_is_cut, cut_sound, alu_of_cut}
 
-fitting_sound : (n lo hi v : ℕ) → lo ≤ v → v ≤ hi → IsWithin (fitting n lo hi) (v % 2 ^ n)
-fitting_sound n lo hi v p q = within_if (nat_lt hi (2 ^ n)) (from_to lo hi) (any_word n) (v % 2 ^ n)
+or_any_sound : (n lo hi v : ℕ) → lo ≤ v → v ≤ hi → IsWithin (from_to_or_any n lo hi) (v % 2 ^ n)
+or_any_sound n lo hi v p q = within_if (nat_lt hi (2 ^ n)) (from_to lo hi) (any_word n) (v % 2 ^ n)
     (λ t. let h : v < 2 ^ n = grind (arith, nat_tests) in rw (mod-eq_of_lt h) (record { from = p; to = q }))
     (λ t. any_sound n v)
 
@@ -76,10 +76,10 @@ xor_sound n a b x y ca cb wa wb = record {
 left_sound : (n : ℕ) (a b : Bounds) (x y : ℕ) → IsWithin a x → IsWithin b y → IsWithin (table n (Binary Lsh) a b) ((x * 2 ^ (y % n)) % 2 ^ n)
 unfolding table
 left_sound n a b x y wa wb = within_if (is_single b) _ _ _
-    (λ t. let e : b.lo ≡ y = grind (arith, nat_tests) in rw e (fitting_sound n _ _ _ (mul-le _ _ _ _ wa.from (omega arith)) (mul-le _ _ _ _ wa.to (omega arith))))
+    (λ t. let e : b.lo ≡ y = grind (arith, nat_tests) in rw e (or_any_sound n _ _ _ (mul-le _ _ _ _ wa.from (omega arith)) (mul-le _ _ _ _ wa.to (omega arith))))
     (λ t. any_sound n _)
 
-right_sound : (n : ℕ) (a b : Bounds) (x y : ℕ) → IsWithin a x → IsWithin b y → IsWithin (shifted_right n a b) (x / 2 ^ (y % n))
+right_sound : (n : ℕ) (a b : Bounds) (x y : ℕ) → IsWithin a x → IsWithin b y → IsWithin (right_shift n a b) (x / 2 ^ (y % n))
 right_sound n a b x y wa wb = within_if (is_single b) _ _ _
     (λ t. let e : b.lo ≡ y = grind (arith, nat_tests) in rw e (record { from = shr_mono (y % n) wa.from; to = shr_mono (y % n) wa.to }))
     (λ t. record { from = omega arith; to = omega (arith, shr_le x (y % n)) })
@@ -113,9 +113,9 @@ binary_cut n op a b p q = rw (mod-eq_of_lt p, mod-eq_of_lt q) refl
 
 binary_sound : (n : ℕ) (op : BinaryOperation) (a b : Bounds) (x y : ℕ) → ((o : BinaryOperation) → binary_value n o x y < 2 ^ n) → IsCut n a → IsCut n b → IsWithin a x → IsWithin b y → IsWithin (table n (Binary op) a b) (binary_value n op x y)
 unfolding table binary_value
-binary_sound n Add a b x y words ca cb wa wb = fitting_sound n _ _ (x + y) (omega arith) (omega arith)
+binary_sound n Add a b x y words ca cb wa wb = or_any_sound n _ _ (x + y) (omega arith) (omega arith)
 binary_sound n Sub a b x y words ca cb wa wb = sub_sound n a b x y ca wa wb (words Sub)
-binary_sound n Mul a b x y words ca cb wa wb = fitting_sound n _ _ _ (mul-le _ _ _ _ wa.from wb.from) (mul-le _ _ _ _ wa.to wb.to)
+binary_sound n Mul a b x y words ca cb wa wb = or_any_sound n _ _ _ (mul-le _ _ _ _ wa.from wb.from) (mul-le _ _ _ _ wa.to wb.to)
 binary_sound n Div a b x y words ca cb wa wb = div_sound n a b x y wa wb
 binary_sound n Mod a b x y words ca cb wa wb = mod_sound n a b x y wa wb
 binary_sound n And a b x y words ca cb wa wb = and_sound n a b x y wa wb

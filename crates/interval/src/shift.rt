@@ -2,7 +2,7 @@
 ghost use Rattle.std.specs.Prelude.{◌≡◌, ◌<◌, ◌^◌, ◌*◌, ◌%◌};
 ghost use Rattle.bpf_words.specs.declared.operation.BinaryOperation.TheVariants.{Lsh, Rsh, Arsh};
 ghost use Rattle.bpf_words.specs.declared.operation.Operation.TheVariants.{Binary};
-ghost use Rattle.interval.specs.Table.{table, fitting};
+ghost use Rattle.interval.specs.Table.{table, from_to_or_any};
 ghost use Rattle.interval.specs.Width.{width_bits};
 
 use crate::range::Range;
@@ -47,7 +47,7 @@ pub fn signed_right_shift(width: Width, a: Range, b: Range) -> Range
 
 /// Each number so many times.
 fn multiple(width: Width, a: Range, factor: u64) -> Range
-    ensures { result ≡ fitting (width_bits width) (a.lo * factor) (a.hi * factor) }
+    ensures { result ≡ from_to_or_any (width_bits width) (a.lo * factor) (a.hi * factor) }
 {
     match a.hi().checked_mul(factor) {
         Some(hi) if hi <= width.greatest() => Range::new(a.lo() * factor, hi),
