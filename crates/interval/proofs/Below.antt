@@ -12,14 +12,14 @@ use Rattle.bpf_words.specs.declared.operation.Operation.{Operation}
 use Rattle.bpf_words.specs.declared.operation.Operation.TheVariants.{Binary, Neg, Movsx}
 use Rattle.bpf_words.proofs.Words.{alu_below, ended_below}
 use Rattle.interval.specs.Range.{Bounds, single, IsRange}
-use Rattle.interval.specs.Table.{fitting, shifted_right, table, are_single, cut, alu_range, end_range, up}
+use Rattle.interval.specs.Table.{from_to_or_any, right_shift, table, are_single, cut, alu_range, end_range, up}
 use Rattle.interval.proofs.Up.{up_least}
 use Rattle.interval.proofs.Words.{IsCut, cut_is_cut}
 
-fitting_below : (n lo hi : ℕ) → (fitting n lo hi).hi < 2 ^ n
-fitting_below n lo hi = grind (arith, nat_tests, pow_pos)
+or_any_below : (n lo hi : ℕ) → (from_to_or_any n lo hi).hi < 2 ^ n
+or_any_below n lo hi = grind (arith, nat_tests, pow_pos)
 
-right_below : (n : ℕ) (a b : Bounds) → a.hi < 2 ^ n → (shifted_right n a b).hi < 2 ^ n
+right_below : (n : ℕ) (a b : Bounds) → a.hi < 2 ^ n → (right_shift n a b).hi < 2 ^ n
 right_below n a b h = grind (arith, nat_tests, shr_le)
 
 up_below : (n : ℕ) (a b : Bounds) → IsCut n a → IsCut n b → up (max a.hi b.hi) < 2 ^ n
@@ -27,15 +27,15 @@ up_below n a b ca cb = omega (arith, up_least (max a.hi b.hi) n (omega arith) (o
 
 table_below : (n : ℕ) (op : Operation) (a b : Bounds) → IsCut n a → IsCut n b → (table n op a b).hi < 2 ^ n
 unfolding table
-table_below n (Binary Add) a b ca cb = fitting_below n _ _
+table_below n (Binary Add) a b ca cb = or_any_below n _ _
 table_below n (Binary Sub) a b ca cb = grind (arith, nat_tests)
-table_below n (Binary Mul) a b ca cb = fitting_below n _ _
+table_below n (Binary Mul) a b ca cb = or_any_below n _ _
 table_below n (Binary Div) a b ca cb = grind (arith, nat_tests, div-le_self)
 table_below n (Binary Mod) a b ca cb = grind (arith, nat_tests)
 table_below n (Binary And) a b ca cb = omega arith
-table_below n (Binary Or) a b ca cb = up_below n a b ca cb
-table_below n (Binary Xor) a b ca cb = up_below n a b ca cb
-table_below n (Binary Lsh) a b ca cb = grind (arith, nat_tests, pow_pos, fitting_below)
+table_below n (Binary Or) a b ca cb = omega (arith, up_below n a b ca cb)
+table_below n (Binary Xor) a b ca cb = omega (arith, up_below n a b ca cb)
+table_below n (Binary Lsh) a b ca cb = grind (arith, nat_tests, pow_pos, or_any_below)
 table_below n (Binary Rsh) a b ca cb = right_below n a b ca.word
 table_below n (Binary Arsh) a b ca cb = grind (arith, nat_tests, right_below)
 table_below n (Binary Mov) a b ca cb = cb.word

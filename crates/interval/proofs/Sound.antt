@@ -1,5 +1,5 @@
 -- The table's rows hold each result.
-use Rattle.std.proofs.Common.{◌≡◌, ℕ, ◌+◌, ◌-◌, ◌*◌, ◌/◌, ◌%◌, ◌^◌, ◌<◌, ◌≤◌, max, min, bit_or, bit_and, bit_xor, arith, refl, ap, ◌∙◌, lit<, true, nat_lt, nat_le, pos, ◌-ℤ◌, ◌==◌, ◌&&◌, if◌then◌else◌}
+use Rattle.std.proofs.Common.{◌≡◌, ℕ, ◌+◌, ◌-◌, ◌*◌, ◌/◌, ◌%◌, ◌^◌, ◌<◌, ◌≤◌, max, bit_or, bit_and, bit_xor, arith, refl, ap, ◌∙◌, lit<, true, nat_lt, pos, ◌-ℤ◌, ◌==◌, ◌&&◌, if◌then◌else◌}
 use Rattle.std.proofs.Math.Nat.{mod-eq_of_lt, mod-le, div-le_self, div-mul-le_self, le_refl, pow-le-pow_right}
 use Rattle.std.proofs.Math.Pow.{shr_mono}
 use Rattle.std.proofs.lemmas.Nat.{or_lt, xor_lt, and_le_l, and_le_r, le_or_l, le_or_r, mod_below, mul-le, le-div, shr_le}
@@ -8,7 +8,7 @@ use Rattle.std.proofs.lemmas.Bool.{and_from}
 use Rattle.std.proofs.lemmas.Bool.Decides.{nat_tests}
 use Rattle.std.specs.Int.{int_div_euclid}
 use Rattle.bpf_words.specs.Word.{word, signed_value}
-use Rattle.bpf_words.specs.Operation.{alu, binary_value, source_bits}
+use Rattle.bpf_words.specs.Operation.{alu, binary_value, source_bits, sign_extension}
 use Rattle.bpf_words.specs.End.{end_value}
 use Rattle.bpf_words.specs.declared.operation.BinaryOperation.{BinaryOperation}
 use Rattle.bpf_words.specs.declared.operation.BinaryOperation.TheVariants.{Add, Sub, Mul, Div, Sdiv, Or, And, Lsh, Rsh, Mod, Smod, Xor, Mov, Arsh}
@@ -19,66 +19,67 @@ use Rattle.bpf_words.specs.declared.operation.Operation.{Operation}
 use Rattle.bpf_words.specs.declared.operation.Operation.TheVariants.{Binary, Neg, Movsx}
 use Rattle.bpf_words.proofs.Words.{alu_below, ended_below}
 use Rattle.interval.specs.Range.{Bounds, IsRange, IsWithin, from_to, single, is_single}
-use Rattle.interval.specs.Table.{any_word, fitting, shifted_right, table, are_single, cut, word_range, alu_range, end_range, up}
+use Rattle.interval.specs.Table.{any_word, from_to_or_any, right_shift, table, are_single, cut, word_range, alu_range, end_range, up}
 use Rattle.interval.proofs.Up.{up_bits, below_up}
 use Rattle.interval.proofs.Words.{IsCut, within_if, within_any, any_sound, cut_is_cut, cut_sound, alu_of_cut}
 
-fitting_sound : (n lo hi v : ℕ) → lo ≤ v → v ≤ hi → IsWithin (fitting n lo hi) (v % 2 ^ n)
-fitting_sound n lo hi v p q = within_if (nat_lt hi (2 ^ n)) (from_to lo hi) (any_word n) (v % 2 ^ n)
+or_any_sound : (n lo hi v : ℕ) → lo ≤ v → v ≤ hi → IsWithin (from_to_or_any n lo hi) (v % 2 ^ n)
+or_any_sound n lo hi v p q = within_if (nat_lt hi (2 ^ n)) (from_to lo hi) (any_word n) (v % 2 ^ n)
     (λ t. let h : v < 2 ^ n = grind (arith, nat_tests) in rw (mod-eq_of_lt h) (record { from = p; to = q }))
     (λ t. any_sound n v)
 
 word_of_pos : (n x : ℕ) → x < 2 ^ n → word n (pos x) ≡ x
 word_of_pos n x h = mod-eq_of_lt h
 
-sub_sound : (n : ℕ) (a b : Bounds) (x y : ℕ) → IsCut n a → IsWithin a x → IsWithin b y → word n (pos x -ℤ pos y) < 2 ^ n → IsWithin (if nat_le b.hi a.lo then from_to (a.lo - b.hi) (a.hi - b.lo) else any_word n) (word n (pos x -ℤ pos y))
-sub_sound n a b x y ca wa wb h = within_if (nat_le b.hi a.lo) _ _ _
-    (λ t. let le : b.hi ≤ a.lo = grind (arith, nat_tests) in
-    let e : pos x -ℤ pos y ≡ pos (x - y) = omega (arith, ints) in
-    rw (e, word_of_pos n (x - y) (omega arith)) (record { from = omega arith; to = omega arith }))
-    (λ t. within_any n _ h)
+word_of_difference : (n x y : ℕ) → x < 2 ^ n → y ≤ x → word n (pos x -ℤ pos y) ≡ x - y
+word_of_difference n x y h le = let e : pos x -ℤ pos y ≡ pos (x - y) = omega (arith, ints) in rw e (word_of_pos n (x - y) (omega arith))
+
+sub_sound : (n : ℕ) (a b : Bounds) (x y : ℕ) → IsCut n a → IsWithin a x → IsWithin b y → word n (pos x -ℤ pos y) < 2 ^ n → IsWithin (table n (Binary Sub) a b) (word n (pos x -ℤ pos y))
+unfolding table
+sub_sound n a b x y ca wa wb h = record { from = grind (arith, nat_tests, word_of_difference); to = grind (arith, nat_tests, word_of_difference) }
 
 div_mono : (a b c d : ℕ) → a ≤ b → d ≤ c → 0 < d → a / c ≤ b / d
 div_mono a b c d p q above = le-div (a / c) b d above (omega (arith, div-mul-le_self a c, mul-le (a / c) d (a / c) c (le_refl (a / c)) q))
 
-div_sound : (a b : Bounds) (x y : ℕ) → IsWithin a x → IsWithin b y → IsWithin (if b.lo == 0 then from_to 0 a.hi else from_to (a.lo / b.hi) (a.hi / b.lo)) (if y == 0 then 0 else x / y)
-div_sound a b x y wa wb = within_if (b.lo == 0) _ _ _
-    (λ t. record { from = omega arith; to = grind (arith, nat_tests, div-le_self) })
-    (λ t. let h : 0 < b.lo = grind (arith, nat_tests) in
-    let e : (if y == 0 then 0 else x / y) ≡ x / y = grind (arith, nat_tests) in
-    rw e (record { from = div_mono _ _ _ _ wa.from wb.to (omega arith); to = div_mono _ _ _ _ wa.to wb.from h }))
+div_sound : (n : ℕ) (a b : Bounds) (x y : ℕ) → IsWithin a x → IsWithin b y → IsWithin (table n (Binary Div) a b) (if y == 0 then 0 else x / y)
+unfolding table
+div_sound n a b x y wa wb = record { from = grind (arith, nat_tests, div_mono); to = grind (arith, nat_tests, div_mono, div-le_self) }
 
 mod_sound : (n : ℕ) (a b : Bounds) (x y : ℕ) → IsWithin a x → IsWithin b y → IsWithin (table n (Binary Mod) a b) (if y == 0 then x else x % y)
 unfolding table
 mod_sound n a b x y wa wb = record { from = grind (arith, nat_tests, mod-eq_of_lt); to = grind (arith, nat_tests, mod-le, mod_below) }
 
-and_sound : (a b : Bounds) (x y : ℕ) → IsWithin a x → IsWithin b y → IsWithin (from_to 0 (min a.hi b.hi)) (bit_and x y)
-and_sound a b x y wa wb = record { from = omega arith; to = omega (arith, and_le_l x y, and_le_r x y) }
+and_sound : (n : ℕ) (a b : Bounds) (x y : ℕ) → IsWithin a x → IsWithin b y → IsWithin (table n (Binary And) a b) (bit_and x y)
+unfolding table
+and_sound n a b x y wa wb = record { from = omega arith; to = omega (arith, and_le_l x y, and_le_r x y) }
 
-or_sound : (n : ℕ) (a b : Bounds) (x y : ℕ) → IsCut n a → IsCut n b → IsWithin a x → IsWithin b y → IsWithin (from_to (max a.lo b.lo) (up (max a.hi b.hi))) (bit_or x y)
-or_sound n a b x y ca cb wa wb =
-    let m = max a.hi b.hi in
-    let u = up_bits m (omega arith) in
-    record {
-      from = omega (arith, le_or_l x y, le_or_r x y);
-      to = below_up m _ u (or_lt u.bits x y (omega (arith, u.above)) (omega (arith, u.above)));
-    }
+or_below : (x y m : ℕ) → m < 2 ^ 64 → x ≤ m → y ≤ m → bit_or x y ≤ up m
+or_below x y m h p q = let u = up_bits m h in below_up m _ u (or_lt u.bits x y (omega (arith, u.above)) (omega (arith, u.above)))
 
-xor_sound : (n : ℕ) (a b : Bounds) (x y : ℕ) → IsCut n a → IsCut n b → IsWithin a x → IsWithin b y → IsWithin (from_to 0 (up (max a.hi b.hi))) (bit_xor x y)
-xor_sound n a b x y ca cb wa wb =
-    let m = max a.hi b.hi in
-    let u = up_bits m (omega arith) in
-    record {
-      from = omega arith;
-      to = below_up m _ u (xor_lt u.bits x y (omega (arith, u.above)) (omega (arith, u.above)));
-    }
+xor_below : (x y m : ℕ) → m < 2 ^ 64 → x ≤ m → y ≤ m → bit_xor x y ≤ up m
+xor_below x y m h p q = let u = up_bits m h in below_up m _ u (xor_lt u.bits x y (omega (arith, u.above)) (omega (arith, u.above)))
 
-left_sound : (n : ℕ) (a b : Bounds) (x y : ℕ) → IsWithin a x → IsWithin b y → IsWithin (if is_single b then fitting n (a.lo * 2 ^ (b.lo % n)) (a.hi * 2 ^ (b.lo % n)) else any_word n) ((x * 2 ^ (y % n)) % 2 ^ n)
+or_sound : (n : ℕ) (a b : Bounds) (x y : ℕ) → IsCut n a → IsCut n b → IsWithin a x → IsWithin b y → IsWithin (table n (Binary Or) a b) (bit_or x y)
+unfolding table
+or_sound n a b x y ca cb wa wb = record {
+  from = omega (arith, le_or_l x y, le_or_r x y);
+  to = omega (arith, or_below x y (max a.hi b.hi) (omega arith) (omega arith) (omega arith));
+}
+
+xor_sound : (n : ℕ) (a b : Bounds) (x y : ℕ) → IsCut n a → IsCut n b → IsWithin a x → IsWithin b y → IsWithin (table n (Binary Xor) a b) (bit_xor x y)
+unfolding table
+xor_sound n a b x y ca cb wa wb = record {
+  from = omega arith;
+  to = omega (arith, xor_below x y (max a.hi b.hi) (omega arith) (omega arith) (omega arith));
+}
+
+left_sound : (n : ℕ) (a b : Bounds) (x y : ℕ) → IsWithin a x → IsWithin b y → IsWithin (table n (Binary Lsh) a b) ((x * 2 ^ (y % n)) % 2 ^ n)
+unfolding table
 left_sound n a b x y wa wb = within_if (is_single b) _ _ _
-    (λ t. let e : b.lo ≡ y = grind (arith, nat_tests) in rw e (fitting_sound n _ _ _ (mul-le _ _ _ _ wa.from (omega arith)) (mul-le _ _ _ _ wa.to (omega arith))))
+    (λ t. let e : b.lo ≡ y = grind (arith, nat_tests) in rw e (or_any_sound n _ _ _ (mul-le _ _ _ _ wa.from (omega arith)) (mul-le _ _ _ _ wa.to (omega arith))))
     (λ t. any_sound n _)
 
-right_sound : (n : ℕ) (a b : Bounds) (x y : ℕ) → IsWithin a x → IsWithin b y → IsWithin (shifted_right n a b) (x / 2 ^ (y % n))
+right_sound : (n : ℕ) (a b : Bounds) (x y : ℕ) → IsWithin a x → IsWithin b y → IsWithin (right_shift n a b) (x / 2 ^ (y % n))
 right_sound n a b x y wa wb = within_if (is_single b) _ _ _
     (λ t. let e : b.lo ≡ y = grind (arith, nat_tests) in rw e (record { from = shr_mono (y % n) wa.from; to = shr_mono (y % n) wa.to }))
     (λ t. record { from = omega arith; to = omega (arith, shr_le x (y % n)) })
@@ -89,11 +90,10 @@ signed_low n x h = grind (arith, nat_tests)
 signed_shift : (n x k : ℕ) → x < 2 ^ (n - 1) → x < 2 ^ n → word n (int_div_euclid (signed_value n x) (pos (2 ^ k))) ≡ x / 2 ^ k
 signed_shift n x k h w = rw (signed_low n x h) (word_of_pos n (x / 2 ^ k) (omega (arith, shr_le x k)))
 
-signed_right_sound : (n : ℕ) (a b : Bounds) (x y : ℕ) → IsCut n a → IsWithin a x → IsWithin b y → word n (int_div_euclid (signed_value n x) (pos (2 ^ (y % n)))) < 2 ^ n → IsWithin (if nat_lt a.hi (2 ^ (n - 1)) then shifted_right n a b else any_word n) (word n (int_div_euclid (signed_value n x) (pos (2 ^ (y % n)))))
-signed_right_sound n a b x y ca wa wb w = within_if (nat_lt a.hi (2 ^ (n - 1))) _ _ _
-    (λ t. let h : a.hi < 2 ^ (n - 1) = grind (arith, nat_tests) in
-    rw (signed_shift n x (y % n) (omega arith) (omega arith)) (right_sound n a b x y wa wb))
-    (λ t. within_any n _ w)
+signed_right_sound : (n : ℕ) (a b : Bounds) (x y : ℕ) → IsCut n a → IsWithin a x → IsWithin b y → word n (int_div_euclid (signed_value n x) (pos (2 ^ (y % n)))) < 2 ^ n → IsWithin (table n (Binary Arsh) a b) (word n (int_div_euclid (signed_value n x) (pos (2 ^ (y % n)))))
+unfolding table
+signed_right_sound n a b x y ca wa wb w = let r = right_sound n a b x y wa wb in
+    record { from = grind (arith, nat_tests, r, signed_shift); to = grind (arith, nat_tests, r, signed_shift) }
 
 -- a number whose sign bit is clear is its own extension
 extended : (n k y : ℕ) → y < 2 ^ (k - 1) → y < 2 ^ k → y < 2 ^ n → word n (signed_value k (y % 2 ^ k)) ≡ y
@@ -102,11 +102,10 @@ extended n k y h low w = rw (mod-eq_of_lt low, signed_low k y h) (word_of_pos n 
 half : (k : ℕ) → 2 ^ (k - 1) ≤ 2 ^ k
 half k = pow-le-pow_right (lit< tt) (omega arith)
 
-extension_sound : (n k : ℕ) (b : Bounds) (y : ℕ) → IsCut n b → IsWithin b y → word n (signed_value k (y % 2 ^ k)) < 2 ^ n → IsWithin (if nat_lt b.hi (2 ^ (k - 1)) then b else any_word n) (word n (signed_value k (y % 2 ^ k)))
-extension_sound n k b y cb wb w = within_if (nat_lt b.hi (2 ^ (k - 1))) _ _ _
-    (λ t. let h : y < 2 ^ (k - 1) = grind (arith, nat_tests) in
-    rw (extended n k y h (omega (arith, half k)) (omega arith)) wb)
-    (λ t. within_any n _ w)
+extension_sound : (n : ℕ) (source : SignExtension) (a b : Bounds) (y : ℕ) → IsCut n b → IsWithin b y → sign_extension n source y < 2 ^ n → IsWithin (table n (Movsx source) a b) (sign_extension n source y)
+unfolding table
+extension_sound n source a b y cb wb w = let k = source_bits source in let h = half k in
+    record { from = grind (arith, nat_tests, extended); to = grind (arith, nat_tests, extended) }
 
 binary_cut : (n : ℕ) (op : BinaryOperation) (a b : ℕ) → a < 2 ^ n → b < 2 ^ n → alu n (Binary op) a b ≡ binary_value n op a b
 unfolding alu
@@ -114,12 +113,12 @@ binary_cut n op a b p q = rw (mod-eq_of_lt p, mod-eq_of_lt q) refl
 
 binary_sound : (n : ℕ) (op : BinaryOperation) (a b : Bounds) (x y : ℕ) → ((o : BinaryOperation) → binary_value n o x y < 2 ^ n) → IsCut n a → IsCut n b → IsWithin a x → IsWithin b y → IsWithin (table n (Binary op) a b) (binary_value n op x y)
 unfolding table binary_value
-binary_sound n Add a b x y words ca cb wa wb = fitting_sound n _ _ (x + y) (omega arith) (omega arith)
+binary_sound n Add a b x y words ca cb wa wb = or_any_sound n _ _ (x + y) (omega arith) (omega arith)
 binary_sound n Sub a b x y words ca cb wa wb = sub_sound n a b x y ca wa wb (words Sub)
-binary_sound n Mul a b x y words ca cb wa wb = fitting_sound n _ _ _ (mul-le _ _ _ _ wa.from wb.from) (mul-le _ _ _ _ wa.to wb.to)
-binary_sound n Div a b x y words ca cb wa wb = div_sound a b x y wa wb
+binary_sound n Mul a b x y words ca cb wa wb = or_any_sound n _ _ _ (mul-le _ _ _ _ wa.from wb.from) (mul-le _ _ _ _ wa.to wb.to)
+binary_sound n Div a b x y words ca cb wa wb = div_sound n a b x y wa wb
 binary_sound n Mod a b x y words ca cb wa wb = mod_sound n a b x y wa wb
-binary_sound n And a b x y words ca cb wa wb = and_sound a b x y wa wb
+binary_sound n And a b x y words ca cb wa wb = and_sound n a b x y wa wb
 binary_sound n Or a b x y words ca cb wa wb = or_sound n a b x y ca cb wa wb
 binary_sound n Xor a b x y words ca cb wa wb = xor_sound n a b x y ca cb wa wb
 binary_sound n Lsh a b x y words ca cb wa wb = left_sound n a b x y wa wb
@@ -134,8 +133,8 @@ unfolding table
 neg_sound n a b x y h = within_any n _ h
 
 movsx_sound : (n : ℕ) (source : SignExtension) (a b : Bounds) (x y : ℕ) → IsCut n b → IsWithin b y → alu n (Movsx source) x y < 2 ^ n → IsWithin (table n (Movsx source) a b) (alu n (Movsx source) x y)
-unfolding table alu
-movsx_sound n source a b x y cb wb h = extension_sound n (source_bits source) b y cb wb h
+unfolding alu
+movsx_sound n source a b x y cb wb h = extension_sound n source a b y cb wb h
 
 table_sound : (n : ℕ) (op : Operation) (a b : Bounds) (x y : ℕ) → IsCut n a → IsCut n b → IsWithin a x → IsWithin b y → IsWithin (table n op a b) (alu n op x y)
 table_sound n (Binary op) a b x y ca cb wa wb =

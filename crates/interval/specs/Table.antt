@@ -16,22 +16,22 @@ abbrev pub any_word : ℕ → Bounds
 any_word n = from_to 0 (2 ^ n - 1)
 
 -- from lo to hi where these are words of n bits, else every word
-abbrev pub fitting : ℕ → ℕ → ℕ → Bounds
-fitting n lo hi = if nat_lt hi (2 ^ n) then from_to lo hi else any_word n
+abbrev pub from_to_or_any : ℕ → ℕ → ℕ → Bounds
+from_to_or_any n lo hi = if nat_lt hi (2 ^ n) then from_to lo hi else any_word n
 
 -- the least 2 ^ k - 1 that isn't below the 64-bit word x: k is how many binary digits x has
 unfoldable pub up : ℕ → ℕ
 up x = 2 ^ (64 - leading_zeros w64 x) - 1
 
--- a shift to the right of numbers whose sign bit is clear
-abbrev pub shifted_right : ℕ → Bounds → Bounds → Bounds
-shifted_right n a b = if is_single b then from_to (a.lo / 2 ^ (b.lo % n)) (a.hi / 2 ^ (b.lo % n)) else from_to 0 a.hi
+-- a shift to the right that fills zeros
+abbrev pub right_shift : ℕ → Bounds → Bounds → Bounds
+right_shift n a b = if is_single b then from_to (a.lo / 2 ^ (b.lo % n)) (a.hi / 2 ^ (b.lo % n)) else from_to 0 a.hi
 
 -- the table, for operands that are words of n bits and aren't one value each
 unfoldable pub table : ℕ → Operation → Bounds → Bounds → Bounds
-table n (Binary Add) a b = fitting n (a.lo + b.lo) (a.hi + b.hi)
+table n (Binary Add) a b = from_to_or_any n (a.lo + b.lo) (a.hi + b.hi)
 table n (Binary Sub) a b = if nat_le b.hi a.lo then from_to (a.lo - b.hi) (a.hi - b.lo) else any_word n
-table n (Binary Mul) a b = fitting n (a.lo * b.lo) (a.hi * b.hi)
+table n (Binary Mul) a b = from_to_or_any n (a.lo * b.lo) (a.hi * b.hi)
 table n (Binary Div) a b = if b.lo == 0 then from_to 0 a.hi else from_to (a.lo / b.hi) (a.hi / b.lo)
 table n (Binary Mod) a b =
     if nat_lt a.hi b.lo then a else
@@ -40,9 +40,9 @@ table n (Binary Mod) a b =
 table n (Binary And) a b = from_to 0 (min a.hi b.hi)
 table n (Binary Or) a b = from_to (max a.lo b.lo) (up (max a.hi b.hi))
 table n (Binary Xor) a b = from_to 0 (up (max a.hi b.hi))
-table n (Binary Lsh) a b = if is_single b then fitting n (a.lo * 2 ^ (b.lo % n)) (a.hi * 2 ^ (b.lo % n)) else any_word n
-table n (Binary Rsh) a b = shifted_right n a b
-table n (Binary Arsh) a b = if nat_lt a.hi (2 ^ (n - 1)) then shifted_right n a b else any_word n
+table n (Binary Lsh) a b = if is_single b then from_to_or_any n (a.lo * 2 ^ (b.lo % n)) (a.hi * 2 ^ (b.lo % n)) else any_word n
+table n (Binary Rsh) a b = right_shift n a b
+table n (Binary Arsh) a b = if nat_lt a.hi (2 ^ (n - 1)) then right_shift n a b else any_word n
 table n (Binary Mov) a b = b
 table n (Binary Sdiv) a b = any_word n
 table n (Binary Smod) a b = any_word n
@@ -60,7 +60,7 @@ are_single (Movsx source) a b = is_single b
 unfoldable pub cut : ℕ → Bounds → Bounds
 cut n r = if nat_lt r.hi (2 ^ n) then r else if is_single r then single (r.lo % 2 ^ n) else any_word n
 
--- on operands that are words of n bits
+-- the same on operands that may be one value each
 abbrev pub word_range : ℕ → Operation → Bounds → Bounds → Bounds
 word_range n op a b = if are_single op a b then single (alu n op a.lo b.lo) else table n op a b
 

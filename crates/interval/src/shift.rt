@@ -1,10 +1,11 @@
 //! The rows of the shifts.
-ghost use Rattle.std.specs.Prelude.{◌≡◌, ◌<◌, ◌^◌, ◌*◌, ◌%◌};
+ghost use Rattle.std.specs.Prelude.{◌≡◌, ◌^◌, ◌%◌};
 ghost use Rattle.bpf_words.specs.declared.operation.BinaryOperation.TheVariants.{Lsh, Rsh, Arsh};
 ghost use Rattle.bpf_words.specs.declared.operation.Operation.TheVariants.{Binary};
-ghost use Rattle.interval.specs.Table.{table, fitting};
+ghost use Rattle.interval.specs.Table.{table};
 ghost use Rattle.interval.specs.Width.{width_bits};
 
+use crate::arithmetic::product;
 use crate::range::Range;
 use crate::width::Width;
 
@@ -14,7 +15,7 @@ pub fn left_shift(width: Width, a: Range, b: Range) -> Range
     ensures { result ≡ table (width_bits width) (Binary Lsh) a b }
 {
     if b.is_single() {
-        multiple(width, a, power(width, b.lo()))
+        product(width, a, Range::single(power(width, b.lo())))
     } else {
         width.any_word()
     }
@@ -42,16 +43,6 @@ pub fn signed_right_shift(width: Width, a: Range, b: Range) -> Range
         right_shift(width, a, b)
     } else {
         width.any_word()
-    }
-}
-
-/// Each number so many times.
-fn multiple(width: Width, a: Range, factor: u64) -> Range
-    ensures { result ≡ fitting (width_bits width) (a.lo * factor) (a.hi * factor) }
-{
-    match a.hi().checked_mul(factor) {
-        Some(hi) if hi <= width.greatest() => Range::new(a.lo() * factor, hi),
-        _ => width.any_word(),
     }
 }
 

@@ -1,8 +1,8 @@
 //! The range of an operation's results.
 ghost use Rattle.std.specs.Prelude.{◌≡◌};
-ghost use Rattle.interval.specs.Range.{Bounds};
-ghost use Rattle.bpf_words.specs.declared.operation.Operation.TheVariants.{Binary, Movsx};
 ghost use Rattle.bpf_words.specs.Operation.{alu};
+ghost use Rattle.bpf_words.specs.declared.operation.Operation.TheVariants.{Binary, Movsx};
+ghost use Rattle.interval.specs.Range.{Bounds};
 ghost use Rattle.interval.specs.Table as tables;
 ghost use Rattle.interval.specs.Width.{width_bits};
 
