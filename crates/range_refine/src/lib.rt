@@ -10,3 +10,5 @@ pub use refinement::{refine32, refine64};
 mod laws;
 mod refinement;
 mod table;
+#[cfg(test)]
+mod tests;
