@@ -1,0 +1,3 @@
+pub mod Kept
+pub mod Inside
+pub mod One

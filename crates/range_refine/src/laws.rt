@@ -1,0 +1,40 @@
+//! The laws of refinement, about the definition alone. `n` is the number of bits.
+ghost use Rattle.std.specs.Prelude.{◌≡◌, ◌≢◌, ℕ, Bool, IsSomeAnd, IfSome, Some, None};
+ghost use Rattle.bpf_words.specs.Condition.{holds};
+ghost use Rattle.bpf_words.specs.declared.condition.Condition.{Condition};
+ghost use Rattle.interval.specs.Range.{Bounds, IsRange, IsWithin, IsInside, single};
+ghost use Rattle.range_refine.specs.Refinement.{refinement};
+
+/// Whatever 64-bit operands are of the ranges before, where they go along an edge they are of the
+/// ranges along it. So there are none only where no operands of these ranges go along the edge.
+#[tactic(auto, using(crate::proofs::Kept::all_kept, crate::proofs::Kept::none_go))]
+pub fn operands_along_an_edge_stay()
+    ensures kept { (n : ℕ) (condition : Condition) (taken : Bool) (a b : Bounds) (x y : ℕ)
+        → IsWithin a x → IsWithin b y → holds n condition x y ≡ taken
+        → IsSomeAnd (refinement n condition taken a b) (λ r. IsWithin r.0 x × IsWithin r.1 y) }
+    ensures none { (n : ℕ) (condition : Condition) (taken : Bool) (a b : Bounds)
+        → refinement n condition taken a b ≡ None
+        → (x y : ℕ) → IsWithin a x → IsWithin b y → holds n condition x y ≢ taken }
+{}
+
+/// The ranges along an edge are ranges of words, inside those before.
+#[tactic(auto, using(crate::proofs::Inside::all_inside, crate::proofs::Inside::all_ranges))]
+pub fn ranges_along_an_edge_are_inside()
+    ensures inside { (n : ℕ) (condition : Condition) (taken : Bool) (a b : Bounds)
+        → IsRange a → IsRange b
+        → IfSome (refinement n condition taken a b) (λ r. IsInside r.0 a × IsInside r.1 b) }
+    ensures range { (n : ℕ) (condition : Condition) (taken : Bool) (a b : Bounds)
+        → IsRange a → IsRange b
+        → IfSome (refinement n condition taken a b) (λ r. IsRange r.0 × IsRange r.1) }
+{}
+
+/// Where each range is one value an edge stays as it is exactly where these go along it.
+#[tactic(auto, using(crate::proofs::One::one_goes, crate::proofs::One::one_stays_away))]
+pub fn one_value_each_decides()
+    ensures goes { (n : ℕ) (condition : Condition) (taken : Bool) (x y : ℕ)
+        → holds n condition x y ≡ taken
+        → refinement n condition taken (single x) (single y) ≡ Some (single x, single y) }
+    ensures stays_away { (n : ℕ) (condition : Condition) (taken : Bool) (x y : ℕ)
+        → holds n condition x y ≢ taken
+        → refinement n condition taken (single x) (single y) ≡ None }
+{}

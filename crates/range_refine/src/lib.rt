@@ -1,0 +1,14 @@
+//! What an edge of a conditional jump says of its operands: their ranges along it, or that it is
+//! never gone along.
+#![tactic(auto)]
+
+pub use laws::{
+    one_value_each_decides, operands_along_an_edge_stay, ranges_along_an_edge_are_inside,
+};
+pub use refinement::{refine32, refine64};
+
+mod laws;
+mod refinement;
+mod table;
+#[cfg(test)]
+mod tests;
