@@ -1,9 +1,11 @@
 -- What is known of a program's state before an instruction, whichever way a run came there.
 use Rattle.std.specs.Prelude.{ℕ, ◌+◌, take, drop, pos, Bool, true, false, ◌&&◌, List, [], ◌∷◌, ◌++◌, replicate, slice_index_or, slice_set}
+use Rattle.std.specs.List.{fold}
 use Rattle.std.specs.Int.{int_min, int_max}
 use Rattle.bpf_code.specs.declared.instruction.Register.{Register}
+use Rattle.bpf_code.specs.declared.instruction.Register.TheVariants.{R0, R1, R2, R3, R4, R5}
 use Rattle.bpf_code.specs.Register.{number_of}
-use Rattle.interval.specs.Range.{join}
+use Rattle.interval.specs.Range.{Bounds, join}
 use Rattle.abs_state.specs.declared.kind.Kind.{Kind}
 use Rattle.abs_state.specs.declared.kind.Kind.TheVariants.{Nothing, Number, Stack, Args}
 use Rattle.abs_state.specs.declared.state.AbsState.{AbsState}
@@ -44,3 +46,7 @@ with_kind s r k = record s { kinds = slice_set s.kinds (number_of r) k }
 -- so many bytes of the stack from an index on, which are initialised
 abbrev pub with_initialised : AbsState → ℕ → ℕ → AbsState
 with_initialised s from count = record s { initialised = take from s.initialised ++ replicate count true ++ drop (from + count) s.initialised }
+
+-- after a call r0 has a number of the answer's range, and r1 to r5 hold nothing
+abbrev pub with_answer : Bounds → AbsState → AbsState
+with_answer answer s = with_kind (fold (λ known r. with_kind known r Nothing) s (R1 ∷ R2 ∷ R3 ∷ R4 ∷ R5 ∷ [])) R0 (Number answer)

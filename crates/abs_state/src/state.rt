@@ -1,10 +1,11 @@
 //! What is known of a state.
 ghost use Rattle.std.specs.Prelude.{◌≡◌, ◌++◌, replicate, true, ◌+◌, ◌≤◌, take, drop, length};
 ghost use Rattle.std.specs.List.{list_all};
-ghost use Rattle.abs_state.specs.State.{abs_entry, in_both, kind_join, kind_of, state_join, with_initialised, with_kind, zip_with};
+ghost use Rattle.abs_state.specs.State.{abs_entry, in_both, kind_join, kind_of, state_join, with_answer, with_initialised, with_kind, zip_with};
 
 use crate::kind::Kind;
 use bpf_code::Register;
+use interval::Range;
 
 static ALL_INITIALISED: [bool; 512] = [true; 512];
 
@@ -51,6 +52,18 @@ impl AbsState {
         ensures { self.new ≡ with_kind self.old register kind }
     {
         self.kinds[usize::from(register.number())] = kind;
+    }
+
+    /// After a call r0 has a number of the answer's range, and r1 to r5 hold nothing.
+    pub fn set_answer(&mut self, answer: Range)
+        ensures { self.new ≡ with_answer answer self.old }
+    {
+        self.set_kind(Register::R1, Kind::Nothing);
+        self.set_kind(Register::R2, Kind::Nothing);
+        self.set_kind(Register::R3, Kind::Nothing);
+        self.set_kind(Register::R4, Kind::Nothing);
+        self.set_kind(Register::R5, Kind::Nothing);
+        self.set_kind(Register::R0, Kind::Number(answer));
     }
 
     /// So many bytes of the stack from an index on are initialised.

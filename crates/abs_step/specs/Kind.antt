@@ -50,14 +50,17 @@ is_near place = nat_le (unsigned_abs place) 65536
 abbrev pub near_places : ℤ → ℤ → Option (ℤ × ℤ)
 near_places lo hi = if is_near lo && is_near hi then Some (lo, hi) else None
 
--- where a pointer from lo to hi is after a 64-bit ADD or SUB of a number, read as signed; None where that may be too
--- far away
+-- where a pointer from lo to hi is after a 64-bit ADD or SUB of a number from least to greatest; None where that may be
+-- too far away
+abbrev pub moved_by : BinaryOperation → ℤ → ℤ → ℤ → ℤ → Option (ℤ × ℤ)
+moved_by Add lo hi least greatest = near_places (lo +ℤ least) (hi +ℤ greatest)
+moved_by Sub lo hi least greatest = near_places (lo -ℤ greatest) (hi -ℤ least)
+moved_by _ lo hi least greatest = None
+
+-- the number is read as signed; None too where it may have either sign's bit
 abbrev pub moved_places : BinaryOperation → ℤ → ℤ → Bounds → Option (ℤ × ℤ)
-moved_places Add lo hi b =
-    if has_both_signs b then None else near_places (lo +ℤ cast_signed w64 b.lo) (hi +ℤ cast_signed w64 b.hi)
-moved_places Sub lo hi b =
-    if has_both_signs b then None else near_places (lo -ℤ cast_signed w64 b.hi) (hi -ℤ cast_signed w64 b.lo)
-moved_places _ lo hi b = None
+moved_places op lo hi b =
+    if has_both_signs b then None else moved_by op lo hi (cast_signed w64 b.lo) (cast_signed w64 b.hi)
 
 -- ---- what an arithmetic operation gives
 

@@ -27,11 +27,11 @@ use Rattle.schema.specs.declared.helper.AnswerKind.TheVariants.{Flag, Zero, Coun
 use Rattle.bpf_semantics.specs.Step.{low_bits}
 use Rattle.interval.specs.Range.{Bounds, from_to, single}
 use Rattle.interval.specs.Table.{any_word, end_range}
-use Rattle.range_refine.specs.Refine.{refinement}
+use Rattle.range_refine.specs.Refinement.{refinement}
 use Rattle.abs_state.specs.declared.kind.Kind.{Kind}
 use Rattle.abs_state.specs.declared.kind.Kind.TheVariants.{Nothing, Number, Stack, Args}
 use Rattle.abs_state.specs.declared.state.AbsState.{AbsState}
-use Rattle.abs_state.specs.State.{kind_of, with_kind, with_initialised}
+use Rattle.abs_state.specs.State.{kind_of, with_answer, with_kind, with_initialised}
 use Rattle.abs_step.specs.Kind.{operand_kind, operation_kind, number_kind}
 use Rattle.abs_step.specs.declared.access.Bytes.{Bytes}
 use Rattle.abs_step.specs.Access.{stack_reach, buffer_bytes}
@@ -62,10 +62,6 @@ answer_range Flag = from_to 0 1
 answer_range Zero = single 0
 answer_range Count = any_word 64
 
--- r0 has the answer, and r1 to r5 hold nothing
-abbrev pub kinds_after_call : Helper → List Kind → List Kind
-kinds_after_call helper kinds = Number (answer_range (answer_of helper)) ∷ (replicate 5 Nothing ++ drop 6 kinds)
-
 abbrev pub with_buffer : AbsState → Kind → Option ℕ → AbsState
 with_buffer s k None = s
 with_buffer s k (Some count) = with_bytes (buffer_bytes k count) s
@@ -79,9 +75,7 @@ with_buffers tables _ s = s
 
 abbrev pub after_call : Tables → Option Helper → AbsState → AbsState
 after_call tables None s = s
-after_call tables (Some helper) s =
-    let written = with_buffers tables helper s in
-    record written { kinds = kinds_after_call helper s.kinds }
+after_call tables (Some helper) s = with_answer (answer_range (answer_of helper)) (with_buffers tables helper s)
 
 -- ---- conditions
 

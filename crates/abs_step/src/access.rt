@@ -63,7 +63,14 @@ pub(crate) fn args_reach(args_len: u16, lo: i32, hi: i32, offset: i16, size: u8)
     ensures { result ≡ args_reach args_len lo hi offset size }
 {
     let count = reach(lo, hi, size);
-    bytes_from(count, index_in(i64::from(lo) + i64::from(offset), count, usize::from(args_len)))
+    bytes_from(
+        count,
+        index_in(
+            i64::from(lo) + i64::from(offset),
+            count,
+            usize::from(args_len),
+        ),
+    )
 }
 
 /// A helper's buffer, where it is at one place of the stack, and whole inside.

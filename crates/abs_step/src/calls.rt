@@ -4,7 +4,7 @@ ghost use Rattle.std.specs.List.{list_any};
 ghost use Rattle.abs_state.specs.State.{kind_of};
 ghost use Rattle.abs_step.specs.Kind.{is_nothing};
 ghost use Rattle.abs_step.specs.Cause.{call_arguments, table_width, buffer_length, is_unknown_table, is_no_number, is_no_buffer, lacks_room, row_is_uninitialised, some_uninitialised};
-ghost use Rattle.abs_step.specs.Result.{answer_range, kinds_after_call, with_buffer, with_buffers, with_bytes, after_call};
+ghost use Rattle.abs_step.specs.Result.{answer_range, with_buffer, with_buffers, with_bytes, after_call};
 
 use crate::access::{Bytes, are_initialised, buffer_bytes};
 use crate::kinds::{is_nothing, is_number};
@@ -54,7 +54,11 @@ pub(crate) fn argument_is_nothing(helper: Helper, state: &AbsState) -> bool
 }
 
 /// Whether the table isn't one known number of the schema.
-pub(crate) fn table_is_unknown<A: Allocator>(helper: Helper, state: &AbsState, schema: &Schema<A>) -> bool
+pub(crate) fn table_is_unknown<A: Allocator>(
+    helper: Helper,
+    state: &AbsState,
+    schema: &Schema<A>,
+) -> bool
     ensures { result ≡ list_any (λ a. is_unknown_table schema.now a.0 (kind_of state.now a.1)) (call_arguments (Some helper)) }
 {
     match helper {
@@ -93,7 +97,8 @@ pub(crate) fn buffer_is_missing(helper: Helper, state: &AbsState, width: Option<
     match helper {
         Helper::RowGet | Helper::RowPut => lacks_room(width, state.kind(Register::R3)),
         Helper::RangeNext => {
-            lacks_room(Some(8), state.kind(Register::R4)) || lacks_room(width, state.kind(Register::R5))
+            lacks_room(Some(8), state.kind(Register::R4))
+                || lacks_room(width, state.kind(Register::R5))
         }
         Helper::RowDelete | Helper::RangeCount | Helper::Cancel => false,
     }
@@ -133,18 +138,6 @@ fn answer_range(answer: AnswerKind) -> Range
     }
 }
 
-/// The kinds after a call: r0 has the answer, and r1 to r5 hold nothing.
-fn kinds_after_call(helper: Helper, kinds: &[Kind; 11]) -> [Kind; 11]
-    ensures { result ≡ kinds_after_call helper kinds.now }
-{
-    let [_, _, _, _, _, _, six, seven, eight, nine, ten] = *kinds;
-    let answer = Kind::Number(answer_range(helper.answer()));
-    let nothing = Kind::Nothing;
-    [
-        answer, nothing, nothing, nothing, nothing, nothing, six, seven, eight, nine, ten,
-    ]
-}
-
 /// These bytes of the stack are initialised.
 pub(crate) fn set_bytes(state: &mut AbsState, bytes: Option<Bytes>)
     requires { IfSome bytes (λ bytes. bytes.index + bytes.count ≤ 512) }
@@ -181,7 +174,6 @@ fn set_buffers<A: Allocator>(state: &mut AbsState, schema: &Schema<A>, helper: H
 pub(crate) fn call<A: Allocator>(state: &mut AbsState, schema: &Schema<A>, helper: Helper)
     ensures { state.new ≡ after_call schema.now (Some helper) state.old }
 {
-    let kinds = kinds_after_call(helper, &state.kinds);
     set_buffers(state, schema, helper);
-    state.kinds = kinds;
+    state.set_answer(answer_range(helper.answer()));
 }

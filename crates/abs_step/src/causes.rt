@@ -2,6 +2,8 @@
 ghost use Rattle.std.specs.Prelude.{◌≡◌, IfSome, ◌+◌, ◌≤◌};
 ghost use Rattle.std.specs.List.{list_any};
 ghost use Rattle.bpf_code.specs.declared.instruction.Register.TheVariants.{R1};
+ghost use Rattle.bpf_code.specs.declared.instruction.Width.TheVariants.{Bits64};
+ghost use Rattle.abs_state.specs.declared.kind.Kind.TheVariants.{Number};
 ghost use Rattle.bpf_semantics.specs.Step.{is_read_only};
 ghost use Rattle.abs_state.specs.State.{kind_of};
 ghost use Rattle.abs_step.specs.Kind.{is_nothing};
@@ -12,12 +14,16 @@ ghost use Rattle.abs_step.specs.Cause.{bytes_loaded, reads_uninitialised, is_unk
 ghost use Rattle.abs_step.specs.Cause.{is_no_number, is_no_buffer, table_width, replies_pointer, cause_of};
 
 use crate::access::{Bytes, args_reach, stack_reach};
-use crate::calls::{argument_is_nothing, buffer_is_missing, number_is_missing, row_is_uninitialised, some_uninitialised, table_is_unknown, table_width};
+use crate::calls::{
+    argument_is_nothing, buffer_is_missing, number_is_missing, row_is_uninitialised,
+    some_uninitialised, table_is_unknown, table_width,
+};
 use crate::cause::Cause;
 use crate::kinds::{is_move, is_nothing, is_pointer, moved_places, operand_kind};
 use abs_state::{AbsState, Kind};
 use bpf_code::{Instruction, Register, Source, Width};
 use bpf_words::BinaryOperation;
+use interval::Range;
 use schema::{Helper, Schema};
 use std::alloc::Allocator;
 
@@ -59,7 +65,8 @@ fn reads_nothing(instruction: Instruction, state: &AbsState) -> bool
             None => false,
         },
         Instruction::Exit => is_nothing(state.kind(Register::R0)),
-        Instruction::LoadWide { .. } | Instruction::Jump { .. } | Instruction::LongJump { .. } => false,
+        Instruction::LoadWide { .. } | Instruction::Jump { .. } | Instruction::LongJump { .. } =>
+            false,
     }
 }
 
@@ -111,24 +118,35 @@ fn move_uses_pointer(width: Width, b: Kind) -> bool
 fn binary_uses_pointer(width: Width, op: BinaryOperation, a: Kind, b: Kind) -> bool
     ensures { result ≡ binary_uses_pointer width op a b }
 {
-    let either = is_pointer(a) || is_pointer(b);
-    let Kind::Number(range) = b else {
-        return either;
-    };
-    match width {
-        Width::Bits32 => either,
-        Width::Bits64 => match a {
-            Kind::Stack(lo, hi) => moved_places(op, lo, hi, range).is_none(),
-            Kind::Args(lo, hi) => moved_places(op, lo, hi, range).is_none(),
-            _ => either,
+    match b {
+        Kind::Number(range) => match width {
+            Width::Bits32 => is_pointer(a),
+            Width::Bits64 => moves_too_far(op, a, range),
         },
+        Kind::Nothing => is_pointer(a),
+        Kind::Stack(_, _) | Kind::Args(_, _) => true,
+    }
+}
+
+/// Whether a pointer is moved too far, or by another operation than ADD and SUB.
+fn moves_too_far(op: BinaryOperation, a: Kind, b: Range) -> bool
+    ensures { result ≡ binary_uses_pointer Bits64 op a (Number b) }
+{
+    match a {
+        Kind::Stack(lo, hi) => moved_places(op, lo, hi, b).is_none(),
+        Kind::Args(lo, hi) => moved_places(op, lo, hi, b).is_none(),
+        Kind::Nothing | Kind::Number(_) => false,
     }
 }
 
 fn operands_use_pointer(width: Width, op: BinaryOperation, a: Kind, b: Kind) -> bool
     ensures { result ≡ operands_use_pointer width op a b }
 {
-    if is_move(op) { move_uses_pointer(width, b) } else { binary_uses_pointer(width, op, a, b) }
+    if is_move(op) {
+        move_uses_pointer(width, b)
+    } else {
+        binary_uses_pointer(width, op, a, b)
+    }
 }
 
 /// Whether a pointer stands where only a number may, or is moved too far.
@@ -142,7 +160,12 @@ fn uses_pointer(instruction: Instruction, state: &AbsState) -> bool
             operation,
             dst,
             source,
-        } => operands_use_pointer(width, operation, state.kind(dst), operand_kind(state, source)),
+        } => operands_use_pointer(
+            width,
+            operation,
+            state.kind(dst),
+            operand_kind(state, source),
+        ),
         Instruction::Negate { dst, .. } => is_pointer(state.kind(dst)),
         Instruction::MoveSignExtended { src, .. } => is_pointer(state.kind(src)),
         Instruction::End { dst, .. } => is_pointer(state.kind(dst)),
@@ -183,13 +206,22 @@ fn is_outside(args_len: u16, instruction: Instruction, state: &AbsState) -> bool
 {
     match instruction {
         Instruction::Load {
-            kind, src, offset, ..
+            kind,
+            src,
+            offset,
+            ..
         } => load_is_outside(args_len, state.kind(src), offset, kind.bytes()),
         Instruction::StoreImmediate {
-            size, dst, offset, ..
+            size,
+            dst,
+            offset,
+            ..
         } => store_is_outside(state.kind(dst), offset, size.bytes()),
         Instruction::StoreRegister {
-            size, dst, offset, ..
+            size,
+            dst,
+            offset,
+            ..
         } => store_is_outside(state.kind(dst), offset, size.bytes()),
         _ => false,
     }
@@ -236,7 +268,10 @@ fn reads_uninitialised<A: Allocator>(
 {
     match instruction {
         Instruction::Load {
-            kind, src, offset, ..
+            kind,
+            src,
+            offset,
+            ..
         } => some_uninitialised(state, bytes_loaded(state.kind(src), offset, kind.bytes())),
         Instruction::Call { helper } => match Helper::from_number(helper) {
             Some(helper) => {

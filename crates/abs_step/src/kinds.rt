@@ -1,6 +1,6 @@
 //! Kinds of values: tests, and what operations give.
-ghost use Rattle.std.specs.Prelude.{◌≡◌};
-ghost use Rattle.abs_step.specs.Kind.{is_nothing, is_number, is_pointer, operand_kind, has_both_signs, near_places, is_near, moved_places, stack_of, args_of, move_kind, binary_kind, operation_kind, number_kind};
+ghost use Rattle.std.specs.Prelude.{◌≡◌, ◌≤◌, ◌^◌, ◌+ℤ◌, ◌-ℤ◌, unsigned_abs};
+ghost use Rattle.abs_step.specs.Kind.{is_nothing, is_number, is_pointer, operand_kind, has_both_signs, near_places, is_near, moved_by, moved_places, stack_of, args_of, move_kind, binary_kind, operation_kind, number_kind};
 ghost use Rattle.bpf_code.specs.Sizes.{width_bits};
 ghost use Rattle.interval.specs.Table.{alu_range};
 ghost use Rattle.bpf_semantics.specs.Step.{is_move_operation};
@@ -73,17 +73,55 @@ fn near_places(lo: i128, hi: i128) -> Option<(i32, i32)>
     }
 }
 
-/// Where a pointer from lo to hi is after a 64-bit ADD or SUB of a number; none where that may be too far.
-pub(crate) fn moved_places(op: BinaryOperation, lo: i32, hi: i32, range: Range) -> Option<(i32, i32)>
-    ensures { result ≡ moved_places op lo hi range }
+fn sum(place: i128, distance: i128) -> i128
+    requires place { unsigned_abs place ≤ 2 ^ 64 }
+    requires distance { unsigned_abs distance ≤ 2 ^ 64 }
+    ensures { result ≡ place +ℤ distance }
+{
+    place + distance
+}
+
+fn difference(place: i128, distance: i128) -> i128
+    requires place { unsigned_abs place ≤ 2 ^ 64 }
+    requires distance { unsigned_abs distance ≤ 2 ^ 64 }
+    ensures { result ≡ place -ℤ distance }
+{
+    place - distance
+}
+
+/// Where a pointer from lo to hi is after a 64-bit ADD or SUB of a number from least to greatest; none where that
+/// may be too far.
+fn moved_by(op: BinaryOperation, lo: i32, hi: i32, least: i64, greatest: i64) -> Option<(i32, i32)>
+    ensures { result ≡ moved_by op lo hi least greatest }
 {
     let (lo, hi) = (i128::from(lo), i128::from(hi));
-    let (least, greatest) = (i128::from(range.lo().cast_signed()), i128::from(range.hi().cast_signed()));
+    let (least, greatest) = (i128::from(least), i128::from(greatest));
     match op {
-        BinaryOperation::Add if !has_both_signs(range) => near_places(lo + least, hi + greatest),
-        BinaryOperation::Sub if !has_both_signs(range) => near_places(lo - greatest, hi - least),
+        BinaryOperation::Add => near_places(sum(lo, least), sum(hi, greatest)),
+        BinaryOperation::Sub => near_places(difference(lo, greatest), difference(hi, least)),
         _ => None,
     }
+}
+
+/// The same with a number of a range, read as signed; none too where it may have either sign.
+pub(crate) fn moved_places(
+    op: BinaryOperation,
+    lo: i32,
+    hi: i32,
+    range: Range,
+) -> Option<(i32, i32)>
+    ensures { result ≡ moved_places op lo hi range }
+{
+    if has_both_signs(range) {
+        return None;
+    }
+    moved_by(
+        op,
+        lo,
+        hi,
+        range.lo().cast_signed(),
+        range.hi().cast_signed(),
+    )
 }
 
 fn alu_range(width: Width, op: Operation, a: Range, b: Range) -> Range
@@ -99,7 +137,12 @@ fn move_kind(width: Width, b: Kind) -> Kind
     ensures { result ≡ move_kind width b }
 {
     match b {
-        Kind::Number(b) => Kind::Number(alu_range(width, Operation::Binary(BinaryOperation::Mov), b, b)),
+        Kind::Number(b) => Kind::Number(alu_range(
+            width,
+            Operation::Binary(BinaryOperation::Mov),
+            b,
+            b,
+        )),
         _ => match width {
             Width::Bits64 => b,
             Width::Bits32 => Kind::Nothing,
@@ -155,7 +198,11 @@ pub(crate) fn is_move(op: BinaryOperation) -> bool
 pub(crate) fn operation_kind(width: Width, op: BinaryOperation, a: Kind, b: Kind) -> Kind
     ensures { result ≡ operation_kind width op a b }
 {
-    if is_move(op) { move_kind(width, b) } else { binary_kind(width, op, a, b) }
+    if is_move(op) {
+        move_kind(width, b)
+    } else {
+        binary_kind(width, op, a, b)
+    }
 }
 
 /// What an operation on one number gives.

@@ -2,7 +2,7 @@
 ghost use Rattle.std.specs.Prelude.{◌≡◌, Some};
 ghost use Rattle.bpf_code.specs.Sizes.{size_bytes, width_bits};
 ghost use Rattle.bpf_semantics.specs.Step.{low_bits};
-ghost use Rattle.range_refine.specs.Refine.{refinement};
+ghost use Rattle.range_refine.specs.Refinement.{refinement};
 ghost use Rattle.abs_state.specs.State.{kind_of, with_kind};
 ghost use Rattle.abs_step.specs.Result.{loaded_range, with_store, compared_kind, is_same_register, with_source, with_sides, refined_state, edge_state, end_kind, after_call, sent_on, sent_by_jump};
 ghost use Rattle.schema.specs.Helper.{helper_of};
@@ -82,7 +82,13 @@ fn is_same_register(dst: Register, source: Source) -> bool
     }
 }
 
-fn refine(width: Width, condition: Condition, taken: bool, a: Range, b: Range) -> Option<(Range, Range)>
+fn refine(
+    width: Width,
+    condition: Condition,
+    taken: bool,
+    a: Range,
+    b: Range,
+) -> Option<(Range, Range)>
     ensures { result ≡ refinement (width_bits width) condition taken a b }
 {
     match width {
@@ -189,10 +195,16 @@ pub fn sent_on<A: Allocator>(
             Some(with_result(state, dst, Kind::Number(loaded_range(kind))))
         }
         Instruction::StoreImmediate {
-            size, dst, offset, ..
+            size,
+            dst,
+            offset,
+            ..
         } => Some(after_store(state, dst, offset, size.bytes())),
         Instruction::StoreRegister {
-            size, dst, offset, ..
+            size,
+            dst,
+            offset,
+            ..
         } => Some(after_store(state, dst, offset, size.bytes())),
         Instruction::Arithmetic {
             width,
@@ -200,7 +212,12 @@ pub fn sent_on<A: Allocator>(
             dst,
             source,
         } => {
-            let kind = operation_kind(width, operation, state.kind(dst), operand_kind(state, source));
+            let kind = operation_kind(
+                width,
+                operation,
+                state.kind(dst),
+                operand_kind(state, source),
+            );
             Some(with_result(state, dst, kind))
         }
         Instruction::Negate { width, dst } => {
@@ -209,7 +226,11 @@ pub fn sent_on<A: Allocator>(
         }
         Instruction::MoveSignExtended { kind, dst, src } => {
             let moved = Operation::Movsx(low_bits(kind));
-            Some(with_result(state, dst, number_kind(kind.width(), moved, state.kind(src))))
+            Some(with_result(
+                state,
+                dst,
+                number_kind(kind.width(), moved, state.kind(src)),
+            ))
         }
         Instruction::End { order, width, dst } => {
             Some(with_result(state, dst, end_kind(order, width, state.kind(dst))))
