@@ -13,9 +13,8 @@ use Rattle.bpf_words.specs.declared.operation.Operation.TheVariants.{Binary, Neg
 use Rattle.interval.specs.Range.{Bounds, IsRange, IsWithin, is_single}
 use Rattle.interval.specs.Table.{any_word, cut}
 
--- a range of words of n bits
+-- its numbers are words of n bits, and of 64
 pub record IsCut (n : ℕ) (r : Bounds) : Type 0 where
-  pub ordered : r.lo ≤ r.hi
   pub word : r.hi < 2 ^ n
   pub small : r.hi < 2 ^ 64
 
@@ -38,10 +37,10 @@ any_sound n v = within_any n _ (cut_below n v)
 
 pub cut_is_cut : (n : ℕ) (r : Bounds) → IsRange r → IsCut n (cut n r)
 unfolding cut
-cut_is_cut n r h = cut_if (nat_lt r.hi (2 ^ n)) r _ (λ t. record { ordered = h.ordered; word = grind (arith, nat_tests); small = h.word })
+cut_is_cut n r h = cut_if (nat_lt r.hi (2 ^ n)) r _ (λ t. record { word = grind (arith, nat_tests); small = h.word })
     (λ t. let low : 2 ^ n ≤ r.hi = grind (arith, nat_tests) in let small = h.word in cut_if (is_single r) _ _
-    (λ t. let below = cut_below n r.lo in record { ordered = omega arith; word = below; small = omega arith })
-    (λ t. let above = pow_pos n in record { ordered = omega arith; word = omega arith; small = omega arith }))
+    (λ t. let below = cut_below n r.lo in record { word = below; small = omega arith })
+    (λ t. let above = pow_pos n in record { word = omega arith; small = omega arith }))
 
 pub cut_sound : (n : ℕ) (r : Bounds) (x : ℕ) → IsWithin r x → IsWithin (cut n r) (x % 2 ^ n)
 unfolding cut

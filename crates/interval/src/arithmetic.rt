@@ -8,7 +8,7 @@ ghost use Rattle.interval.specs.Width.{width_bits};
 use crate::range::Range;
 use crate::width::Width;
 
-/// ADD.
+/// The row of ADD.
 #[tactic(auto, unfolding(crate::specs::Table::table))]
 pub fn sum(width: Width, a: Range, b: Range) -> Range
     ensures { result ≡ table (width_bits width) (Binary Add) a b }
@@ -19,7 +19,7 @@ pub fn sum(width: Width, a: Range, b: Range) -> Range
     }
 }
 
-/// SUB.
+/// The row of SUB.
 #[tactic(auto, unfolding(crate::specs::Table::table))]
 pub fn difference(width: Width, a: Range, b: Range) -> Range
     ensures { result ≡ table (width_bits width) (Binary Sub) a b }
@@ -31,7 +31,7 @@ pub fn difference(width: Width, a: Range, b: Range) -> Range
     }
 }
 
-/// MUL.
+/// The row of MUL.
 #[tactic(auto, unfolding(crate::specs::Table::table))]
 pub fn product(width: Width, a: Range, b: Range) -> Range
     ensures { result ≡ table (width_bits width) (Binary Mul) a b }
@@ -42,7 +42,7 @@ pub fn product(width: Width, a: Range, b: Range) -> Range
     }
 }
 
-/// DIV.
+/// The row of DIV.
 #[tactic(auto, unfolding(crate::specs::Table::table))]
 pub fn quotient(a: Range, b: Range) -> Range
     ensures { (n : ℕ) → result ≡ table n (Binary Div) a b }
@@ -54,7 +54,7 @@ pub fn quotient(a: Range, b: Range) -> Range
     }
 }
 
-/// MOD.
+/// The row of MOD.
 #[tactic(auto, unfolding(crate::specs::Table::table))]
 pub fn remainder(a: Range, b: Range) -> Range
     ensures { (n : ℕ) → result ≡ table n (Binary Mod) a b }

@@ -4,12 +4,10 @@ ghost use Rattle.bpf_words.specs.declared.operation.BinaryOperation.TheVariants.
 ghost use Rattle.bpf_words.specs.declared.operation.Operation.TheVariants.{Binary};
 ghost use Rattle.interval.specs.Table as tables;
 ghost use Rattle.interval.specs.Table.{table};
-ghost use Rattle.interval.specs.Width.{width_bits};
 
 use crate::range::Range;
-use crate::width::Width;
 
-/// AND.
+/// The row of AND.
 #[tactic(auto, unfolding(crate::specs::Table::table))]
 pub fn and(a: Range, b: Range) -> Range
     ensures { (n : ℕ) → result ≡ table n (Binary And) a b }
@@ -17,7 +15,7 @@ pub fn and(a: Range, b: Range) -> Range
     Range::new(0, a.hi().min(b.hi()))
 }
 
-/// OR.
+/// The row of OR.
 #[tactic(auto, unfolding(crate::specs::Table::table))]
 pub fn or(a: Range, b: Range) -> Range
     ensures { (n : ℕ) → result ≡ table n (Binary Or) a b }
@@ -25,7 +23,7 @@ pub fn or(a: Range, b: Range) -> Range
     Range::new(a.lo().max(b.lo()), up(a.hi().max(b.hi())))
 }
 
-/// XOR.
+/// The row of XOR.
 #[tactic(auto, unfolding(crate::specs::Table::table))]
 pub fn xor(a: Range, b: Range) -> Range
     ensures { (n : ℕ) → result ≡ table n (Binary Xor) a b }

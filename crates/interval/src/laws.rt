@@ -12,7 +12,7 @@ ghost use Rattle.bpf_words.specs.declared.operation.SignExtension.{SignExtension
 ghost use Rattle.interval.specs.Range.{Bounds, IsRange, IsWithin, IsInside, single, join};
 ghost use Rattle.interval.specs.Table.{alu_range, end_range, up};
 
-/// Whatever 64-bit operands are of the operands' ranges, what the operation gives is of the result's
+/// Of whatever members of the operands' ranges, what the operation gives is a member of the result's
 /// range.
 #[tactic(auto, using(crate::proofs::Sound::alu_sound, crate::proofs::Sound::end_sound))]
 pub fn results_are_within()
@@ -22,8 +22,8 @@ pub fn results_are_within()
         → IsWithin a x → IsWithin (end_range order width a) (end_value order width x) }
 {}
 
-/// The result's range has a number, and all of them are below 2^n, or
-/// below 2 to the power of a byte swap's bits.
+/// The result's range has a number, and all of them are words of n bits: below 2^n, and of a byte
+/// swap below 2 to the power of its bits.
 #[tactic(auto, using(crate::proofs::Sound::alu_ordered, crate::proofs::Below::alu_range_below, crate::proofs::Below::end_range_ordered, crate::proofs::Below::end_range_below))]
 pub fn results_are_ranges()
     ensures ordered { (n : ℕ) (op : Operation) (a b : Bounds) → IsRange a → IsRange b

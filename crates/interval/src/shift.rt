@@ -9,7 +9,7 @@ use crate::arithmetic::product;
 use crate::range::Range;
 use crate::width::Width;
 
-/// LSH.
+/// The row of LSH.
 #[tactic(auto, unfolding(crate::specs::Table::table))]
 pub fn left_shift(width: Width, a: Range, b: Range) -> Range
     ensures { result ≡ table (width_bits width) (Binary Lsh) a b }
@@ -21,7 +21,7 @@ pub fn left_shift(width: Width, a: Range, b: Range) -> Range
     }
 }
 
-/// RSH.
+/// The row of RSH.
 #[tactic(auto, unfolding(crate::specs::Table::table))]
 pub fn right_shift(width: Width, a: Range, b: Range) -> Range
     ensures { result ≡ table (width_bits width) (Binary Rsh) a b }
@@ -34,7 +34,7 @@ pub fn right_shift(width: Width, a: Range, b: Range) -> Range
     }
 }
 
-/// ARSH.
+/// The row of ARSH.
 #[tactic(auto, unfolding(crate::specs::Table::table))]
 pub fn signed_right_shift(width: Width, a: Range, b: Range) -> Range
     ensures { result ≡ table (width_bits width) (Binary Arsh) a b }

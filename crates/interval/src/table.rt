@@ -112,7 +112,7 @@ fn binary(width: Width, op: BinaryOperation, a: Range, b: Range) -> Range
     }
 }
 
-/// MOVSX.
+/// The row of MOVSX.
 #[tactic(auto, unfolding(crate::specs::Table::table))]
 fn sign_extension(width: Width, from: SignExtension, b: Range) -> Range
     ensures { (a : Bounds) → result ≡ tables.table (width_bits width) (Movsx from) a b }

@@ -1,3 +1,4 @@
+//! Ranges of results, by rows that a Python program computed, and joins.
 use crate::{Range, alu32_range, alu64_range, end_range};
 use bpf_words::BinaryOperation::{
     Add, And, Arsh, Div, Lsh, Mod, Mov, Mul, Or, Rsh, Sdiv, Smod, Sub, Xor,
