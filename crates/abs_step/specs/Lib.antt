@@ -1,4 +1,1 @@
-pub mod Access
-pub mod Cause
-pub mod Kind
 pub mod Result

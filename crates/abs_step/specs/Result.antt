@@ -32,10 +32,9 @@ use Rattle.abs_state.specs.declared.kind.Kind.{Kind}
 use Rattle.abs_state.specs.declared.kind.Kind.TheVariants.{Nothing, Number, Stack, Args}
 use Rattle.abs_state.specs.declared.state.AbsState.{AbsState}
 use Rattle.abs_state.specs.State.{kind_of, with_answer, with_kind, with_initialised}
-use Rattle.abs_step.specs.Kind.{operand_kind, operation_kind, number_kind}
-use Rattle.abs_step.specs.declared.access.Bytes.{Bytes}
-use Rattle.abs_step.specs.Access.{stack_reach, buffer_bytes}
-use Rattle.abs_step.specs.Cause.{table_width}
+use Rattle.abs_value.specs.Kind.{operand_kind, operation_kind, number_kind, table_width}
+use Rattle.abs_value.specs.declared.access.Bytes.{Bytes}
+use Rattle.abs_value.specs.Access.{stack_reach, buffer_bytes}
 
 -- ---- loads and stores
 

@@ -1,15 +1,9 @@
-//! One instruction of a program that is verified: why it is refused, and what is known after it, given what is known
-//! of the state before it.
+//! One instruction of a program that is verified: what is known after it, on each edge that may be taken, given what is
+//! known of the state before it. Why it is refused, `abs_cause` says.
 #![tactic(auto)]
 
-pub use access::Bytes;
-pub use cause::Cause;
-pub use causes::cause_of;
+pub use abs_cause::{Cause, cause_of};
 pub use results::{sent_by_jump, sent_on};
 
-mod access;
 mod calls;
-mod cause;
-mod causes;
-mod kinds;
 mod results;

@@ -7,10 +7,9 @@ ghost use Rattle.abs_state.specs.State.{kind_of, with_kind};
 ghost use Rattle.abs_step.specs.Result.{loaded_range, with_store, compared_kind, is_same_register, with_source, with_sides, refined_state, edge_state, end_kind, after_call, sent_on, sent_by_jump};
 ghost use Rattle.schema.specs.Helper.{helper_of};
 
-use crate::access::stack_reach;
 use crate::calls::{call, set_bytes};
-use crate::kinds::{number_kind, operand_kind, operation_kind};
 use abs_state::{AbsState, Kind};
+use abs_value::{number_kind, operand_kind, operation_kind, stack_reach};
 use bpf_code::{Instruction, LoadKind, Register, SignExtendingMove, Source, Width};
 use bpf_words::{ByteOrder, Condition, EndWidth, Operation, SignExtension};
 use interval::{Range, end_range};

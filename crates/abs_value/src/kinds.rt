@@ -1,6 +1,6 @@
 //! Kinds of values: tests, and what operations give.
 ghost use Rattle.std.specs.Prelude.{◌≡◌, ◌≤◌, ◌^◌, ◌+ℤ◌, ◌-ℤ◌, unsigned_abs};
-ghost use Rattle.abs_step.specs.Kind.{is_nothing, is_number, is_pointer, operand_kind, has_both_signs, near_places, is_near, moved_by, moved_places, stack_of, args_of, move_kind, binary_kind, operation_kind, number_kind};
+ghost use Rattle.abs_value.specs.Kind.{is_nothing, is_number, is_pointer, operand_kind, has_both_signs, near_places, is_near, moved_by, moved_places, stack_of, args_of, table_width, move_kind, binary_kind, operation_kind, number_kind};
 ghost use Rattle.bpf_code.specs.Sizes.{width_bits};
 ghost use Rattle.interval.specs.Table.{alu_range};
 ghost use Rattle.bpf_semantics.specs.Step.{is_move_operation};
@@ -9,8 +9,10 @@ use abs_state::{AbsState, Kind};
 use bpf_code::{Source, Width};
 use bpf_words::{BinaryOperation, Operation};
 use interval::{Range, alu32_range, alu64_range};
+use schema::Schema;
+use std::alloc::Allocator;
 
-pub(crate) fn is_nothing(kind: Kind) -> bool
+pub fn is_nothing(kind: Kind) -> bool
     ensures { result ≡ is_nothing kind }
 {
     match kind {
@@ -19,7 +21,7 @@ pub(crate) fn is_nothing(kind: Kind) -> bool
     }
 }
 
-pub(crate) fn is_number(kind: Kind) -> bool
+pub fn is_number(kind: Kind) -> bool
     ensures { result ≡ is_number kind }
 {
     match kind {
@@ -28,7 +30,7 @@ pub(crate) fn is_number(kind: Kind) -> bool
     }
 }
 
-pub(crate) fn is_pointer(kind: Kind) -> bool
+pub fn is_pointer(kind: Kind) -> bool
     ensures { result ≡ is_pointer kind }
 {
     match kind {
@@ -39,7 +41,7 @@ pub(crate) fn is_pointer(kind: Kind) -> bool
 }
 
 /// What is known of the second operand.
-pub(crate) fn operand_kind(state: &AbsState, source: Source) -> Kind
+pub fn operand_kind(state: &AbsState, source: Source) -> Kind
     ensures { result ≡ operand_kind state.now source }
 {
     match source {
@@ -104,12 +106,7 @@ fn moved_by(op: BinaryOperation, lo: i32, hi: i32, least: i64, greatest: i64) ->
 }
 
 /// The same with a number of a range, read as signed; none too where it may have either sign.
-pub(crate) fn moved_places(
-    op: BinaryOperation,
-    lo: i32,
-    hi: i32,
-    range: Range,
-) -> Option<(i32, i32)>
+pub fn moved_places(op: BinaryOperation, lo: i32, hi: i32, range: Range) -> Option<(i32, i32)>
     ensures { result ≡ moved_places op lo hi range }
 {
     if has_both_signs(range) {
@@ -188,14 +185,14 @@ fn binary_kind(width: Width, op: BinaryOperation, a: Kind, b: Kind) -> Kind
     }
 }
 
-pub(crate) fn is_move(op: BinaryOperation) -> bool
+pub fn is_move(op: BinaryOperation) -> bool
     ensures { result ≡ is_move_operation op }
 {
     matches!(op, BinaryOperation::Mov)
 }
 
 /// What an arithmetic operation gives.
-pub(crate) fn operation_kind(width: Width, op: BinaryOperation, a: Kind, b: Kind) -> Kind
+pub fn operation_kind(width: Width, op: BinaryOperation, a: Kind, b: Kind) -> Kind
     ensures { result ≡ operation_kind width op a b }
 {
     if is_move(op) {
@@ -206,11 +203,28 @@ pub(crate) fn operation_kind(width: Width, op: BinaryOperation, a: Kind, b: Kind
 }
 
 /// What an operation on one number gives.
-pub(crate) fn number_kind(width: Width, op: Operation, a: Kind) -> Kind
+pub fn number_kind(width: Width, op: Operation, a: Kind) -> Kind
     ensures { result ≡ number_kind width op a }
 {
     match a {
         Kind::Number(a) => Kind::Number(alu_range(width, op, a, a)),
         _ => Kind::Nothing,
+    }
+}
+
+/// The width of the table of a number that is one alone.
+pub fn table_width<A: Allocator>(schema: &Schema<A>, kind: Kind) -> Option<usize>
+    ensures { result ≡ table_width schema.now kind }
+{
+    match kind {
+        Kind::Number(range) if range.is_single() => {
+            // Asked for in any case: its contract says that the schema's tables are below 256.
+            let table = (range.lo() % 256) as u8;
+            match schema.width(table) {
+                Some(width) if range.lo() < 256 => Some(usize::from(width)),
+                _ => None,
+            }
+        }
+        _ => None,
     }
 }

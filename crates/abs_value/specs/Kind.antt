@@ -1,6 +1,6 @@
 -- Kinds of values: tests, and what operations give.
 use Rattle.std.specs.Prelude.{ℕ, ◌^◌, ℤ, pos, ◌+ℤ◌, ◌-ℤ◌, nat_le, nat_lt, Bool, true, false, not, ◌&&◌, ◌||◌, if◌then◌else◌, Option, Some, None, unsigned_abs}
-use Rattle.std.specs.Option.{is_none}
+use Rattle.std.specs.FinMap.{get}
 use Rattle.std.specs.Int.{w64, cast_signed, cast_unsigned}
 use Rattle.bpf_words.specs.declared.operation.BinaryOperation.{BinaryOperation}
 use Rattle.bpf_words.specs.declared.operation.BinaryOperation.TheVariants.{Add, Sub, Mov}
@@ -12,7 +12,8 @@ use Rattle.bpf_code.specs.declared.instruction.Source.{Source}
 use Rattle.bpf_code.specs.declared.instruction.Source.TheVariants as source
 use Rattle.bpf_code.specs.Sizes.{width_bits}
 use Rattle.bpf_semantics.specs.Step.{is_move_operation}
-use Rattle.interval.specs.Range.{Bounds, single}
+use Rattle.schema.specs.Schema.{Tables}
+use Rattle.interval.specs.Range.{Bounds, single, is_single}
 use Rattle.interval.specs.Table.{alu_range}
 use Rattle.abs_state.specs.declared.kind.Kind.{Kind}
 use Rattle.abs_state.specs.declared.kind.Kind.TheVariants.{Nothing, Number, Stack, Args}
@@ -92,3 +93,10 @@ operation_kind width op a b = if is_move_operation op then move_kind width b els
 abbrev pub number_kind : Width → Operation → Kind → Kind
 number_kind width op (Number a) = Number (alu_range (width_bits width) op a a)
 number_kind _ _ _ = Nothing
+
+-- ---- tables
+
+-- the width of the table of a number that is one alone
+abbrev pub table_width : Tables → Kind → Option ℕ
+table_width tables (Number r) = if is_single r then get tables r.lo else None
+table_width tables _ = None

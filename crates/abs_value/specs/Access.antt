@@ -7,7 +7,7 @@ use Rattle.bpf_semantics.specs.Memory.{index_in, stack_index}
 use Rattle.abs_state.specs.declared.kind.Kind.{Kind}
 use Rattle.abs_state.specs.declared.kind.Kind.TheVariants.{Stack, Args}
 use Rattle.abs_state.specs.declared.state.AbsState.{AbsState}
-use Rattle.abs_step.specs.declared.access.Bytes.{Bytes}
+use Rattle.abs_value.specs.declared.access.Bytes.{Bytes}
 
 abbrev pub bytes_from : ℕ → Option ℕ → Option Bytes
 bytes_from count None = None

@@ -2,7 +2,7 @@
 ghost use Rattle.std.specs.Prelude.{◌≡◌, ◌+◌, ◌≤◌, ◌^◌, length, unsigned_abs, IfSome};
 ghost use Rattle.std.specs.Int.{int_gap};
 ghost use Rattle.bpf_semantics.specs.Memory.{index_in, stack_index};
-ghost use Rattle.abs_step.specs.Access.{args_reach, are_initialised, buffer_bytes, bytes_from, reach, stack_reach};
+ghost use Rattle.abs_value.specs.Access.{args_reach, are_initialised, buffer_bytes, bytes_from, reach, stack_reach};
 
 use abs_state::{AbsState, Kind};
 
@@ -50,7 +50,7 @@ fn reach(lo: i32, hi: i32, size: u8) -> usize
 }
 
 /// Those of the stack, where all are inside.
-pub(crate) fn stack_reach(lo: i32, hi: i32, offset: i16, size: u8) -> Option<Bytes>
+pub fn stack_reach(lo: i32, hi: i32, offset: i16, size: u8) -> Option<Bytes>
     ensures exact { result ≡ stack_reach lo hi offset size }
     ensures inside { IfSome result (λ bytes. bytes.index + bytes.count ≤ 512) }
 {
@@ -59,7 +59,7 @@ pub(crate) fn stack_reach(lo: i32, hi: i32, offset: i16, size: u8) -> Option<Byt
 }
 
 /// Those of arguments of this length, where all are inside.
-pub(crate) fn args_reach(args_len: u16, lo: i32, hi: i32, offset: i16, size: u8) -> Option<Bytes>
+pub fn args_reach(args_len: u16, lo: i32, hi: i32, offset: i16, size: u8) -> Option<Bytes>
     ensures { result ≡ args_reach args_len lo hi offset size }
 {
     let count = reach(lo, hi, size);
@@ -74,7 +74,7 @@ pub(crate) fn args_reach(args_len: u16, lo: i32, hi: i32, offset: i16, size: u8)
 }
 
 /// A helper's buffer, where it is at one place of the stack, and whole inside.
-pub(crate) fn buffer_bytes(kind: Kind, count: usize) -> Option<Bytes>
+pub fn buffer_bytes(kind: Kind, count: usize) -> Option<Bytes>
     ensures exact { result ≡ buffer_bytes kind count }
     ensures inside { IfSome result (λ bytes. bytes.index + bytes.count ≤ 512) }
 {
@@ -85,7 +85,7 @@ pub(crate) fn buffer_bytes(kind: Kind, count: usize) -> Option<Bytes>
 }
 
 /// Whether these bytes of the stack are initialised.
-pub(crate) fn are_initialised(state: &AbsState, bytes: Bytes) -> bool
+pub fn are_initialised(state: &AbsState, bytes: Bytes) -> bool
     requires { bytes.index + bytes.count ≤ 512 }
     ensures { result ≡ are_initialised state.now bytes }
 {

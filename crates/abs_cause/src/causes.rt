@@ -6,21 +6,23 @@ ghost use Rattle.bpf_code.specs.declared.instruction.Width.TheVariants.{Bits64};
 ghost use Rattle.abs_state.specs.declared.kind.Kind.TheVariants.{Number};
 ghost use Rattle.bpf_semantics.specs.Step.{is_read_only};
 ghost use Rattle.abs_state.specs.State.{kind_of};
-ghost use Rattle.abs_step.specs.Kind.{is_nothing};
-ghost use Rattle.abs_step.specs.Cause.{source_registers, operation_registers, reads_nothing, writes_frame_pointer};
-ghost use Rattle.abs_step.specs.Cause.{move_uses_pointer, binary_uses_pointer, operands_use_pointer, uses_pointer};
-ghost use Rattle.abs_step.specs.Cause.{load_is_outside, store_is_outside, is_outside, is_args, stores_to_arguments};
-ghost use Rattle.abs_step.specs.Cause.{bytes_loaded, reads_uninitialised, is_unknown_helper, has_argument, is_unknown_table};
-ghost use Rattle.abs_step.specs.Cause.{is_no_number, is_no_buffer, table_width, replies_pointer, cause_of};
+ghost use Rattle.abs_value.specs.Kind.{is_nothing, table_width};
+ghost use Rattle.abs_cause.specs.Cause.{source_registers, operation_registers, reads_nothing, writes_frame_pointer};
+ghost use Rattle.abs_cause.specs.Cause.{move_uses_pointer, binary_uses_pointer, operands_use_pointer, uses_pointer};
+ghost use Rattle.abs_cause.specs.Cause.{load_is_outside, store_is_outside, is_outside, is_args, stores_to_arguments};
+ghost use Rattle.abs_cause.specs.Cause.{bytes_loaded, reads_uninitialised, is_unknown_helper, has_argument, is_unknown_table};
+ghost use Rattle.abs_cause.specs.Cause.{is_no_number, is_no_buffer, replies_pointer, cause_of};
 
-use crate::access::{Bytes, args_reach, stack_reach};
-use crate::calls::{
+use crate::arguments::{
     argument_is_nothing, buffer_is_missing, number_is_missing, row_is_uninitialised,
-    some_uninitialised, table_is_unknown, table_width,
+    some_uninitialised, table_is_unknown,
 };
 use crate::cause::Cause;
-use crate::kinds::{is_move, is_nothing, is_pointer, moved_places, operand_kind};
 use abs_state::{AbsState, Kind};
+use abs_value::{
+    Bytes, args_reach, is_move, is_nothing, is_pointer, moved_places, operand_kind, stack_reach,
+    table_width,
+};
 use bpf_code::{Instruction, Register, Source, Width};
 use bpf_words::BinaryOperation;
 use interval::Range;

@@ -2,7 +2,6 @@
 use Rattle.std.specs.Prelude.{ℕ, ℤ, Bool, true, false, not, ◌||◌, if◌then◌else◌, List, [], ◌∷◌, ◌++◌, map, Option, Some, None}
 use Rattle.std.specs.Option.{option_map, option_map_or, is_none}
 use Rattle.std.specs.List.{list_any, zip, find}
-use Rattle.std.specs.FinMap.{get}
 use Rattle.bpf_words.specs.declared.operation.BinaryOperation.{BinaryOperation}
 use Rattle.bpf_code.specs.declared.instruction.Register.{Register}
 use Rattle.bpf_code.specs.declared.instruction.Register.TheVariants.{R0, R1, R2, R3, R4, R5}
@@ -19,16 +18,15 @@ use Rattle.schema.specs.declared.helper.Helper.{Helper}
 use Rattle.schema.specs.declared.helper.ArgumentKind.{ArgumentKind}
 use Rattle.schema.specs.declared.helper.ArgumentKind.TheVariants as argument
 use Rattle.bpf_semantics.specs.Step.{is_read_only, is_move_operation}
-use Rattle.interval.specs.Range.{is_single}
 use Rattle.abs_state.specs.declared.kind.Kind.{Kind}
 use Rattle.abs_state.specs.declared.kind.Kind.TheVariants.{Nothing, Number, Stack, Args}
 use Rattle.abs_state.specs.declared.state.AbsState.{AbsState}
 use Rattle.abs_state.specs.State.{kind_of}
-use Rattle.abs_step.specs.declared.cause.Cause.{Cause}
-use Rattle.abs_step.specs.declared.cause.Cause.TheVariants.{ReadsNothing, WritesFramePointer, UsesPointer, OutsideMemory, Uninitialised, UnknownHelper, UnknownTable, NoNumber, NoBuffer, RepliesPointer, StoresToArguments}
-use Rattle.abs_step.specs.Kind.{is_nothing, is_number, is_pointer, operand_kind, moved_places}
-use Rattle.abs_step.specs.declared.access.Bytes.{Bytes}
-use Rattle.abs_step.specs.Access.{stack_reach, args_reach, buffer_bytes, are_initialised}
+use Rattle.abs_cause.specs.declared.cause.Cause.{Cause}
+use Rattle.abs_cause.specs.declared.cause.Cause.TheVariants.{ReadsNothing, WritesFramePointer, UsesPointer, OutsideMemory, Uninitialised, UnknownHelper, UnknownTable, NoNumber, NoBuffer, RepliesPointer, StoresToArguments}
+use Rattle.abs_value.specs.Kind.{is_nothing, is_number, is_pointer, operand_kind, moved_places, table_width}
+use Rattle.abs_value.specs.declared.access.Bytes.{Bytes}
+use Rattle.abs_value.specs.Access.{stack_reach, args_reach, buffer_bytes, are_initialised}
 
 -- ---- a register that is read holds nothing
 
@@ -136,11 +134,6 @@ stores_to_arguments _ s = false
 abbrev pub is_unknown_helper : Instruction → Bool
 is_unknown_helper (Call helper) = is_none (helper_of helper)
 is_unknown_helper _ = false
-
--- the width of the table of a number that is one alone
-abbrev pub table_width : Tables → Kind → Option ℕ
-table_width tables (Number r) = if is_single r then get tables r.lo else None
-table_width tables _ = None
 
 -- how long a buffer is, where the table has this width
 abbrev pub buffer_length : Option ℕ → ArgumentKind → Option ℕ
