@@ -1,4 +1,6 @@
 //! The causes.
+ghost use Rattle.std.specs.Prelude.{◌≡◌};
+ghost use Rattle.abs_cause.specs.Number.{cause_number};
 
 /// Why an instruction is refused, the lowest first.
 #[derive(Clone, Copy, Debug, PartialEq, Eq)]
@@ -25,4 +27,25 @@ pub enum Cause {
     RepliesPointer,
     /// A store to the arguments.
     StoresToArguments,
+}
+
+impl Cause {
+    /// The number after the letter V in printed refusals, 1 to 11; the lowest of several is given.
+    pub fn number(self) -> u8
+        ensures { result ≡ cause_number self }
+    {
+        match self {
+            Cause::ReadsNothing => 1,
+            Cause::WritesFramePointer => 2,
+            Cause::UsesPointer => 3,
+            Cause::OutsideMemory => 4,
+            Cause::Uninitialised => 5,
+            Cause::UnknownHelper => 6,
+            Cause::UnknownTable => 7,
+            Cause::NoNumber => 8,
+            Cause::NoBuffer => 9,
+            Cause::RepliesPointer => 10,
+            Cause::StoresToArguments => 11,
+        }
+    }
 }

@@ -1,0 +1,83 @@
+//! An accepted program.
+ghost use Rattle.std.specs.Prelude.{◌≡◌, ◌≤◌};
+ghost use Rattle.bpf_semantics.specs.Path.{longest_path};
+ghost use Rattle.bpf_verify.specs.Flow.{IsAccepted};
+
+use bpf_code::Code;
+use schema::Schema;
+use std::alloc::{Allocator, Global};
+use std::marker::Model;
+
+/// A program that was verified, with the schema and the length of its arguments for which it was. Contracts see
+/// these three.
+#[derive(Drop)]
+pub struct Accepted<A: Allocator = Global, B: Allocator = Global> {
+    code: Code<A>,
+    schema: Schema<B>,
+    args_len: u16,
+    bound: u32,
+}
+
+impl<A: Allocator, B: Allocator> Model for Accepted<A, B> {
+    ghost use Rattle.std.specs.Prelude.{◌≡◌, ◌≤◌};
+    ghost use Rattle.bpf_semantics.specs.Path.{longest_path};
+    ghost use Rattle.bpf_verify.specs.Flow.{Procedure, IsAccepted};
+    ghost use Rattle.bpf_verify.specs.Procedure.{procedure_code};
+
+    ghost Value = { Procedure };
+
+    ghost coded = { procedure_code };
+
+    ghost view = { λ a. record { program = a.code; tables = a.schema; args_len = a.args_len } };
+
+    ghost invariant = { λ a.
+        IsAccepted (record { program = a.code; tables = a.schema; args_len = a.args_len })
+        × (a.args_len ≤ 256) × (a.bound ≡ longest_path a.code) };
+}
+
+impl<A: Allocator, B: Allocator> Accepted<A, B> {
+    pub(crate) fn new(code: Code<A>, schema: Schema<B>, args_len: u16, bound: u32) -> Accepted<A, B>
+        requires accepted { IsAccepted (record { program = code; tables = schema; args_len = args_len }) }
+        requires few { args_len ≤ 256 }
+        requires bound { bound ≡ longest_path code }
+        ensures { result ≡ record { program = code; tables = schema; args_len = args_len } }
+    {
+        Accepted {
+            code,
+            schema,
+            args_len,
+            bound,
+        }
+    }
+
+    /// The program.
+    pub fn code(&self) -> &Code<A>
+        ensures code { result.now ≡ self.now.program }
+        // What is known of every accepted program.
+        ensures accepted { IsAccepted self.now }
+    {
+        &self.code
+    }
+
+    /// The schema whose tables it may name.
+    pub fn schema(&self) -> &Schema<B>
+        ensures { result.now ≡ self.now.tables }
+    {
+        &self.schema
+    }
+
+    /// How many bytes its arguments have, at most 256.
+    pub fn args_len(&self) -> u16
+        ensures length { result ≡ self.now.args_len }
+        ensures few { result ≤ 256 }
+    {
+        self.args_len
+    }
+
+    /// The most instructions that it may run: those on the longest path, whatever the conditions say.
+    pub fn bound(&self) -> u32
+        ensures { result ≡ longest_path self.now.program }
+    {
+        self.bound
+    }
+}

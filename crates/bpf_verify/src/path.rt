@@ -1,0 +1,34 @@
+//! How many slots on an instruction leads.
+ghost use Rattle.std.specs.Prelude.{◌≡◌, ◌<◌, ◌^◌, IfSome};
+ghost use Rattle.bpf_semantics.specs.Path.{fall_through, jump_of};
+
+use bpf_code::Instruction;
+
+/// To the next instruction; none where it always jumps, or ends.
+pub(crate) fn fall_through(instruction: Instruction) -> Option<usize>
+    ensures slots { result ≡ fall_through instruction }
+    ensures near { IfSome result (λ n. n < 2 ^ 32) }
+{
+    match instruction {
+        Instruction::LoadWide { .. } => Some(2),
+        Instruction::Jump { .. } | Instruction::LongJump { .. } | Instruction::Exit => None,
+        _ => Some(1),
+    }
+}
+
+/// To where it jumps; none where it doesn't.
+pub(crate) fn jump_of(instruction: Instruction) -> Option<usize>
+    ensures slots { result ≡ jump_of instruction }
+    ensures near { IfSome result (λ n. n < 2 ^ 32) }
+{
+    let distance = match instruction {
+        Instruction::Jump { distance } => i32::from(distance),
+        Instruction::Branch { distance, .. } => i32::from(distance),
+        Instruction::LongJump { distance } => distance,
+        _ => return None,
+    };
+    match usize::try_from(distance) {
+        Ok(distance) => Some(1 + distance),
+        Err(_) => None,
+    }
+}
