@@ -87,6 +87,10 @@ low_half n x h = let le : 2 ^ (n - 1) ≤ 2 ^ n = pow-le-pow_right (lit< tt) (om
 signed_as_is : (n x : ℕ) → x < 2 ^ (n - 1) → signed_value n (x % 2 ^ n) ≡ pos x
 signed_as_is n x h = rw (mod-eq_of_lt (low_half n x h)) (grind (arith, nat_tests))
 
+-- what a signed condition compares
+pub signed_plain : (n : ℕ) (condition : Condition) (x : ℕ) → is_signed condition ≡ true → x < limit n condition → signed_value n (x % 2 ^ n) ≡ pos x
+signed_plain n condition x s h = signed_as_is n x (grind (arith, nat_tests))
+
 -- what a condition says of two numbers that it compares as they are
 abbrev pub Says : Condition → ℕ → ℕ → Type 0
 Says Eq x y = x ≡ y
@@ -122,12 +126,12 @@ holds_says n Gt x y p h = words_say n Gt x y refl (rw (mod-eq_of_lt p.left, mod-
 holds_says n Ge x y p h = words_say n Ge x y refl (rw (mod-eq_of_lt p.left, mod-eq_of_lt p.right) at h)
 holds_says n Set x y p h = words_say n Set x y refl (rw (mod-eq_of_lt p.left, mod-eq_of_lt p.right) at h)
 holds_says n Ne x y p h = words_say n Ne x y refl (rw (mod-eq_of_lt p.left, mod-eq_of_lt p.right) at h)
-holds_says n Sgt x y p h = let l = signed_as_is n x p.left in let r = signed_as_is n y p.right in grind (arith, ints)
-holds_says n Sge x y p h = let l = signed_as_is n x p.left in let r = signed_as_is n y p.right in grind (arith, ints)
+holds_says n Sgt x y p h = let l = signed_plain n Sgt x refl p.left in let r = signed_plain n Sgt y refl p.right in grind (arith, ints)
+holds_says n Sge x y p h = let l = signed_plain n Sge x refl p.left in let r = signed_plain n Sge y refl p.right in grind (arith, ints)
 holds_says n Lt x y p h = words_say n Lt x y refl (rw (mod-eq_of_lt p.left, mod-eq_of_lt p.right) at h)
 holds_says n Le x y p h = words_say n Le x y refl (rw (mod-eq_of_lt p.left, mod-eq_of_lt p.right) at h)
-holds_says n Slt x y p h = let l = signed_as_is n x p.left in let r = signed_as_is n y p.right in grind (arith, ints)
-holds_says n Sle x y p h = let l = signed_as_is n x p.left in let r = signed_as_is n y p.right in grind (arith, ints)
+holds_says n Slt x y p h = let l = signed_plain n Slt x refl p.left in let r = signed_plain n Slt y refl p.right in grind (arith, ints)
+holds_says n Sle x y p h = let l = signed_plain n Sle x refl p.left in let r = signed_plain n Sle y refl p.right in grind (arith, ints)
 
 said_kept : (condition : Condition) (a b : Bounds) (x y : ℕ) → IsWithin a x → IsWithin b y → Says condition x y → AreKept (where_holds condition a b) x y
 unfolding where_holds

@@ -4,6 +4,7 @@
 
 pub use laws::{
     one_value_each_decides, operands_along_an_edge_stay, ranges_along_an_edge_are_inside,
+    ranges_along_an_edge_are_least,
 };
 pub use refinement::{refine32, refine64};
 
