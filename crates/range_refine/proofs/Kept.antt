@@ -10,7 +10,7 @@ use Rattle.bpf_words.specs.declared.condition.Condition.{Condition}
 use Rattle.bpf_words.specs.declared.condition.Condition.TheVariants.{Eq, Gt, Ge, Set, Ne, Sgt, Sge, Lt, Le, Slt, Sle}
 use Rattle.bpf_words.proofs.Words.{opposite_excludes}
 use Rattle.interval.specs.Range.{Bounds, IsWithin}
-use Rattle.range_refine.specs.Refinement.{unless, exchange, both_single, without, where_equal, where_unequal, where_greater, where_at_least, where_bit_shared, where_no_bit_shared, where_holds, where_fails, along, is_signed, limit, are_below, is_gone_along, as_before, refinement}
+use Rattle.range_refine.specs.Refinement.{unless, exchange, both_single, without, where_equal, where_unequal, where_greater, where_at_least, where_bit_shared, where_no_bit_shared, where_holds, where_fails, along, is_signed, limit, are_below, is_followed, as_before, refinement}
 
 -- there are ranges, and they have the numbers
 abbrev pub AreKept : Option (Bounds × Bounds) → ℕ → ℕ → Type 0
@@ -178,14 +178,14 @@ along_kept : (n : ℕ) (condition : Condition) (taken : Bool) (a b : Bounds) (x 
 along_kept n condition true a b x y wa wb p h = holds_kept n condition a b x y wa wb p h
 along_kept n condition false a b x y wa wb p h = fails_kept n condition a b x y wa wb p h
 
-goes : (n : ℕ) (condition : Condition) (taken : Bool) (x y : ℕ) → holds n condition x y ≡ taken → is_gone_along n condition taken x y ≡ true
-goes n condition true x y h = h
-goes n condition false x y h = rw h refl
+followed : (n : ℕ) (condition : Condition) (taken : Bool) (x y : ℕ) → holds n condition x y ≡ taken → is_followed n condition taken x y ≡ true
+followed n condition true x y h = h
+followed n condition false x y h = rw h refl
 
 before_kept : (n : ℕ) (condition : Condition) (taken : Bool) (a b : Bounds) (x y : ℕ) → IsWithin a x → IsWithin b y → holds n condition x y ≡ taken → AreKept (as_before n condition taken a b) x y
 unfolding as_before
 before_kept n condition taken a b x y wa wb h = kept_unless _ (a, b) x y
-    (not_and (both_single a b) _ (λ s t. let p = one_pair a b x y wa wb s in let g = goes n condition taken x y h in let w = rw (p.0, p.1, g) at t in absurd cc))
+    (not_and (both_single a b) _ (λ s t. let p = one_pair a b x y wa wb s in let g = followed n condition taken x y h in let w = rw (p.0, p.1, g) at t in absurd cc))
     (λ t. (wa, wb))
 
 kept_if : (t : Bool) (r s : Option (Bounds × Bounds)) (x y : ℕ) → (t ≡ true → AreKept r x y) → (t ≡ false → AreKept s x y) → AreKept (if t then r else s) x y
@@ -201,5 +201,5 @@ all_kept n condition taken a b x y wa wb h = kept_if (are_below (limit n conditi
     (λ t. along_kept n condition taken a b x y wa wb (plain_of n condition a b x y wa wb t) h)
     (λ t. before_kept n condition taken a b x y wa wb h)
 
-pub none_go : (n : ℕ) (condition : Condition) (taken : Bool) (a b : Bounds) → refinement n condition taken a b ≡ None → (x y : ℕ) → IsWithin a x → IsWithin b y → holds n condition x y ≡ taken → ⊥
-none_go n condition taken a b e x y wa wb h = rw e at (all_kept n condition taken a b x y wa wb h)
+pub none_follow : (n : ℕ) (condition : Condition) (taken : Bool) (a b : Bounds) → refinement n condition taken a b ≡ None → (x y : ℕ) → IsWithin a x → IsWithin b y → holds n condition x y ≡ taken → ⊥
+none_follow n condition taken a b e x y wa wb h = rw e at (all_kept n condition taken a b x y wa wb h)

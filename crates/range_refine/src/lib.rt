@@ -1,5 +1,5 @@
 //! What an edge of a conditional jump says of its operands: their ranges along it, or that it is
-//! never gone along.
+//! never followed.
 #![tactic(auto)]
 
 pub use laws::{

@@ -9,7 +9,7 @@ use interval::Range;
 
 /// The ranges of a 64-bit condition's operands along an edge of its jump, the one that is taken or
 /// the other (RFC 9669 section 4.3), from their ranges before it: `a` is the destination's and `b`
-/// the source's. None says that the edge is never gone along.
+/// the source's. None says that the edge is never followed.
 #[tactic(auto, unfolding(crate::specs::Refinement::refinement, crate::specs::Refinement::as_before))]
 pub fn refine64(condition: Condition, taken: bool, a: Range, b: Range) -> Option<(Range, Range)>
     ensures { result ≡ refinement 64 condition taken a b }
@@ -44,11 +44,11 @@ fn along(condition: Condition, taken: bool, a: Range, b: Range) -> Option<(Range
     }
 }
 
-/// The ranges as they were, where they aren't one value each that stays away from the edge.
-fn as_before(goes: bool, a: Range, b: Range) -> Option<(Range, Range)>
-    ensures { result ≡ unless (both_single a b && not goes) (a, b) }
+/// The ranges as they were, unless they are one value each that doesn't follow the edge.
+fn as_before(followed: bool, a: Range, b: Range) -> Option<(Range, Range)>
+    ensures { result ≡ unless (both_single a b && not followed) (a, b) }
 {
-    if a.is_single() && b.is_single() && !goes {
+    if a.is_single() && b.is_single() && !followed {
         None
     } else {
         Some((a, b))
