@@ -10,7 +10,7 @@ use Rattle.bpf_words.specs.declared.condition.Condition.{Condition}
 use Rattle.bpf_words.specs.declared.condition.Condition.TheVariants.{Eq, Gt, Ge, Set, Ne, Sgt, Sge, Lt, Le, Slt, Sle}
 use Rattle.bpf_words.proofs.Words.{opposite_excludes}
 use Rattle.interval.specs.Range.{Bounds, IsWithin}
-use Rattle.range_refine.specs.Refinement.{unless, exchange, both_single, without, where_equal, where_unequal, where_greater, where_at_least, where_bit_shared, where_no_bit_shared, where_holds, where_fails, along, is_signed, limit, are_below, is_gone_along, as_before, refinement}
+use Rattle.range_refine.specs.Refinement.{unless, exchange, both_single, without, where_equal, where_unequal, where_greater, where_at_least, where_bit_shared, where_no_bit_shared, where_holds, where_fails, along, is_signed, limit, are_below, is_followed, as_before, refinement}
 
 -- there are ranges, and they have the numbers
 abbrev pub AreKept : Option (Bounds × Bounds) → ℕ → ℕ → Type 0
@@ -87,6 +87,10 @@ low_half n x h = let le : 2 ^ (n - 1) ≤ 2 ^ n = pow-le-pow_right (lit< tt) (om
 signed_as_is : (n x : ℕ) → x < 2 ^ (n - 1) → signed_value n (x % 2 ^ n) ≡ pos x
 signed_as_is n x h = rw (mod-eq_of_lt (low_half n x h)) (grind (arith, nat_tests))
 
+-- what a signed condition compares
+pub signed_plain : (n : ℕ) (condition : Condition) (x : ℕ) → is_signed condition ≡ true → x < limit n condition → signed_value n (x % 2 ^ n) ≡ pos x
+signed_plain n condition x s h = signed_as_is n x (grind (arith, nat_tests))
+
 -- what a condition says of two numbers that it compares as they are
 abbrev pub Says : Condition → ℕ → ℕ → Type 0
 Says Eq x y = x ≡ y
@@ -122,12 +126,12 @@ holds_says n Gt x y p h = words_say n Gt x y refl (rw (mod-eq_of_lt p.left, mod-
 holds_says n Ge x y p h = words_say n Ge x y refl (rw (mod-eq_of_lt p.left, mod-eq_of_lt p.right) at h)
 holds_says n Set x y p h = words_say n Set x y refl (rw (mod-eq_of_lt p.left, mod-eq_of_lt p.right) at h)
 holds_says n Ne x y p h = words_say n Ne x y refl (rw (mod-eq_of_lt p.left, mod-eq_of_lt p.right) at h)
-holds_says n Sgt x y p h = let l = signed_as_is n x p.left in let r = signed_as_is n y p.right in grind (arith, ints)
-holds_says n Sge x y p h = let l = signed_as_is n x p.left in let r = signed_as_is n y p.right in grind (arith, ints)
+holds_says n Sgt x y p h = let l = signed_plain n Sgt x refl p.left in let r = signed_plain n Sgt y refl p.right in grind (arith, ints)
+holds_says n Sge x y p h = let l = signed_plain n Sge x refl p.left in let r = signed_plain n Sge y refl p.right in grind (arith, ints)
 holds_says n Lt x y p h = words_say n Lt x y refl (rw (mod-eq_of_lt p.left, mod-eq_of_lt p.right) at h)
 holds_says n Le x y p h = words_say n Le x y refl (rw (mod-eq_of_lt p.left, mod-eq_of_lt p.right) at h)
-holds_says n Slt x y p h = let l = signed_as_is n x p.left in let r = signed_as_is n y p.right in grind (arith, ints)
-holds_says n Sle x y p h = let l = signed_as_is n x p.left in let r = signed_as_is n y p.right in grind (arith, ints)
+holds_says n Slt x y p h = let l = signed_plain n Slt x refl p.left in let r = signed_plain n Slt y refl p.right in grind (arith, ints)
+holds_says n Sle x y p h = let l = signed_plain n Sle x refl p.left in let r = signed_plain n Sle y refl p.right in grind (arith, ints)
 
 said_kept : (condition : Condition) (a b : Bounds) (x y : ℕ) → IsWithin a x → IsWithin b y → Says condition x y → AreKept (where_holds condition a b) x y
 unfolding where_holds
@@ -174,14 +178,14 @@ along_kept : (n : ℕ) (condition : Condition) (taken : Bool) (a b : Bounds) (x 
 along_kept n condition true a b x y wa wb p h = holds_kept n condition a b x y wa wb p h
 along_kept n condition false a b x y wa wb p h = fails_kept n condition a b x y wa wb p h
 
-goes : (n : ℕ) (condition : Condition) (taken : Bool) (x y : ℕ) → holds n condition x y ≡ taken → is_gone_along n condition taken x y ≡ true
-goes n condition true x y h = h
-goes n condition false x y h = rw h refl
+followed : (n : ℕ) (condition : Condition) (taken : Bool) (x y : ℕ) → holds n condition x y ≡ taken → is_followed n condition taken x y ≡ true
+followed n condition true x y h = h
+followed n condition false x y h = rw h refl
 
 before_kept : (n : ℕ) (condition : Condition) (taken : Bool) (a b : Bounds) (x y : ℕ) → IsWithin a x → IsWithin b y → holds n condition x y ≡ taken → AreKept (as_before n condition taken a b) x y
 unfolding as_before
 before_kept n condition taken a b x y wa wb h = kept_unless _ (a, b) x y
-    (not_and (both_single a b) _ (λ s t. let p = one_pair a b x y wa wb s in let g = goes n condition taken x y h in let w = rw (p.0, p.1, g) at t in absurd cc))
+    (not_and (both_single a b) _ (λ s t. let p = one_pair a b x y wa wb s in let g = followed n condition taken x y h in let w = rw (p.0, p.1, g) at t in absurd cc))
     (λ t. (wa, wb))
 
 kept_if : (t : Bool) (r s : Option (Bounds × Bounds)) (x y : ℕ) → (t ≡ true → AreKept r x y) → (t ≡ false → AreKept s x y) → AreKept (if t then r else s) x y
@@ -197,5 +201,5 @@ all_kept n condition taken a b x y wa wb h = kept_if (are_below (limit n conditi
     (λ t. along_kept n condition taken a b x y wa wb (plain_of n condition a b x y wa wb t) h)
     (λ t. before_kept n condition taken a b x y wa wb h)
 
-pub none_go : (n : ℕ) (condition : Condition) (taken : Bool) (a b : Bounds) → refinement n condition taken a b ≡ None → (x y : ℕ) → IsWithin a x → IsWithin b y → holds n condition x y ≡ taken → ⊥
-none_go n condition taken a b e x y wa wb h = rw e at (all_kept n condition taken a b x y wa wb h)
+pub none_follow : (n : ℕ) (condition : Condition) (taken : Bool) (a b : Bounds) → refinement n condition taken a b ≡ None → (x y : ℕ) → IsWithin a x → IsWithin b y → holds n condition x y ≡ taken → ⊥
+none_follow n condition taken a b e x y wa wb h = rw e at (all_kept n condition taken a b x y wa wb h)

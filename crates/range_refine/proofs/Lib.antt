@@ -1,3 +1,4 @@
 pub mod Kept
 pub mod Inside
 pub mod One
+pub mod Least

@@ -6,7 +6,7 @@ use Rattle.bpf_words.specs.declared.condition.Condition.{Condition}
 use Rattle.bpf_words.specs.declared.condition.Condition.TheVariants.{Eq, Gt, Ge, Set, Ne, Sgt, Sge, Lt, Le, Slt, Sle}
 use Rattle.bpf_words.proofs.Words.{opposite_excludes}
 use Rattle.interval.specs.Range.{Bounds, IsWithin, from_to, single}
-use Rattle.range_refine.specs.Refinement.{unless, exchange, both_single, where_equal, where_unequal, where_greater, where_at_least, where_bit_shared, where_no_bit_shared, where_holds, where_fails, along, limit, are_below, is_gone_along, as_before, refinement}
+use Rattle.range_refine.specs.Refinement.{unless, exchange, both_single, where_equal, where_unequal, where_greater, where_at_least, where_bit_shared, where_no_bit_shared, where_holds, where_fails, along, limit, are_below, is_followed, as_before, refinement}
 use Rattle.range_refine.proofs.Kept.{AreKept, ArePlain, holds_says, opposite_says, no_bit, all_kept}
 use Rattle.range_refine.proofs.Inside.{IsPart, AreParts, all_parts}
 
@@ -24,8 +24,8 @@ one_kept (Some r) x y p k =
 itself : (x : ℕ) → IsWithin (single x) x
 itself x = record { from = omega arith; to = omega arith }
 
-pub one_goes : (n : ℕ) (condition : Condition) (taken : Bool) (x y : ℕ) → holds n condition x y ≡ taken → refinement n condition taken (single x) (single y) ≡ Some (single x, single y)
-one_goes n condition taken x y h = one_kept _ x y (all_parts n condition taken (single x) (single y) (omega arith) (omega arith)) (all_kept n condition taken (single x) (single y) x y (itself x) (itself y) h)
+pub one_followed : (n : ℕ) (condition : Condition) (taken : Bool) (x y : ℕ) → holds n condition x y ≡ taken → refinement n condition taken (single x) (single y) ≡ Some (single x, single y)
+one_followed n condition taken x y h = one_kept _ x y (all_parts n condition taken (single x) (single y) (omega arith) (omega arith)) (all_kept n condition taken (single x) (single y) x y (itself x) (itself y) h)
 
 none_unless : (t : Bool) (r : Bounds × Bounds) → t ≡ true → unless t r ≡ None
 none_unless true r e = refl
@@ -96,13 +96,13 @@ along_none : (n : ℕ) (condition : Condition) (taken : Bool) (x y : ℕ) → Ar
 along_none n condition true x y p h = holds_none n condition x y p (other_way _ true h)
 along_none n condition false x y p h = fails_none n condition x y p (other_way _ false h)
 
-stays : (n : ℕ) (condition : Condition) (taken : Bool) (x y : ℕ) → (holds n condition x y ≡ taken → ⊥) → is_gone_along n condition taken x y ≡ false
-stays n condition true x y h = other_way _ true h
-stays n condition false x y h = rw (other_way _ false h) refl
+not_followed : (n : ℕ) (condition : Condition) (taken : Bool) (x y : ℕ) → (holds n condition x y ≡ taken → ⊥) → is_followed n condition taken x y ≡ false
+not_followed n condition true x y h = other_way _ true h
+not_followed n condition false x y h = rw (other_way _ false h) refl
 
 before_none : (n : ℕ) (condition : Condition) (taken : Bool) (x y : ℕ) → (holds n condition x y ≡ taken → ⊥) → as_before n condition taken (single x) (single y) ≡ None
 unfolding as_before
-before_none n condition taken x y h = let g = stays n condition taken x y h in none_unless (both_single (single x) (single y) && not (is_gone_along n condition taken x y)) _ (grind (arith, nat_tests))
+before_none n condition taken x y h = let g = not_followed n condition taken x y h in none_unless (both_single (single x) (single y) && not (is_followed n condition taken x y)) _ (grind (arith, nat_tests))
 
 none_if : (t : Bool) (r s : Option (Bounds × Bounds)) → (t ≡ true → r ≡ None) → (t ≡ false → s ≡ None) → (if t then r else s) ≡ None
 none_if true r s p q = p refl
@@ -111,6 +111,6 @@ none_if false r s p q = q refl
 plain_one : (n : ℕ) (condition : Condition) (x y : ℕ) → are_below (limit n condition) (single x) (single y) ≡ true → ArePlain n condition x y
 plain_one n condition x y t = record { left = grind (arith, nat_tests); right = grind (arith, nat_tests) }
 
-pub one_stays_away : (n : ℕ) (condition : Condition) (taken : Bool) (x y : ℕ) → (holds n condition x y ≡ taken → ⊥) → refinement n condition taken (single x) (single y) ≡ None
+pub one_dropped : (n : ℕ) (condition : Condition) (taken : Bool) (x y : ℕ) → (holds n condition x y ≡ taken → ⊥) → refinement n condition taken (single x) (single y) ≡ None
 unfolding refinement
-one_stays_away n condition taken x y h = none_if (are_below (limit n condition) (single x) (single y)) _ _ (λ t. along_none n condition taken x y (plain_one n condition x y t) h) (λ t. before_none n condition taken x y h)
+one_dropped n condition taken x y h = none_if (are_below (limit n condition) (single x) (single y)) _ _ (λ t. along_none n condition taken x y (plain_one n condition x y t) h) (λ t. before_none n condition taken x y h)

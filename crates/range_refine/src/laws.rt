@@ -1,13 +1,14 @@
 //! The laws of refinement, about the definition alone. `n` is the number of bits.
-ghost use Rattle.std.specs.Prelude.{◌≡◌, ◌≢◌, ℕ, Bool, IsSomeAnd, IfSome, Some, None};
+ghost use Rattle.std.specs.Prelude.{◌≡◌, ◌≢◌, ◌<◌, ℕ, Bool, IsSomeAnd, IfSome, Some, None};
 ghost use Rattle.bpf_words.specs.Condition.{holds};
 ghost use Rattle.bpf_words.specs.declared.condition.Condition.{Condition};
+ghost use Rattle.bpf_words.specs.declared.condition.Condition.TheVariants.{Set};
 ghost use Rattle.interval.specs.Range.{Bounds, IsRange, IsWithin, IsInside, single};
-ghost use Rattle.range_refine.specs.Refinement.{refinement};
+ghost use Rattle.range_refine.specs.Refinement.{refinement, limit};
 
-/// Whatever 64-bit operands are of the ranges before, where they go along an edge they are of the
-/// ranges along it. So there are none only where no operands of these ranges go along the edge.
-#[tactic(auto, using(crate::proofs::Kept::all_kept, crate::proofs::Kept::none_go))]
+/// Whatever 64-bit operands of the ranges before follow an edge, they are of the ranges along it. So
+/// it has none only where no operands of the ranges before follow it.
+#[tactic(auto, using(crate::proofs::Kept::all_kept, crate::proofs::Kept::none_follow))]
 pub fn operands_along_an_edge_stay()
     ensures kept { (n : ℕ) (condition : Condition) (taken : Bool) (a b : Bounds) (x y : ℕ)
         → IsWithin a x → IsWithin b y → holds n condition x y ≡ taken
@@ -28,13 +29,25 @@ pub fn ranges_along_an_edge_are_inside()
         → IfSome (refinement n condition taken a b) (λ r. IsRange r.0 × IsRange r.1) }
 {}
 
-/// Where each range is one value an edge stays as it is exactly where these go along it.
-#[tactic(auto, using(crate::proofs::One::one_goes, crate::proofs::One::one_stays_away))]
+/// Where a condition that isn't the bit test compares all numbers of the ranges as they are, the
+/// ranges along an edge are the least: they are inside any two that have each pair along it.
+#[tactic(auto, using(crate::proofs::Least::all_least))]
+pub fn ranges_along_an_edge_are_least()
+    ensures { (n : ℕ) (condition : Condition) (taken : Bool) (a b c d : Bounds)
+        → IsRange a → IsRange b
+        → condition ≢ Set → a.hi < limit n condition → b.hi < limit n condition
+        → ((x y : ℕ) → IsWithin a x → IsWithin b y → holds n condition x y ≡ taken
+        → IsWithin c x × IsWithin d y)
+        → IfSome (refinement n condition taken a b) (λ r. IsInside r.0 c × IsInside r.1 d) }
+{}
+
+/// Of one value each an edge is dropped exactly where these don't follow it.
+#[tactic(auto, using(crate::proofs::One::one_followed, crate::proofs::One::one_dropped))]
 pub fn one_value_each_decides()
-    ensures goes { (n : ℕ) (condition : Condition) (taken : Bool) (x y : ℕ)
+    ensures followed { (n : ℕ) (condition : Condition) (taken : Bool) (x y : ℕ)
         → holds n condition x y ≡ taken
         → refinement n condition taken (single x) (single y) ≡ Some (single x, single y) }
-    ensures stays_away { (n : ℕ) (condition : Condition) (taken : Bool) (x y : ℕ)
+    ensures dropped { (n : ℕ) (condition : Condition) (taken : Bool) (x y : ℕ)
         → holds n condition x y ≢ taken
         → refinement n condition taken (single x) (single y) ≡ None }
 {}

@@ -1,9 +1,10 @@
 //! What an edge of a conditional jump says of its operands: their ranges along it, or that it is
-//! never gone along.
+//! never followed.
 #![tactic(auto)]
 
 pub use laws::{
     one_value_each_decides, operands_along_an_edge_stay, ranges_along_an_edge_are_inside,
+    ranges_along_an_edge_are_least,
 };
 pub use refinement::{refine32, refine64};
 

@@ -1,31 +1,23 @@
 //! Refinement on 64 and on 32 bits.
-ghost use Rattle.std.specs.Prelude.{◌≡◌, ℕ, ◌-◌, ◌^◌};
-ghost use Rattle.bpf_words.specs.Condition.{holds};
+ghost use Rattle.std.specs.Prelude.{◌≡◌, ◌+◌, ◌/◌, ◌&&◌, not, if◌then◌else◌};
 ghost use Rattle.range_refine.specs.Refinement as definitions;
-ghost use Rattle.range_refine.specs.Refinement.{refinement};
+ghost use Rattle.range_refine.specs.Refinement.{refinement, unless, both_single, are_below};
 
 use crate::table::{where_fails, where_holds};
 use bpf_words::{Condition, holds32, holds64};
 use interval::Range;
 
-/// The ranges of the operands of a 64-bit condition along an edge of its jump (RFC 9669 section
-/// 4.3): the one that is taken, or the other. `a` is the destination's range before and `b` the
-/// source's. None says that the edge is never gone along.
+/// The ranges of a 64-bit condition's operands along an edge of its jump, the one that is taken or
+/// the other (RFC 9669 section 4.3), from their ranges before it: `a` is the destination's and `b`
+/// the source's. None says that the edge is never followed.
 #[tactic(auto, unfolding(crate::specs::Refinement::refinement, crate::specs::Refinement::as_before))]
 pub fn refine64(condition: Condition, taken: bool, a: Range, b: Range) -> Option<(Range, Range)>
     ensures { result ≡ refinement 64 condition taken a b }
 {
-    let greatest = if is_signed(condition) {
-        u64::MAX / 2
-    } else {
-        u64::MAX
-    };
-    if a.hi() <= greatest && b.hi() <= greatest {
+    if are_plain(condition, u64::MAX, a, b) {
         along(condition, taken, a, b)
-    } else if a.is_single() && b.is_single() && holds64(condition, a.lo(), b.lo()) != taken {
-        None
     } else {
-        Some((a, b))
+        as_before(holds64(condition, a.lo(), b.lo()) == taken, a, b)
     }
 }
 
@@ -34,17 +26,10 @@ pub fn refine64(condition: Condition, taken: bool, a: Range, b: Range) -> Option
 pub fn refine32(condition: Condition, taken: bool, a: Range, b: Range) -> Option<(Range, Range)>
     ensures { result ≡ refinement 32 condition taken a b }
 {
-    let greatest = if is_signed(condition) {
-        u64::from(u32::MAX / 2)
-    } else {
-        u64::from(u32::MAX)
-    };
-    if a.hi() <= greatest && b.hi() <= greatest {
+    if are_plain(condition, u64::from(u32::MAX), a, b) {
         along(condition, taken, a, b)
-    } else if a.is_single() && b.is_single() && holds32(condition, a.lo(), b.lo()) != taken {
-        None
     } else {
-        Some((a, b))
+        as_before(holds32(condition, a.lo(), b.lo()) == taken, a, b)
     }
 }
 
@@ -57,6 +42,30 @@ fn along(condition: Condition, taken: bool, a: Range, b: Range) -> Option<(Range
     } else {
         where_fails(condition, a, b)
     }
+}
+
+/// The ranges as they were, unless they are one value each that doesn't follow the edge.
+fn as_before(followed: bool, a: Range, b: Range) -> Option<(Range, Range)>
+    ensures { result ≡ unless (both_single a b && not followed) (a, b) }
+{
+    if a.is_single() && b.is_single() && !followed {
+        None
+    } else {
+        Some((a, b))
+    }
+}
+
+/// Whether a condition on words up to a greatest one compares all numbers of both ranges as they
+/// are.
+fn are_plain(condition: Condition, greatest: u64, a: Range, b: Range) -> bool
+    ensures { result ≡ are_below (if definitions.is_signed condition then greatest / 2 + 1 else greatest + 1) a b }
+{
+    let greatest = if is_signed(condition) {
+        greatest / 2
+    } else {
+        greatest
+    };
+    a.hi() <= greatest && b.hi() <= greatest
 }
 
 fn is_signed(condition: Condition) -> bool

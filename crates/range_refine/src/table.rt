@@ -1,5 +1,5 @@
 //! The table of refinement, for numbers that a condition compares as they are. None says that the
-//! edge is never gone along.
+//! edge is never followed.
 ghost use Rattle.std.specs.Prelude.{◌≡◌, ◌≢◌};
 ghost use Rattle.range_refine.specs.Refinement as definitions;
 ghost use Rattle.bpf_words.specs.Condition as conditions;
