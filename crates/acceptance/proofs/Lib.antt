@@ -1,1 +1,4 @@
 pub mod Entry
+pub mod Joins
+pub mod Reaching
+pub mod Runs

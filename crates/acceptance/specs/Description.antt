@@ -1,9 +1,10 @@
 -- What is known of a state, as the verifier has it, and the states that it is true of.
-use Rattle.std.specs.Prelude.{◌≡◌, ◌⊎◌, ℕ, ◌+◌, pos, ◌≤ℤ◌, false, IsTrue, length, slice_index_or, Option, Some, None, IsSome, IfSome}
+use Rattle.std.specs.Prelude.{◌≡◌, ◌⊎◌, ℕ, ◌+◌, ◌<◌, All, List, pos, ◌≤ℤ◌, false, IsTrue, length, slice_index_or, Option, Some, None, IsSome, IfSome}
 use Rattle.bpf_code.specs.declared.instruction.Instruction.{Instruction}
 use Rattle.bpf_code.specs.declared.instruction.Register.{Register}
 use Rattle.bpf_code.specs.Program.{distance_of, IsInRange}
 use Rattle.schema.specs.Schema.{Tables, AreTables}
+use Rattle.schema.specs.Rows.{Rows, AreRows}
 use Rattle.bpf_semantics.specs.declared.value.Value.{Value}
 use Rattle.bpf_semantics.specs.declared.value.Value.TheVariants as value
 use Rattle.bpf_semantics.specs.State.{State, register}
@@ -17,6 +18,7 @@ use Rattle.abs_state.specs.declared.state.AbsState.{AbsState}
 use Rattle.abs_state.specs.State.{kind_of}
 use Rattle.abs_cause.specs.Cause.{cause_of}
 use Rattle.abs_step.specs.Result.{sent_on, sent_by_jump}
+use Rattle.bpf_verify.specs.Flow.{Procedure}
 
 -- the value is one of the kind; any is, where nothing is known
 abbrev pub IsOf : Kind → Value → Type 0
@@ -71,3 +73,11 @@ StepsAlong tables args_len i = (known : AbsState) (s : State) → AreTables tabl
 pub record SendsKnown (tables : Tables) (i : Instruction) (known : AbsState) : Type 0 where
   pub on : IfSome (sent_on tables i known) IsAbsState
   pub by_jump : IfSome (sent_by_jump i known) IsAbsState
+
+-- ---- a run
+
+-- arguments and rows for which a procedure was verified: so many bytes, and rows of its tables
+pub record Suits (p : Procedure) (args : List ℕ) (rows : Rows) : Type 0 where
+  pub long : length args ≡ p.args_len
+  pub bytes : All (λ b. b < 256) args
+  pub of_schema : AreRows p.tables rows
