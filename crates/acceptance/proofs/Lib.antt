@@ -1,1 +1,3 @@
 pub mod Entry
+pub mod Bytes
+pub mod Written
