@@ -1,3 +1,5 @@
-pub mod Entry
 pub mod Bytes
+pub mod Causes
+pub mod Entry
+pub mod Put
 pub mod Written
