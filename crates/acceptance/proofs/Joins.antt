@@ -6,7 +6,6 @@ use Rattle.std.proofs.lemmas.Bool.{cases_lt, false≢true}
 use Rattle.std.proofs.lemmas.Int.{ints}
 use Rattle.std.proofs.lemmas.List.{get_or_past}
 use Rattle.bpf_code.specs.declared.instruction.Register.{Register}
-use Rattle.bpf_code.specs.declared.instruction.Register.TheVariants.{R0, R1, R2, R3, R4, R5, R6, R7, R8, R9, R10}
 use Rattle.bpf_code.specs.Register.{number_of}
 use Rattle.bpf_semantics.specs.declared.value.Value.{Value}
 use Rattle.bpf_semantics.specs.declared.value.Value.TheVariants as value
@@ -17,6 +16,7 @@ use Rattle.abs_state.specs.declared.kind.Kind.TheVariants.{Nothing, Number, Stac
 use Rattle.abs_state.specs.declared.state.AbsState.{AbsState}
 use Rattle.abs_state.specs.State.{kind_join, zip_with, in_both, state_join, kind_of}
 use Rattle.acceptance.specs.Description.{IsOf, Describes, IsKind, IsAbsState}
+use Rattle.acceptance.proofs.Put.{register_below}
 
 -- ---- element by element
 
@@ -32,19 +32,6 @@ zip_at f [] ys k a b c e h = absurd (omega arith)
 zip_at f (x ∷ xs) [] k a b c e h = absurd (omega arith)
 zip_at f (x ∷ xs) (y ∷ ys) zero a b c e h = refl
 zip_at f (x ∷ xs) (y ∷ ys) (suc k) a b c e h = zip_at f xs ys k a b c (omega arith) (omega arith)
-
-pub few_registers : (r : Register) → number_of r < 11
-few_registers R0 = omega arith
-few_registers R1 = omega arith
-few_registers R2 = omega arith
-few_registers R3 = omega arith
-few_registers R4 = omega arith
-few_registers R5 = omega arith
-few_registers R6 = omega arith
-few_registers R7 = omega arith
-few_registers R8 = omega arith
-few_registers R9 = omega arith
-few_registers R10 = omega arith
 
 -- ---- kinds
 
@@ -131,7 +118,7 @@ right_of (Args lo hi) (Args lo2 hi2) (value.Args p) h = between_right lo hi lo2 
 -- a register's kind in a join is the join of both
 pub joined_at : (s t : AbsState) → IsAbsState s → IsAbsState t → (r : Register) → kind_of (state_join s t) r ≡ kind_join (kind_of s r) (kind_of t r)
 unfolding state_join
-joined_at s t p q r = zip_at kind_join s.kinds t.kinds (number_of r) Nothing Nothing Nothing (p.registers ∙ sym q.registers) (let n = few_registers r in omega (arith, p.registers, n))
+joined_at s t p q r = zip_at kind_join s.kinds t.kinds (number_of r) Nothing Nothing Nothing (p.registers ∙ sym q.registers) (let n = register_below r in omega (arith, p.registers, n))
 
 pub join_known : (s t : AbsState) → IsAbsState s → IsAbsState t → IsAbsState (state_join s t)
 unfolding state_join

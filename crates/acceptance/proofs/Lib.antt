@@ -1,4 +1,9 @@
+pub mod Bytes
+pub mod Causes
 pub mod Entry
 pub mod Joins
+pub mod Known
+pub mod Put
 pub mod Reaching
 pub mod Runs
+pub mod Written
