@@ -1,3 +1,5 @@
+pub mod Along
 pub mod Causes
 pub mod Entry
 pub mod Put
+pub mod Results
