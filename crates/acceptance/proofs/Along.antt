@@ -46,13 +46,13 @@ put_along tables args_len n i known s dst k v e f free a st d new =
 
 -- where a kind is neither nothing nor a pointer it is a number's, and so is the value
 pub with_number : (P : Moment → Type 0) (k : Kind) (v : Value) (next : ℕ → Moment) → is_nothing k ≡ false → is_pointer k ≡ false → IsOf k v
-    → ((r : Bounds) (n : ℕ) → k ≡ Number r → IsWithin r n → P (next n)) → P (or_stuck (number v) next)
+    → ((r : Bounds) (n : ℕ) → k ≡ Number r → v ≡ value.Number n → IsWithin r n → P (next n)) → P (or_stuck (number v) next)
 unfolding or_stuck
 with_number P Nothing v next something plain h f = absurd cc
 with_number P (Stack lo hi) v next something plain h f = absurd cc
 with_number P (Args lo hi) v next something plain h f = absurd cc
 with_number P (Number r) value.Nothing next something plain h f = absurd h
-with_number P (Number r) (value.Number n) next something plain h f = f r n refl h
+with_number P (Number r) (value.Number n) next something plain h f = f r n refl refl h
 with_number P (Number r) (value.Stack p) next something plain h f = absurd h
 with_number P (Number r) (value.Args p) next something plain h f = absurd h
 

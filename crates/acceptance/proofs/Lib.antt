@@ -1,6 +1,9 @@
 pub mod Along
+pub mod Arithmetic
+pub mod Branches
 pub mod Causes
 pub mod Entry
 pub mod Moves
+pub mod Operands
 pub mod Put
 pub mod Results

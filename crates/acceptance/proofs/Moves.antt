@@ -43,11 +43,11 @@ ordered_as_signed r m n one range low h high =
 -- ---- near places
 
 near_within : (z : ℤ) → is_near z ≡ true → (negsuc 65535 ≤ℤ z) × (z ≤ℤ pos 65536)
-near_within (pos n) e = let near : n ≤ 65536 = grind (arith, nat_tests) in (search (arith, ints, near), search (arith, ints, near))
+near_within (pos n) e = let near : n ≤ 65536 = grind (arith, nat_tests) in (search (arith, ints), search (arith, ints))
 near_within (negsuc n) e =
     let near : suc n ≤ 65536 = grind (arith, nat_tests) in
     let far : n ≤ 65535 = omega arith in
-    (search (arith, ints, far), search (arith, ints, far))
+    (search (arith, ints), search (arith, ints))
 
 within_near : (z : ℤ) → negsuc 65535 ≤ℤ z → z ≤ℤ pos 65536 → is_near z ≡ true
 within_near (pos n) p q = let near : n ≤ 65536 = search (arith, ints, q) in grind (arith, nat_tests)

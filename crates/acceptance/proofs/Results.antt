@@ -1,6 +1,5 @@
 -- Instructions that give a register a number, of another or of none; jumps without a condition, and EXIT.
 use Rattle.std.proofs.Common.{◌≡◌, ℕ, ℤ, pos, negsuc, ◌+◌, false, refl, sym, subst, inr, arith}
-use Rattle.std.proofs.Math.Nat.{le_refl}
 use Rattle.std.proofs.lemmas.Int.{ints}
 use Rattle.bpf_words.specs.declared.operation.Operation.TheVariants.{Neg, Movsx}
 use Rattle.bpf_words.specs.declared.operation.ByteOrder.{ByteOrder}
@@ -31,10 +30,8 @@ use Rattle.abs_step.specs.Result.{end_kind, sent_on, sent_by_jump}
 use Rattle.acceptance.specs.Description.{IsOf, IsAlongAnEdge, IsSound, StepsAlong}
 use Rattle.acceptance.proofs.Causes.{no_cause, neither}
 use Rattle.acceptance.proofs.Put.{past_described}
+use Rattle.acceptance.proofs.Operands.{within_single}
 use Rattle.acceptance.proofs.Along.{put_along, with_number, range_known}
-
-pub within_single : (n : ℕ) → IsWithin (single n) n
-within_single n = record { from = le_refl n; to = le_refl n }
 
 pub load_wide_along : (tables : Tables) (args_len : ℕ) (dst : Register) (n : ℕ) → StepsAlong tables args_len (LoadWide dst n)
 unfolding execute sent_on
@@ -66,7 +63,7 @@ negate_along tables args_len width dst known s ts a st d e =
     let none = no_cause tables args_len i known e in
     let something = neither (is_nothing (kind_of known dst)) false none.reads in
     with_number (IsAlongAnEdge tables args_len i known s) (kind_of known dst) (register s dst) _ something.0 none.pointers (d.registers dst)
-    (λ r n is within.
+    (λ r n is at within.
     put_along tables args_len 1 i known s dst (number_kind width Neg (kind_of known dst)) (value.Number (alu (width_bits width) Neg n 0)) refl refl none.writes a st d
     (negate_of width (kind_of known dst) r n is (range_known (kind_of known dst) r is (a.kinds dst)) within))
 
@@ -87,7 +84,7 @@ sign_extended_along tables args_len kind dst src known s ts a st d e =
     let none = no_cause tables args_len i known e in
     let something = neither (is_nothing (kind_of known src)) false none.reads in
     with_number (IsAlongAnEdge tables args_len i known s) (kind_of known src) (register s src) _ something.0 none.pointers (d.registers src)
-    (λ r n is within.
+    (λ r n is at within.
     put_along tables args_len 1 i known s dst (number_kind (extension_width kind) (Movsx (low_bits kind)) (kind_of known src))
     (value.Number (alu (width_bits (extension_width kind)) (Movsx (low_bits kind)) 0 n)) refl refl none.writes a st d
     (sign_extended_of kind (kind_of known src) r n is (range_known (kind_of known src) r is (a.kinds src)) within))
@@ -99,7 +96,7 @@ end_along tables args_len order width dst known s ts a st d e =
     let none = no_cause tables args_len i known e in
     let something = neither (is_nothing (kind_of known dst)) false none.reads in
     with_number (IsAlongAnEdge tables args_len i known s) (kind_of known dst) (register s dst) _ something.0 none.pointers (d.registers dst)
-    (λ r n is within.
+    (λ r n is at within.
     put_along tables args_len 1 i known s dst (end_kind order width (kind_of known dst)) (value.Number (end_value order width n)) refl refl none.writes a st d
     (end_of order width (kind_of known dst) r n is within))
 
@@ -120,4 +117,4 @@ unfolding execute reads_nothing
 exit_along tables args_len known s ts a st d e =
     let none = no_cause tables args_len Exit known e in
     let something = neither (is_nothing (kind_of known R0)) false none.reads in
-    with_number (IsAlongAnEdge tables args_len Exit known s) (kind_of known R0) (register s R0) _ something.0 none.reply (d.registers R0) (λ r n is within. tt)
+    with_number (IsAlongAnEdge tables args_len Exit known s) (kind_of known R0) (register s R0) _ something.0 none.reply (d.registers R0) (λ r n is at within. tt)
