@@ -34,7 +34,7 @@ use Rattle.acceptance.specs.Description.{IsOf, IsKind, IsAlongAnEdge, IsSound, S
 use Rattle.acceptance.proofs.Causes.{no_cause, neither}
 use Rattle.acceptance.proofs.Along.{put_along}
 use Rattle.acceptance.proofs.Moves.{place_by, moved_between}
-use Rattle.acceptance.proofs.Operands.{as_number, as_stack, as_args, IsOperand, operand_described, operand_known}
+use Rattle.acceptance.proofs.Operands.{as_number, as_stack, as_args, operand_fits, operand_described, operand_known}
 
 -- there is a result, and it is of the kind
 pub record Gives (result : Option Value) (k : Kind) : Type 0 where
@@ -154,10 +154,6 @@ operands_something false known dst src e =
     let each = neither (is_nothing (kind_of known dst)) (list_any (λ r. is_nothing (kind_of known r)) (source_registers src)) e in
     (λ t. each.0, source_something known src each.1)
 
-fits_operand : (width : Width) (op : BinaryOperation) (dst : Register) (src : Source) → IsSound (Arithmetic width op dst src) → IsOperand src
-fits_operand width op dst (source.Immediate z) sound = sound.0
-fits_operand width op dst (source.Register r) sound = tt
-
 pub arithmetic_along : (tables : Tables) (args_len : ℕ) (width : Width) (op : BinaryOperation) (dst : Register) (src : Source)
     → IsSound (Arithmetic width op dst src) → StepsAlong tables args_len (Arithmetic width op dst src)
 unfolding execute sent_on reads_nothing uses_pointer
@@ -167,6 +163,6 @@ arithmetic_along tables args_len width op dst src sound known s ts a st d e =
     let something = operands_something (is_move_operation op) known dst src none.reads in
     let result = operation_kind width op (kind_of known dst) (operand_kind known src) in
     let gives = operation_of width op (kind_of known dst) (operand_kind known src) (register s dst) (operand s src)
-    (a.kinds dst) (operand_known known src (fits_operand width op dst src sound) a) something.0 something.1 none.pointers (d.registers dst) (operand_described args_len known s src d) in
+    (a.kinds dst) (operand_known known src (operand_fits width op dst src sound.0) a) something.0 something.1 none.pointers (d.registers dst) (operand_described args_len known s src d) in
     gives_along (IsAlongAnEdge tables args_len i known s) (operation_result width op (register s dst) (operand s src)) result _ gives
     (λ v of. put_along tables args_len 1 i known s dst result v refl refl none.writes a st d of)

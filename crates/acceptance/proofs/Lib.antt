@@ -7,3 +7,4 @@ pub mod Moves
 pub mod Operands
 pub mod Put
 pub mod Results
+pub mod Sent

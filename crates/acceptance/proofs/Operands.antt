@@ -2,8 +2,14 @@
 use Rattle.std.proofs.Common.{ℕ, ◌^◌, ◌<◌, ◌≤ℤ◌, ℤ, pos, negsuc, FitsSigned, arith}
 use Rattle.std.proofs.Math.Nat.{le_refl}
 use Rattle.std.specs.Int.{w32, w64, cast_unsigned}
+use Rattle.bpf_words.specs.declared.condition.Condition.{Condition}
+use Rattle.bpf_words.specs.declared.operation.BinaryOperation.{BinaryOperation}
+use Rattle.bpf_code.specs.declared.instruction.Register.{Register}
+use Rattle.bpf_code.specs.declared.instruction.Width.{Width}
 use Rattle.bpf_code.specs.declared.instruction.Source.{Source}
 use Rattle.bpf_code.specs.declared.instruction.Source.TheVariants as source
+use Rattle.bpf_code.specs.declared.instruction.Instruction.TheVariants.{Arithmetic, Branch}
+use Rattle.bpf_code.specs.Program.{IsInRange}
 use Rattle.bpf_semantics.specs.declared.value.Value.{Value}
 use Rattle.bpf_semantics.specs.declared.value.Value.TheVariants as value
 use Rattle.bpf_semantics.specs.State.{State}
@@ -50,6 +56,14 @@ operand_described args_len known s (source.Register r) d = d.registers r
 abbrev pub IsOperand : Source → Type 0
 IsOperand (source.Immediate z) = FitsSigned w32 z
 IsOperand (source.Register r) = Unit {0}
+
+pub operand_fits : (width : Width) (op : BinaryOperation) (dst : Register) (src : Source) → IsInRange (Arithmetic width op dst src) → IsOperand src
+operand_fits width op dst (source.Immediate z) fits = fits
+operand_fits width op dst (source.Register r) fits = tt
+
+pub branch_operand_fits : (width : Width) (condition : Condition) (dst : Register) (src : Source) (distance : ℤ) → IsInRange (Branch width condition dst src distance) → IsOperand src
+branch_operand_fits width condition dst (source.Immediate z) distance fits = fits.0
+branch_operand_fits width condition dst (source.Register r) distance fits = tt
 
 pub immediate_below : (z : ℤ) → FitsSigned w32 z → cast_unsigned w64 z < 2 ^ 64
 immediate_below (pos n) fits = let h = fits.sfits in omega arith
