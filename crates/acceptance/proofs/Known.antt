@@ -1,9 +1,8 @@
 -- What an instruction sends may be known of a state.
-use Rattle.std.proofs.Common.{◌≡◌, ℕ, ◌+◌, ◌*◌, ◌-◌, ◌^◌, ◌<◌, ◌≤◌, ◌%◌, Bool, true, false, List, length, Option, Some, None, refl, sym, ◌∙◌, ap, subst, arith}
-use Rattle.std.specs.Prelude.{ℤ, pos, ◌+ℤ◌, FitsSigned, IfSome, if◌then◌else◌}
-use Rattle.std.specs.Int.{w32, w64, cast_unsigned, int_gap}
+use Rattle.std.proofs.Common.{◌≡◌, ℕ, ◌+◌, ◌^◌, ◌<◌, ◌≤◌, ◌%◌, Bool, true, false, Option, Some, None, refl, ◌∙◌, arith}
+use Rattle.std.specs.Prelude.{ℤ, pos, ◌+ℤ◌, IfSome, if◌then◌else◌}
+use Rattle.std.specs.Int.{w64, cast_unsigned}
 use Rattle.std.specs.Ordering.{int_eq}
-use Rattle.std.proofs.lemmas.Int.{ints}
 use Rattle.bpf_words.specs.declared.condition.Condition.{Condition}
 use Rattle.bpf_words.specs.declared.operation.BinaryOperation.{BinaryOperation}
 use Rattle.bpf_words.specs.declared.operation.Operation.{Operation}
@@ -30,10 +29,10 @@ use Rattle.schema.specs.declared.helper.Helper.{Helper}
 use Rattle.schema.specs.declared.helper.Helper.TheVariants.{RowGet, RowPut, RowDelete, RangeCount, RangeNext, Cancel}
 use Rattle.schema.specs.declared.helper.AnswerKind.{AnswerKind}
 use Rattle.schema.specs.declared.helper.AnswerKind.TheVariants.{Flag, Zero, Count}
-use Rattle.bpf_semantics.specs.Memory.{index_in, stack_index}
+use Rattle.bpf_semantics.specs.Memory.{stack_index}
 use Rattle.bpf_semantics.specs.Step.{is_move_operation, low_bits}
 use Rattle.interval.specs.Range.{Bounds, IsRange, single}
-use Rattle.interval.specs.Table.{alu_range, end_range, any_word}
+use Rattle.interval.specs.Table.{alu_range}
 use Rattle.interval.proofs.Sound.{alu_ordered}
 use Rattle.interval.proofs.Below.{alu_range_below, end_range_ordered, end_range_below}
 use Rattle.range_refine.specs.Refinement.{refinement}
@@ -41,20 +40,18 @@ use Rattle.range_refine.proofs.Inside.{all_ranges}
 use Rattle.abs_state.specs.declared.kind.Kind.{Kind}
 use Rattle.abs_state.specs.declared.kind.Kind.TheVariants.{Nothing, Number, Stack, Args}
 use Rattle.abs_state.specs.declared.state.AbsState.{AbsState}
-use Rattle.abs_state.specs.State.{kind_of, with_kind, with_initialised, with_answer}
+use Rattle.abs_state.specs.State.{kind_of, with_kind, with_answer}
 use Rattle.abs_value.specs.declared.access.Bytes.{Bytes}
 use Rattle.abs_value.specs.Access.{bytes_from, reach, stack_reach, buffer_bytes}
 use Rattle.abs_value.specs.Kind.{operand_kind, moved_places, stack_of, args_of, move_kind, binary_kind, operation_kind, number_kind, table_width}
 use Rattle.abs_step.specs.Result.{loaded_range, with_bytes, with_store, answer_range, with_buffer, with_buffers, after_call, compared_kind, is_same_register, with_source, with_sides, refined_state, edge_state, end_kind, sent_on, sent_by_jump}
 use Rattle.acceptance.specs.Description.{IsKind, IsAbsState, IsSound, SendsKnown}
+use Rattle.acceptance.proofs.Operands.{IsOperand, single_range, operand_known, operand_fits, branch_operand_fits}
 use Rattle.acceptance.proofs.Put.{put_known}
 use Rattle.acceptance.proofs.Bytes.{index_is}
 use Rattle.acceptance.proofs.Written.{length_initialised}
 
 -- ---- ranges of words
-
-single_range : (n : ℕ) → n < 2 ^ 64 → IsRange (single n)
-single_range n h = record { ordered = omega arith; word = h }
 
 bits_few : (width : Width) (n : ℕ) → n < 2 ^ width_bits width → n < 2 ^ 64
 bits_few Bits32 n h = omega arith
@@ -71,19 +68,7 @@ end_few Low16 n h = omega arith
 end_few Low32 n h = omega arith
 end_few Low64 n h = h
 
-unsigned_below : (z : ℤ) → FitsSigned w32 z → cast_unsigned w64 z < 2 ^ 64
-unsigned_below z h = search (arith, ints)
-
--- an immediate fits its field
-abbrev pub SourceFits : Source → Type 0
-SourceFits (source.Immediate immediate) = FitsSigned w32 immediate
-SourceFits (source.Register r) = Unit {0}
-
 -- ---- kinds
-
-operand_known : (known : AbsState) (src : Source) → IsAbsState known → SourceFits src → IsKind (operand_kind known src)
-operand_known known (source.Immediate immediate) h fits = single_range (cast_unsigned w64 immediate) (unsigned_below immediate fits)
-operand_known known (source.Register r) h fits = h.kinds r
 
 stack_known : (o : Option (ℤ × ℤ)) → IsKind (stack_of o)
 stack_known None = tt
@@ -241,10 +226,10 @@ call_known tables (Some helper) known h = with_answer_known (answer_range (answe
 low_half : (n : ℕ) → n % 2 ^ 32 < 2 ^ 64
 low_half n = omega arith
 
-compared_known : (width : Width) (known : AbsState) (src : Source) → IsAbsState known → SourceFits src → IsKind (compared_kind width known src)
+compared_known : (width : Width) (known : AbsState) (src : Source) → IsAbsState known → IsOperand src → IsKind (compared_kind width known src)
 compared_known Bits32 known (source.Immediate immediate) h fits = single_range (cast_unsigned w64 immediate % 2 ^ 32) (low_half (cast_unsigned w64 immediate))
 compared_known Bits32 known (source.Register r) h fits = h.kinds r
-compared_known Bits64 known src h fits = operand_known known src h fits
+compared_known Bits64 known src h fits = operand_known known src fits h
 
 source_known : (src : Source) (b : Bounds) (known : AbsState) → IsRange b → IsAbsState known → IsAbsState (with_source src b known)
 source_known (source.Immediate immediate) b known p h = h
@@ -268,20 +253,12 @@ either_state : (t : Bool) (a b : Option AbsState) → IfSome a IsAbsState → If
 either_state true a b p q = p
 either_state false a b p q = q
 
-edge_known : (width : Width) (condition : Condition) (taken : Bool) (dst : Register) (src : Source) (known : AbsState) → SourceFits src → IsAbsState known → IfSome (edge_state width condition taken dst src known) IsAbsState
+edge_known : (width : Width) (condition : Condition) (taken : Bool) (dst : Register) (src : Source) (known : AbsState) → IsOperand src → IsAbsState known → IfSome (edge_state width condition taken dst src known) IsAbsState
 edge_known width condition taken dst src known fits h =
     either_state (is_same_register dst src) (Some known) (refined_state width condition taken dst src known (kind_of known dst) (compared_kind width known src)) h
     (refined_known width condition taken dst src known (kind_of known dst) (compared_kind width known src) (h.kinds dst) (compared_known width known src h fits) h)
 
 -- ---- each form
-
-arithmetic_fits : (width : Width) (op : BinaryOperation) (dst : Register) (src : Source) → IsSound (Arithmetic width op dst src) → SourceFits src
-arithmetic_fits width op dst (source.Immediate immediate) h = h.0
-arithmetic_fits width op dst (source.Register r) h = tt
-
-branch_fits : (width : Width) (condition : Condition) (dst : Register) (src : Source) (distance : ℤ) → IsSound (Branch width condition dst src distance) → SourceFits src
-branch_fits width condition dst (source.Immediate immediate) distance h = h.0.0
-branch_fits width condition dst (source.Register r) distance h = tt
 
 pub all_send : (tables : Tables) (i : Instruction) (known : AbsState) → IsSound i → IsAbsState known → SendsKnown tables i known
 unfolding sent_on sent_by_jump
@@ -291,7 +268,7 @@ all_send tables (StoreImmediate size dst offset immediate) known sound h = recor
 all_send tables (StoreRegister size dst src offset) known sound h = record { on = store_known known (kind_of known dst) offset (size_bytes size) h; by_jump = tt }
 all_send tables (Arithmetic width op dst src) known sound h = record {
   on = put_known known dst (operation_kind width op (kind_of known dst) (operand_kind known src)) h
-      (operation_known width op (kind_of known dst) (operand_kind known src) (h.kinds dst) (operand_known known src h (arithmetic_fits width op dst src sound)));
+      (operation_known width op (kind_of known dst) (operand_kind known src) (h.kinds dst) (operand_known known src (operand_fits width op dst src sound.0) h));
   by_jump = tt;
 }
 all_send tables (Negate width dst) known sound h = record { on = put_known known dst (number_kind width Neg (kind_of known dst)) h (number_known width Neg (kind_of known dst) (h.kinds dst)); by_jump = tt }
@@ -304,7 +281,7 @@ all_send tables (End order width dst) known sound h = record { on = put_known kn
 all_send tables (Jump distance) known sound h = record { on = tt; by_jump = h }
 all_send tables (LongJump distance) known sound h = record { on = tt; by_jump = h }
 all_send tables (Branch width condition dst src distance) known sound h =
-    let fits = branch_fits width condition dst src distance sound in
+    let fits = branch_operand_fits width condition dst src distance sound.0 in
     record { on = edge_known width condition false dst src known fits h; by_jump = edge_known width condition true dst src known fits h }
 all_send tables (Call helper) known sound h = record { on = call_known tables (helper_of helper) known h; by_jump = tt }
 all_send tables Exit known sound h = record { on = tt; by_jump = tt }

@@ -1,9 +1,15 @@
+pub mod Along
+pub mod Arithmetic
+pub mod Branches
 pub mod Bytes
 pub mod Causes
 pub mod Entry
 pub mod Joins
 pub mod Known
+pub mod Moves
+pub mod Operands
 pub mod Put
 pub mod Reaching
+pub mod Results
 pub mod Runs
 pub mod Written

@@ -1,5 +1,5 @@
 -- What is known before a slot is true of each state that comes there by an edge.
-use Rattle.std.proofs.Common.{◌≡◌, ℕ, zero, suc, ◌+◌, ◌<◌, ◌≤◌, ◌==◌, ◌⊎◌, inl, inr, Bool, true, false, List, [], ◌∷◌, ◌++◌, Option, Some, None, refl, sym, ◌∙◌, ap, subst, arith}
+use Rattle.std.proofs.Common.{◌≡◌, ℕ, zero, suc, ◌+◌, ◌<◌, ◌==◌, ◌⊎◌, inl, inr, Bool, true, false, List, [], ◌∷◌, ◌++◌, Option, Some, None, refl, sym, subst, arith}
 use Rattle.std.specs.Prelude.{IfSome, if◌then◌else◌}
 use Rattle.std.specs.Option.{IsSomeAnd}
 use Rattle.std.proofs.lemmas.Bool.{cases_eq}
@@ -11,7 +11,7 @@ use Rattle.bpf_semantics.specs.Path.{fall_through, jump_of}
 use Rattle.abs_state.specs.declared.state.AbsState.{AbsState}
 use Rattle.abs_state.specs.State.{state_join, abs_entry}
 use Rattle.abs_step.specs.Result.{sent_on, sent_by_jump}
-use Rattle.bpf_verify.specs.Flow.{Procedure, arriving, sent_from, sent_before, join_with, join_of, join_one, at_entry, states_before, state_at}
+use Rattle.bpf_verify.specs.Flow.{Procedure, arriving, sent_from, sent_before, join_with, join_of, at_entry, states_before, state_at}
 use Rattle.bpf_verify.proofs.FlowLemmas.{state_is}
 use Rattle.acceptance.specs.Description.{Describes, IsAbsState, IsSound, SendsKnown}
 use Rattle.acceptance.proofs.Entry.{entry_known}

@@ -1,6 +1,6 @@
 -- Runs of accepted programs, moment by moment.
-use Rattle.std.proofs.Common.{◌≡◌, ℕ, zero, suc, ◌+◌, ◌<◌, ◌≤◌, ◌^◌, ◌==◌, ◌⊎◌, inl, inr, Bool, true, false, List, [], ◌∷◌, ◌++◌, length, Option, Some, None, refl, sym, ◌∙◌, ap, subst, arith}
-use Rattle.std.specs.Prelude.{All, IfSome, IsSome, ℤ, pos, negsuc, ◌≤ℤ◌, if◌then◌else◌}
+use Rattle.std.proofs.Common.{◌≡◌, ℕ, zero, suc, ◌+◌, ◌<◌, ◌≤◌, ◌^◌, ◌==◌, ◌⊎◌, inl, inr, Bool, true, List, [], ◌∷◌, length, Option, Some, None, refl, sym, subst, arith}
+use Rattle.std.specs.Prelude.{IfSome, IsSome, ℤ, pos, negsuc, ◌≤ℤ◌, if◌then◌else◌}
 use Rattle.std.specs.Option.{IsSomeAnd}
 use Rattle.std.proofs.lemmas.Bool.{false≢true}
 use Rattle.std.proofs.lemmas.Bool.Decides.{nat_tests}
@@ -12,9 +12,9 @@ use Rattle.schema.specs.Schema.{Tables, AreTables}
 use Rattle.schema.specs.Rows.{Rows, AreRows}
 use Rattle.bpf_semantics.specs.State.{State, entry_state}
 use Rattle.bpf_semantics.specs.Step.{Moment, Going, Ended, Stuck, or_stuck, execute, step}
-use Rattle.bpf_semantics.specs.Run.{Run, next_moment, moment, run, run_of}
+use Rattle.bpf_semantics.specs.Run.{Run, next_moment, moment, run}
 use Rattle.bpf_semantics.specs.Path.{fall_through, jump_of, longest_path}
-use Rattle.bpf_semantics.specs.Fit.{IsState, IsRunOf}
+use Rattle.bpf_semantics.specs.Fit.{IsState}
 use Rattle.bpf_semantics.proofs.PathLemmas.{fall_further, jump_further}
 use Rattle.bpf_semantics.proofs.NextLemmas.{first_begins, next_begins, jump_begins}
 use Rattle.bpf_semantics.proofs.RunLemmas.{run_within}
@@ -23,10 +23,9 @@ use Rattle.bpf_semantics.proofs.StateLemmas.{MomentFits, moment_fits}
 use Rattle.bpf_semantics.proofs.FitRunLemmas.{run_fits}
 use Rattle.abs_state.specs.declared.state.AbsState.{AbsState}
 use Rattle.abs_state.specs.State.{abs_entry}
-use Rattle.abs_cause.specs.declared.cause.Cause.{Cause}
 use Rattle.abs_cause.specs.Cause.{cause_of}
 use Rattle.abs_step.specs.Result.{sent_on, sent_by_jump}
-use Rattle.bpf_verify.specs.Flow.{Procedure, arriving, sent_from, state_at, cause_if, cause_at, IsAccepted}
+use Rattle.bpf_verify.specs.Flow.{Procedure, arriving, state_at, IsAccepted}
 use Rattle.acceptance.specs.Description.{Describes, Suits, IsAbsState, Along, IsAlongAnEdge, IsSound, StepsAlong}
 use Rattle.acceptance.proofs.Entry.{entry_described}
 use Rattle.acceptance.proofs.Reaching.{AllSend, AllSound, One, One-left, One-right, edge_known, entry_here, state_known}
