@@ -1,7 +1,9 @@
+pub mod After
 pub mod Along
 pub mod Bytes
 pub mod Causes
 pub mod Entry
 pub mod Loads
 pub mod Put
+pub mod Stores
 pub mod Written
