@@ -1,5 +1,6 @@
 pub mod After
 pub mod Along
+pub mod Arguments
 pub mod Bytes
 pub mod Causes
 pub mod Entry
