@@ -1,5 +1,6 @@
 pub mod After
 pub mod Along
+pub mod Answer
 pub mod Arguments
 pub mod Bytes
 pub mod Causes
