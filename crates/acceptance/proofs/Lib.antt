@@ -3,6 +3,7 @@ pub mod Along
 pub mod Answer
 pub mod Arguments
 pub mod Bytes
+pub mod Calls
 pub mod Causes
 pub mod Entry
 pub mod Loads
