@@ -8,5 +8,6 @@ pub mod Causes
 pub mod Entry
 pub mod Loads
 pub mod Put
+pub mod Sending
 pub mod Stores
 pub mod Written
