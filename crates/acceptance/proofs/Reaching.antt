@@ -123,9 +123,9 @@ sent_one : (D : AbsState → Type 0) (p : Procedure) (states : ℕ → Option Ab
 unfolding sent_before
 sent_one D p states zero slot j l h = absurd (omega arith)
 sent_one D p states (suc n) slot j l h = elim (cases_eq slot n) [
-    | inl e ↦ One-right D (sent_before p states n j) _ (subst (λ (k : ℕ). One D (sent_from p.tables k j (instruction_at p.program k) (states k))) e h)
-    | inr other ↦ One-left D _ _ (sent_one D p states n slot j (omega arith) h)
-    ]
+  | inl e ↦ One-right D (sent_before p states n j) _ (subst (λ (k : ℕ). One D (sent_from p.tables k j (instruction_at p.program k) (states k))) e h)
+  | inr other ↦ One-left D _ _ (sent_one D p states n slot j (omega arith) h)
+]
 
 -- what an earlier slot sends along an edge is true there too
 pub edge_known : (p : Procedure) (s : State) (slot j : ℕ) → AllSend p.tables → AllSound p.program → slot < j → One (λ t. Describes p.args_len t s) (sent_from p.tables slot j (instruction_at p.program slot) (state_at p slot)) → IsSomeAnd (state_at p j) (λ t. Describes p.args_len t s)
