@@ -1,6 +1,6 @@
 use bpf_code::decode;
 use bpf_verify::{Refusal, verify};
-use plain_runner::run_program;
+use plain_runner::{Row, run_program};
 use scarce::Scarce;
 use schema::Schema;
 use std::alloc::Global;
@@ -145,9 +145,15 @@ fn accepted_programs_reply(rt: HostRuntime) -> Result<(), Fail> {
         7203f8ff01000000 71a0f8ff00000000 9500000000000000";
     let skips = "b700000001000000 1500010001000000 bf60000000000000 9500000000000000";
     let schema = Schema::new(alloc, &[])?;
-    for (program, args, reply, steps) in [(stores, 0, 1, 8), (stores, 3, 0, 8), (skips, 0, 1, 3)] {
+    let cases: [(&str, u8, u64, usize); 3] = [
+        (stores, 0, 1, 8),
+        (stores, 3, 0, 8),
+        (skips, 0, 1, 3),
+    ];
+    for (program, args, reply, steps) in cases {
         let code = decode(alloc, &bytes_of(alloc, program)?)?;
-        let run = run_program(alloc, &code, &schema, &[args], &[])?;
+        let no_rows: &[Row] = &[];
+        let run = run_program(alloc, &code, &schema, &[args], no_rows)?;
         let found = run.map(|run| (run.reply(), run.steps()));
         assert_eq!(rt; found, Some((reply, steps)), "{program}");
     }
