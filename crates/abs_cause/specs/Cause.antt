@@ -1,5 +1,5 @@
 -- Why an instruction is refused, given what is known of the state before it: each cause with where it holds.
-use Rattle.std.specs.Prelude.{ℕ, ℤ, Bool, true, false, not, ◌||◌, if◌then◌else◌, List, [], ◌∷◌, ◌++◌, map, Option, Some, None}
+use Rattle.std.specs.Prelude.{ℕ, ℤ, Bool, true, false, not, ◌||◌, if◌then◌else◌, List, [], ◌∷◌, map, Option, Some, None}
 use Rattle.std.specs.Option.{option_map, option_map_or, is_none}
 use Rattle.std.specs.List.{list_any, zip, find}
 use Rattle.bpf_words.specs.declared.operation.BinaryOperation.{BinaryOperation}
@@ -23,12 +23,12 @@ use Rattle.abs_state.specs.declared.kind.Kind.TheVariants.{Nothing, Number, Stac
 use Rattle.abs_state.specs.declared.state.AbsState.{AbsState}
 use Rattle.abs_state.specs.State.{kind_of}
 use Rattle.abs_cause.specs.declared.cause.Cause.{Cause}
-use Rattle.abs_cause.specs.declared.cause.Cause.TheVariants.{ReadsNothing, WritesFramePointer, UsesPointer, OutsideMemory, Uninitialised, UnknownHelper, UnknownTable, NoNumber, NoBuffer, RepliesPointer, StoresToArguments}
+use Rattle.abs_cause.specs.declared.cause.Cause.TheVariants.{HoldsNothing, WritesFramePointer, UsesPointer, OutsideMemory, Uninitialised, UnknownHelper, UnknownTable, NoNumber, NoBuffer, RepliesPointer, StoresToArguments}
 use Rattle.abs_value.specs.Kind.{is_nothing, is_number, is_pointer, operand_kind, moved_places, table_width}
-use Rattle.abs_value.specs.declared.access.Bytes.{Bytes}
-use Rattle.abs_value.specs.Access.{stack_reach, args_reach, buffer_bytes, are_initialised}
+use Rattle.abs_value.specs.declared.access.ByteSpan.{ByteSpan}
+use Rattle.abs_value.specs.Access.{stack_span, args_span, buffer_span, are_initialised}
 
--- ---- a register that is read holds nothing
+-- ---- a register that is read may hold nothing
 
 abbrev pub source_registers : Source → List Register
 source_registers (source.Immediate _) = []
@@ -57,12 +57,12 @@ registers_read (Call helper) = map (λ a. a.1) (call_arguments (helper_of helper
 registers_read Exit = R0 ∷ []
 registers_read _ = []
 
-unfoldable pub reads_nothing : Instruction → AbsState → Bool
-reads_nothing i s = list_any (λ r. is_nothing (kind_of s r)) (registers_read i)
+unfoldable pub holds_nothing : Instruction → AbsState → Bool
+holds_nothing i s = list_any (λ r. is_nothing (kind_of s r)) (registers_read i)
 
 -- ---- r10 is written
 
--- the register that an instruction writes; a call's r0 to r5 are none of its own choice
+-- the register that an instruction writes. r0 to r5, which a call changes, aren't counted: none is r10
 abbrev pub register_written : Instruction → Option Register
 register_written (LoadWide dst _) = Some dst
 register_written (Load _ dst _ _) = Some dst
@@ -82,7 +82,7 @@ abbrev pub move_uses_pointer : Width → Kind → Bool
 move_uses_pointer Bits64 b = false
 move_uses_pointer Bits32 b = is_pointer b
 
--- a 64-bit ADD or SUB moves a pointer by a number, so far as places go
+-- a 64-bit ADD or SUB moves a pointer by a number that has one sign, so far as places go
 abbrev pub binary_uses_pointer : Width → BinaryOperation → Kind → Kind → Bool
 binary_uses_pointer Bits64 op (Stack lo hi) (Number b) = is_none (moved_places op lo hi b)
 binary_uses_pointer Bits64 op (Args lo hi) (Number b) = is_none (moved_places op lo hi b)
@@ -106,12 +106,12 @@ uses_pointer _ s = false
 abbrev pub load_is_outside : ℕ → Kind → ℤ → ℕ → Bool
 load_is_outside args_len Nothing offset size = false
 load_is_outside args_len (Number _) offset size = true
-load_is_outside args_len (Stack lo hi) offset size = is_none (stack_reach lo hi offset size)
-load_is_outside args_len (Args lo hi) offset size = is_none (args_reach args_len lo hi offset size)
+load_is_outside args_len (Stack lo hi) offset size = is_none (stack_span lo hi offset size)
+load_is_outside args_len (Args lo hi) offset size = is_none (args_span args_len lo hi offset size)
 
 abbrev pub store_is_outside : Kind → ℤ → ℕ → Bool
 store_is_outside (Number _) offset size = true
-store_is_outside (Stack lo hi) offset size = is_none (stack_reach lo hi offset size)
+store_is_outside (Stack lo hi) offset size = is_none (stack_span lo hi offset size)
 store_is_outside _ offset size = false
 
 unfoldable pub is_outside : ℕ → Instruction → AbsState → Bool
@@ -142,7 +142,7 @@ buffer_length width argument.RowWritten = width
 buffer_length width argument.KeyWritten = Some 8
 buffer_length width _ = None
 
--- a test of each argument's kind and of what is known of it
+-- whether some argument of a call passes a test of what it is to be and what is known of it
 abbrev pub has_argument : (ArgumentKind → Kind → Bool) → Instruction → AbsState → Bool
 has_argument test (Call helper) s = list_any (λ a. test a.0 (kind_of s a.1)) (call_arguments (helper_of helper))
 has_argument test _ s = false
@@ -157,23 +157,23 @@ is_no_number _ k = false
 
 abbrev pub lacks_room : Option ℕ → Kind → Bool
 lacks_room None k = false
-lacks_room (Some count) k = is_none (buffer_bytes k count)
+lacks_room (Some count) k = is_none (buffer_span k count)
 
 abbrev pub is_no_buffer : Option ℕ → ArgumentKind → Kind → Bool
 is_no_buffer width a k = lacks_room (buffer_length width a) k
 
--- ---- bytes that are read before anything was written there
+-- ---- bytes that may be read before anything was written there
 
-abbrev pub some_uninitialised : AbsState → Option Bytes → Bool
+abbrev pub some_uninitialised : AbsState → Option ByteSpan → Bool
 some_uninitialised s None = false
 some_uninitialised s (Some bytes) = not (are_initialised s bytes)
 
-abbrev pub bytes_loaded : Kind → ℤ → ℕ → Option Bytes
-bytes_loaded (Stack lo hi) offset size = stack_reach lo hi offset size
+abbrev pub bytes_loaded : Kind → ℤ → ℕ → Option ByteSpan
+bytes_loaded (Stack lo hi) offset size = stack_span lo hi offset size
 bytes_loaded _ offset size = None
 
 abbrev pub row_is_uninitialised : AbsState → Option ℕ → ArgumentKind → Kind → Bool
-row_is_uninitialised s (Some width) argument.RowRead k = some_uninitialised s (buffer_bytes k width)
+row_is_uninitialised s (Some width) argument.RowRead k = some_uninitialised s (buffer_span k width)
 row_is_uninitialised s _ _ k = false
 
 unfoldable pub reads_uninitialised : Tables → Instruction → AbsState → Bool
@@ -190,7 +190,7 @@ replies_pointer _ s = false
 abbrev pub causes : Tables → ℕ → Instruction → AbsState → List (Cause × Bool)
 causes tables args_len i s =
     let width = table_width tables (kind_of s R1) in
-    (ReadsNothing, reads_nothing i s)
+    (HoldsNothing, holds_nothing i s)
     ∷ (WritesFramePointer, writes_frame_pointer i)
     ∷ (UsesPointer, uses_pointer i s)
     ∷ (OutsideMemory, is_outside args_len i s)

@@ -1,10 +1,10 @@
 -- The causes' numbers.
 use Rattle.std.specs.Prelude.{ℕ}
 use Rattle.abs_cause.specs.declared.cause.Cause.{Cause}
-use Rattle.abs_cause.specs.declared.cause.Cause.TheVariants.{ReadsNothing, WritesFramePointer, UsesPointer, OutsideMemory, Uninitialised, UnknownHelper, UnknownTable, NoNumber, NoBuffer, RepliesPointer, StoresToArguments}
+use Rattle.abs_cause.specs.declared.cause.Cause.TheVariants.{HoldsNothing, WritesFramePointer, UsesPointer, OutsideMemory, Uninitialised, UnknownHelper, UnknownTable, NoNumber, NoBuffer, RepliesPointer, StoresToArguments}
 
 abbrev pub cause_number : Cause → ℕ
-cause_number ReadsNothing = 1
+cause_number HoldsNothing = 1
 cause_number WritesFramePointer = 2
 cause_number UsesPointer = 3
 cause_number OutsideMemory = 4

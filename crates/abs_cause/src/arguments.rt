@@ -6,7 +6,7 @@ ghost use Rattle.abs_value.specs.Kind.{is_nothing};
 ghost use Rattle.abs_cause.specs.Cause.{call_arguments, is_unknown_table, is_no_number, is_no_buffer, lacks_room, row_is_uninitialised, some_uninitialised};
 
 use abs_state::{AbsState, Kind};
-use abs_value::{Bytes, are_initialised, buffer_bytes, is_nothing, is_number, table_width};
+use abs_value::{ByteSpan, are_initialised, buffer_span, is_nothing, is_number, table_width};
 use bpf_code::Register;
 use schema::{Helper, Schema};
 use std::alloc::Allocator;
@@ -65,7 +65,7 @@ fn lacks_room(count: Option<usize>, kind: Kind) -> bool
     ensures { result ≡ lacks_room count kind }
 {
     match count {
-        Some(count) => buffer_bytes(kind, count).is_none(),
+        Some(count) => buffer_span(kind, count).is_none(),
         None => false,
     }
 }
@@ -85,7 +85,7 @@ pub(crate) fn buffer_is_missing(helper: Helper, state: &AbsState, width: Option<
 }
 
 /// Whether some of the stack's bytes aren't initialised.
-pub(crate) fn some_uninitialised(state: &AbsState, bytes: Option<Bytes>) -> bool
+pub(crate) fn some_uninitialised(state: &AbsState, bytes: Option<ByteSpan>) -> bool
     requires { IfSome bytes (λ bytes. bytes.index + bytes.count ≤ 512) }
     ensures { result ≡ some_uninitialised state.now bytes }
 {
@@ -101,7 +101,7 @@ pub(crate) fn row_is_uninitialised(helper: Helper, state: &AbsState, width: Opti
 {
     match helper {
         Helper::RowPut => match width {
-            Some(width) => some_uninitialised(state, buffer_bytes(state.kind(Register::R3), width)),
+            Some(width) => some_uninitialised(state, buffer_span(state.kind(Register::R3), width)),
             None => false,
         },
         _ => false,

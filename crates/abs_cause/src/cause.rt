@@ -5,15 +5,15 @@ ghost use Rattle.abs_cause.specs.Number.{cause_number};
 /// Why an instruction is refused, the lowest first.
 #[derive(Clone, Copy, Debug, PartialEq, Eq)]
 pub enum Cause {
-    /// A register that is read holds nothing.
-    ReadsNothing,
+    /// A register that is read may hold nothing.
+    HoldsNothing,
     /// It writes r10, the frame pointer.
     WritesFramePointer,
-    /// A pointer stands where only a number may, or is moved too far.
+    /// A pointer stands where only a number may, or may be moved too far, or by a number that may have either sign.
     UsesPointer,
-    /// A load or a store at a number, or at a byte outside the stack or the arguments.
+    /// A load or a store at a number, or one that may touch a byte outside the stack or the arguments.
     OutsideMemory,
-    /// It reads a byte of the stack that nothing was written to before.
+    /// It may read a byte of the stack that nothing was written to.
     Uninitialised,
     /// It calls a helper that there isn't.
     UnknownHelper,
@@ -35,7 +35,7 @@ impl Cause {
         ensures { result ≡ cause_number self }
     {
         match self {
-            Cause::ReadsNothing => 1,
+            Cause::HoldsNothing => 1,
             Cause::WritesFramePointer => 2,
             Cause::UsesPointer => 3,
             Cause::OutsideMemory => 4,

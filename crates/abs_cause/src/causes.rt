@@ -7,7 +7,7 @@ ghost use Rattle.abs_state.specs.declared.kind.Kind.TheVariants.{Number};
 ghost use Rattle.bpf_semantics.specs.Step.{is_read_only};
 ghost use Rattle.abs_state.specs.State.{kind_of};
 ghost use Rattle.abs_value.specs.Kind.{is_nothing, table_width};
-ghost use Rattle.abs_cause.specs.Cause.{source_registers, operation_registers, reads_nothing, writes_frame_pointer};
+ghost use Rattle.abs_cause.specs.Cause.{source_registers, operation_registers, holds_nothing, writes_frame_pointer};
 ghost use Rattle.abs_cause.specs.Cause.{move_uses_pointer, binary_uses_pointer, operands_use_pointer, uses_pointer};
 ghost use Rattle.abs_cause.specs.Cause.{load_is_outside, store_is_outside, is_outside, is_args, stores_to_arguments};
 ghost use Rattle.abs_cause.specs.Cause.{bytes_loaded, reads_uninitialised, is_unknown_helper, has_argument, is_unknown_table};
@@ -20,7 +20,7 @@ use crate::arguments::{
 use crate::cause::Cause;
 use abs_state::{AbsState, Kind};
 use abs_value::{
-    Bytes, args_reach, is_move, is_nothing, is_pointer, moved_places, operand_kind, stack_reach,
+    ByteSpan, args_span, is_move, is_nothing, is_pointer, moved_places, operand_kind, stack_span,
     table_width,
 };
 use bpf_code::{Instruction, Register, Source, Width};
@@ -40,9 +40,9 @@ fn source_is_nothing(state: &AbsState, source: Source) -> bool
 }
 
 /// Whether a register that is read holds nothing.
-#[tactic(auto, unfolding(crate::specs::Cause::reads_nothing))]
-fn reads_nothing(instruction: Instruction, state: &AbsState) -> bool
-    ensures { result ≡ reads_nothing instruction state.now }
+#[tactic(auto, unfolding(crate::specs::Cause::holds_nothing))]
+fn holds_nothing(instruction: Instruction, state: &AbsState) -> bool
+    ensures { result ≡ holds_nothing instruction state.now }
 {
     match instruction {
         Instruction::Load { src, .. } => is_nothing(state.kind(src)),
@@ -186,8 +186,8 @@ fn load_is_outside(args_len: u16, address: Kind, offset: i16, size: u8) -> bool
     match address {
         Kind::Nothing => false,
         Kind::Number(_) => true,
-        Kind::Stack(lo, hi) => stack_reach(lo, hi, offset, size).is_none(),
-        Kind::Args(lo, hi) => args_reach(args_len, lo, hi, offset, size).is_none(),
+        Kind::Stack(lo, hi) => stack_span(lo, hi, offset, size).is_none(),
+        Kind::Args(lo, hi) => args_span(args_len, lo, hi, offset, size).is_none(),
     }
 }
 
@@ -197,7 +197,7 @@ fn store_is_outside(address: Kind, offset: i16, size: u8) -> bool
 {
     match address {
         Kind::Number(_) => true,
-        Kind::Stack(lo, hi) => stack_reach(lo, hi, offset, size).is_none(),
+        Kind::Stack(lo, hi) => stack_span(lo, hi, offset, size).is_none(),
         _ => false,
     }
 }
@@ -249,12 +249,12 @@ fn stores_to_arguments(instruction: Instruction, state: &AbsState) -> bool
 }
 
 /// The bytes of the stack that a load may touch.
-fn bytes_loaded(address: Kind, offset: i16, size: u8) -> Option<Bytes>
+fn bytes_loaded(address: Kind, offset: i16, size: u8) -> Option<ByteSpan>
     ensures exact { result ≡ bytes_loaded address offset size }
     ensures inside { IfSome result (λ bytes. bytes.index + bytes.count ≤ 512) }
 {
     match address {
-        Kind::Stack(lo, hi) => stack_reach(lo, hi, offset, size),
+        Kind::Stack(lo, hi) => stack_span(lo, hi, offset, size),
         _ => None,
     }
 }
@@ -362,8 +362,8 @@ pub fn cause_of<A: Allocator>(
 ) -> Option<Cause>
     ensures { result ≡ cause_of schema.now args_len instruction state.now }
 {
-    if reads_nothing(instruction, state) {
-        Some(Cause::ReadsNothing)
+    if holds_nothing(instruction, state) {
+        Some(Cause::HoldsNothing)
     } else if writes_frame_pointer(instruction) {
         Some(Cause::WritesFramePointer)
     } else if uses_pointer(instruction, state) {

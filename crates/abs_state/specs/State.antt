@@ -48,5 +48,5 @@ abbrev pub with_initialised : AbsState → ℕ → ℕ → AbsState
 with_initialised s from count = record s { initialised = take from s.initialised ++ replicate count true ++ drop (from + count) s.initialised }
 
 -- after a call r0 has a number of the answer's range, and r1 to r5 hold nothing
-abbrev pub with_answer : Bounds → AbsState → AbsState
-with_answer answer s = with_kind (fold (λ known r. with_kind known r Nothing) s (R1 ∷ R2 ∷ R3 ∷ R4 ∷ R5 ∷ [])) R0 (Number answer)
+abbrev pub with_known_answer : Bounds → AbsState → AbsState
+with_known_answer answer s = with_kind (fold (λ known r. with_kind known r Nothing) s (R1 ∷ R2 ∷ R3 ∷ R4 ∷ R5 ∷ [])) R0 (Number answer)

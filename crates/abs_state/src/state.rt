@@ -1,7 +1,7 @@
 //! What is known of a state.
 ghost use Rattle.std.specs.Prelude.{◌≡◌, ◌++◌, replicate, true, ◌+◌, ◌≤◌, take, drop, length};
 ghost use Rattle.std.specs.List.{list_all};
-ghost use Rattle.abs_state.specs.State.{abs_entry, in_both, kind_join, kind_of, state_join, with_answer, with_initialised, with_kind, zip_with};
+ghost use Rattle.abs_state.specs.State.{abs_entry, in_both, kind_join, kind_of, state_join, with_known_answer, with_initialised, with_kind, zip_with};
 
 use crate::kind::Kind;
 use bpf_code::Register;
@@ -56,7 +56,7 @@ impl AbsState {
 
     /// After a call r0 has a number of the answer's range, and r1 to r5 hold nothing.
     pub fn set_answer(&mut self, answer: Range)
-        ensures { self.new ≡ with_answer answer self.old }
+        ensures { self.new ≡ with_known_answer answer self.old }
     {
         self.set_kind(Register::R1, Kind::Nothing);
         self.set_kind(Register::R2, Kind::Nothing);

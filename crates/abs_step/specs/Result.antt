@@ -1,5 +1,5 @@
 -- What is known after an instruction that has no cause to be refused, on each edge that may be taken.
-use Rattle.std.specs.Prelude.{ℕ, ◌-◌, ◌*◌, ◌%◌, ◌^◌, ℤ, ◌+ℤ◌, Bool, true, false, ◌==◌, ◌&&◌, if◌then◌else◌, List, [], ◌∷◌, ◌++◌, replicate, drop, Option, Some, None}
+use Rattle.std.specs.Prelude.{ℕ, ◌*◌, ◌%◌, ◌^◌, ℤ, Bool, true, false, ◌==◌, if◌then◌else◌, Option, Some, None}
 use Rattle.std.specs.Int.{w64, cast_unsigned}
 use Rattle.std.specs.Ordering.{int_eq}
 use Rattle.bpf_words.specs.declared.condition.Condition.{Condition}
@@ -11,7 +11,7 @@ use Rattle.bpf_code.specs.declared.instruction.LoadKind.TheVariants.{I8, I16, I3
 use Rattle.bpf_code.specs.declared.instruction.Register.{Register}
 use Rattle.bpf_code.specs.declared.instruction.Register.TheVariants.{R1, R3, R4, R5}
 use Rattle.bpf_code.specs.declared.instruction.Width.{Width}
-use Rattle.bpf_code.specs.declared.instruction.Width.TheVariants.{Bits32, Bits64}
+use Rattle.bpf_code.specs.declared.instruction.Width.TheVariants.{Bits32}
 use Rattle.bpf_code.specs.declared.instruction.Source.{Source}
 use Rattle.bpf_code.specs.declared.instruction.Source.TheVariants as source
 use Rattle.bpf_code.specs.declared.instruction.Instruction.{Instruction}
@@ -29,12 +29,12 @@ use Rattle.interval.specs.Range.{Bounds, from_to, single}
 use Rattle.interval.specs.Table.{any_word, end_range}
 use Rattle.range_refine.specs.Refinement.{refinement}
 use Rattle.abs_state.specs.declared.kind.Kind.{Kind}
-use Rattle.abs_state.specs.declared.kind.Kind.TheVariants.{Nothing, Number, Stack, Args}
+use Rattle.abs_state.specs.declared.kind.Kind.TheVariants.{Nothing, Number, Stack}
 use Rattle.abs_state.specs.declared.state.AbsState.{AbsState}
-use Rattle.abs_state.specs.State.{kind_of, with_answer, with_kind, with_initialised}
+use Rattle.abs_state.specs.State.{kind_of, with_known_answer, with_kind, with_initialised}
 use Rattle.abs_value.specs.Kind.{operand_kind, operation_kind, number_kind, table_width}
-use Rattle.abs_value.specs.declared.access.Bytes.{Bytes}
-use Rattle.abs_value.specs.Access.{stack_reach, buffer_bytes}
+use Rattle.abs_value.specs.declared.access.ByteSpan.{ByteSpan}
+use Rattle.abs_value.specs.Access.{stack_span, buffer_span}
 
 -- ---- loads and stores
 
@@ -45,14 +45,14 @@ loaded_range I16 = any_word 64
 loaded_range I32 = any_word 64
 loaded_range kind = any_word (8 * load_bytes kind)
 
-abbrev pub with_bytes : Option Bytes → AbsState → AbsState
-with_bytes None s = s
-with_bytes (Some bytes) s = with_initialised s bytes.index bytes.count
+abbrev pub with_span : Option ByteSpan → AbsState → AbsState
+with_span None s = s
+with_span (Some bytes) s = with_initialised s bytes.index bytes.count
 
 -- a store at one place initialises its bytes; one at several initialises none
-abbrev pub with_store : AbsState → Kind → ℤ → ℕ → AbsState
-with_store s (Stack lo hi) offset size = if int_eq lo hi then with_bytes (stack_reach lo hi offset size) s else s
-with_store s _ offset size = s
+abbrev pub with_known_store : AbsState → Kind → ℤ → ℕ → AbsState
+with_known_store s (Stack lo hi) offset size = if int_eq lo hi then with_span (stack_span lo hi offset size) s else s
+with_known_store s _ offset size = s
 
 -- ---- calls
 
@@ -63,7 +63,7 @@ answer_range Count = any_word 64
 
 abbrev pub with_buffer : AbsState → Kind → Option ℕ → AbsState
 with_buffer s k None = s
-with_buffer s k (Some count) = with_bytes (buffer_bytes k count) s
+with_buffer s k (Some count) = with_span (buffer_span k count) s
 
 -- a get initialises its row's buffer, a next its key's and its row's
 abbrev pub with_buffers : Tables → Helper → AbsState → AbsState
@@ -74,7 +74,7 @@ with_buffers tables _ s = s
 
 abbrev pub after_call : Tables → Option Helper → AbsState → AbsState
 after_call tables None s = s
-after_call tables (Some helper) s = with_answer (answer_range (answer_of helper)) (with_buffers tables helper s)
+after_call tables (Some helper) s = with_known_answer (answer_range (answer_of helper)) (with_buffers tables helper s)
 
 -- ---- conditions
 
@@ -115,26 +115,26 @@ end_kind order width (Number a) = Number (end_range order width a)
 end_kind order width _ = Nothing
 
 -- what goes on to the next instruction
-unfoldable pub sent_on : Tables → Instruction → AbsState → Option AbsState
-sent_on tables (LoadWide dst value) s = Some (with_kind s dst (Number (single value)))
-sent_on tables (Load kind dst _ _) s = Some (with_kind s dst (Number (loaded_range kind)))
-sent_on tables (StoreImmediate size dst offset _) s = Some (with_store s (kind_of s dst) offset (size_bytes size))
-sent_on tables (StoreRegister size dst _ offset) s = Some (with_store s (kind_of s dst) offset (size_bytes size))
-sent_on tables (Arithmetic width op dst src) s =
+unfoldable pub next_state : Tables → Instruction → AbsState → Option AbsState
+next_state tables (LoadWide dst value) s = Some (with_kind s dst (Number (single value)))
+next_state tables (Load kind dst _ _) s = Some (with_kind s dst (Number (loaded_range kind)))
+next_state tables (StoreImmediate size dst offset _) s = Some (with_known_store s (kind_of s dst) offset (size_bytes size))
+next_state tables (StoreRegister size dst _ offset) s = Some (with_known_store s (kind_of s dst) offset (size_bytes size))
+next_state tables (Arithmetic width op dst src) s =
     Some (with_kind s dst (operation_kind width op (kind_of s dst) (operand_kind s src)))
-sent_on tables (Negate width dst) s = Some (with_kind s dst (number_kind width Neg (kind_of s dst)))
-sent_on tables (MoveSignExtended kind dst src) s =
+next_state tables (Negate width dst) s = Some (with_kind s dst (number_kind width Neg (kind_of s dst)))
+next_state tables (MoveSignExtended kind dst src) s =
     Some (with_kind s dst (number_kind (extension_width kind) (Movsx (low_bits kind)) (kind_of s src)))
-sent_on tables (End order width dst) s = Some (with_kind s dst (end_kind order width (kind_of s dst)))
-sent_on tables (Jump _) s = None
-sent_on tables (LongJump _) s = None
-sent_on tables (Branch width condition dst src _) s = edge_state width condition false dst src s
-sent_on tables (Call helper) s = Some (after_call tables (helper_of helper) s)
-sent_on tables Exit s = None
+next_state tables (End order width dst) s = Some (with_kind s dst (end_kind order width (kind_of s dst)))
+next_state tables (Jump _) s = None
+next_state tables (LongJump _) s = None
+next_state tables (Branch width condition dst src _) s = edge_state width condition false dst src s
+next_state tables (Call helper) s = Some (after_call tables (helper_of helper) s)
+next_state tables Exit s = None
 
 -- what goes to a jump's target
-unfoldable pub sent_by_jump : Instruction → AbsState → Option AbsState
-sent_by_jump (Jump _) s = Some s
-sent_by_jump (LongJump _) s = Some s
-sent_by_jump (Branch width condition dst src _) s = edge_state width condition true dst src s
-sent_by_jump _ s = None
+unfoldable pub jump_state : Instruction → AbsState → Option AbsState
+jump_state (Jump _) s = Some s
+jump_state (LongJump _) s = Some s
+jump_state (Branch width condition dst src _) s = edge_state width condition true dst src s
+jump_state _ s = None

@@ -1,9 +1,9 @@
 //! What is known after a call.
 ghost use Rattle.std.specs.Prelude.{◌≡◌, ◌+◌, ◌≤◌, Some, IfSome};
-ghost use Rattle.abs_step.specs.Result.{answer_range, with_buffer, with_buffers, with_bytes, after_call};
+ghost use Rattle.abs_step.specs.Result.{answer_range, with_buffer, with_buffers, with_span, after_call};
 
 use abs_state::{AbsState, Kind};
-use abs_value::{Bytes, buffer_bytes, table_width};
+use abs_value::{ByteSpan, buffer_span, table_width};
 use bpf_code::Register;
 use interval::Range;
 use schema::{AnswerKind, Helper, Schema};
@@ -20,9 +20,9 @@ fn answer_range(answer: AnswerKind) -> Range
 }
 
 /// These bytes of the stack are initialised.
-pub(crate) fn set_bytes(state: &mut AbsState, bytes: Option<Bytes>)
+pub(crate) fn set_bytes(state: &mut AbsState, bytes: Option<ByteSpan>)
     requires { IfSome bytes (λ bytes. bytes.index + bytes.count ≤ 512) }
-    ensures { state.new ≡ with_bytes bytes state.old }
+    ensures { state.new ≡ with_span bytes state.old }
 {
     if let Some(bytes) = bytes {
         state.set_initialised(bytes.index, bytes.count);
@@ -33,7 +33,7 @@ fn set_buffer(state: &mut AbsState, kind: Kind, count: Option<usize>)
     ensures { state.new ≡ with_buffer state.old kind count }
 {
     if let Some(count) = count {
-        set_bytes(state, buffer_bytes(kind, count));
+        set_bytes(state, buffer_span(kind, count));
     }
 }
 

@@ -3,7 +3,7 @@
 #![tactic(auto)]
 
 pub use abs_cause::{Cause, cause_of};
-pub use results::{sent_by_jump, sent_on};
+pub use results::{jump_state, next_state};
 
 mod calls;
 mod results;

@@ -4,12 +4,12 @@ ghost use Rattle.bpf_code.specs.Sizes.{size_bytes, width_bits};
 ghost use Rattle.bpf_semantics.specs.Step.{low_bits};
 ghost use Rattle.range_refine.specs.Refinement.{refinement};
 ghost use Rattle.abs_state.specs.State.{kind_of, with_kind};
-ghost use Rattle.abs_step.specs.Result.{loaded_range, with_store, compared_kind, is_same_register, with_source, with_sides, refined_state, edge_state, end_kind, after_call, sent_on, sent_by_jump};
+ghost use Rattle.abs_step.specs.Result.{loaded_range, with_known_store, compared_kind, is_same_register, with_source, with_sides, refined_state, edge_state, end_kind, after_call, next_state, jump_state};
 ghost use Rattle.schema.specs.Helper.{helper_of};
 
 use crate::calls::{call, set_bytes};
 use abs_state::{AbsState, Kind};
-use abs_value::{number_kind, operand_kind, operation_kind, stack_reach};
+use abs_value::{number_kind, operand_kind, operation_kind, stack_span};
 use bpf_code::{Instruction, LoadKind, Register, SignExtendingMove, Source, Width};
 use bpf_words::{ByteOrder, Condition, EndWidth, Operation, SignExtension};
 use interval::{Range, end_range};
@@ -31,10 +31,10 @@ fn loaded_range(kind: LoadKind) -> Range
 
 /// The state after a store of so many bytes.
 fn store(state: &mut AbsState, address: Kind, offset: i16, size: u8)
-    ensures { state.new ≡ with_store state.old address offset size }
+    ensures { state.new ≡ with_known_store state.old address offset size }
 {
     match address {
-        Kind::Stack(lo, hi) if lo == hi => set_bytes(state, stack_reach(lo, hi, offset, size)),
+        Kind::Stack(lo, hi) if lo == hi => set_bytes(state, stack_span(lo, hi, offset, size)),
         _ => {}
     }
 }
@@ -158,7 +158,7 @@ fn with_result(state: &AbsState, dst: Register, kind: Kind) -> AbsState
 }
 
 fn after_store(state: &AbsState, dst: Register, offset: i16, size: u8) -> AbsState
-    ensures { result ≡ with_store state.now (kind_of state.now dst) offset size }
+    ensures { result ≡ with_known_store state.now (kind_of state.now dst) offset size }
 {
     let mut after = *state;
     store(&mut after, state.kind(dst), offset, size);
@@ -178,13 +178,13 @@ fn after_call<A: Allocator>(schema: &Schema<A>, number: i32, state: &AbsState) -
 
 /// What is known at the next instruction after one that has no cause to be refused; none where that edge is never
 /// taken.
-#[tactic(auto, unfolding(crate::specs::Result::sent_on))]
-pub fn sent_on<A: Allocator>(
+#[tactic(auto, unfolding(crate::specs::Result::next_state))]
+pub fn next_state<A: Allocator>(
     schema: &Schema<A>,
     instruction: Instruction,
     state: &AbsState,
 ) -> Option<AbsState>
-    ensures { result ≡ sent_on schema.now instruction state.now }
+    ensures { result ≡ next_state schema.now instruction state.now }
 {
     match instruction {
         Instruction::LoadWide { dst, value } => {
@@ -247,9 +247,9 @@ pub fn sent_on<A: Allocator>(
 }
 
 /// What is known at the target of a jump; none where the jump is never taken, and where there is none.
-#[tactic(auto, unfolding(crate::specs::Result::sent_by_jump))]
-pub fn sent_by_jump(instruction: Instruction, state: &AbsState) -> Option<AbsState>
-    ensures { result ≡ sent_by_jump instruction state.now }
+#[tactic(auto, unfolding(crate::specs::Result::jump_state))]
+pub fn jump_state(instruction: Instruction, state: &AbsState) -> Option<AbsState>
+    ensures { result ≡ jump_state instruction state.now }
 {
     match instruction {
         Instruction::Jump { .. } | Instruction::LongJump { .. } => Some(*state),

@@ -1,5 +1,5 @@
 -- Kinds of values: tests, and what operations give.
-use Rattle.std.specs.Prelude.{ℕ, ◌^◌, ℤ, pos, ◌+ℤ◌, ◌-ℤ◌, nat_le, nat_lt, Bool, true, false, not, ◌&&◌, ◌||◌, if◌then◌else◌, Option, Some, None, unsigned_abs}
+use Rattle.std.specs.Prelude.{ℕ, ◌^◌, ℤ, ◌+ℤ◌, ◌-ℤ◌, nat_le, nat_lt, Bool, true, false, ◌&&◌, if◌then◌else◌, Option, Some, None, unsigned_abs}
 use Rattle.std.specs.FinMap.{get}
 use Rattle.std.specs.Int.{w64, cast_signed, cast_unsigned}
 use Rattle.bpf_words.specs.declared.operation.BinaryOperation.{BinaryOperation}
@@ -52,13 +52,13 @@ abbrev pub near_places : ℤ → ℤ → Option (ℤ × ℤ)
 near_places lo hi = if is_near lo && is_near hi then Some (lo, hi) else None
 
 -- where a pointer from lo to hi is after a 64-bit ADD or SUB of a number from least to greatest; None where that may be
--- too far away
+-- too far away. Nothing else moves one
 abbrev pub moved_by : BinaryOperation → ℤ → ℤ → ℤ → ℤ → Option (ℤ × ℤ)
 moved_by Add lo hi least greatest = near_places (lo +ℤ least) (hi +ℤ greatest)
 moved_by Sub lo hi least greatest = near_places (lo -ℤ greatest) (hi -ℤ least)
 moved_by _ lo hi least greatest = None
 
--- the number is read as signed; None too where it may have either sign's bit
+-- the number is read as signed; None too where it may have either sign
 abbrev pub moved_places : BinaryOperation → ℤ → ℤ → Bounds → Option (ℤ × ℤ)
 moved_places op lo hi b =
     if has_both_signs b then None else moved_by op lo hi (cast_signed w64 b.lo) (cast_signed w64 b.hi)
@@ -73,7 +73,7 @@ abbrev pub args_of : Option (ℤ × ℤ) → Kind
 args_of None = Nothing
 args_of (Some places) = Args places.0 places.1
 
--- of MOV: at 64 bits a copy
+-- of MOV: at 64 bits a copy. It has the second operand alone
 abbrev pub move_kind : Width → Kind → Kind
 move_kind width (Number b) = Number (alu_range (width_bits width) (Binary Mov) b b)
 move_kind Bits64 b = b
@@ -89,7 +89,7 @@ binary_kind _ _ _ _ = Nothing
 abbrev pub operation_kind : Width → BinaryOperation → Kind → Kind → Kind
 operation_kind width op a b = if is_move_operation op then move_kind width b else binary_kind width op a b
 
--- of an operation on one number
+-- of NEG, which has the first operand alone, and of MOVSX, which has the second
 abbrev pub number_kind : Width → Operation → Kind → Kind
 number_kind width op (Number a) = Number (alu_range (width_bits width) op a a)
 number_kind _ _ _ = Nothing

@@ -2,13 +2,13 @@
 ghost use Rattle.std.specs.Prelude.{◌≡◌, ◌+◌, ◌≤◌, ◌^◌, length, unsigned_abs, IfSome};
 ghost use Rattle.std.specs.Int.{int_gap};
 ghost use Rattle.bpf_semantics.specs.Memory.{index_in, stack_index};
-ghost use Rattle.abs_value.specs.Access.{args_reach, are_initialised, buffer_bytes, bytes_from, reach, stack_reach};
+ghost use Rattle.abs_value.specs.Access.{args_span, are_initialised, buffer_span, span_from, span_length, stack_span};
 
 use abs_state::{AbsState, Kind};
 
 /// So many bytes of a memory from an index on.
 #[derive(Clone, Copy, Debug, PartialEq, Eq)]
-pub struct Bytes {
+pub struct ByteSpan {
     pub index: usize,
     pub count: usize,
 }
@@ -33,37 +33,37 @@ fn stack_index(place: i64, count: usize) -> Option<usize>
     index_in(place + 512, count, 512)
 }
 
-fn bytes_from(count: usize, index: Option<usize>) -> Option<Bytes>
-    ensures { result ≡ bytes_from count index }
+fn span_from(count: usize, index: Option<usize>) -> Option<ByteSpan>
+    ensures { result ≡ span_from count index }
 {
     match index {
-        Some(index) => Some(Bytes { index, count }),
+        Some(index) => Some(ByteSpan { index, count }),
         None => None,
     }
 }
 
 /// How many bytes accesses of this size through a pointer from lo to hi touch.
-fn reach(lo: i32, hi: i32, size: u8) -> usize
-    ensures exact { result ≡ reach lo hi size }
+fn span_length(lo: i32, hi: i32, size: u8) -> usize
+    ensures exact { result ≡ span_length lo hi size }
 {
     usize::try_from(i64::from(hi) - i64::from(lo)).unwrap_or(0) + usize::from(size)
 }
 
 /// Those of the stack, where all are inside.
-pub fn stack_reach(lo: i32, hi: i32, offset: i16, size: u8) -> Option<Bytes>
-    ensures exact { result ≡ stack_reach lo hi offset size }
+pub fn stack_span(lo: i32, hi: i32, offset: i16, size: u8) -> Option<ByteSpan>
+    ensures exact { result ≡ stack_span lo hi offset size }
     ensures inside { IfSome result (λ bytes. bytes.index + bytes.count ≤ 512) }
 {
-    let count = reach(lo, hi, size);
-    bytes_from(count, stack_index(i64::from(lo) + i64::from(offset), count))
+    let count = span_length(lo, hi, size);
+    span_from(count, stack_index(i64::from(lo) + i64::from(offset), count))
 }
 
 /// Those of arguments of this length, where all are inside.
-pub fn args_reach(args_len: u16, lo: i32, hi: i32, offset: i16, size: u8) -> Option<Bytes>
-    ensures { result ≡ args_reach args_len lo hi offset size }
+pub fn args_span(args_len: u16, lo: i32, hi: i32, offset: i16, size: u8) -> Option<ByteSpan>
+    ensures { result ≡ args_span args_len lo hi offset size }
 {
-    let count = reach(lo, hi, size);
-    bytes_from(
+    let count = span_length(lo, hi, size);
+    span_from(
         count,
         index_in(
             i64::from(lo) + i64::from(offset),
@@ -74,18 +74,18 @@ pub fn args_reach(args_len: u16, lo: i32, hi: i32, offset: i16, size: u8) -> Opt
 }
 
 /// A helper's buffer, where it is at one place of the stack, and whole inside.
-pub fn buffer_bytes(kind: Kind, count: usize) -> Option<Bytes>
-    ensures exact { result ≡ buffer_bytes kind count }
+pub fn buffer_span(kind: Kind, count: usize) -> Option<ByteSpan>
+    ensures exact { result ≡ buffer_span kind count }
     ensures inside { IfSome result (λ bytes. bytes.index + bytes.count ≤ 512) }
 {
     match kind {
-        Kind::Stack(lo, hi) if lo == hi => bytes_from(count, stack_index(i64::from(lo), count)),
+        Kind::Stack(lo, hi) if lo == hi => span_from(count, stack_index(i64::from(lo), count)),
         _ => None,
     }
 }
 
 /// Whether these bytes of the stack are initialised.
-pub fn are_initialised(state: &AbsState, bytes: Bytes) -> bool
+pub fn are_initialised(state: &AbsState, bytes: ByteSpan) -> bool
     requires { bytes.index + bytes.count ≤ 512 }
     ensures { result ≡ are_initialised state.now bytes }
 {

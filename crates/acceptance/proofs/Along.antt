@@ -16,8 +16,8 @@ use Rattle.abs_state.specs.declared.kind.Kind.TheVariants.{Nothing, Number, Stac
 use Rattle.abs_state.specs.declared.state.AbsState.{AbsState}
 use Rattle.abs_state.specs.State.{with_kind}
 use Rattle.abs_value.specs.Kind.{is_nothing, is_pointer}
-use Rattle.abs_step.specs.Result.{sent_on}
-use Rattle.acceptance.specs.Description.{Describes, IsOf, IsAbsState, IsKind, Along, IsAlongAnEdge}
+use Rattle.abs_step.specs.Result.{next_state}
+use Rattle.acceptance.specs.Description.{Describes, IsOf, IsAbsState, IsKind, Along, IsStepAlongEdge}
 use Rattle.acceptance.proofs.Put.{put_described}
 
 -- an edge of so many slots, with what is sent along it
@@ -28,18 +28,18 @@ is_along args_len n slots sent known s t e f at d = rw (e, f) (at, d)
 -- ---- a result
 
 free_along : (tables : Tables) (args_len : ℕ) (i : Instruction) (known : AbsState) (s t : State) (held : Bool) → held ≡ false
-    → Along args_len (fall_through i) (sent_on tables i known) s t → IsAlongAnEdge tables args_len i known s (cond held Stuck (Going t))
+    → Along args_len (fall_through i) (next_state tables i known) s t → IsStepAlongEdge tables args_len i known s (cond held Stuck (Going t))
 free_along tables args_len i known s t true e a = absurd cc
 free_along tables args_len i known s t false e a = inl a
 
 -- it goes on with a value of a kind, in a register that isn't r10
 pub put_along : (tables : Tables) (args_len n : ℕ) (i : Instruction) (known : AbsState) (s : State) (dst : Register) (k : Kind) (v : Value)
-    → fall_through i ≡ just n → sent_on tables i known ≡ just (with_kind known dst k) → is_read_only dst ≡ false
+    → fall_through i ≡ just n → next_state tables i known ≡ just (with_kind known dst k) → is_read_only dst ≡ false
     → IsAbsState known → IsState tables s → Describes args_len known s → IsOf k v
-    → IsAlongAnEdge tables args_len i known s (with_result n dst v s)
+    → IsStepAlongEdge tables args_len i known s (with_result n dst v s)
 put_along tables args_len n i known s dst k v e f free a st d new =
     free_along tables args_len i known s (past n (with_register s dst v)) (is_read_only dst) free
-    (is_along args_len n (fall_through i) (sent_on tables i known) (with_kind known dst k) s (past n (with_register s dst v)) e f refl
+    (is_along args_len n (fall_through i) (next_state tables i known) (with_kind known dst k) s (past n (with_register s dst v)) e f refl
     (put_described args_len n known s dst k v a.registers st.registers d new))
 
 -- ---- a number that is read

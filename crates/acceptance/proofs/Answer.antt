@@ -14,7 +14,7 @@ use Rattle.interval.specs.Range.{Bounds, IsWithin}
 use Rattle.abs_state.specs.declared.kind.Kind.{Kind}
 use Rattle.abs_state.specs.declared.kind.Kind.TheVariants.{Nothing, Number}
 use Rattle.abs_state.specs.declared.state.AbsState.{AbsState}
-use Rattle.abs_state.specs.State.{with_answer as known_answer}
+use Rattle.abs_state.specs.State.{with_known_answer}
 use Rattle.acceptance.specs.Description.{Describes, IsOf}
 
 -- ---- the answer
@@ -73,7 +73,7 @@ answered_by kinds values b n r within are six =
     subst (λ (l : List Kind). IsOf (get_or (kinds_after b l) (number_of r) Nothing) (get_or (values_after n values) (number_of r) value.Nothing)) (sym six.is)
     (answered six.k0 six.k1 six.k2 six.k3 six.k4 six.k5 six.rest values b n r within all)
 
-pub answer_described : (args_len : ℕ) (known : AbsState) (s : State) (b : Bounds) (n : ℕ) → length known.kinds ≡ 11 → IsWithin b n → Describes args_len known s → Describes args_len (known_answer b known) (with_answer n s)
+pub answer_described : (args_len : ℕ) (known : AbsState) (s : State) (b : Bounds) (n : ℕ) → length known.kinds ≡ 11 → IsWithin b n → Describes args_len known s → Describes args_len (with_known_answer b known) (with_answer n s)
 answer_described args_len known s b n long within d =
     let six = six_of known.kinds (omega arith) in
     record {

@@ -24,11 +24,11 @@ use Rattle.abs_state.specs.declared.kind.Kind.{Kind}
 use Rattle.abs_state.specs.declared.kind.Kind.TheVariants.{Nothing, Number, Stack, Args}
 use Rattle.abs_state.specs.declared.state.AbsState.{AbsState}
 use Rattle.abs_state.specs.State.{kind_of}
-use Rattle.abs_value.specs.declared.access.Bytes.{Bytes}
+use Rattle.abs_value.specs.declared.access.ByteSpan.{ByteSpan}
 use Rattle.abs_value.specs.Kind.{is_nothing, is_number, table_width}
-use Rattle.abs_value.specs.Access.{bytes_from, buffer_bytes, are_initialised}
-use Rattle.abs_cause.specs.Cause.{call_arguments, reads_nothing, is_unknown_table, is_no_number, is_no_buffer, row_is_uninitialised, reads_uninitialised, some_uninitialised}
-use Rattle.abs_step.specs.Result.{with_bytes, with_buffer}
+use Rattle.abs_value.specs.Access.{span_from, buffer_span, are_initialised}
+use Rattle.abs_cause.specs.Cause.{call_arguments, holds_nothing, is_unknown_table, is_no_number, is_no_buffer, row_is_uninitialised, reads_uninitialised, some_uninitialised}
+use Rattle.abs_step.specs.Result.{with_span, with_buffer}
 use Rattle.acceptance.specs.Description.{IsOf}
 use Rattle.acceptance.proofs.Bytes.{access_known, index_is}
 use Rattle.acceptance.proofs.Causes.{NoCause}
@@ -47,7 +47,7 @@ pub record CallFits (tables : Tables) (h : Helper) (known : AbsState) : Type 0 w
   pub initialised : list_any (λ a. row_is_uninitialised known (table_width tables (kind_of known R1)) a.0 (kind_of known a.1)) (call_arguments (just h)) ≡ false
 
 pub call_fits : (tables : Tables) (args_len : ℕ) (n : ℤ) (h : Helper) (known : AbsState) → helper_of n ≡ just h → NoCause tables args_len (Call n) known → CallFits tables h known
-unfolding reads_nothing reads_uninitialised
+unfolding holds_nothing reads_uninitialised
 call_fits tables args_len n h known e causes = record {
   reads = ap (λ (o : Option Helper). list_any (λ r. is_nothing (kind_of known r)) (map (λ a. a.1) (call_arguments o))) (sym e) ∙ causes.reads;
   table = ap (λ (o : Option Helper). list_any (λ a. is_unknown_table tables a.0 (kind_of known a.1)) (call_arguments o)) (sym e) ∙ causes.table;
@@ -111,28 +111,28 @@ table_known tables (Number r) (value.Args p) is known = absurd is
 pub record IsBufferOf (k : Kind) (v : Value) (count : ℕ) : Type 0 where
   pub at : ℕ
   pub is : buffer_of v count ≡ just at
-  pub bytes : buffer_bytes k count ≡ just (record { index = at; count = count })
+  pub bytes : buffer_span k count ≡ just (record { index = at; count = count })
   pub fits : at + count ≤ 512
 
-one_place : (b : Bool) (o : Option Bytes) → is_none (cond b o None) ≡ false → b ≡ true
+one_place : (b : Bool) (o : Option ByteSpan) → is_none (cond b o None) ≡ false → b ≡ true
 one_place true o e = refl
 one_place false o e = absurd cc
 
-stack_buffer : (lo hi p : ℤ) (count : ℕ) → lo ≤ℤ p → p ≤ℤ hi → is_none (buffer_bytes (Stack lo hi) count) ≡ false → IsBufferOf (Stack lo hi) (value.Stack p) count
+stack_buffer : (lo hi p : ℤ) (count : ℕ) → lo ≤ℤ p → p ≤ℤ hi → is_none (buffer_span (Stack lo hi) count) ≡ false → IsBufferOf (Stack lo hi) (value.Stack p) count
 stack_buffer lo hi p count low high room =
-    let one = one_place (int_eq lo hi) (bytes_from count (stack_index lo count)) room in
+    let one = one_place (int_eq lo hi) (span_from count (stack_index lo count)) room in
     let same : lo ≡ hi = (Decides-int_eq lo hi).0 one in
     let here : p ≡ lo = omega (arith, ints) in
-    let chosen : buffer_bytes (Stack lo hi) count ≡ bytes_from count (stack_index lo count) = ap (λ (b : Bool). cond b (bytes_from count (stack_index lo count)) None) one in
-    let k = reached (stack_index lo count) count (ap (λ (o : Option Bytes). is_none o) (sym chosen) ∙ room) in
+    let chosen : buffer_span (Stack lo hi) count ≡ span_from count (stack_index lo count) = ap (λ (b : Bool). cond b (span_from count (stack_index lo count)) None) one in
+    let k = reached (stack_index lo count) count (ap (λ (o : Option ByteSpan). is_none o) (sym chosen) ∙ room) in
     record {
       at = k.0;
       is = ap (λ (q : ℤ). stack_index q count) here ∙ k.1;
-      bytes = chosen ∙ ap (bytes_from count) k.1;
+      bytes = chosen ∙ ap (span_from count) k.1;
       fits = (index_is _ count 512 k.0 k.1).1;
     }
 
-pub buffer_known : (k : Kind) (v : Value) (count : ℕ) → IsOf k v → is_none (buffer_bytes k count) ≡ false → IsBufferOf k v count
+pub buffer_known : (k : Kind) (v : Value) (count : ℕ) → IsOf k v → is_none (buffer_span k count) ≡ false → IsBufferOf k v count
 buffer_known Nothing v count is room = absurd cc
 buffer_known (Number r) v count is room = absurd cc
 buffer_known (Args lo hi) v count is room = absurd cc
@@ -147,10 +147,10 @@ pub buffer_after : (known : AbsState) (stack : List (Option ℕ)) (k : Kind) (v 
 buffer_after known stack k v width count bytes d is counted b =
     let one = placed known stack b.at count bytes counted b.fits d.long d.whole d.bytes in
     subst (λ (w : Option ℕ). IsAfter known (with_buffer known k w) (stack_with stack b.at bytes)) (sym is)
-    (subst (λ (o : Option Bytes). IsAfter known (with_bytes o known) (stack_with stack b.at bytes)) (sym b.bytes) one)
+    (subst (λ (o : Option ByteSpan). IsAfter known (with_span o known) (stack_with stack b.at bytes)) (sym b.bytes) one)
 
 -- a buffer whose bytes are initialised is read
-pub buffer_read : (known : AbsState) (stack : List (Option ℕ)) (k : Kind) (v : Value) (count : ℕ) → IsDescribed known stack → (b : IsBufferOf k v count) → some_uninitialised known (buffer_bytes k count) ≡ false
+pub buffer_read : (known : AbsState) (stack : List (Option ℕ)) (k : Kind) (v : Value) (count : ℕ) → IsDescribed known stack → (b : IsBufferOf k v count) → some_uninitialised known (buffer_span k count) ≡ false
     → (bytes : List ℕ) × (known_bytes stack b.at count ≡ just bytes)
 buffer_read known stack k v count d b initialised =
     let all : not (are_initialised known (record { index = b.at; count = count })) ≡ false = ap (some_uninitialised known) (sym b.bytes) ∙ initialised in

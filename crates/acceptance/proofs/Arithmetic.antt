@@ -28,9 +28,9 @@ use Rattle.abs_state.specs.declared.kind.Kind.TheVariants.{Nothing, Number, Stac
 use Rattle.abs_state.specs.declared.state.AbsState.{AbsState}
 use Rattle.abs_state.specs.State.{kind_of}
 use Rattle.abs_value.specs.Kind.{is_nothing, operand_kind, moved_places, stack_of, args_of, move_kind, binary_kind, operation_kind}
-use Rattle.abs_cause.specs.Cause.{source_registers, move_uses_pointer, binary_uses_pointer, operands_use_pointer, reads_nothing, uses_pointer}
-use Rattle.abs_step.specs.Result.{sent_on}
-use Rattle.acceptance.specs.Description.{IsOf, IsKind, IsAlongAnEdge, IsSound, StepsAlong}
+use Rattle.abs_cause.specs.Cause.{source_registers, move_uses_pointer, binary_uses_pointer, operands_use_pointer, holds_nothing, uses_pointer}
+use Rattle.abs_step.specs.Result.{next_state}
+use Rattle.acceptance.specs.Description.{IsOf, IsKind, IsStepAlongEdge, IsOfProgram, StepsAlong}
 use Rattle.acceptance.proofs.Causes.{no_cause, neither}
 use Rattle.acceptance.proofs.Along.{put_along}
 use Rattle.acceptance.proofs.Moves.{place_by, moved_between}
@@ -155,8 +155,8 @@ operands_something false known dst src e =
     (λ t. each.0, source_something known src each.1)
 
 pub arithmetic_along : (tables : Tables) (args_len : ℕ) (width : Width) (op : BinaryOperation) (dst : Register) (src : Source)
-    → IsSound (Arithmetic width op dst src) → StepsAlong tables args_len (Arithmetic width op dst src)
-unfolding execute sent_on reads_nothing uses_pointer
+    → IsOfProgram (Arithmetic width op dst src) → StepsAlong tables args_len (Arithmetic width op dst src)
+unfolding execute next_state holds_nothing uses_pointer
 arithmetic_along tables args_len width op dst src sound known s ts a st d e =
     let i : Instruction = Arithmetic width op dst src in
     let none = no_cause tables args_len i known e in
@@ -164,5 +164,5 @@ arithmetic_along tables args_len width op dst src sound known s ts a st d e =
     let result = operation_kind width op (kind_of known dst) (operand_kind known src) in
     let gives = operation_of width op (kind_of known dst) (operand_kind known src) (register s dst) (operand s src)
     (a.kinds dst) (operand_known known src (operand_fits width op dst src sound.0) a) something.0 something.1 none.pointers (d.registers dst) (operand_described args_len known s src d) in
-    gives_along (IsAlongAnEdge tables args_len i known s) (operation_result width op (register s dst) (operand s src)) result _ gives
+    gives_along (IsStepAlongEdge tables args_len i known s) (operation_result width op (register s dst) (operand s src)) result _ gives
     (λ v of. put_along tables args_len 1 i known s dst result v refl refl none.writes a st d of)

@@ -28,9 +28,9 @@ use Rattle.abs_state.specs.declared.kind.Kind.TheVariants.{Number}
 use Rattle.abs_state.specs.declared.state.AbsState.{AbsState}
 use Rattle.abs_state.specs.State.{kind_of, with_kind}
 use Rattle.abs_value.specs.Kind.{is_nothing, is_pointer, operand_kind}
-use Rattle.abs_cause.specs.Cause.{reads_nothing, uses_pointer}
-use Rattle.abs_step.specs.Result.{compared_kind, is_same_register, with_source, with_sides, refined_state, edge_state, sent_on, sent_by_jump}
-use Rattle.acceptance.specs.Description.{Describes, IsOf, IsAlongAnEdge, IsSound, StepsAlong}
+use Rattle.abs_cause.specs.Cause.{holds_nothing, uses_pointer}
+use Rattle.abs_step.specs.Result.{compared_kind, is_same_register, with_source, with_sides, refined_state, edge_state, next_state, jump_state}
+use Rattle.acceptance.specs.Description.{Describes, IsOf, IsStepAlongEdge, IsOfProgram, StepsAlong}
 use Rattle.acceptance.proofs.Causes.{no_cause, neither}
 use Rattle.acceptance.proofs.Put.{past_described, refined_described}
 use Rattle.acceptance.proofs.Along.{is_along, with_number}
@@ -124,27 +124,27 @@ edge_sent args_len width condition taken known s dst src a b r long d kind is wi
 
 branches : (tables : Tables) (args_len : ℕ) (width : Width) (condition : Condition) (dst : Register) (src : Source) (n : ℕ) (known : AbsState) (s : State) (taken : Bool)
     → Describes args_len known s → IsSent args_len (edge_state width condition taken dst src known) s
-    → IsAlongAnEdge tables args_len (Branch width condition dst src (pos n)) known s (cond taken (after_jump (pos n) s) (Going (past 1 s)))
-unfolding sent_on sent_by_jump
+    → IsStepAlongEdge tables args_len (Branch width condition dst src (pos n)) known s (cond taken (after_jump (pos n) s) (Going (past 1 s)))
+unfolding next_state jump_state
 branches tables args_len width condition dst src n known s true d t =
     inr (is_along args_len (1 + n) (just (1 + n)) (edge_state width condition true dst src known) t.known s (past (1 + n) s) refl t.is refl (past_described args_len (1 + n) t.known s t.described))
 branches tables args_len width condition dst src n known s false d t =
     inl (is_along args_len 1 (just 1) (edge_state width condition false dst src known) t.known s (past 1 s) refl t.is refl (past_described args_len 1 t.known s t.described))
 
 forward : (tables : Tables) (args_len : ℕ) (width : Width) (condition : Condition) (dst : Register) (src : Source) (n : ℕ) → StepsAlong tables args_len (Branch width condition dst src (pos n))
-unfolding execute reads_nothing uses_pointer
+unfolding execute holds_nothing uses_pointer
 forward tables args_len width condition dst src n known s ts a st d e =
     let i : Instruction = Branch width condition dst src (pos n) in
     let none = no_cause tables args_len i known e in
     let something = neither (is_nothing (kind_of known dst)) _ none.reads in
     let plain = neither (is_pointer (kind_of known dst)) (is_pointer (operand_kind known src)) none.pointers in
-    with_number (IsAlongAnEdge tables args_len i known s) (kind_of known dst) (register s dst) _ something.0 plain.0 (d.registers dst) (λ r x kind is within.
-    with_number (IsAlongAnEdge tables args_len i known s) (operand_kind known src) (operand s src) _ (source_something known src something.1) plain.1 (operand_described args_len known s src d) (λ q y other at inside.
+    with_number (IsStepAlongEdge tables args_len i known s) (kind_of known dst) (register s dst) _ something.0 plain.0 (d.registers dst) (λ r x kind is within.
+    with_number (IsStepAlongEdge tables args_len i known s) (operand_kind known src) (operand s src) _ (source_something known src something.1) plain.1 (operand_described args_len known s src d) (λ q y other at inside.
     let c = compared_is width condition known s src x y q other at inside in
     branches tables args_len width condition dst src n known s (holds (width_bits width) condition x y) d
     (edge_sent args_len width condition (holds (width_bits width) condition x y) known s dst src x y r a.registers d kind is within c refl)))
 
 pub branch_along : (tables : Tables) (args_len : ℕ) (width : Width) (condition : Condition) (dst : Register) (src : Source) (distance : ℤ)
-    → IsSound (Branch width condition dst src distance) → StepsAlong tables args_len (Branch width condition dst src distance)
+    → IsOfProgram (Branch width condition dst src distance) → StepsAlong tables args_len (Branch width condition dst src distance)
 branch_along tables args_len width condition dst src (pos n) sound = forward tables args_len width condition dst src n
 branch_along tables args_len width condition dst src (negsuc n) sound = absurd (search (arith, ints, sound.1))

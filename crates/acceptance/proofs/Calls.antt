@@ -28,8 +28,8 @@ use Rattle.abs_state.specs.declared.state.AbsState.{AbsState}
 use Rattle.abs_state.specs.State.{kind_of}
 use Rattle.abs_value.specs.Kind.{table_width}
 use Rattle.abs_cause.specs.Cause.{call_arguments, lacks_room, row_is_uninitialised}
-use Rattle.abs_step.specs.Result.{sent_on, after_call, with_buffer}
-use Rattle.acceptance.specs.Description.{Describes, IsAbsState, IsAlongAnEdge, StepsAlong}
+use Rattle.abs_step.specs.Result.{next_state, after_call, with_buffer}
+use Rattle.acceptance.specs.Description.{Describes, IsAbsState, IsStepAlongEdge, StepsAlong}
 use Rattle.acceptance.proofs.Causes.{no_cause, neither}
 use Rattle.acceptance.proofs.Put.{past_described}
 use Rattle.acceptance.proofs.Falling.{taken, goes, falls_along}
@@ -212,7 +212,7 @@ helper_there None e = absurd cc
 helper_there (Some h) e = (h, refl)
 
 pub call_along : (tables : Tables) (args_len : ℕ) (n : ℤ) → StepsAlong tables args_len (Call n)
-unfolding execute sent_on
+unfolding execute next_state
 call_along tables args_len n known s schema abs state d none =
     let causes = no_cause tables args_len (Call n) known none in
     let h = helper_there (helper_of n) causes.helper in
@@ -220,4 +220,4 @@ call_along tables args_len n known s schema abs state d none =
     let described = subst (λ (o : Option Helper). Describes args_len (after_call tables o known) c.state) (sym h.1) c.described in
     let on = falls_along tables args_len 1 (Call n) known (after_call tables (helper_of n) known) s c.state refl refl (called_place tables h.0 s c.state c.is).slot (past_described args_len 1 (after_call tables (helper_of n) known) c.state described) in
     let steps = goes (helper_of n >>= λ q. state_after_call tables q s) (λ (t : State). Going (past 1 t)) c.state (taken (helper_of n) (λ (q : Helper). state_after_call tables q s) h.0 h.1 ∙ c.is) in
-    subst (IsAlongAnEdge tables args_len (Call n) known s) (sym steps) on
+    subst (IsStepAlongEdge tables args_len (Call n) known s) (sym steps) on

@@ -7,7 +7,7 @@ use Rattle.abs_state.specs.declared.state.AbsState.{AbsState}
 use Rattle.abs_state.specs.State.{kind_of}
 use Rattle.abs_value.specs.Kind.{table_width}
 use Rattle.abs_cause.specs.declared.cause.Cause.{Cause}
-use Rattle.abs_cause.specs.Cause.{reads_nothing, writes_frame_pointer, uses_pointer, is_outside, stores_to_arguments, is_unknown_helper, has_argument, is_unknown_table, is_no_number, is_no_buffer, reads_uninitialised, replies_pointer, causes, cause_of}
+use Rattle.abs_cause.specs.Cause.{holds_nothing, writes_frame_pointer, uses_pointer, is_outside, stores_to_arguments, is_unknown_helper, has_argument, is_unknown_table, is_no_number, is_no_buffer, reads_uninitialised, replies_pointer, causes, cause_of}
 
 abbrev AreFalse : List (Cause × Bool) → Type 0
 AreFalse [] = Unit {0}
@@ -24,7 +24,7 @@ all_false (c ∷ rest) e = let h = first_false c.0 c.1 rest e in (h.0, all_false
 
 -- each test that is a cause's is false
 pub record NoCause (tables : Tables) (args_len : ℕ) (i : Instruction) (known : AbsState) : Type 0 where
-  pub reads : reads_nothing i known ≡ false
+  pub reads : holds_nothing i known ≡ false
   pub writes : writes_frame_pointer i ≡ false
   pub pointers : uses_pointer i known ≡ false
   pub inside : is_outside args_len i known ≡ false

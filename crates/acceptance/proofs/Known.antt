@@ -40,12 +40,12 @@ use Rattle.range_refine.proofs.Inside.{all_ranges}
 use Rattle.abs_state.specs.declared.kind.Kind.{Kind}
 use Rattle.abs_state.specs.declared.kind.Kind.TheVariants.{Nothing, Number, Stack, Args}
 use Rattle.abs_state.specs.declared.state.AbsState.{AbsState}
-use Rattle.abs_state.specs.State.{kind_of, with_kind, with_answer}
-use Rattle.abs_value.specs.declared.access.Bytes.{Bytes}
-use Rattle.abs_value.specs.Access.{bytes_from, reach, stack_reach, buffer_bytes}
+use Rattle.abs_state.specs.State.{kind_of, with_kind, with_known_answer}
+use Rattle.abs_value.specs.declared.access.ByteSpan.{ByteSpan}
+use Rattle.abs_value.specs.Access.{span_from, span_length, stack_span, buffer_span}
 use Rattle.abs_value.specs.Kind.{operand_kind, moved_places, stack_of, args_of, move_kind, binary_kind, operation_kind, number_kind, table_width}
-use Rattle.abs_step.specs.Result.{loaded_range, with_bytes, with_store, answer_range, with_buffer, with_buffers, after_call, compared_kind, is_same_register, with_source, with_sides, refined_state, edge_state, end_kind, sent_on, sent_by_jump}
-use Rattle.acceptance.specs.Description.{IsKind, IsAbsState, IsSound, SendsKnown}
+use Rattle.abs_step.specs.Result.{loaded_range, with_span, with_known_store, answer_range, with_buffer, with_buffers, after_call, compared_kind, is_same_register, with_source, with_sides, refined_state, edge_state, end_kind, next_state, jump_state}
+use Rattle.acceptance.specs.Description.{IsKind, IsAbsState, IsOfProgram, SendsKnown}
 use Rattle.acceptance.proofs.Operands.{IsOperand, single_range, operand_known, operand_fits, branch_operand_fits}
 use Rattle.acceptance.proofs.Put.{put_known}
 use Rattle.acceptance.proofs.Bytes.{index_is}
@@ -150,27 +150,27 @@ loaded_known I32 = record { ordered = omega arith; word = omega arith }
 -- ---- bytes
 
 -- bytes that lie inside the stack
-abbrev AreInside : Option Bytes → Type 0
+abbrev AreInside : Option ByteSpan → Type 0
 AreInside o = IfSome o (λ bytes. bytes.index + bytes.count ≤ 512)
 
-inside_from : (count : ℕ) (place : ℤ) (o : Option ℕ) → stack_index place count ≡ o → AreInside (bytes_from count o)
+inside_from : (count : ℕ) (place : ℤ) (o : Option ℕ) → stack_index place count ≡ o → AreInside (span_from count o)
 inside_from count place None e = tt
 inside_from count place (Some k) e = (index_is (place +ℤ pos 512) count 512 k e).1
 
-reach_inside : (lo hi offset : ℤ) (size : ℕ) → AreInside (stack_reach lo hi offset size)
-reach_inside lo hi offset size = inside_from (reach lo hi size) (lo +ℤ offset) (stack_index (lo +ℤ offset) (reach lo hi size)) refl
+reach_inside : (lo hi offset : ℤ) (size : ℕ) → AreInside (stack_span lo hi offset size)
+reach_inside lo hi offset size = inside_from (span_length lo hi size) (lo +ℤ offset) (stack_index (lo +ℤ offset) (span_length lo hi size)) refl
 
-either_inside : (t : Bool) (o : Option Bytes) → AreInside o → AreInside (if t then o else None)
+either_inside : (t : Bool) (o : Option ByteSpan) → AreInside o → AreInside (if t then o else None)
 either_inside true o h = h
 either_inside false o h = tt
 
-buffer_inside : (k : Kind) (count : ℕ) → AreInside (buffer_bytes k count)
+buffer_inside : (k : Kind) (count : ℕ) → AreInside (buffer_span k count)
 buffer_inside Nothing count = tt
 buffer_inside (Number r) count = tt
-buffer_inside (Stack lo hi) count = either_inside (int_eq lo hi) (bytes_from count (stack_index lo count)) (inside_from count lo (stack_index lo count) refl)
+buffer_inside (Stack lo hi) count = either_inside (int_eq lo hi) (span_from count (stack_index lo count)) (inside_from count lo (stack_index lo count) refl)
 buffer_inside (Args lo hi) count = tt
 
-bytes_sent : (o : Option Bytes) (known : AbsState) → AreInside o → IsAbsState known → IsAbsState (with_bytes o known)
+bytes_sent : (o : Option ByteSpan) (known : AbsState) → AreInside o → IsAbsState known → IsAbsState (with_span o known)
 bytes_sent None known inside h = h
 bytes_sent (Some bytes) known inside h = record {
   registers = h.registers;
@@ -182,17 +182,17 @@ either_known : (t : Bool) (a b : AbsState) → IsAbsState a → IsAbsState b →
 either_known true a b p q = p
 either_known false a b p q = q
 
-store_known : (known : AbsState) (k : Kind) (offset : ℤ) (size : ℕ) → IsAbsState known → IsAbsState (with_store known k offset size)
+store_known : (known : AbsState) (k : Kind) (offset : ℤ) (size : ℕ) → IsAbsState known → IsAbsState (with_known_store known k offset size)
 store_known known Nothing offset size h = h
 store_known known (Number r) offset size h = h
-store_known known (Stack lo hi) offset size h = either_known (int_eq lo hi) (with_bytes (stack_reach lo hi offset size) known) known (bytes_sent (stack_reach lo hi offset size) known (reach_inside lo hi offset size) h) h
+store_known known (Stack lo hi) offset size h = either_known (int_eq lo hi) (with_span (stack_span lo hi offset size) known) known (bytes_sent (stack_span lo hi offset size) known (reach_inside lo hi offset size) h) h
 store_known known (Args lo hi) offset size h = h
 
 -- ---- calls
 
 buffer_known : (known : AbsState) (k : Kind) (count : Option ℕ) → IsAbsState known → IsAbsState (with_buffer known k count)
 buffer_known known k None h = h
-buffer_known known k (Some count) h = bytes_sent (buffer_bytes k count) known (buffer_inside k count) h
+buffer_known known k (Some count) h = bytes_sent (buffer_span k count) known (buffer_inside k count) h
 
 buffers_known : (tables : Tables) (helper : Helper) (known : AbsState) → IsAbsState known → IsAbsState (with_buffers tables helper known)
 buffers_known tables RowGet known h = buffer_known known (kind_of known R3) (table_width tables (kind_of known R1)) h
@@ -208,7 +208,7 @@ answer_known Flag = record { ordered = omega arith; word = omega arith }
 answer_known Zero = record { ordered = omega arith; word = omega arith }
 answer_known Count = record { ordered = omega arith; word = omega arith }
 
-with_answer_known : (answer : Bounds) (known : AbsState) → IsRange answer → IsAbsState known → IsAbsState (with_answer answer known)
+with_answer_known : (answer : Bounds) (known : AbsState) → IsRange answer → IsAbsState known → IsAbsState (with_known_answer answer known)
 with_answer_known answer known p h =
     let one = put_known known R1 Nothing h tt in
     let two = put_known _ R2 Nothing one tt in
@@ -260,8 +260,8 @@ edge_known width condition taken dst src known fits h =
 
 -- ---- each form
 
-pub all_send : (tables : Tables) (i : Instruction) (known : AbsState) → IsSound i → IsAbsState known → SendsKnown tables i known
-unfolding sent_on sent_by_jump
+pub all_send : (tables : Tables) (i : Instruction) (known : AbsState) → IsOfProgram i → IsAbsState known → SendsKnown tables i known
+unfolding next_state jump_state
 all_send tables (LoadWide dst value) known sound h = record { on = put_known known dst (Number (single value)) h (single_range value sound.0); by_jump = tt }
 all_send tables (Load kind dst src offset) known sound h = record { on = put_known known dst (Number (loaded_range kind)) h (loaded_known kind); by_jump = tt }
 all_send tables (StoreImmediate size dst offset immediate) known sound h = record { on = store_known known (kind_of known dst) offset (size_bytes size) h; by_jump = tt }

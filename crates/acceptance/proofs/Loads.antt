@@ -26,10 +26,10 @@ use Rattle.abs_state.specs.declared.kind.Kind.TheVariants.{Nothing, Number, Stac
 use Rattle.abs_state.specs.declared.state.AbsState.{AbsState}
 use Rattle.abs_state.specs.State.{kind_of}
 use Rattle.abs_value.specs.Kind.{is_nothing}
-use Rattle.abs_value.specs.Access.{bytes_from, reach, stack_reach, args_reach, are_initialised}
-use Rattle.abs_cause.specs.Cause.{reads_nothing, is_outside, reads_uninitialised, load_is_outside, some_uninitialised, bytes_loaded}
-use Rattle.abs_step.specs.Result.{loaded_range, sent_on}
-use Rattle.acceptance.specs.Description.{IsOf, IsAlongAnEdge, StepsAlong}
+use Rattle.abs_value.specs.Access.{span_from, span_length, stack_span, args_span, are_initialised}
+use Rattle.abs_cause.specs.Cause.{holds_nothing, is_outside, reads_uninitialised, load_is_outside, some_uninitialised, bytes_loaded}
+use Rattle.abs_step.specs.Result.{loaded_range, next_state}
+use Rattle.acceptance.specs.Description.{IsOf, IsStepAlongEdge, StepsAlong}
 use Rattle.acceptance.proofs.Bytes.{AreKnown, access_known, args_access, stack_access, index_is}
 use Rattle.acceptance.proofs.Causes.{no_cause, neither}
 use Rattle.acceptance.proofs.Falling.{taken, goes}
@@ -37,26 +37,26 @@ use Rattle.acceptance.proofs.Along.{put_along}
 
 -- ---- the bytes
 
-pub reached : (o : Option ℕ) (count : ℕ) → is_none (bytes_from count o) ≡ false → (k : ℕ) × (o ≡ just k)
+pub reached : (o : Option ℕ) (count : ℕ) → is_none (span_from count o) ≡ false → (k : ℕ) × (o ≡ just k)
 reached None count e = absurd cc
 reached (Some k) count e = (k, refl)
 
 stack_loaded : (known : AbsState) (s : State) (lo hi p offset : ℤ) (size : ℕ) → length known.initialised ≡ 512 → AreKnown known.initialised s.stack → lo ≤ℤ p → p ≤ℤ hi
-    → is_none (stack_reach lo hi offset size) ≡ false → some_uninitialised known (stack_reach lo hi offset size) ≡ false → (bytes : List ℕ) × (stack_bytes s.stack (p +ℤ offset) size ≡ just bytes)
+    → is_none (stack_span lo hi offset size) ≡ false → some_uninitialised known (stack_span lo hi offset size) ≡ false → (bytes : List ℕ) × (stack_bytes s.stack (p +ℤ offset) size ≡ just bytes)
 unfolding stack_bytes
 stack_loaded known s lo hi p offset size long are low high inside initialised =
-    let k = reached (stack_index (lo +ℤ offset) (reach lo hi size)) (reach lo hi size) inside in
+    let k = reached (stack_index (lo +ℤ offset) (span_length lo hi size)) (span_length lo hi size) inside in
     let a = stack_access lo hi p offset size k.0 low high k.1 in
-    let some : not (are_initialised known (record { index = k.0; count = reach lo hi size })) ≡ false = ap (λ (o : Option ℕ). some_uninitialised known (bytes_from (reach lo hi size) o)) (sym k.1) ∙ initialised in
-    let fits = (index_is (lo +ℤ offset +ℤ pos 512) (reach lo hi size) 512 k.0 k.1).1 in
-    let found = access_known known.initialised s.stack k.0 (reach lo hi size) size a.at are (not-false _ some) (omega arith) a.among in
+    let some : not (are_initialised known (record { index = k.0; count = span_length lo hi size })) ≡ false = ap (λ (o : Option ℕ). some_uninitialised known (span_from (span_length lo hi size) o)) (sym k.1) ∙ initialised in
+    let fits = (index_is (lo +ℤ offset +ℤ pos 512) (span_length lo hi size) 512 k.0 k.1).1 in
+    let found = access_known known.initialised s.stack k.0 (span_length lo hi size) size a.at are (not-false _ some) (omega arith) a.among in
     (found.0, taken (stack_index (p +ℤ offset) size) (λ (n : ℕ). known_bytes s.stack n size) a.at a.index ∙ found.1)
 
-args_loaded : (args_len : ℕ) (s : State) (lo hi p offset : ℤ) (size : ℕ) → length s.args ≡ args_len → lo ≤ℤ p → p ≤ℤ hi → is_none (args_reach args_len lo hi offset size) ≡ false
+args_loaded : (args_len : ℕ) (s : State) (lo hi p offset : ℤ) (size : ℕ) → length s.args ≡ args_len → lo ≤ℤ p → p ≤ℤ hi → is_none (args_span args_len lo hi offset size) ≡ false
     → (bytes : List ℕ) × (args_bytes s.args (p +ℤ offset) size ≡ just bytes)
 unfolding args_bytes
 args_loaded args_len s lo hi p offset size long low high inside =
-    let k = reached (index_in (lo +ℤ offset) (reach lo hi size) args_len) (reach lo hi size) inside in
+    let k = reached (index_in (lo +ℤ offset) (span_length lo hi size) args_len) (span_length lo hi size) inside in
     let a = args_access lo hi p offset size args_len k.0 low high k.1 in
     let index : index_in (p +ℤ offset) size (length s.args) ≡ just a.at = ap (index_in (p +ℤ offset) size) long ∙ a.index in
     (take size (drop a.at s.args), taken (index_in (p +ℤ offset) size (length s.args)) (λ (n : ℕ). just (take size (drop n s.args))) a.at index)
@@ -105,7 +105,7 @@ load_within I32 bytes are = let below = load_fits I32 bytes are.counted are.each
 -- ---- the step
 
 pub load_along : (tables : Tables) (args_len : ℕ) (kind : LoadKind) (dst src : Register) (offset : ℤ) → StepsAlong tables args_len (Load kind dst src offset)
-unfolding execute sent_on reads_nothing is_outside reads_uninitialised
+unfolding execute next_state holds_nothing is_outside reads_uninitialised
 load_along tables args_len kind dst src offset known s schema abs state d none =
     let causes = no_cause tables args_len (Load kind dst src offset) known none in
     let some = (neither (is_nothing (kind_of known src)) false causes.reads).0 in
@@ -113,4 +113,4 @@ load_along tables args_len kind dst src offset known s schema abs state d none =
     let are = memory_fits s.stack s.args (register s src) offset (load_bytes kind) bytes.0 state.stack state.each_stack_byte state.args bytes.1 in
     let next = λ (bs : List ℕ). with_result 1 dst (value.Number (load_value kind (little_number (length bs) bs))) s in
     let on = put_along tables args_len 1 (Load kind dst src offset) known s dst (Number (loaded_range kind)) (value.Number (load_value kind (little_number (length bytes.0) bytes.0))) refl refl causes.writes abs state d (load_within kind bytes.0 are) in
-    subst (IsAlongAnEdge tables args_len (Load kind dst src offset) known s) (sym (goes (memory_bytes s.stack s.args (register s src) offset (load_bytes kind)) next bytes.0 bytes.1)) on
+    subst (IsStepAlongEdge tables args_len (Load kind dst src offset) known s) (sym (goes (memory_bytes s.stack s.args (register s src) offset (load_bytes kind)) next bytes.0 bytes.1)) on

@@ -24,15 +24,15 @@ use Rattle.bpf_semantics.proofs.FitRunLemmas.{run_fits}
 use Rattle.abs_state.specs.declared.state.AbsState.{AbsState}
 use Rattle.abs_state.specs.State.{abs_entry}
 use Rattle.abs_cause.specs.Cause.{cause_of}
-use Rattle.abs_step.specs.Result.{sent_on, sent_by_jump}
-use Rattle.bpf_verify.specs.Flow.{Procedure, arriving, state_at, IsAccepted}
-use Rattle.acceptance.specs.Description.{Describes, Suits, IsAbsState, Along, IsAlongAnEdge, IsSound, StepsAlong}
+use Rattle.abs_step.specs.Result.{next_state, jump_state}
+use Rattle.bpf_verify.specs.Flow.{Procedure, edge_states, state_at, IsAccepted}
+use Rattle.acceptance.specs.Description.{Describes, Suits, IsAbsState, Along, IsStepAlongEdge, IsOfProgram, StepsAlong}
 use Rattle.acceptance.proofs.Entry.{entry_described}
-use Rattle.acceptance.proofs.Reaching.{AllSend, AllSound, One, One-left, One-right, edge_known, entry_here, state_known}
+use Rattle.acceptance.proofs.Reaching.{AllSend, AllOfProgram, One, One-left, One-right, edge_known, entry_here, state_known}
 
 -- each sound instruction steps along an edge
 abbrev pub AllStep : Tables → ℕ → Type 0
-AllStep tables args_len = (i : Instruction) → IsSound i → StepsAlong tables args_len i
+AllStep tables args_len = (i : Instruction) → IsOfProgram i → StepsAlong tables args_len i
 
 -- ---- the instructions of a program
 
@@ -41,8 +41,8 @@ forward p slot None h = tt
 forward p slot (Some (pos n)) h = grind (arith, ints)
 forward p slot (Some (negsuc n)) h = absurd (h (negsuc n) refl)
 
-pub program_sound : (p : Program) → IsProgram p → AllSound p
-program_sound p is slot i e = (range_at p slot i is.in_range e, forward p slot (distance_of i) (λ z d. is.jumps slot i z e d))
+pub program_instructions : (p : Program) → IsProgram p → AllOfProgram p
+program_instructions p is slot i e = (range_at p slot i is.in_range e, forward p slot (distance_of i) (λ z d. is.jumps slot i z e d))
 
 -- ---- an edge
 
@@ -52,7 +52,7 @@ eq_self n = grind (arith, nat_tests)
 when_equal : (a b : ℕ) → a ≡ b → (a == b) ≡ true
 when_equal a b e = rw e (eq_self b)
 
-arrives : (args_len : ℕ) (s t : State) (slots : Option ℕ) (o : Option AbsState) → Along args_len slots o s t → One (λ k. Describes args_len k t) (arriving s.slot t.slot slots o)
+arrives : (args_len : ℕ) (s t : State) (slots : Option ℕ) (o : Option AbsState) → Along args_len slots o s t → One (λ k. Describes args_len k t) (edge_states s.slot t.slot slots o)
 arrives args_len s t None o h = absurd h
 arrives args_len s t (Some n) None h = absurd h
 arrives args_len s t (Some n) (Some known) h =
@@ -83,21 +83,21 @@ IsFineMoment p Stuck = ⊥
 -- where a state goes on to, from an instruction of the program and what is known before it
 next_fine : (p : Procedure) (s t : State) (i : Instruction) (known : AbsState) → IsProgram p.program → AllSend p.tables
     → instruction_at p.program s.slot ≡ Some i → state_at p s.slot ≡ Some known
-    → Along p.args_len (fall_through i) (sent_on p.tables i known) s t ⊎ Along p.args_len (jump_of i) (sent_by_jump i known) s t → IsFine p t
+    → Along p.args_len (fall_through i) (next_state p.tables i known) s t ⊎ Along p.args_len (jump_of i) (jump_state i known) s t → IsFine p t
 next_fine p s t i known is sends at here (inl h) = record {
-  begun = begins p.args_len p.program s t (fall_through i) (sent_on p.tables i known) h (λ n e. next_begins p.program s.slot n i is at e);
-  known = edge_known p t s.slot t.slot sends (program_sound p.program is) (further p.args_len s t (fall_through i) (sent_on p.tables i known) h (fall_further i))
-      (rw (at, here) (One-left (λ k. Describes p.args_len k t) (arriving s.slot t.slot (fall_through i) (sent_on p.tables i known)) (arriving s.slot t.slot (jump_of i) (sent_by_jump i known)) (arrives p.args_len s t (fall_through i) (sent_on p.tables i known) h)));
+  begun = begins p.args_len p.program s t (fall_through i) (next_state p.tables i known) h (λ n e. next_begins p.program s.slot n i is at e);
+  known = edge_known p t s.slot t.slot sends (program_instructions p.program is) (further p.args_len s t (fall_through i) (next_state p.tables i known) h (fall_further i))
+      (rw (at, here) (One-left (λ k. Describes p.args_len k t) (edge_states s.slot t.slot (fall_through i) (next_state p.tables i known)) (edge_states s.slot t.slot (jump_of i) (jump_state i known)) (arrives p.args_len s t (fall_through i) (next_state p.tables i known) h)));
 }
 next_fine p s t i known is sends at here (inr h) = record {
-  begun = begins p.args_len p.program s t (jump_of i) (sent_by_jump i known) h (λ n e. jump_begins p.program s.slot n i is at e);
-  known = edge_known p t s.slot t.slot sends (program_sound p.program is) (further p.args_len s t (jump_of i) (sent_by_jump i known) h (jump_further (distance_of i)))
-      (rw (at, here) (One-right (λ k. Describes p.args_len k t) (arriving s.slot t.slot (fall_through i) (sent_on p.tables i known)) (arriving s.slot t.slot (jump_of i) (sent_by_jump i known)) (arrives p.args_len s t (jump_of i) (sent_by_jump i known) h)));
+  begun = begins p.args_len p.program s t (jump_of i) (jump_state i known) h (λ n e. jump_begins p.program s.slot n i is at e);
+  known = edge_known p t s.slot t.slot sends (program_instructions p.program is) (further p.args_len s t (jump_of i) (jump_state i known) h (jump_further (distance_of i)))
+      (rw (at, here) (One-right (λ k. Describes p.args_len k t) (edge_states s.slot t.slot (fall_through i) (next_state p.tables i known)) (edge_states s.slot t.slot (jump_of i) (jump_state i known)) (arrives p.args_len s t (jump_of i) (jump_state i known) h)));
 }
 
 along_fine : (p : Procedure) (s : State) (i : Instruction) (known : AbsState) (m : Moment) → IsProgram p.program → AllSend p.tables
     → instruction_at p.program s.slot ≡ Some i → state_at p s.slot ≡ Some known
-    → IsAlongAnEdge p.tables p.args_len i known s m → IsFineMoment p m
+    → IsStepAlongEdge p.tables p.args_len i known s m → IsFineMoment p m
 along_fine p s i known (Going t) is sends at here h = next_fine p s t i known is sends at here h
 along_fine p s i known (Ended reply t) is sends at here h = tt
 along_fine p s i known Stuck is sends at here h = absurd h
@@ -116,8 +116,8 @@ step_of : (p : Procedure) (s : State) (at : Option Instruction) (here : Option A
 step_of p s None here is are sends steps accepted state e f begun known = absurd (false≢true begun)
 step_of p s (Some i) None is are sends steps accepted state e f begun known = absurd known
 step_of p s (Some i) (Some k) is are sends steps accepted state e f begun known =
-    let sound = program_sound p.program is s.slot i e in
-    let fits = subst (λ (o : Option AbsState). IfSome o IsAbsState) f (state_known p s.slot sends (program_sound p.program is)) in
+    let sound = program_instructions p.program is s.slot i e in
+    let fits = subst (λ (o : Option AbsState). IfSome o IsAbsState) f (state_known p s.slot sends (program_instructions p.program is)) in
     subst (IsFineMoment p) (sym (step_at p.program p.tables s i e))
     (along_fine p s i k (execute p.tables i s) is sends e f (steps i sound k s are fits state known (no_cause p s.slot i k accepted e f)))
 
@@ -142,7 +142,7 @@ moments_fine : (p : Procedure) (args : List ℕ) (rows : Rows) (k : ℕ) → IsG
 unfolding moment
 moments_fine p args rows zero given sends steps = record {
   begun = first_begins p.program given.program.slots given.program.not_empty;
-  known = entry_here p (entry_state args rows) sends (program_sound p.program given.program) (subst (λ (n : ℕ). Describes n abs_entry (entry_state args rows)) given.suited.long (entry_described args rows));
+  known = entry_here p (entry_state args rows) sends (program_instructions p.program given.program) (subst (λ (n : ℕ). Describes n abs_entry (entry_state args rows)) given.suited.long (entry_described args rows));
 }
 moments_fine p args rows (suc k) given sends steps =
     next_moment_fine p (moment p.program p.tables k (entry_state args rows)) given.program given.tables sends steps given.accepted

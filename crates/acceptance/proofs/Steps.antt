@@ -3,7 +3,7 @@ use Rattle.std.proofs.Common.{ℕ}
 use Rattle.bpf_code.specs.declared.instruction.Instruction.{Instruction}
 use Rattle.bpf_code.specs.declared.instruction.Instruction.TheVariants.{LoadWide, Load, StoreImmediate, StoreRegister, Arithmetic, Negate, MoveSignExtended, End, Jump, LongJump, Branch, Call, Exit}
 use Rattle.schema.specs.Schema.{Tables}
-use Rattle.acceptance.specs.Description.{IsSound, StepsAlong}
+use Rattle.acceptance.specs.Description.{IsOfProgram, StepsAlong}
 use Rattle.acceptance.proofs.Arithmetic.{arithmetic_along}
 use Rattle.acceptance.proofs.Branches.{branch_along}
 use Rattle.acceptance.proofs.Calls.{call_along}
@@ -11,7 +11,7 @@ use Rattle.acceptance.proofs.Loads.{load_along}
 use Rattle.acceptance.proofs.Results.{load_wide_along, negate_along, sign_extended_along, end_along, jump_along, long_jump_along, exit_along}
 use Rattle.acceptance.proofs.Stores.{store_immediate_along, store_register_along}
 
-pub all_step : (tables : Tables) (args_len : ℕ) (i : Instruction) → IsSound i → StepsAlong tables args_len i
+pub all_step : (tables : Tables) (args_len : ℕ) (i : Instruction) → IsOfProgram i → StepsAlong tables args_len i
 all_step tables args_len (LoadWide dst value) sound = load_wide_along tables args_len dst value
 all_step tables args_len (Load kind dst src offset) sound = load_along tables args_len kind dst src offset
 all_step tables args_len (StoreImmediate size dst offset immediate) sound = store_immediate_along tables args_len size dst offset immediate

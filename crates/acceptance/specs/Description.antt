@@ -17,7 +17,7 @@ use Rattle.abs_state.specs.declared.kind.Kind.TheVariants.{Nothing, Number, Stac
 use Rattle.abs_state.specs.declared.state.AbsState.{AbsState}
 use Rattle.abs_state.specs.State.{kind_of}
 use Rattle.abs_cause.specs.Cause.{cause_of}
-use Rattle.abs_step.specs.Result.{sent_on, sent_by_jump}
+use Rattle.abs_step.specs.Result.{next_state, jump_state}
 use Rattle.bpf_verify.specs.Flow.{Procedure}
 
 -- the value is one of the kind; any is, where nothing is known
@@ -53,26 +53,26 @@ Along args_len (Some slots) (Some known) s t = (t.slot ≡ s.slot + slots) × De
 Along args_len _ _ s t = ⊥
 
 -- the step isn't stuck; where it goes on, it goes along an edge
-abbrev pub IsAlongAnEdge : Tables → ℕ → Instruction → AbsState → State → Moment → Type 0
-IsAlongAnEdge tables args_len i known s Stuck = ⊥
-IsAlongAnEdge tables args_len i known s (Ended reply t) = Unit {0}
-IsAlongAnEdge tables args_len i known s (Going t) =
-    Along args_len (fall_through i) (sent_on tables i known) s t ⊎ Along args_len (jump_of i) (sent_by_jump i known) s t
+abbrev pub IsStepAlongEdge : Tables → ℕ → Instruction → AbsState → State → Moment → Type 0
+IsStepAlongEdge tables args_len i known s Stuck = ⊥
+IsStepAlongEdge tables args_len i known s (Ended reply t) = Unit {0}
+IsStepAlongEdge tables args_len i known s (Going t) =
+    Along args_len (fall_through i) (next_state tables i known) s t ⊎ Along args_len (jump_of i) (jump_state i known) s t
 
 -- jumps go forward, and numbers fit their fields, as in each program
-abbrev pub IsSound : Instruction → Type 0
-IsSound i = IsInRange i × IfSome (distance_of i) (λ d. pos 0 ≤ℤ d)
+abbrev pub IsOfProgram : Instruction → Type 0
+IsOfProgram i = IsInRange i × IfSome (distance_of i) (λ d. pos 0 ≤ℤ d)
 
 -- of a state that is described an instruction without a cause leads to a state that is
 abbrev pub StepsAlong : Tables → ℕ → Instruction → Type 0
 StepsAlong tables args_len i = (known : AbsState) (s : State) → AreTables tables → IsAbsState known → IsState tables s
     → Describes args_len known s → cause_of tables args_len i known ≡ None
-    → IsAlongAnEdge tables args_len i known s (execute tables i s)
+    → IsStepAlongEdge tables args_len i known s (execute tables i s)
 
 -- what it sends may be known of a state
 pub record SendsKnown (tables : Tables) (i : Instruction) (known : AbsState) : Type 0 where
-  pub on : IfSome (sent_on tables i known) IsAbsState
-  pub by_jump : IfSome (sent_by_jump i known) IsAbsState
+  pub on : IfSome (next_state tables i known) IsAbsState
+  pub by_jump : IfSome (jump_state i known) IsAbsState
 
 -- ---- a run
 

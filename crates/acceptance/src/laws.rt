@@ -12,7 +12,7 @@ ghost use Rattle.bpf_semantics.specs.Path.{longest_path};
 ghost use Rattle.abs_state.specs.declared.state.AbsState.{AbsState};
 ghost use Rattle.abs_state.specs.State.{abs_entry, state_join};
 ghost use Rattle.bpf_verify.specs.Flow.{Procedure, IsAccepted, state_at};
-ghost use Rattle.acceptance.specs.Description.{Describes, IsAbsState, IsSound, StepsAlong, SendsKnown, Suits};
+ghost use Rattle.acceptance.specs.Description.{Describes, IsAbsState, IsOfProgram, StepsAlong, SendsKnown, Suits};
 
 /// What is known at entry is true of each entry state.
 #[tactic(auto, using(crate::proofs::Entry::entry_known))]
@@ -33,8 +33,8 @@ pub fn joins_describe_both()
 /// From a state of which what is known is true, an instruction without a cause isn't stuck; where it goes
 /// on, it goes along an edge, and what is sent there is true of the state after it.
 pub fn instructions_without_a_cause_go_along_an_edge()
-    ensures steps { (tables : Tables) (args_len : ℕ) (i : Instruction) → IsSound i → StepsAlong tables args_len i }
-    ensures sends { (tables : Tables) (i : Instruction) (known : AbsState) → IsSound i → IsAbsState known
+    ensures steps { (tables : Tables) (args_len : ℕ) (i : Instruction) → IsOfProgram i → StepsAlong tables args_len i }
+    ensures sends { (tables : Tables) (i : Instruction) (known : AbsState) → IsOfProgram i → IsAbsState known
         → SendsKnown tables i known }
 {}
 

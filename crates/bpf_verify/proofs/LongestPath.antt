@@ -1,12 +1,12 @@
 -- The longest paths from the slots of the end.
-use Rattle.std.proofs.Common.{◌≡◌, ℕ, zero, suc, ◌+◌, ◌-◌, ◌<◌, ◌≤◌, max, List, [], ◌∷◌, length, get_or, Option, Some, None, refl, sym, ◌∙◌, ap, subst, inl, inr, arith, replicate}
+use Rattle.std.proofs.Common.{◌≡◌, ℕ, zero, suc, ◌+◌, ◌<◌, ◌≤◌, List, length, get_or, Option, Some, None, refl, sym, ◌∙◌, subst, inl, inr, arith, replicate}
 use Rattle.std.proofs.Math.ListN.{set}
 use Rattle.std.proofs.lemmas.Bool.{cases_eq, cases_lt}
 use Rattle.std.proofs.lemmas.List.{get_or-set_same, get_or-set_other, get_or-replicate, get_or_past, length-replicate}
 use Rattle.std.proofs.lemmas.Option.{slice_get_past}
 use Rattle.bpf_code.specs.declared.instruction.Instruction.{Instruction}
 use Rattle.bpf_code.specs.Program.{Program, instruction_at, distance_of}
-use Rattle.bpf_semantics.specs.Path.{fall_through, jump_of, from_there, one_more, path, longest_path}
+use Rattle.bpf_semantics.specs.Path.{fall_through, jump_of, from_there, one_more, path}
 use Rattle.bpf_semantics.proofs.PathLemmas.{fall_further, jump_further}
 
 past_end : (p : Program) (j : ℕ) → length p ≤ j → instruction_at p j ≡ None

@@ -8,7 +8,7 @@ use Rattle.abs_state.specs.declared.state.AbsState.{AbsState}
 use Rattle.abs_state.specs.State.{state_join, abs_entry}
 use Rattle.abs_cause.specs.declared.cause.Cause.{Cause}
 use Rattle.abs_cause.specs.Cause.{cause_of}
-use Rattle.abs_step.specs.Result.{sent_on, sent_by_jump}
+use Rattle.abs_step.specs.Result.{next_state, jump_state}
 
 -- a program to be verified, with the tables that its calls may name and how many bytes its arguments have
 pub record Procedure : Type 0 where
@@ -17,20 +17,20 @@ pub record Procedure : Type 0 where
   pub args_len : ℕ
 
 -- what an edge that leads so many slots on from a slot brings to slot j
-abbrev pub arriving : ℕ → ℕ → Option ℕ → Option AbsState → List AbsState
-arriving slot j (Some slots) (Some s) = if j == slot + slots then s ∷ [] else []
-arriving slot j _ _ = []
+abbrev pub edge_states : ℕ → ℕ → Option ℕ → Option AbsState → List AbsState
+edge_states slot j (Some slots) (Some s) = if j == slot + slots then s ∷ [] else []
+edge_states slot j _ _ = []
 
 -- what an instruction sends to slot j: by the edge to the next instruction, and then by its jump
-abbrev pub sent_from : Tables → ℕ → ℕ → Option Instruction → Option AbsState → List AbsState
-sent_from tables slot j (Some i) (Some s) =
-    arriving slot j (fall_through i) (sent_on tables i s) ++ arriving slot j (jump_of i) (sent_by_jump i s)
-sent_from tables slot j _ _ = []
+abbrev pub states_from : Tables → ℕ → ℕ → Option Instruction → Option AbsState → List AbsState
+states_from tables slot j (Some i) (Some s) =
+    edge_states slot j (fall_through i) (next_state tables i s) ++ edge_states slot j (jump_of i) (jump_state i s)
+states_from tables slot j _ _ = []
 
 -- what the first n slots, before which these states are known, send to slot j
-unfoldable pub sent_before : Procedure → (ℕ → Option AbsState) → ℕ → ℕ → List AbsState
-sent_before p states zero j = []
-sent_before p states (suc n) j = sent_before p states n j ++ sent_from p.tables n j (instruction_at p.program n) (states n)
+unfoldable pub states_from_before : Procedure → (ℕ → Option AbsState) → ℕ → ℕ → List AbsState
+states_from_before p states zero j = []
+states_from_before p states (suc n) j = states_from_before p states n j ++ states_from p.tables n j (instruction_at p.program n) (states n)
 
 abbrev pub join_one : Option AbsState → AbsState → AbsState
 join_one None s = s
@@ -54,7 +54,7 @@ at_entry (suc _) = []
 unfoldable pub states_before : Procedure → ℕ → ℕ → Option AbsState
 states_before p zero j = None
 states_before p (suc n) j =
-    if j == n then join_of (at_entry j ++ sent_before p (states_before p n) n j) else states_before p n j
+    if j == n then join_of (at_entry j ++ states_from_before p (states_before p n) n j) else states_before p n j
 
 -- what is known before a slot; None where no taken edge reaches it
 abbrev pub state_at : Procedure → ℕ → Option AbsState

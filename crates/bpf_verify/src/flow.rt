@@ -1,7 +1,7 @@
 //! One pass over a program: what is known before each slot goes on to those ahead.
 ghost use Rattle.std.specs.Prelude.{◌≡◌, ℕ, ◌+◌, ◌<◌, ◌≤◌, ◌^◌, ◌==◌, length, slice_index_or, replicate, if◌then◌else◌, [], ◌∷◌, Some, None, IfSome, IfNone, IfErr, IfOk};
 ghost use Rattle.bpf_code.specs.Program.{instruction_at};
-ghost use Rattle.bpf_verify.specs.Flow.{join_one, join_with, sent_from, cause_if, IsAccepted, arriving, IsRefused};
+ghost use Rattle.bpf_verify.specs.Flow.{join_one, join_with, states_from, cause_if, IsAccepted, edge_states, IsRefused};
 ghost use Rattle.bpf_verify.specs.Refusal.{RefusedBy};
 
 use crate::accepted::Accepted;
@@ -9,7 +9,7 @@ use crate::bound::bound;
 use crate::path::{fall_through, jump_of};
 use crate::refusal::Refusal;
 use abs_state::AbsState;
-use abs_step::{Cause, cause_of, sent_by_jump, sent_on};
+use abs_step::{Cause, cause_of, jump_state, next_state};
 use bpf_code::Code;
 use schema::Schema;
 use std::alloc::Allocator;
@@ -83,7 +83,7 @@ fn visit<A: Allocator, B: Allocator>(
     ensures sent { result ≡ None → (j : ℕ) → slot < j → j < length pending.old
         → slice_index_or pending.new j None
         ≡ join_with (slice_index_or pending.old j None)
-        (sent_from schema.now slot j (instruction_at code.now slot) (slice_index_or pending.old slot None)) }
+        (states_from schema.now slot j (instruction_at code.now slot) (slice_index_or pending.old slot None)) }
 {
     let state = pending[slot].take()?;
     let instruction = code.at(slot)?;
@@ -95,13 +95,13 @@ fn visit<A: Allocator, B: Allocator>(
         pending,
         slot,
         fall_through(instruction),
-        sent_on(schema, instruction, &state),
+        next_state(schema, instruction, &state),
     );
     send(
         pending,
         slot,
         jump_of(instruction),
-        sent_by_jump(instruction, &state),
+        jump_state(instruction, &state),
     );
     None
 }
@@ -116,7 +116,7 @@ fn send(
     requires short { slot < 2 ^ 32 }
     requires near { IfSome slots (λ n. n < 2 ^ 32) }
     ensures { (j : ℕ) → j < length pending.old
-        → slice_index_or pending.new j None ≡ join_with (slice_index_or pending.old j None) (arriving slot j slots state) }
+        → slice_index_or pending.new j None ≡ join_with (slice_index_or pending.old j None) (edge_states slot j slots state) }
 {
     let Some(slots) = slots else {
         return;

@@ -1,5 +1,4 @@
-use Rattle.std.proofs.Common.{◌≡◌, sym, ◌∙◌, None, Some, arith, length, ◌<◌}
-use Rattle.std.proofs.lemmas.List.{length-replicate}
+use Rattle.std.proofs.Common.{◌∙◌, arith, length, ◌<◌}
 use Rattle.bpf_verify.proofs.FlowLemmas.{first_pending, next_pending, cause_here, all_accepted}
 use Rattle.bpf_verify.proofs.flow.scan.Goals as goal
 

@@ -1,5 +1,3 @@
-use Rattle.std.proofs.Common.{◌≡◌, ℕ, ◌<◌, ◌≤◌, length, slice_index_or, None}
-use Rattle.bpf_verify.specs.Flow.{cause_at}
 use Rattle.bpf_verify.proofs.FlowLemmas.{IsPending}
 use Rattle.bpf_verify.proofs.flow.scan.Given as goal
 

@@ -1,6 +1,5 @@
-use Rattle.std.proofs.Common.{◌≡◌, sym, ◌∙◌, None, Some, get_or, slice_index_or, slice_set, length, ◌<◌, arith}
+use Rattle.std.proofs.Common.{sym, ◌∙◌, None, slice_set, length, ◌<◌, arith}
 use Rattle.std.proofs.lemmas.List.{get_or_default, length-set}
-use Rattle.bpf_code.specs.Program.{instruction_at}
 use Rattle.bpf_verify.proofs.FlowLemmas.{quiet_state, quiet_slot, both_sent}
 use Rattle.bpf_verify.proofs.flow.visit.Goals as goal
 
@@ -20,5 +19,5 @@ returns-clause-sent g c = λ _ j l m.
     both_sent c.args.schema.now c.args.pending.now c.send.new.pending c.send-2.new.pending c.args.slot j _ _ c.take.new.self c.in_ok-instruction.instruction c.in_ok-state.state l
     (sym c.at.ensures.instruction ∙ c.in_ok-instruction.was)
     (get_or_default _ _ None _ c.requires.slot ∙ sym c.take.ensures.value ∙ c.in_ok-state.was)
-    (rw (c.fall_through.ensures.slots, c.sent_on.ensures) at (c.send.ensures j first))
-    (rw (c.jump_of.ensures.slots, c.sent_by_jump.ensures) at (c.send-2.ensures j second))
+    (rw (c.fall_through.ensures.slots, c.next_state.ensures) at (c.send.ensures j first))
+    (rw (c.jump_of.ensures.slots, c.jump_state.ensures) at (c.send-2.ensures j second))
