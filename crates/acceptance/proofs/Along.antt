@@ -17,18 +17,18 @@ use Rattle.abs_state.specs.declared.state.AbsState.{AbsState}
 use Rattle.abs_state.specs.State.{with_kind}
 use Rattle.abs_value.specs.Kind.{is_nothing, is_pointer}
 use Rattle.abs_step.specs.Result.{next_state}
-use Rattle.acceptance.specs.Description.{Describes, IsOf, IsAbsState, IsKind, Along, IsStepAlongEdge}
+use Rattle.acceptance.specs.Description.{Describes, IsOf, IsAbsState, IsKind, IsEdgeTo, IsStepAlongEdge}
 use Rattle.acceptance.proofs.Put.{put_described}
 
 -- an edge of so many slots, with what is sent along it
 pub is_along : (args_len n : ℕ) (slots : Option ℕ) (sent : Option AbsState) (known : AbsState) (s t : State)
-    → slots ≡ just n → sent ≡ just known → t.slot ≡ s.slot + n → Describes args_len known t → Along args_len slots sent s t
+    → slots ≡ just n → sent ≡ just known → t.slot ≡ s.slot + n → Describes args_len known t → IsEdgeTo args_len slots sent s t
 is_along args_len n slots sent known s t e f at d = rw (e, f) (at, d)
 
 -- ---- a result
 
 free_along : (tables : Tables) (args_len : ℕ) (i : Instruction) (known : AbsState) (s t : State) (held : Bool) → held ≡ false
-    → Along args_len (fall_through i) (next_state tables i known) s t → IsStepAlongEdge tables args_len i known s (cond held Stuck (Going t))
+    → IsEdgeTo args_len (fall_through i) (next_state tables i known) s t → IsStepAlongEdge tables args_len i known s (cond held Stuck (Going t))
 free_along tables args_len i known s t true e a = absurd cc
 free_along tables args_len i known s t false e a = inl a
 

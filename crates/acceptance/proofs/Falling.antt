@@ -9,7 +9,7 @@ use Rattle.bpf_semantics.specs.Path.{fall_through}
 use Rattle.bpf_semantics.proofs.StepLemmas.{just}
 use Rattle.abs_state.specs.declared.state.AbsState.{AbsState}
 use Rattle.abs_step.specs.Result.{next_state}
-use Rattle.acceptance.specs.Description.{Describes, Along, IsStepAlongEdge}
+use Rattle.acceptance.specs.Description.{Describes, IsEdgeTo, IsStepAlongEdge}
 
 -- ---- what is there is taken
 
@@ -28,6 +28,6 @@ goes (Some y) next x e = let same : y ≡ x = cc in ap next same
 pub falls_along : (tables : Tables) (args_len slots : ℕ) (i : Instruction) (known next : AbsState) (s t : State) → fall_through i ≡ just slots → next_state tables i known ≡ just next → t.slot ≡ s.slot
     → Describes args_len next (past slots t) → IsStepAlongEdge tables args_len i known s (Going (past slots t))
 falls_along tables args_len slots i known next s t through sent same d =
-    let at : Along args_len (just slots) (just next) s (past slots t) = (ap (λ (n : ℕ). n + slots) same, d) in
-    inl (subst (λ (o : Option ℕ). Along args_len o (next_state tables i known) s (past slots t)) (sym through)
-    (subst (λ (o : Option AbsState). Along args_len (just slots) o s (past slots t)) (sym sent) at))
+    let at : IsEdgeTo args_len (just slots) (just next) s (past slots t) = (ap (λ (n : ℕ). n + slots) same, d) in
+    inl (subst (λ (o : Option ℕ). IsEdgeTo args_len o (next_state tables i known) s (past slots t)) (sym through)
+    (subst (λ (o : Option AbsState). IsEdgeTo args_len (just slots) o s (past slots t)) (sym sent) at))

@@ -26,7 +26,7 @@ use Rattle.abs_state.specs.State.{abs_entry}
 use Rattle.abs_cause.specs.Cause.{cause_of}
 use Rattle.abs_step.specs.Result.{next_state, jump_state}
 use Rattle.bpf_verify.specs.Flow.{Procedure, edge_states, state_at, IsAccepted}
-use Rattle.acceptance.specs.Description.{Describes, Suits, IsAbsState, Along, IsStepAlongEdge, IsOfProgram, StepsAlong}
+use Rattle.acceptance.specs.Description.{Describes, Suits, IsAbsState, IsEdgeTo, IsStepAlongEdge, IsOfProgram, StepsAlong}
 use Rattle.acceptance.proofs.Entry.{entry_described}
 use Rattle.acceptance.proofs.Reaching.{AllSend, AllOfProgram, One, One-left, One-right, edge_known, entry_here, state_known}
 
@@ -52,18 +52,18 @@ eq_self n = grind (arith, nat_tests)
 when_equal : (a b : ℕ) → a ≡ b → (a == b) ≡ true
 when_equal a b e = rw e (eq_self b)
 
-arrives : (args_len : ℕ) (s t : State) (slots : Option ℕ) (o : Option AbsState) → Along args_len slots o s t → One (λ k. Describes args_len k t) (edge_states s.slot t.slot slots o)
+arrives : (args_len : ℕ) (s t : State) (slots : Option ℕ) (o : Option AbsState) → IsEdgeTo args_len slots o s t → One (λ k. Describes args_len k t) (edge_states s.slot t.slot slots o)
 arrives args_len s t None o h = absurd h
 arrives args_len s t (Some n) None h = absurd h
 arrives args_len s t (Some n) (Some known) h =
     subst (λ (b : Bool). One (λ k. Describes args_len k t) (if b then known ∷ [] else [])) (sym (when_equal t.slot (s.slot + n) h.0)) (inl h.1)
 
-further : (args_len : ℕ) (s t : State) (slots : Option ℕ) (o : Option AbsState) → Along args_len slots o s t → ((n : ℕ) → slots ≡ Some n → 1 ≤ n) → s.slot < t.slot
+further : (args_len : ℕ) (s t : State) (slots : Option ℕ) (o : Option AbsState) → IsEdgeTo args_len slots o s t → ((n : ℕ) → slots ≡ Some n → 1 ≤ n) → s.slot < t.slot
 further args_len s t None o h least = absurd h
 further args_len s t (Some n) None h least = absurd h
 further args_len s t (Some n) (Some known) h least = let one : 1 ≤ n = least n refl in omega (arith, h.0)
 
-begins : (args_len : ℕ) (p : Program) (s t : State) (slots : Option ℕ) (o : Option AbsState) → Along args_len slots o s t → ((n : ℕ) → slots ≡ Some n → IsSome (instruction_at p (s.slot + n))) → IsSome (instruction_at p t.slot)
+begins : (args_len : ℕ) (p : Program) (s t : State) (slots : Option ℕ) (o : Option AbsState) → IsEdgeTo args_len slots o s t → ((n : ℕ) → slots ≡ Some n → IsSome (instruction_at p (s.slot + n))) → IsSome (instruction_at p t.slot)
 begins args_len p s t None o h at = absurd h
 begins args_len p s t (Some n) None h at = absurd h
 begins args_len p s t (Some n) (Some known) h at = subst (λ (j : ℕ). IsSome (instruction_at p j)) (sym h.0) (at n refl)
@@ -83,7 +83,7 @@ IsFineMoment p Stuck = ⊥
 -- where a state goes on to, from an instruction of the program and what is known before it
 next_fine : (p : Procedure) (s t : State) (i : Instruction) (known : AbsState) → IsProgram p.program → AllSend p.tables
     → instruction_at p.program s.slot ≡ Some i → state_at p s.slot ≡ Some known
-    → Along p.args_len (fall_through i) (next_state p.tables i known) s t ⊎ Along p.args_len (jump_of i) (jump_state i known) s t → IsFine p t
+    → IsEdgeTo p.args_len (fall_through i) (next_state p.tables i known) s t ⊎ IsEdgeTo p.args_len (jump_of i) (jump_state i known) s t → IsFine p t
 next_fine p s t i known is sends at here (inl h) = record {
   begun = begins p.args_len p.program s t (fall_through i) (next_state p.tables i known) h (λ n e. next_begins p.program s.slot n i is at e);
   known = edge_known p t s.slot t.slot sends (program_instructions p.program is) (further p.args_len s t (fall_through i) (next_state p.tables i known) h (fall_further i))

@@ -48,16 +48,16 @@ pub record IsAbsState (known : AbsState) : Type 0 where
 -- ---- one step
 
 -- an edge leads from s so many slots on to t, and what is sent along it is true of t
-abbrev pub Along : ℕ → Option ℕ → Option AbsState → State → State → Type 0
-Along args_len (Some slots) (Some known) s t = (t.slot ≡ s.slot + slots) × Describes args_len known t
-Along args_len _ _ s t = ⊥
+abbrev pub IsEdgeTo : ℕ → Option ℕ → Option AbsState → State → State → Type 0
+IsEdgeTo args_len (Some slots) (Some known) s t = (t.slot ≡ s.slot + slots) × Describes args_len known t
+IsEdgeTo args_len _ _ s t = ⊥
 
 -- the step isn't stuck; where it goes on, it goes along an edge
 abbrev pub IsStepAlongEdge : Tables → ℕ → Instruction → AbsState → State → Moment → Type 0
 IsStepAlongEdge tables args_len i known s Stuck = ⊥
 IsStepAlongEdge tables args_len i known s (Ended reply t) = Unit {0}
 IsStepAlongEdge tables args_len i known s (Going t) =
-    Along args_len (fall_through i) (next_state tables i known) s t ⊎ Along args_len (jump_of i) (jump_state i known) s t
+    IsEdgeTo args_len (fall_through i) (next_state tables i known) s t ⊎ IsEdgeTo args_len (jump_of i) (jump_state i known) s t
 
 -- jumps go forward, and numbers fit their fields, as in each program
 abbrev pub IsOfProgram : Instruction → Type 0

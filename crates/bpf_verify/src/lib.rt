@@ -3,10 +3,12 @@
 
 pub use accepted::Accepted;
 pub use flow::verify;
+pub use laws::what_is_known_is_what_is_sent;
 pub use refusal::Refusal;
 
 mod accepted;
 mod bound;
 mod flow;
+mod laws;
 mod path;
 mod refusal;
