@@ -1,7 +1,8 @@
 //! What is known of a state.
 ghost use Rattle.std.specs.Prelude.{◌≡◌, ◌++◌, replicate, true, ◌+◌, ◌≤◌, take, drop, length};
 ghost use Rattle.std.specs.List.{list_all};
-ghost use Rattle.abs_state.specs.State.{abs_entry, in_both, kind_join, kind_of, state_join, with_known_answer, with_initialised, with_kind, zip_with};
+ghost use Rattle.abs_state.specs.State.{abs_entry, in_both, kind_join, kind_of, state_join, with_known_answer};
+ghost use Rattle.abs_state.specs.State.{with_initialised, with_kind, zip_with};
 
 use crate::kind::Kind;
 use bpf_code::Register;

@@ -4,7 +4,9 @@ ghost use Rattle.bpf_code.specs.Sizes.{size_bytes, width_bits};
 ghost use Rattle.bpf_semantics.specs.Step.{low_bits};
 ghost use Rattle.range_refine.specs.Refinement.{refinement};
 ghost use Rattle.abs_state.specs.State.{kind_of, with_kind};
-ghost use Rattle.abs_step.specs.Result.{loaded_range, with_known_store, compared_kind, is_same_register, with_source, with_sides, refined_state, edge_state, end_kind, after_call, next_state, jump_state};
+ghost use Rattle.abs_step.specs.Result.{loaded_range, with_known_store, compared_kind, is_same_register, with_source};
+ghost use Rattle.abs_step.specs.Result.{with_sides, refined_state, edge_state, end_kind, after_call, next_state};
+ghost use Rattle.abs_step.specs.Result.{jump_state};
 ghost use Rattle.schema.specs.Helper.{helper_of};
 
 use crate::calls::{call, set_bytes};

@@ -1,6 +1,8 @@
 //! Kinds of values: tests, and what operations give.
 ghost use Rattle.std.specs.Prelude.{◌≡◌, ◌≤◌, ◌^◌, ◌+ℤ◌, ◌-ℤ◌, unsigned_abs};
-ghost use Rattle.abs_value.specs.Kind.{is_nothing, is_number, is_pointer, operand_kind, has_both_signs, near_places, is_near, moved_by, moved_places, stack_of, args_of, table_width, move_kind, binary_kind, operation_kind, number_kind};
+ghost use Rattle.abs_value.specs.Kind.{is_nothing, is_number, is_pointer, operand_kind, has_both_signs, near_places};
+ghost use Rattle.abs_value.specs.Kind.{is_near, moved_by, moved_places, stack_of, args_of, table_width, move_kind};
+ghost use Rattle.abs_value.specs.Kind.{binary_kind, operation_kind, number_kind};
 ghost use Rattle.bpf_code.specs.Sizes.{width_bits};
 ghost use Rattle.interval.specs.Table.{alu_range};
 ghost use Rattle.bpf_semantics.specs.Step.{is_move_operation};

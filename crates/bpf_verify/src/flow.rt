@@ -1,5 +1,6 @@
 //! One pass over a program: what is known before each slot goes on to those ahead.
-ghost use Rattle.std.specs.Prelude.{◌≡◌, ℕ, ◌+◌, ◌<◌, ◌≤◌, ◌^◌, ◌==◌, length, slice_index_or, replicate, if◌then◌else◌, [], ◌∷◌, Some, None, IfSome, IfNone, IfErr, IfOk};
+ghost use Rattle.std.specs.Prelude.{◌≡◌, ℕ, ◌+◌, ◌<◌, ◌≤◌, ◌^◌, ◌==◌, length, slice_index_or, replicate};
+ghost use Rattle.std.specs.Prelude.{if◌then◌else◌, [], ◌∷◌, Some, None, IfSome, IfNone, IfErr, IfOk};
 ghost use Rattle.bpf_code.specs.Program.{instruction_at};
 ghost use Rattle.bpf_verify.specs.Flow.{join_one, join_with, states_from, cause_if, IsAccepted, edge_states, IsRefused};
 ghost use Rattle.bpf_verify.specs.Refusal.{RefusedBy};

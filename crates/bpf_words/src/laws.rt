@@ -1,4 +1,5 @@
-ghost use Rattle.std.specs.Prelude.{◌≡◌, ℕ, ◌-◌, ◌%◌, ◌^◌, ◌<◌, ◌≤◌, ◌≢◌, ◌↔◌, pos, neg_ℤ, ◌≤ℤ◌, ◌<ℤ◌, not, bit_and, IsTrue, IfSome, Some, None};
+ghost use Rattle.std.specs.Prelude.{◌≡◌, ℕ, ◌-◌, ◌%◌, ◌^◌, ◌<◌, ◌≤◌, ◌≢◌, ◌↔◌, pos, neg_ℤ, ◌≤ℤ◌, ◌<ℤ◌, not, bit_and};
+ghost use Rattle.std.specs.Prelude.{IsTrue, IfSome, Some, None};
 ghost use Rattle.bpf_words.specs.Condition.{holds, opposite};
 ghost use Rattle.bpf_words.specs.End.{end_value, end_bits};
 ghost use Rattle.bpf_words.specs.Operation.{alu};

@@ -67,7 +67,8 @@ impl<'a, W: Write> PagedOutput<'a, W> {
 
     fn put_out(&mut self) -> io::Result<()>
         ensures same_output { (output_of self.new).ghost_name ≡ (output_of self.old).ghost_name }
-        ensures bytes { WritesText (W.contents (output_of self.old).now) (W.contents (output_of self.new).now) result (pending_of self.old) }
+        ensures bytes { WritesText (W.contents (output_of self.old).now) (W.contents (output_of self.new).now)
+            result (pending_of self.old) }
         ensures empty { pending_of self.new ≡ [] }
     {
         let written = put(self.output, &self.pending);

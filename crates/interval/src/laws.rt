@@ -24,7 +24,6 @@ pub fn results_are_within()
 
 /// The result's range has a number, and all of them are words of n bits: below 2^n, and of a byte
 /// swap below 2 to the power of its bits.
-#[tactic(auto, using(crate::proofs::Sound::alu_ordered, crate::proofs::Below::alu_range_below, crate::proofs::Below::end_range_ordered, crate::proofs::Below::end_range_below))]
 pub fn results_are_ranges()
     ensures ordered { (n : ℕ) (op : Operation) (a b : Bounds) → IsRange a → IsRange b
         → (alu_range n op a b).lo ≤ (alu_range n op a b).hi }
@@ -38,7 +37,6 @@ pub fn results_are_ranges()
 
 /// Where each operand is one value the result is the one that the operation gives. NEG has the
 /// destination alone, MOV and MOVSX the source alone.
-#[tactic(auto, using(crate::proofs::Sound::binary_one, crate::proofs::Sound::mov_one, crate::proofs::Sound::neg_one, crate::proofs::Sound::movsx_one, crate::proofs::Sound::end_one))]
 pub fn one_value_gives_one()
     ensures binary { (n : ℕ) (op : BinaryOperation) (x y : ℕ)
         → alu_range n (Binary op) (single x) (single y) ≡ single (alu n (Binary op) x y) }
@@ -53,7 +51,7 @@ pub fn one_value_gives_one()
 {}
 
 /// What `up` gives is all ones in binary, isn't below the word, and is the least such number.
-#[tactic(auto, using(crate::proofs::Up::up_ones, crate::proofs::Up::up_above, crate::proofs::Up::up_least))]
+#[tactic(auto, using(crate::proofs::Up::up_ones, crate::proofs::Up::up_above, crate::proofs::Up::up_least,))]
 pub fn up_is_least()
     ensures ones { (x : ℕ) → x < 2 ^ 64 → (k : ℕ) × (up x ≡ 2 ^ k - 1) }
     ensures above { (x : ℕ) → x < 2 ^ 64 → x ≤ up x }
