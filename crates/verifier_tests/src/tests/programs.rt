@@ -233,7 +233,7 @@ pub(super) static PROGRAMS: [Case; 31] = [
 ];
 
 /// Each cause by a small program, alone and beside others, the lowest of which is given.
-pub(super) static CAUSES: [Case; 78] = [
+pub(super) static CAUSES: [Case; 84] = [
     Case {
         program: "9500000000000000",
         args_len: 0,
@@ -714,5 +714,43 @@ pub(super) static CAUSES: [Case; 78] = [
         args_len: 0,
         tables: &[(1, 8)],
         verdict: "V3 slot 1",
+    },
+    Case {
+        program: "0f61000000000000 9500000000000000",
+        args_len: 0,
+        tables: &[(1, 8)],
+        verdict: "V1 slot 0",
+    },
+    Case {
+        program: "b702000000000000 7b62000000000000 9500000000000000",
+        args_len: 0,
+        tables: &[(1, 8)],
+        verdict: "V1 slot 1",
+    },
+    Case {
+        program: "b701000001000000 bfa3000000000000 07030000f8ffffff 8500000002000000 \
+            9500000000000000",
+        args_len: 0,
+        tables: &[(1, 8)],
+        verdict: "V1 slot 3",
+    },
+    Case {
+        program: "b701000001000000 8500000003000000 9500000000000000",
+        args_len: 0,
+        tables: &[(1, 8)],
+        verdict: "V1 slot 1",
+    },
+    Case {
+        program: "b701000001000000 b702000000000000 8500000001000000 9500000000000000",
+        args_len: 0,
+        tables: &[(1, 8)],
+        verdict: "V1 slot 2",
+    },
+    Case {
+        program: "b701000002000000 b702000000000000 b703000000000000 b704000000000000 \
+            bfa5000000000000 07050000f8ffffff 8500000005000000 9500000000000000",
+        args_len: 0,
+        tables: &[(1, 8)],
+        verdict: "V7 slot 6",
     },
 ];
