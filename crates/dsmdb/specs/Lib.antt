@@ -1,3 +1,1 @@
-pub mod Listing
-pub mod Source
 pub mod Plan

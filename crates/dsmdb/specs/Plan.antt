@@ -1,24 +1,55 @@
--- The command line `dsmdb list FILE`, and what it asks for.
-use Rattle.std.specs.Prelude.{◌≡◌, true, List, codes, Option, Some, None}
-use Rattle.clap.specs.Words.{App, Rule, Row, Text, first_of, new_app, new_rule, with_rule, with_subcommand}
-use Rattle.clap.specs.declared.builder.ArgAction.TheVariants.{Set}
+-- The command lines `dsmdb list FILE` and `dsmdb check FILE ARGS [T:W ...]`, and what they ask for.
+use Rattle.std.specs.Prelude.{◌≡◌, true, List, [], codes, map, Option, Some, None, Vec}
+use Rattle.std.specs.Option.{option_and_then, unwrap_or}
+use Rattle.clap.specs.Words.{App, Rule, Row, Text, all_of, first_of, new_app, new_rule, with_rule, with_subcommand}
+use Rattle.clap.specs.declared.builder.ArgAction.TheVariants.{Set, Append}
+use Rattle.engines.specs.Number.{number_in, table_of}
 use Rattle.dsmdb.specs.declared.request.Plan.{Plan}
 use Rattle.dsmdb.specs.declared.request.Plan.TheVariants as plan
+
+-- ---- what is read
 
 abbrev pub file_rule : Rule
 file_rule = record (new_rule (codes "FILE")) { required = true; action = Some Set }
 
+abbrev pub args_rule : Rule
+args_rule = record (new_rule (codes "ARGS")) { required = true; action = Some Set }
+
+-- as many words as there are behind the others
+abbrev pub table_rule : Rule
+table_rule = record (new_rule (codes "T:W")) { action = Some Append }
+
 abbrev pub list_line : App
 list_line = with_rule (new_app (codes "list")) file_rule
+
+abbrev pub check_line : App
+check_line = with_rule (with_rule (with_rule (new_app (codes "check")) file_rule) args_rule) table_rule
 
 abbrev pub named_command : App
 named_command = new_app (codes "dsmdb")
 
 -- a command is required, but for the flags `--help` and `--version`
 abbrev pub command_line : App
-command_line = with_subcommand (record named_command { top = record named_command.top { has_version = true; subcommand_required = true } }) list_line.top
+command_line = with_subcommand
+    (with_subcommand (record named_command { top = record named_command.top { has_version = true; subcommand_required = true } }) list_line.top)
+    check_line.top
+
+-- ---- what it asks for
+
+abbrev pub IsListOf : List Row → Plan → Type 0
+IsListOf rows (plan.List file) = first_of (codes "FILE") rows ≡ Some file.now
+IsListOf rows _ = ⊥
+
+-- ARGS reads as the length of the arguments, and the T:W words as the tables in order
+abbrev pub IsCheckOf : List Row → Plan → Type 0
+IsCheckOf rows (plan.Check file args_len tables) =
+    (first_of (codes "FILE") rows ≡ Some file.now)
+    × (option_and_then (number_in 0 256) (first_of (codes "ARGS") rows) ≡ Some args_len)
+    × (map table_of (unwrap_or (all_of (codes "T:W") rows) []) ≡ map (λ t. Some t) tables.items)
+IsCheckOf rows _ = ⊥
 
 -- the plan is the command that was met, with the values that were read for it
 abbrev pub IsPlanOf : Option (Text × List Row) → Plan → Type 0
 IsPlanOf None _ = ⊥
-IsPlanOf (Some command) (plan.List file) = (command.0 ≡ codes "list") × (first_of (codes "FILE") command.1 ≡ Some file.now)
+IsPlanOf (Some command) (plan.List file) = (command.0 ≡ codes "list") × IsListOf command.1 (plan.List file)
+IsPlanOf (Some command) (plan.Check file args_len tables) = (command.0 ≡ codes "check") × IsCheckOf command.1 (plan.Check file args_len tables)

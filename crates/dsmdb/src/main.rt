@@ -1,7 +1,9 @@
 //! The program dsmdb: replicated rows with stored procedures in BPF.
 #![tactic(auto)]
 
-use list::{FAILED, list_over};
+ghost use Rattle.std.specs.Prelude.{◌≤◌};
+
+use engines::{FAILED, check_over, list_over};
 use plan::plan;
 use request::{Plan, PlanFault};
 use std::fs::File;
@@ -9,10 +11,8 @@ use std::io::Write;
 use std::process::ExitCode;
 use std::{env, io};
 
-mod list;
 mod plan;
 mod request;
-mod source;
 
 /// The exit status of a command line that can't be read.
 const BAD_COMMAND_LINE: u8 = 2;
@@ -32,13 +32,37 @@ fn list_file(rt: &HostRuntime, path: &str) -> io::Result<u8> {
     }
 }
 
-fn refused(rt: &HostRuntime, fault: &PlanFault) -> io::Result<u8> {
+/// Checks the program in a file.
+fn check_file(rt: &HostRuntime, path: &str, args_len: u16, tables: &[(u8, u16)]) -> io::Result<u8>
+    requires { args_len ≤ 256 }
+{
+    let mut faults = rt.stderr();
+    match File::open(rt, path) {
+        Ok(mut file) => {
+            let mut output = rt.stdout();
+            Ok(check_over(
+                rt.alloc(),
+                &mut file,
+                &mut output,
+                &mut faults,
+                args_len,
+                tables,
+            ))
+        }
+        Err(error) => {
+            writeln!(faults, "dsmdb: {path}: {error}")?;
+            Ok(FAILED)
+        }
+    }
+}
+
+fn refused(rt: &HostRuntime, fault: &PlanFault<'_>) -> io::Result<u8> {
     match fault {
         PlanFault::CommandLine(error) => {
             error.print(rt)?;
             Ok(u8::try_from(error.exit_code()).unwrap_or(BAD_COMMAND_LINE))
         }
-        PlanFault::NoCommand => {
+        PlanFault::Arguments { .. } | PlanFault::Table { .. } | PlanFault::NoCommand => {
             writeln!(rt.stderr(), "dsmdb: {fault}")?;
             Ok(BAD_COMMAND_LINE)
         }
@@ -53,6 +77,13 @@ fn run(rt: &HostRuntime) -> io::Result<u8> {
     let words: Vec<String> = env::args(rt)?.collect(rt.alloc())?;
     match plan(rt.alloc(), words.as_slice()) {
         Ok(Plan::List { file }) => list_file(rt, file),
+        Ok(
+            Plan::Check {
+                file,
+                args_len,
+                tables,
+            },
+        ) => check_file(rt, file, args_len, &tables),
         Err(fault) => refused(rt, &fault),
     }
 }

@@ -1,46 +1,143 @@
 //! What the command line asks for.
 
-ghost use Rattle.std.specs.Prelude.{◌≡◌, IfOk, map};
-ghost use Rattle.clap.specs.Words.{subcommand_of, subcommand_rows_of};
-ghost use Rattle.dsmdb.specs.Plan.{command_line, IsPlanOf};
+ghost use Rattle.std.specs.Prelude.{◌≡◌, [], codes, Some, IfOk, map};
+ghost use Rattle.std.specs.Option.{unwrap_or};
+ghost use Rattle.clap.specs.Words.{all_of, app_of, found_of, rows_of, rule_of, subcommand_of, subcommand_rows_of};
+ghost use Rattle.engines.specs.Number.{table_of};
+ghost use Rattle.dsmdb.specs.Plan.{args_rule, check_line, command_line, file_rule, list_line, table_rule, IsPlanOf, IsListOf, IsCheckOf};
 
 use crate::request::{Plan, PlanFault};
 use clap::{Arg, ArgAction, ArgMatches, Command};
-use std::alloc::Global;
+use engines::{number_in, table};
+use std::alloc::{AllocError, Global};
 use std::convert::AsStr;
 
 /// What `--version` prints behind the name.
 const VERSION: &str = "0.1.0";
 
 /// The words after the program's name, which is the first, as a plan.
-pub fn plan<'a, S: AsStr>(alloc: Global, words: &'a [S]) -> Result<Plan<'a>, PlanFault>
+pub fn plan<'a, S: AsStr>(alloc: Global, words: &'a [S]) -> Result<Plan<'a>, PlanFault<'a>>
     ensures { IfOk result (λ plan. IsPlanOf (subcommand_of command_line (map S.text words.entry.now)) plan) }
 {
     let matches = matches(alloc, words)?;
     match matches.subcommand() {
-        Some(("list", values)) => match values.get_str("FILE") {
-            Some(file) => Ok(Plan::List { file }),
-            None => Err(PlanFault::NoCommand),
-        },
+        Some(("list", values)) => list_plan(values),
+        Some(("check", values)) => check_plan(alloc, values),
         _ => Err(PlanFault::NoCommand),
     }
 }
 
+/// The values of `list`.
+fn list_plan<'a>(values: &ArgMatches<'a>) -> Result<Plan<'a>, PlanFault<'a>>
+    ensures { IfOk result (IsListOf (rows_of (found_of values.now))) }
+{
+    match values.get_str("FILE") {
+        Some(file) => Ok(Plan::List { file }),
+        None => Err(PlanFault::NoCommand),
+    }
+}
+
+/// The values of `check`.
+fn check_plan<'a>(alloc: Global, values: &ArgMatches<'a>) -> Result<Plan<'a>, PlanFault<'a>>
+    ensures { IfOk result (IsCheckOf (rows_of (found_of values.now))) }
+{
+    let Some(file) = values.get_str("FILE") else {
+        return Err(PlanFault::NoCommand);
+    };
+    let Some(word) = values.get_str("ARGS") else {
+        return Err(PlanFault::NoCommand);
+    };
+    let Some(args_len) = number_in(word, 0, 256) else {
+        return Err(PlanFault::Arguments { word });
+    };
+    let tables = tables(alloc, values)?;
+    Ok(Plan::Check {
+        file,
+        args_len,
+        tables,
+    })
+}
+
+/// The tables of `check`.
+fn tables<'a>(alloc: Global, values: &ArgMatches<'a>) -> Result<Vec<(u8, u16)>, PlanFault<'a>>
+    ensures { IfOk result (λ tables. map table_of (unwrap_or (all_of (codes "T:W") (rows_of (found_of values.now))) [])
+        ≡ map (λ t. Some t) tables.items) }
+{
+    match values.get_raw("T:W") {
+        Some(words) => read_tables(alloc, words),
+        None => Ok(Vec::new(alloc)),
+    }
+}
+
+/// The tables that the words give.
+fn read_tables<'a>(alloc: Global, words: &[&'a str]) -> Result<Vec<(u8, u16)>, PlanFault<'a>>
+    ensures { IfOk result (λ tables. map (λ w. table_of w.now) words.now ≡ map (λ t. Some t) tables.items) }
+{
+    let mut tables = Vec::new(alloc);
+    for &word in words {
+        let Some(table) = table(word) else {
+            return Err(PlanFault::Table { word });
+        };
+        tables.push(table)?;
+    }
+    Ok(tables)
+}
+
 /// What clap reads of the words.
-fn matches<'a, S: AsStr>(alloc: Global, words: &'a [S]) -> Result<ArgMatches<'a>, PlanFault>
+fn matches<'a, S: AsStr>(alloc: Global, words: &'a [S]) -> Result<ArgMatches<'a>, PlanFault<'a>>
     ensures { IfOk result (λ m. subcommand_rows_of m ≡ subcommand_of command_line (map S.text words.entry.now)) }
 {
-    let file = Arg::new(alloc, "FILE")
-        .help("A file with the program's bytes")
-        .required(true)
-        .action(ArgAction::Set);
-    let list = Command::new(alloc, "list")
-        .about("Prints a line for each instruction of a program")
-        .arg(file)?;
+    let list = list_command(alloc)?;
+    let check = check_command(alloc)?;
     let dsmdb = Command::new(alloc, "dsmdb")
         .about("A multi-master row database with verified BPF procedures")
         .version(VERSION)
         .subcommand_required(true)
         .subcommand(list)?;
+    let dsmdb = dsmdb.subcommand(check)?;
     Ok(dsmdb.try_get_matches_from(words)?)
+}
+
+fn list_command<'a>(alloc: Global) -> Result<Command<'a>, AllocError>
+    ensures { IfOk result (λ c. app_of c ≡ list_line) }
+{
+    Command::new(alloc, "list")
+        .about("Prints a line for each instruction of a program")
+        .arg(file(alloc))
+}
+
+fn check_command<'a>(alloc: Global) -> Result<Command<'a>, AllocError>
+    ensures { IfOk result (λ c. app_of c ≡ check_line) }
+{
+    let command = Command::new(alloc, "check")
+        .about("Says whether a program is accepted as a procedure")
+        .arg(file(alloc))?;
+    let command = command.arg(args(alloc))?;
+    command.arg(tables_arg(alloc))
+}
+
+fn file<'a>(alloc: Global) -> Arg<'a>
+    ensures { rule_of result ≡ file_rule }
+{
+    Arg::new(alloc, "FILE")
+        .help("A file with the program's bytes")
+        .required(true)
+        .action(ArgAction::Set)
+}
+
+fn args<'a>(alloc: Global) -> Arg<'a>
+    ensures { rule_of result ≡ args_rule }
+{
+    Arg::new(alloc, "ARGS")
+        .help("How many bytes the arguments have, 0 to 256")
+        .required(true)
+        .action(ArgAction::Set)
+}
+
+fn tables_arg<'a>(alloc: Global) -> Arg<'a>
+    ensures { rule_of result ≡ table_rule }
+{
+    Arg::new(alloc, "T:W")
+        .help("A table, 1 to 64, and how many bytes its rows have, 1 to 128")
+        .action(ArgAction::Append)
 }

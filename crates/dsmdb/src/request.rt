@@ -1,35 +1,54 @@
 //! The commands, and why words are none.
 
-use std::alloc::AllocError;
+use std::alloc::{AllocError, AllocFailed};
 use thiserror::Error;
 
 /// A command with its values.
-#[derive(Clone, Copy, Debug, PartialEq, Eq)]
+#[derive(Debug, Drop, PartialEq, Eq)]
 pub enum Plan<'a> {
     /// List the program in this file.
-    List { file: &'a str },
+    List {
+        file: &'a str,
+    },
+    /// Check the program in this file, for arguments of so many bytes and for these pairs of a
+    /// table's number and its row width.
+    Check {
+        file: &'a str,
+        args_len: u16,
+        tables: Vec<(u8, u16)>,
+    },
 }
 
 /// Why the words are no plan.
 #[derive(Debug, Drop, Error)]
-pub enum PlanFault {
+pub enum PlanFault<'a> {
     /// They can't be read, or ask for help or the version: clap has the text and the exit status.
     #[error(transparent)]
     CommandLine(clap::Error),
+    #[error("ARGS must be a number from 0 to 256: '{word}'")]
+    Arguments { word: &'a str },
+    #[error("T:W must be a table from 1 to 64 and its row width from 1 to 128: '{word}'")]
+    Table { word: &'a str },
     #[error("no command was given")]
     NoCommand,
     #[error("out of memory")]
     OutOfMemory,
 }
 
-impl From<clap::Error> for PlanFault {
-    fn from(error: clap::Error) -> PlanFault {
+impl From<clap::Error> for PlanFault<'_> {
+    fn from(error: clap::Error) -> Self {
         PlanFault::CommandLine(error)
     }
 }
 
-impl From<AllocError> for PlanFault {
-    fn from(_error: AllocError) -> PlanFault {
+impl<T: Drop> From<AllocFailed<T>> for PlanFault<'_> {
+    fn from(_error: AllocFailed<T>) -> Self {
+        PlanFault::OutOfMemory
+    }
+}
+
+impl From<AllocError> for PlanFault<'_> {
+    fn from(_error: AllocError) -> Self {
         PlanFault::OutOfMemory
     }
 }

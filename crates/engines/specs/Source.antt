@@ -1,9 +1,9 @@
 -- A program's bytes as they are read: all of them, or that there are too many for a program.
 use Rattle.std.specs.Prelude.{◌≡◌, ℕ, ◌*◌, ◌%◌, ◌<◌, ◌↔◌, Bool, true, false, List, length, IsTrue, Vec}
 use Rattle.bpf_code.specs.Program.{max_slots}
-use Rattle.dsmdb.specs.declared.source.Source.{Source}
-use Rattle.dsmdb.specs.declared.source.Source.TheVariants.{Whole, TooLong}
-use Rattle.dsmdb.specs.declared.source.Front.{Front}
+use Rattle.engines.specs.declared.source.Source.{Source}
+use Rattle.engines.specs.declared.source.Source.TheVariants.{Whole, TooLong}
+use Rattle.engines.specs.declared.source.Front.{Front}
 
 -- what was read of these bytes
 abbrev pub IsReadOf : {A : Type 0} → Source A → List ℕ → Type 0

@@ -1,25 +1,22 @@
 //! The command `list`, over any input and output.
 
-ghost use Rattle.std.specs.Prelude.{◌≡◌, ◌≢◌, ◌⊎◌, ℕ, List, IfOk, IfSome, OnErr};
+ghost use Rattle.std.specs.Prelude.{◌≡◌, ◌≢◌, ◌⊎◌, IfOk, IfSome, OnErr};
 ghost use Rattle.std.specs.Io.KnownBytes.{Appends};
 ghost use Rattle.byte_output.specs.Writes.{AppendsBeginning};
 ghost use Rattle.byte_output.specs.Pending.{output_of, Takes};
 ghost use Rattle.bpf_code.specs.Decoding.{program_of};
-ghost use Rattle.dsmdb.specs.Source.{IsReadOf};
-ghost use Rattle.dsmdb.specs.Listing.{refused_text, text_of, status_of};
-ghost use Rattle.dsmdb.specs.declared.list.TheConstants.{FAILED};
+ghost use Rattle.engines.specs.Listing.{refused_text, text_of, status_of};
+ghost use Rattle.engines.specs.declared.status.TheConstants.{FAILED};
 
-use crate::source::{Source, read_source};
-use bpf_code::{Code, DecodeCause, DecodeFault, decode};
+use crate::source::read_program;
+use crate::status::FAILED;
+use bpf_code::{Code, DecodeFault};
 use bpf_list::put_listing;
 use byte_output::line::{Line, push, push_unsigned};
 use byte_output::paged::PagedOutput;
-use std::alloc::{AllocError, Allocator};
+use std::alloc::Allocator;
 use std::io;
 use std::io::{Read, Write};
-
-/// The exit status where a file, a stream or memory failed.
-pub const FAILED: u8 = 3;
 
 /// Lists the program in the input: the listing and 0, or the line that refuses it and 1, or 3 where
 /// a stream or memory failed, which is said to `faults`.
@@ -65,8 +62,7 @@ fn list<A: Allocator + Copy, R: Read, W: Write>(
     ensures err { OnErr result (IfSome (R.remaining input.old) (λ bytes.
         AppendsBeginning (W.contents output.old) (W.contents output.new) (text_of (program_of bytes)))) }
 {
-    let source = read_source(alloc, input)?;
-    let decoded = decode_source(alloc, &source)?;
+    let decoded = read_program(alloc, input)?;
     let mut pages = PagedOutput::new(output);
     print(&decoded, &mut pages)?;
     pages.finish()?;
@@ -90,29 +86,8 @@ fn print<A: Allocator, W: Write>(
     }
 }
 
-/// What the bytes of a source decode to; the error is want of memory.
-#[tactic(auto, unfolding(bpf_code::specs::Decoding::program_of))]
-fn decode_source<A: Allocator>(
-    alloc: A,
-    source: &Source<A>,
-) -> io::Result<Result<Code<A>, DecodeFault>>
-    ensures { IfOk result (λ decoded. (bytes : List ℕ) → IsReadOf source.now bytes → program_of bytes ≡ decoded) }
-{
-    let fault = |cause: DecodeCause| DecodeFault { cause, slot: 0 };
-    match source {
-        Source::Whole(bytes) => match decode(alloc, bytes) {
-            Err(fault) if matches!(fault.cause, DecodeCause::OutOfMemory) => {
-                Err(io::Error::from(AllocError))
-            }
-            decoded => Ok(decoded),
-        },
-        Source::TooLong(true) => Ok(Err(fault(DecodeCause::TooManySlots))),
-        Source::TooLong(false) => Ok(Err(fault(DecodeCause::Length))),
-    }
-}
-
 /// The line that refuses a program, as `refused B3 slot 0`.
-fn refused_line(fault: DecodeFault) -> Line
+pub(crate) fn refused_line(fault: DecodeFault) -> Line
     ensures { result.items ≡ refused_text fault }
 {
     let mut line = Line::new();

@@ -2,9 +2,10 @@
 
 ghost use Rattle.std.specs.Prelude.{◌≡◌, ◌≤◌, ◌++◌, ℕ, List, [], IfOk, OnOk, IfSome, length};
 ghost use Rattle.std.specs.Io.KnownBytes.{ReadConsumes};
-ghost use Rattle.dsmdb.specs.Source.{IsReadOf};
+ghost use Rattle.bpf_code.specs.Decoding.{program_of};
+ghost use Rattle.engines.specs.Source.{IsReadOf};
 
-use bpf_code::MAX_SLOTS;
+use bpf_code::{Code, DecodeCause, DecodeFault, MAX_SLOTS, decode};
 use std::alloc::{AllocError, Allocator};
 use std::io;
 use std::io::{ErrorKind, Read};
@@ -29,7 +30,7 @@ pub struct Front<A: Allocator> {
 }
 
 impl<A: Allocator> Front<A> {
-    ghost use Rattle.dsmdb.specs.Source.{IsFrontOf, IsReadOf};
+    ghost use Rattle.engines.specs.Source.{IsFrontOf, IsReadOf};
 
     fn new(alloc: A) -> Result<Front<A>, AllocError>
         ensures { IfOk result (λ front. IsFrontOf front []) }
@@ -84,7 +85,7 @@ fn read_some<R: Read>(input: &mut R, chunk: &mut [u8]) -> io::Result<usize>
 }
 
 /// Reads an input to its end. An error is the input's, or want of memory.
-pub fn read_source<A: Allocator, R: Read>(alloc: A, input: &mut R) -> io::Result<Source<A>>
+fn read_source<A: Allocator, R: Read>(alloc: A, input: &mut R) -> io::Result<Source<A>>
     ensures { IfOk result (λ source. IfSome (R.remaining input.old) (IsReadOf source)) }
 {
     let mut front = Front::new(alloc)?;
@@ -98,4 +99,36 @@ pub fn read_source<A: Allocator, R: Read>(alloc: A, input: &mut R) -> io::Result
         front.add(piece)?;
     }
     Err(io::Error::from(ErrorKind::Interrupted))
+}
+
+/// What the bytes of a source decode to; the error is want of memory.
+#[tactic(auto, unfolding(bpf_code::specs::Decoding::program_of))]
+fn decode_source<A: Allocator>(
+    alloc: A,
+    source: &Source<A>,
+) -> io::Result<Result<Code<A>, DecodeFault>>
+    ensures { IfOk result (λ decoded. (bytes : List ℕ) → IsReadOf source.now bytes → program_of bytes ≡ decoded) }
+{
+    let fault = |cause: DecodeCause| DecodeFault { cause, slot: 0 };
+    match source {
+        Source::Whole(bytes) => match decode(alloc, bytes) {
+            Err(fault) if matches!(fault.cause, DecodeCause::OutOfMemory) => {
+                Err(io::Error::from(AllocError))
+            }
+            decoded => Ok(decoded),
+        },
+        Source::TooLong(true) => Ok(Err(fault(DecodeCause::TooManySlots))),
+        Source::TooLong(false) => Ok(Err(fault(DecodeCause::Length))),
+    }
+}
+
+/// Reads a program, or the fault of the bytes. An error is the input's, or want of memory.
+pub(crate) fn read_program<A: Allocator + Copy, R: Read>(
+    alloc: A,
+    input: &mut R,
+) -> io::Result<Result<Code<A>, DecodeFault>>
+    ensures { IfOk result (λ decoded. IfSome (R.remaining input.old) (λ bytes. program_of bytes ≡ decoded)) }
+{
+    let source = read_source(alloc, input)?;
+    decode_source(alloc, &source)
 }

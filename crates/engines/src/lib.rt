@@ -1,0 +1,17 @@
+//! An engine for each command, over any input, output and writer for faults.
+#![tactic(auto)]
+
+pub use check::check_over;
+pub use list::list_over;
+pub use number::{number_in, table};
+pub use status::FAILED;
+pub use verdict::Verdict;
+
+mod check;
+mod list;
+mod number;
+mod source;
+mod status;
+#[cfg(test)]
+mod tests;
+mod verdict;

@@ -1,0 +1,400 @@
+use crate::check::check_over;
+use crate::list::list_over;
+use crate::number::{number_in, table};
+use scarce::Scarce;
+use std::alloc::Global;
+use std::io;
+use std::io::{ErrorKind, Read, Write};
+use std::process::Abort;
+use std::test::Fail;
+
+const EXIT: [u8; 8] = [0x95, 0, 0, 0, 0, 0, 0, 0];
+
+/// Gives its bytes and then fails, or ends.
+#[derive(Drop)]
+struct Input<'a> {
+    left: &'a [u8],
+    fails: bool,
+}
+
+impl Read for Input<'_> {
+    fn read(&mut self, buf: &mut [u8]) -> io::Result<usize> {
+        if self.left.is_empty() && self.fails {
+            return Err(io::Error::from(ErrorKind::Other));
+        }
+        self.left.read(buf)
+    }
+}
+
+/// Takes so many bytes, some of them at a time, and then fails; its flush may fail too.
+#[derive(Drop)]
+struct Output {
+    room: usize,
+    at_once: usize,
+    flushes: bool,
+    held: Vec<u8>,
+}
+
+impl Output {
+    fn new(alloc: Global, room: usize) -> Output {
+        Output {
+            room,
+            at_once: usize::MAX,
+            flushes: true,
+            held: Vec::new(alloc),
+        }
+    }
+}
+
+impl Write for Output {
+    fn write(&mut self, buf: &[u8]) -> io::Result<usize> {
+        if self.room == 0 {
+            return Err(io::Error::from(ErrorKind::Other));
+        }
+        let taken = buf.len().min(self.room).min(self.at_once);
+        let (front, _) = buf.split_at(taken);
+        self.held.extend_from_slice(front)?;
+        self.room -= taken;
+        Ok(taken)
+    }
+
+    fn flush(&mut self) -> io::Result<()> {
+        if self.flushes {
+            Ok(())
+        } else {
+            Err(io::Error::from(ErrorKind::Other))
+        }
+    }
+}
+
+/// The exit status for an input, and what the output then holds.
+fn listed(
+    rt: &impl Abort,
+    alloc: Global,
+    mut input: Input<'_>,
+    mut output: Output,
+) -> (u8, Vec<u8>) {
+    let mut faults = Vec::new(alloc);
+    let status = list_over(alloc, &mut input, &mut output, &mut faults);
+    // A fault is told where there was one.
+    assert_eq!(rt; faults.is_empty(), status != 3);
+    (status, output.held)
+}
+
+/// So many instructions, and their listing.
+fn exits(rt: &HostRuntime, count: usize) -> Result<(Vec<u8>, String), Fail> {
+    let mut program = Vec::new(rt.alloc());
+    let mut text = String::new(rt.alloc());
+    for slot in 0..count {
+        program.extend_from_slice(&EXIT)?;
+        let line = format!(in rt.alloc();
+            "{slot:>4} 9500000000000000 exit dst 0 src 0 off 0 imm 0\n"
+        )?;
+        text.push_str(line.as_str())?;
+    }
+    Ok((program, text))
+}
+
+fn whole(left: &[u8]) -> Input<'_> {
+    Input { left, fails: false }
+}
+
+/// In one write or in many, also where the listing is longer than a page.
+#[test]
+fn a_program_is_listed(rt: HostRuntime) -> Result<(), Fail> {
+    for (count, at_once) in [
+        (1, usize::MAX),
+        (1, 1),
+        (500, usize::MAX),
+        (500, 1),
+        (500, 4095),
+    ] {
+        let (program, expected) = exits(&rt, count)?;
+        let mut output = Output::new(rt.alloc(), usize::MAX);
+        output.at_once = at_once;
+        let (status, text) = listed(&rt, rt.alloc(), whole(&program), output);
+        assert_eq!(rt; status, 0);
+        assert_eq!(rt; text.as_slice(), expected.as_bytes());
+    }
+    Ok(())
+}
+
+/// Wherever the output fails, it holds the text as far as it had room.
+#[test]
+fn a_failing_output_answers_3(rt: HostRuntime) -> Result<(), Fail> {
+    let (program, expected) = exits(&rt, 90)?;
+    for room in 0..expected.len() {
+        let (status, text) = listed(
+            &rt,
+            rt.alloc(),
+            whole(&program),
+            Output::new(rt.alloc(), room),
+        );
+        assert_eq!(rt; status, 3);
+        assert_eq!(rt; Some(text.as_slice()), expected.as_bytes().get(..room));
+    }
+    let (status, _) = listed(
+        &rt,
+        rt.alloc(),
+        whole(&program),
+        Output::new(rt.alloc(), expected.len()),
+    );
+    assert_eq!(rt; status, 0);
+    for (input, text) in [
+        (program.as_slice(), expected.as_str()),
+        (&[], "refused B1 slot 0\n"),
+    ] {
+        let mut output = Output::new(rt.alloc(), usize::MAX);
+        output.flushes = false;
+        let (status, held) = listed(&rt, rt.alloc(), whole(input), output);
+        assert_eq!(rt; status, 3);
+        assert_eq!(rt; held.as_slice(), text.as_bytes());
+    }
+    Ok(())
+}
+
+#[test]
+fn a_refusal_is_one_line(rt: HostRuntime) -> Result<(), Fail> {
+    let (mut long, _) = exits(&rt, 4097)?;
+    let (status, text) = listed(&rt, rt.alloc(), whole(&long), Output::new(rt.alloc(), 1000));
+    assert_eq!(rt; status, 1);
+    assert_eq!(rt; text.as_slice(), b"refused B2 slot 0\n".as_slice());
+    // A length that is no whole number of slots is the lower fault.
+    long.push(0)?;
+    for bytes in [&[], long.as_slice()] {
+        let (status, text) = listed(&rt, rt.alloc(), whole(bytes), Output::new(rt.alloc(), 1000));
+        assert_eq!(rt; status, 1);
+        assert_eq!(rt; text.as_slice(), b"refused B1 slot 0\n".as_slice());
+    }
+    Ok(())
+}
+
+#[test]
+fn a_failing_input_answers_3(rt: HostRuntime) {
+    let input = Input {
+        left: &EXIT,
+        fails: true,
+    };
+    let (status, text) = listed(&rt, rt.alloc(), input, Output::new(rt.alloc(), 1000));
+    assert_eq!(rt; status, 3);
+    assert!(rt; text.is_empty());
+}
+
+/// The bytes and the slots are one growth each; without one nothing is printed, and a fault is told.
+#[test]
+fn each_growth_refused_answers_3(rt: HostRuntime) {
+    let scarce = Scarce::new(rt.alloc());
+    let failed = scarce.refuse_each(|| {
+        let mut output = Output::new(rt.alloc(), 1000);
+        let mut faults = Vec::new(rt.alloc());
+        let status = list_over(&scarce, &mut whole(&EXIT), &mut output, &mut faults);
+        if status == 0 {
+            return true;
+        }
+        assert_eq!(rt; status, 3);
+        assert!(rt; output.held.is_empty());
+        assert!(rt; !faults.is_empty());
+        false
+    });
+    assert_eq!(rt; failed, Some(2));
+}
+
+/// Adds to the row of table 1 at the key that the arguments begin with the number behind it.
+const ADD: [u64; 17] = [
+    0x7916_0000_0000_0000,
+    0x7917_0800_0000_0000,
+    0xb701_0000_0100_0000,
+    0xbf62_0000_0000_0000,
+    0xbfa3_0000_0000_0000,
+    0x0703_0000_f8ff_ffff,
+    0x8500_0000_0100_0000,
+    0x79a8_f8ff_0000_0000,
+    0x0f78_0000_0000_0000,
+    0x7b8a_f8ff_0000_0000,
+    0xb701_0000_0100_0000,
+    0xbf62_0000_0000_0000,
+    0xbfa3_0000_0000_0000,
+    0x0703_0000_f8ff_ffff,
+    0x8500_0000_0200_0000,
+    0xbf80_0000_0000_0000,
+    0x9500_0000_0000_0000,
+];
+
+/// The bytes of slots that are written as they stand in a file.
+fn bytes_of(alloc: Global, slots: &[u64]) -> Result<Vec<u8>, Fail> {
+    let mut bytes = Vec::new(alloc);
+    for slot in slots {
+        bytes.extend_from_slice(&slot.to_be_bytes())?;
+    }
+    Ok(bytes)
+}
+
+/// The exit status of a check, and what the output then holds.
+fn checked(
+    rt: &impl Abort,
+    alloc: Global,
+    mut input: Input<'_>,
+    mut output: Output,
+    args_len: u16,
+    tables: &[(u8, u16)],
+) -> (u8, Vec<u8>) {
+    let mut faults = Vec::new(alloc);
+    let status = check_over(
+        alloc,
+        &mut input,
+        &mut output,
+        &mut faults,
+        args_len.min(256),
+        tables,
+    );
+    // A fault is told where there was one.
+    assert_eq!(rt; faults.is_empty(), status != 3);
+    (status, output.held)
+}
+
+/// A jump into the second half of a wide load.
+const INTO_LOAD: [u64; 4] = [
+    0x0500_0100_0000_0000,
+    0x1800_0000_0100_0000,
+    0,
+    0x9500_0000_0000_0000,
+];
+
+/// Slots, how many bytes the arguments have, the tables, the exit status and the line.
+type Check = (&'static [u64], u16, &'static [(u8, u16)], u8, &'static str);
+
+const CHECKS: [Check; 12] = [
+    (&ADD, 16, &[(1, 8)], 0, "accepted slots 17 bound 17\n"),
+    (
+        &ADD,
+        256,
+        &[(64, 128), (1, 8)],
+        0,
+        "accepted slots 17 bound 17\n",
+    ),
+    (&ADD, 8, &[(1, 8)], 1, "refused V4 slot 1\n"),
+    (&ADD, 16, &[(1, 16)], 1, "refused V9 slot 6\n"),
+    (&ADD, 16, &[(2, 8)], 1, "refused V7 slot 6\n"),
+    (&ADD, 16, &[], 1, "refused V7 slot 6\n"),
+    (&INTO_LOAD, 0, &[], 1, "refused B10 slot 0\n"),
+    (&[], 0, &[], 1, "refused B1 slot 0\n"),
+    // The schema's fault comes before the program's.
+    (&ADD, 16, &[(1, 8), (1, 8)], 1, "refused S3\n"),
+    (&[], 0, &[(1, 8), (0, 8)], 1, "refused S1\n"),
+    (&[], 0, &[(65, 8)], 1, "refused S1\n"),
+    (&[], 0, &[(1, 129), (1, 8)], 1, "refused S2\n"),
+];
+
+/// In one write or in many; and wherever the output fails, it holds the line as far as it had room.
+fn try_check(rt: &impl Abort, alloc: Global, bytes: &[u8], check: &Check) {
+    let (_, args_len, tables, status, line) = *check;
+    for at_once in [usize::MAX, 1] {
+        let mut output = Output::new(alloc, usize::MAX);
+        output.at_once = at_once;
+        let (got, text) = checked(rt, alloc, whole(bytes), output, args_len, tables);
+        assert_eq!(rt; got, status);
+        assert_eq!(rt; text.as_slice(), line.as_bytes());
+    }
+    for room in 0..line.len() {
+        let output = Output::new(alloc, room);
+        let (got, text) = checked(rt, alloc, whole(bytes), output, args_len, tables);
+        assert_eq!(rt; got, 3);
+        assert_eq!(rt; Some(text.as_slice()), line.as_bytes().get(..room));
+    }
+    let mut output = Output::new(alloc, usize::MAX);
+    output.flushes = false;
+    let (got, text) = checked(rt, alloc, whole(bytes), output, args_len, tables);
+    assert_eq!(rt; got, 3);
+    assert_eq!(rt; text.as_slice(), line.as_bytes());
+}
+
+#[test]
+fn a_program_is_accepted_or_refused(rt: HostRuntime) -> Result<(), Fail> {
+    for check in &CHECKS {
+        let bytes = bytes_of(rt.alloc(), check.0)?;
+        try_check(&rt, rt.alloc(), &bytes, check);
+    }
+    Ok(())
+}
+
+/// An input that fails, and each growth refused in turn: nothing is printed, and a fault is told.
+#[test]
+fn a_check_that_fails_answers_3(rt: HostRuntime) -> Result<(), Fail> {
+    let bytes = bytes_of(rt.alloc(), &ADD)?;
+    let input = Input {
+        left: &bytes,
+        fails: true,
+    };
+    let (status, text) = checked(
+        &rt,
+        rt.alloc(),
+        input,
+        Output::new(rt.alloc(), 1000),
+        16,
+        &[(1, 8)],
+    );
+    assert_eq!(rt; status, 3);
+    assert!(rt; text.is_empty());
+    let scarce = Scarce::new(rt.alloc());
+    let failed = scarce.refuse_each(|| {
+        let mut output = Output::new(rt.alloc(), 1000);
+        let mut faults = Vec::new(rt.alloc());
+        let mut input = whole(&bytes);
+        let tables = [(1, 8)];
+        let status = check_over(&scarce, &mut input, &mut output, &mut faults, 16, &tables);
+        if status == 0 {
+            return true;
+        }
+        assert_eq!(rt; status, 3);
+        assert!(rt; output.held.is_empty());
+        assert!(rt; !faults.is_empty());
+        false
+    });
+    assert_eq!(rt; failed, Some(5));
+    Ok(())
+}
+
+#[test]
+fn numbers_and_tables_are_words(rt: HostRuntime) {
+    let numbers = [
+        ("0", Some(0)),
+        ("16", Some(16)),
+        ("256", Some(256)),
+        ("257", None),
+        ("65552", None),
+        ("18446744073709551632", None),
+        ("00", None),
+        ("01", None),
+        ("-1", None),
+        ("+1", None),
+        (" 1", None),
+        ("1 ", None),
+        ("0x1", None),
+        ("x", None),
+        ("", None),
+    ];
+    for (word, number) in numbers {
+        assert_eq!(rt; number_in(word, 0, 256), number, "{word}");
+    }
+    let tables = [
+        ("1:8", Some((1, 8))),
+        ("64:128", Some((64, 128))),
+        ("1:1", Some((1, 1))),
+        ("1:0", None),
+        ("0:8", None),
+        ("65:8", None),
+        ("1:129", None),
+        ("1", None),
+        ("1:", None),
+        (":8", None),
+        ("1:8:9", None),
+        ("01:8", None),
+        ("1:08", None),
+        ("x:8", None),
+        (":", None),
+        ("", None),
+    ];
+    for (word, pair) in tables {
+        assert_eq!(rt; table(word), pair, "{word}");
+    }
+}
