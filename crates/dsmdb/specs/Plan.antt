@@ -1,5 +1,5 @@
 -- The command lines `dsmdb list FILE` and `dsmdb check FILE ARGS [T:W ...]`, and what they ask for.
-use Rattle.std.specs.Prelude.{◌≡◌, true, List, [], codes, map, Option, Some, None, Vec}
+use Rattle.std.specs.Prelude.{◌≡◌, true, List, [], codes, map, Option, Some, None}
 use Rattle.std.specs.Option.{option_and_then, unwrap_or}
 use Rattle.clap.specs.Words.{App, Rule, Row, Text, all_of, first_of, new_app, new_rule, with_rule, with_subcommand}
 use Rattle.clap.specs.declared.builder.ArgAction.TheVariants.{Set, Append}
