@@ -7,7 +7,8 @@ ghost use Rattle.schema.specs.Helper.{helper_of};
 ghost use Rattle.bpf_semantics.specs.Memory.{and_then};
 ghost use Rattle.schema.specs.declared.helper.Helper.TheVariants.{RowGet, RowPut, RowDelete, RangeCount, RangeNext, Cancel};
 ghost use Rattle.bpf_semantics.specs.Helpers.{Table, table_of, with_answer, with_look, with_point_look};
-ghost use Rattle.bpf_semantics.specs.Helpers.{with_range_look, with_row_write, with_row_read, with_next_read, row_get, row_put, range_next, state_after_call};
+ghost use Rattle.bpf_semantics.specs.Helpers.{with_range_look, with_row_write, with_row_read, with_next_read};
+ghost use Rattle.bpf_semantics.specs.Helpers.{row_get, row_put, range_next, state_after_call};
 ghost use Rattle.schema.specs.Rows.{row_at, first_in};
 ghost use Rattle.plain_calls.specs.State.{state_of};
 

@@ -1,8 +1,7 @@
-//! Rows and writes of the plain runner, and the map in which it keeps them.
+//! The map in which the plain runner keeps rows and writes.
 #![tactic(auto)]
 
 pub use key_map::KeyMap;
-pub use row::{Bytes, Keyed, Row, Write};
+pub use row_values::{Bytes, Keyed, Row, Write};
 
 mod key_map;
-mod row;

@@ -67,7 +67,8 @@ impl<V> Model for Keyed<V> {
 }
 
 impl<V> Keyed<V> {
-    pub(crate) fn at(table: u8, key: u64, value: V) -> Keyed<V>
+    /// The value at a key of a table.
+    pub fn at(table: u8, key: u64, value: V) -> Keyed<V>
         ensures { result ≡ ((table, key), value) }
     {
         Keyed { table, key, value }
