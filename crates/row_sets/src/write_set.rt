@@ -1,0 +1,132 @@
+//! What a call has written.
+
+ghost use Rattle.std.specs.Prelude.{◌≡◌, ◌↔◌, ◌≤◌, ◌<◌, ◌^◌, length, IsTrue, OnOk, OnErr, Some, None, option_map, filter};
+ghost use Rattle.std.specs.List.{list_any};
+ghost use Rattle.std.specs.Map.Iter.{ShowsInOrder, deref_pair};
+ghost use Rattle.std.specs.FinMap.{empty, get, contains_key, entries, keys, len};
+ghost use Rattle.schema.specs.Rows.{covers, with_write};
+
+use row_values::Bytes;
+use schema::Look;
+use std::alloc::{AllocError, Allocator, Global};
+use std::collections::BTreeMap;
+use std::collections::btree_map::{Iter, Range};
+use std::marker::Model;
+
+/// The last write of each key: the bytes that were put, or none where the row was removed. Contracts
+/// see a finite map.
+#[derive(Drop)]
+pub struct WriteSet<A: Allocator + Copy = Global> {
+    alloc: A,
+    map: BTreeMap<(u8, u64), Option<Bytes<A>>, A>,
+}
+
+impl<A: Allocator + Copy> Model for WriteSet<A> {
+    ghost use Rattle.std.specs.Prelude.{ℕ};
+    ghost use Rattle.std.specs.Coded.{coded×, coded_ℕ, coded_list, coded_option};
+    ghost use Rattle.std.specs.FinMap.{from_entries, code};
+    ghost use Rattle.schema.specs.Rows.{Writes};
+
+    ghost Value = { Writes };
+
+    ghost coded = { code (coded× coded_ℕ coded_ℕ) (coded_option (coded_list coded_ℕ)) };
+
+    ghost view = { λ s. from_entries s.map.entries };
+}
+
+impl<A: Allocator + Copy> WriteSet<A> {
+    /// No writes. Takes no memory.
+    pub fn new(alloc: A) -> WriteSet<A>
+        ensures { result ≡ empty }
+    {
+        WriteSet {
+            alloc,
+            map: BTreeMap::new(alloc),
+        }
+    }
+
+    /// The row becomes these bytes.
+    pub fn put(&mut self, table: u8, key: u64, bytes: &[u8]) -> Result<(), AllocError>
+        ensures written { OnOk result
+            (self.new ≡ with_write self.old (table, key) (Some bytes.now)) }
+        ensures unchanged { OnErr result (self.new ≡ self.old) }
+    {
+        let copy = Vec::from_slice(self.alloc, bytes)?;
+        self.map.insert((table, key), Some(Bytes::new(copy)))?;
+        Ok(())
+    }
+
+    /// The row is removed.
+    pub fn remove(&mut self, table: u8, key: u64) -> Result<(), AllocError>
+        ensures written { OnOk result (self.new ≡ with_write self.old (table, key) None) }
+        ensures unchanged { OnErr result (self.new ≡ self.old) }
+    {
+        self.map.insert((table, key), None)?;
+        Ok(())
+    }
+
+    /// No writes any more.
+    pub fn clear(&mut self)
+        ensures { self.new ≡ empty }
+    {
+        self.map.clear();
+    }
+
+    /// The write at a key, if there is one: the bytes that were put, or none where the row was removed.
+    pub fn get(&self, table: u8, key: u64) -> Option<Option<&[u8]>>
+        ensures { option_map (λ write. option_map (λ bytes. bytes.now) write) result
+            ≡ get self.now (table, key) }
+    {
+        match self.map.get(&(table, key)) {
+            Some(Some(bytes)) => Some(Some(bytes.as_slice())),
+            Some(None) => Some(None),
+            None => None,
+        }
+    }
+
+    /// Whether a key was written.
+    pub fn contains(&self, table: u8, key: u64) -> bool
+        ensures { result ≡ contains_key self.now (table, key) }
+    {
+        self.map.contains_key(&(table, key))
+    }
+
+    /// Whether no key was written.
+    pub fn is_empty(&self) -> bool
+        ensures { IsTrue result ↔ (self.now ≡ empty) }
+    {
+        self.len() == 0
+    }
+
+    /// How many keys were written.
+    pub fn len(&self) -> usize
+        ensures { result ≡ len self.now }
+    {
+        self.map.len()
+    }
+
+    /// The writes, in the order of tables and keys.
+    pub fn iter(&self) -> Iter<'_, (u8, u64), Option<Bytes<A>>>
+        ensures rest { result ≡ entries self.now }
+        ensures fits { length result < 2 ^ 63 }
+    {
+        self.map.iter()
+    }
+
+    /// The writes of the keys that a look covers, in order.
+    pub fn range(&self, look: Look) -> Range<'_, (u8, u64), Option<Bytes<A>>>
+        requires { look.lo ≤ look.hi }
+        ensures rest { result ≡ filter (λ write. covers look write.0) (entries self.now) }
+        ensures fits { length result < 2 ^ 63 }
+    {
+        self.map
+            .range((look.table, look.lo)..=(look.table, look.hi))
+    }
+
+    /// Whether a key that a look covers was written.
+    pub fn is_written_in(&self, look: Look) -> bool
+        ensures { result ≡ list_any (covers look) (keys self.now) }
+    {
+        look.lo <= look.hi && self.range(look).next().is_some()
+    }
+}
