@@ -1,0 +1,41 @@
+//! What rows are read from.
+
+ghost use Rattle.std.specs.Prelude.{◌≡◌, ℕ, ◌≤◌, ◌%◌, ◌^◌, Bool, IfOk, IfSome, is_err, option_map};
+ghost use Rattle.txn_view.specs.Found.{row_found};
+ghost use Rattle.schema.specs.Rows.{Rows, row_at, count_in, first_in};
+
+use schema::Look;
+
+/// The store has what is asked for no more.
+#[derive(Clone, Copy, Debug, PartialEq, Eq, Drop)]
+pub struct Gone;
+
+/// Rows that are read, at one moment.
+pub trait Store {
+    /// Whether it answers from this map of rows.
+    ghost answers_from: { Self → Rows → Type 0 };
+
+    /// Whether it has them no more.
+    ghost is_gone: { Self → Bool };
+
+    /// The row of a table at a key.
+    fn get(&self, table: u8, key: u64) -> Result<Option<&[u8]>, Gone>
+        ensures found { (rows : Rows) → answers_from self.now rows
+            → IfOk result (λ found. option_map (λ row. row.now) found ≡ row_at rows table key) }
+        ensures gone { is_err result ≡ is_gone self.now };
+
+    /// How many rows a look covers, modulo 2^64.
+    fn count(&self, look: Look) -> Result<u64, Gone>
+        ensures counted { (rows : Rows) → answers_from self.now rows
+            → IfOk result (λ count. count ≡ count_in look rows % 2 ^ 64) }
+        ensures gone { is_err result ≡ is_gone self.now };
+
+    /// The key and the row of the least key that a look covers, where there is one.
+    fn next(&self, look: Look) -> Result<Option<(u64, &[u8])>, Gone>
+        ensures found { (rows : Rows) → answers_from self.now rows
+            → IfOk result (λ found.
+            row_found look.table found ≡ first_in look rows) }
+        ensures covered { IfOk result (λ found.
+            IfSome found (λ row. (look.lo ≤ row.0) × (row.0 ≤ look.hi))) }
+        ensures gone { is_err result ≡ is_gone self.now };
+}
