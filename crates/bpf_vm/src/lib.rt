@@ -1,0 +1,11 @@
+//! The machine that runs accepted procedures over a view of a store, an instruction a turn.
+#![tactic(auto)]
+
+pub use laws::{open_calls_can_turn, runs_go_on_or_end};
+pub use machine::{ArgsLength, Machine};
+pub use turn::Turn;
+
+mod laws;
+mod machine;
+mod step;
+mod turn;

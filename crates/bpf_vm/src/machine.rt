@@ -1,0 +1,157 @@
+//! The machine, its turns and its run.
+
+ghost use Rattle.std.specs.Prelude.{◌≡◌, ◌≢◌, ◌↔◌, ◌<◌, ◌≤◌, ℕ, List, length, IfOk, IsErr};
+ghost use Rattle.schema.specs.Rows.{Rows};
+ghost use Rattle.bpf_semantics.specs.State.{State};
+ghost use Rattle.bpf_semantics.specs.Path.{longest_path};
+ghost use Rattle.acceptance.specs.Description.{Suits};
+ghost use Rattle.vm_state.specs.Words.{Holds};
+ghost use Rattle.txn_view.specs.View.{IsViewOf};
+ghost use Rattle.bpf_vm.specs.declared.turn.Turn.TheVariants.{More};
+ghost use Rattle.bpf_vm.specs.Turns.{CanStep, CanTurn, FollowsStep, DoesNothing};
+ghost use Rattle.bpf_vm.specs.Run.{HasRun, AfterTurn, IsOnRun, no_effects, own_effects};
+
+use crate::laws::{open_calls_can_turn, runs_go_on_or_end};
+use crate::step::step;
+use crate::turn::Turn;
+use acceptance::accepted_programs_never_go_wrong;
+use bpf_semantics::states_fit;
+use bpf_verify::Accepted;
+use std::alloc::Allocator;
+use std::marker::Model;
+use txn_view::{Store, View};
+use vm_state::WordState;
+
+/// The arguments aren't as long as the procedure's.
+#[derive(Clone, Copy, Debug, PartialEq, Eq, Drop)]
+pub struct ArgsLength;
+
+/// A call of an accepted procedure: its words, and what its last turn answered.
+#[derive(Drop)]
+pub struct Machine {
+    words: WordState,
+    last: Turn,
+}
+
+impl Model for Machine {
+    ghost use Rattle.bpf_vm.specs.Turns.{MachineState};
+
+    ghost Value = { MachineState };
+
+    ghost view = { λ m. record { words = m.words; last = m.last } };
+
+    ghost invariant = { λ m. Unit {0} };
+}
+
+impl Machine {
+    /// A call on these arguments, which runs its first instruction next. Takes no memory.
+    pub fn start<A: Allocator, B: Allocator>(
+        procedure: &Accepted<A, B>,
+        args: &[u8],
+    ) -> Result<Machine, ArgsLength>
+        ensures starts { IfOk result (λ m. (rows : Rows)
+            → HasRun procedure.now args.now rows 0 m no_effects) }
+        ensures length { IsErr result ↔ (length args.now ≢ procedure.now.args_len) }
+    {
+        // Asked for in any case: their contracts say what is known of an accepted procedure.
+        let _slots = procedure.code().slots();
+        let _width = procedure.schema().width(0);
+        if args.len() != usize::from(procedure.args_len()) {
+            return Err(ArgsLength);
+        }
+        Ok(Machine {
+            words: WordState::start(args),
+            last: Turn::More,
+        })
+    }
+
+    /// What the last turn answered, and before the first that there is more.
+    pub fn last(&self) -> Turn
+        ensures { result ≡ self.now.last }
+    {
+        self.last
+    }
+
+    /// The next instruction. Where the last turn didn't answer that there is more, nothing is done, and it answers
+    /// the same again.
+    pub fn turn<A: Allocator, B: Allocator, S: Store, C: Allocator + Copy>(
+        &mut self,
+        procedure: &Accepted<A, B>,
+        view: &mut View<S, C>,
+    ) -> Turn
+        requires { CanTurn procedure.now (S.answers_from view.old.store) self.old view.old.own }
+        ensures follows { self.old.last ≡ More → (s : State) → Holds s self.old.words
+            → IsViewOf (S.answers_from view.old.store) view.old.own s
+            → FollowsStep procedure.now (S.answers_from view.old.store) (S.is_gone view.old.store) s result
+            self.new.words view.new.own }
+        ensures last { self.new.last ≡ result }
+        ensures words { DoesNothing result → self.new.words ≡ self.old.words }
+        ensures own { DoesNothing result → view.new.own ≡ view.old.own }
+        ensures store { view.new.store ≡ view.old.store }
+        ensures idle { self.old.last ≢ More → (self.new ≡ self.old) × (view.new.own ≡ view.old.own) }
+        ensures run { (args : List ℕ) (rows : Rows) (k : ℕ) → Suits procedure.now args rows
+            → S.answers_from view.old.store rows
+            → HasRun procedure.now args rows k self.old (own_effects view.old.own)
+            → AfterTurn procedure.now args rows (S.is_gone view.old.store) k result self.new (own_effects view.new.own) }
+        ensures short { (args : List ℕ) (rows : Rows) (k : ℕ) → Suits procedure.now args rows
+            → HasRun procedure.now args rows k self.old (own_effects view.old.own)
+            → k < longest_path procedure.now.program }
+    {
+        runs_go_on_or_end();
+        accepted_programs_never_go_wrong();
+        states_fit();
+        match self.last() {
+            Turn::More => self.advance(procedure, view),
+            over => over,
+        }
+    }
+
+    /// The next instruction.
+    fn advance<A: Allocator, B: Allocator, S: Store, C: Allocator + Copy>(
+        &mut self,
+        procedure: &Accepted<A, B>,
+        view: &mut View<S, C>,
+    ) -> Turn
+        requires { CanStep procedure.now (S.answers_from view.old.store) self.old.words view.old.own }
+        ensures follows { (s : State) → Holds s self.old.words
+            → IsViewOf (S.answers_from view.old.store) view.old.own s
+            → FollowsStep procedure.now (S.answers_from view.old.store) (S.is_gone view.old.store) s result
+            self.new.words view.new.own }
+        ensures last { self.new.last ≡ result }
+        ensures words { DoesNothing result → self.new.words ≡ self.old.words }
+        ensures own { DoesNothing result → view.new.own ≡ view.old.own }
+        ensures store { view.new.store ≡ view.old.store }
+    {
+        self.last = step(&mut self.words, procedure, view);
+        self.last
+    }
+
+    /// Turns until one doesn't answer that there is more: as many as the procedure's bound at most. Where
+    /// the last turn didn't, nothing is done.
+    pub fn run<A: Allocator, B: Allocator, S: Store, C: Allocator + Copy>(
+        &mut self,
+        procedure: &Accepted<A, B>,
+        view: &mut View<S, C>,
+    ) -> Turn
+        requires { IsOnRun procedure.now (S.answers_from view.old.store) self.old (own_effects view.old.own) }
+        ensures ends { result ≢ More }
+        ensures idle { self.old.last ≢ More → (self.new ≡ self.old) × (view.new.own ≡ view.old.own) }
+        ensures last { self.new.last ≡ result }
+        ensures store { view.new.store ≡ view.old.store }
+        ensures run { (args : List ℕ) (rows : Rows) (k : ℕ) → Suits procedure.now args rows
+            → S.answers_from view.old.store rows
+            → HasRun procedure.now args rows k self.old (own_effects view.old.own)
+            → (n : ℕ) × (k ≤ n) × (n < longest_path procedure.now.program)
+            × AfterTurn procedure.now args rows (S.is_gone view.old.store) n result self.new (own_effects view.new.own) }
+    {
+        runs_go_on_or_end();
+        for _ in 0..procedure.bound() {
+            open_calls_can_turn(view);
+            match self.turn(procedure, view) {
+                Turn::More => {}
+                over => return over,
+            }
+        }
+        self.last()
+    }
+}

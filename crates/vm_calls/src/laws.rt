@@ -1,0 +1,13 @@
+//! What holding a state tells, in one piece. To call a law does nothing: its clause is then known.
+
+ghost use Rattle.vm_calls.specs.Held.{HeldLaws};
+
+use vm_state::{buffers_lie_in_the_stack, holding_speaks_of_words_alone, registers_are_held};
+
+pub fn held_laws()
+    ensures { HeldLaws }
+{
+    registers_are_held();
+    buffers_lie_in_the_stack();
+    holding_speaks_of_words_alone();
+}

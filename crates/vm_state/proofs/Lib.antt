@@ -1,0 +1,5 @@
+mod Zip
+mod Places
+mod Holding
+mod Loading
+mod Storing
