@@ -1,0 +1,112 @@
+//! Runs a procedure of straight instructions again and again, for measurements from outside: it says how many
+//! instructions were run, and the time is taken by whoever starts it (bench/machine does).
+#![tactic(auto)]
+
+use anyhow::Context;
+use bpf_code::decode;
+use bpf_verify::{Accepted, verify};
+use plain_rows::Row;
+use schema::Schema;
+use single_site::run_call;
+use std::alloc::Global;
+use std::env;
+use std::process::ExitCode;
+
+/// What each instruction, or each few, of a procedure does.
+#[derive(Clone, Copy, Debug, PartialEq, Eq)]
+enum Kind {
+    /// Arithmetic on registers.
+    Arithmetic,
+    /// Stores and loads in turn, on the stack.
+    Memory,
+    /// Calls that get a row, each with the five instructions that make its arguments.
+    Calls,
+}
+
+impl Kind {
+    fn from_word(word: &str) -> Option<Kind> {
+        match word {
+            "arithmetic" => Some(Kind::Arithmetic),
+            "memory" => Some(Kind::Memory),
+            "calls" => Some(Kind::Calls),
+            _ => None,
+        }
+    }
+
+    /// What is repeated: r6 and r7 are numbers.
+    fn body(self) -> &'static [[u8; 8]] {
+        match self {
+            Kind::Arithmetic => &[
+                [0x0f, 0x76, 0, 0, 0, 0, 0, 0],
+                [0xaf, 0x67, 0, 0, 0, 0, 0, 0],
+                [0x27, 0x06, 0, 0, 3, 0, 0, 0],
+                [0x77, 0x07, 0, 0, 1, 0, 0, 0],
+            ],
+            Kind::Memory => &[
+                [0x7b, 0x6a, 0xf8, 0xff, 0, 0, 0, 0],
+                [0x79, 0xa7, 0xf8, 0xff, 0, 0, 0, 0],
+            ],
+            Kind::Calls => &[
+                [0xb7, 0x01, 0, 0, 1, 0, 0, 0],
+                [0xb7, 0x02, 0, 0, 5, 0, 0, 0],
+                [0xbf, 0xa3, 0, 0, 0, 0, 0, 0],
+                [0x07, 0x03, 0, 0, 0xf8, 0xff, 0xff, 0xff],
+                [0x85, 0, 0, 0, 1, 0, 0, 0],
+            ],
+        }
+    }
+}
+
+/// A procedure of 4,000 instructions and a few.
+fn procedure(alloc: Global, kind: Kind) -> anyhow::Result<Accepted> {
+    let mut program = Vec::new(alloc);
+    program.extend_from_slice(&[0xb7, 0x06, 0, 0, 7, 0, 0, 0])?;
+    program.extend_from_slice(&[0xb7, 0x07, 0, 0, 9, 0, 0, 0])?;
+    let body = kind.body();
+    for _ in 0..4_000 / body.len().max(1) {
+        for slot in body {
+            program.extend_from_slice(slot)?;
+        }
+    }
+    program.extend_from_slice(&[0xbf, 0x60, 0, 0, 0, 0, 0, 0])?;
+    program.extend_from_slice(&[0x95, 0, 0, 0, 0, 0, 0, 0])?;
+    let code = decode(alloc, &program)?;
+    let schema = Schema::new(alloc, &[(1, 8)])?;
+    Ok(verify(alloc, code, &schema, 0)?)
+}
+
+/// How many instructions the calls ran together.
+fn turns(alloc: Global, kind: Kind, calls: u32) -> anyhow::Result<u64> {
+    let procedure = procedure(alloc, kind)?;
+    let mut rows = Vec::new(alloc);
+    for key in 0..8 {
+        rows.push(Row::new(1, key, Vec::from_slice(alloc, &[1; 8])?))?;
+    }
+    let mut turns = 0u64;
+    for _ in 0..calls {
+        let run = run_call(alloc, &procedure, &[], &rows, u32::MAX)?;
+        turns = turns.saturating_add(u64::from(run.turns));
+    }
+    Ok(turns)
+}
+
+/// Reads the two words, a kind and how many calls, and says how many instructions were run.
+fn run(rt: &HostRuntime) -> anyhow::Result<()> {
+    let words: Vec<String> = env::args(rt)?.collect(rt.alloc())?;
+    let kind = words.get(1).and_then(|word| Kind::from_word(word));
+    let kind = kind.context("the first word is arithmetic, memory or calls")?;
+    let calls = words.get(2).and_then(|word| word.parse().ok());
+    let calls = calls.context("the second word is how many calls are made")?;
+    println!(rt; "instructions {}", turns(rt.alloc(), kind, calls)?)?;
+    Ok(())
+}
+
+fn main(rt: HostRuntime) -> ExitCode {
+    match run(&rt) {
+        Ok(()) => ExitCode::SUCCESS,
+        Err(error) => {
+            let _ = eprintln!(rt; "machine_bench: {error}");
+            ExitCode::FAILURE
+        }
+    }
+}

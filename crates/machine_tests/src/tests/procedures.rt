@@ -1,0 +1,301 @@
+//! Whole calls of procedures, and stores that are gone.
+
+use super::{
+    NEVER, TABLES, accepted, args_of, bytes_of, described, described_call, described_run, rows_of,
+};
+use bpf_code::decode;
+use plain_rows::Row;
+use plain_runner::run_program;
+use schema::Schema;
+use single_site::{SiteFault, complete_call, run_call};
+use std::test::Fail;
+
+/// Adds to the row at a key: the arguments are key and amount.
+pub(super) const ADD: &str = "7916000000000000 7917080000000000 b701000001000000 bf62000000000000 \
+    bfa3000000000000 07030000f8ffffff 8500000001000000 79a8f8ff00000000 \
+    0f78000000000000 7b8af8ff00000000 b701000001000000 bf62000000000000 \
+    bfa3000000000000 07030000f8ffffff 8500000002000000 bf80000000000000 \
+    9500000000000000";
+
+/// Gets the rows at two keys and puts 1 at the first.
+pub(super) const SKEW: &str = "7916000000000000 7917080000000000 b701000001000000 bf62000000000000 \
+    bfa3000000000000 07030000f8ffffff 8500000001000000 b701000001000000 \
+    bf72000000000000 bfa3000000000000 07030000f0ffffff 8500000001000000 \
+    7a0af8ff01000000 b701000001000000 bf62000000000000 bfa3000000000000 \
+    07030000f8ffffff 8500000002000000 9500000000000000";
+
+/// Puts a value at a key.
+pub(super) const PUT: &str = "7912000000000000 7914080000000000 7b4af8ff00000000 bfa3000000000000 \
+    07030000f8ffffff b701000001000000 8500000002000000 9500000000000000";
+
+/// Counts the rows from lo to hi, puts the count at a key and replies it.
+pub(super) const COUNT: &str =
+    "7916100000000000 7912000000000000 7913080000000000 b701000001000000 \
+    8500000004000000 bf07000000000000 7b7af8ff00000000 b701000001000000 \
+    bf62000000000000 bfa3000000000000 07030000f8ffffff 8500000002000000 \
+    bf70000000000000 9500000000000000";
+
+/// Puts the first row from lo to hi at a key, and replies the key that was found.
+pub(super) const NEXT: &str = "7916100000000000 7912000000000000 7913080000000000 bfa4000000000000 \
+    07040000f8ffffff bfa5000000000000 07050000f0ffffff b701000001000000 \
+    8500000005000000 b701000001000000 bf62000000000000 bfa3000000000000 \
+    07030000f0ffffff 8500000002000000 79a0f8ff00000000 9500000000000000";
+
+/// Removes the row at a key.
+pub(super) const DELETE: &str =
+    "7912000000000000 b701000001000000 8500000003000000 9500000000000000";
+
+/// PUT that cancels with code 9 before its end.
+const PUT_AND_CANCEL: &str = "7912000000000000 7914080000000000 7b4af8ff00000000 bfa3000000000000 \
+    07030000f8ffffff b701000001000000 8500000002000000 b701000009000000 \
+    8500000006000000 9500000000000000";
+
+/// Puts 3 at key 5 of table 1 and gets it.
+const PUT_AND_GET: &str = "7a0af8ff03000000 b702000005000000 bfa3000000000000 07030000f8ffffff \
+    b701000001000000 8500000002000000 b702000005000000 bfa3000000000000 \
+    07030000f0ffffff b701000001000000 8500000001000000 79a0f0ff00000000 \
+    9500000000000000";
+
+/// Jumps to the next instruction, a wide load of 1.
+const JUMP_ON: &str = "0500000000000000 1800000001000000 0000000000000000 9500000000000000";
+
+/// Replies eight bytes of 256 at the place that the first word gives, or 0 from 249 on.
+const INDEX: &str = "7912000000000000 25020300f8000000 0f21000000000000 7910000000000000 \
+    9500000000000000 b700000000000000 9500000000000000";
+
+/// Replies the number 2^40 - 8 of a wide load, which as an address would be the last eight bytes of the stack.
+const STACK_WORD: &str = "18000000f8ffffff 00000000ff000000 9500000000000000";
+
+/// A program in hex, its arguments, the rows before it, and what comes of it.
+struct Case {
+    program: &'static str,
+    args: &'static [u64],
+    rows: &'static [(u8, u64, u64)],
+    outcome: &'static str,
+}
+
+static CASES: [Case; 18] = [
+    Case {
+        program: "b700000001000000 9500000000000000",
+        args: &[],
+        rows: &[],
+        outcome: "1 in 2",
+    },
+    Case {
+        program: JUMP_ON,
+        args: &[],
+        rows: &[],
+        outcome: "1 in 3",
+    },
+    Case {
+        program: STACK_WORD,
+        args: &[],
+        rows: &[],
+        outcome: "1099511627768 in 2",
+    },
+    Case {
+        program: ADD,
+        args: &[5, 10],
+        rows: &[],
+        outcome: "10 in 17 look 1:5-5 put 1:5=0a00000000000000",
+    },
+    Case {
+        program: ADD,
+        args: &[5, 7],
+        rows: &[(1, 5, 10)],
+        outcome: "17 in 17 look 1:5-5 put 1:5=1100000000000000",
+    },
+    Case {
+        program: SKEW,
+        args: &[1, 2],
+        rows: &[],
+        outcome: "0 in 19 look 1:1-1 look 1:2-2 put 1:1=0100000000000000",
+    },
+    Case {
+        program: PUT,
+        args: &[7, 2],
+        rows: &[(1, 7, 1)],
+        outcome: "0 in 8 put 1:7=0200000000000000",
+    },
+    Case {
+        program: COUNT,
+        args: &[10, 20, 100],
+        rows: &[(1, 12, 1)],
+        outcome: "1 in 14 look 1:10-20 put 1:100=0100000000000000",
+    },
+    Case {
+        program: COUNT,
+        args: &[20, 10, 100],
+        rows: &[(1, 15, 9)],
+        outcome: "0 in 14 put 1:100=0000000000000000",
+    },
+    Case {
+        program: NEXT,
+        args: &[10, 20, 101],
+        rows: &[(1, 12, 1), (1, 15, 9)],
+        outcome: "12 in 16 look 1:10-12 put 1:101=0100000000000000",
+    },
+    Case {
+        program: NEXT,
+        args: &[10, 20, 101],
+        rows: &[],
+        outcome: "0 in 16 look 1:10-20 put 1:101=0000000000000000",
+    },
+    Case {
+        program: DELETE,
+        args: &[9],
+        rows: &[],
+        outcome: "0 in 4 remove 1:9",
+    },
+    Case {
+        program: PUT_AND_CANCEL,
+        args: &[7, 2],
+        rows: &[],
+        outcome: "0 in 10 cancelled 9",
+    },
+    Case {
+        program: PUT_AND_GET,
+        args: &[],
+        rows: &[(1, 5, 1)],
+        outcome: "3 in 13 put 1:5=0300000000000000",
+    },
+    Case {
+        program: INDEX,
+        args: &[
+            248, 1, 2, 3, 4, 5, 6, 7, 8, 9, 10, 11, 12, 13, 14, 15, 16, 17, 18, 19, 20, 21, 22, 23,
+            24, 25, 26, 27, 28, 29, 30, 31,
+        ],
+        rows: &[],
+        outcome: "31 in 5",
+    },
+    Case {
+        program: INDEX,
+        args: &[
+            249, 1, 2, 3, 4, 5, 6, 7, 8, 9, 10, 11, 12, 13, 14, 15, 16, 17, 18, 19, 20, 21, 22, 23,
+            24, 25, 26, 27, 28, 29, 30, 31,
+        ],
+        rows: &[],
+        outcome: "0 in 4",
+    },
+    // A row of two bytes, the last of the stack.
+    Case {
+        program: "b702000005000000 bfa3000000000000 07030000feffffff b701000002000000 \
+            8500000001000000 69a8feff00000000 0708000001000000 6b8afeff00000000 \
+            b702000005000000 bfa3000000000000 07030000feffffff b701000002000000 \
+            8500000002000000 bf80000000000000 9500000000000000",
+        args: &[],
+        rows: &[(2, 5, 255)],
+        outcome: "256 in 15 look 2:5-5 put 2:5=0001",
+    },
+    // A next among its own writes: 3 was put at key 5, and the row at key 4 was removed.
+    Case {
+        program: "7a0af8ff03000000 b702000005000000 bfa3000000000000 07030000f8ffffff \
+            b701000001000000 8500000002000000 b702000004000000 b701000001000000 \
+            8500000003000000 b702000000000000 b703000009000000 bfa4000000000000 \
+            07040000f0ffffff bfa5000000000000 07050000e8ffffff b701000001000000 \
+            8500000005000000 79a0f0ff00000000 9500000000000000",
+        args: &[],
+        rows: &[(1, 4, 1), (1, 7, 1)],
+        outcome: "5 in 19 look 1:0-5 remove 1:4 put 1:5=0300000000000000",
+    },
+];
+
+#[test]
+fn calls_answer_what_their_runs_do(rt: HostRuntime) -> Result<(), Fail> {
+    let alloc = rt.alloc();
+    for case in &CASES {
+        let program = bytes_of(alloc, case.program)?;
+        let args = args_of(alloc, case.args)?;
+        let rows = rows_of(alloc, case.rows)?;
+        let procedure = accepted(alloc, &program, args.len())?;
+        let found = described(alloc, run_call(alloc, &procedure, &args, &rows, NEVER)?)?;
+        assert_eq!(rt; found.as_str(), case.outcome, "{}", case.program);
+        let code = decode(alloc, &program)?;
+        let schema = Schema::new(alloc, &TABLES)?;
+        let run = run_program(alloc, &code, &schema, &args, &rows)?;
+        let (plain, steps) = match &run {
+            Some(run) => (described_run(alloc, run)?, run.steps()),
+            None => (String::new(alloc), 0),
+        };
+        assert_eq!(rt; plain.as_str(), case.outcome, "{}", case.program);
+        let call = complete_call(alloc, &procedure, &args, &rows)?;
+        let whole = described_call(alloc, steps, &call)?;
+        assert_eq!(rt; whole.as_str(), case.outcome, "{}", case.program);
+    }
+    Ok(())
+}
+
+/// A program, its arguments, the turn from which on the store is gone, and what comes of it.
+type GoneCase = (&'static str, &'static [u64], u32, &'static str);
+
+/// A look at a store that is gone is stale, at each helper that looks; puts, removals, cancels, gets of own writes and
+/// empty ranges never are.
+static GONE: [GoneCase; 12] = [
+    (ADD, &[5, 10], 1, "stale in 7"),
+    (
+        ADD,
+        &[5, 10],
+        8,
+        "10 in 17 look 1:5-5 put 1:5=0a00000000000000",
+    ),
+    (SKEW, &[1, 2], 1, "stale in 7"),
+    (SKEW, &[1, 2], 8, "stale in 12 look 1:1-1"),
+    (COUNT, &[10, 20, 100], 1, "stale in 5"),
+    (
+        COUNT,
+        &[20, 10, 100],
+        1,
+        "0 in 14 put 1:100=0000000000000000",
+    ),
+    (NEXT, &[10, 20, 101], 1, "stale in 9"),
+    (
+        NEXT,
+        &[20, 10, 101],
+        1,
+        "0 in 16 put 1:101=0000000000000000",
+    ),
+    (PUT, &[7, 2], 1, "0 in 8 put 1:7=0200000000000000"),
+    (DELETE, &[9], 1, "0 in 4 remove 1:9"),
+    (PUT_AND_CANCEL, &[7, 2], 1, "0 in 10 cancelled 9"),
+    (PUT_AND_GET, &[], 1, "3 in 13 put 1:5=0300000000000000"),
+];
+
+#[test]
+fn looks_at_a_store_that_is_gone_are_stale(rt: HostRuntime) -> Result<(), Fail> {
+    let alloc = rt.alloc();
+    let no_rows = rows_of(alloc, &[])?;
+    for (program, args, from, outcome) in &GONE {
+        let args = args_of(alloc, args)?;
+        let procedure = accepted(alloc, &bytes_of(alloc, program)?, args.len())?;
+        let run = run_call(alloc, &procedure, &args, &no_rows, *from)?;
+        assert_eq!(rt;
+            described(alloc, run)?.as_str(),
+            *outcome,
+            "{program} from {from}"
+        );
+    }
+    Ok(())
+}
+
+/// Arguments that are too few or too many, a row of no table of the schema's, and one of another width.
+#[test]
+fn calls_that_cannot_begin_say_why(rt: HostRuntime) -> Result<(), Fail> {
+    let alloc = rt.alloc();
+    let procedure = accepted(alloc, &bytes_of(alloc, PUT)?, 16)?;
+    let args = args_of(alloc, &[7, 2])?;
+    let rows = rows_of(alloc, &[(3, 5, 1)])?;
+    let no_rows = rows_of(alloc, &[])?;
+    let few = args_of(alloc, &[7])?;
+    let short = run_call(alloc, &procedure, &few, &no_rows, NEVER);
+    assert!(rt; short.is_err_and(|fault| fault == SiteFault::ArgsLength));
+    let mut more = args_of(alloc, &[7, 2])?;
+    more.push(0)?;
+    let long = run_call(alloc, &procedure, &more, &no_rows, NEVER);
+    assert!(rt; long.is_err_and(|fault| fault == SiteFault::ArgsLength));
+    let foreign = run_call(alloc, &procedure, &args, &rows, NEVER);
+    assert!(rt; foreign.is_err_and(|fault| fault == SiteFault::ForeignRow));
+    let narrow = [Row::new(1, 5, Vec::from_slice(alloc, &[1; 7])?)];
+    let foreign = run_call(alloc, &procedure, &args, &narrow, NEVER);
+    assert!(rt; foreign.is_err_and(|fault| fault == SiteFault::ForeignRow));
+    Ok(())
+}
