@@ -1,0 +1,65 @@
+-- Each open call goes on well.
+use Rattle.std.proofs.Common.{◌≡◌, ◌≢◌, ℕ, ◌≤◌, ◌<◌, Some, Option, sym, ap, ◌∙◌, ◌⊎◌, inl, inr, arith}
+use Rattle.std.proofs.lemmas.Bool.{cases_lt}
+use Rattle.bpf_semantics.specs.State.{State, entry_state}
+use Rattle.bpf_semantics.specs.Step.{Moment, Going, Ended, Stuck}
+use Rattle.bpf_semantics.specs.Run.{moment, run}
+use Rattle.bpf_semantics.specs.Path.{longest_path}
+use Rattle.bpf_semantics.proofs.MomentLemmas.{before_its_length, from_its_length_on}
+use Rattle.dsm_model.specs.Log.{StoredProcedure, Setting, Call, Log, by_number, rows_after, run_of_call, run_in}
+use Rattle.dsm_model.specs.Fit.{HasSafeProcedures, IsCall}
+use Rattle.dsm_model.specs.World.{World, OpenCall, open_call, moment_of, moment_at}
+use Rattle.dsm_model.specs.Sound.{IsOpenCall, IsWorld, IsSound}
+use Rattle.dsm_model.proofs.RunLemmas.{just, HasRun, has_run}
+use Rattle.dsm_model.proofs.GrowthLemmas.{rows_fit}
+use Rattle.dsm_model.proofs.WorldLemmas.{begun_within}
+
+at_procedure : (w : Setting) (log : Log) (call : Call) (p : StoredProcedure) (k : ℕ) → by_number w.catalogue call.procedure ≡ just p → moment_at w log call k ≡ moment p.program w.tables k (entry_state call.args (rows_after w log call.snapshot))
+unfolding moment_at
+at_procedure w log call p k known = ap (λ (o : Option StoredProcedure). moment_of w o call.args (rows_after w log call.snapshot) k) known
+
+-- what is known of the run of an open call
+pub open_run : (w : Setting) (world : World) (o : OpenCall) → HasSafeProcedures w → IsWorld w world → (one : IsOpenCall w world o) → HasRun w o.call (rows_after w world.log o.call.snapshot) one.is_call
+open_run w world o safe is one = has_run w o.call (rows_after w world.log o.call.snapshot) safe one.is_call (rows_fit w world.log o.call.snapshot safe is.log is.calls (begun_within w world o is one))
+
+ended : (w : Setting) (log : Log) (call : Call) (c : IsCall w call) (k : ℕ) → HasRun w call (rows_after w log call.snapshot) c → (run_in w log call).steps ≤ k → (s : State) × (moment_at w log call k ≡ Ended (run_in w log call).reply s)
+ended w log call c k has le =
+    let end = from_its_length_on c.procedure.program w.tables call.args (rows_after w log call.snapshot) (run_in w log call) k has.run le in
+    (end.0, at_procedure w log call c.procedure k c.known ∙ end.1)
+
+not_stuck : (w : Setting) (log : Log) (call : Call) (c : IsCall w call) (k : ℕ) → HasRun w call (rows_after w log call.snapshot) c → moment_at w log call k ≢ Stuck
+not_stuck w log call c k has stuck = elim (cases_lt k (run_in w log call).steps) [
+  | inl lt ↦
+      let on = before_its_length c.procedure.program w.tables call.args (rows_after w log call.snapshot) (run_in w log call) k has.run lt in
+      let goes = on.1 in
+      let there = at_procedure w log call c.procedure k c.known in
+      cc
+  | inr ge ↦ let end = (ended w log call c k has ge).1 in cc
+]
+
+so_far : (w : Setting) (log : Log) (call : Call) (c : IsCall w call) (k : ℕ) → HasRun w call (rows_after w log call.snapshot) c → k ≤ (run_in w log call).steps
+    → ((s : State) × (moment_at w log call k ≡ Going s) × (s.steps ≡ k)) ⊎ (k ≡ (run_in w log call).steps)
+so_far w log call c k has le = elim (cases_lt k (run_in w log call).steps) [
+  | inl lt ↦
+      let on = before_its_length c.procedure.program w.tables call.args (rows_after w log call.snapshot) (run_in w log call) k has.run lt in
+      inl (on.0, at_procedure w log call c.procedure k c.known ∙ on.1, on.2)
+  | inr ge ↦ inr (omega arith)
+]
+
+pub sound : (w : Setting) (world : World) (o : OpenCall) → HasSafeProcedures w → IsWorld w world → IsOpenCall w world o → IsSound w world.log o
+sound w world o safe is one =
+    let has = open_run w world o safe is one in
+    let end = ended w world.log o.call one.is_call (longest_path one.is_call.procedure.program) has has.short in
+    let short = has.short in
+    let turns = one.turns in
+    record {
+      is_call = one.is_call;
+      so_far = so_far w world.log o.call one.is_call o.turns has one.turns;
+      not_stuck = not_stuck w world.log o.call one.is_call o.turns has;
+      within = omega arith;
+      end = end.0;
+      ends = end.1;
+    }
+
+pub open_sound : (w : Setting) (world : World) (c : ℕ) (o : OpenCall) → HasSafeProcedures w → IsWorld w world → open_call world c ≡ Some o → IsSound w world.log o
+open_sound w world c o safe is e = sound w world o safe is (is.open_calls c o e)

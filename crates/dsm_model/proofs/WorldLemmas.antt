@@ -1,0 +1,184 @@
+-- What each step of a world keeps.
+use Rattle.std.proofs.Common.{◌≡◌, ◌⊎◌, inl, inr, ℕ, zero, suc, ◌+◌, ◌≤◌, ◌<◌, List, [], ◌∷◌, ◌++◌, length, true, false, Option, Some, None, All, refl, sym, ap, subst, ◌∙◌, arith}
+use Rattle.std.specs.List.{AllByRecursion}
+use Rattle.std.proofs.lemmas.List.{length-append}
+use Rattle.schema.specs.Rows.{Rows}
+use Rattle.bpf_semantics.specs.Run.{Run}
+use Rattle.dsm_model.specs.declared.outcome.Outcome.{Outcome}
+use Rattle.dsm_model.specs.Log.{StoredProcedure, Setting, Call, Log, IsLog, run_of_call, run_in, verdict_of}
+use Rattle.dsm_model.specs.Fit.{IsCall, AreCalls, AreArguments}
+use Rattle.dsm_model.specs.World.{World, Replica, OpenCall, Step, Begin, max_calls, numbered, with_numbered, flatten, open_call, without_call, with_open_call, with_replica, with_begun, new_call, with_turns, with_ordered, first_world, IsStep, AreSteps}
+use Rattle.dsm_model.specs.Sound.{HasByteArguments, IsOpenCall, open_count, IsWorld}
+use Rattle.dsm_model.proofs.RunLemmas.{just}
+use Rattle.dsm_model.proofs.GrowthLemmas.{rows_grown, is_log_snoc, are_calls_snoc, verdict_within}
+use Rattle.dsm_model.proofs.Numbered.{some_is, numbered_set, numbered_there, numbered_one_more, flat_is, numbered_replicate, length_numbered, numbered_count, numbered_none, count_one_more}
+use Rattle.dsm_model.proofs.Cases.{SameCase, BeginCase, OverCase, TurnCase, OrderCase, DeliverCase, StopCase, RebuildCase, Case, Same, New, Over, Turned, Appended, Verdicted, Stop, Anew, step_case}
+
+-- ---- open calls
+
+is_open : (w : Setting) (world : World) → IsWorld w world → (c : ℕ) (o : OpenCall) → numbered world.calls c ≡ just (just o) → IsOpenCall w world o
+is_open w world is c o e = is.open_calls c o (ap flatten e)
+
+-- the snapshot of an open call is no more than the log's length
+pub begun_within : (w : Setting) (world : World) (o : OpenCall) → IsWorld w world → IsOpenCall w world o → o.call.snapshot ≤ length world.log
+begun_within w world o is one =
+    let within = is.positions o.replica one.replica one.stands in
+    let begun = one.begun in
+    omega arith
+
+-- other open calls, each as it should be
+with_calls : (w : Setting) (world : World) (calls : List (Option OpenCall)) → IsWorld w world → length calls ≤ max_calls → length world.log + open_count calls ≤ length calls
+    → ((c : ℕ) (o : OpenCall) → numbered calls c ≡ just (just o) → IsOpenCall w world o) → IsWorld w (record world { calls = calls })
+with_calls w world calls is few ordered open_calls = record {
+  log = is.log;
+  calls = is.calls;
+  positions = is.positions;
+  open_calls = λ c o e.
+      let old = open_calls c o (flat_is (numbered calls c) o e) in
+      record { is_call = old.is_call; replica = old.replica; stands = old.stands; begun = old.begun; turns = old.turns };
+  calls_limit = few;
+  log_limit = ordered;
+}
+
+pub over_keeps : (w : Setting) (world : World) (c : ℕ) → IsWorld w world → IsWorld w (without_call world c)
+over_keeps w world c is =
+    let long = length_numbered world.calls c None in
+    let fewer = numbered_none world.calls c in
+    let few = is.calls_limit in
+    let ordered = is.log_limit in
+    with_calls w world (with_numbered world.calls c None) is (omega arith) (omega arith) (λ i o e. elim (numbered_set world.calls c i None (just o) e) [
+      | inl old ↦ is_open w world is i o old
+      | inr new ↦ absurd (let bad = new.1 in cc)
+    ])
+
+turned_keeps : (w : Setting) (world : World) (c : ℕ) (o : OpenCall) (turns : ℕ) → open_call world c ≡ just o → turns ≤ (run_in w world.log o.call).steps → IsWorld w world → IsWorld w (with_turns world c o turns)
+turned_keeps w world c o turns stands within is =
+    let one = is.open_calls c o stands in
+    let next : OpenCall = record o { turns = turns } in
+    let long = length_numbered world.calls c (just (record o { turns = turns })) in
+    let count = numbered_count world.calls c o stands (just (record o { turns = turns })) in
+    let few = is.calls_limit in
+    let ordered = is.log_limit in
+    with_calls w world (with_numbered world.calls c (just (record o { turns = turns }))) is (omega arith) (omega arith) (λ i q e. elim (numbered_set world.calls c i (just (record o { turns = turns })) (just q) e) [
+      | inl old ↦ is_open w world is i q old
+      | inr new ↦ subst (IsOpenCall w world) (some_is (record o { turns = turns }) q new.1) (record { is_call = one.is_call; replica = one.replica; stands = one.stands; begun = one.begun; turns = within })
+    ])
+
+begun_keeps : (w : Setting) (world : World) (r : ℕ) (call : Call) → IsOpenCall w world (record { replica = r; call = call; turns = 0 }) → length world.calls < max_calls → IsWorld w world → IsWorld w (with_begun world r call)
+begun_keeps w world r call now fewer is =
+    let long = length-append world.calls (just (record { replica = r; call = call; turns = 0 }) ∷ []) in
+    let count = count_one_more world.calls (record { replica = r; call = call; turns = 0 }) in
+    let ordered = is.log_limit in
+    with_calls w world (world.calls ++ just (record { replica = r; call = call; turns = 0 }) ∷ []) is (omega arith) (omega arith) (λ i q e.
+    elim (numbered_one_more world.calls (just (record { replica = r; call = call; turns = 0 })) (just q) i e) [
+      | inl old ↦ is_open w world is i q old
+      | inr new ↦ subst (IsOpenCall w world) (some_is (record { replica = r; call = call; turns = 0 }) q new) now
+    ])
+
+-- the run of a call stays as the log grows
+pub run_grown : (w : Setting) (log more : Log) (call : Call) → call.snapshot ≤ length log → run_in w (log ++ more) call ≡ run_in w log call
+run_grown w log more call le = ap (λ (rows : Rows). run_of_call w call rows) (rows_grown w log more call.snapshot le)
+
+-- one more ordered, in place of one that was open
+ordered_keeps : (w : Setting) (world : World) (c : ℕ) (o : OpenCall) → open_call world c ≡ just o → IsWorld w world → IsWorld w (with_ordered world c o.call)
+ordered_keeps w world c o stands is =
+    let one = is.open_calls c o stands in
+    let without = over_keeps w world c is in
+    let le = begun_within w world o is one in
+    let more : length (world.log ++ o.call ∷ []) ≡ length world.log + 1 = length-append world.log (o.call ∷ []) in
+    let long = length_numbered world.calls c None in
+    let count = numbered_count world.calls c o stands None in
+    let ordered = is.log_limit in
+    record {
+      log = is_log_snoc 0 world.log o.call is.log (omega arith);
+      calls = are_calls_snoc w world.log o.call is.calls one.is_call;
+      positions = λ r replica e. let old = is.positions r replica e in omega arith;
+      open_calls = λ i q e.
+          let old = without.open_calls i q e in
+          let near = begun_within w (without_call world c) q without old in
+          record {
+            is_call = old.is_call;
+            replica = old.replica;
+            stands = old.stands;
+            begun = old.begun;
+            turns = subst (λ (r : Run). q.turns ≤ r.steps) (sym (run_grown w world.log (o.call ∷ []) q.call near)) old.turns;
+          };
+      calls_limit = without.calls_limit;
+      log_limit = omega arith;
+    }
+
+-- a replica gets no less far, and no further than the log
+moved_keeps : (w : Setting) (world : World) (r : ℕ) (before after : Replica) → numbered world.replicas r ≡ just before → before.position ≤ after.position → after.position ≤ length world.log → IsWorld w world
+    → IsWorld w (with_replica world r after)
+moved_keeps w world r before after stands further within is = record {
+  log = is.log;
+  calls = is.calls;
+  positions = λ i replica e. elim (numbered_set world.replicas r i after replica e) [
+    | inl old ↦ is.positions i replica old
+    | inr new ↦ subst (λ (x : Replica). x.position ≤ length world.log) new.1 within
+  ];
+  open_calls = λ c o e.
+      let old = is.open_calls c o e in
+      let begun = old.begun in
+      elim (numbered_there world.replicas r o.replica after old.replica old.stands) [
+        | inl stays ↦ record { is_call = old.is_call; replica = old.replica; stands = stays; begun = old.begun; turns = old.turns }
+        | inr new ↦
+            let same : old.replica ≡ before = some_is old.replica before (sym old.stands ∙ ap (numbered world.replicas) new.0 ∙ stands) in
+            let at : old.replica.position ≡ before.position = ap (λ (x : Replica). x.position) same in
+            record { is_call = old.is_call; replica = after; stands = new.1; begun = omega arith; turns = old.turns }
+      ];
+  calls_limit = is.calls_limit;
+  log_limit = is.log_limit;
+}
+
+-- ---- each step
+
+bytes_of : (step : Step) (r procedure : ℕ) (args : List ℕ) → HasByteArguments step → step ≡ Begin r procedure args → All (λ b. b < 256) args
+bytes_of step r procedure args bytes e = subst HasByteArguments e bytes
+
+case_keeps : (w : Setting) (before : World) (step : Step) (outcome : Outcome) (after : World) → HasByteArguments step → IsWorld w before → Case w before step outcome after → IsWorld w after
+case_keeps w before step outcome after bytes is (Same c) = subst (IsWorld w) (sym c.same) is
+case_keeps w before step outcome after bytes is (New c) =
+    subst (IsWorld w) (sym c.leaves) (begun_keeps w before c.r (new_call before c.procedure c.args c.replica.position) (record {
+      is_call = record { procedure = c.stored; known = c.known; arguments = record { count = c.count; each_byte = bytes_of step c.r c.procedure c.args bytes c.is } };
+      replica = c.replica;
+      stands = c.stands;
+      begun = omega arith;
+      turns = omega arith;
+    }) c.few is)
+case_keeps w before step outcome after bytes is (Over c) = subst (IsWorld w) (sym c.leaves) (over_keeps w before c.c is)
+case_keeps w before step outcome after bytes is (Turned c) = subst (IsWorld w) (sym c.leaves) (turned_keeps w before c.c c.o c.turns c.stands c.within is)
+case_keeps w before step outcome after bytes is (Appended c) = subst (IsWorld w) (sym c.leaves) (ordered_keeps w before c.c c.o c.stands is)
+case_keeps w before step outcome after bytes is (Verdicted c) =
+    let one : suc c.replica.position ≡ c.replica.position + 1 = omega arith in
+    let lt = verdict_within w before.log c.replica.position c.verdict (ap (verdict_of w before.log) one ∙ c.known) in
+    subst (IsWorld w) (sym c.leaves) (moved_keeps w before c.r c.replica (record c.replica { position = c.replica.position + 1 }) c.stands (omega arith) (omega arith) is)
+case_keeps w before step outcome after bytes is (Stop c) = subst (IsWorld w) (sym c.leaves) (moved_keeps w before c.r c.replica (record c.replica { running = false }) c.stands (omega arith) (is.positions c.r c.replica c.stands) is)
+case_keeps w before step outcome after bytes is (Anew c) =
+    let within = is.positions c.r c.replica c.stands in
+    subst (IsWorld w) (sym c.leaves) (moved_keeps w before c.r c.replica (record { position = length before.log; running = true }) c.stands (omega arith) (omega arith) is)
+
+pub step_keeps : (w : Setting) (before : World) (step : Step) (outcome : Outcome) (after : World) → HasByteArguments step → IsStep w before step outcome after → IsWorld w before → IsWorld w after
+step_keeps w before step outcome after bytes e is = case_keeps w before step outcome after bytes is (step_case w before step outcome after e)
+
+pub steps_keep : (w : Setting) (before : World) (steps : List Step) (outcomes : List Outcome) (after : World) → AllByRecursion HasByteArguments steps → AreSteps w before steps outcomes after → IsWorld w before → IsWorld w after
+unfolding AreSteps
+steps_keep w before [] [] after bytes h is = subst (IsWorld w) h is
+steps_keep w before [] (outcome ∷ outcomes) after bytes h is = absurd h
+steps_keep w before (step ∷ steps) [] after bytes h is = absurd h
+steps_keep w before (step ∷ steps) (outcome ∷ outcomes) after bytes h is =
+    steps_keep w h.0 steps outcomes after bytes.1 h.2 (step_keeps w before step outcome h.0 bytes.0 h.1 is)
+
+pub first_is_world : (w : Setting) (replicas : ℕ) → IsWorld w (first_world replicas)
+first_is_world w replicas = record {
+  log = tt;
+  calls = tt;
+  positions = λ r replica e. subst (λ (x : Replica). x.position ≤ 0) (numbered_replicate replicas r (record { position = 0; running = true }) replica e) (omega arith);
+  open_calls = λ c o e. absurd (none c o (flat_is (numbered [] c) o e));
+  calls_limit = omega arith;
+  log_limit = omega arith;
+}
+  where
+    none : (c : ℕ) (o : OpenCall) → numbered [] c ≡ just (just o) → ⊥
+    none zero o e = cc
+    none (suc c) o e = cc

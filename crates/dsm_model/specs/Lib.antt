@@ -1,0 +1,8 @@
+pub mod Log
+pub mod Verdicts
+pub mod Comparisons
+pub mod Fit
+pub mod Entries
+pub mod Contents
+pub mod World
+pub mod Sound

@@ -1,0 +1,64 @@
+-- What is known of every world that steps lead to.
+use Rattle.std.specs.Prelude.{◌≡◌, ◌≢◌, ◌⊎◌, ℕ, suc, ◌+◌, ◌<◌, ◌≤◌, List, [], ◌∷◌, ◌++◌, length, take, slice_get, All, Option, Some, None}
+use Rattle.std.specs.List.{AllByRecursion}
+use Rattle.bpf_semantics.specs.State.{State}
+use Rattle.bpf_semantics.specs.Step.{Going, Ended, Stuck}
+use Rattle.bpf_semantics.specs.Path.{longest_path}
+use Rattle.dsm_model.specs.Log.{Setting, Call, Log, IsLog, rows_after, run_of_call, run_in}
+use Rattle.dsm_model.specs.Fit.{IsCall, AreCalls}
+use Rattle.dsm_model.specs.World.{World, Replica, OpenCall, Step, Begin, max_calls, numbered, open_call, moment_at}
+
+-- arguments are bytes
+abbrev pub HasByteArguments : Step → Type 0
+HasByteArguments (Begin r procedure args) = All (λ b. b < 256) args
+HasByteArguments _ = Unit {0}
+
+-- a call of the catalogue whose replica has come no less far than its snapshot, and that hasn't run past its end
+pub record IsOpenCall (w : Setting) (world : World) (o : OpenCall) : Type 0 where
+  pub is_call : IsCall w o.call
+  pub replica : Replica
+  pub stands : numbered world.replicas o.replica ≡ Some replica
+  pub begun : o.call.snapshot ≤ replica.position
+  pub turns : o.turns ≤ (run_in w world.log o.call).steps
+
+abbrev pub open_count : List (Option OpenCall) → ℕ
+open_count [] = 0
+open_count (None ∷ rest) = open_count rest
+open_count (Some o ∷ rest) = 1 + open_count rest
+
+pub record IsWorld (w : Setting) (world : World) : Type 0 where
+  pub log : IsLog world.log
+  pub calls : AreCalls w world.log
+  pub positions : (r : ℕ) (replica : Replica) → numbered world.replicas r ≡ Some replica → replica.position ≤ length world.log
+  pub open_calls : (c : ℕ) (o : OpenCall) → open_call world c ≡ Some o → IsOpenCall w world o
+  pub calls_limit : length world.calls ≤ max_calls
+  pub log_limit : length world.log + open_count world.calls ≤ length world.calls
+
+-- an open call goes on well: it has come as many steps of its run as it has turns, or that run's end; it isn't stuck, it has
+-- run no more than the longest path, and after so many instructions its run has ended, with the reply of the run on the rows
+-- of its snapshot
+pub record IsSound (w : Setting) (log : Log) (o : OpenCall) : Type 0 where
+  pub is_call : IsCall w o.call
+  pub so_far : ((s : State) × (moment_at w log o.call o.turns ≡ Going s) × (s.steps ≡ o.turns)) ⊎ (o.turns ≡ (run_in w log o.call).steps)
+  pub not_stuck : moment_at w log o.call o.turns ≢ Stuck
+  pub within : o.turns ≤ longest_path is_call.procedure.program
+  pub end : State
+  pub ends : moment_at w log o.call (longest_path is_call.procedure.program) ≡ Ended (run_in w log o.call).reply end
+
+-- ---- replies and agreement
+
+-- the call at this position has this reply where it runs on the rows just before it
+pub record IsSerialReply (w : Setting) (log : Log) (position reply : ℕ) : Type 0 where
+  pub before : ℕ
+  pub place : position ≡ suc before
+  pub call : Call
+  pub stands : slice_get log before ≡ Some call
+  pub serial : (run_of_call w call (rows_after w log before)).reply ≡ reply
+
+-- what a replica has delivered
+abbrev pub delivered_calls : Log → Replica → Log
+delivered_calls log replica = take replica.position log
+
+-- one list begins with the other
+abbrev pub IsPrefix : Log → Log → Type 0
+IsPrefix first all = (more : Log) × (all ≡ first ++ more)

@@ -1,0 +1,228 @@
+-- A world of replicas that share one log: what it is made of, and what each step answers and leaves.
+use Rattle.std.specs.Prelude.{◌≡◌, ◌⊎◌, ℕ, zero, suc, ◌+◌, ◌-◌, ◌==◌, nat_le, nat_lt, Bool, true, false, not, ◌&&◌, if◌then◌else◌, List, [], ◌∷◌, ◌++◌, length, replicate, slice_get, slice_set, Option, Some, None}
+use Rattle.std.specs.FinMap.{len}
+use Rattle.bpf_code.specs.declared.instruction.Instruction.{Instruction}
+use Rattle.bpf_code.specs.declared.instruction.Instruction.TheVariants.{Call as CallInstruction}
+use Rattle.bpf_code.specs.Program.{instruction_at}
+use Rattle.schema.specs.Helper.{helper_of}
+use Rattle.schema.specs.Rows.{Rows}
+use Rattle.schema.specs.declared.helper.Helper.{Helper}
+use Rattle.schema.specs.declared.helper.Helper.TheVariants.{Cancel}
+use Rattle.bpf_semantics.specs.State.{entry_state}
+use Rattle.bpf_semantics.specs.Step.{Moment, Going, Ended, Stuck}
+use Rattle.bpf_semantics.specs.Run.{Run, moment}
+use Rattle.bpf_semantics.specs.Agree.{looks_of}
+use Rattle.dsm_model.specs.declared.verdict.Verdict.{Verdict}
+use Rattle.dsm_model.specs.declared.outcome.StepRefusal.TheVariants.{NoReplica, NoProcedure, ArgumentsLength, NoCall, NotAtExit, NothingToDeliver, ReplicaStopped, LogFull, OutOfMemory, TooManyCalls}
+use Rattle.dsm_model.specs.declared.outcome.Outcome.{Outcome}
+use Rattle.dsm_model.specs.declared.outcome.Outcome.TheVariants.{Begun, More, Exit, Stale, NoMemory, Ordered, Read, Cancelled, Delivered, Rebuilt, Refused}
+use Rattle.dsm_model.specs.Log.{StoredProcedure, Setting, Call, Log, by_number, rows_after, run_in, verdict_of}
+
+-- how far it has delivered_calls the log, and whether it goes on delivering
+pub record Replica : Type 0 where
+  pub position : ℕ
+  pub running : Bool
+
+-- a call that isn't over
+pub record OpenCall : Type 0 where
+  pub replica : ℕ  -- its number
+  pub call : Call
+  pub turns : ℕ  -- how many instructions it has run
+
+pub record World : Type 0 where
+  pub log : Log
+  pub replicas : List Replica  -- numbered from 1
+  pub calls : List (Option OpenCall)  -- numbered from 1; None where the call is over
+
+pub data Step : Type 0 where
+  Begin : ℕ → ℕ → List ℕ → Step  -- at a replica, of a procedure, with arguments
+  Turn : ℕ → Step  -- of a call: one instruction further
+  Order : ℕ → Step  -- of a call
+  Deliver : ℕ → Step  -- to a replica
+  Rebuild : ℕ → Step  -- of a replica
+
+-- the most calls of a world, and of a log
+abbrev pub max_calls : ℕ
+max_calls = 1048576
+
+-- at first so many replicas run, and there is neither a log nor a call
+abbrev pub first_world : ℕ → World
+first_world replicas = record { log = []; replicas = replicate replicas (record { position = 0; running = true }); calls = [] }
+
+-- ---- by number, from 1 on
+
+abbrev pub numbered : {X : Type 0} → List X → ℕ → Option X
+numbered xs zero = None
+numbered xs (suc k) = slice_get xs k
+
+abbrev pub with_numbered : {X : Type 0} → List X → ℕ → X → List X
+with_numbered xs zero x = xs
+with_numbered xs (suc k) x = slice_set xs k x
+
+abbrev pub flatten : {X : Type 0} → Option (Option X) → Option X
+flatten None = None
+flatten (Some o) = o
+
+abbrev pub open_call : World → ℕ → Option OpenCall
+open_call world c = flatten (numbered world.calls c)
+
+abbrev pub with_open_call : World → ℕ → Option OpenCall → World
+with_open_call world c o = record world { calls = with_numbered world.calls c o }
+
+abbrev pub without_call : World → ℕ → World
+without_call world c = with_open_call world c None
+
+abbrev pub with_replica : World → ℕ → Replica → World
+with_replica world r replica = record world { replicas = with_numbered world.replicas r replica }
+
+abbrev pub position_of : Option Replica → ℕ
+position_of None = 0
+position_of (Some replica) = replica.position
+
+-- ---- Begin
+
+abbrev pub with_begun : World → ℕ → Call → World
+with_begun world r call = record world { calls = world.calls ++ Some (record { replica = r; call = call; turns = 0 }) ∷ [] }
+
+abbrev pub new_call : World → ℕ → List ℕ → ℕ → Call
+new_call world procedure args snapshot = record { number = length world.calls + 1; procedure = procedure; args = args; snapshot = snapshot }
+
+abbrev pub after_begin : World → ℕ → ℕ → List ℕ → Option Replica → Option StoredProcedure → Outcome × World
+after_begin world r procedure args None _ = (Refused NoReplica, world)
+after_begin world r procedure args (Some replica) None = (Refused NoProcedure, world)
+after_begin world r procedure args (Some replica) (Some p) =
+    if not (length args == p.args_len) then (Refused ArgumentsLength, world)
+    else if nat_le max_calls (length world.calls) then (Refused TooManyCalls, world)
+    else (Begun (length world.calls + 1) replica.position, with_begun world r (new_call world procedure args replica.position))
+
+-- ---- Turn
+
+abbrev pub moment_of : Setting → Option StoredProcedure → List ℕ → Rows → ℕ → Moment
+moment_of w None args rows k = Stuck
+moment_of w (Some p) args rows k = moment p.program w.tables k (entry_state args rows)
+
+-- where a call is after so many instructions, on the rows of its snapshot
+unfoldable pub moment_at : Setting → Log → Call → ℕ → Moment
+moment_at w log call k = moment_of w (by_number w.catalogue call.procedure) call.args (rows_after w log call.snapshot) k
+
+-- whether the next instruction looks at rows
+abbrev pub makes_look : Setting → Log → OpenCall → Bool
+makes_look w log o = not (length (looks_of (moment_at w log o.call (o.turns + 1))) == length (looks_of (moment_at w log o.call o.turns)))
+
+-- and whether those of the snapshot are then kept no longer
+unfoldable pub is_stale : Setting → World → OpenCall → Bool
+is_stale w world o =
+    makes_look w world.log o && nat_lt w.window (position_of (numbered world.replicas o.replica) - o.call.snapshot)
+
+abbrev pub with_turns : World → ℕ → OpenCall → ℕ → World
+with_turns world c o turns = with_open_call world c (Some (record o { turns = turns }))
+
+-- by the steps and the reply of the run: the last instruction answers Exit, and so does each turn after it
+abbrev pub after_turn_by_run : World → ℕ → OpenCall → Run → Outcome × World
+after_turn_by_run world c o r =
+    if nat_lt (o.turns + 1) r.steps then (More, with_turns world c o (o.turns + 1))
+    else (Exit r.reply, with_turns world c o r.steps)
+
+abbrev pub after_turn : Setting → World → ℕ → Option OpenCall → Outcome × World
+after_turn w world c None = (Refused NoCall, world)
+after_turn w world c (Some o) = if is_stale w world o then (Stale, without_call world c) else after_turn_by_run world c o (run_in w world.log o.call)
+
+-- ---- Order
+
+abbrev pub with_ordered : World → ℕ → Call → World
+with_ordered world c call = record (without_call world c) { log = world.log ++ call ∷ [] }
+
+-- at EXIT, by the run: one that cancelled or wrote nothing isn't ordered
+abbrev pub after_order_by_run : World → ℕ → Call → Option ℕ → Run → Outcome × World
+after_order_by_run world c call (Some code) r = (Cancelled call.snapshot code, without_call world c)
+after_order_by_run world c call None r =
+    if len r.writes == 0 then (Read call.snapshot r.reply, without_call world c)
+    else if nat_le max_calls (length world.log) then (Refused LogFull, without_call world c)
+    else (Ordered (length world.log + 1), with_ordered world c call)
+
+abbrev pub after_order : Setting → World → ℕ → Option OpenCall → Outcome × World
+after_order w world c None = (Refused NoCall, world)
+after_order w world c (Some o) =
+    let r = run_in w world.log o.call in
+    if nat_lt o.turns r.steps then (Refused NotAtExit, world) else after_order_by_run world c o.call r.cancel_code r
+
+-- ---- Deliver and Rebuild
+
+abbrev pub after_deliver_next : World → ℕ → Replica → Option Verdict → Outcome × World
+after_deliver_next world r replica None = (Refused NothingToDeliver, world)
+after_deliver_next world r replica (Some verdict) =
+    if replica.running then (Delivered (replica.position + 1) verdict, with_replica world r (record replica { position = replica.position + 1 }))
+    else (Refused ReplicaStopped, world)
+
+abbrev pub after_deliver : Setting → World → ℕ → Option Replica → Outcome × World
+after_deliver w world r None = (Refused NoReplica, world)
+after_deliver w world r (Some replica) = after_deliver_next world r replica (verdict_of w world.log (replica.position + 1))
+
+abbrev pub after_rebuild : World → ℕ → Option Replica → Outcome × World
+after_rebuild world r None = (Refused NoReplica, world)
+after_rebuild world r (Some replica) = (Rebuilt (length world.log), with_replica world r (record { position = length world.log; running = true }))
+
+-- ---- a step
+
+-- what it answers and leaves where memory suffices. It is meant for catalogues whose procedures are safe: of another a call
+-- may have no run, and then it does nothing
+unfoldable pub after_step : Setting → World → Step → Outcome × World
+after_step w world (Begin r procedure args) = after_begin world r procedure args (numbered world.replicas r) (by_number w.catalogue procedure)
+after_step w world (Turn c) = after_turn w world c (open_call world c)
+after_step w world (Order c) = after_order w world c (open_call world c)
+after_step w world (Deliver r) = after_deliver w world r (numbered world.replicas r)
+after_step w world (Rebuild r) = after_rebuild world r (numbered world.replicas r)
+
+abbrev pub with_stopped : World → ℕ → Option Replica → World
+with_stopped world r None = world
+with_stopped world r (Some replica) = with_replica world r (record replica { running = false })
+
+-- what a step leaves that is refused for want of memory: a call that was to be ordered is over, and a replica that was to
+-- deliver is stopped
+abbrev pub after_refused : World → Step → World
+after_refused world (Order c) = without_call world c
+after_refused world (Deliver r) = with_stopped world r (numbered world.replicas r)
+after_refused world _ = world
+
+abbrev pub is_row_helper : Option Helper → Bool
+is_row_helper None = false
+is_row_helper (Some Cancel) = false
+is_row_helper (Some _) = true
+
+abbrev pub calls_row_helper : Option Instruction → Bool
+calls_row_helper (Some (CallInstruction number)) = is_row_helper (helper_of number)
+calls_row_helper _ = false
+
+abbrev pub at_row_helper : Option StoredProcedure → Moment → Bool
+at_row_helper (Some p) (Going s) = calls_row_helper (instruction_at p.program s.slot)
+at_row_helper _ _ = false
+
+-- a turn that calls one of the row helpers may find no memory, unless it is stale
+abbrev pub after_turn_without_memory : Setting → World → ℕ → Option OpenCall → Option (Outcome × World)
+after_turn_without_memory w world c None = None
+after_turn_without_memory w world c (Some o) =
+    if is_stale w world o then None
+    else if at_row_helper (by_number w.catalogue o.call.procedure) (moment_at w world.log o.call o.turns) then Some (NoMemory, without_call world c)
+    else None
+
+-- a step that would take memory for what it answers may find none
+abbrev pub after_refused_memory : World → Step → Outcome → Option (Outcome × World)
+after_refused_memory world (Begin r procedure args) (Begun c s) = Some (Refused OutOfMemory, after_refused world (Begin r procedure args))
+after_refused_memory world (Order c) (Ordered position) = Some (Refused OutOfMemory, after_refused world (Order c))
+after_refused_memory world (Deliver r) (Delivered position verdict) = Some (Refused OutOfMemory, after_refused world (Deliver r))
+after_refused_memory world (Rebuild r) (Rebuilt position) = Some (Refused OutOfMemory, after_refused world (Rebuild r))
+after_refused_memory world step outcome = None
+
+unfoldable pub after_step_without_memory : Setting → World → Step → Option (Outcome × World)
+after_step_without_memory w world (Turn c) = after_turn_without_memory w world c (open_call world c)
+after_step_without_memory w world step = after_refused_memory world step (after_step w world step).0
+
+-- the one or the other
+abbrev pub IsStep : Setting → World → Step → Outcome → World → Type 0
+IsStep w before step outcome after = (after_step w before step ≡ (outcome, after)) ⊎ (after_step_without_memory w before step ≡ Some (outcome, after))
+
+-- steps, one after another, with their outcomes
+unfoldable pub AreSteps : Setting → World → List Step → List Outcome → World → Type 0
+AreSteps w before [] [] after = before ≡ after
+AreSteps w before (step ∷ steps) (outcome ∷ outcomes) after = (between : World) × IsStep w before step outcome between × AreSteps w between steps outcomes after
+AreSteps w before _ _ after = ⊥

@@ -1,0 +1,3 @@
+pub mod contents;
+pub mod log;
+pub mod world;

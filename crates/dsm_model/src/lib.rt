@@ -1,0 +1,22 @@
+//! What replication means: the log and the verdicts, the rows after each position, the world of replicas and its steps.
+//! Definitions, and laws about them.
+#![tactic(auto)]
+
+pub use laws::contents::{
+    deliveries_follow_the_log, new_contents_follow_the_log, one_more_entry_carries_its_run,
+};
+pub use laws::log::{
+    a_log_only_grows, comparisons_in_words_of_the_log, each_call_has_a_verdict, entries_suffice,
+    rows_after_each_call, rows_are_installed_writes, rows_fit_the_schema,
+    verdicts_in_words_of_the_log, what_commits_is_serial,
+};
+pub use laws::world::{
+    calls_end, delivered_verdicts_are_the_logs, open_calls_are_sound, refused_steps_change_nothing,
+    replicas_agree, replies_are_serial, steps_keep_a_world, the_log_is_never_full,
+};
+pub use outcome::{Outcome, StepRefusal};
+pub use verdict::Verdict;
+
+mod laws;
+mod outcome;
+mod verdict;

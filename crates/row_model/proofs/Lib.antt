@@ -1,0 +1,2 @@
+mod SignatureLemmas
+mod InstalledLemmas

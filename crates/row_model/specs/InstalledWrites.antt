@@ -1,0 +1,17 @@
+-- The rows after each position, by write sets that were installed at positions.
+use Rattle.std.specs.Prelude.{ℕ, nat_le, nat_lt, if◌then◌else◌, List}
+use Rattle.std.specs.List.{fold}
+use Rattle.std.specs.FinMap.{empty}
+use Rattle.schema.specs.Rows.{Rows, Writes, after_writes}
+
+-- a write set, and the position at which it was installed
+pub record InstalledWrites : Type 0 where
+  pub position : ℕ
+  pub writes : Writes
+
+abbrev pub with_installed : ℕ → Rows → InstalledWrites → Rows
+with_installed position rows one = if nat_le one.position position then after_writes one.writes rows else rows
+
+-- the rows after a position: the empty map, with the write sets of the positions up to it laid on in order
+unfoldable pub map_after : List InstalledWrites → ℕ → Rows
+map_after installed position = fold (with_installed position) empty installed
