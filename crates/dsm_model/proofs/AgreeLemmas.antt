@@ -1,6 +1,6 @@
 -- Of what two replicas have delivered_calls, one begins with the other.
-use Rattle.std.proofs.Common.{◌≡◌, ◌⊎◌, inl, inr, ℕ, zero, suc, ◌≤◌, List, [], ◌∷◌, ◌++◌, take, refl, ap, arith}
-use Rattle.dsm_model.specs.Log.{Call, Log}
+use Rattle.std.proofs.Common.{◌⊎◌, inl, inr, ℕ, zero, suc, [], ◌∷◌, take, refl, ap}
+use Rattle.dsm_model.specs.Log.{Log}
 use Rattle.dsm_model.specs.World.{Replica}
 use Rattle.dsm_model.specs.Sound.{delivered_calls, IsPrefix}
 

@@ -1,5 +1,5 @@
 -- The ways in which a step may go.
-use Rattle.std.proofs.Common.{◌≡◌, ◌⊎◌, inl, inr, ℕ, zero, suc, ◌+◌, ◌-◌, ◌≤◌, ◌<◌, Bool, true, false, not, cond, List, length, nat_eq, nat_le, nat_lt, Option, Some, None, refl, sym, ap, ◌∙◌, arith}
+use Rattle.std.proofs.Common.{◌≡◌, ◌⊎◌, inl, inr, ℕ, ◌+◌, ◌≤◌, ◌<◌, Bool, true, false, not, cond, List, length, nat_eq, nat_le, nat_lt, Option, Some, None, refl, sym, ap, ◌∙◌, arith}
 use Rattle.std.specs.FinMap.{len}
 use Rattle.std.proofs.lemmas.Bool.Decides.{nat_tests}
 use Rattle.bpf_semantics.specs.Run.{Run}
@@ -8,8 +8,8 @@ use Rattle.dsm_model.specs.declared.outcome.StepRefusal.{StepRefusal}
 use Rattle.dsm_model.specs.declared.outcome.StepRefusal.TheVariants.{NoReplica, NoProcedure, ArgumentsLength, NoCall, NotAtExit, NothingToDeliver, ReplicaStopped, LogFull, OutOfMemory, TooManyCalls}
 use Rattle.dsm_model.specs.declared.outcome.Outcome.{Outcome}
 use Rattle.dsm_model.specs.declared.outcome.Outcome.TheVariants.{Begun, More, Exit, Stale, NoMemory, Ordered, Read, Cancelled, Delivered, Rebuilt, Refused}
-use Rattle.dsm_model.specs.Log.{StoredProcedure, Setting, Call, Log, by_number, run_in, verdict_of}
-use Rattle.dsm_model.specs.World.{World, Replica, OpenCall, Step, Begin, Turn, Order, Deliver, Rebuild, max_calls, numbered, open_call, without_call, with_replica, with_begun, new_call, after_begin, moment_at, is_stale, with_turns, after_turn_by_run, after_turn, with_ordered, after_order_by_run, after_order, after_deliver_next, after_deliver, after_rebuild, after_refused, after_step, with_stopped, at_row_helper, after_turn_without_memory, after_refused_memory, after_step_without_memory, IsStep}
+use Rattle.dsm_model.specs.Log.{StoredProcedure, Setting, by_number, run_in, verdict_of}
+use Rattle.dsm_model.specs.World.{World, Replica, OpenCall, Step, Begin, Turn, Order, Deliver, Rebuild, max_calls, numbered, open_call, without_call, with_replica, with_begun, new_call, after_begin, moment_at, is_stale, with_turns, after_turn, with_ordered, after_order_by_run, after_order, after_deliver_next, after_deliver, after_rebuild, after_refused, after_step, with_stopped, at_row_helper, after_turn_without_memory, after_refused_memory, after_step_without_memory, IsStep}
 use Rattle.dsm_model.proofs.RunLemmas.{just}
 
 abbrev pub Done : Type 0
@@ -113,10 +113,10 @@ pub either_if : {X : Type 0} (b : Bool) (x y z : X) → cond b x y ≡ z → ((b
 either_if true x y z e = inl (refl, e)
 either_if false x y z e = inr (refl, e)
 
-fst : (a b : Done) → a ≡ b → a.0 ≡ b.0
+pub fst : (a b : Done) → a ≡ b → a.0 ≡ b.0
 fst a b e = ap (λ (d : Done). d.0) e
 
-snd : (a b : Done) → a ≡ b → a.1 ≡ b.1
+pub snd : (a b : Done) → a ≡ b → a.1 ≡ b.1
 snd a b e = ap (λ (d : Done). d.1) e
 
 same_case : (before after : World) (step : Step) (outcome : Outcome) (refusal : StepRefusal) → (refusal ≡ LogFull → ⊥) → ((c : ℕ) → step ≡ Order c → (refusal ≡ NotAtExit) ⊎ (open_call before c ≡ None)) → (refusal ≡ OutOfMemory → after_refused before step ≡ before) → ((r : ℕ) → step ≡ Deliver r → refusal ≡ OutOfMemory → ⊥)
@@ -305,7 +305,7 @@ with_memory_case w before after (Rebuild r) outcome e = rebuild_case w before af
 some_done : (a b : Done) → just a ≡ just b → a ≡ b
 some_done a b e = cc
 
-begin_refused : (before after : World) (r procedure : ℕ) (args : List ℕ) (o outcome : Outcome) → after_refused_memory before (Begin r procedure args) o ≡ just (outcome, after) → done (Refused OutOfMemory) before ≡ done outcome after
+pub begin_refused : (before after : World) (r procedure : ℕ) (args : List ℕ) (o outcome : Outcome) → after_refused_memory before (Begin r procedure args) o ≡ just (outcome, after) → done (Refused OutOfMemory) before ≡ done outcome after
 begin_refused before after r procedure args (Begun c s) outcome e = some_done _ _ e
 begin_refused before after r procedure args More outcome e = absurd cc
 begin_refused before after r procedure args (Exit n) outcome e = absurd cc
@@ -318,7 +318,7 @@ begin_refused before after r procedure args (Delivered d v) outcome e = absurd c
 begin_refused before after r procedure args (Rebuilt p) outcome e = absurd cc
 begin_refused before after r procedure args (Refused x) outcome e = absurd cc
 
-order_refused : (before after : World) (c : ℕ) (o outcome : Outcome) → after_refused_memory before (Order c) o ≡ just (outcome, after) → done (Refused OutOfMemory) (without_call before c) ≡ done outcome after
+pub order_refused : (before after : World) (c : ℕ) (o outcome : Outcome) → after_refused_memory before (Order c) o ≡ just (outcome, after) → done (Refused OutOfMemory) (without_call before c) ≡ done outcome after
 order_refused before after c (Ordered d) outcome e = some_done _ _ e
 order_refused before after c (Begun a s) outcome e = absurd cc
 order_refused before after c More outcome e = absurd cc
@@ -331,7 +331,7 @@ order_refused before after c (Delivered d v) outcome e = absurd cc
 order_refused before after c (Rebuilt p) outcome e = absurd cc
 order_refused before after c (Refused x) outcome e = absurd cc
 
-rebuild_refused : (before after : World) (r : ℕ) (o outcome : Outcome) → after_refused_memory before (Rebuild r) o ≡ just (outcome, after) → done (Refused OutOfMemory) before ≡ done outcome after
+pub rebuild_refused : (before after : World) (r : ℕ) (o outcome : Outcome) → after_refused_memory before (Rebuild r) o ≡ just (outcome, after) → done (Refused OutOfMemory) before ≡ done outcome after
 rebuild_refused before after r (Rebuilt p) outcome e = some_done _ _ e
 rebuild_refused before after r (Begun a s) outcome e = absurd cc
 rebuild_refused before after r More outcome e = absurd cc
@@ -345,7 +345,7 @@ rebuild_refused before after r (Delivered d v) outcome e = absurd cc
 rebuild_refused before after r (Refused x) outcome e = absurd cc
 
 -- only a delivery that answers a verdict, so of a replica that there is
-deliver_refused : (before after : World) (r : ℕ) (o : Done) (outcome : Outcome) → after_refused_memory before (Deliver r) o.0 ≡ just (outcome, after) → ((d : ℕ) × (v : Verdict) × (o.0 ≡ Delivered d v)) × (done (Refused OutOfMemory) (with_stopped before r (numbered before.replicas r)) ≡ done outcome after)
+pub deliver_refused : (before after : World) (r : ℕ) (o : Done) (outcome : Outcome) → after_refused_memory before (Deliver r) o.0 ≡ just (outcome, after) → ((d : ℕ) × (v : Verdict) × (o.0 ≡ Delivered d v)) × (done (Refused OutOfMemory) (with_stopped before r (numbered before.replicas r)) ≡ done outcome after)
 deliver_refused before after r (Delivered d v, x) outcome e = ((d, v, refl), some_done _ _ e)
 deliver_refused before after r (Begun a s, x) outcome e = absurd cc
 deliver_refused before after r (More, x) outcome e = absurd cc

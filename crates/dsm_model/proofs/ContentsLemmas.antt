@@ -7,7 +7,7 @@ use Rattle.schema.specs.Rows.{Rows, Writes, after_writes}
 use Rattle.bpf_semantics.specs.Run.{Run}
 use Rattle.dsm_model.specs.declared.verdict.Verdict.{Verdict}
 use Rattle.dsm_model.specs.declared.verdict.Verdict.TheVariants.{Commit, Conflict, Stale}
-use Rattle.dsm_model.specs.Log.{Setting, Call, Log, IsLogFrom, IsLog, run_of_call, CertifiedCall, verdict_after, if_commits, history, rows_after, run_in, verdict_of}
+use Rattle.dsm_model.specs.Log.{Setting, Log, IsLogFrom, IsLog, run_of_call, CertifiedCall, verdict_after, if_commits, history, rows_after, run_in, verdict_of}
 use Rattle.dsm_model.specs.Fit.{HasSafeProcedures, AreCalls}
 use Rattle.dsm_model.specs.Entries.{Entry, calls_of, CarriesRun, CarryRuns}
 use Rattle.dsm_model.specs.Contents.{ReplicaContents, IsContentsOf, with_delivered, first_contents}

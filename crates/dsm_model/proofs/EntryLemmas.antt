@@ -1,5 +1,5 @@
 -- The rows by what entries carry.
-use Rattle.std.proofs.Common.{◌≡◌, ℕ, zero, suc, ◌≤◌, ◌<◌, List, [], ◌∷◌, length, slice_get, option_map, Some, None, IsSome, refl, sym, ◌∙◌, arith}
+use Rattle.std.proofs.Common.{◌≡◌, ℕ, zero, suc, ◌≤◌, ◌<◌, List, [], ◌∷◌, length, slice_get, option_map, None, IsSome, refl, sym, ◌∙◌, arith}
 use Rattle.row_model.specs.InstalledWrites.{map_after}
 use Rattle.dsm_model.specs.Log.{Setting, Log, IsLog, CertifiedCall, history, rows_after, verdict_of}
 use Rattle.dsm_model.specs.Fit.{HasSafeProcedures, AreCalls}

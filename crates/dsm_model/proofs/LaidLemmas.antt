@@ -1,10 +1,10 @@
 -- Numbered write sets, laid on up to a position.
-use Rattle.std.proofs.Common.{◌≡◌, ℕ, zero, suc, ◌+◌, ◌≤◌, ◌<◌, Bool, true, false, cond, List, [], ◌∷◌, ◌++◌, take, nat_le, fold, refl, sym, ap, ◌∙◌, arith}
+use Rattle.std.proofs.Common.{◌≡◌, ℕ, zero, suc, ◌+◌, ◌≤◌, ◌<◌, true, false, cond, List, [], ◌∷◌, ◌++◌, take, nat_le, fold, refl, ap, ◌∙◌, arith}
 use Rattle.std.specs.FinMap.{empty}
 use Rattle.std.proofs.lemmas.Bool.Decides.{nat_tests}
-use Rattle.schema.specs.Rows.{Rows, Writes, after_writes}
+use Rattle.schema.specs.Rows.{Rows, after_writes}
 use Rattle.bpf_semantics.specs.Agree.{after_each}
-use Rattle.row_model.specs.InstalledWrites.{InstalledWrites, with_installed, map_after}
+use Rattle.row_model.specs.InstalledWrites.{with_installed, map_after}
 use Rattle.dsm_model.specs.Log.{CertifiedCall, is_commit}
 use Rattle.dsm_model.specs.Entries.{installed_from}
 use Rattle.dsm_model.proofs.Laid.{installed_writes, rows_laid_on}

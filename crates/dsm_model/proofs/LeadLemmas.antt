@@ -1,17 +1,14 @@
 -- Each step lets the log grow, and leaves each open call's call, or ends it for good.
-use Rattle.std.proofs.Common.{◌≡◌, ℕ, zero, suc, ◌+◌, ◌≤◌, ◌<◌, List, [], ◌∷◌, ◌++◌, length, slice_get, Option, Some, None, refl, sym, ap, subst, ◌∙◌, inl, inr, append_assoc, append-nil, arith}
-use Rattle.std.specs.List.{AllByRecursion}
+use Rattle.std.proofs.Common.{◌≡◌, ℕ, zero, suc, ◌+◌, List, [], ◌∷◌, ◌++◌, slice_get, Option, Some, None, refl, sym, ap, subst, ◌∙◌, inl, inr, append_assoc, append-nil}
 use Rattle.dsm_model.specs.declared.verdict.Verdict.{Verdict}
 use Rattle.dsm_model.specs.declared.outcome.Outcome.{Outcome}
-use Rattle.dsm_model.specs.declared.outcome.Outcome.TheVariants.{Begun, More, Exit, Stale, NoMemory, Ordered, Read, Cancelled, Delivered, Rebuilt, Refused}
+use Rattle.dsm_model.specs.declared.outcome.Outcome.TheVariants.{Delivered}
 use Rattle.dsm_model.specs.Log.{Setting, Call, Log, verdict_of}
 use Rattle.dsm_model.specs.World.{World, Replica, OpenCall, Step, numbered, open_call, without_call, with_replica, with_begun, with_turns, with_ordered, IsStep, AreSteps}
-use Rattle.dsm_model.specs.Sound.{HasByteArguments, IsWorld}
 use Rattle.dsm_model.proofs.RunLemmas.{just}
 use Rattle.dsm_model.proofs.GrowthLemmas.{verdict_grown, verdict_within}
 use Rattle.dsm_model.proofs.Numbered.{some_is, numbered_there, numbered_first, flat_is}
 use Rattle.dsm_model.proofs.Cases.{Case, Same, New, Over, Turned, Appended, Verdicted, Stop, Anew, step_case}
-use Rattle.dsm_model.proofs.WorldLemmas.{step_keeps}
 
 -- what may become of a call
 abbrev pub Follows : Option OpenCall → Option OpenCall → Type 0

@@ -11,6 +11,7 @@ mod ComparisonLemmas
 mod EntryLemmas
 mod Numbered
 mod Cases
+mod StepLemmas
 mod WorldLemmas
 mod SoundLemmas
 mod LeadLemmas

@@ -1,5 +1,5 @@
 -- Lists whose elements are numbered from 1, and what is open among them.
-use Rattle.std.proofs.Common.{◌≡◌, ◌⊎◌, inl, inr, ℕ, zero, suc, ◌+◌, ◌≤◌, ◌<◌, List, [], ◌∷◌, ◌++◌, length, replicate, slice_get, slice_set, Option, Some, None, refl, sym, ap, ◌∙◌, arith}
+use Rattle.std.proofs.Common.{◌≡◌, ◌⊎◌, inl, inr, ℕ, zero, suc, ◌+◌, ◌≤◌, List, [], ◌∷◌, ◌++◌, length, replicate, slice_get, slice_set, Option, Some, None, refl, ap, arith}
 use Rattle.std.proofs.lemmas.List.{length-set}
 use Rattle.dsm_model.specs.World.{OpenCall, numbered, with_numbered, flatten}
 use Rattle.dsm_model.specs.Sound.{open_count}

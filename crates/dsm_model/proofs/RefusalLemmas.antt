@@ -1,12 +1,12 @@
 -- What refused steps leave, and that the log is never full.
-use Rattle.std.proofs.Common.{◌≡◌, ◌⊎◌, inl, inr, ℕ, ◌+◌, ◌≤◌, ◌<◌, false, List, [], ◌∷◌, length, Option, Some, None, refl, sym, ap, subst, ◌∙◌, arith}
+use Rattle.std.proofs.Common.{◌≡◌, ◌⊎◌, inl, inr, ℕ, ◌≤◌, false, List, length, Some, None, refl, sym, ap, ◌∙◌, arith}
 use Rattle.dsm_model.specs.declared.outcome.StepRefusal.{StepRefusal}
 use Rattle.dsm_model.specs.declared.outcome.StepRefusal.TheVariants.{NotAtExit, LogFull, OutOfMemory}
 use Rattle.dsm_model.specs.declared.outcome.Outcome.{Outcome}
-use Rattle.dsm_model.specs.declared.outcome.Outcome.TheVariants.{Begun, More, Exit, Stale, NoMemory, Ordered, Delivered, Rebuilt, Refused}
+use Rattle.dsm_model.specs.declared.outcome.Outcome.TheVariants.{Stale, NoMemory, Refused}
 use Rattle.dsm_model.specs.Log.{Setting}
-use Rattle.dsm_model.specs.World.{World, Replica, OpenCall, Step, Begin, Turn, Order, Deliver, Rebuild, max_calls, numbered, flatten, open_call, with_open_call, without_call, with_replica, with_stopped, after_refused, IsStep}
-use Rattle.dsm_model.specs.Sound.{IsWorld, open_count}
+use Rattle.dsm_model.specs.World.{World, Replica, OpenCall, Step, Begin, Turn, Order, Deliver, Rebuild, max_calls, numbered, open_call, with_open_call, without_call, with_replica, with_stopped, after_refused, IsStep}
+use Rattle.dsm_model.specs.Sound.{IsWorld}
 use Rattle.dsm_model.proofs.RunLemmas.{just}
 use Rattle.dsm_model.proofs.Numbered.{numbered_gone, numbered_count}
 use Rattle.dsm_model.proofs.Cases.{Case, Same, New, Over, Turned, Appended, Verdicted, Stop, Anew, step_case}

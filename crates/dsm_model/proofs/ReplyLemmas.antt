@@ -1,19 +1,18 @@
 -- The reply that the caller of a committed call got is that of its run on the rows just before it.
-use Rattle.std.proofs.Common.{◌≡◌, ◌⊎◌, inl, inr, ℕ, zero, suc, ◌+◌, ◌≤◌, ◌<◌, List, [], ◌∷◌, ◌++◌, length, slice_get, Option, Some, None, refl, sym, ap, subst, ◌∙◌, arith}
+use Rattle.std.proofs.Common.{◌≡◌, inl, inr, ℕ, zero, suc, ◌+◌, ◌≤◌, ◌<◌, List, [], ◌∷◌, ◌++◌, length, slice_get, Option, Some, None, refl, sym, ap, subst, ◌∙◌, arith}
 use Rattle.std.specs.List.{AllByRecursion}
-use Rattle.schema.specs.Rows.{Rows}
 use Rattle.bpf_semantics.specs.Run.{Run}
 use Rattle.dsm_model.specs.declared.verdict.Verdict.TheVariants.{Commit}
 use Rattle.dsm_model.specs.declared.outcome.Outcome.{Outcome}
-use Rattle.dsm_model.specs.declared.outcome.Outcome.TheVariants.{Begun, More, Exit, Ordered, Delivered, Rebuilt, Refused}
-use Rattle.dsm_model.specs.Log.{Setting, Call, Log, run_of_call, rows_after, run_in, verdict_of}
+use Rattle.dsm_model.specs.declared.outcome.Outcome.TheVariants.{Exit, Ordered}
+use Rattle.dsm_model.specs.Log.{Setting, Call, Log, run_in, verdict_of}
 use Rattle.dsm_model.specs.Fit.{HasSafeProcedures}
-use Rattle.dsm_model.specs.World.{World, OpenCall, Step, Turn, Order, numbered, with_numbered, flatten, open_call, with_turns, IsStep, AreSteps}
+use Rattle.dsm_model.specs.World.{World, OpenCall, Step, Turn, Order, numbered, flatten, open_call, IsStep, AreSteps}
 use Rattle.dsm_model.specs.Sound.{HasByteArguments, IsWorld, IsSerialReply}
 use Rattle.dsm_model.proofs.RunLemmas.{just}
 use Rattle.dsm_model.proofs.CallLemmas.{serial_run}
-use Rattle.dsm_model.proofs.GrowthLemmas.{get_before, verdict_within}
-use Rattle.dsm_model.proofs.Numbered.{some_is, numbered_there, flat_is, get_last}
+use Rattle.dsm_model.proofs.GrowthLemmas.{get_before}
+use Rattle.dsm_model.proofs.Numbered.{some_is, flat_is, get_last}
 use Rattle.dsm_model.proofs.Cases.{Case, Same, New, Over, Turned, Appended, Verdicted, Stop, Anew, step_case}
 use Rattle.dsm_model.proofs.WorldLemmas.{begun_within, run_grown, step_keeps, steps_keep}
 use Rattle.dsm_model.proofs.LeadLemmas.{Follows, Leads, step_leads, log_grows}

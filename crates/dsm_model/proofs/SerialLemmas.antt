@@ -1,6 +1,6 @@
 -- What a call that commits leaves.
-use Rattle.std.proofs.Common.{◌≡◌, ℕ, suc, List, Some, slice_get, ap, ◌∙◌}
-use Rattle.schema.specs.Rows.{Rows, after_writes}
+use Rattle.std.proofs.Common.{◌≡◌, ℕ, suc, Some, slice_get, ap, ◌∙◌}
+use Rattle.schema.specs.Rows.{after_writes}
 use Rattle.bpf_semantics.specs.Run.{Run}
 use Rattle.dsm_model.specs.declared.verdict.Verdict.TheVariants.{Commit}
 use Rattle.dsm_model.specs.Log.{Setting, Call, Log, IsLog, rows_after, verdict_of, run_in}

@@ -1,12 +1,12 @@
 -- Each open call goes on well.
-use Rattle.std.proofs.Common.{◌≡◌, ◌≢◌, ℕ, ◌≤◌, ◌<◌, Some, Option, sym, ap, ◌∙◌, ◌⊎◌, inl, inr, arith}
+use Rattle.std.proofs.Common.{◌≡◌, ◌≢◌, ℕ, ◌≤◌, Some, Option, ap, ◌∙◌, ◌⊎◌, inl, inr, arith}
 use Rattle.std.proofs.lemmas.Bool.{cases_lt}
 use Rattle.bpf_semantics.specs.State.{State, entry_state}
-use Rattle.bpf_semantics.specs.Step.{Moment, Going, Ended, Stuck}
-use Rattle.bpf_semantics.specs.Run.{moment, run}
+use Rattle.bpf_semantics.specs.Step.{Going, Ended, Stuck}
+use Rattle.bpf_semantics.specs.Run.{moment}
 use Rattle.bpf_semantics.specs.Path.{longest_path}
 use Rattle.bpf_semantics.proofs.MomentLemmas.{before_its_length, from_its_length_on}
-use Rattle.dsm_model.specs.Log.{StoredProcedure, Setting, Call, Log, by_number, rows_after, run_of_call, run_in}
+use Rattle.dsm_model.specs.Log.{StoredProcedure, Setting, Call, Log, by_number, rows_after, run_in}
 use Rattle.dsm_model.specs.Fit.{HasSafeProcedures, IsCall}
 use Rattle.dsm_model.specs.World.{World, OpenCall, open_call, moment_of, moment_at}
 use Rattle.dsm_model.specs.Sound.{IsOpenCall, IsWorld, IsSound}

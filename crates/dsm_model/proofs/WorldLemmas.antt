@@ -1,18 +1,17 @@
 -- What each step of a world keeps.
-use Rattle.std.proofs.Common.{◌≡◌, ◌⊎◌, inl, inr, ℕ, zero, suc, ◌+◌, ◌≤◌, ◌<◌, List, [], ◌∷◌, ◌++◌, length, true, false, Option, Some, None, All, refl, sym, ap, subst, ◌∙◌, arith}
+use Rattle.std.proofs.Common.{◌≡◌, inl, inr, ℕ, zero, suc, ◌+◌, ◌≤◌, ◌<◌, List, [], ◌∷◌, ◌++◌, length, true, false, Option, None, All, sym, ap, subst, ◌∙◌, arith}
 use Rattle.std.specs.List.{AllByRecursion}
 use Rattle.std.proofs.lemmas.List.{length-append}
 use Rattle.schema.specs.Rows.{Rows}
 use Rattle.bpf_semantics.specs.Run.{Run}
 use Rattle.dsm_model.specs.declared.outcome.Outcome.{Outcome}
-use Rattle.dsm_model.specs.Log.{StoredProcedure, Setting, Call, Log, IsLog, run_of_call, run_in, verdict_of}
-use Rattle.dsm_model.specs.Fit.{IsCall, AreCalls, AreArguments}
-use Rattle.dsm_model.specs.World.{World, Replica, OpenCall, Step, Begin, max_calls, numbered, with_numbered, flatten, open_call, without_call, with_open_call, with_replica, with_begun, new_call, with_turns, with_ordered, first_world, IsStep, AreSteps}
+use Rattle.dsm_model.specs.Log.{Setting, Call, Log, run_of_call, run_in, verdict_of}
+use Rattle.dsm_model.specs.World.{World, Replica, OpenCall, Step, Begin, max_calls, numbered, with_numbered, flatten, open_call, without_call, with_replica, with_begun, new_call, with_turns, with_ordered, first_world, IsStep, AreSteps}
 use Rattle.dsm_model.specs.Sound.{HasByteArguments, IsOpenCall, open_count, IsWorld}
 use Rattle.dsm_model.proofs.RunLemmas.{just}
 use Rattle.dsm_model.proofs.GrowthLemmas.{rows_grown, is_log_snoc, are_calls_snoc, verdict_within}
 use Rattle.dsm_model.proofs.Numbered.{some_is, numbered_set, numbered_there, numbered_one_more, flat_is, numbered_replicate, length_numbered, numbered_count, numbered_none, count_one_more}
-use Rattle.dsm_model.proofs.Cases.{SameCase, BeginCase, OverCase, TurnCase, OrderCase, DeliverCase, StopCase, RebuildCase, Case, Same, New, Over, Turned, Appended, Verdicted, Stop, Anew, step_case}
+use Rattle.dsm_model.proofs.Cases.{Case, Same, New, Over, Turned, Appended, Verdicted, Stop, Anew, step_case}
 
 -- ---- open calls
 

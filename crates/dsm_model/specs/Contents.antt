@@ -1,5 +1,5 @@
 -- A replica's copy of the database, by entries alone. Nothing of this has to be believed for the laws of the world.
-use Rattle.std.specs.Prelude.{◌≡◌, List, [], ◌∷◌, ◌++◌, length, take}
+use Rattle.std.specs.Prelude.{◌≡◌, List, [], length, take}
 use Rattle.std.specs.FinMap.{empty}
 use Rattle.schema.specs.Rows.{Rows, after_writes}
 use Rattle.dsm_model.specs.Log.{Setting, Log, CertifiedCall, verdict_after, if_commits, history, rows_after}

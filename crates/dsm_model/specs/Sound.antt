@@ -1,6 +1,5 @@
 -- What is known of every world that steps lead to.
 use Rattle.std.specs.Prelude.{◌≡◌, ◌≢◌, ◌⊎◌, ℕ, suc, ◌+◌, ◌<◌, ◌≤◌, List, [], ◌∷◌, ◌++◌, length, take, slice_get, All, Option, Some, None}
-use Rattle.std.specs.List.{AllByRecursion}
 use Rattle.bpf_semantics.specs.State.{State}
 use Rattle.bpf_semantics.specs.Step.{Going, Ended, Stuck}
 use Rattle.bpf_semantics.specs.Path.{longest_path}

@@ -9,7 +9,7 @@ use Rattle.schema.specs.Rows.{Rows}
 use Rattle.schema.specs.declared.helper.Helper.{Helper}
 use Rattle.schema.specs.declared.helper.Helper.TheVariants.{Cancel}
 use Rattle.bpf_semantics.specs.State.{entry_state}
-use Rattle.bpf_semantics.specs.Step.{Moment, Going, Ended, Stuck}
+use Rattle.bpf_semantics.specs.Step.{Moment, Going, Stuck}
 use Rattle.bpf_semantics.specs.Run.{Run, moment}
 use Rattle.bpf_semantics.specs.Agree.{looks_of}
 use Rattle.dsm_model.specs.declared.verdict.Verdict.{Verdict}

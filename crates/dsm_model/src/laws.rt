@@ -1,3 +1,4 @@
 pub mod contents;
 pub mod log;
+pub mod steps;
 pub mod world;

@@ -34,13 +34,10 @@ pub fn open_calls_are_sound()
         → HasSafeProcedures w → IsWorld w world → open_call world c ≡ Some o → IsSound w world.log o }
 {}
 
-/// Exit answers the reply of the call's run on the rows of its snapshot; and where the call is then ordered and
-/// commits, that is the reply of its run on the rows just before it.
+/// The reply that Exit answered, where the call is then ordered and commits, is that of its run on the rows just before
+/// it.
 pub fn replies_are_serial()
-    ensures exit { (w : Setting) (before : World) (c reply : ℕ) (after : World)
-        → IsStep w before (Turn c) (Exit reply) after
-        → (o : OpenCall) × (open_call before c ≡ Some o) × ((run_in w before.log o.call).reply ≡ reply) }
-    ensures committed { (w : Setting) (before : World) (steps : List Step) (outcomes : List Outcome)
+    ensures { (w : Setting) (before : World) (steps : List Step) (outcomes : List Outcome)
         (after : World) (c i j position reply : ℕ)
         → HasSafeProcedures w → AllByRecursion HasByteArguments steps → IsWorld w before
         → AreSteps w before steps outcomes after

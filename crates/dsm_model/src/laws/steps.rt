@@ -1,0 +1,143 @@
+//! Laws of each step of the world: when it gives which answer, and what it leaves. The conditions of the answers that a
+//! step may give exclude each other, so that each is given exactly there.
+
+ghost use Rattle.std.specs.Prelude.{◌≡◌, ◌≢◌, ◌+◌, ◌<◌, ◌≤◌, ℕ, true, false, List, [], ◌∷◌, ◌++◌, length, Some, None, IsSome, IsTrue};
+ghost use Rattle.std.specs.FinMap.{len};
+ghost use Rattle.dsm_model.specs.declared.verdict.Verdict.{Verdict};
+ghost use Rattle.dsm_model.specs.declared.outcome.StepRefusal.TheVariants.{NoReplica, NoProcedure, ArgumentsLength, NoCall};
+ghost use Rattle.dsm_model.specs.declared.outcome.StepRefusal.TheVariants.{NotAtExit, NothingToDeliver, ReplicaStopped, TooManyCalls};
+ghost use Rattle.dsm_model.specs.declared.outcome.Outcome.{Outcome};
+ghost use Rattle.dsm_model.specs.declared.outcome.Outcome.TheVariants.{Begun, More, Exit, Stale, NoMemory, Ordered, Read};
+ghost use Rattle.dsm_model.specs.declared.outcome.Outcome.TheVariants.{Cancelled, Delivered, Rebuilt, Refused};
+ghost use Rattle.dsm_model.specs.Log.{StoredProcedure, Setting, by_number, run_in, verdict_of};
+ghost use Rattle.dsm_model.specs.World.{World, Replica, OpenCall, Begin, Turn, Order, Deliver, Rebuild, max_calls};
+ghost use Rattle.dsm_model.specs.World.{numbered, position_of, open_call, with_open_call, with_replica};
+ghost use Rattle.dsm_model.specs.World.{moment_at, makes_look, at_row_helper, IsStep};
+
+/// A call begins as the next of the world's, at the position of its replica, with no instruction run. It doesn't where
+/// there is no such replica; else, where there is no such procedure; else, where the arguments have another length than
+/// the procedure's; else, where the world has had all its calls.
+pub fn calls_begin_where_their_replica_is()
+    ensures begun { (w : Setting) (before : World) (r procedure : ℕ) (args : List ℕ) (c snapshot : ℕ) (after : World)
+        → IsStep w before (Begin r procedure args) (Begun c snapshot) after
+        → (replica : Replica) × (stored : StoredProcedure)
+        × (numbered before.replicas r ≡ Some replica) × (by_number w.catalogue procedure ≡ Some stored)
+        × (length args ≡ stored.args_len) × (length before.calls < max_calls)
+        × (c ≡ length before.calls + 1) × (snapshot ≡ replica.position)
+        × (after ≡ record {
+          log = before.log;
+          replicas = before.replicas;
+          calls = before.calls ++ Some (record {
+            replica = r;
+            call = record { number = c; procedure = procedure; args = args; snapshot = snapshot };
+            turns = 0;
+          }) ∷ [];
+        }) }
+    ensures no_replica { (w : Setting) (before : World) (r procedure : ℕ) (args : List ℕ) (after : World)
+        → IsStep w before (Begin r procedure args) (Refused NoReplica) after → numbered before.replicas r ≡ None }
+    ensures no_procedure { (w : Setting) (before : World) (r procedure : ℕ) (args : List ℕ) (after : World)
+        → IsStep w before (Begin r procedure args) (Refused NoProcedure) after
+        → IsSome (numbered before.replicas r) × (by_number w.catalogue procedure ≡ None) }
+    ensures length { (w : Setting) (before : World) (r procedure : ℕ) (args : List ℕ) (after : World)
+        → IsStep w before (Begin r procedure args) (Refused ArgumentsLength) after
+        → IsSome (numbered before.replicas r)
+        × (stored : StoredProcedure) × (by_number w.catalogue procedure ≡ Some stored) × (length args ≢ stored.args_len) }
+    ensures many { (w : Setting) (before : World) (r procedure : ℕ) (args : List ℕ) (after : World)
+        → IsStep w before (Begin r procedure args) (Refused TooManyCalls) after
+        → IsSome (numbered before.replicas r)
+        × (stored : StoredProcedure) × (by_number w.catalogue procedure ≡ Some stored)
+        × (length args ≡ stored.args_len) × (max_calls ≤ length before.calls) }
+{}
+
+/// A turn is one instruction of the call's run on the rows of its snapshot: more, while there is a next one; else Exit
+/// with the run's reply, and so again. Before either, where the instruction looks at rows and the replica is more than
+/// the window past the snapshot, it is stale, and the call is over. No memory is found only where the instruction calls
+/// a helper that reads or writes rows, and the call is over too.
+pub fn turns_follow_the_run()
+    ensures more { (w : Setting) (before : World) (c : ℕ) (after : World)
+        → IsStep w before (Turn c) More after
+        → (o : OpenCall) × (open_call before c ≡ Some o) × (o.turns + 1 < (run_in w before.log o.call).steps)
+        × (after ≡ with_open_call before c (Some (record { replica = o.replica; call = o.call; turns = o.turns + 1 }))) }
+    ensures exit { (w : Setting) (before : World) (c reply : ℕ) (after : World)
+        → IsStep w before (Turn c) (Exit reply) after
+        → (o : OpenCall) × (open_call before c ≡ Some o) × ((run_in w before.log o.call).steps ≤ o.turns + 1)
+        × (reply ≡ (run_in w before.log o.call).reply)
+        × (after ≡ with_open_call before c (Some (record {
+          replica = o.replica;
+          call = o.call;
+          turns = (run_in w before.log o.call).steps;
+        }))) }
+    ensures stale { (w : Setting) (before : World) (c : ℕ) (after : World)
+        → IsStep w before (Turn c) Stale after
+        → (o : OpenCall) × (open_call before c ≡ Some o) × IsTrue (makes_look w before.log o)
+        × (o.call.snapshot + w.window < position_of (numbered before.replicas o.replica))
+        × (after ≡ with_open_call before c None) }
+    ensures kept { (w : Setting) (before : World) (c : ℕ) (o : OpenCall) (outcome : Outcome) (after : World)
+        → IsStep w before (Turn c) outcome after → outcome ≢ Stale → open_call before c ≡ Some o
+        → IsTrue (makes_look w before.log o)
+        → position_of (numbered before.replicas o.replica) ≤ o.call.snapshot + w.window }
+    ensures memory { (w : Setting) (before : World) (c : ℕ) (after : World)
+        → IsStep w before (Turn c) NoMemory after
+        → (o : OpenCall) × (open_call before c ≡ Some o)
+        × IsTrue (at_row_helper (by_number w.catalogue o.call.procedure) (moment_at w before.log o.call o.turns))
+        × (after ≡ with_open_call before c None) }
+    ensures no_call { (w : Setting) (before : World) (c : ℕ) (after : World)
+        → IsStep w before (Turn c) (Refused NoCall) after → open_call before c ≡ None }
+{}
+
+/// A call that has come to its end and is ordered is over. It is appended to the log, and its position answered, where
+/// its run wrote something and didn't cancel; where it cancelled, the code is answered, and where it wrote nothing, its
+/// reply.
+pub fn calls_are_ordered_at_their_end()
+    ensures ordered { (w : Setting) (before : World) (c position : ℕ) (after : World)
+        → IsStep w before (Order c) (Ordered position) after
+        → (o : OpenCall) × (open_call before c ≡ Some o) × ((run_in w before.log o.call).steps ≤ o.turns)
+        × ((run_in w before.log o.call).cancel_code ≡ None) × (len (run_in w before.log o.call).writes ≢ 0)
+        × (position ≡ length before.log + 1)
+        × (after ≡ with_open_call (record { log = before.log ++ o.call ∷ []; replicas = before.replicas; calls = before.calls }) c None) }
+    ensures cancelled { (w : Setting) (before : World) (c snapshot code : ℕ) (after : World)
+        → IsStep w before (Order c) (Cancelled snapshot code) after
+        → (o : OpenCall) × (open_call before c ≡ Some o) × ((run_in w before.log o.call).steps ≤ o.turns)
+        × ((run_in w before.log o.call).cancel_code ≡ Some code) × (snapshot ≡ o.call.snapshot)
+        × (after ≡ with_open_call before c None) }
+    ensures read { (w : Setting) (before : World) (c snapshot reply : ℕ) (after : World)
+        → IsStep w before (Order c) (Read snapshot reply) after
+        → (o : OpenCall) × (open_call before c ≡ Some o) × ((run_in w before.log o.call).steps ≤ o.turns)
+        × ((run_in w before.log o.call).cancel_code ≡ None) × (len (run_in w before.log o.call).writes ≡ 0)
+        × (snapshot ≡ o.call.snapshot) × (reply ≡ (run_in w before.log o.call).reply)
+        × (after ≡ with_open_call before c None) }
+    ensures early { (w : Setting) (before : World) (c : ℕ) (after : World)
+        → IsStep w before (Order c) (Refused NotAtExit) after
+        → (o : OpenCall) × (open_call before c ≡ Some o) × (o.turns < (run_in w before.log o.call).steps) }
+    ensures no_call { (w : Setting) (before : World) (c : ℕ) (after : World)
+        → IsStep w before (Order c) (Refused NoCall) after → open_call before c ≡ None }
+{}
+
+/// A replica that runs delivers the next position of the log, with its verdict; nothing, where it has delivered all of
+/// the log, and where it is stopped.
+pub fn replicas_deliver_in_order()
+    ensures delivered { (w : Setting) (before : World) (r position : ℕ) (v : Verdict) (after : World)
+        → IsStep w before (Deliver r) (Delivered position v) after
+        → (replica : Replica) × (numbered before.replicas r ≡ Some replica) × (replica.running ≡ true)
+        × (position ≡ replica.position + 1) × (verdict_of w before.log position ≡ Some v)
+        × (after ≡ with_replica before r (record { position = position; running = true })) }
+    ensures nothing { (w : Setting) (before : World) (r : ℕ) (after : World)
+        → IsStep w before (Deliver r) (Refused NothingToDeliver) after
+        → (replica : Replica) × (numbered before.replicas r ≡ Some replica) × (length before.log ≤ replica.position) }
+    ensures stopped { (w : Setting) (before : World) (r : ℕ) (after : World)
+        → IsStep w before (Deliver r) (Refused ReplicaStopped) after
+        → (replica : Replica) × (numbered before.replicas r ≡ Some replica) × (replica.position < length before.log)
+        × (replica.running ≡ false) }
+    ensures no_replica { (w : Setting) (before : World) (r : ℕ) (after : World)
+        → IsStep w before (Deliver r) (Refused NoReplica) after → numbered before.replicas r ≡ None }
+{}
+
+/// A replica that is rebuilt has delivered all of the log, and runs.
+pub fn rebuilt_replicas_are_at_the_end()
+    ensures rebuilt { (w : Setting) (before : World) (r position : ℕ) (after : World)
+        → IsStep w before (Rebuild r) (Rebuilt position) after
+        → IsSome (numbered before.replicas r) × (position ≡ length before.log)
+        × (after ≡ with_replica before r (record { position = position; running = true })) }
+    ensures no_replica { (w : Setting) (before : World) (r : ℕ) (after : World)
+        → IsStep w before (Rebuild r) (Refused NoReplica) after → numbered before.replicas r ≡ None }
+{}
