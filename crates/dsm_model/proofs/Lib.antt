@@ -12,6 +12,8 @@ mod EntryLemmas
 mod Numbered
 mod Cases
 mod StepLemmas
+mod AnswerLemmas
+mod PartLemmas
 mod WorldLemmas
 mod SoundLemmas
 mod LeadLemmas

@@ -1,5 +1,5 @@
 -- Each open call goes on well.
-use Rattle.std.proofs.Common.{◌≡◌, ◌≢◌, ℕ, ◌≤◌, Some, Option, ap, ◌∙◌, ◌⊎◌, inl, inr, arith}
+use Rattle.std.proofs.Common.{◌≡◌, ◌≢◌, ℕ, ◌+◌, ◌≤◌, Some, Option, ap, ◌∙◌, ◌⊎◌, inl, inr, arith}
 use Rattle.std.proofs.lemmas.Bool.{cases_lt}
 use Rattle.bpf_semantics.specs.State.{State, entry_state}
 use Rattle.bpf_semantics.specs.Step.{Going, Ended, Stuck}
@@ -38,12 +38,14 @@ not_stuck w log call c k has stuck = elim (cases_lt k (run_in w log call).steps)
 ]
 
 so_far : (w : Setting) (log : Log) (call : Call) (c : IsCall w call) (k : ℕ) → HasRun w call (rows_after w log call.snapshot) c → k ≤ (run_in w log call).steps
-    → ((s : State) × (moment_at w log call k ≡ Going s) × (s.steps ≡ k)) ⊎ (k ≡ (run_in w log call).steps)
+    → ((s : State) × (moment_at w log call k ≡ Going s) × (s.steps ≡ k)) ⊎ ((s : State) × (moment_at w log call k ≡ Ended (run_in w log call).reply s) × (k ≡ (run_in w log call).steps))
 so_far w log call c k has le = elim (cases_lt k (run_in w log call).steps) [
   | inl lt ↦
       let on = before_its_length c.procedure.program w.tables call.args (rows_after w log call.snapshot) (run_in w log call) k has.run lt in
       inl (on.0, at_procedure w log call c.procedure k c.known ∙ on.1, on.2)
-  | inr ge ↦ inr (omega arith)
+  | inr ge ↦
+      let end = ended w log call c k has ge in
+      inr (end.0, end.1, omega arith)
 ]
 
 pub sound : (w : Setting) (world : World) (o : OpenCall) → HasSafeProcedures w → IsWorld w world → IsOpenCall w world o → IsSound w world.log o
@@ -55,7 +57,7 @@ sound w world o safe is one =
     record {
       is_call = one.is_call;
       so_far = so_far w world.log o.call one.is_call o.turns has one.turns;
-      not_stuck = not_stuck w world.log o.call one.is_call o.turns has;
+      not_stuck = not_stuck w world.log o.call one.is_call (o.turns + 1) has;
       within = omega arith;
       end = end.0;
       ends = end.1;

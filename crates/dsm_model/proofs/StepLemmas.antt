@@ -17,18 +17,18 @@ use Rattle.dsm_model.proofs.Cases.{Done, done, fst, snd, either_if, begin_refuse
 
 -- ---- where memory is refused, the answer says so
 
-record TurnWithoutMemory (w : Setting) (before : World) (c : ℕ) (found : Option OpenCall) (outcome : Outcome) (after : World) : Type 0 where
-  o : OpenCall
-  stands : found ≡ just o
-  kept : is_stale w before o ≡ false
-  at : at_row_helper (by_number w.catalogue o.call.procedure) (moment_at w before.log o.call o.turns) ≡ true
-  answer : outcome ≡ NoMemory
-  leaves : after ≡ without_call before c
+pub record TurnWithoutMemory (w : Setting) (before : World) (c : ℕ) (found : Option OpenCall) (outcome : Outcome) (after : World) : Type 0 where
+  pub o : OpenCall
+  pub stands : found ≡ just o
+  pub kept : is_stale w before o ≡ false
+  pub at : at_row_helper (by_number w.catalogue o.call.procedure) (moment_at w before.log o.call o.turns) ≡ true
+  pub answer : outcome ≡ NoMemory
+  pub leaves : after ≡ without_call before c
 
 some_done : (a b : Done) → just a ≡ just b → a ≡ b
 some_done a b e = cc
 
-turn_without : (w : Setting) (before after : World) (c : ℕ) (outcome : Outcome) (found : Option OpenCall) → after_turn_without_memory w before c found ≡ just (done outcome after) → TurnWithoutMemory w before c found outcome after
+pub turn_without : (w : Setting) (before after : World) (c : ℕ) (outcome : Outcome) (found : Option OpenCall) → after_turn_without_memory w before c found ≡ just (done outcome after) → TurnWithoutMemory w before c found outcome after
 turn_without w before after c outcome None e = absurd cc
 turn_without w before after c outcome (Some o) e = elim (either_if (is_stale w before o) None _ (just (outcome, after)) e) [
   | inl (t, d) ↦ absurd cc
@@ -53,7 +53,7 @@ memory_answer w before after (Order c) outcome e = inl (sym (fst (Refused OutOfM
 memory_answer w before after (Deliver r) outcome e = inl (sym (fst (Refused OutOfMemory, with_stopped before r (numbered before.replicas r)) (outcome, after) (deliver_refused before after r (after_step w before (Deliver r)) outcome e).1))
 memory_answer w before after (Rebuild r) outcome e = inl (sym (fst (Refused OutOfMemory, before) (outcome, after) (rebuild_refused before after r (after_step w before (Rebuild r)).0 outcome e)))
 
-with_memory : (w : Setting) (before after : World) (step : Step) (outcome : Outcome) → (outcome ≡ Refused OutOfMemory → ⊥) → (outcome ≡ NoMemory → ⊥) → IsStep w before step outcome after → after_step w before step ≡ done outcome after
+pub with_memory : (w : Setting) (before after : World) (step : Step) (outcome : Outcome) → (outcome ≡ Refused OutOfMemory → ⊥) → (outcome ≡ NoMemory → ⊥) → IsStep w before step outcome after → after_step w before step ≡ done outcome after
 with_memory w before after step outcome f g (inl e) = e
 with_memory w before after step outcome f g (inr e) = absurd (elim (memory_answer w before after step outcome e) [ inl x ↦ f x | inr y ↦ g y ])
 
@@ -329,13 +329,13 @@ no_writes m e = grind arith
 some_writes : (m : ℕ) → nat_eq m 0 ≡ false → m ≡ 0 → ⊥
 some_writes m e f = grind arith
 
-by_run_ordered : (before after : World) (c position : ℕ) (call : Call) (code : Option ℕ) (r : Run) → after_order_by_run before c call code r ≡ done (Ordered position) after → (code ≡ None) × (len r.writes ≡ 0 → ⊥) × (position ≡ length before.log + 1) × (after ≡ with_ordered before c call)
+by_run_ordered : (before after : World) (c position : ℕ) (call : Call) (code : Option ℕ) (r : Run) → after_order_by_run before c call code r ≡ done (Ordered position) after → (code ≡ None) × (len r.writes ≡ 0 → ⊥) × (position ≡ length before.log + 1) × (length before.log < max_calls) × (after ≡ with_ordered before c call)
 by_run_ordered before after c position call (Some code) r e = absurd (let x = fst (Cancelled call.snapshot code, without_call before c) (Ordered position, after) e in cc)
 by_run_ordered before after c position call None r e = elim (either_if (nat_eq (len r.writes) 0) _ _ (Ordered position, after) e) [
   | inl (t, d) ↦ absurd (let x = fst (Read call.snapshot r.reply, without_call before c) (Ordered position, after) d in cc)
   | inr (some, d) ↦ elim (either_if (nat_le max_calls (length before.log)) _ _ (Ordered position, after) d) [
     | inl (t, h) ↦ absurd (let x = fst (Refused LogFull, without_call before c) (Ordered position, after) h in cc)
-    | inr (t, h) ↦ (refl, some_writes (len r.writes) some, same_place (length before.log + 1) position (fst (Ordered (length before.log + 1), with_ordered before c call) (Ordered position, after) h), sym (snd (Ordered (length before.log + 1), with_ordered before c call) (Ordered position, after) h))
+    | inr (t, h) ↦ (refl, some_writes (len r.writes) some, same_place (length before.log + 1) position (fst (Ordered (length before.log + 1), with_ordered before c call) (Ordered position, after) h), less max_calls (length before.log) t, sym (snd (Ordered (length before.log + 1), with_ordered before c call) (Ordered position, after) h))
   ]
 ]
 
@@ -378,11 +378,11 @@ unfolding after_step
 order_answered w before after c outcome apart memory h = order_at_end w before after c (open_call before c) outcome apart (with_memory w before after (Order c) outcome (apart OutOfMemory) memory h)
 
 pub orders : (w : Setting) (before : World) (c position : ℕ) (after : World) → IsStep w before (Order c) (Ordered position) after
-    → (o : OpenCall) × (open_call before c ≡ Some o) × ((run_in w before.log o.call).steps ≤ o.turns) × ((run_in w before.log o.call).cancel_code ≡ None) × (len (run_in w before.log o.call).writes ≡ 0 → ⊥) × (position ≡ length before.log + 1) × (after ≡ with_ordered before c o.call)
+    → (o : OpenCall) × (open_call before c ≡ Some o) × ((run_in w before.log o.call).steps ≤ o.turns) × ((run_in w before.log o.call).cancel_code ≡ None) × (len (run_in w before.log o.call).writes ≡ 0 → ⊥) × (position ≡ length before.log + 1) × (length before.log < max_calls) × (after ≡ with_ordered before c o.call)
 orders w before c position after h =
     let x = order_answered w before after c (Ordered position) (λ r y. cc) (λ y. cc) h in
     let facts = by_run_ordered before after c position x.0.call (run_in w before.log x.0.call).cancel_code (run_in w before.log x.0.call) x.3 in
-    (x.0, x.1, x.2, facts.0, facts.1, facts.2, facts.3)
+    (x.0, x.1, x.2, facts.0, facts.1, facts.2, facts.3, facts.4)
 
 pub orders_cancelled : (w : Setting) (before : World) (c snapshot code : ℕ) (after : World) → IsStep w before (Order c) (Cancelled snapshot code) after
     → (o : OpenCall) × (open_call before c ≡ Some o) × ((run_in w before.log o.call).steps ≤ o.turns) × ((run_in w before.log o.call).cancel_code ≡ Some code) × (snapshot ≡ o.call.snapshot) × (after ≡ without_call before c)
@@ -410,6 +410,32 @@ by_run_refusal before after c call None r refusal e = elim (either_if (nat_eq (l
     | inr (t, h) ↦ absurd (let x = fst (Ordered (length before.log + 1), with_ordered before c call) (Refused refusal, after) h in cc)
   ]
 ]
+
+by_run_full : (before after : World) (c : ℕ) (call : Call) (code : Option ℕ) (r : Run) → after_order_by_run before c call code r ≡ done (Refused LogFull) after → (code ≡ None) × (len r.writes ≡ 0 → ⊥) × (max_calls ≤ length before.log) × (after ≡ without_call before c)
+by_run_full before after c call (Some code) r e = absurd (let x = fst (Cancelled call.snapshot code, without_call before c) (Refused LogFull, after) e in cc)
+by_run_full before after c call None r e = elim (either_if (nat_eq (len r.writes) 0) _ _ (Refused LogFull, after) e) [
+  | inl (none, d) ↦ absurd (let x = fst (Read call.snapshot r.reply, without_call before c) (Refused LogFull, after) d in cc)
+  | inr (some, d) ↦ elim (either_if (nat_le max_calls (length before.log)) _ _ (Refused LogFull, after) d) [
+    | inl (t, h) ↦ (refl, some_writes (len r.writes) some, at_most max_calls (length before.log) t, sym (snd (Refused LogFull, without_call before c) (Refused LogFull, after) h))
+    | inr (t, h) ↦ absurd (let x = fst (Ordered (length before.log + 1), with_ordered before c call) (Refused LogFull, after) h in cc)
+  ]
+]
+
+order_full : (w : Setting) (before after : World) (c : ℕ) (found : Option OpenCall) → after_order w before c found ≡ done (Refused LogFull) after
+    → (o : OpenCall) × (found ≡ just o) × ((run_in w before.log o.call).steps ≤ o.turns) × (after_order_by_run before c o.call (run_in w before.log o.call).cancel_code (run_in w before.log o.call) ≡ done (Refused LogFull) after)
+order_full w before after c None e = absurd (let x = fst (Refused NoCall, before) (Refused LogFull, after) e in cc)
+order_full w before after c (Some o) e = elim (either_if (nat_lt o.turns (run_in w before.log o.call).steps) _ _ (Refused LogFull, after) e) [
+  | inl (t, d) ↦ absurd (let x = fst (Refused NotAtExit, before) (Refused LogFull, after) d in cc)
+  | inr (t, d) ↦ (o, refl, no_fewer o.turns (run_in w before.log o.call).steps t, d)
+]
+
+pub orders_full : (w : Setting) (before : World) (c : ℕ) (after : World) → IsStep w before (Order c) (Refused LogFull) after
+    → (o : OpenCall) × (open_call before c ≡ Some o) × ((run_in w before.log o.call).steps ≤ o.turns) × ((run_in w before.log o.call).cancel_code ≡ None) × (len (run_in w before.log o.call).writes ≡ 0 → ⊥) × (max_calls ≤ length before.log) × (after ≡ without_call before c)
+unfolding after_step
+orders_full w before c after h =
+    let x = order_full w before after c (open_call before c) (with_memory w before after (Order c) (Refused LogFull) (λ y. cc) (λ y. cc) h) in
+    let facts = by_run_full before after c x.0.call (run_in w before.log x.0.call).cancel_code (run_in w before.log x.0.call) x.3 in
+    (x.0, x.1, x.2, facts.0, facts.1, facts.2, facts.3)
 
 order_early : (w : Setting) (before after : World) (c : ℕ) (found : Option OpenCall) → after_order w before c found ≡ done (Refused NotAtExit) after → (o : OpenCall) × (found ≡ just o) × (o.turns < (run_in w before.log o.call).steps)
 order_early w before after c None e = absurd (let x = fst (Refused NoCall, before) (Refused NotAtExit, after) e in cc)

@@ -1,5 +1,5 @@
 -- What each step of a world keeps.
-use Rattle.std.proofs.Common.{◌≡◌, inl, inr, ℕ, zero, suc, ◌+◌, ◌≤◌, ◌<◌, List, [], ◌∷◌, ◌++◌, length, true, false, Option, None, All, sym, ap, subst, ◌∙◌, arith}
+use Rattle.std.proofs.Common.{◌≡◌, inl, inr, ℕ, zero, suc, ◌+◌, ◌≤◌, ◌<◌, List, [], ◌∷◌, ◌++◌, length, true, false, Option, None, All, refl, sym, ap, subst, ◌∙◌, arith}
 use Rattle.std.specs.List.{AllByRecursion}
 use Rattle.std.proofs.lemmas.List.{length-append}
 use Rattle.schema.specs.Rows.{Rows}
@@ -18,6 +18,9 @@ use Rattle.dsm_model.proofs.Cases.{Case, Same, New, Over, Turned, Appended, Verd
 is_open : (w : Setting) (world : World) → IsWorld w world → (c : ℕ) (o : OpenCall) → numbered world.calls c ≡ just (just o) → IsOpenCall w world o
 is_open w world is c o e = is.open_calls c o (ap flatten e)
 
+is_numbered : (w : Setting) (world : World) → IsWorld w world → (c : ℕ) (o : OpenCall) → numbered world.calls c ≡ just (just o) → o.call.number ≡ c
+is_numbered w world is c o e = is.numbers c o (ap flatten e)
+
 -- the snapshot of an open call is no more than the log's length
 pub begun_within : (w : Setting) (world : World) (o : OpenCall) → IsWorld w world → IsOpenCall w world o → o.call.snapshot ≤ length world.log
 begun_within w world o is one =
@@ -27,14 +30,15 @@ begun_within w world o is one =
 
 -- other open calls, each as it should be
 with_calls : (w : Setting) (world : World) (calls : List (Option OpenCall)) → IsWorld w world → length calls ≤ max_calls → length world.log + open_count calls ≤ length calls
-    → ((c : ℕ) (o : OpenCall) → numbered calls c ≡ just (just o) → IsOpenCall w world o) → IsWorld w (record world { calls = calls })
+    → ((c : ℕ) (o : OpenCall) → numbered calls c ≡ just (just o) → IsOpenCall w world o × (o.call.number ≡ c)) → IsWorld w (record world { calls = calls })
 with_calls w world calls is few ordered open_calls = record {
   log = is.log;
   calls = is.calls;
   positions = is.positions;
   open_calls = λ c o e.
-      let old = open_calls c o (flat_is (numbered calls c) o e) in
+      let old = (open_calls c o (flat_is (numbered calls c) o e)).0 in
       record { is_call = old.is_call; replica = old.replica; stands = old.stands; begun = old.begun; turns = old.turns };
+  numbers = λ c o e. (open_calls c o (flat_is (numbered calls c) o e)).1;
   calls_limit = few;
   log_limit = ordered;
 }
@@ -46,7 +50,7 @@ over_keeps w world c is =
     let few = is.calls_limit in
     let ordered = is.log_limit in
     with_calls w world (with_numbered world.calls c None) is (omega arith) (omega arith) (λ i o e. elim (numbered_set world.calls c i None (just o) e) [
-      | inl old ↦ is_open w world is i o old
+      | inl old ↦ (is_open w world is i o old, is_numbered w world is i o old)
       | inr new ↦ absurd (let bad = new.1 in cc)
     ])
 
@@ -59,19 +63,24 @@ turned_keeps w world c o turns stands within is =
     let few = is.calls_limit in
     let ordered = is.log_limit in
     with_calls w world (with_numbered world.calls c (just (record o { turns = turns }))) is (omega arith) (omega arith) (λ i q e. elim (numbered_set world.calls c i (just (record o { turns = turns })) (just q) e) [
-      | inl old ↦ is_open w world is i q old
-      | inr new ↦ subst (IsOpenCall w world) (some_is (record o { turns = turns }) q new.1) (record { is_call = one.is_call; replica = one.replica; stands = one.stands; begun = one.begun; turns = within })
+      | inl old ↦ (is_open w world is i q old, is_numbered w world is i q old)
+      | inr new ↦
+          let same = some_is (record o { turns = turns }) q new.1 in
+          (subst (IsOpenCall w world) same (record { is_call = one.is_call; replica = one.replica; stands = one.stands; begun = one.begun; turns = within }),
+              ap (λ (x : OpenCall). x.call.number) (sym same) ∙ is.numbers c o stands ∙ sym new.0)
     ])
 
-begun_keeps : (w : Setting) (world : World) (r : ℕ) (call : Call) → IsOpenCall w world (record { replica = r; call = call; turns = 0 }) → length world.calls < max_calls → IsWorld w world → IsWorld w (with_begun world r call)
-begun_keeps w world r call now fewer is =
+begun_keeps : (w : Setting) (world : World) (r : ℕ) (call : Call) → call.number ≡ length world.calls + 1 → IsOpenCall w world (record { replica = r; call = call; turns = 0 }) → length world.calls < max_calls → IsWorld w world → IsWorld w (with_begun world r call)
+begun_keeps w world r call number now fewer is =
     let long = length-append world.calls (just (record { replica = r; call = call; turns = 0 }) ∷ []) in
     let count = count_one_more world.calls (record { replica = r; call = call; turns = 0 }) in
     let ordered = is.log_limit in
     with_calls w world (world.calls ++ just (record { replica = r; call = call; turns = 0 }) ∷ []) is (omega arith) (omega arith) (λ i q e.
     elim (numbered_one_more world.calls (just (record { replica = r; call = call; turns = 0 })) (just q) i e) [
-      | inl old ↦ is_open w world is i q old
-      | inr new ↦ subst (IsOpenCall w world) (some_is (record { replica = r; call = call; turns = 0 }) q new) now
+      | inl old ↦ (is_open w world is i q old, is_numbered w world is i q old)
+      | inr new ↦
+          let same = some_is (record { replica = r; call = call; turns = 0 }) q new.0 in
+          (subst (IsOpenCall w world) same now, ap (λ (x : OpenCall). x.call.number) (sym same) ∙ number ∙ sym new.1)
     ])
 
 -- the run of a call stays as the log grows
@@ -102,6 +111,7 @@ ordered_keeps w world c o stands is =
             begun = old.begun;
             turns = subst (λ (r : Run). q.turns ≤ r.steps) (sym (run_grown w world.log (o.call ∷ []) q.call near)) old.turns;
           };
+      numbers = without.numbers;
       calls_limit = without.calls_limit;
       log_limit = omega arith;
     }
@@ -126,6 +136,7 @@ moved_keeps w world r before after stands further within is = record {
             let at : old.replica.position ≡ before.position = ap (λ (x : Replica). x.position) same in
             record { is_call = old.is_call; replica = after; stands = new.1; begun = omega arith; turns = old.turns }
       ];
+  numbers = is.numbers;
   calls_limit = is.calls_limit;
   log_limit = is.log_limit;
 }
@@ -138,7 +149,7 @@ bytes_of step r procedure args bytes e = subst HasByteArguments e bytes
 case_keeps : (w : Setting) (before : World) (step : Step) (outcome : Outcome) (after : World) → HasByteArguments step → IsWorld w before → Case w before step outcome after → IsWorld w after
 case_keeps w before step outcome after bytes is (Same c) = subst (IsWorld w) (sym c.same) is
 case_keeps w before step outcome after bytes is (New c) =
-    subst (IsWorld w) (sym c.leaves) (begun_keeps w before c.r (new_call before c.procedure c.args c.replica.position) (record {
+    subst (IsWorld w) (sym c.leaves) (begun_keeps w before c.r (new_call before c.procedure c.args c.replica.position) refl (record {
       is_call = record { procedure = c.stored; known = c.known; arguments = record { count = c.count; each_byte = bytes_of step c.r c.procedure c.args bytes c.is } };
       replica = c.replica;
       stands = c.stands;
@@ -174,6 +185,7 @@ first_is_world w replicas = record {
   calls = tt;
   positions = λ r replica e. subst (λ (x : Replica). x.position ≤ 0) (numbered_replicate replicas r (record { position = 0; running = true }) replica e) (omega arith);
   open_calls = λ c o e. absurd (none c o (flat_is (numbered [] c) o e));
+  numbers = λ c o e. absurd (none c o (flat_is (numbered [] c) o e));
   calls_limit = omega arith;
   log_limit = omega arith;
 }

@@ -5,7 +5,7 @@ use Rattle.schema.specs.Rows.{Rows, after_writes}
 use Rattle.dsm_model.specs.Log.{Setting, Log, CertifiedCall, verdict_after, if_commits, history, rows_after}
 use Rattle.dsm_model.specs.Entries.{Entry, with_entry}
 
--- what became of each entry that was delivered_calls, and the rows
+-- what became of each entry that was delivered, and the rows
 pub record ReplicaContents : Type 0 where
   pub certified_calls : List CertifiedCall
   pub rows : Rows

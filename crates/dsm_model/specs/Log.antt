@@ -45,8 +45,8 @@ Log = List Call
 
 -- each has a snapshot below its position, where so many come before the first
 abbrev pub IsLogFrom : ℕ → Log → Type 0
-IsLogFrom position [] = Unit {0}
-IsLogFrom position (call ∷ later) = (call.snapshot ≤ position) × IsLogFrom (suc position) later
+IsLogFrom before [] = Unit {0}
+IsLogFrom before (call ∷ later) = (call.snapshot ≤ before) × IsLogFrom (suc before) later
 
 abbrev pub IsLog : Log → Type 0
 IsLog log = IsLogFrom 0 log

@@ -30,16 +30,18 @@ pub record IsWorld (w : Setting) (world : World) : Type 0 where
   pub calls : AreCalls w world.log
   pub positions : (r : ℕ) (replica : Replica) → numbered world.replicas r ≡ Some replica → replica.position ≤ length world.log
   pub open_calls : (c : ℕ) (o : OpenCall) → open_call world c ≡ Some o → IsOpenCall w world o
+  pub numbers : (c : ℕ) (o : OpenCall) → open_call world c ≡ Some o → o.call.number ≡ c
   pub calls_limit : length world.calls ≤ max_calls
   pub log_limit : length world.log + open_count world.calls ≤ length world.calls
 
--- an open call goes on well: it has come as many steps of its run as it has turns, or that run's end; it isn't stuck, it has
--- run no more than the longest path, and after so many instructions its run has ended, with the reply of the run on the rows
--- of its snapshot
+-- an open call goes on well: it has come as many steps of its run as it has turns, or that run's end; it isn't stuck, so
+-- that what it has come to has a step or is an end; it has run no more than the longest path, and after so many instructions
+-- its run has ended, with the reply of the run on the rows of its snapshot
 pub record IsSound (w : Setting) (log : Log) (o : OpenCall) : Type 0 where
   pub is_call : IsCall w o.call
-  pub so_far : ((s : State) × (moment_at w log o.call o.turns ≡ Going s) × (s.steps ≡ o.turns)) ⊎ (o.turns ≡ (run_in w log o.call).steps)
-  pub not_stuck : moment_at w log o.call o.turns ≢ Stuck
+  pub so_far : ((s : State) × (moment_at w log o.call o.turns ≡ Going s) × (s.steps ≡ o.turns))
+      ⊎ ((s : State) × (moment_at w log o.call o.turns ≡ Ended (run_in w log o.call).reply s) × (o.turns ≡ (run_in w log o.call).steps))
+  pub not_stuck : moment_at w log o.call (o.turns + 1) ≢ Stuck
   pub within : o.turns ≤ longest_path is_call.procedure.program
   pub end : State
   pub ends : moment_at w log o.call (longest_path is_call.procedure.program) ≡ Ended (run_in w log o.call).reply end
@@ -58,6 +60,6 @@ pub record IsSerialReply (w : Setting) (log : Log) (position reply : ℕ) : Type
 abbrev pub delivered_calls : Log → Replica → Log
 delivered_calls log replica = take replica.position log
 
--- one list begins with the other
+-- the second list begins with the first
 abbrev pub IsPrefix : Log → Log → Type 0
 IsPrefix first all = (more : Log) × (all ≡ first ++ more)

@@ -18,7 +18,7 @@ use Rattle.dsm_model.specs.declared.outcome.Outcome.{Outcome}
 use Rattle.dsm_model.specs.declared.outcome.Outcome.TheVariants.{Begun, More, Exit, Stale, NoMemory, Ordered, Read, Cancelled, Delivered, Rebuilt, Refused}
 use Rattle.dsm_model.specs.Log.{StoredProcedure, Setting, Call, Log, by_number, rows_after, run_in, verdict_of}
 
--- how far it has delivered_calls the log, and whether it goes on delivering
+-- how far it has delivered the log, and whether it goes on delivering
 pub record Replica : Type 0 where
   pub position : ℕ
   pub running : Bool
@@ -165,7 +165,7 @@ after_rebuild world r (Some replica) = (Rebuilt (length world.log), with_replica
 -- ---- a step
 
 -- what it answers and leaves where memory suffices. It is meant for catalogues whose procedures are safe: of another a call
--- may have no run, and then it does nothing
+-- may have no run, and then its answers mean nothing
 unfoldable pub after_step : Setting → World → Step → Outcome × World
 after_step w world (Begin r procedure args) = after_begin world r procedure args (numbered world.replicas r) (by_number w.catalogue procedure)
 after_step w world (Turn c) = after_turn w world c (open_call world c)
@@ -216,6 +216,36 @@ after_refused_memory world step outcome = None
 unfoldable pub after_step_without_memory : Setting → World → Step → Option (Outcome × World)
 after_step_without_memory w world (Turn c) = after_turn_without_memory w world c (open_call world c)
 after_step_without_memory w world step = after_refused_memory world step (after_step w world step).0
+
+-- which answers a step may give
+abbrev pub is_answer : Step → Outcome → Bool
+is_answer (Begin _ _ _) (Begun _ _) = true
+is_answer (Begin _ _ _) (Refused NoReplica) = true
+is_answer (Begin _ _ _) (Refused NoProcedure) = true
+is_answer (Begin _ _ _) (Refused ArgumentsLength) = true
+is_answer (Begin _ _ _) (Refused OutOfMemory) = true
+is_answer (Begin _ _ _) (Refused TooManyCalls) = true
+is_answer (Turn _) More = true
+is_answer (Turn _) (Exit _) = true
+is_answer (Turn _) Stale = true
+is_answer (Turn _) NoMemory = true
+is_answer (Turn _) (Refused NoCall) = true
+is_answer (Order _) (Ordered _) = true
+is_answer (Order _) (Read _ _) = true
+is_answer (Order _) (Cancelled _ _) = true
+is_answer (Order _) (Refused NoCall) = true
+is_answer (Order _) (Refused NotAtExit) = true
+is_answer (Order _) (Refused LogFull) = true
+is_answer (Order _) (Refused OutOfMemory) = true
+is_answer (Deliver _) (Delivered _ _) = true
+is_answer (Deliver _) (Refused NoReplica) = true
+is_answer (Deliver _) (Refused NothingToDeliver) = true
+is_answer (Deliver _) (Refused ReplicaStopped) = true
+is_answer (Deliver _) (Refused OutOfMemory) = true
+is_answer (Rebuild _) (Rebuilt _) = true
+is_answer (Rebuild _) (Refused NoReplica) = true
+is_answer (Rebuild _) (Refused OutOfMemory) = true
+is_answer _ _ = false
 
 -- the one or the other
 abbrev pub IsStep : Setting → World → Step → Outcome → World → Type 0

@@ -5,7 +5,7 @@
 pub enum Verdict {
     /// Its writes are installed.
     Commit,
-    /// The call at this position wrote a key that it looked at.
+    /// The committed call at this position, the least such since its snapshot, wrote a key that this one looked at.
     Conflict(u32),
     /// Its snapshot is too old.
     Stale,

@@ -1,17 +1,18 @@
-//! Laws of each step of the world: when it gives which answer, and what it leaves. The conditions of the answers that a
-//! step may give exclude each other, so that each is given exactly there.
+//! Laws of each step of the world: which answers it may give, when it gives which, and what it leaves. Where memory
+//! suffices, the conditions of a step's answers exclude each other, so that each is given exactly there; want of memory
+//! comes only in place of an answer that takes some.
 
 ghost use Rattle.std.specs.Prelude.{◌≡◌, ◌≢◌, ◌+◌, ◌<◌, ◌≤◌, ℕ, true, false, List, [], ◌∷◌, ◌++◌, length, Some, None, IsSome, IsTrue};
 ghost use Rattle.std.specs.FinMap.{len};
 ghost use Rattle.dsm_model.specs.declared.verdict.Verdict.{Verdict};
 ghost use Rattle.dsm_model.specs.declared.outcome.StepRefusal.TheVariants.{NoReplica, NoProcedure, ArgumentsLength, NoCall};
-ghost use Rattle.dsm_model.specs.declared.outcome.StepRefusal.TheVariants.{NotAtExit, NothingToDeliver, ReplicaStopped, TooManyCalls};
+ghost use Rattle.dsm_model.specs.declared.outcome.StepRefusal.TheVariants.{NotAtExit, NothingToDeliver, ReplicaStopped, LogFull, OutOfMemory, TooManyCalls};
 ghost use Rattle.dsm_model.specs.declared.outcome.Outcome.{Outcome};
 ghost use Rattle.dsm_model.specs.declared.outcome.Outcome.TheVariants.{Begun, More, Exit, Stale, NoMemory, Ordered, Read};
 ghost use Rattle.dsm_model.specs.declared.outcome.Outcome.TheVariants.{Cancelled, Delivered, Rebuilt, Refused};
 ghost use Rattle.dsm_model.specs.Log.{StoredProcedure, Setting, by_number, run_in, verdict_of};
-ghost use Rattle.dsm_model.specs.World.{World, Replica, OpenCall, Begin, Turn, Order, Deliver, Rebuild, max_calls};
-ghost use Rattle.dsm_model.specs.World.{numbered, position_of, open_call, with_open_call, with_replica};
+ghost use Rattle.dsm_model.specs.World.{World, Replica, OpenCall, Step, Begin, Turn, Order, Deliver, Rebuild, max_calls};
+ghost use Rattle.dsm_model.specs.World.{is_answer, numbered, position_of, open_call, with_open_call, with_replica};
 ghost use Rattle.dsm_model.specs.World.{moment_at, makes_look, at_row_helper, IsStep};
 
 /// A call begins as the next of the world's, at the position of its replica, with no instruction run. It doesn't where
@@ -38,7 +39,7 @@ pub fn calls_begin_where_their_replica_is()
     ensures no_procedure { (w : Setting) (before : World) (r procedure : ℕ) (args : List ℕ) (after : World)
         → IsStep w before (Begin r procedure args) (Refused NoProcedure) after
         → IsSome (numbered before.replicas r) × (by_number w.catalogue procedure ≡ None) }
-    ensures length { (w : Setting) (before : World) (r procedure : ℕ) (args : List ℕ) (after : World)
+    ensures arguments { (w : Setting) (before : World) (r procedure : ℕ) (args : List ℕ) (after : World)
         → IsStep w before (Begin r procedure args) (Refused ArgumentsLength) after
         → IsSome (numbered before.replicas r)
         × (stored : StoredProcedure) × (by_number w.catalogue procedure ≡ Some stored) × (length args ≢ stored.args_len) }
@@ -51,8 +52,8 @@ pub fn calls_begin_where_their_replica_is()
 
 /// A turn is one instruction of the call's run on the rows of its snapshot: more, while there is a next one; else Exit
 /// with the run's reply, and so again. Before either, where the instruction looks at rows and the replica is more than
-/// the window past the snapshot, it is stale, and the call is over. No memory is found only where the instruction calls
-/// a helper that reads or writes rows, and the call is over too.
+/// the window past the snapshot, it is stale, and the call is over. Memory may be refused only where the instruction
+/// calls a helper that reads or writes rows, and the call is over too.
 pub fn turns_follow_the_run()
     ensures more { (w : Setting) (before : World) (c : ℕ) (after : World)
         → IsStep w before (Turn c) More after
@@ -93,8 +94,13 @@ pub fn calls_are_ordered_at_their_end()
         → IsStep w before (Order c) (Ordered position) after
         → (o : OpenCall) × (open_call before c ≡ Some o) × ((run_in w before.log o.call).steps ≤ o.turns)
         × ((run_in w before.log o.call).cancel_code ≡ None) × (len (run_in w before.log o.call).writes ≢ 0)
-        × (position ≡ length before.log + 1)
+        × (position ≡ length before.log + 1) × (length before.log < max_calls)
         × (after ≡ with_open_call (record { log = before.log ++ o.call ∷ []; replicas = before.replicas; calls = before.calls }) c None) }
+    ensures full { (w : Setting) (before : World) (c : ℕ) (after : World)
+        → IsStep w before (Order c) (Refused LogFull) after
+        → (o : OpenCall) × (open_call before c ≡ Some o) × ((run_in w before.log o.call).steps ≤ o.turns)
+        × ((run_in w before.log o.call).cancel_code ≡ None) × (len (run_in w before.log o.call).writes ≢ 0)
+        × (max_calls ≤ length before.log) × (after ≡ with_open_call before c None) }
     ensures cancelled { (w : Setting) (before : World) (c snapshot code : ℕ) (after : World)
         → IsStep w before (Order c) (Cancelled snapshot code) after
         → (o : OpenCall) × (open_call before c ≡ Some o) × ((run_in w before.log o.call).steps ≤ o.turns)
@@ -140,4 +146,28 @@ pub fn rebuilt_replicas_are_at_the_end()
         × (after ≡ with_replica before r (record { position = position; running = true })) }
     ensures no_replica { (w : Setting) (before : World) (r : ℕ) (after : World)
         → IsStep w before (Rebuild r) (Refused NoReplica) after → numbered before.replicas r ≡ None }
+{}
+
+/// A step answers nothing but its own answers.
+pub fn each_step_has_its_answers()
+    ensures { (w : Setting) (before : World) (step : Step) (outcome : Outcome) (after : World)
+        → IsStep w before step outcome after → IsTrue (is_answer step outcome) }
+{}
+
+/// Memory is wanted only in place of an answer that takes some.
+pub fn memory_is_wanted_in_place_of_an_answer()
+    ensures begin { (w : Setting) (before : World) (r procedure : ℕ) (args : List ℕ) (after : World)
+        → IsStep w before (Begin r procedure args) (Refused OutOfMemory) after
+        → (c : ℕ) × (snapshot : ℕ) × (other : World)
+        × IsStep w before (Begin r procedure args) (Begun c snapshot) other }
+    ensures order { (w : Setting) (before : World) (c : ℕ) (after : World)
+        → IsStep w before (Order c) (Refused OutOfMemory) after
+        → (position : ℕ) × (other : World) × IsStep w before (Order c) (Ordered position) other }
+    ensures deliver { (w : Setting) (before : World) (r : ℕ) (after : World)
+        → IsStep w before (Deliver r) (Refused OutOfMemory) after
+        → (position : ℕ) × (v : Verdict) × (other : World)
+        × IsStep w before (Deliver r) (Delivered position v) other }
+    ensures rebuild { (w : Setting) (before : World) (r : ℕ) (after : World)
+        → IsStep w before (Rebuild r) (Refused OutOfMemory) after
+        → (position : ℕ) × (other : World) × IsStep w before (Rebuild r) (Rebuilt position) other }
 {}

@@ -63,8 +63,8 @@ pub fn replicas_agree()
         ⊎ IsPrefix (delivered_calls log b) (delivered_calls log a) }
 {}
 
-/// A refused step changes nothing, but for want of memory: then a call that was to be ordered is over, and a
-/// replica that was to deliver is stopped at its position.
+/// A refused step changes nothing, but where memory is wanted or the log is full: then a call that was to be ordered is
+/// over, and a replica that was to deliver is stopped at its position.
 pub fn refused_steps_change_nothing()
     ensures nothing { (w : Setting) (before : World) (step : Step) (refusal : StepRefusal) (after : World)
         → IsStep w before step (Refused refusal) after → refusal ≢ OutOfMemory → refusal ≢ LogFull

@@ -10,8 +10,8 @@ returns-clause-no_replica c = begins_nowhere
 pub returns-clause-no_procedure : goal.returns-clause-no_procedure
 returns-clause-no_procedure c = begins_unknown
 
-pub returns-clause-length : goal.returns-clause-length
-returns-clause-length c = begins_with_others
+pub returns-clause-arguments : goal.returns-clause-arguments
+returns-clause-arguments c = begins_with_others
 
 pub returns-clause-many : goal.returns-clause-many
 returns-clause-many c = begins_no_more
