@@ -14,6 +14,7 @@ mod Cases
 mod StepLemmas
 mod AnswerLemmas
 mod PartLemmas
+mod NextLemmas
 mod WorldLemmas
 mod SoundLemmas
 mod LeadLemmas

@@ -14,7 +14,7 @@ use Rattle.dsm_model.proofs.RunLemmas.{just, HasRun, has_run}
 use Rattle.dsm_model.proofs.GrowthLemmas.{rows_fit}
 use Rattle.dsm_model.proofs.WorldLemmas.{begun_within}
 
-at_procedure : (w : Setting) (log : Log) (call : Call) (p : StoredProcedure) (k : ℕ) → by_number w.catalogue call.procedure ≡ just p → moment_at w log call k ≡ moment p.program w.tables k (entry_state call.args (rows_after w log call.snapshot))
+pub at_procedure : (w : Setting) (log : Log) (call : Call) (p : StoredProcedure) (k : ℕ) → by_number w.catalogue call.procedure ≡ just p → moment_at w log call k ≡ moment p.program w.tables k (entry_state call.args (rows_after w log call.snapshot))
 unfolding moment_at
 at_procedure w log call p k known = ap (λ (o : Option StoredProcedure). moment_of w o call.args (rows_after w log call.snapshot) k) known
 

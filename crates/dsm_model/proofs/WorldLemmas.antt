@@ -65,9 +65,10 @@ turned_keeps w world c o turns stands within is =
     with_calls w world (with_numbered world.calls c (just (record o { turns = turns }))) is (omega arith) (omega arith) (λ i q e. elim (numbered_set world.calls c i (just (record o { turns = turns })) (just q) e) [
       | inl old ↦ (is_open w world is i q old, is_numbered w world is i q old)
       | inr new ↦
-          let same = some_is (record o { turns = turns }) q new.1 in
-          (subst (IsOpenCall w world) same (record { is_call = one.is_call; replica = one.replica; stands = one.stands; begun = one.begun; turns = within }),
-              ap (λ (x : OpenCall). x.call.number) (sym same) ∙ is.numbers c o stands ∙ sym new.0)
+          let same = some_is (record o { turns = turns }) q new.1 in (
+            subst (IsOpenCall w world) same (record { is_call = one.is_call; replica = one.replica; stands = one.stands; begun = one.begun; turns = within }),
+            ap (λ (x : OpenCall). x.call.number) (sym same) ∙ is.numbers c o stands ∙ sym new.0,
+          )
     ])
 
 begun_keeps : (w : Setting) (world : World) (r : ℕ) (call : Call) → call.number ≡ length world.calls + 1 → IsOpenCall w world (record { replica = r; call = call; turns = 0 }) → length world.calls < max_calls → IsWorld w world → IsWorld w (with_begun world r call)

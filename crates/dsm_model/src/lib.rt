@@ -14,7 +14,7 @@ pub use laws::parts::{each_change_is_of_one, there_are_worlds};
 pub use laws::steps::{
     calls_are_ordered_at_their_end, calls_begin_where_their_replica_is, each_step_has_its_answers,
     memory_is_wanted_in_place_of_an_answer, rebuilt_replicas_are_at_the_end,
-    replicas_deliver_in_order, turns_follow_the_run,
+    replicas_deliver_in_order, turns_follow_the_run, what_the_next_instruction_does,
 };
 pub use laws::world::{
     calls_end, delivered_verdicts_are_the_logs, open_calls_are_sound, refused_steps_change_nothing,

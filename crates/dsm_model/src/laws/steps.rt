@@ -2,8 +2,16 @@
 //! suffices, the conditions of a step's answers exclude each other, so that each is given exactly there; want of memory
 //! comes only in place of an answer that takes some.
 
-ghost use Rattle.std.specs.Prelude.{◌≡◌, ◌≢◌, ◌+◌, ◌<◌, ◌≤◌, ℕ, true, false, List, [], ◌∷◌, ◌++◌, length, Some, None, IsSome, IsTrue};
+ghost use Rattle.std.specs.Prelude.{◌≡◌, ◌≢◌, ◌↔◌, ◌+◌, ◌<◌, ◌≤◌, ℕ, ℤ, true, false, List, [], ◌∷◌, ◌++◌, length, Option, Some, None, IsSome, IsTrue};
 ghost use Rattle.std.specs.FinMap.{len};
+ghost use Rattle.bpf_code.specs.declared.instruction.Instruction.TheVariants.{Call as CallInstruction};
+ghost use Rattle.bpf_code.specs.Program.{instruction_at};
+ghost use Rattle.schema.specs.declared.look.Look.{Look};
+ghost use Rattle.schema.specs.declared.helper.Helper.{Helper};
+ghost use Rattle.schema.specs.declared.helper.Helper.TheVariants.{Cancel};
+ghost use Rattle.schema.specs.Helper.{helper_of};
+ghost use Rattle.bpf_semantics.specs.State.{State};
+ghost use Rattle.bpf_semantics.specs.Step.{Going, Ended};
 ghost use Rattle.dsm_model.specs.declared.verdict.Verdict.{Verdict};
 ghost use Rattle.dsm_model.specs.declared.outcome.StepRefusal.TheVariants.{NoReplica, NoProcedure, ArgumentsLength, NoCall};
 ghost use Rattle.dsm_model.specs.declared.outcome.StepRefusal.TheVariants.{NotAtExit, NothingToDeliver, ReplicaStopped, LogFull, OutOfMemory, TooManyCalls};
@@ -11,6 +19,8 @@ ghost use Rattle.dsm_model.specs.declared.outcome.Outcome.{Outcome};
 ghost use Rattle.dsm_model.specs.declared.outcome.Outcome.TheVariants.{Begun, More, Exit, Stale, NoMemory, Ordered, Read};
 ghost use Rattle.dsm_model.specs.declared.outcome.Outcome.TheVariants.{Cancelled, Delivered, Rebuilt, Refused};
 ghost use Rattle.dsm_model.specs.Log.{StoredProcedure, Setting, by_number, run_in, verdict_of};
+ghost use Rattle.dsm_model.specs.Fit.{HasSafeProcedures};
+ghost use Rattle.dsm_model.specs.Sound.{IsWorld};
 ghost use Rattle.dsm_model.specs.World.{World, Replica, OpenCall, Step, Begin, Turn, Order, Deliver, Rebuild, max_calls};
 ghost use Rattle.dsm_model.specs.World.{is_answer, numbered, position_of, open_call, with_open_call, with_replica};
 ghost use Rattle.dsm_model.specs.World.{moment_at, makes_look, at_row_helper, IsStep};
@@ -170,4 +180,21 @@ pub fn memory_is_wanted_in_place_of_an_answer()
     ensures rebuild { (w : Setting) (before : World) (r : ℕ) (after : World)
         → IsStep w before (Rebuild r) (Refused OutOfMemory) after
         → (position : ℕ) × (other : World) × IsStep w before (Rebuild r) (Rebuilt position) other }
+{}
+
+/// The next instruction of an open call looks exactly where its run goes on over it with one look more, so never at its
+/// end; and it calls a helper that reads or writes rows exactly where it calls one that isn't the cancel.
+pub fn what_the_next_instruction_does()
+    ensures look { (w : Setting) (world : World) (c : ℕ) (o : OpenCall)
+        → HasSafeProcedures w → IsWorld w world → open_call world c ≡ Some o
+        → IsTrue (makes_look w world.log o)
+        ↔ ((s : State) × (t : State) × (look : Look)
+        × (moment_at w world.log o.call o.turns ≡ Going s) × (moment_at w world.log o.call (o.turns + 1) ≡ Going t)
+        × (t.looks ≡ s.looks ++ look ∷ [])) }
+    ensures helper { (p : StoredProcedure) (s : State)
+        → IsTrue (at_row_helper (Some p) (Going s))
+        ↔ ((n : ℤ) × (h : Helper) × (instruction_at p.program s.slot ≡ Some (CallInstruction n))
+        × (helper_of n ≡ Some h) × (h ≢ Cancel)) }
+    ensures ended { (p : Option StoredProcedure) (reply : ℕ) (s : State)
+        → at_row_helper p (Ended reply s) ≡ false }
 {}
