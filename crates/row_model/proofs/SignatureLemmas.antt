@@ -113,3 +113,64 @@ pub by_both : (looks : List Look) (writes : Writes) → ((bit : ℕ) × IsTrue (
 by_both looks writes (bit, read, written) =
     any_weaker (λ k. nat_eq (bit_of k) bit) (λ k. looks_set_bit looks (bit_of k)) (keys writes)
     (λ k e. ap (looks_set_bit looks) (same (bit_of k) bit e) ∙ read) written
+
+-- ---- the bits of one look
+
+-- where a number of a range passes, there is one
+of_range : (p : ℕ → Bool) (lo n : ℕ) → list_any p (range_with_len lo n) ≡ true → (k : ℕ) × (lo ≤ k) × (k < lo + n) × (p k ≡ true)
+of_range p lo zero e = absurd cc
+of_range p lo (suc n) e = elim (or_either (p lo) (list_any p (range_with_len (lo + 1) n)) e) [
+  | inl here ↦ (lo, omega arith, omega arith, here)
+  | inr later ↦ (
+      let x = of_range p (lo + 1) n later in
+      let from = x.1 in
+      let to = x.2 in
+      (x.0, omega arith, omega arith, x.3))
+]
+
+no_more : (n : ℕ) → n ≤ 16 → nat_lt 16 n ≡ false
+no_more n le = grind (arith, nat_tests)
+
+more : (n : ℕ) → 16 < n → nat_lt 16 n ≡ true
+more n lt = grind (arith, nat_tests)
+
+chosen : (b : Bool) (x y z : Bool) → cond b x y ≡ z → b ≡ false → y ≡ z
+chosen true x y z e f = absurd cc
+chosen false x y z e f = e
+
+chosen_not : (b : Bool) (x y z : Bool) → y ≡ z → b ≡ false → cond b x y ≡ z
+chosen_not true x y z e f = absurd cc
+chosen_not false x y z e f = e
+
+taken : (b : Bool) (x y z : Bool) → cond b x y ≡ z → b ≡ true → x ≡ z
+taken true x y z e f = e
+taken false x y z e f = absurd cc
+
+take_it : (b : Bool) (x y z : Bool) → x ≡ z → b ≡ true → cond b x y ≡ z
+take_it true x y z e f = e
+take_it false x y z e f = absurd cc
+
+pub short_sets : (look : Look) (bit : ℕ) → key_count look ≤ 16 → IsTrue (look_sets_bit bit look) → (key : ℕ) × (look.lo ≤ key) × (key ≤ look.hi) × (bit_of (look.table, key) ≡ bit)
+short_sets look bit le e =
+    let x = of_range (λ key. nat_eq (bit_of (look.table, key)) bit) look.lo (key_count look) (chosen (nat_lt 16 (key_count look)) _ _ true e (no_more (key_count look) le)) in
+    let from = x.1 in
+    let to = x.2 in
+    (x.0, x.1, omega arith, same (bit_of (look.table, x.0)) bit x.3)
+
+pub set_by_short : (look : Look) (bit : ℕ) → key_count look ≤ 16 → (key : ℕ) × (look.lo ≤ key) × (key ≤ look.hi) × (bit_of (look.table, key) ≡ bit) → IsTrue (look_sets_bit bit look)
+set_by_short look bit le (key, from, to, is) =
+    chosen_not (nat_lt 16 (key_count look)) _ _ true
+    (in_range (λ k. nat_eq (bit_of (look.table, k)) bit) look.lo (key_count look) key from (omega arith) (ap (λ (b : ℕ). nat_eq b bit) is ∙ equal bit))
+    (no_more (key_count look) le)
+
+pub long_sets : (look : Look) (bit : ℕ) → 16 < key_count look → IsTrue (look_sets_bit bit look) → bit < 1024
+long_sets look bit lt e = below bit (taken (nat_lt 16 (key_count look)) _ _ true e (more (key_count look) lt))
+  where
+    below : (n : ℕ) → nat_lt n 1024 ≡ true → n < 1024
+    below n h = grind (arith, nat_tests)
+
+pub set_by_long : (look : Look) (bit : ℕ) → 16 < key_count look → bit < 1024 → IsTrue (look_sets_bit bit look)
+set_by_long look bit lt below = take_it (nat_lt 16 (key_count look)) _ _ true (is_below bit below) (more (key_count look) lt)
+  where
+    is_below : (n : ℕ) → n < 1024 → nat_lt n 1024 ≡ true
+    is_below n h = grind (arith, nat_tests)
