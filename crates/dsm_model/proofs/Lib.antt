@@ -15,6 +15,7 @@ mod StepLemmas
 mod AnswerLemmas
 mod PartLemmas
 mod NextLemmas
+mod TurnLemmas
 mod WorldLemmas
 mod SoundLemmas
 mod LeadLemmas

@@ -1,5 +1,5 @@
 -- What the next instruction of an open call does.
-use Rattle.std.proofs.Common.{◌≡◌, ◌⊎◌, inl, inr, ◌↔◌, ℕ, ℤ, suc, ◌+◌, Bool, true, false, not, List, [], ◌∷◌, ◌++◌, length, nat_eq, Option, Some, None, IsTrue, refl, sym, ap, subst, ◌∙◌, arith}
+use Rattle.std.proofs.Common.{◌≡◌, inl, inr, ◌↔◌, ℕ, ℤ, suc, ◌+◌, true, false, not, List, [], ◌∷◌, ◌++◌, length, nat_eq, Option, Some, None, IsTrue, refl, sym, ap, ◌∙◌, arith}
 use Rattle.std.proofs.lemmas.Bool.Decides.{nat_tests}
 use Rattle.std.proofs.lemmas.List.{length-append}
 use Rattle.bpf_code.specs.declared.instruction.Instruction.{Instruction}
@@ -9,14 +9,14 @@ use Rattle.schema.specs.declared.look.Look.{Look}
 use Rattle.schema.specs.declared.helper.Helper.{Helper}
 use Rattle.schema.specs.declared.helper.Helper.TheVariants.{RowGet, RowPut, RowDelete, RangeCount, RangeNext, Cancel}
 use Rattle.schema.specs.Helper.{helper_of}
-use Rattle.bpf_semantics.specs.State.{State, entry_state}
+use Rattle.bpf_semantics.specs.State.{State}
 use Rattle.bpf_semantics.specs.Step.{Moment, Going, Ended, Stuck, step}
 use Rattle.bpf_semantics.specs.Run.{moment, next_moment}
 use Rattle.bpf_semantics.specs.Agree.{looks_of}
 use Rattle.bpf_semantics.proofs.RunLemmas.{exit_is, step_runs, going_runs, ended_runs}
 use Rattle.bpf_semantics.proofs.LookLemmas.{execute_looks}
-use Rattle.dsm_model.specs.Log.{StoredProcedure, Setting, Call, Log, by_number, rows_after, run_in}
-use Rattle.dsm_model.specs.Fit.{HasSafeProcedures, IsCall}
+use Rattle.dsm_model.specs.Log.{StoredProcedure, Setting, Call, Log, by_number}
+use Rattle.dsm_model.specs.Fit.{HasSafeProcedures}
 use Rattle.dsm_model.specs.World.{World, OpenCall, open_call, moment_at, makes_look, is_row_helper, calls_row_helper, at_row_helper}
 use Rattle.dsm_model.specs.Sound.{IsWorld, IsSound}
 use Rattle.dsm_model.proofs.RunLemmas.{just}

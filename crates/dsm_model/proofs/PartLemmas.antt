@@ -1,5 +1,5 @@
 -- What a change of one call or replica leaves, and that there are worlds.
-use Rattle.std.proofs.Common.{◌≡◌, ◌⊎◌, inl, inr, true, ℕ, zero, suc, ◌+◌, ◌≤◌, ◌<◌, List, [], ◌∷◌, ◌++◌, length, replicate, slice_get, slice_set, Option, Some, None, IsSome, refl, sym, ap, subst, ◌∙◌, arith}
+use Rattle.std.proofs.Common.{◌≡◌, inl, true, ℕ, zero, suc, ◌+◌, ◌≤◌, ◌<◌, List, [], ◌∷◌, ◌++◌, length, replicate, slice_get, slice_set, Option, Some, None, IsSome, refl, ap, ◌∙◌, arith}
 use Rattle.dsm_model.specs.declared.outcome.Outcome.{Outcome}
 use Rattle.dsm_model.specs.declared.outcome.Outcome.TheVariants.{Begun}
 use Rattle.dsm_model.specs.Log.{Setting}
@@ -13,7 +13,7 @@ set_here [] k x there = absurd cc
 set_here (y ∷ xs) zero x there = refl
 set_here (y ∷ xs) (suc k) x there = set_here xs k x there
 
-here : {X : Type 0} (xs : List X) (k : ℕ) (x : X) → IsSome (numbered xs k) → numbered (with_numbered xs k x) k ≡ just x
+pub here : {X : Type 0} (xs : List X) (k : ℕ) (x : X) → IsSome (numbered xs k) → numbered (with_numbered xs k x) k ≡ just x
 here xs zero x there = absurd cc
 here xs (suc k) x there = set_here xs k x there
 

@@ -17,8 +17,9 @@ pub use laws::steps::{
     replicas_deliver_in_order, turns_follow_the_run, what_the_next_instruction_does,
 };
 pub use laws::world::{
-    calls_end, delivered_verdicts_are_the_logs, open_calls_are_sound, refused_steps_change_nothing,
-    replicas_agree, replies_are_serial, steps_keep_a_world, the_log_is_never_full,
+    calls_end, delivered_verdicts_are_the_logs, enough_turns_reach_exit, open_calls_are_sound,
+    refused_steps_change_nothing, replicas_agree, replies_are_serial, steps_keep_a_world,
+    the_log_is_never_full,
 };
 pub use outcome::{Outcome, StepRefusal};
 pub use verdict::Verdict;

@@ -1,6 +1,6 @@
 //! Laws of the world: over every list of steps, refused ones and want of memory among them.
 
-ghost use Rattle.std.specs.Prelude.{◌≡◌, ◌≢◌, ◌⊎◌, ◌<◌, ◌≤◌, ℕ, false, List, length, slice_get, Some, None};
+ghost use Rattle.std.specs.Prelude.{◌≡◌, ◌≢◌, ◌⊎◌, ◌<◌, ◌≤◌, ℕ, false, List, length, slice_get, Some, None, IsSome};
 ghost use Rattle.std.specs.List.{AllByRecursion};
 ghost use Rattle.dsm_model.specs.declared.verdict.Verdict.{Verdict};
 ghost use Rattle.dsm_model.specs.declared.verdict.Verdict.TheVariants.{Commit};
@@ -8,12 +8,13 @@ ghost use Rattle.dsm_model.specs.declared.outcome.StepRefusal.{StepRefusal};
 ghost use Rattle.dsm_model.specs.declared.outcome.StepRefusal.TheVariants.{NotAtExit, LogFull, OutOfMemory};
 ghost use Rattle.dsm_model.specs.declared.outcome.Outcome.{Outcome};
 ghost use Rattle.dsm_model.specs.declared.outcome.Outcome.TheVariants.{Exit, Stale, NoMemory, Ordered, Delivered, Refused};
-ghost use Rattle.dsm_model.specs.Log.{Setting, Log, run_in, verdict_of};
+ghost use Rattle.bpf_semantics.specs.Path.{longest_path};
+ghost use Rattle.dsm_model.specs.Log.{StoredProcedure, Setting, Log, by_number, run_in, verdict_of};
 ghost use Rattle.dsm_model.specs.Fit.{HasSafeProcedures};
 ghost use Rattle.dsm_model.specs.World.{World, Replica, OpenCall, Step, Begin, Turn, Order, Deliver};
 ghost use Rattle.dsm_model.specs.World.{Rebuild, max_calls, first_world, numbered};
 ghost use Rattle.dsm_model.specs.World.{open_call, with_open_call, with_replica, IsStep, AreSteps};
-ghost use Rattle.dsm_model.specs.Sound.{HasByteArguments, IsOpenCall, IsWorld, IsSound, IsSerialReply, delivered_calls, IsPrefix};
+ghost use Rattle.dsm_model.specs.Sound.{HasByteArguments, IsOpenCall, IsWorld, IsSound, IsSerialReply, delivered_calls, IsPrefix, turns_of};
 
 /// Every list of steps leads from the first world to one in which the log is a log of the catalogue's calls, no replica
 /// is past its end, and each open call is one whose replica has come as far as its snapshot.
@@ -45,6 +46,18 @@ pub fn replies_are_serial()
         → slice_get steps j ≡ Some (Order c) → slice_get outcomes j ≡ Some (Ordered position)
         → i < j → verdict_of w after.log position ≡ Some Commit
         → IsSerialReply w after.log position reply }
+{}
+
+/// After as many turns as the longest path of its procedure has instructions a call that is still open has come to its
+/// end: one of them has answered Exit.
+pub fn enough_turns_reach_exit()
+    ensures { (w : Setting) (before : World) (steps : List Step) (outcomes : List Outcome)
+        (after : World) (c : ℕ) (o : OpenCall) (p : StoredProcedure)
+        → HasSafeProcedures w → AllByRecursion HasByteArguments steps → IsWorld w before
+        → AreSteps w before steps outcomes after
+        → IsSome (open_call before c) → open_call after c ≡ Some o
+        → by_number w.catalogue o.call.procedure ≡ Some p → longest_path p.program ≤ turns_of c steps
+        → o.turns ≡ (run_in w after.log o.call).steps }
 {}
 
 /// A verdict that a delivery answered is that of the log, however much longer it has become.
