@@ -1,10 +1,11 @@
-//! A law of accepted procedures, about the definitions alone.
+//! Laws of accepted procedures, about the definitions alone.
 
+ghost use Rattle.std.specs.Prelude.{◌≡◌, ℕ, Some};
 ghost use Rattle.bpf_code.specs.Program.{IsProgram};
 ghost use Rattle.schema.specs.Schema.{Tables, AreTables};
 ghost use Rattle.bpf_verify.specs.Flow.{IsAccepted};
-ghost use Rattle.dsm_model.specs.Log.{StoredProcedure};
-ghost use Rattle.dsm_model.specs.Fit.{IsSafe};
+ghost use Rattle.dsm_model.specs.Log.{StoredProcedure, Setting, by_number};
+ghost use Rattle.dsm_model.specs.Fit.{IsSafe, HasSafeProcedures};
 
 use acceptance::accepted_programs_never_go_wrong;
 
@@ -16,4 +17,14 @@ pub fn accepted_procedures_are_safe()
         → IsSafe tables p }
 {
     accepted_programs_never_go_wrong();
+}
+
+/// Where each procedure of a catalogue was accepted, with the tables of the setting, all of them are safe.
+pub fn catalogues_of_accepted_procedures_are_safe()
+    ensures { (w : Setting) → AreTables w.tables
+        → ((number : ℕ) (p : StoredProcedure) → by_number w.catalogue number ≡ Some p
+        → IsProgram p.program × IsAccepted (record { program = p.program; tables = w.tables; args_len = p.args_len }))
+        → HasSafeProcedures w }
+{
+    accepted_procedures_are_safe();
 }
