@@ -1,0 +1,65 @@
+-- Slots needed_versions one after another.
+use Rattle.std.proofs.Common.{◌≡◌, ℕ, zero, suc, ◌+◌, ◌≤◌, ◌<◌, eqb, Bool, true, false, cond, List, [], ◌∷◌, length, set, get_or, refl, sym, ap, subst, ◌∙◌, arith}
+use Rattle.std.specs.Prelude.{Option, Some, None}
+use Rattle.row_chain.specs.Version.{Version, ChainState, needed_versions}
+use Rattle.key_table.specs.Table.{Slot, AreAbove, AreRising, chain_at, versions_in, versions_at, IsPruned, ArePruned}
+use Rattle.key_table.proofs.EditLemmas.{nil}
+
+pub none_pruned : (horizon : ℕ) (es : List Slot) → ArePruned horizon 0 es es
+none_pruned horizon [] = tt
+none_pruned horizon (e ∷ es) = (refl, none_pruned horizon es)
+
+pub length_pruned : (horizon n : ℕ) (es ns : List Slot) → ArePruned horizon n es ns → length ns ≡ length es
+length_pruned horizon zero [] [] h = refl
+length_pruned horizon (suc n) [] [] h = refl
+length_pruned horizon zero [] (x ∷ ns) h = absurd h
+length_pruned horizon (suc n) [] (x ∷ ns) h = absurd h
+length_pruned horizon zero (e ∷ es) [] h = absurd h
+length_pruned horizon (suc n) (e ∷ es) [] h = absurd h
+length_pruned horizon zero (e ∷ es) (x ∷ ns) h = ap suc (length_pruned horizon zero es ns h.1)
+length_pruned horizon (suc n) (e ∷ es) (x ∷ ns) h = ap suc (length_pruned horizon n es ns h.1)
+
+pub one_pruned : (horizon n : ℕ) (es ns : List Slot) (x : Slot) → ArePruned horizon n es ns → n < length ns → IsPruned horizon (get_or ns n nil) x → ArePruned horizon (suc n) es (set ns n x)
+one_pruned horizon zero [] [] x h lt is = absurd (omega arith)
+one_pruned horizon (suc n) [] [] x h lt is = absurd (omega arith)
+one_pruned horizon zero [] (y ∷ ns) x h lt is = absurd h
+one_pruned horizon (suc n) [] (y ∷ ns) x h lt is = absurd h
+one_pruned horizon zero (e ∷ es) [] x h lt is = absurd h
+one_pruned horizon (suc n) (e ∷ es) [] x h lt is = absurd h
+one_pruned horizon zero (e ∷ es) (y ∷ ns) x h lt is = (subst (λ (z : Slot). IsPruned horizon z x) h.0 is, h.1)
+one_pruned horizon (suc n) (e ∷ es) (y ∷ ns) x h lt is = (h.0, one_pruned horizon n es ns x h.1 (omega arith) is)
+
+above_pruned : (horizon n k : ℕ) (es ns : List Slot) → ArePruned horizon n es ns → length es ≤ n → AreAbove k es → AreAbove k ns
+above_pruned horizon zero k [] [] h le a = tt
+above_pruned horizon (suc n) k [] [] h le a = tt
+above_pruned horizon zero k [] (x ∷ ns) h le a = absurd h
+above_pruned horizon (suc n) k [] (x ∷ ns) h le a = absurd h
+above_pruned horizon zero k (e ∷ es) [] h le a = absurd h
+above_pruned horizon (suc n) k (e ∷ es) [] h le a = absurd h
+above_pruned horizon zero k (e ∷ es) (x ∷ ns) h le a = absurd (omega arith)
+above_pruned horizon (suc n) k (e ∷ es) (x ∷ ns) h le a = (subst (λ (j : ℕ). k < j) (sym h.0.key) a.0, above_pruned horizon n k es ns h.1 (omega arith) a.1)
+
+pub rising_pruned : (horizon n : ℕ) (es ns : List Slot) → ArePruned horizon n es ns → length es ≤ n → AreRising es → AreRising ns
+rising_pruned horizon zero [] [] h le a = tt
+rising_pruned horizon (suc n) [] [] h le a = tt
+rising_pruned horizon zero [] (x ∷ ns) h le a = absurd h
+rising_pruned horizon (suc n) [] (x ∷ ns) h le a = absurd h
+rising_pruned horizon zero (e ∷ es) [] h le a = absurd h
+rising_pruned horizon (suc n) (e ∷ es) [] h le a = absurd h
+rising_pruned horizon zero (e ∷ es) (x ∷ ns) h le a = absurd (omega arith)
+rising_pruned horizon (suc n) (e ∷ es) (x ∷ ns) h le a = (subst (λ (j : ℕ). AreAbove j ns) (sym h.0.key) (above_pruned horizon n e.key es ns h.1 (omega arith) a.0), rising_pruned horizon n es ns h.1 (omega arith) a.1)
+
+pub versions_pruned : (horizon n : ℕ) (es ns : List Slot) (q : ℕ) → ArePruned horizon n es ns → length es ≤ n → versions_at ns q ≡ needed_versions horizon (versions_at es q)
+versions_pruned horizon zero [] [] q h le = refl
+versions_pruned horizon (suc n) [] [] q h le = refl
+versions_pruned horizon zero [] (x ∷ ns) q h le = absurd h
+versions_pruned horizon (suc n) [] (x ∷ ns) q h le = absurd h
+versions_pruned horizon zero (e ∷ es) [] q h le = absurd h
+versions_pruned horizon (suc n) (e ∷ es) [] q h le = absurd h
+versions_pruned horizon zero (e ∷ es) (x ∷ ns) q h le = absurd (omega arith)
+versions_pruned horizon (suc n) (e ∷ es) (x ∷ ns) q h le =
+    ap (λ (j : ℕ). versions_in (cond (eqb j q) (Some x.chain) (chain_at ns q))) h.0.key
+    ∙ elim (eqb e.key q) as (λ (t : Bool). versions_in (cond t (Some x.chain) (chain_at ns q)) ≡ needed_versions horizon (versions_in (cond t (Some e.chain) (chain_at es q)))) [
+      | true ↦ h.0.versions
+      | false ↦ versions_pruned horizon n es ns q h.1 (omega arith)
+    ]
