@@ -1,0 +1,38 @@
+-- The versions of all rows, and the rows as they are at a position.
+use Rattle.std.specs.Prelude.{◌≡◌, ℕ, ◌<◌, ◌≤◌, List, [], ◌∷◌, ◌++◌, slice_index_or, Option, Some, None, length, All, nat_le, if◌then◌else◌, max}
+use Rattle.std.specs.FinMap.{get}
+use Rattle.schema.specs.Rows.{Key, Rows, Writes, after_writes}
+use Rattle.row_chain.specs.Version.{Version, row_up_to, needed_versions}
+use Rattle.key_table.specs.Table.{Slot, Table, versions_at, HasRoomAt}
+
+-- the tables by number, and the least position that is kept
+pub record Versions : Type 0 where
+  pub horizon : ℕ
+  pub tables : List Table
+
+abbrev pub no_table : Table
+no_table = record { width = 0; slots = [] }
+
+abbrev pub slots_of : List Table → ℕ → List Slot
+slots_of tables table = (slice_index_or tables table no_table).slots
+
+-- what stands at a key at a position
+abbrev pub row_seen : List Table → ℕ → Key → Option (List ℕ)
+row_seen tables s k = row_up_to s (versions_at (slots_of tables k.0) k.1)
+
+-- at this position these rows are answered
+abbrev pub AnswersFrom : List Table → ℕ → Rows → Type 0
+AnswersFrom tables s rows = (k : Key) → row_seen tables s k ≡ get rows k
+
+-- a key's versions, with the write of this position where there is one
+abbrev pub with_version : ℕ → Option (Option (List ℕ)) → List Version → List Version
+with_version p (Some row) versions = versions ++ record { position = p; row = row } ∷ []
+with_version p None versions = versions
+
+-- what an install leaves at each key
+abbrev pub IsInstalled : ℕ → Writes → List Table → List Table → Type 0
+IsInstalled p writes old new = (k : Key) → versions_at (slots_of new k.0) k.1 ≡ with_version p (get writes k) (versions_at (slots_of old k.0) k.1)
+
+-- what pruning leaves at each key
+abbrev pub IsPrunedAt : ℕ → List Table → List Table → Type 0
+IsPrunedAt horizon old new = (k : Key) → versions_at (slots_of new k.0) k.1 ≡ needed_versions horizon (versions_at (slots_of old k.0) k.1)

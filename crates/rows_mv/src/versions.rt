@@ -1,0 +1,108 @@
+//! Versions of all rows.
+
+ghost use Rattle.std.specs.Prelude.{◌≡◌, ◌==◌, ◌↔◌, ◌+◌, ◌<◌, ◌≤◌, ◌++◌, [], ◌∷◌, ℕ, length, slice_get, if◌then◌else◌, OnOk, OnErr, IfOk, IfErr, IfSome, option_map, slice_index_or, slice_set};
+ghost use Rattle.std.specs.Option.{option_copied};
+ghost use Rattle.schema.specs.Rows.{Key, Rows, row_at, count_in, first_in};
+ghost use Rattle.row_chain.specs.Version.{needed_versions};
+ghost use Rattle.key_table.specs.Table.{rows_between, AreRising, versions_at, HasRoomAt};
+ghost use Rattle.rows_mv.specs.Versions.{AnswersFrom, row_seen, slots_of, IsPrunedAt};
+
+use key_table::KeyTable;
+use std::alloc::{AllocError, Allocator, Global};
+use std::marker::Model;
+
+/// The position is below those that are kept.
+#[derive(Clone, Copy, Debug, PartialEq, Eq)]
+pub struct Gone;
+
+/// The rows at each position that is kept.
+#[derive(Drop)]
+pub struct Versions<A: Allocator = Global> {
+    horizon: u32,
+    tables: Vec<KeyTable<A>, A>,
+}
+
+impl<A: Allocator> Model for Versions<A> {
+    ghost use Rattle.rows_mv.specs.Versions.{Versions};
+
+    ghost Value = { Versions };
+
+    ghost view = { λ v. record { horizon = v.horizon; tables = v.tables.items } };
+}
+
+/// The row of a key at a position.
+fn row_seen<A: Allocator>(tables: &[KeyTable<A>], position: u32, table: u8, key: u64) -> Option<&[u8]>
+    ensures { option_copied result ≡ row_seen tables.now position (table, key) }
+{
+    let number = usize::from(table);
+    if number >= tables.len() {
+        return None;
+    }
+    tables[number].row_at(position, key)
+}
+
+/// How many rows of a range there are at a position.
+fn count_seen<A: Allocator>(tables: &[KeyTable<A>], position: u32, table: u8, lo: u64, hi: u64) -> usize
+    ensures count { result ≡ length (rows_between position lo hi (slots_of tables.now table)) }
+    ensures rising { AreRising (slots_of tables.now table) }
+{
+    let number = usize::from(table);
+    if number >= tables.len() {
+        return 0;
+    }
+    tables[number].count(position, lo, hi)
+}
+
+/// The first row of a range at a position.
+fn first_seen<A: Allocator>(tables: &[KeyTable<A>], position: u32, table: u8, lo: u64, hi: u64) -> Option<(u64, &[u8])>
+    ensures first { option_map (λ f. (f.0, f.1.now)) result
+        ≡ slice_get (rows_between position lo hi (slots_of tables.now table)) 0 }
+    ensures rising { AreRising (slots_of tables.now table) }
+{
+    let number = usize::from(table);
+    if number >= tables.len() {
+        return None;
+    }
+    tables[number].first(position, lo, hi)
+}
+
+impl<A: Allocator> Versions<A> {
+    /// How many rows of a range there are at a position, or `Gone` below those that are kept.
+    pub fn count_at(&self, position: u32, table: u8, lo: u64, hi: u64) -> Result<usize, Gone>
+        ensures count { IfOk result (λ n. (rows : Rows) → AnswersFrom self.now.tables position rows
+            → n ≡ count_in (record { table = table; lo = lo; hi = hi }) rows) }
+        ensures kept { OnOk result (self.now.horizon ≤ position) }
+        ensures gone { OnErr result (position < self.now.horizon) }
+    {
+        if position < self.horizon {
+            return Err(Gone);
+        }
+        Ok(count_seen(&self.tables, position, table, lo, hi))
+    }
+
+    /// The first row of a range at a position, or `Gone` below those that are kept.
+    pub fn next_at(&self, position: u32, table: u8, lo: u64, hi: u64) -> Result<Option<(u64, &[u8])>, Gone>
+        ensures first { IfOk result (λ r. (rows : Rows) → AnswersFrom self.now.tables position rows
+            → option_map (λ f. ((table, f.0), f.1.now)) r ≡ first_in (record { table = table; lo = lo; hi = hi }) rows) }
+        ensures kept { OnOk result (self.now.horizon ≤ position) }
+        ensures gone { OnErr result (position < self.now.horizon) }
+    {
+        if position < self.horizon {
+            return Err(Gone);
+        }
+        Ok(first_seen(&self.tables, position, table, lo, hi))
+    }
+
+    /// The row at a position, or `Gone` below those that are kept.
+    pub fn read_at(&self, position: u32, table: u8, key: u64) -> Result<Option<&[u8]>, Gone>
+        ensures row { IfOk result (λ r. (rows : Rows) → AnswersFrom self.now.tables position rows
+            → option_copied r ≡ row_at rows table key) }
+        ensures kept { OnOk result (self.now.horizon ≤ position) }
+        ensures gone { OnErr result (position < self.now.horizon) }
+    {
+        if position < self.horizon {
+            return Err(Gone);
+        }
+        Ok(row_seen(&self.tables, position, table, key))
+    }
+}
