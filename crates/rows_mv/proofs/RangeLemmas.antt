@@ -5,7 +5,6 @@ use Rattle.std.proofs.lemmas.Bool.{eq-eqb, ne_eqb, eqb-true, eqb-false, lt-ltb}
 use Rattle.std.proofs.lemmas.List.{length-map}
 use Rattle.std.specs.Option.{option_map}
 use Rattle.std.proofs.lemmas.Option.{slice_get-map}
-
 use Rattle.std.specs.declared.cmp.Ordering.{Ordering}
 use Rattle.std.specs.declared.cmp.Ordering.TheVariants.{Less, Equal, Greater}
 use Rattle.std.specs.Ordering.{nat_cmp, ordering_then, is_lt}
@@ -42,7 +41,6 @@ found_here t true k (Some r) rows none = ap (λ (b : Bool). cond b (Some r) (fou
 found_here t true k None rows none = none
 found_here t false k (Some r) rows none = none
 found_here t false k None rows none = none
-
 
 -- of another table nothing is found
 found_other : (t s lo hi : ℕ) (es : List Slot) (q : Key) → q.0 ≢ t → found t (rows_between s lo hi es) q ≡ None
@@ -133,10 +131,10 @@ entries_between t s lo hi es rows up seen =
     let look : Look = record { table = t; lo = lo; hi = hi } in
     let sorted = sorted_between t s lo hi es up in
     let same : rows_in look rows ≡ from_sorted {R = key_cmp} (map (pair t) (rows_between s lo hi es)) =
-      same_map key_cmp_total key_cmp-IsAntisymmetric (rows_in look rows) (from_sorted (map (pair t) (rows_between s lo hi es))) (λ q.
-      get-retain_keys rows (covers look) q (λ x e. ap (covers look) (sym (key_cmp-IsAntisymmetric q x e)))
-      ∙ at_each t s lo hi es rows q up seen
-      ∙ sym (get-from_sorted key_cmp (map (pair t) (rows_between s lo hi es)) q sorted)) in
+    same_map key_cmp_total key_cmp-IsAntisymmetric (rows_in look rows) (from_sorted (map (pair t) (rows_between s lo hi es))) (λ q.
+    get-retain_keys rows (covers look) q (λ x e. ap (covers look) (sym (key_cmp-IsAntisymmetric q x e)))
+    ∙ at_each t s lo hi es rows q up seen
+    ∙ sym (get-from_sorted key_cmp (map (pair t) (rows_between s lo hi es)) q sorted)) in
     ap entries same ∙ entries-from_sorted key_cmp (map (pair t) (rows_between s lo hi es)) sorted
 
 pub count_between : (t s lo hi : ℕ) (es : List Slot) (rows : Rows) → AreRising es → ((k : ℕ) → row_up_to s (versions_at es k) ≡ get rows (t, k))

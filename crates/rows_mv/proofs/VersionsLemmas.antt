@@ -9,7 +9,6 @@ use Rattle.row_chain.proofs.VersionLemmas.{row-append, row-pruned, test_true, te
 use Rattle.key_table.specs.Table.{Table, versions_at}
 use Rattle.rows_mv.specs.Versions.{row_seen, slots_of, AnswersFrom, with_version, IsInstalled, IsPrunedAt}
 
-
 seen_after : (s p : ℕ) (write : Option (Option (List ℕ))) (vs : List Version) → p ≤ s → row_up_to s (with_version p write vs) ≡ unwrap_or write (row_up_to s vs)
 seen_after s p None vs le = refl
 seen_after s p (Some row) vs le = row-append s None vs (record { position = p; row = row }) ∙ ap (λ (b : Bool). cond b row (row_up_to s vs)) (test_true p s le)

@@ -1,5 +1,5 @@
 -- The versions of all rows, and the rows as they are at a position.
-use Rattle.std.specs.Prelude.{◌≡◌, ℕ, ◌<◌, ◌≤◌, List, [], ◌∷◌, ◌++◌, slice_index_or, Option, Some, None, length, All, nat_le, if◌then◌else◌, max}
+use Rattle.std.specs.Prelude.{◌≡◌, ℕ, ◌<◌, ◌≤◌, List, [], ◌∷◌, ◌++◌, slice_index_or, Option, Some, None, length, All, nat_le, if◌then◌else◌, max, ◌≢◌, ◌==◌, Bool, true, IsSome}
 use Rattle.std.specs.FinMap.{get}
 use Rattle.schema.specs.Rows.{Key, Rows, Writes, after_writes}
 use Rattle.row_chain.specs.Version.{Version, row_up_to, needed_versions}
@@ -36,3 +36,24 @@ IsInstalled p writes old new = (k : Key) → versions_at (slots_of new k.0) k.1 
 -- what pruning leaves at each key
 abbrev pub IsPrunedAt : ℕ → List Table → List Table → Type 0
 IsPrunedAt horizon old new = (k : Key) → versions_at (slots_of new k.0) k.1 ≡ needed_versions horizon (versions_at (slots_of old k.0) k.1)
+
+-- one more version of each written key can be put
+abbrev pub IsPrepared : Writes → List Table → Type 0
+IsPrepared writes tables = (k : Key) → IsSome (get writes k) → HasRoomAt (slots_of tables k.0) k.1
+
+-- each written key is one of the tables'
+abbrev pub AreOfTables : Writes → List Table → Type 0
+AreOfTables writes tables = (k : Key) → IsSome (get writes k) → k.0 < length tables
+
+-- ---- changes of one table
+
+-- a table in which each key has the versions it had
+pub record IsTableReserved (granted : Bool) (key : ℕ) (old new : Table) : Type 0 where
+  pub versions : (q : ℕ) → versions_at new.slots q ≡ versions_at old.slots q
+  pub room : granted ≡ true → HasRoomAt new.slots key
+  pub more : (q : ℕ) → HasRoomAt old.slots q → HasRoomAt new.slots q
+
+-- a table in which one key has a version more
+pub record IsTablePut (key position : ℕ) (row : Option (List ℕ)) (old new : Table) : Type 0 where
+  pub versions : (q : ℕ) → versions_at new.slots q ≡ (if key == q then versions_at old.slots q ++ record { position = position; row = row } ∷ [] else versions_at old.slots q)
+  pub room : (q : ℕ) → key ≢ q → HasRoomAt old.slots q → HasRoomAt new.slots q

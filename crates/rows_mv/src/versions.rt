@@ -31,7 +31,12 @@ impl<A: Allocator> Model for Versions<A> {
 }
 
 /// The row of a key at a position.
-fn row_seen<A: Allocator>(tables: &[KeyTable<A>], position: u32, table: u8, key: u64) -> Option<&[u8]>
+fn row_seen<A: Allocator>(
+    tables: &[KeyTable<A>],
+    position: u32,
+    table: u8,
+    key: u64,
+) -> Option<&[u8]>
     ensures { option_copied result ≡ row_seen tables.now position (table, key) }
 {
     let number = usize::from(table);
@@ -42,7 +47,13 @@ fn row_seen<A: Allocator>(tables: &[KeyTable<A>], position: u32, table: u8, key:
 }
 
 /// How many rows of a range there are at a position.
-fn count_seen<A: Allocator>(tables: &[KeyTable<A>], position: u32, table: u8, lo: u64, hi: u64) -> usize
+fn count_seen<A: Allocator>(
+    tables: &[KeyTable<A>],
+    position: u32,
+    table: u8,
+    lo: u64,
+    hi: u64,
+) -> usize
     ensures count { result ≡ length (rows_between position lo hi (slots_of tables.now table)) }
     ensures rising { AreRising (slots_of tables.now table) }
 {
@@ -54,7 +65,13 @@ fn count_seen<A: Allocator>(tables: &[KeyTable<A>], position: u32, table: u8, lo
 }
 
 /// The first row of a range at a position.
-fn first_seen<A: Allocator>(tables: &[KeyTable<A>], position: u32, table: u8, lo: u64, hi: u64) -> Option<(u64, &[u8])>
+fn first_seen<A: Allocator>(
+    tables: &[KeyTable<A>],
+    position: u32,
+    table: u8,
+    lo: u64,
+    hi: u64,
+) -> Option<(u64, &[u8])>
     ensures first { option_map (λ f. (f.0, f.1.now)) result
         ≡ slice_get (rows_between position lo hi (slots_of tables.now table)) 0 }
     ensures rising { AreRising (slots_of tables.now table) }
@@ -81,7 +98,13 @@ impl<A: Allocator> Versions<A> {
     }
 
     /// The first row of a range at a position, or `Gone` below those that are kept.
-    pub fn next_at(&self, position: u32, table: u8, lo: u64, hi: u64) -> Result<Option<(u64, &[u8])>, Gone>
+    pub fn next_at(
+        &self,
+        position: u32,
+        table: u8,
+        lo: u64,
+        hi: u64,
+    ) -> Result<Option<(u64, &[u8])>, Gone>
         ensures first { IfOk result (λ r. (rows : Rows) → AnswersFrom self.now.tables position rows
             → option_map (λ f. ((table, f.0), f.1.now)) r ≡ first_in (record { table = table; lo = lo; hi = hi }) rows) }
         ensures kept { OnOk result (self.now.horizon ≤ position) }

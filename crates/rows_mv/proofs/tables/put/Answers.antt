@@ -1,0 +1,20 @@
+use Rattle.std.proofs.Common.{◌≡◌, ◌∙◌, ℕ, refl, eqb, Bool, false, cond, ◌&&◌, List, [], ◌∷◌, ◌++◌, get_or, sym, ap}
+use Rattle.std.specs.Option.{option_copied}
+use Rattle.std.proofs.lemmas.Bool.{eq-eqb, ne_eqb}
+use Rattle.schema.specs.Rows.{Key}
+use Rattle.row_chain.specs.Version.{Version}
+use Rattle.key_table.specs.Table.{Slot, versions_at}
+use Rattle.rows_mv.specs.Versions.{no_table}
+use Rattle.rows_mv.proofs.TablesLemmas.{at_each}
+use Rattle.rows_mv.proofs.tables.put.Goals as goal
+
+pub returns : goal.returns
+returns g c = record {
+  versions = λ k.
+      let p = c.put_at.ensures no_table in
+      let v : Version = record { position = c.args.position; row = option_copied c.args.row } in
+      at_each (λ (t : ℕ) (a b : List Slot). versions_at b k.1 ≡ cond (eqb c.args.table t && eqb c.args.key k.1) (versions_at a k.1 ++ v ∷ []) (versions_at a k.1))
+      c.args.tables.now.items c.put_at.new.tables.items c.args.table k.0 (get_or c.put_at.new.tables.items c.args.table no_table) c.requires.table p.1
+      (p.0.versions k.1 ∙ sym (ap (λ (b : Bool). cond (b && eqb c.args.key k.1) (versions_at (get_or c.args.tables.now.items c.args.table no_table).slots k.1 ++ v ∷ []) (versions_at (get_or c.args.tables.now.items c.args.table no_table).slots k.1)) (eq-eqb c.args.table c.args.table refl)))
+      (λ ne. sym (ap (λ (b : Bool). cond (b && eqb c.args.key k.1) (versions_at (get_or c.args.tables.now.items k.0 no_table).slots k.1 ++ v ∷ []) (versions_at (get_or c.args.tables.now.items k.0 no_table).slots k.1)) (ne_eqb c.args.table k.0 (λ e. ne (sym e)))));
+}

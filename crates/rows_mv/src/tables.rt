@@ -1,0 +1,91 @@
+//! Changes of one key among all tables, and of each key of a write set.
+
+ghost use Rattle.std.specs.Prelude.{◌≡◌, ◌≢◌, ◌==◌, ◌<◌, ◌++◌, [], ◌∷◌, ℕ, length, is_ok, if◌then◌else◌, IfSome, OnOk, slice_index_or, slice_set, ◌&&◌};
+ghost use Rattle.std.specs.Option.{option_copied, IsSomeAnd};
+ghost use Rattle.schema.specs.Rows.{Key};
+ghost use Rattle.key_table.specs.Table.{Table, versions_at, chain_at, HasRoomAt};
+ghost use Rattle.rows_mv.specs.Versions.{slots_of, IsTableReserved, IsTablePut, AreOfTables, IsPrepared};
+
+use key_table::KeyTable;
+use row_sets::WriteSet;
+use std::alloc::{AllocError, Allocator};
+
+fn reserve_at<A: Allocator + Copy>(
+    tables: &mut Vec<KeyTable<A>, A>,
+    alloc: A,
+    at: usize,
+    key: u64,
+) -> Result<(), AllocError>
+    requires { at < length tables.old.items }
+    ensures { (d : Table) → IsTableReserved (is_ok result) key (slice_index_or tables.old.items at d) (slice_index_or tables.new.items at d)
+        × (tables.new.items ≡ slice_set tables.old.items at (slice_index_or tables.new.items at d)) }
+{
+    tables[at].reserve(alloc, key)
+}
+
+/// Makes room for one more version of a key. After want of memory each key has the versions it had.
+pub fn reserve<A: Allocator + Copy>(
+    tables: &mut Vec<KeyTable<A>, A>,
+    alloc: A,
+    table: usize,
+    key: u64,
+) -> Result<(), AllocError>
+    requires { table < length tables.old.items }
+    ensures versions { (k : Key) → versions_at (slots_of tables.new.items k.0) k.1 ≡ versions_at (slots_of tables.old.items k.0) k.1 }
+    ensures room { OnOk result (HasRoomAt (slots_of tables.new.items table) key) }
+    ensures more { (k : Key) → HasRoomAt (slots_of tables.old.items k.0) k.1 → HasRoomAt (slots_of tables.new.items k.0) k.1 }
+    ensures count { length tables.new.items ≡ length tables.old.items }
+{
+    reserve_at(tables, alloc, table, key)
+}
+
+fn put_at<A: Allocator>(
+    tables: &mut Vec<KeyTable<A>, A>,
+    at: usize,
+    key: u64,
+    position: u32,
+    row: Option<&[u8]>,
+)
+    requires at { at < length tables.old.items }
+    requires room { (d : Table) → HasRoomAt (slice_index_or tables.old.items at d).slots key }
+    requires width { (d : Table) → IfSome row (λ r. IsSomeAnd (chain_at (slice_index_or tables.old.items at d).slots key) (λ k. length r.now ≡ k.width)) }
+    ensures { (d : Table) → IsTablePut key position (option_copied row.entry) (slice_index_or tables.old.items at d) (slice_index_or tables.new.items at d)
+        × (tables.new.items ≡ slice_set tables.old.items at (slice_index_or tables.new.items at d)) }
+{
+    tables[at].push(key, position, row);
+}
+
+/// One version more of a key.
+pub fn put<A: Allocator>(
+    tables: &mut Vec<KeyTable<A>, A>,
+    table: usize,
+    key: u64,
+    position: u32,
+    row: Option<&[u8]>,
+)
+    requires table { table < length tables.old.items }
+    requires room { (d : Table) → HasRoomAt (slice_index_or tables.old.items table d).slots key }
+    requires width { (d : Table) → IfSome row (λ r. IsSomeAnd (chain_at (slice_index_or tables.old.items table d).slots key) (λ k. length r.now ≡ k.width)) }
+    ensures versions { (k : Key) → versions_at (slots_of tables.new.items k.0) k.1 ≡ (if (table == k.0) && (key == k.1)
+        then versions_at (slots_of tables.old.items k.0) k.1 ++ record { position = position; row = option_copied row.entry } ∷ []
+        else versions_at (slots_of tables.old.items k.0) k.1) }
+{
+    put_at(tables, table, key, position, row);
+}
+
+/// Makes room for one more version of each written key. After want of memory each key has the versions it had.
+pub fn reserve_each<A: Allocator + Copy, B: Allocator + Copy>(
+    tables: &mut Vec<KeyTable<A>, A>,
+    alloc: A,
+    writes: &WriteSet<B>,
+) -> Result<(), AllocError>
+    requires { AreOfTables writes.now tables.old.items }
+    ensures versions { (k : Key) → versions_at (slots_of tables.new.items k.0) k.1 ≡ versions_at (slots_of tables.old.items k.0) k.1 }
+    ensures prepared { OnOk result (IsPrepared writes.now tables.new.items) }
+    ensures count { length tables.new.items ≡ length tables.old.items }
+{
+    for (key, _) in writes.iter() {
+        reserve(tables, alloc, usize::from(key.0), key.1)?;
+    }
+    Ok(())
+}
