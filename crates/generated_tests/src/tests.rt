@@ -1,15 +1,12 @@
 use bpf_code::decode;
 use bpf_verify::{Accepted, verify};
-use generator::random_program;
-use inputs::{random_arguments, random_rows};
+use inputs::{Call, random_call};
 use outcome::{line_of_call, line_of_run};
-use plain_rows::Row;
 use plain_runner::{CompletedRun, run_program};
 use random::Random;
 use schema::Schema;
 use single_site::run_call;
-use std::alloc::Global;
-use std::collections::BTreeSet;
+use std::alloc::{AllocError, Global};
 use std::process::Abort;
 use std::test::Fail;
 use tally::Tally;
@@ -25,31 +22,55 @@ mod tally;
 /// A turn that no call comes to: its store stays.
 const NEVER: u32 = u32::MAX;
 
+/// The program in hex, and the arguments.
+fn described(alloc: Global, call: &Call) -> Result<String, AllocError> {
+    let program = hex::encode(alloc, &call.program.bytes)?;
+    format!(in alloc; "{program} of {:?}", call.arguments)
+}
+
 /// The procedure that the verifier accepts, on arguments of 32 bytes.
-fn accepted(alloc: Global, bytes: &[u8], schema: &Schema) -> Result<Accepted, Fail> {
-    let code = decode(alloc, bytes)?;
+fn accepted(alloc: Global, schema: &Schema, call: &Call) -> Result<Accepted, Fail> {
+    let code = decode(alloc, &call.program.bytes)?;
     Ok(verify(alloc, code, schema, 32)?)
 }
 
-/// Runs a program as the definition says, and asserts that the machine's call comes to the same.
+/// What the definition says of a call.
+fn plain_run(alloc: Global, procedure: &Accepted, call: &Call) -> Result<CompletedRun, Fail> {
+    let code = procedure.code();
+    let schema = procedure.schema();
+    let run = run_program(alloc, code, schema, &call.arguments, &call.rows)?;
+    Ok(run.ok_or("a run of an accepted program is stuck")?)
+}
+
+/// What the machine does at a call.
+fn machine_line(alloc: Global, procedure: &Accepted, call: &Call) -> Result<String, Fail> {
+    let run = run_call(alloc, procedure, &call.arguments, &call.rows, NEVER)?;
+    Ok(line_of_call(alloc, run)?)
+}
+
+fn assert_accepted(rt: &impl Abort, procedure: &Result<Accepted, Fail>, name: &str) {
+    assert!(rt; procedure.is_ok(), "not accepted: {name}");
+}
+
+fn assert_same(rt: &impl Abort, machine: &str, plain: &str, name: &str) {
+    assert_eq!(rt; machine, plain, "{name}");
+}
+
+/// Asserts that a call is accepted and that it comes to the same on the machine, and answers what the definition says.
 fn compared(
     rt: &impl Abort,
     alloc: Global,
-    program: &[u8],
     schema: &Schema,
-    arguments: &[u8],
-    rows: &[Row],
+    call: &Call,
 ) -> Result<CompletedRun, Fail> {
-    let hex = hex::encode(alloc, program)?;
-    let procedure = accepted(alloc, program, schema);
-    assert!(rt; procedure.is_ok(), "not accepted: {hex}");
+    let name = described(alloc, call)?;
+    let procedure = accepted(alloc, schema, call);
+    assert_accepted(rt, &procedure, &name);
     let procedure = procedure?;
-    let run = run_program(alloc, procedure.code(), schema, arguments, rows)?;
-    let run = run.ok_or("a run of an accepted program is stuck")?;
+    let run = plain_run(alloc, &procedure, call)?;
     let plain = line_of_run(alloc, &run)?;
-    let call = run_call(alloc, &procedure, arguments, rows, NEVER)?;
-    let line = line_of_call(alloc, call)?;
-    assert_eq!(rt; line.as_str(), plain.as_str(), "{hex} of {arguments:?}");
+    let machine = machine_line(alloc, &procedure, call)?;
+    assert_same(rt, &machine, &plain, &name);
     Ok(run)
 }
 
@@ -59,18 +80,12 @@ fn calls_come_to_what_the_plain_runner_says(rt: HostRuntime) -> Result<(), Fail>
     let alloc = rt.alloc();
     let schema = Schema::new(alloc, &[(1, 8), (2, 2)])?;
     let mut random = Random::from_seed();
-    let mut tally = Tally::new();
-    let mut programs = BTreeSet::new(alloc);
+    let mut tally = Tally::new(alloc);
     for _ in 0..2_000 {
-        let program = random_program(alloc, &mut random)?;
-        let arguments = random_arguments(alloc, &mut random)?;
-        let rows = random_rows(alloc, &mut random)?;
-        let run = compared(&rt, alloc, &program.bytes, &schema, &arguments, &rows)?;
-        tally.add_run(&run);
-        tally.add_program(program.helpers, &program.bytes);
-        programs.insert(program.bytes)?;
+        let call = random_call(alloc, &mut random)?;
+        let run = compared(&rt, alloc, &schema, &call)?;
+        tally.add(&run, call.program)?;
     }
-    assert_eq!(rt; programs.len(), 2_000, "programs that differ");
     tally.assert_enough(&rt);
     Ok(())
 }

@@ -4,6 +4,7 @@ use bpf_vm::Turn;
 use plain_rows::KeyMap;
 use plain_runner::CompletedRun;
 use plain_store::PlainStore;
+use row_sets::WriteSet;
 use schema::Look;
 use single_site::SiteRun;
 use std::alloc::{AllocError, Global};
@@ -18,11 +19,18 @@ fn line_of(
     cancel_code: Option<u64>,
     looks: &[Look],
 ) -> Result<String, AllocError> {
-    let mut line = format!(in alloc; "{reply} in {turns} cancelled {cancel_code:?}")?;
+    let mut line = format!(in alloc; "{reply} in {turns}")?;
+    if let Some(code) = cancel_code {
+        write!(line, " cancelled {code}")?;
+    }
     for look in looks {
-        write!(line, " look {}:{}-{}", look.table, look.lo, look.hi)?;
+        append_look(&mut line, look)?;
     }
     Ok(line)
+}
+
+fn append_look(line: &mut String, look: &Look) -> Result<(), AllocError> {
+    write!(line, " look {}:{}-{}", look.table, look.lo, look.hi)
 }
 
 /// Appends a write: the row's bytes, or none where it is a removal.
@@ -51,11 +59,16 @@ pub(super) fn line_of_call(alloc: Global, call: SiteRun) -> Result<String, Alloc
     };
     let (reads, writes, cancel_code) = View::over(store, call.own).finish();
     let mut line = line_of(alloc, reply, turns as usize, cancel_code, reads.looks())?;
+    append_writes(&mut line, &writes)?;
+    Ok(line)
+}
+
+fn append_writes(line: &mut String, writes: &WriteSet<Global>) -> Result<(), AllocError> {
     for (key, write) in writes.iter() {
         let bytes = write.as_ref().map(|bytes| bytes.as_slice());
-        append_write(&mut line, key.0, key.1, bytes)?;
+        append_write(line, key.0, key.1, bytes)?;
     }
-    Ok(line)
+    Ok(())
 }
 
 /// The same of a run of the plain runner.

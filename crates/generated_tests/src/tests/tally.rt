@@ -1,6 +1,9 @@
 //! What was seen of the programs, so that a comparison of nothing doesn't pass.
 
+use super::generator::Program;
 use plain_runner::CompletedRun;
+use std::alloc::{AllocError, Global};
+use std::collections::BTreeSet;
 use std::process::Abort;
 
 /// In how many programs something came of a run, and what stands in any.
@@ -12,24 +15,31 @@ pub(super) struct Tally {
     cancels: u32,
     /// The helpers that were called, by the bits of their numbers.
     helpers: u8,
-    /// Whether a slot begins with the byte.
-    opcodes: [bool; 256],
+    /// The first bytes of slots.
+    opcodes: BTreeSet<u8>,
+    programs: BTreeSet<Vec<u8>>,
 }
 
 impl Tally {
-    pub(super) fn new() -> Tally {
+    pub(super) fn new(alloc: Global) -> Tally {
         Tally {
             looks: 0,
             puts: 0,
             removals: 0,
             cancels: 0,
             helpers: 0,
-            opcodes: [false; 256],
+            opcodes: BTreeSet::new(alloc),
+            programs: BTreeSet::new(alloc),
         }
     }
 
-    /// Counts what came of a run.
-    pub(super) fn add_run(&mut self, run: &CompletedRun) {
+    /// Adds a program and what came of its run.
+    pub(super) fn add(&mut self, run: &CompletedRun, program: Program) -> Result<(), AllocError> {
+        self.add_run(run);
+        self.add_program(program)
+    }
+
+    fn add_run(&mut self, run: &CompletedRun) {
         let writes = run.writes();
         let has_put = writes.iter().any(|write| write.bytes().is_some());
         let has_removal = writes.iter().any(|write| write.bytes().is_none());
@@ -39,25 +49,30 @@ impl Tally {
         self.cancels = counted(self.cancels, run.cancel_code().is_some());
     }
 
-    /// Notes the helpers that a program's runs call, and its opcodes.
-    pub(super) fn add_program(&mut self, helpers: u8, bytes: &[u8]) {
-        self.helpers |= helpers;
-        for byte in bytes.iter().step_by(8) {
-            self.opcodes[usize::from(*byte)] = true;
+    fn add_program(&mut self, program: Program) -> Result<(), AllocError> {
+        self.helpers |= program.helpers;
+        for opcode in program.bytes.iter().step_by(8) {
+            self.opcodes.insert(*opcode)?;
         }
+        self.programs.insert(program.bytes)?;
+        Ok(())
     }
 
-    /// There was enough of each, every helper was called, and each of the 117 opcodes stands in a program, beside the 0
-    /// of a wide load's second half.
+    /// The programs differ, there was enough of each, every helper was called, and each of the 117 opcodes stands in a
+    /// program, beside the 0 of a wide load's second half.
     pub(super) fn assert_enough(&self, rt: &impl Abort) {
-        assert!(rt; self.looks >= 50, "{} programs look", self.looks);
-        assert!(rt; self.puts >= 50, "{} programs put", self.puts);
-        assert!(rt; self.removals >= 50, "{} programs remove", self.removals);
-        assert!(rt; self.cancels >= 50, "{} programs cancel", self.cancels);
+        assert_eq!(rt; self.programs.len(), 2_000);
+        assert_eq!(rt; self.opcodes.len(), 118);
         assert_eq!(rt; self.helpers, 0b111_1110);
-        let opcodes = self.opcodes.iter().filter(|seen| **seen).count();
-        assert_eq!(rt; opcodes, 118);
+        assert_many(rt, self.looks, "look");
+        assert_many(rt, self.puts, "put");
+        assert_many(rt, self.removals, "remove");
+        assert_many(rt, self.cancels, "cancel");
     }
+}
+
+fn assert_many(rt: &impl Abort, programs: u32, what: &str) {
+    assert!(rt; programs >= 50, "{programs} programs {what}");
 }
 
 /// A count, and one more where it holds.
