@@ -22,16 +22,20 @@ mod tally;
 /// A turn that no call comes to: its store stays.
 const NEVER: u32 = u32::MAX;
 
-/// The program in hex, and the arguments.
-fn described(alloc: Global, call: &Call) -> Result<String, AllocError> {
-    let program = hex::encode(alloc, &call.program.bytes)?;
-    format!(in alloc; "{program} of {:?}", call.arguments)
-}
-
-/// The procedure that the verifier accepts, on arguments of 32 bytes.
-fn accepted(alloc: Global, schema: &Schema, call: &Call) -> Result<Accepted, Fail> {
-    let code = decode(alloc, &call.program.bytes)?;
-    Ok(verify(alloc, code, schema, 32)?)
+/// The procedure, which the verifier has to accept, on arguments of 32 bytes.
+fn accepted(
+    rt: &impl Abort,
+    alloc: Global,
+    schema: &Schema,
+    program: &[u8],
+) -> Result<Accepted, Fail> {
+    match verify(alloc, decode(alloc, program)?, schema, 32) {
+        Ok(procedure) => Ok(procedure),
+        Err(refusal) => {
+            let program = hex::encode(alloc, program)?;
+            panic!(rt; "{refusal} of {program}")
+        }
+    }
 }
 
 /// What the definition says of a call.
@@ -48,29 +52,31 @@ fn machine_line(alloc: Global, procedure: &Accepted, call: &Call) -> Result<Stri
     Ok(line_of_call(alloc, run)?)
 }
 
-fn assert_accepted(rt: &impl Abort, procedure: &Result<Accepted, Fail>, name: &str) {
-    assert!(rt; procedure.is_ok(), "not accepted: {name}");
+/// Asserts that both lines of a call are the same, or says of which program and arguments they aren't.
+fn assert_same(
+    rt: &impl Abort,
+    alloc: Global,
+    call: &Call,
+    machine: &str,
+    plain: &str,
+) -> Result<(), AllocError> {
+    let program = hex::encode(alloc, &call.program.bytes)?;
+    assert_eq!(rt; machine, plain, "{program} of {:?}", call.arguments);
+    Ok(())
 }
 
-fn assert_same(rt: &impl Abort, machine: &str, plain: &str, name: &str) {
-    assert_eq!(rt; machine, plain, "{name}");
-}
-
-/// Asserts that a call is accepted and that it comes to the same on the machine, and answers what the definition says.
+/// Compares a call on the machine with what the definition says, and answers that.
 fn compared(
     rt: &impl Abort,
     alloc: Global,
     schema: &Schema,
     call: &Call,
 ) -> Result<CompletedRun, Fail> {
-    let name = described(alloc, call)?;
-    let procedure = accepted(alloc, schema, call);
-    assert_accepted(rt, &procedure, &name);
-    let procedure = procedure?;
+    let procedure = accepted(rt, alloc, schema, &call.program.bytes)?;
     let run = plain_run(alloc, &procedure, call)?;
     let plain = line_of_run(alloc, &run)?;
     let machine = machine_line(alloc, &procedure, call)?;
-    assert_same(rt, &machine, &plain, &name);
+    assert_same(rt, alloc, call, &machine, &plain)?;
     Ok(run)
 }
 
@@ -84,7 +90,7 @@ fn calls_come_to_what_the_plain_runner_says(rt: HostRuntime) -> Result<(), Fail>
     for _ in 0..2_000 {
         let call = random_call(alloc, &mut random)?;
         let run = compared(&rt, alloc, &schema, &call)?;
-        tally.add(&run, call.program)?;
+        tally.add(&run, call.program);
     }
     tally.assert_enough(&rt);
     Ok(())

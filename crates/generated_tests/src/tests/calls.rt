@@ -2,7 +2,6 @@
 
 use super::instruction::{NUMBERS, STACK, Slot, append, instruction};
 use super::random::Random;
-use std::alloc::AllocError;
 
 /// What a helper asks for in a register.
 #[derive(Clone, Copy)]
@@ -32,14 +31,14 @@ static CALLS: [&[Argument]; 6] = [
 const HELPERS: [u8; 20] = [1, 1, 1, 1, 2, 2, 2, 2, 2, 3, 3, 3, 4, 4, 4, 5, 5, 5, 5, 6];
 
 /// A call, and the bit of the helper's number.
-pub(super) fn call(random: &mut Random, code: &mut Vec<u8>) -> Result<u8, AllocError> {
+pub(super) fn call(random: &mut Random, code: &mut Vec<u8>) -> u8 {
     let helper = random.pick(&HELPERS);
     let arguments = CALLS.get(usize::from(helper.saturating_sub(1)));
     for (register, kind) in (1..).zip(arguments.copied().unwrap_or(&[])) {
-        append(code, &argument_value(random, *kind, register))?;
+        append(code, &argument_value(random, *kind, register));
     }
-    append(code, &[instruction(0x85, 0, 0, 0, i32::from(helper))])?;
-    Ok(1u8.wrapping_shl(u32::from(helper)))
+    append(code, &[instruction(0x85, 0, 0, 0, i32::from(helper))]);
+    1u8.wrapping_shl(u32::from(helper))
 }
 
 /// What leaves an argument in a register.

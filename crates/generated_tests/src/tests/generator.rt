@@ -9,7 +9,7 @@ use super::instruction::{
     instruction, jump, load, wide_load,
 };
 use super::random::Random;
-use std::alloc::{AllocError, Global};
+use std::alloc::Global;
 
 /// A program, and which helpers it calls in each run, by the bits of their numbers.
 #[derive(Drop)]
@@ -19,22 +19,26 @@ pub(super) struct Program {
 }
 
 /// A program of 4 to 13 blocks, for arguments of 32 bytes.
-pub(super) fn random_program(alloc: Global, random: &mut Random) -> Result<Program, AllocError> {
+pub(super) fn random_program(alloc: Global, random: &mut Random) -> Program {
     let mut bytes = Vec::new(alloc);
     let mut helpers = 0;
-    append(&mut bytes, &registers(random))?;
+    append(&mut bytes, &registers(random));
     for offset in [-64, -56, -48, -40, -32, -24, -16, -8] {
-        append(&mut bytes, &[initialised(random, offset)])?;
+        append(&mut bytes, &[initialised(random, offset)]);
     }
     for _ in 0..random.below(10).saturating_add(4) {
-        helpers |= block(alloc, random, &mut bytes)?;
+        helpers |= block(alloc, random, &mut bytes);
     }
-    append(
-        &mut bytes,
-        &[instruction(0xbf, 0, random.pick(&NUMBERS), 0, 0)],
-    )?;
-    append(&mut bytes, &[instruction(0x95, 0, 0, 0, 0)])?;
-    Ok(Program { bytes, helpers })
+    append(&mut bytes, &end(random));
+    Program { bytes, helpers }
+}
+
+/// The end of a program, which replies a number.
+fn end(random: &mut Random) -> [Slot; 2] {
+    [
+        instruction(0xbf, 0, random.pick(&NUMBERS), 0, 0),
+        instruction(0x95, 0, 0, 0, 0),
+    ]
 }
 
 /// What the registers hold from the beginning on.
@@ -58,58 +62,53 @@ fn initialised(random: &mut Random, offset: i16) -> Slot {
 }
 
 /// A block that may have branches, and which helpers it calls whichever it takes.
-fn block(alloc: Global, random: &mut Random, code: &mut Vec<u8>) -> Result<u8, AllocError> {
+fn block(alloc: Global, random: &mut Random, code: &mut Vec<u8>) -> u8 {
     if random.below(3) > 0 {
         return straight(random, code);
     }
-    let mut body = some_blocks(alloc, random)?;
+    let mut body = some_blocks(alloc, random);
     if random.below(2) == 0 {
-        let inner = some_blocks(alloc, random)?;
-        branch(alloc, random, &mut body, &inner)?;
+        let inner = some_blocks(alloc, random);
+        branch(alloc, random, &mut body, &inner);
     }
-    branch(alloc, random, code, &body)?;
-    Ok(0)
+    branch(alloc, random, code, &body);
+    0
 }
 
 /// A condition that jumps over this body to another.
-fn branch(
-    alloc: Global,
-    random: &mut Random,
-    code: &mut Vec<u8>,
-    body: &[u8],
-) -> Result<(), AllocError> {
-    let other = some_blocks(alloc, random)?;
+fn branch(alloc: Global, random: &mut Random, code: &mut Vec<u8>, body: &[u8]) {
+    let other = some_blocks(alloc, random);
     let first = condition(random, distance(body).saturating_add(1));
-    code.extend_from_slice(&first)?;
-    code.extend_from_slice(body)?;
-    code.extend_from_slice(&jump(random, distance(&other)))?;
-    code.extend_from_slice(&other)
+    append(code, &[first]);
+    let _ = code.extend_from_slice(body);
+    append(code, &[jump(random, distance(&other))]);
+    let _ = code.extend_from_slice(&other);
 }
 
 /// One to three blocks with no branch.
-fn some_blocks(alloc: Global, random: &mut Random) -> Result<Vec<u8>, AllocError> {
+fn some_blocks(alloc: Global, random: &mut Random) -> Vec<u8> {
     let mut code = Vec::new(alloc);
     for _ in 0..random.below(3).saturating_add(1) {
-        straight(random, &mut code)?;
+        straight(random, &mut code);
     }
-    Ok(code)
+    code
 }
 
 /// A block with no branch, and which helper it calls.
-fn straight(random: &mut Random, code: &mut Vec<u8>) -> Result<u8, AllocError> {
+fn straight(random: &mut Random, code: &mut Vec<u8>) -> u8 {
     let kind = random.below(16);
     if kind < 5 {
         return call(random, code);
     }
     match kind {
-        5..=8 => append(code, &[arithmetic(random)])?,
-        9 => append(code, &[conversion(random)])?,
-        10 => append(code, &wide_load(random))?,
-        11 | 12 => append(code, &[near_access(random)])?,
-        13 => append(code, &[near_load(random)])?,
-        _ => append(code, &indexed(random))?,
+        5..=8 => append(code, &[arithmetic(random)]),
+        9 => append(code, &[conversion(random)]),
+        10 => append(code, &wide_load(random)),
+        11 | 12 => append(code, &[near_access(random)]),
+        13 => append(code, &[near_load(random)]),
+        _ => append(code, &indexed(random)),
     }
-    Ok(0)
+    0
 }
 
 /// An access to the stack at an offset.

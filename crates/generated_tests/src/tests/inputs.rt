@@ -14,37 +14,36 @@ pub(super) struct Call {
 }
 
 pub(super) fn random_call(alloc: Global, random: &mut Random) -> Result<Call, AllocError> {
-    let program = random_program(alloc, random)?;
-    let arguments = random_arguments(alloc, random)?;
-    let rows = random_rows(alloc, random)?;
     Ok(Call {
-        program,
-        arguments,
-        rows,
+        program: random_program(alloc, random),
+        arguments: random_arguments(alloc, random),
+        rows: random_rows(alloc, random)?,
     })
 }
 
-/// Four words of arguments.
-fn random_arguments(alloc: Global, random: &mut Random) -> Result<Vec<u8>, AllocError> {
+/// Four words of arguments. Where memory is wanting they are fewer, and no call begins.
+fn random_arguments(alloc: Global, random: &mut Random) -> Vec<u8> {
     let mut arguments = Vec::new(alloc);
     for _ in 0..4 {
-        arguments.extend_from_slice(&random.word().to_le_bytes())?;
+        let _ = arguments.extend_from_slice(&random.word().to_le_bytes());
     }
-    Ok(arguments)
+    arguments
 }
 
-/// Rows of 8 bytes in table 1 and of 2 in table 2, each at some of the keys that programs may ask for.
+/// Up to 15 rows, of which a later one at a key replaces an earlier one.
 fn random_rows(alloc: Global, random: &mut Random) -> Result<Vec<Row>, AllocError> {
     let mut rows = Vec::new(alloc);
-    for key in [0, 1, 2, 3, 4, 5, 6, 7, u64::MAX] {
-        if random.below(2) == 0 {
-            let bytes = Vec::from_slice(alloc, &random.word().to_le_bytes())?;
-            rows.push(Row::new(1, key, bytes))?;
-        }
-        if random.below(2) == 0 {
-            let bytes = Vec::from_slice(alloc, &random.immediate().to_le_bytes()[..2])?;
-            rows.push(Row::new(2, key, bytes))?;
-        }
+    for _ in 0..random.below(16) {
+        rows.push(random_row(alloc, random)?)?;
     }
     Ok(rows)
+}
+
+/// A row of 8 bytes in table 1, or of 2 in table 2, at a key that programs may ask for.
+fn random_row(alloc: Global, random: &mut Random) -> Result<Row, AllocError> {
+    let (table, width) = if random.below(2) == 0 { (1, 8) } else { (2, 2) };
+    let key = random.below(9);
+    let key = if key < 8 { u64::from(key) } else { u64::MAX };
+    let bytes = Vec::from_slice(alloc, &random.word().to_le_bytes()[..width])?;
+    Ok(Row::new(table, key, bytes))
 }

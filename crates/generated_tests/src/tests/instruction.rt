@@ -1,7 +1,6 @@
 //! Instructions from their fields, and single ones that are made from random numbers.
 
 use super::random::Random;
-use std::alloc::AllocError;
 
 /// The eight bytes of an instruction, or of a half of a wide one.
 pub(super) type Slot = [u8; 8];
@@ -49,11 +48,11 @@ pub(super) fn instruction(opcode: u8, dst: u8, src: u8, offset: i16, immediate: 
     ]
 }
 
-pub(super) fn append(code: &mut Vec<u8>, slots: &[Slot]) -> Result<(), AllocError> {
+/// Appends slots. Where memory is wanting the program is cut short, and isn't accepted.
+pub(super) fn append(code: &mut Vec<u8>, slots: &[Slot]) {
     for slot in slots {
-        code.extend_from_slice(slot)?;
+        let _ = code.extend_from_slice(slot);
     }
-    Ok(())
 }
 
 /// The distance of a jump over all of this.

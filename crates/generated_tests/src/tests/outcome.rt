@@ -19,18 +19,7 @@ fn line_of(
     cancel_code: Option<u64>,
     looks: &[Look],
 ) -> Result<String, AllocError> {
-    let mut line = format!(in alloc; "{reply} in {turns}")?;
-    if let Some(code) = cancel_code {
-        write!(line, " cancelled {code}")?;
-    }
-    for look in looks {
-        append_look(&mut line, look)?;
-    }
-    Ok(line)
-}
-
-fn append_look(line: &mut String, look: &Look) -> Result<(), AllocError> {
-    write!(line, " look {}:{}-{}", look.table, look.lo, look.hi)
+    format!(in alloc; "{reply} in {turns} cancelled {cancel_code:?} looks {looks:?} writes")
 }
 
 /// Appends a write: the row's bytes, or none where it is a removal.
@@ -40,10 +29,7 @@ fn append_write(
     key: u64,
     bytes: Option<&[u8]>,
 ) -> Result<(), AllocError> {
-    match bytes {
-        Some(bytes) => write!(line, " put {table}:{key}={bytes:?}"),
-        None => write!(line, " remove {table}:{key}"),
-    }
+    write!(line, " {table}:{key} {bytes:?}")
 }
 
 /// What a call of the machine came to.

@@ -2,7 +2,7 @@
 
 use super::generator::Program;
 use plain_runner::CompletedRun;
-use std::alloc::{AllocError, Global};
+use std::alloc::Global;
 use std::collections::BTreeSet;
 use std::process::Abort;
 
@@ -34,9 +34,13 @@ impl Tally {
     }
 
     /// Adds a program and what came of its run.
-    pub(super) fn add(&mut self, run: &CompletedRun, program: Program) -> Result<(), AllocError> {
+    pub(super) fn add(&mut self, run: &CompletedRun, program: Program) {
         self.add_run(run);
-        self.add_program(program)
+        self.helpers |= program.helpers;
+        for opcode in program.bytes.iter().step_by(8) {
+            let _ = self.opcodes.insert(*opcode);
+        }
+        let _ = self.programs.insert(program.bytes);
     }
 
     fn add_run(&mut self, run: &CompletedRun) {
@@ -47,15 +51,6 @@ impl Tally {
         self.puts = counted(self.puts, has_put);
         self.removals = counted(self.removals, has_removal);
         self.cancels = counted(self.cancels, run.cancel_code().is_some());
-    }
-
-    fn add_program(&mut self, program: Program) -> Result<(), AllocError> {
-        self.helpers |= program.helpers;
-        for opcode in program.bytes.iter().step_by(8) {
-            self.opcodes.insert(*opcode)?;
-        }
-        self.programs.insert(program.bytes)?;
-        Ok(())
     }
 
     /// The programs differ, there was enough of each, every helper was called, and each of the 117 opcodes stands in a
