@@ -44,30 +44,36 @@ impl Tally {
     }
 
     fn add_run(&mut self, run: &CompletedRun) {
-        let writes = run.writes();
-        let has_put = writes.iter().any(|write| write.bytes().is_some());
-        let has_removal = writes.iter().any(|write| write.bytes().is_none());
+        let mut has_put = false;
+        let mut has_removal = false;
+        for write in run.writes() {
+            match write.bytes() {
+                Some(_) => has_put = true,
+                None => has_removal = true,
+            }
+        }
         self.looks = counted(self.looks, !run.looks().is_empty());
         self.puts = counted(self.puts, has_put);
         self.removals = counted(self.removals, has_removal);
         self.cancels = counted(self.cancels, run.cancel_code().is_some());
     }
 
-    /// The programs differ, there was enough of each, every helper was called, and each of the 117 opcodes stands in a
-    /// program, beside the 0 of a wide load's second half.
+    /// The programs differ, each of the 117 opcodes stands in one, beside the 0 of a wide load's second half, and every
+    /// helper is called; enough of them look, put, remove and cancel.
     pub(super) fn assert_enough(&self, rt: &impl Abort) {
-        assert_eq!(rt; self.programs.len(), 2_000);
-        assert_eq!(rt; self.opcodes.len(), 118);
-        assert_eq!(rt; self.helpers, 0b111_1110);
-        assert_many(rt, self.looks, "look");
-        assert_many(rt, self.puts, "put");
-        assert_many(rt, self.removals, "remove");
-        assert_many(rt, self.cancels, "cancel");
+        let counts = [self.looks, self.puts, self.removals, self.cancels];
+        let least = self
+            .looks
+            .min(self.puts)
+            .min(self.removals)
+            .min(self.cancels);
+        assert!(rt;
+            least >= 50,
+            "programs that look, put, remove and cancel: {counts:?}"
+        );
+        let found = (self.programs.len(), self.opcodes.len(), self.helpers);
+        assert_eq!(rt; found, (2_000, 118, 0b111_1110));
     }
-}
-
-fn assert_many(rt: &impl Abort, programs: u32, what: &str) {
-    assert!(rt; programs >= 50, "{programs} programs {what}");
 }
 
 /// A count, and one more where it holds.
