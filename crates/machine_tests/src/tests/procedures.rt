@@ -1,13 +1,14 @@
 //! Whole calls of procedures, and stores that are gone.
 
 use super::{
-    NEVER, TABLES, accepted, args_of, bytes_of, described, described_call, described_run, rows_of,
+    NEVER, accepted, args_of, bytes_of, described, described_call, described_run, rows_of,
 };
-use bpf_code::decode;
+use bpf_verify::Accepted;
 use plain_rows::Row;
-use plain_runner::run_program;
-use schema::Schema;
+use plain_runner::{CompletedRun, run_program};
 use single_site::{SiteFault, complete_call, run_call};
+use std::alloc::Global;
+use std::process::Abort;
 use std::test::Fail;
 
 /// Adds to the row at a key: the arguments are key and amount.
@@ -200,27 +201,59 @@ static CASES: [Case; 18] = [
     },
 ];
 
+/// What the machine does, turn by turn.
+fn line_of_turns(
+    alloc: Global,
+    procedure: &Accepted,
+    args: &[u8],
+    rows: &[Row],
+) -> Result<String, Fail> {
+    described(alloc, run_call(alloc, procedure, args, rows, NEVER)?)
+}
+
+/// What the machine does, to its end, which doesn't say in how many turns.
+fn line_of_call(
+    alloc: Global,
+    procedure: &Accepted,
+    args: &[u8],
+    rows: &[Row],
+    turns: usize,
+) -> Result<String, Fail> {
+    let call = complete_call(alloc, procedure, args, rows)?;
+    described_call(alloc, turns, &call)
+}
+
+/// What the definition says.
+fn plain_run(
+    alloc: Global,
+    procedure: &Accepted,
+    args: &[u8],
+    rows: &[Row],
+) -> Result<CompletedRun, Fail> {
+    let run = run_program(alloc, procedure.code(), procedure.schema(), args, rows)?;
+    Ok(run.ok_or("a run of an accepted program is stuck")?)
+}
+
+/// Asserts that a call comes to its outcome on the machine, both ways, and by the definition.
+fn assert_outcome(rt: &impl Abort, alloc: Global, case: &Case) -> Result<(), Fail> {
+    let args = args_of(alloc, case.args)?;
+    let rows = rows_of(alloc, case.rows)?;
+    let procedure = accepted(alloc, &bytes_of(alloc, case.program)?, args.len())?;
+    let run = plain_run(alloc, &procedure, &args, &rows)?;
+    let turns = line_of_turns(alloc, &procedure, &args, &rows)?;
+    let call = line_of_call(alloc, &procedure, &args, &rows, run.steps())?;
+    let plain = described_run(alloc, &run)?;
+    for line in [&turns, &call, &plain] {
+        assert_eq!(rt; line.as_str(), case.outcome, "{}", case.program);
+    }
+    Ok(())
+}
+
 #[test]
 fn calls_answer_what_their_runs_do(rt: HostRuntime) -> Result<(), Fail> {
     let alloc = rt.alloc();
     for case in &CASES {
-        let program = bytes_of(alloc, case.program)?;
-        let args = args_of(alloc, case.args)?;
-        let rows = rows_of(alloc, case.rows)?;
-        let procedure = accepted(alloc, &program, args.len())?;
-        let found = described(alloc, run_call(alloc, &procedure, &args, &rows, NEVER)?)?;
-        assert_eq!(rt; found.as_str(), case.outcome, "{}", case.program);
-        let code = decode(alloc, &program)?;
-        let schema = Schema::new(alloc, &TABLES)?;
-        let run = run_program(alloc, &code, &schema, &args, &rows)?;
-        let (plain, steps) = match &run {
-            Some(run) => (described_run(alloc, run)?, run.steps()),
-            None => (String::new(alloc), 0),
-        };
-        assert_eq!(rt; plain.as_str(), case.outcome, "{}", case.program);
-        let call = complete_call(alloc, &procedure, &args, &rows)?;
-        let whole = described_call(alloc, steps, &call)?;
-        assert_eq!(rt; whole.as_str(), case.outcome, "{}", case.program);
+        assert_outcome(&rt, alloc, case)?;
     }
     Ok(())
 }
@@ -277,25 +310,32 @@ fn looks_at_a_store_that_is_gone_are_stale(rt: HostRuntime) -> Result<(), Fail> 
     Ok(())
 }
 
+/// Why a put on these arguments, with so many bytes behind them, and rows doesn't begin.
+fn fault_of_put(
+    alloc: Global,
+    words: &[u64],
+    behind: &[u8],
+    rows: &[Row],
+) -> Result<Option<SiteFault>, Fail> {
+    let procedure = accepted(alloc, &bytes_of(alloc, PUT)?, 16)?;
+    let mut args = args_of(alloc, words)?;
+    args.extend_from_slice(behind)?;
+    Ok(run_call(alloc, &procedure, &args, rows, NEVER).err())
+}
+
 /// Arguments that are too few or too many, a row of no table of the schema's, and one of another width.
 #[test]
 fn calls_that_cannot_begin_say_why(rt: HostRuntime) -> Result<(), Fail> {
     let alloc = rt.alloc();
-    let procedure = accepted(alloc, &bytes_of(alloc, PUT)?, 16)?;
-    let args = args_of(alloc, &[7, 2])?;
-    let rows = rows_of(alloc, &[(3, 5, 1)])?;
-    let no_rows = rows_of(alloc, &[])?;
-    let few = args_of(alloc, &[7])?;
-    let short = run_call(alloc, &procedure, &few, &no_rows, NEVER);
-    assert!(rt; short.is_err_and(|fault| fault == SiteFault::ArgsLength));
-    let mut more = args_of(alloc, &[7, 2])?;
-    more.push(0)?;
-    let long = run_call(alloc, &procedure, &more, &no_rows, NEVER);
-    assert!(rt; long.is_err_and(|fault| fault == SiteFault::ArgsLength));
-    let foreign = run_call(alloc, &procedure, &args, &rows, NEVER);
-    assert!(rt; foreign.is_err_and(|fault| fault == SiteFault::ForeignRow));
+    let foreign = rows_of(alloc, &[(3, 5, 1)])?;
     let narrow = [Row::new(1, 5, Vec::from_slice(alloc, &[1; 7])?)];
-    let foreign = run_call(alloc, &procedure, &args, &narrow, NEVER);
-    assert!(rt; foreign.is_err_and(|fault| fault == SiteFault::ForeignRow));
+    let few = fault_of_put(alloc, &[7], &[], &[])?;
+    let many = fault_of_put(alloc, &[7, 2], &[0], &[])?;
+    let other_table = fault_of_put(alloc, &[7, 2], &[], &foreign)?;
+    let other_width = fault_of_put(alloc, &[7, 2], &[], &narrow)?;
+    assert!(rt; few == Some(SiteFault::ArgsLength));
+    assert!(rt; many == Some(SiteFault::ArgsLength));
+    assert!(rt; other_table == Some(SiteFault::ForeignRow));
+    assert!(rt; other_width == Some(SiteFault::ForeignRow));
     Ok(())
 }
