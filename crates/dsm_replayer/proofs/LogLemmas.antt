@@ -12,7 +12,7 @@ use Rattle.bpf_semantics.specs.Run.{Run}
 use Rattle.dsm_model.specs.declared.verdict.Verdict.{Verdict}
 use Rattle.dsm_model.specs.Log.{Setting, Call, Log, IsLogFrom, IsLog, by_number, or_idle, run_of_procedure, run_of_call, CertifiedCall, verdict_after, History, start, if_commits, with_call, history}
 use Rattle.dsm_model.specs.Comparisons.{comparisons_after}
-use Rattle.dsm_replayer.specs.Replay.{Report, IsReportOf, certified_call, reported, report_of_run, report_after}
+use Rattle.dsm_replayer.specs.Replay.{Report, IsReportOf, certified_call, reported, report_of_run, report_after, rows_after_next}
 use Rattle.dsm_replayer.proofs.CertifyLemmas.{length_map}
 
 -- a call without a run has what an idle one has, on whatever rows
@@ -152,19 +152,18 @@ one_more w past reports rows call report after so e f =
     }
 
 -- one call further in the log
-pub next_so_far : (w : Setting) (log : Log) (place : ℕ) (call d : Call) (reports reports_next : List Report) (rows rows_next : List Rows) (report : Report) (after : Rows)
+pub next_so_far : (w : Setting) (log : Log) (place : ℕ) (call d : Call) (reports reports_next : List Report) (rows rows_next : List Rows)
     → IsSoFar w (take place log) reports rows → place < length log → call ≡ get_or log place d
-    → report ≡ report_after w (map certified_call reports) rows call
-    → after ≡ if_commits report.verdict (run_of_call w call (get_or rows (length reports) empty)).effect (get_or rows (length reports) empty)
-    → reports_next ≡ reports ++ report ∷ [] → rows_next ≡ rows ++ after ∷ []
+    → reports_next ≡ reports ++ report_after w (map certified_call reports) rows call ∷ [] → rows_next ≡ rows ++ rows_after_next w reports rows call ∷ []
     → IsSoFar w (take (place + 1) log) reports_next rows_next
-next_so_far w log place call d reports reports_next rows rows_next report after so lt is e f next_is after_is =
+next_so_far w log place call d reports reports_next rows rows_next so lt is next_is after_is =
     let more : place + 1 ≡ suc place = omega arith in
     let longer : take (place + 1) log ≡ take place log ++ call ∷ [] = ap (λ (n : ℕ). take n log) more ∙ take-suc log place d lt ∙ (λ i. take place log ++ sym is i ∷ []) in
+    let report : Report = report_after w (map certified_call reports) rows call in
     subst (λ (past : Log). IsSoFar w past reports_next rows_next) (sym longer)
     (subst (λ (rs : List Report). IsSoFar w (take place log ++ call ∷ []) rs rows_next) (sym next_is)
     (subst (λ (m : List Rows). IsSoFar w (take place log ++ call ∷ []) (reports ++ report ∷ []) m) (sym after_is)
-    (one_more w (take place log) reports rows call report after so e f)))
+    (one_more w (take place log) reports rows call report (rows_after_next w reports rows call) so refl refl)))
 
 -- ---- the whole log
 

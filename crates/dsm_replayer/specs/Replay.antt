@@ -1,12 +1,12 @@
 -- What a replay says of a log.
-use Rattle.std.specs.Prelude.{◌≡◌, ℕ, suc, ◌&&◌, if◌then◌else◌, List, [], ◌∷◌, slice_index_or, Option, Some}
+use Rattle.std.specs.Prelude.{◌≡◌, ℕ, suc, ◌&&◌, if◌then◌else◌, List, [], ◌∷◌, length, map, slice_index_or, Option, Some}
 use Rattle.std.specs.FinMap.{empty}
 use Rattle.schema.specs.declared.look.Look.{Look}
 use Rattle.schema.specs.Rows.{Rows, Writes}
 use Rattle.bpf_semantics.specs.Run.{Run}
 use Rattle.row_model.specs.Signature.{shares_bit}
 use Rattle.dsm_model.specs.declared.verdict.Verdict.{Verdict}
-use Rattle.dsm_model.specs.Log.{Setting, Call, Log, or_idle, run_of_call, CertifiedCall, is_commit, verdict_after, verdict_of, run_in}
+use Rattle.dsm_model.specs.Log.{Setting, Call, Log, or_idle, run_of_call, CertifiedCall, is_commit, verdict_after, if_commits, verdict_of, run_in}
 use Rattle.dsm_model.specs.Comparisons.{comparisons_after, comparisons_of}
 
 -- of a call
@@ -62,3 +62,9 @@ report_of_run w past call r = record {
 -- of the next call, by what became of those before and by the rows at each position so far
 abbrev pub report_after : Setting → List CertifiedCall → List Rows → Call → Report
 report_after w past rows call = report_of_run w past call (run_of_call w call (slice_index_or rows call.snapshot empty))
+
+-- the rows after it: where it commits it runs once more, on the rows now
+abbrev pub rows_after_next : Setting → List Report → List Rows → Call → Rows
+rows_after_next w reports rows call =
+    let now = slice_index_or rows (length reports) empty in
+    if_commits (report_after w (map certified_call reports) rows call).verdict (run_of_call w call now).effect now

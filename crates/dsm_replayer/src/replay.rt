@@ -1,10 +1,10 @@
 //! A log as the definitions say it, call by call.
 
-ghost use Rattle.std.specs.Prelude.{◌≡◌, ◌<◌, ◌^◌, ℕ, length, map, slice_get, slice_index_or, option_map, Some, IfOk};
+ghost use Rattle.std.specs.Prelude.{◌≡◌, ◌<◌, ◌^◌, ℕ, length, map, slice_get, slice_index_or, option_map, Some, [], ◌∷◌, ◌++◌, IfOk, OnOk};
 ghost use Rattle.std.specs.FinMap.{empty, entries};
 ghost use Rattle.plain_rows.specs.Listed.{rows_of};
 ghost use Rattle.dsm_model.specs.Log.{Call, IsLog, by_number, or_idle, run_of_procedure, run_of_call, if_commits, history};
-ghost use Rattle.dsm_replayer.specs.Replay.{Report, IsReportOf, certified_call, report_after};
+ghost use Rattle.dsm_replayer.specs.Replay.{Report, IsReportOf, certified_call, report_after, rows_after_next};
 
 use crate::certify::{comparisons_after, verdict_after};
 use crate::report::{CallReport, looks_of};
@@ -70,13 +70,31 @@ pub fn replay_log<A: Allocator + Copy, B: Allocator, C: Allocator>(
     let mut rows = Vec::new(alloc);
     rows.push(RowList::new(alloc))?;
     for call in log {
-        let report = report_after(alloc, setting, &reports, &rows, call)?;
-        let now = rows_at(&rows, reports.len());
-        let next = rows_after(alloc, setting, call, report.verdict(), now)?;
-        reports.push(report)?;
-        rows.push(next)?;
+        add_call(alloc, setting, call, &mut reports, &mut rows)?;
     }
     Ok(CompletedReplay { reports, rows })
+}
+
+/// Adds what is said of the next call, and the rows after it.
+fn add_call<A: Allocator + Copy, B: Allocator, C: Allocator>(
+    alloc: A,
+    setting: &PlainSetting<B>,
+    call: &PlainCall<C>,
+    reports: &mut Vec<CallReport<A>, A>,
+    rows: &mut Vec<RowList<A>, A>,
+) -> Result<(), AllocError>
+    requires { length reports.old.items < 2 ^ 32 }
+    ensures reports { OnOk result (reports.new.items ≡ reports.old.items
+        ++ report_after setting.now (map certified_call reports.old.items) rows.old.items call.now ∷ []) }
+    ensures rows { OnOk result (rows.new.items ≡ rows.old.items
+        ++ rows_after_next setting.now reports.old.items rows.old.items call.now ∷ []) }
+{
+    let report = report_after(alloc, setting, reports, rows, call)?;
+    let now = rows_at(rows, reports.len());
+    let next = rows_after(alloc, setting, call, report.verdict(), now)?;
+    reports.push(report)?;
+    rows.push(next)?;
+    Ok(())
 }
 
 /// The run of a call on rows.
