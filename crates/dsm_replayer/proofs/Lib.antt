@@ -1,0 +1,4 @@
+pub mod RowLemmas
+pub mod BitLemmas
+pub mod CertifyLemmas
+pub mod LogLemmas
