@@ -3,7 +3,7 @@
 ghost use Rattle.std.specs.Prelude.{◌≡◌, ◌==◌, List, ◌+◌, ◌<◌, ◌≤◌, ◌++◌, [], ◌∷◌, length, drop, slice_get, if◌then◌else◌, OnOk, IfSome, option_map, is_some, is_ok, slice_index_or, slice_set, Some, None, IfOk, IfErr, ◌≢◌, ℕ};
 ghost use Rattle.std.specs.Option.{option_copied, IsSomeAnd};
 ghost use Rattle.row_chain.specs.Version.{row_up_to, needed_versions, HasRoom};
-ghost use Rattle.key_table.specs.Table.{Slot, IsReserved, IsPushed, IsPruned, Table, AreRising, below, chain_at, versions_at, HasRoomAt, rows_between, AreFrom};
+ghost use Rattle.key_table.specs.Table.{Slot, IsReserved, IsPushed, IsPruned, Table, AreRising, AreWide, below, chain_at, versions_at, HasRoomAt, rows_between, AreFrom};
 
 use row_chain::Chain;
 use std::alloc::{AllocError, Allocator, Global};
@@ -32,13 +32,13 @@ pub struct KeyTable<A: Allocator = Global> {
 }
 
 impl<A: Allocator> Model for KeyTable<A> {
-    ghost use Rattle.key_table.specs.Table.{Table, AreRising};
+    ghost use Rattle.key_table.specs.Table.{Table, AreRising, AreWide};
 
     ghost Value = { Table };
 
     ghost view = { λ t. record { width = t.width; slots = t.entries.items } };
 
-    ghost invariant = { λ t. AreRising t.entries.items };
+    ghost invariant = { λ t. AreRising t.entries.items × AreWide t.width t.entries.items };
 }
 
 impl<A: Allocator> Entry<A> {
@@ -115,7 +115,12 @@ fn count<A: Allocator>(entries: &[Entry<A>], position: u32, lo: u64, hi: u64) ->
 }
 
 /// The first row up to a key.
-fn first<A: Allocator>(entries: &[Entry<A>], position: u32, lo: u64, hi: u64) -> Option<(u64, &[u8])>
+fn first<A: Allocator>(
+    entries: &[Entry<A>],
+    position: u32,
+    lo: u64,
+    hi: u64,
+) -> Option<(u64, &[u8])>
     requires rising { AreRising entries.now }
     requires from { AreFrom lo entries.now }
     ensures { option_map (λ f. (f.0, f.1.now)) result ≡ slice_get (rows_between position lo hi entries.now) 0 }
@@ -162,9 +167,16 @@ fn find<A: Allocator>(entries: &[Entry<A>], key: u64) -> Result<usize, usize>
 }
 
 /// Makes room for one more version of a key.
-fn reserve<A: Allocator + Copy>(entries: &mut Vec<Entry<A>, A>, alloc: A, width: usize, key: u64) -> Result<(), AllocError>
-    requires { AreRising entries.old.items }
+fn reserve<A: Allocator + Copy>(
+    entries: &mut Vec<Entry<A>, A>,
+    alloc: A,
+    width: usize,
+    key: u64,
+) -> Result<(), AllocError>
+    requires rising { AreRising entries.old.items }
+    requires wide { AreWide width entries.old.items }
     ensures rising { AreRising entries.new.items }
+    ensures wide { AreWide width entries.new.items }
     ensures versions { (q : ℕ) → versions_at entries.new.items q ≡ versions_at entries.old.items q }
     ensures room { OnOk result (HasRoomAt entries.new.items key) }
     ensures more { (q : ℕ) → HasRoomAt entries.old.items q → HasRoomAt entries.new.items q }
@@ -186,6 +198,7 @@ fn push<A: Allocator>(entries: &mut Vec<Entry<A>, A>, key: u64, position: u32, r
     requires room { HasRoomAt entries.old.items key }
     requires width { IfSome row (λ r. IsSomeAnd (chain_at entries.old.items key) (λ k. length r.now ≡ k.width)) }
     ensures rising { AreRising entries.new.items }
+    ensures wide { (w : ℕ) → AreWide w entries.old.items → AreWide w entries.new.items }
     ensures versions { (q : ℕ) → versions_at entries.new.items q ≡ (if key == q
         then versions_at entries.old.items q ++ record { position = position; row = option_copied row.entry } ∷ []
         else versions_at entries.old.items q) }
@@ -287,7 +300,12 @@ fn reserve_at<A: Allocator>(entries: &mut Vec<Entry<A>, A>, at: usize) -> Result
 }
 
 /// One version more at a place.
-fn push_at<A: Allocator>(entries: &mut Vec<Entry<A>, A>, at: usize, position: u32, row: Option<&[u8]>)
+fn push_at<A: Allocator>(
+    entries: &mut Vec<Entry<A>, A>,
+    at: usize,
+    position: u32,
+    row: Option<&[u8]>,
+)
     requires at { at < length entries.old.items }
     requires room { (d : Slot) → HasRoom (slice_index_or entries.old.items at d).chain }
     requires width { (d : Slot) → IfSome row (λ r. length r.now ≡ (slice_index_or entries.old.items at d).chain.width) }
@@ -310,6 +328,7 @@ fn prune_at<A: Allocator>(entries: &mut Vec<Entry<A>, A>, at: usize, horizon: u3
 fn prune_each<A: Allocator>(entries: &mut Vec<Entry<A>, A>, horizon: u32)
     requires { AreRising entries.old.items }
     ensures rising { AreRising entries.new.items }
+    ensures wide { (w : ℕ) → AreWide w entries.old.items → AreWide w entries.new.items }
     ensures versions { (q : ℕ) → versions_at entries.new.items q ≡ needed_versions horizon (versions_at entries.old.items q) }
 {
     let all: &[Entry<A>] = entries;
@@ -335,7 +354,7 @@ impl<A: Allocator> KeyTable<A> {
     /// One version more of a key.
     pub fn push(&mut self, key: u64, position: u32, row: Option<&[u8]>)
         requires room { HasRoomAt self.old.slots key }
-        requires width { IfSome row (λ r. IsSomeAnd (chain_at self.old.slots key) (λ k. length r.now ≡ k.width)) }
+        requires width { IfSome row (λ r. length r.now ≡ self.old.width) }
         ensures versions { (q : ℕ) → versions_at self.new.slots q ≡ (if key == q
             then versions_at self.old.slots q ++ record { position = position; row = option_copied row.entry } ∷ []
             else versions_at self.old.slots q) }
