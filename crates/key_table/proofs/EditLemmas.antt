@@ -53,7 +53,7 @@ above-insert n es x zero h lt = (lt, h)
 above-insert n [] x (suc i) h lt = (lt, tt)
 above-insert n (e ∷ es) x (suc i) h lt = (h.0, above-insert n es x i h.1 lt)
 
-raised : (n m : ℕ) (es : List Slot) → AreAbove n es → m ≤ n → AreAbove m es
+pub raised : (n m : ℕ) (es : List Slot) → AreAbove n es → m ≤ n → AreAbove m es
 raised n m [] h le = tt
 raised n m (y ∷ es) h le = let lt : n < y.key = h.0 in (omega arith, raised n m es h.1 le)
 

@@ -43,7 +43,7 @@ below_ge k (e ∷ es) (suc i) d up lt high = below_cases k e es (λ n. n ≤ suc
 
 -- ---- the chain of a key
 
-none_above : (n k : ℕ) (es : List Slot) → AreAbove n es → k ≤ n → chain_at es k ≡ None
+pub none_above : (n k : ℕ) (es : List Slot) → AreAbove n es → k ≤ n → chain_at es k ≡ None
 none_above n k [] h le = refl
 none_above n k (e ∷ es) h le =
     let lt : n < e.key = h.0 in

@@ -1,9 +1,9 @@
 //! Keys in one sorted vector.
 
-ghost use Rattle.std.specs.Prelude.{◌≡◌, ◌==◌, List, ◌+◌, ◌<◌, ◌≤◌, ◌++◌, [], ◌∷◌, length, drop, slice_get, if◌then◌else◌, OnOk, IfSome, option_map, is_some, is_ok, slice_index_or, slice_set, Some, None, IfOk, IfErr, ◌≢◌, ℕ};
+ghost use Rattle.std.specs.Prelude.{◌≡◌, ◌==◌, List, ◌+◌, ◌<◌, ◌≤◌, ◌++◌, [], ◌∷◌, length, drop, filter, slice_get, if◌then◌else◌, OnOk, IfSome, option_map, is_some, is_ok, slice_index_or, slice_set, Some, None, IsSome, IfOk, IfErr, ◌≢◌, ℕ};
 ghost use Rattle.std.specs.Option.{option_copied, IsSomeAnd};
 ghost use Rattle.row_chain.specs.Version.{row_up_to, needed_versions, HasRoom};
-ghost use Rattle.key_table.specs.Table.{Slot, IsReserved, IsPushed, IsPruned, Table, AreRising, AreWide, below, chain_at, versions_at, HasRoomAt, rows_between, AreFrom};
+ghost use Rattle.key_table.specs.Table.{Slot, IsReserved, IsPushed, IsPruned, Table, AreRising, AreWide, below, chain_at, versions_at, HasRoomAt, rows_between, AreFrom, has_versions};
 
 use row_chain::Chain;
 use std::alloc::{AllocError, Allocator, Global};
@@ -52,6 +52,12 @@ impl<A: Allocator> Entry<A> {
         ensures { option_copied result ≡ row_up_to position self.now.chain.versions }
     {
         self.chain.at(position)
+    }
+
+    fn is_empty(&self) -> bool
+        ensures { result ≡ (length self.now.chain.versions == 0) }
+    {
+        self.chain.is_empty()
     }
 
     fn shows(&self, position: u32) -> bool
@@ -338,6 +344,25 @@ fn prune_each<A: Allocator>(entries: &mut Vec<Entry<A>, A>, horizon: u32)
     }
 }
 
+/// Drops the keys without versions.
+fn drop_empty<A: Allocator>(entries: &mut Vec<Entry<A>, A>)
+    ensures { entries.new.items ≡ filter has_versions entries.old.items }
+{
+    entries.retain(|entry| !entry.is_empty());
+}
+
+/// Drops what no position from the horizon on sees, and the keys of which nothing is left.
+fn prune<A: Allocator>(entries: &mut Vec<Entry<A>, A>, horizon: u32)
+    requires { AreRising entries.old.items }
+    ensures rising { AreRising entries.new.items }
+    ensures wide { (w : ℕ) → AreWide w entries.old.items → AreWide w entries.new.items }
+    ensures versions { (q : ℕ) → versions_at entries.new.items q ≡ needed_versions horizon (versions_at entries.old.items q) }
+    ensures kept { (q : ℕ) → IsSome (chain_at entries.new.items q) → versions_at entries.new.items q ≢ [] }
+{
+    prune_each(entries, horizon);
+    drop_empty(entries);
+}
+
 impl<A: Allocator + Copy> KeyTable<A> {
     /// Makes room for one more version of a key. After want of memory each key has the versions it had.
     pub fn reserve(&mut self, alloc: A, key: u64) -> Result<(), AllocError>
@@ -364,11 +389,12 @@ impl<A: Allocator> KeyTable<A> {
         push(&mut self.entries, key, position, row);
     }
 
-    /// Drops from each key the versions that no position from the horizon on sees.
+    /// Drops from each key the versions that no position from the horizon on sees, and the keys of which none is left.
     pub fn prune(&mut self, horizon: u32)
         ensures versions { (q : ℕ) → versions_at self.new.slots q ≡ needed_versions horizon (versions_at self.old.slots q) }
+        ensures kept { (q : ℕ) → IsSome (chain_at self.new.slots q) → versions_at self.new.slots q ≢ [] }
         ensures width { self.new.width ≡ self.old.width }
     {
-        prune_each(&mut self.entries, horizon);
+        prune(&mut self.entries, horizon);
     }
 }
