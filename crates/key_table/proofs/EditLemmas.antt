@@ -1,11 +1,11 @@
 -- Slots in order after one is changed, and after one more.
-use Rattle.std.proofs.Common.{◌≡◌, ℕ, zero, suc, ◌+◌, ◌≤◌, ◌<◌, nat_lt, eqb, Bool, true, false, cond, List, [], ◌∷◌, ◌++◌, length, drop, take, set, get_or, refl, sym, ap, subst, ◌∙◌, arith}
-use Rattle.std.specs.Prelude.{◌≢◌, Option, Some, None, Result, Ok, Err, is_ok, OnOk}
+use Rattle.std.proofs.Common.{◌≡◌, ℕ, zero, suc, ◌≤◌, ◌<◌, eqb, Bool, true, false, cond, List, [], ◌∷◌, ◌++◌, length, set, get_or, refl, sym, ap, subst, ◌∙◌, arith}
+use Rattle.std.specs.Prelude.{◌≢◌, Option, Some, None, Result, Ok, Err, is_ok, OnOk, IfSome}
 use Rattle.std.specs.List.{insert}
 use Rattle.std.specs.Option.{IsSomeAnd}
-use Rattle.std.proofs.lemmas.Bool.{ltb-true, ltb-false, eq-eqb, ne_eqb, eqb-true, eqb-false}
-use Rattle.row_chain.specs.Version.{Version, ChainState, HasRoom, needed_versions}
-use Rattle.key_table.specs.Table.{Slot, AreAbove, AreRising, below, chain_at, versions_in, versions_at, HasRoomAt}
+use Rattle.std.proofs.lemmas.Bool.{eq-eqb, ne_eqb, eqb-true}
+use Rattle.row_chain.specs.Version.{Version, ChainState, HasRoom}
+use Rattle.key_table.specs.Table.{Slot, AreAbove, AreRising, AreWide, below, chain_at, versions_in, versions_at, HasRoomAt}
 use Rattle.key_table.proofs.TableLemmas.{below_cases, above_at}
 
 -- two tests that don't both pass may be made in either order
@@ -53,7 +53,7 @@ above-insert n es x zero h lt = (lt, h)
 above-insert n [] x (suc i) h lt = (lt, tt)
 above-insert n (e ∷ es) x (suc i) h lt = (h.0, above-insert n es x i h.1 lt)
 
-raised : (n m : ℕ) (es : List Slot) → AreAbove n es → m ≤ n → AreAbove m es
+pub raised : (n m : ℕ) (es : List Slot) → AreAbove n es → m ≤ n → AreAbove m es
 raised n m [] h le = tt
 raised n m (y ∷ es) h le = let lt : n < y.key = h.0 in (omega arith, raised n m es h.1 le)
 
@@ -68,6 +68,37 @@ rising-insert (e ∷ es) x up none =
     below_cases x.key e es (λ n. AreRising (insert (e ∷ es) n x))
     (λ low. (above-insert e.key es x (below x.key es) up.0 low, rising-insert es x up.1 later))
     (λ high. let gt : x.key < e.key = omega arith in ((gt, raised e.key x.key es up.0 (omega arith)), up))
+
+-- ---- the widths
+
+pub wide-get : (w : ℕ) (es : List Slot) (i : ℕ) (d : Slot) → AreWide w es → i < length es → (get_or es i d).chain.width ≡ w
+wide-get w [] i d h lt = absurd (omega arith)
+wide-get w (e ∷ es) zero d h lt = h.0
+wide-get w (e ∷ es) (suc i) d h lt = wide-get w es i d h.1 (omega arith)
+
+wide-set : (w : ℕ) (es : List Slot) (i : ℕ) (x : Slot) → AreWide w es → x.chain.width ≡ w → AreWide w (set es i x)
+wide-set w [] i x h is = tt
+wide-set w (e ∷ es) zero x h is = (is, h.1)
+wide-set w (e ∷ es) (suc i) x h is = (h.0, wide-set w es i x h.1 is)
+
+wide-insert : (w : ℕ) (es : List Slot) (i : ℕ) (x : Slot) → AreWide w es → x.chain.width ≡ w → AreWide w (insert es i x)
+wide-insert w es zero x h is = (is, h)
+wide-insert w [] (suc i) x h is = (is, tt)
+wide-insert w (e ∷ es) (suc i) x h is = (h.0, wide-insert w es i x h.1 is)
+
+-- the chain of a key that has one
+pub wide-chain : (w n k : ℕ) (es : List Slot) → AreWide w es → n ≡ w → HasRoomAt es k → IsSomeAnd (chain_at es k) (λ c. n ≡ c.width)
+wide-chain w n k [] h is room = room
+wide-chain w n k (e ∷ es) h is room =
+    (elim (eqb e.key k) as (λ (t : Bool). IsSomeAnd (cond t (Some e.chain) (chain_at es k)) HasRoom → IsSomeAnd (cond t (Some e.chain) (chain_at es k)) (λ c. n ≡ c.width)) [
+      | true ↦ λ r. is ∙ sym h.0
+      | false ↦ λ r. wide-chain w n k es h.1 is r
+    ]) room
+
+-- a row of the table's width has the width of its key's chain
+pub wide_row : {R : Type 0} (row : Option R) (n : R → ℕ) (w v k : ℕ) (es : List Slot) → AreWide w es → w ≡ v → HasRoomAt es k → IfSome row (λ r. n r ≡ v) → IfSome row (λ r. IsSomeAnd (chain_at es k) (λ c. n r ≡ c.width))
+wide_row None n w v k es h same room is = tt
+wide_row (Some r) n w v k es h same room is = wide-chain w (n r) k es h (is ∙ sym same) room
 
 -- ---- what a change of one chain leaves at each key
 
@@ -89,10 +120,10 @@ room_here es new k chain is room = subst (λ (o : Option ChainState). IsSomeAnd 
 pub room_kept : (es new : List Slot) (k : ℕ) (chain : ChainState) (q : ℕ) → chain_at new q ≡ cond (eqb k q) (Some chain) (chain_at es q) → (HasRoomAt es k → HasRoom chain) → HasRoomAt es q → HasRoomAt new q
 room_kept es new k chain q is more room =
     subst (λ (o : Option ChainState). IsSomeAnd o HasRoom) (sym is) (
-      elim (eqb k q) as (λ (t : Bool). eqb k q ≡ t → IsSomeAnd (cond t (Some chain) (chain_at es q)) HasRoom) [
-        | true ↦ λ e. more (subst (HasRoomAt es) (sym (eqb-true k q e)) room)
-        | false ↦ λ e. room
-      ] refl)
+    elim (eqb k q) as (λ (t : Bool). eqb k q ≡ t → IsSomeAnd (cond t (Some chain) (chain_at es q)) HasRoom) [
+      | true ↦ λ e. more (subst (HasRoomAt es) (sym (eqb-true k q e)) room)
+      | false ↦ λ e. room
+    ] refl)
 
 pub room_other : (es new : List Slot) (k : ℕ) (chain : ChainState) (q : ℕ) → chain_at new q ≡ cond (eqb k q) (Some chain) (chain_at es q) → k ≢ q → HasRoomAt es q → HasRoomAt new q
 room_other es new k chain q is ne room = subst (λ (o : Option ChainState). IsSomeAnd o HasRoom) (sym (is ∙ ap (λ (t : Bool). cond t (Some chain) (chain_at es q)) (ne_eqb k q ne))) room
@@ -126,6 +157,12 @@ is_inserted es new at k x up none place same is =
       rising = subst AreRising (sym here) (rising-insert es x up (ap (chain_at es) same ∙ none));
       chains = λ q. ap (λ (l : List Slot). chain_at l q) here ∙ chain-insert es x q ∙ ap (λ (j : ℕ). cond (eqb j q) (Some x.chain) (chain_at es q)) same;
     }
+
+pub wide_changed : (w : ℕ) (es new : List Slot) (at k : ℕ) (x : Slot) → AreWide w es → StandsAt es at k → x.chain.width ≡ (get_or es at nil).chain.width → new ≡ set es at x → AreWide w new
+wide_changed w es new at k x h stands same is = subst (AreWide w) (sym is) (wide-set w es at x h (same ∙ wide-get w es at nil h stands.within))
+
+pub wide_inserted : (w : ℕ) (es new : List Slot) (at : ℕ) (x : Slot) → AreWide w es → x.chain.width ≡ w → new ≡ insert es at x → AreWide w new
+wide_inserted w es new at x h same is = subst (AreWide w) (sym is) (wide-insert w es at x h same)
 
 pub versions_pushed : (es new : List Slot) (k : ℕ) (x : Slot) (chain : ChainState) (v : Version) (q : ℕ) → IsChanged es new k x → chain_at es k ≡ Some chain → x.chain.versions ≡ chain.versions ++ v ∷ [] → versions_at new q ≡ cond (eqb k q) (versions_at es q ++ v ∷ []) (versions_at es q)
 versions_pushed es new k x chain v q is at pushed =

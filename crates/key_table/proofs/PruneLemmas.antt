@@ -1,8 +1,8 @@
 -- Slots needed_versions one after another.
-use Rattle.std.proofs.Common.{◌≡◌, ℕ, zero, suc, ◌+◌, ◌≤◌, ◌<◌, eqb, Bool, true, false, cond, List, [], ◌∷◌, length, set, get_or, refl, sym, ap, subst, ◌∙◌, arith}
-use Rattle.std.specs.Prelude.{Option, Some, None}
-use Rattle.row_chain.specs.Version.{Version, ChainState, needed_versions}
-use Rattle.key_table.specs.Table.{Slot, AreAbove, AreRising, chain_at, versions_in, versions_at, IsPruned, ArePruned}
+use Rattle.std.proofs.Common.{◌≡◌, ℕ, zero, suc, ◌≤◌, ◌<◌, eqb, Bool, true, false, cond, List, [], ◌∷◌, length, set, get_or, refl, sym, ap, subst, ◌∙◌, arith}
+use Rattle.std.specs.Prelude.{Some}
+use Rattle.row_chain.specs.Version.{needed_versions}
+use Rattle.key_table.specs.Table.{Slot, AreAbove, AreRising, AreWide, chain_at, versions_in, versions_at, IsPruned, ArePruned}
 use Rattle.key_table.proofs.EditLemmas.{nil}
 
 pub none_pruned : (horizon : ℕ) (es : List Slot) → ArePruned horizon 0 es es
@@ -48,6 +48,16 @@ rising_pruned horizon zero (e ∷ es) [] h le a = absurd h
 rising_pruned horizon (suc n) (e ∷ es) [] h le a = absurd h
 rising_pruned horizon zero (e ∷ es) (x ∷ ns) h le a = absurd (omega arith)
 rising_pruned horizon (suc n) (e ∷ es) (x ∷ ns) h le a = (subst (λ (j : ℕ). AreAbove j ns) (sym h.0.key) (above_pruned horizon n e.key es ns h.1 (omega arith) a.0), rising_pruned horizon n es ns h.1 (omega arith) a.1)
+
+pub wide_pruned : (horizon n w : ℕ) (es ns : List Slot) → ArePruned horizon n es ns → AreWide w es → AreWide w ns
+wide_pruned horizon zero w [] [] h a = tt
+wide_pruned horizon (suc n) w [] [] h a = tt
+wide_pruned horizon zero w [] (x ∷ ns) h a = absurd h
+wide_pruned horizon (suc n) w [] (x ∷ ns) h a = absurd h
+wide_pruned horizon zero w (e ∷ es) [] h a = absurd h
+wide_pruned horizon (suc n) w (e ∷ es) [] h a = absurd h
+wide_pruned horizon zero w (e ∷ es) (x ∷ ns) h a = (ap (λ (s : Slot). s.chain.width) h.0 ∙ a.0, wide_pruned horizon zero w es ns h.1 a.1)
+wide_pruned horizon (suc n) w (e ∷ es) (x ∷ ns) h a = (h.0.width ∙ a.0, wide_pruned horizon n w es ns h.1 a.1)
 
 pub versions_pruned : (horizon n : ℕ) (es ns : List Slot) (q : ℕ) → ArePruned horizon n es ns → length es ≤ n → versions_at ns q ≡ needed_versions horizon (versions_at es q)
 versions_pruned horizon zero [] [] q h le = refl

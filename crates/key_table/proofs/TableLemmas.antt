@@ -1,11 +1,11 @@
 -- Slots in order: where a key is, and the rows from there on.
-use Rattle.std.proofs.Common.{◌≡◌, ℕ, zero, suc, ◌+◌, ◌-◌, ◌≤◌, ◌<◌, nat_le, nat_lt, eqb, Bool, true, false, cond, ◌&&◌, List, [], ◌∷◌, ◌++◌, length, drop, get_or, refl, sym, ap, subst, ◌∙◌, arith}
-use Rattle.std.specs.Prelude.{◌≢◌, Option, Some, None, is_some, slice_get}
-use Rattle.std.proofs.lemmas.Bool.{lt-ltb, le-ltb, ltb-true, ltb-false, eq-eqb, ne_eqb}
+use Rattle.std.proofs.Common.{◌≡◌, ℕ, zero, suc, ◌+◌, ◌≤◌, ◌<◌, nat_le, nat_lt, Bool, true, false, cond, ◌&&◌, List, [], ◌∷◌, length, drop, get_or, refl, sym, ap, subst, ◌∙◌, arith}
+use Rattle.std.specs.Prelude.{◌≢◌, Option, Some, None, is_some}
+use Rattle.std.proofs.lemmas.Bool.{ltb-true, ltb-false, eq-eqb, ne_eqb}
 use Rattle.std.proofs.lemmas.Bool.Decides.{nat_tests}
-use Rattle.std.proofs.lemmas.List.{drop_more, drop_all}
-use Rattle.row_chain.specs.Version.{Version, ChainState, row_up_to}
-use Rattle.key_table.specs.Table.{Slot, AreAbove, AreRising, AreFrom, below, chain_at, versions_at, with_row, rows_between}
+use Rattle.std.proofs.lemmas.List.{drop_more}
+use Rattle.row_chain.specs.Version.{row_up_to}
+use Rattle.key_table.specs.Table.{Slot, AreAbove, AreRising, AreFrom, below, chain_at, with_row, rows_between}
 
 pub test_true : (m n : ℕ) → m ≤ n → nat_le m n ≡ true
 test_true m n e = grind (arith, nat_tests)
@@ -43,7 +43,7 @@ below_ge k (e ∷ es) (suc i) d up lt high = below_cases k e es (λ n. n ≤ suc
 
 -- ---- the chain of a key
 
-none_above : (n k : ℕ) (es : List Slot) → AreAbove n es → k ≤ n → chain_at es k ≡ None
+pub none_above : (n k : ℕ) (es : List Slot) → AreAbove n es → k ≤ n → chain_at es k ≡ None
 none_above n k [] h le = refl
 none_above n k (e ∷ es) h le =
     let lt : n < e.key = h.0 in

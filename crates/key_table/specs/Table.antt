@@ -1,5 +1,5 @@
 -- The keys of a table in order, each with its versions, and what stands there at a position.
-use Rattle.std.specs.Prelude.{◌≡◌, ℕ, zero, suc, ◌<◌, ◌≤◌, nat_le, nat_lt, Bool, true, false, ◌==◌, ◌&&◌, if◌then◌else◌, List, [], ◌∷◌, ◌++◌, Option, Some, None}
+use Rattle.std.specs.Prelude.{◌≡◌, ℕ, zero, suc, ◌<◌, ◌≤◌, nat_le, nat_lt, Bool, true, ◌==◌, ◌&&◌, not, if◌then◌else◌, List, [], ◌∷◌, ◌++◌, length, Option, Some, None}
 use Rattle.std.specs.Option.{IsSomeAnd}
 use Rattle.row_chain.specs.Version.{Version, ChainState, HasRoom, row_up_to, needed_versions}
 
@@ -17,6 +17,11 @@ AreAbove key (slot ∷ slots) = (key < slot.key) × AreAbove key slots
 abbrev pub AreRising : List Slot → Type 0
 AreRising [] = Unit {0}
 AreRising (slot ∷ slots) = AreAbove slot.key slots × AreRising slots
+
+-- each chain has rows of this width
+abbrev pub AreWide : ℕ → List Slot → Type 0
+AreWide width [] = Unit {0}
+AreWide width (slot ∷ slots) = (slot.chain.width ≡ width) × AreWide width slots
 
 -- how many keys at the front are below this one
 abbrev pub below : ℕ → List Slot → ℕ
@@ -86,3 +91,7 @@ ArePruned horizon n [] [] = Unit {0}
 ArePruned horizon zero (old ∷ olds) (new ∷ news) = (new ≡ old) × ArePruned horizon zero olds news
 ArePruned horizon (suc n) (old ∷ olds) (new ∷ news) = IsPruned horizon old new × ArePruned horizon n olds news
 ArePruned horizon n _ _ = ⊥
+
+-- whether a key has versions
+abbrev pub has_versions : Slot → Bool
+has_versions slot = not (length slot.chain.versions == 0)

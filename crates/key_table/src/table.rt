@@ -1,9 +1,9 @@
 //! Keys in one sorted vector.
 
-ghost use Rattle.std.specs.Prelude.{◌≡◌, ◌==◌, List, ◌+◌, ◌<◌, ◌≤◌, ◌++◌, [], ◌∷◌, length, drop, slice_get, if◌then◌else◌, OnOk, IfSome, option_map, is_some, is_ok, slice_index_or, slice_set, Some, None, IfOk, IfErr, ◌≢◌, ℕ};
+ghost use Rattle.std.specs.Prelude.{◌≡◌, ◌==◌, List, ◌+◌, ◌<◌, ◌≤◌, ◌++◌, [], ◌∷◌, length, drop, filter, slice_get, if◌then◌else◌, OnOk, IfSome, option_map, is_some, is_ok, slice_index_or, slice_set, Some, None, IsSome, IfOk, IfErr, ◌≢◌, ℕ};
 ghost use Rattle.std.specs.Option.{option_copied, IsSomeAnd};
 ghost use Rattle.row_chain.specs.Version.{row_up_to, needed_versions, HasRoom};
-ghost use Rattle.key_table.specs.Table.{Slot, IsReserved, IsPushed, IsPruned, Table, AreRising, below, chain_at, versions_at, HasRoomAt, rows_between, AreFrom};
+ghost use Rattle.key_table.specs.Table.{Slot, IsReserved, IsPushed, IsPruned, Table, AreRising, AreWide, below, chain_at, versions_at, HasRoomAt, rows_between, AreFrom, has_versions};
 
 use row_chain::Chain;
 use std::alloc::{AllocError, Allocator, Global};
@@ -32,13 +32,13 @@ pub struct KeyTable<A: Allocator = Global> {
 }
 
 impl<A: Allocator> Model for KeyTable<A> {
-    ghost use Rattle.key_table.specs.Table.{Table, AreRising};
+    ghost use Rattle.key_table.specs.Table.{Table, AreRising, AreWide};
 
     ghost Value = { Table };
 
     ghost view = { λ t. record { width = t.width; slots = t.entries.items } };
 
-    ghost invariant = { λ t. AreRising t.entries.items };
+    ghost invariant = { λ t. AreRising t.entries.items × AreWide t.width t.entries.items };
 }
 
 impl<A: Allocator> Entry<A> {
@@ -52,6 +52,12 @@ impl<A: Allocator> Entry<A> {
         ensures { option_copied result ≡ row_up_to position self.now.chain.versions }
     {
         self.chain.at(position)
+    }
+
+    fn is_empty(&self) -> bool
+        ensures { result ≡ (length self.now.chain.versions == 0) }
+    {
+        self.chain.is_empty()
     }
 
     fn shows(&self, position: u32) -> bool
@@ -115,7 +121,12 @@ fn count<A: Allocator>(entries: &[Entry<A>], position: u32, lo: u64, hi: u64) ->
 }
 
 /// The first row up to a key.
-fn first<A: Allocator>(entries: &[Entry<A>], position: u32, lo: u64, hi: u64) -> Option<(u64, &[u8])>
+fn first<A: Allocator>(
+    entries: &[Entry<A>],
+    position: u32,
+    lo: u64,
+    hi: u64,
+) -> Option<(u64, &[u8])>
     requires rising { AreRising entries.now }
     requires from { AreFrom lo entries.now }
     ensures { option_map (λ f. (f.0, f.1.now)) result ≡ slice_get (rows_between position lo hi entries.now) 0 }
@@ -162,9 +173,16 @@ fn find<A: Allocator>(entries: &[Entry<A>], key: u64) -> Result<usize, usize>
 }
 
 /// Makes room for one more version of a key.
-fn reserve<A: Allocator + Copy>(entries: &mut Vec<Entry<A>, A>, alloc: A, width: usize, key: u64) -> Result<(), AllocError>
-    requires { AreRising entries.old.items }
+fn reserve<A: Allocator + Copy>(
+    entries: &mut Vec<Entry<A>, A>,
+    alloc: A,
+    width: usize,
+    key: u64,
+) -> Result<(), AllocError>
+    requires rising { AreRising entries.old.items }
+    requires wide { AreWide width entries.old.items }
     ensures rising { AreRising entries.new.items }
+    ensures wide { AreWide width entries.new.items }
     ensures versions { (q : ℕ) → versions_at entries.new.items q ≡ versions_at entries.old.items q }
     ensures room { OnOk result (HasRoomAt entries.new.items key) }
     ensures more { (q : ℕ) → HasRoomAt entries.old.items q → HasRoomAt entries.new.items q }
@@ -186,6 +204,7 @@ fn push<A: Allocator>(entries: &mut Vec<Entry<A>, A>, key: u64, position: u32, r
     requires room { HasRoomAt entries.old.items key }
     requires width { IfSome row (λ r. IsSomeAnd (chain_at entries.old.items key) (λ k. length r.now ≡ k.width)) }
     ensures rising { AreRising entries.new.items }
+    ensures wide { (w : ℕ) → AreWide w entries.old.items → AreWide w entries.new.items }
     ensures versions { (q : ℕ) → versions_at entries.new.items q ≡ (if key == q
         then versions_at entries.old.items q ++ record { position = position; row = option_copied row.entry } ∷ []
         else versions_at entries.old.items q) }
@@ -287,7 +306,12 @@ fn reserve_at<A: Allocator>(entries: &mut Vec<Entry<A>, A>, at: usize) -> Result
 }
 
 /// One version more at a place.
-fn push_at<A: Allocator>(entries: &mut Vec<Entry<A>, A>, at: usize, position: u32, row: Option<&[u8]>)
+fn push_at<A: Allocator>(
+    entries: &mut Vec<Entry<A>, A>,
+    at: usize,
+    position: u32,
+    row: Option<&[u8]>,
+)
     requires at { at < length entries.old.items }
     requires room { (d : Slot) → HasRoom (slice_index_or entries.old.items at d).chain }
     requires width { (d : Slot) → IfSome row (λ r. length r.now ≡ (slice_index_or entries.old.items at d).chain.width) }
@@ -310,6 +334,7 @@ fn prune_at<A: Allocator>(entries: &mut Vec<Entry<A>, A>, at: usize, horizon: u3
 fn prune_each<A: Allocator>(entries: &mut Vec<Entry<A>, A>, horizon: u32)
     requires { AreRising entries.old.items }
     ensures rising { AreRising entries.new.items }
+    ensures wide { (w : ℕ) → AreWide w entries.old.items → AreWide w entries.new.items }
     ensures versions { (q : ℕ) → versions_at entries.new.items q ≡ needed_versions horizon (versions_at entries.old.items q) }
 {
     let all: &[Entry<A>] = entries;
@@ -317,6 +342,25 @@ fn prune_each<A: Allocator>(entries: &mut Vec<Entry<A>, A>, horizon: u32)
     for i in 0..count {
         prune_at(entries, i, horizon);
     }
+}
+
+/// Drops the keys without versions.
+fn drop_empty<A: Allocator>(entries: &mut Vec<Entry<A>, A>)
+    ensures { entries.new.items ≡ filter has_versions entries.old.items }
+{
+    entries.retain(|entry| !entry.is_empty());
+}
+
+/// Drops what no position from the horizon on sees, and the keys of which nothing is left.
+fn prune<A: Allocator>(entries: &mut Vec<Entry<A>, A>, horizon: u32)
+    requires { AreRising entries.old.items }
+    ensures rising { AreRising entries.new.items }
+    ensures wide { (w : ℕ) → AreWide w entries.old.items → AreWide w entries.new.items }
+    ensures versions { (q : ℕ) → versions_at entries.new.items q ≡ needed_versions horizon (versions_at entries.old.items q) }
+    ensures kept { (q : ℕ) → IsSome (chain_at entries.new.items q) → versions_at entries.new.items q ≢ [] }
+{
+    prune_each(entries, horizon);
+    drop_empty(entries);
 }
 
 impl<A: Allocator + Copy> KeyTable<A> {
@@ -335,7 +379,7 @@ impl<A: Allocator> KeyTable<A> {
     /// One version more of a key.
     pub fn push(&mut self, key: u64, position: u32, row: Option<&[u8]>)
         requires room { HasRoomAt self.old.slots key }
-        requires width { IfSome row (λ r. IsSomeAnd (chain_at self.old.slots key) (λ k. length r.now ≡ k.width)) }
+        requires width { IfSome row (λ r. length r.now ≡ self.old.width) }
         ensures versions { (q : ℕ) → versions_at self.new.slots q ≡ (if key == q
             then versions_at self.old.slots q ++ record { position = position; row = option_copied row.entry } ∷ []
             else versions_at self.old.slots q) }
@@ -345,11 +389,12 @@ impl<A: Allocator> KeyTable<A> {
         push(&mut self.entries, key, position, row);
     }
 
-    /// Drops from each key the versions that no position from the horizon on sees.
+    /// Drops from each key the versions that no position from the horizon on sees, and the keys of which none is left.
     pub fn prune(&mut self, horizon: u32)
         ensures versions { (q : ℕ) → versions_at self.new.slots q ≡ needed_versions horizon (versions_at self.old.slots q) }
+        ensures kept { (q : ℕ) → IsSome (chain_at self.new.slots q) → versions_at self.new.slots q ≢ [] }
         ensures width { self.new.width ≡ self.old.width }
     {
-        prune_each(&mut self.entries, horizon);
+        prune(&mut self.entries, horizon);
     }
 }

@@ -1,7 +1,7 @@
-use Rattle.std.proofs.Common.{◌≡◌, ◌≤◌, ◌<◌, ◌+◌, ◌∙◌, ℕ, Bool, true, false, cond, List, length, drop, get_or, subst, sym, ap, arith}
+use Rattle.std.proofs.Common.{◌≡◌, ◌≤◌, ◌<◌, ◌+◌, ◌∙◌, ℕ, Bool, cond, List, length, drop, sym, ap, arith}
 use Rattle.std.specs.Prelude.{is_some}
 use Rattle.row_chain.specs.Version.{row_up_to}
-use Rattle.key_table.specs.Table.{Slot, with_row, rows_between}
+use Rattle.key_table.specs.Table.{rows_between}
 use Rattle.key_table.proofs.TableLemmas.{rows_more, rows_past, length-with_row}
 use Rattle.key_table.proofs.table.count.Goals as goal
 use Rattle.key_table.proofs.table.count.Goals.{then-shows, else-shows}
@@ -18,8 +18,8 @@ loop-entry-preserved g c =
     let le : e.key ≤ c.args.hi = omega (arith, c.key.ensures, c.if-key-hi.false) in
     let rest = rows_between c.args.position c.args.lo c.args.hi (drop (c.loop-entry.entry-index + 1) c.args.entries.now) in
     let more : length (rows_between c.args.position c.args.lo c.args.hi (drop c.loop-entry.entry-index c.args.entries.now)) ≡ cond (is_some (row_up_to c.args.position e.chain.versions)) (length rest + 1) (length rest) =
-      ap (λ (l : List (ℕ × List ℕ)). length l) (rows_more c.args.position c.args.lo c.args.hi c.args.entries.now c.loop-entry.entry-index e c.requires.from (omega arith) c.entry-item.is le)
-      ∙ length-with_row e.key (row_up_to c.args.position e.chain.versions) rest in
+    ap (λ (l : List (ℕ × List ℕ)). length l) (rows_more c.args.position c.args.lo c.args.hi c.args.entries.now c.loop-entry.entry-index e c.requires.from (omega arith) c.entry-item.is le)
+    ∙ length-with_row e.key (row_up_to c.args.position e.chain.versions) rest in
     elim c.if-shows.branch [
       | then-shows w ↦
           let one : cond (is_some (row_up_to c.args.position e.chain.versions)) (length rest + 1) (length rest) ≡ length rest + 1 = ap (λ (b : Bool). cond b (length rest + 1) (length rest)) (sym c.shows.ensures ∙ w.if-shows.true) in

@@ -1,10 +1,8 @@
-use Rattle.std.proofs.Common.{◌≡◌, ◌≤◌, ◌<◌, ◌+◌, ◌∙◌, ℕ, true, List, [], ◌∷◌, length, drop, get_or, subst, sym, ap, arith}
-use Rattle.std.specs.Prelude.{Option, Some, None, slice_get}
-use Rattle.row_chain.specs.Version.{row_up_to}
-use Rattle.key_table.specs.Table.{Slot, with_row, rows_between}
+use Rattle.std.proofs.Common.{◌≤◌, ◌<◌, ◌+◌, ◌∙◌, ℕ, true, List, drop, sym, ap, arith}
+use Rattle.std.specs.Prelude.{Option, Some, slice_get}
+use Rattle.key_table.specs.Table.{with_row, rows_between}
 use Rattle.key_table.proofs.TableLemmas.{rows_more, rows_past}
 use Rattle.key_table.proofs.table.first.Goals as goal
-
 
 pub returns-then-key-hi : goal.returns-then-key-hi
 returns-then-key-hi g c =

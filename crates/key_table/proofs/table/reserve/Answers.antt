@@ -1,9 +1,9 @@
-use Rattle.std.proofs.Common.{◌≡◌, ◌∙◌, ◌<◌, ◌≤◌, refl, ℕ, Bool, true, List, [], length, get_or, subst, sym, ap}
-use Rattle.std.specs.Prelude.{Option, Some, None, is_ok, slice_set}
+use Rattle.std.proofs.Common.{◌≡◌, ◌∙◌, refl, ℕ, Bool, true, List, [], get_or, subst, sym, ap}
+use Rattle.std.specs.Prelude.{None, is_ok, slice_set}
 use Rattle.std.specs.List.{insert}
-use Rattle.row_chain.specs.Version.{ChainState, HasRoom}
+use Rattle.row_chain.specs.Version.{HasRoom}
 use Rattle.key_table.specs.Table.{Slot, AreRising, below, chain_at, versions_in, versions_at, HasRoomAt, IsReserved}
-use Rattle.key_table.proofs.EditLemmas.{nil, StandsAt, IsChanged, is_changed, is_inserted, versions_same, room_here, room_kept, room_at, on_ok}
+use Rattle.key_table.proofs.EditLemmas.{nil, StandsAt, IsChanged, is_changed, is_inserted, wide_changed, wide_inserted, versions_same, room_here, room_kept, room_at, on_ok}
 use Rattle.key_table.proofs.table.reserve.Goals as goal
 
 -- a slot is there and was reserved
@@ -43,40 +43,50 @@ absent es d new at k x up same place none key empty room is =
 pub returns-in-Ok-clause-rising : goal.returns-in-Ok-clause-rising
 returns-in-Ok-clause-rising g c =
     let f = c.in-Ok.ensures.found in let p = c.reserve_at.ensures nil in
-    (there c.args.entries.now.items c.deref.result.now c.reserve_at.new.entries.items c.in-Ok.at c.args.key (is_ok c.reserve_at.result) c.requires c.deref.ensures.value (record { within = f.0; key = (f.1 nil).0; chain = (f.1 nil).1 }) p.0 p.1).rising
+    (there c.args.entries.now.items c.deref.result.now c.reserve_at.new.entries.items c.in-Ok.at c.args.key (is_ok c.reserve_at.result) c.requires.rising c.deref.ensures.value (record { within = f.0; key = (f.1 nil).0; chain = (f.1 nil).1 }) p.0 p.1).rising
+
+pub returns-in-Ok-clause-wide : goal.returns-in-Ok-clause-wide
+returns-in-Ok-clause-wide g c =
+    let f = c.in-Ok.ensures.found in let p = c.reserve_at.ensures nil in
+    let at : StandsAt c.args.entries.now.items c.in-Ok.at c.args.key = subst (λ (l : List Slot). StandsAt l c.in-Ok.at c.args.key) c.deref.ensures.value (record { within = f.0; key = (f.1 nil).0; chain = (f.1 nil).1 }) in
+    wide_changed c.args.width c.args.entries.now.items c.reserve_at.new.entries.items c.in-Ok.at c.args.key (get_or c.reserve_at.new.entries.items c.in-Ok.at nil) c.requires.wide at p.0.width p.1
 
 pub returns-in-Ok-clause-versions : goal.returns-in-Ok-clause-versions
 returns-in-Ok-clause-versions g c =
     let f = c.in-Ok.ensures.found in let p = c.reserve_at.ensures nil in
-    (there c.args.entries.now.items c.deref.result.now c.reserve_at.new.entries.items c.in-Ok.at c.args.key (is_ok c.reserve_at.result) c.requires c.deref.ensures.value (record { within = f.0; key = (f.1 nil).0; chain = (f.1 nil).1 }) p.0 p.1).versions
+    (there c.args.entries.now.items c.deref.result.now c.reserve_at.new.entries.items c.in-Ok.at c.args.key (is_ok c.reserve_at.result) c.requires.rising c.deref.ensures.value (record { within = f.0; key = (f.1 nil).0; chain = (f.1 nil).1 }) p.0 p.1).versions
 
 pub returns-in-Ok-clause-room : goal.returns-in-Ok-clause-room
 returns-in-Ok-clause-room g c =
     let f = c.in-Ok.ensures.found in let p = c.reserve_at.ensures nil in
     on_ok c.reserve_at.result (HasRoomAt c.reserve_at.new.entries.items c.args.key)
-    (there c.args.entries.now.items c.deref.result.now c.reserve_at.new.entries.items c.in-Ok.at c.args.key (is_ok c.reserve_at.result) c.requires c.deref.ensures.value (record { within = f.0; key = (f.1 nil).0; chain = (f.1 nil).1 }) p.0 p.1).room
+    (there c.args.entries.now.items c.deref.result.now c.reserve_at.new.entries.items c.in-Ok.at c.args.key (is_ok c.reserve_at.result) c.requires.rising c.deref.ensures.value (record { within = f.0; key = (f.1 nil).0; chain = (f.1 nil).1 }) p.0 p.1).room
 
 pub returns-in-Ok-clause-more : goal.returns-in-Ok-clause-more
 returns-in-Ok-clause-more g c =
     let f = c.in-Ok.ensures.found in let p = c.reserve_at.ensures nil in
-    (there c.args.entries.now.items c.deref.result.now c.reserve_at.new.entries.items c.in-Ok.at c.args.key (is_ok c.reserve_at.result) c.requires c.deref.ensures.value (record { within = f.0; key = (f.1 nil).0; chain = (f.1 nil).1 }) p.0 p.1).more
+    (there c.args.entries.now.items c.deref.result.now c.reserve_at.new.entries.items c.in-Ok.at c.args.key (is_ok c.reserve_at.result) c.requires.rising c.deref.ensures.value (record { within = f.0; key = (f.1 nil).0; chain = (f.1 nil).1 }) p.0 p.1).more
 
 pub returns-in_ok-insert-in-Err-clause-rising : goal.returns-in_ok-insert-in-Err-clause-rising
 returns-in_ok-insert-in-Err-clause-rising g c =
     let f = c.in-Err.ensures.absent in let r = c.in_ok-reserve-in-Err.ensures in
-    (absent c.args.entries.now.items c.deref.result.now c.insert.new.self.items c.in-Err.at c.args.key c.reserve.new.self c.requires c.deref.ensures.value f.0 f.2 (r.key ∙ c.new-entry.ensures.key) (r.versions ∙ c.new-entry.ensures.versions) r.room c.in_ok-insert-in-Err.ensures.items).rising
+    (absent c.args.entries.now.items c.deref.result.now c.insert.new.self.items c.in-Err.at c.args.key c.reserve.new.self c.requires.rising c.deref.ensures.value f.0 f.2 (r.key ∙ c.new-entry.ensures.key) (r.versions ∙ c.new-entry.ensures.versions) r.room c.in_ok-insert-in-Err.ensures.items).rising
+
+pub returns-in_ok-insert-in-Err-clause-wide : goal.returns-in_ok-insert-in-Err-clause-wide
+returns-in_ok-insert-in-Err-clause-wide g c =
+    wide_inserted c.args.width c.args.entries.now.items c.insert.new.self.items c.in-Err.at c.reserve.new.self c.requires.wide (c.in_ok-reserve-in-Err.ensures.width ∙ c.new-entry.ensures.width) c.in_ok-insert-in-Err.ensures.items
 
 pub returns-in_ok-insert-in-Err-clause-versions : goal.returns-in_ok-insert-in-Err-clause-versions
 returns-in_ok-insert-in-Err-clause-versions g c =
     let f = c.in-Err.ensures.absent in let r = c.in_ok-reserve-in-Err.ensures in
-    (absent c.args.entries.now.items c.deref.result.now c.insert.new.self.items c.in-Err.at c.args.key c.reserve.new.self c.requires c.deref.ensures.value f.0 f.2 (r.key ∙ c.new-entry.ensures.key) (r.versions ∙ c.new-entry.ensures.versions) r.room c.in_ok-insert-in-Err.ensures.items).versions
+    (absent c.args.entries.now.items c.deref.result.now c.insert.new.self.items c.in-Err.at c.args.key c.reserve.new.self c.requires.rising c.deref.ensures.value f.0 f.2 (r.key ∙ c.new-entry.ensures.key) (r.versions ∙ c.new-entry.ensures.versions) r.room c.in_ok-insert-in-Err.ensures.items).versions
 
 pub returns-in_ok-insert-in-Err-clause-room : goal.returns-in_ok-insert-in-Err-clause-room
 returns-in_ok-insert-in-Err-clause-room g c =
     let f = c.in-Err.ensures.absent in let r = c.in_ok-reserve-in-Err.ensures in
-    (absent c.args.entries.now.items c.deref.result.now c.insert.new.self.items c.in-Err.at c.args.key c.reserve.new.self c.requires c.deref.ensures.value f.0 f.2 (r.key ∙ c.new-entry.ensures.key) (r.versions ∙ c.new-entry.ensures.versions) r.room c.in_ok-insert-in-Err.ensures.items).room refl
+    (absent c.args.entries.now.items c.deref.result.now c.insert.new.self.items c.in-Err.at c.args.key c.reserve.new.self c.requires.rising c.deref.ensures.value f.0 f.2 (r.key ∙ c.new-entry.ensures.key) (r.versions ∙ c.new-entry.ensures.versions) r.room c.in_ok-insert-in-Err.ensures.items).room refl
 
 pub returns-in_ok-insert-in-Err-clause-more : goal.returns-in_ok-insert-in-Err-clause-more
 returns-in_ok-insert-in-Err-clause-more g c =
     let f = c.in-Err.ensures.absent in let r = c.in_ok-reserve-in-Err.ensures in
-    (absent c.args.entries.now.items c.deref.result.now c.insert.new.self.items c.in-Err.at c.args.key c.reserve.new.self c.requires c.deref.ensures.value f.0 f.2 (r.key ∙ c.new-entry.ensures.key) (r.versions ∙ c.new-entry.ensures.versions) r.room c.in_ok-insert-in-Err.ensures.items).more
+    (absent c.args.entries.now.items c.deref.result.now c.insert.new.self.items c.in-Err.at c.args.key c.reserve.new.self c.requires.rising c.deref.ensures.value f.0 f.2 (r.key ∙ c.new-entry.ensures.key) (r.versions ∙ c.new-entry.ensures.versions) r.room c.in_ok-insert-in-Err.ensures.items).more

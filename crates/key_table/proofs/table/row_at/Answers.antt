@@ -1,7 +1,7 @@
-use Rattle.std.proofs.Common.{◌≡◌, ◌≤◌, ◌<◌, ◌∙◌, ℕ, List, length, get_or, subst, sym, ap, arith}
-use Rattle.std.specs.Prelude.{◌≢◌, Option, Some, None}
+use Rattle.std.proofs.Common.{◌≡◌, ◌<◌, ◌∙◌, ℕ, List, length, get_or, sym, ap, arith}
+use Rattle.std.specs.Prelude.{◌≢◌, Option}
 use Rattle.row_chain.specs.Version.{ChainState, row_up_to}
-use Rattle.key_table.specs.Table.{Slot, below, chain_at, versions_in, versions_at}
+use Rattle.key_table.specs.Table.{Slot, below, versions_in}
 use Rattle.key_table.proofs.TableLemmas.{chain_here, chain_other, chain_past}
 use Rattle.key_table.proofs.table.row_at.Goals as goal
 
