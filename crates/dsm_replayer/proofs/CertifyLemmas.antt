@@ -7,7 +7,8 @@ use Rattle.schema.specs.declared.look.Look.{Look}
 use Rattle.dsm_model.specs.declared.verdict.Verdict.TheVariants.{Stale}
 use Rattle.dsm_model.specs.Log.{CertifiedCall, Call, conflicts, first_conflict, unless_conflict, verdict_after}
 use Rattle.dsm_model.specs.Comparisons.{comparisons_from, comparisons_after}
-use Rattle.dsm_replayer.specs.Replay.{Report, certified_call, compared}
+use Rattle.plain_log.specs.Report.{Report}
+use Rattle.dsm_replayer.specs.Replay.{certified_call, comparison_at}
 
 pub drop_min : {A : Type 0} (n : ℕ) (xs : List A) → drop (min n (length xs)) xs ≡ drop n xs
 drop_min n xs = elim (cases_lt n (length xs)) [
@@ -42,13 +43,13 @@ no_conflict looks position reports i past = ap (λ (l : List Report). first_conf
 
 -- ---- the comparisons up to it
 
-pub compared_last : (looks : List Look) (position : ℕ) (c : CertifiedCall) (later : List CertifiedCall) → conflicts looks c ≡ true → comparisons_from looks position (c ∷ later) ≡ compared looks position c ++ []
+pub compared_last : (looks : List Look) (position : ℕ) (c : CertifiedCall) (later : List CertifiedCall) → conflicts looks c ≡ true → comparisons_from looks position (c ∷ later) ≡ comparison_at looks position c ++ []
 unfolding comparisons_from
-compared_last looks position c later is = ap (λ b. compared looks position c ++ cond b [] (comparisons_from looks (position + 1) later)) is
+compared_last looks position c later is = ap (λ b. comparison_at looks position c ++ cond b [] (comparisons_from looks (position + 1) later)) is
 
-pub compared_on : (looks : List Look) (position : ℕ) (c : CertifiedCall) (later : List CertifiedCall) → conflicts looks c ≡ false → comparisons_from looks position (c ∷ later) ≡ compared looks position c ++ comparisons_from looks (position + 1) later
+pub compared_on : (looks : List Look) (position : ℕ) (c : CertifiedCall) (later : List CertifiedCall) → conflicts looks c ≡ false → comparisons_from looks position (c ∷ later) ≡ comparison_at looks position c ++ comparisons_from looks (position + 1) later
 unfolding comparisons_from
-compared_on looks position c later is = ap (λ b. compared looks position c ++ cond b [] (comparisons_from looks (position + 1) later)) is
+compared_on looks position c later is = ap (λ b. comparison_at looks position c ++ cond b [] (comparisons_from looks (position + 1) later)) is
 
 pub none_compared : (looks : List Look) (position : ℕ) (reports : List Report) (i : ℕ) → length reports ≤ i → comparisons_from looks position (map certified_call (drop i reports)) ≡ []
 unfolding comparisons_from

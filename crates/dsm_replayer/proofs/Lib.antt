@@ -1,4 +1,3 @@
-pub mod RowLemmas
 pub mod BitLemmas
 pub mod CertifyLemmas
 pub mod LogLemmas

@@ -12,13 +12,14 @@ use Rattle.bpf_semantics.specs.Run.{Run}
 use Rattle.dsm_model.specs.declared.verdict.Verdict.{Verdict}
 use Rattle.dsm_model.specs.Log.{Setting, Call, Log, IsLogFrom, IsLog, by_number, or_idle, run_of_procedure, run_of_call, CertifiedCall, verdict_after, History, start, if_commits, with_call, history}
 use Rattle.dsm_model.specs.Comparisons.{comparisons_after}
-use Rattle.dsm_replayer.specs.Replay.{Report, IsReportOf, certified_call, reported, report_of_run, report_after, rows_after_next}
+use Rattle.plain_log.specs.Report.{Report, report_by_run}
+use Rattle.dsm_replayer.specs.Replay.{IsReportOf, certified_call, report_of_run, report_after, rows_after_next}
 use Rattle.dsm_replayer.proofs.CertifyLemmas.{length_map}
 
 -- a call without a run has what an idle one has, on whatever rows
 reported_run : (w : Setting) (past : List CertifiedCall) (call : Call) (rows : Rows) (run : Option Run) (verdict : Verdict) (comparisons : List ℕ)
     → verdict ≡ (report_of_run w past call (or_idle rows run)).verdict → comparisons ≡ (report_of_run w past call (or_idle rows run)).comparisons
-    → reported run verdict comparisons ≡ report_of_run w past call (or_idle rows run)
+    → report_by_run run verdict comparisons ≡ report_of_run w past call (or_idle rows run)
 reported_run w past call rows None v cs e f = λ i. record { reply = 0; looks = []; writes = empty; verdict = e i; comparisons = f i }
 reported_run w past call rows (Some r) v cs e f = λ i. record { reply = r.reply; looks = r.looks; writes = r.writes; verdict = e i; comparisons = f i }
 
@@ -29,7 +30,7 @@ same_looks rows (Some r) = refl
 pub said_of_run : (w : Setting) (past : List CertifiedCall) (call : Call) (rows : Rows) (run : Option Run) (looks : List Look) (verdict : Verdict) (comparisons : List ℕ)
     → run ≡ run_of_procedure w.tables (by_number w.catalogue call.procedure) call.args rows → looks ≡ (or_idle empty run).looks
     → verdict ≡ verdict_after w.window past call looks → comparisons ≡ comparisons_after w.window past call looks
-    → reported run verdict comparisons ≡ report_of_run w past call (run_of_call w call rows)
+    → report_by_run run verdict comparisons ≡ report_of_run w past call (run_of_call w call rows)
 unfolding run_of_call
 said_of_run w past call rows run looks verdict comparisons is looks_are e f =
     let same : looks ≡ (or_idle rows run).looks = looks_are ∙ same_looks rows run in

@@ -6,16 +6,9 @@ use Rattle.schema.specs.Rows.{Rows, Writes}
 use Rattle.bpf_semantics.specs.Run.{Run}
 use Rattle.row_model.specs.Signature.{shares_bit}
 use Rattle.dsm_model.specs.declared.verdict.Verdict.{Verdict}
+use Rattle.plain_log.specs.Report.{Report, report_by_run}
 use Rattle.dsm_model.specs.Log.{Setting, Call, Log, or_idle, run_of_call, CertifiedCall, is_commit, verdict_after, if_commits, verdict_of, run_in}
 use Rattle.dsm_model.specs.Comparisons.{comparisons_after, comparisons_of}
-
--- of a call
-pub record Report : Type 0 where
-  pub reply : ℕ
-  pub looks : List Look
-  pub writes : Writes
-  pub verdict : Verdict
-  pub comparisons : List ℕ
 
 -- of each call, and the rows before the first and after each
 pub record Replay : Type 0 where
@@ -32,22 +25,12 @@ pub record IsReportOf (w : Setting) (log : Log) (before : ℕ) (call : Call) (re
 
 -- ---- No clause that a caller sees speaks of what follows.
 
--- by a run, where there is one
-abbrev pub reported : Option Run → Verdict → List ℕ → Report
-reported run verdict comparisons = record {
-  reply = (or_idle empty run).reply;
-  looks = (or_idle empty run).looks;
-  writes = (or_idle empty run).writes;
-  verdict = verdict;
-  comparisons = comparisons;
-}
-
 abbrev pub certified_call : Report → CertifiedCall
 certified_call report = record { writes = report.writes; verdict = report.verdict }
 
 -- a comparison with the call at a position, where it is made
-abbrev pub compared : List Look → ℕ → CertifiedCall → List ℕ
-compared looks position c = if is_commit c.verdict && shares_bit looks c.writes then position ∷ [] else []
+abbrev pub comparison_at : List Look → ℕ → CertifiedCall → List ℕ
+comparison_at looks position c = if is_commit c.verdict && shares_bit looks c.writes then position ∷ [] else []
 
 -- of a run, by what became of the calls before
 abbrev pub report_of_run : Setting → List CertifiedCall → Call → Run → Report

@@ -3,12 +3,11 @@
 ghost use Rattle.std.specs.Prelude.{◌≡◌, ◌+◌, ◌-◌, ◌<◌, ◌≤◌, ◌^◌, length, map, drop, nat_le, ◌++◌, IfOk, OnOk};
 ghost use Rattle.dsm_model.specs.Log.{is_commit, conflicts, first_conflict, unless_conflict, verdict_after};
 ghost use Rattle.dsm_model.specs.Comparisons.{comparisons_from, comparisons_after};
-ghost use Rattle.dsm_replayer.specs.Replay.{certified_call, compared};
+ghost use Rattle.dsm_replayer.specs.Replay.{certified_call, comparison_at};
 
 use crate::bits::{shares_bit, shares_key};
-use crate::report::CallReport;
-use crate::setting::PlainCall;
 use dsm_model::Verdict;
+use plain_log::{CallReport, PlainCall};
 use schema::Look;
 use std::alloc::{AllocError, Allocator};
 
@@ -52,7 +51,7 @@ fn add_compared<A: Allocator, B: Allocator>(
     report: &CallReport<A>,
 ) -> Result<(), AllocError>
     requires { position < 2 ^ 32 }
-    ensures { OnOk result (list.new.items ≡ list.old.items ++ compared looks.now position (certified_call report.now)) }
+    ensures { OnOk result (list.new.items ≡ list.old.items ++ comparison_at looks.now position (certified_call report.now)) }
 {
     if is_commit(report.verdict()) && shares_bit(looks, report.writes()) {
         list.push(position as u32)?;

@@ -4,14 +4,10 @@
 //! contract.
 #![tactic(auto)]
 
+pub use plain_log::{CallReport, PlainCall, PlainProcedure, PlainSetting};
 pub use plain_rows::{Row, Write};
 pub use replay::{CompletedReplay, replay_log};
-pub use report::CallReport;
-pub use setting::{PlainCall, PlainProcedure, PlainSetting};
 
 mod bits;
 mod certify;
 mod replay;
-mod report;
-mod rows;
-mod setting;

@@ -4,13 +4,12 @@ ghost use Rattle.std.specs.Prelude.{◌≡◌, ◌<◌, ◌^◌, ℕ, length, ma
 ghost use Rattle.std.specs.FinMap.{empty, entries};
 ghost use Rattle.plain_rows.specs.Listed.{rows_of};
 ghost use Rattle.dsm_model.specs.Log.{Call, IsLog, by_number, or_idle, run_of_procedure, run_of_call, if_commits, history};
-ghost use Rattle.dsm_replayer.specs.Replay.{Report, IsReportOf, certified_call, report_after, rows_after_next};
+ghost use Rattle.plain_log.specs.Report.{Report};
+ghost use Rattle.dsm_replayer.specs.Replay.{IsReportOf, certified_call, report_after, rows_after_next};
 
 use crate::certify::{comparisons_after, verdict_after};
-use crate::report::{CallReport, looks_of};
-use crate::rows::{RowList, rows_at};
-use crate::setting::{PlainCall, PlainSetting};
 use dsm_model::Verdict;
+use plain_log::{CallReport, PlainCall, PlainSetting, RowList, looks_of, rows_at};
 use plain_rows::Row;
 use plain_runner::{CompletedRun, run_program};
 use std::alloc::{AllocError, Allocator, Global};
@@ -107,9 +106,9 @@ fn run_of_call<A: Allocator + Copy, B: Allocator, C: Allocator, D: Allocator>(
     ensures { IfOk result (λ run. run ≡ run_of_procedure setting.now.tables
         (by_number setting.now.catalogue call.now.procedure) call.now.args (rows_of rows.now)) }
 {
-    match setting.procedure(call.procedure) {
+    match setting.procedure(call.procedure()) {
         Some(procedure) => {
-            run_program(alloc, &procedure.code, &setting.schema, &call.args, rows)
+            run_program(alloc, procedure.code(), setting.schema(), call.args(), rows)
         }
         None => Ok(None),
     }

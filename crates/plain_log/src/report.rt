@@ -3,7 +3,7 @@
 ghost use Rattle.std.specs.Prelude.{◌≡◌};
 ghost use Rattle.std.specs.FinMap.{empty, entries};
 ghost use Rattle.dsm_model.specs.Log.{or_idle};
-ghost use Rattle.dsm_replayer.specs.Replay.{reported};
+ghost use Rattle.plain_log.specs.Report.{report_by_run};
 
 use dsm_model::Verdict;
 use plain_rows::Write;
@@ -21,24 +21,24 @@ pub struct CallReport<A: Allocator = Global> {
 }
 
 impl<A: Allocator> Model for CallReport<A> {
-    ghost use Rattle.dsm_replayer.specs.Replay.{Report, reported};
-    ghost use Rattle.dsm_replayer.specs.Codes.{report_code};
+    ghost use Rattle.plain_log.specs.Report.{Report, report_by_run};
+    ghost use Rattle.plain_log.specs.Codes.{report_code};
 
     ghost Value = { Report };
 
     ghost coded = { report_code };
 
-    ghost view = { λ report. reported report.run report.verdict report.comparisons.items };
+    ghost view = { λ report. report_by_run report.run report.verdict report.comparisons.items };
 }
 
 impl<A: Allocator> CallReport<A> {
     /// Of a run, or where there is none.
-    pub(crate) fn new(
+    pub fn new(
         run: Option<CompletedRun<A>>,
         verdict: Verdict,
         comparisons: Vec<u32, A>,
     ) -> CallReport<A>
-        ensures { result ≡ reported run verdict comparisons.items }
+        ensures { result ≡ report_by_run run verdict comparisons.items }
     {
         CallReport {
             run,
@@ -90,7 +90,7 @@ impl<A: Allocator> CallReport<A> {
 }
 
 /// What a run looked at, where there is one.
-pub(crate) fn looks_of<A: Allocator>(run: &Option<CompletedRun<A>>) -> &[Look]
+pub fn looks_of<A: Allocator>(run: &Option<CompletedRun<A>>) -> &[Look]
     ensures { result.now ≡ (or_idle empty run.now).looks }
 {
     match run {

@@ -11,7 +11,7 @@ use std::marker::Model;
 
 /// Rows in the order of tables and keys. Contracts see a finite map.
 #[derive(Drop)]
-pub(crate) struct RowList<A: Allocator> {
+pub struct RowList<A: Allocator> {
     rows: Vec<Row<A>, A>,
 }
 
@@ -19,7 +19,7 @@ impl<A: Allocator> Model for RowList<A> {
     ghost use Rattle.std.specs.FinMap.{from_entries};
     ghost use Rattle.schema.specs.Rows.{Rows};
     ghost use Rattle.plain_rows.specs.Listed.{AreInOrder};
-    ghost use Rattle.dsm_replayer.specs.Codes.{rows_code};
+    ghost use Rattle.plain_log.specs.Codes.{rows_code};
 
     ghost Value = { Rows };
 
@@ -32,7 +32,7 @@ impl<A: Allocator> Model for RowList<A> {
 
 impl<A: Allocator> RowList<A> {
     /// No rows. Takes no memory.
-    pub(crate) fn new(alloc: A) -> RowList<A>
+    pub fn new(alloc: A) -> RowList<A>
         ensures { result ≡ empty }
     {
         RowList {
@@ -40,14 +40,16 @@ impl<A: Allocator> RowList<A> {
         }
     }
 
-    pub(crate) fn as_slice(&self) -> &[Row<A>]
+    /// The rows, in order.
+    pub fn as_slice(&self) -> &[Row<A>]
         ensures entries { result.now ≡ entries self.now }
         ensures rows { rows_of result.now ≡ self.now }
     {
         &self.rows
     }
 
-    pub(crate) fn left_by(run: CompletedRun<A>) -> RowList<A>
+    /// The rows that a run left. Takes no memory.
+    pub fn left_by(run: CompletedRun<A>) -> RowList<A>
         ensures { result ≡ run.effect }
     {
         RowList {
@@ -58,10 +60,7 @@ impl<A: Allocator> RowList<A> {
 
 impl<A: Allocator + Copy> RowList<A> {
     /// The rows of a list, put one after another.
-    pub(crate) fn from_rows<B: Allocator>(
-        alloc: A,
-        rows: &[Row<B>],
-    ) -> Result<RowList<A>, AllocError>
+    pub fn from_rows<B: Allocator>(alloc: A, rows: &[Row<B>]) -> Result<RowList<A>, AllocError>
         ensures { IfOk result (λ list. list ≡ rows_of rows.now) }
     {
         let rows = KeyMap::from_rows(alloc, rows)?.into_list(alloc)?;
@@ -70,7 +69,7 @@ impl<A: Allocator + Copy> RowList<A> {
 }
 
 /// The rows after a position; none where the list doesn't reach so far.
-pub(crate) fn rows_at<A: Allocator>(rows: &[RowList<A>], position: usize) -> &[Row<A>]
+pub fn rows_at<A: Allocator>(rows: &[RowList<A>], position: usize) -> &[Row<A>]
     ensures { rows_of result.now ≡ slice_index_or rows.now position empty }
 {
     match rows.get(position) {

@@ -3,9 +3,9 @@ use Rattle.std.specs.Prelude.{Option}
 use Rattle.std.specs.FinMap.{empty, entries}
 use Rattle.bpf_semantics.specs.Run.{Run}
 use Rattle.dsm_model.specs.Log.{or_idle}
-use Rattle.dsm_replayer.specs.Replay.{Report}
-use Rattle.dsm_replayer.proofs.RowLemmas.{no_entries}
-use Rattle.dsm_replayer.proofs.report.CallReport.writes.Goals as goal
+use Rattle.plain_log.specs.Report.{Report}
+use Rattle.plain_log.proofs.RowLemmas.{no_entries}
+use Rattle.plain_log.proofs.report.CallReport.writes.Goals as goal
 
 pub returns-in-None : goal.returns-in-None
 returns-in-None g c =

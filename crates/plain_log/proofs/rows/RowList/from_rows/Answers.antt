@@ -1,6 +1,6 @@
 use Rattle.std.proofs.Common.{◌∙◌}
 use Rattle.plain_rows.proofs.ListedLemmas.{listed_map, listed_order}
-use Rattle.dsm_replayer.proofs.rows.RowList.from_rows.Goals as goal
+use Rattle.plain_log.proofs.rows.RowList.from_rows.Goals as goal
 
 pub invariant_of-result : goal.invariant_of-result
 invariant_of-result g c = listed_order _ c.in_ok-from_rows.field-0 c.in_ok-rows.ensures

@@ -13,7 +13,7 @@ use std::marker::Model;
 pub struct PlainProcedure<A: Allocator = Global> {
     name: Vec<u8, A>,
     number: u16,
-    pub(crate) code: Code<A>,
+    code: Code<A>,
     args_len: u16,
 }
 
@@ -47,19 +47,26 @@ impl<A: Allocator> PlainProcedure<A> {
             args_len,
         }
     }
+
+    /// Its program.
+    pub fn code(&self) -> &Code<A>
+        ensures { result.now ≡ self.now.program }
+    {
+        &self.code
+    }
 }
 
 /// What all replicas have in common. Contracts see the definition's record.
 #[derive(Drop)]
 pub struct PlainSetting<A: Allocator = Global> {
-    pub(crate) schema: Schema<A>,
+    schema: Schema<A>,
     catalogue: Vec<PlainProcedure<A>, A>,
     window: u32,
 }
 
 impl<A: Allocator> Model for PlainSetting<A> {
     ghost use Rattle.dsm_model.specs.Log.{Setting};
-    ghost use Rattle.dsm_replayer.specs.Codes.{setting_code};
+    ghost use Rattle.plain_log.specs.Codes.{setting_code};
 
     ghost Value = { Setting };
 
@@ -92,15 +99,22 @@ impl<A: Allocator> PlainSetting<A> {
         }
     }
 
+    /// The tables.
+    pub fn schema(&self) -> &Schema<A>
+        ensures { result.now ≡ self.now.tables }
+    {
+        &self.schema
+    }
+
     /// How many calls a verdict goes back.
-    pub(crate) fn window(&self) -> u32
+    pub fn window(&self) -> u32
         ensures { result ≡ self.now.window }
     {
         self.window
     }
 
     /// The procedure of a number, the first that was entered.
-    pub(crate) fn procedure(&self, number: u16) -> Option<&PlainProcedure<A>>
+    pub fn procedure(&self, number: u16) -> Option<&PlainProcedure<A>>
         ensures { option_map (λ p. p.now) result ≡ by_number self.now.catalogue number }
     {
         self.catalogue
@@ -113,8 +127,8 @@ impl<A: Allocator> PlainSetting<A> {
 #[derive(Drop)]
 pub struct PlainCall<A: Allocator = Global> {
     number: u32,
-    pub(crate) procedure: u16,
-    pub(crate) args: Vec<u8, A>,
+    procedure: u16,
+    args: Vec<u8, A>,
     snapshot: u32,
 }
 
@@ -149,8 +163,21 @@ impl<A: Allocator> PlainCall<A> {
         }
     }
 
+    /// The number of its procedure.
+    pub fn procedure(&self) -> u16
+        ensures { result ≡ self.now.procedure }
+    {
+        self.procedure
+    }
+
+    pub fn args(&self) -> &[u8]
+        ensures { result.now ≡ self.now.args }
+    {
+        &self.args
+    }
+
     /// The position whose rows it read.
-    pub(crate) fn snapshot(&self) -> usize
+    pub fn snapshot(&self) -> usize
         ensures snapshot { result ≡ self.now.snapshot }
         ensures fits { result < 2 ^ 32 }
     {
