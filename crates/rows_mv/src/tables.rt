@@ -48,7 +48,7 @@ fn put_at<A: Allocator>(
 )
     requires at { at < length tables.old.items }
     requires room { (d : Table) → HasRoomAt (slice_index_or tables.old.items at d).slots key }
-    requires width { (d : Table) → IfSome row (λ r. IsSomeAnd (chain_at (slice_index_or tables.old.items at d).slots key) (λ k. length r.now ≡ k.width)) }
+    requires width { (d : Table) → IfSome row (λ r. length r.now ≡ (slice_index_or tables.old.items at d).width) }
     ensures { (d : Table) → IsTablePut key position (option_copied row.entry) (slice_index_or tables.old.items at d) (slice_index_or tables.new.items at d)
         × (tables.new.items ≡ slice_set tables.old.items at (slice_index_or tables.new.items at d)) }
 {
@@ -65,7 +65,7 @@ pub fn put<A: Allocator>(
 )
     requires table { table < length tables.old.items }
     requires room { (d : Table) → HasRoomAt (slice_index_or tables.old.items table d).slots key }
-    requires width { (d : Table) → IfSome row (λ r. IsSomeAnd (chain_at (slice_index_or tables.old.items table d).slots key) (λ k. length r.now ≡ k.width)) }
+    requires width { (d : Table) → IfSome row (λ r. length r.now ≡ (slice_index_or tables.old.items table d).width) }
     ensures versions { (k : Key) → versions_at (slots_of tables.new.items k.0) k.1 ≡ (if (table == k.0) && (key == k.1)
         then versions_at (slots_of tables.old.items k.0) k.1 ++ record { position = position; row = option_copied row.entry } ∷ []
         else versions_at (slots_of tables.old.items k.0) k.1) }
