@@ -19,3 +19,16 @@ at_each P old new i t x lt is here other =
           let same : slots_of old t ≡ slots_of new t = sym (ap (λ (l : List Table). slots_of l t) is ∙ ap (λ (y : Table). y.slots) (get_or-set_other old i t x no_table ne)) in
           subst (P t (slots_of old t)) same (other ne)
     ] refl
+
+-- the same of tables
+pub at_table : (P : Table → Table → Type 0) (old new : List Table) (i t : ℕ) (x : Table) → i < length old → new ≡ set old i x → P (get_or old i no_table) x → P (get_or old t no_table) (get_or old t no_table) → P (get_or old t no_table) (get_or new t no_table)
+at_table P old new i t x lt is here other =
+    elim (eqb t i) as (λ (b : Bool). eqb t i ≡ b → P (get_or old t no_table) (get_or new t no_table)) [
+      | true ↦ λ e.
+          let same : x ≡ get_or new i no_table = sym (ap (λ (l : List Table). get_or l i no_table) is ∙ get_or-set_same old i x no_table lt) in
+          subst (λ (j : ℕ). P (get_or old j no_table) (get_or new j no_table)) (sym (eqb-true t i e)) (subst (P (get_or old i no_table)) same here)
+      | false ↦ λ e.
+          let ne = eqb-false t i e in
+          let same : get_or old t no_table ≡ get_or new t no_table = sym (ap (λ (l : List Table). get_or l t no_table) is ∙ get_or-set_other old i t x no_table ne) in
+          subst (P (get_or old t no_table)) same other
+    ] refl

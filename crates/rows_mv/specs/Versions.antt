@@ -45,6 +45,13 @@ IsPrepared writes tables = (k : Key) → IsSome (get writes k) → HasRoomAt (sl
 abbrev pub AreOfTables : Writes → List Table → Type 0
 AreOfTables writes tables = (k : Key) → IsSome (get writes k) → k.0 < length tables
 
+abbrev pub width_of : List Table → ℕ → ℕ
+width_of tables table = (slice_index_or tables table no_table).width
+
+-- each row that is put has its table's width
+abbrev pub HaveWidths : Writes → List Table → Type 0
+HaveWidths writes tables = (k : Key) (row : List ℕ) → get writes k ≡ Some (Some row) → length row ≡ width_of tables k.0
+
 -- ---- changes of one table
 
 -- a table in which each key has the versions it had
@@ -52,8 +59,10 @@ pub record IsTableReserved (granted : Bool) (key : ℕ) (old new : Table) : Type
   pub versions : (q : ℕ) → versions_at new.slots q ≡ versions_at old.slots q
   pub room : granted ≡ true → HasRoomAt new.slots key
   pub more : (q : ℕ) → HasRoomAt old.slots q → HasRoomAt new.slots q
+  pub width : new.width ≡ old.width
 
 -- a table in which one key has a version more
 pub record IsTablePut (key position : ℕ) (row : Option (List ℕ)) (old new : Table) : Type 0 where
   pub versions : (q : ℕ) → versions_at new.slots q ≡ (if key == q then versions_at old.slots q ++ record { position = position; row = row } ∷ [] else versions_at old.slots q)
   pub room : (q : ℕ) → key ≢ q → HasRoomAt old.slots q → HasRoomAt new.slots q
+  pub width : new.width ≡ old.width

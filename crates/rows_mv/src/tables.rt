@@ -4,10 +4,11 @@ ghost use Rattle.std.specs.Prelude.{◌≡◌, ◌≢◌, ◌==◌, ◌<◌, ◌
 ghost use Rattle.std.specs.Option.{option_copied, IsSomeAnd};
 ghost use Rattle.schema.specs.Rows.{Key};
 ghost use Rattle.key_table.specs.Table.{Table, versions_at, chain_at, HasRoomAt};
-ghost use Rattle.rows_mv.specs.Versions.{slots_of, IsTableReserved, IsTablePut, AreOfTables, IsPrepared};
+ghost use Rattle.rows_mv.specs.Versions.{slots_of, width_of, IsTableReserved, IsTablePut, AreOfTables, IsPrepared, HaveWidths, IsInstalled};
 
 use key_table::KeyTable;
 use row_sets::WriteSet;
+use row_values::Bytes;
 use std::alloc::{AllocError, Allocator};
 
 fn reserve_at<A: Allocator + Copy>(
@@ -34,6 +35,7 @@ pub fn reserve<A: Allocator + Copy>(
     ensures versions { (k : Key) → versions_at (slots_of tables.new.items k.0) k.1 ≡ versions_at (slots_of tables.old.items k.0) k.1 }
     ensures room { OnOk result (HasRoomAt (slots_of tables.new.items table) key) }
     ensures more { (k : Key) → HasRoomAt (slots_of tables.old.items k.0) k.1 → HasRoomAt (slots_of tables.new.items k.0) k.1 }
+    ensures widths { (t : ℕ) → width_of tables.new.items t ≡ width_of tables.old.items t }
     ensures count { length tables.new.items ≡ length tables.old.items }
 {
     reserve_at(tables, alloc, table, key)
@@ -69,6 +71,9 @@ pub fn put<A: Allocator>(
     ensures versions { (k : Key) → versions_at (slots_of tables.new.items k.0) k.1 ≡ (if (table == k.0) && (key == k.1)
         then versions_at (slots_of tables.old.items k.0) k.1 ++ record { position = position; row = option_copied row.entry } ∷ []
         else versions_at (slots_of tables.old.items k.0) k.1) }
+    ensures room { (k : Key) → k ≢ (table, key) → HasRoomAt (slots_of tables.old.items k.0) k.1 → HasRoomAt (slots_of tables.new.items k.0) k.1 }
+    ensures widths { (t : ℕ) → width_of tables.new.items t ≡ width_of tables.old.items t }
+    ensures count { length tables.new.items ≡ length tables.old.items }
 {
     put_at(tables, table, key, position, row);
 }
@@ -82,10 +87,39 @@ pub fn reserve_each<A: Allocator + Copy, B: Allocator + Copy>(
     requires { AreOfTables writes.now tables.old.items }
     ensures versions { (k : Key) → versions_at (slots_of tables.new.items k.0) k.1 ≡ versions_at (slots_of tables.old.items k.0) k.1 }
     ensures prepared { OnOk result (IsPrepared writes.now tables.new.items) }
+    ensures widths { (t : ℕ) → width_of tables.new.items t ≡ width_of tables.old.items t }
     ensures count { length tables.new.items ≡ length tables.old.items }
 {
     for (key, _) in writes.iter() {
         reserve(tables, alloc, usize::from(key.0), key.1)?;
     }
     Ok(())
+}
+
+/// The bytes of a write.
+fn row_of<A: Allocator>(write: &Option<Bytes<A>>) -> Option<&[u8]>
+    ensures { option_copied result ≡ write.now }
+{
+    match write {
+        Some(row) => Some(row.as_slice()),
+        None => None,
+    }
+}
+
+/// One version more of each written key, at a position. Takes no memory.
+pub fn put_each<A: Allocator, B: Allocator + Copy>(
+    tables: &mut Vec<KeyTable<A>, A>,
+    position: u32,
+    writes: &WriteSet<B>,
+)
+    requires tables { AreOfTables writes.now tables.old.items }
+    requires prepared { IsPrepared writes.now tables.old.items }
+    requires widths { HaveWidths writes.now tables.old.items }
+    ensures installed { IsInstalled position writes.now tables.old.items tables.new.items }
+    ensures widths { (t : ℕ) → width_of tables.new.items t ≡ width_of tables.old.items t }
+    ensures count { length tables.new.items ≡ length tables.old.items }
+{
+    for (key, write) in writes.iter() {
+        put(tables, usize::from(key.0), key.1, position, row_of(write));
+    }
 }

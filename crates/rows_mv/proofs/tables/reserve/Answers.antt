@@ -5,7 +5,7 @@ use Rattle.key_table.specs.Table.{Table, Slot, versions_at, HasRoomAt}
 use Rattle.key_table.proofs.EditLemmas.{on_ok}
 use Rattle.std.proofs.lemmas.List.{length-set}
 use Rattle.rows_mv.specs.Versions.{no_table, slots_of, IsTableReserved}
-use Rattle.rows_mv.proofs.TablesLemmas.{at_each}
+use Rattle.rows_mv.proofs.TablesLemmas.{at_each, at_table}
 use Rattle.rows_mv.proofs.tables.reserve.Goals as goal
 
 pub returns-clause-versions : goal.returns-clause-versions
@@ -27,3 +27,8 @@ pub returns-clause-count : goal.returns-clause-count
 returns-clause-count g c =
     let p = c.reserve_at.ensures no_table in
     ap (λ (l : List Table). length l) p.1 ∙ length-set c.args.tables.now.items c.args.table (get_or c.reserve_at.new.tables.items c.args.table no_table)
+
+pub returns-clause-widths : goal.returns-clause-widths
+returns-clause-widths g c t =
+    let p = c.reserve_at.ensures no_table in
+    at_table (λ (a b : Table). b.width ≡ a.width) c.args.tables.now.items c.reserve_at.new.tables.items c.args.table t (get_or c.reserve_at.new.tables.items c.args.table no_table) c.requires p.1 p.0.width refl

@@ -10,6 +10,7 @@ loop-key-init g c =
     let whole = c.into_iter-key-iterator.ensures.into_iter_gives ∙ c.iter-key-items.ensures.rest in
     record {
       versions = λ k. refl;
+      widths = λ t. refl;
       count = refl;
       room = λ k there. inr (all_left c.args.writes.now c.into_iter-key-iterator.result k whole there);
       left = λ k there. c.requires k (left_written c.args.writes.now c.into_iter-key-iterator.result k whole there);
@@ -26,6 +27,7 @@ reserve-requires g c =
 pub loop-key-preserved : goal.loop-key-preserved
 loop-key-preserved g c = record {
   versions = λ k. c.in_ok-reserve.ensures.versions k ∙ c.loop-key.invariant.versions k;
+  widths = λ t. c.in_ok-reserve.ensures.widths t ∙ c.loop-key.invariant.widths t;
   count = c.in_ok-reserve.ensures.count ∙ c.loop-key.invariant.count;
   room = λ k there. elim (c.loop-key.invariant.room k there) [
     | inl old ↦ inl (c.in_ok-reserve.ensures.more k old)
@@ -55,3 +57,9 @@ returns-clause-prepared g c = λ k there. elim (c.loop-key.invariant.room k ther
 
 pub returns-clause-count : goal.returns-clause-count
 returns-clause-count g c = c.loop-key.invariant.count
+
+pub returns-in_err-reserve-clause-widths : goal.returns-in_err-reserve-clause-widths
+returns-in_err-reserve-clause-widths g c = λ t. c.reserve.ensures.widths t ∙ c.loop-key.invariant.widths t
+
+pub returns-clause-widths : goal.returns-clause-widths
+returns-clause-widths g c = c.loop-key.invariant.widths
