@@ -5,9 +5,11 @@ ghost use Rattle.std.specs.Option.{option_copied};
 ghost use Rattle.schema.specs.Rows.{Key, Rows, row_at, count_in, first_in};
 ghost use Rattle.row_chain.specs.Version.{needed_versions};
 ghost use Rattle.key_table.specs.Table.{rows_between, AreRising, versions_at, HasRoomAt};
-ghost use Rattle.rows_mv.specs.Versions.{AnswersFrom, row_seen, slots_of, IsPrunedAt};
+ghost use Rattle.rows_mv.specs.Versions.{AnswersFrom, AreOfTables, HaveWidths, IsInstalled, IsPrepared, IsPrunedAt, row_seen, slots_of, width_of};
 
+use crate::tables::{put_each, reserve_each};
 use key_table::KeyTable;
+use row_sets::WriteSet;
 use std::alloc::{AllocError, Allocator, Global};
 use std::marker::Model;
 
@@ -17,12 +19,13 @@ pub struct Gone;
 
 /// The rows at each position that is kept.
 #[derive(Drop)]
-pub struct Versions<A: Allocator = Global> {
+pub struct Versions<A: Allocator + Copy = Global> {
+    alloc: A,
     horizon: u32,
     tables: Vec<KeyTable<A>, A>,
 }
 
-impl<A: Allocator> Model for Versions<A> {
+impl<A: Allocator + Copy> Model for Versions<A> {
     ghost use Rattle.rows_mv.specs.Versions.{Versions};
 
     ghost Value = { Versions };
@@ -83,7 +86,7 @@ fn first_seen<A: Allocator>(
     tables[number].first(position, lo, hi)
 }
 
-impl<A: Allocator> Versions<A> {
+impl<A: Allocator + Copy> Versions<A> {
     /// How many rows of a range there are at a position, or `Gone` below those that are kept.
     pub fn count_at(&self, position: u32, table: u8, lo: u64, hi: u64) -> Result<usize, Gone>
         ensures count { IfOk result (λ n. (rows : Rows) → AnswersFrom self.now.tables position rows
@@ -127,5 +130,31 @@ impl<A: Allocator> Versions<A> {
             return Err(Gone);
         }
         Ok(row_seen(&self.tables, position, table, key))
+    }
+
+    /// Makes room for the writes of a call, each of which is of one of the tables. After want of memory each key has the
+    /// versions that it had.
+    pub fn prepare<B: Allocator + Copy>(&mut self, writes: &WriteSet<B>) -> Result<(), AllocError>
+        requires { AreOfTables writes.now self.old.tables }
+        ensures versions { (k : Key) → versions_at (slots_of self.new.tables k.0) k.1 ≡ versions_at (slots_of self.old.tables k.0) k.1 }
+        ensures prepared { OnOk result (IsPrepared writes.now self.new.tables) }
+        ensures widths { (t : ℕ) → width_of self.new.tables t ≡ width_of self.old.tables t }
+        ensures count { length self.new.tables ≡ length self.old.tables }
+        ensures horizon { self.new.horizon ≡ self.old.horizon }
+    {
+        reserve_each(&mut self.tables, self.alloc, writes)
+    }
+
+    /// Installs the writes of a call, for which room was made, at a position. Takes no memory.
+    pub fn install<B: Allocator + Copy>(&mut self, position: u32, writes: &WriteSet<B>)
+        requires tables { AreOfTables writes.now self.old.tables }
+        requires prepared { IsPrepared writes.now self.old.tables }
+        requires row_widths { HaveWidths writes.now self.old.tables }
+        ensures installed { IsInstalled position writes.now self.old.tables self.new.tables }
+        ensures widths { (t : ℕ) → width_of self.new.tables t ≡ width_of self.old.tables t }
+        ensures count { length self.new.tables ≡ length self.old.tables }
+        ensures horizon { self.new.horizon ≡ self.old.horizon }
+    {
+        put_each(&mut self.tables, position, writes);
     }
 }

@@ -42,7 +42,7 @@ put-requires-clause-width g c d =
     let x : Write = (c.in-Some.key.now, c.in-Some.write.now) in
     let there = subst (λ (l : List Write). IsLeft l c.in-Some.key.now) (sym c.in-Some.ensures.steps) (is_first x c.next.new.self) in
     let written : get c.args.writes.now c.in-Some.key.now ≡ Some c.in-Some.write.now =
-      sym (c.loop-key.invariant.same c.in-Some.key.now there) ∙ ap (λ (l : List Write). find key_cmp c.in-Some.key.now l) c.in-Some.ensures.steps ∙ find_first x c.next.new.self in
+    sym (c.loop-key.invariant.same c.in-Some.key.now there) ∙ ap (λ (l : List Write). find key_cmp c.in-Some.key.now l) c.in-Some.ensures.steps ∙ find_first x c.next.new.self in
     is_wide (get_or c.loop-key.tables.items c.from.result d).width c.row_of.result c.in-Some.write.now c.row_of.ensures (λ bytes e.
     c.requires.widths c.in-Some.key.now bytes (written ∙ ap (λ (o : Option (List ℕ)). Some o) e)
     ∙ sym (c.loop-key.invariant.widths c.in-Some.key.now.0)
