@@ -66,3 +66,8 @@ pub record IsTablePut (key position : ℕ) (row : Option (List ℕ)) (old new : 
   pub versions : (q : ℕ) → versions_at new.slots q ≡ (if key == q then versions_at old.slots q ++ record { position = position; row = row } ∷ [] else versions_at old.slots q)
   pub room : (q : ℕ) → key ≢ q → HasRoomAt old.slots q → HasRoomAt new.slots q
   pub width : new.width ≡ old.width
+
+-- a table of which each key has the versions that some position from the horizon on sees
+pub record IsTablePruned (horizon : ℕ) (old new : Table) : Type 0 where
+  pub versions : (q : ℕ) → versions_at new.slots q ≡ needed_versions horizon (versions_at old.slots q)
+  pub width : new.width ≡ old.width

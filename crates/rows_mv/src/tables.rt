@@ -4,7 +4,7 @@ ghost use Rattle.std.specs.Prelude.{◌≡◌, ◌≢◌, ◌==◌, ◌<◌, ◌
 ghost use Rattle.std.specs.Option.{option_copied, IsSomeAnd};
 ghost use Rattle.schema.specs.Rows.{Key};
 ghost use Rattle.key_table.specs.Table.{Table, versions_at, chain_at, HasRoomAt};
-ghost use Rattle.rows_mv.specs.Versions.{slots_of, width_of, IsTableReserved, IsTablePut, AreOfTables, IsPrepared, HaveWidths, IsInstalled};
+ghost use Rattle.rows_mv.specs.Versions.{slots_of, width_of, IsTableReserved, IsTablePut, AreOfTables, IsPrepared, HaveWidths, IsInstalled, IsPrunedAt, IsTablePruned};
 
 use key_table::KeyTable;
 use row_sets::WriteSet;
@@ -121,5 +121,26 @@ pub fn put_each<A: Allocator, B: Allocator + Copy>(
 {
     for (key, write) in writes.iter() {
         put(tables, usize::from(key.0), key.1, position, row_of(write));
+    }
+}
+
+fn prune_at<A: Allocator>(tables: &mut Vec<KeyTable<A>, A>, at: usize, horizon: u32)
+    requires { at < length tables.old.items }
+    ensures { (d : Table) → IsTablePruned horizon (slice_index_or tables.old.items at d) (slice_index_or tables.new.items at d)
+        × (tables.new.items ≡ slice_set tables.old.items at (slice_index_or tables.new.items at d)) }
+{
+    tables[at].prune(horizon);
+}
+
+/// Drops from each key the versions that no position from the horizon on sees. Takes no memory.
+pub fn prune_each<A: Allocator>(tables: &mut Vec<KeyTable<A>, A>, horizon: u32)
+    ensures versions { IsPrunedAt horizon tables.old.items tables.new.items }
+    ensures widths { (t : ℕ) → width_of tables.new.items t ≡ width_of tables.old.items t }
+    ensures count { length tables.new.items ≡ length tables.old.items }
+{
+    let all: &[KeyTable<A>] = tables;
+    let count = all.len();
+    for at in 0..count {
+        prune_at(tables, at, horizon);
     }
 }

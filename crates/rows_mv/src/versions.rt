@@ -7,7 +7,7 @@ ghost use Rattle.row_chain.specs.Version.{needed_versions};
 ghost use Rattle.key_table.specs.Table.{rows_between, AreRising, versions_at, HasRoomAt};
 ghost use Rattle.rows_mv.specs.Versions.{AnswersFrom, AreOfTables, HaveWidths, IsInstalled, IsPrepared, IsPrunedAt, row_seen, slots_of, width_of};
 
-use crate::tables::{put_each, reserve_each};
+use crate::tables::{prune_each, put_each, reserve_each};
 use key_table::KeyTable;
 use row_sets::WriteSet;
 use std::alloc::{AllocError, Allocator, Global};
@@ -156,5 +156,16 @@ impl<A: Allocator + Copy> Versions<A> {
         ensures horizon { self.new.horizon ≡ self.old.horizon }
     {
         put_each(&mut self.tables, position, writes);
+    }
+
+    /// Drops what no position from this one on sees, and no longer answers below it. Takes no memory.
+    pub fn prune(&mut self, below: u32)
+        ensures pruned { IsPrunedAt below self.old.tables self.new.tables }
+        ensures horizon { self.new.horizon ≡ below }
+        ensures widths { (t : ℕ) → width_of self.new.tables t ≡ width_of self.old.tables t }
+        ensures count { length self.new.tables ≡ length self.old.tables }
+    {
+        prune_each(&mut self.tables, below);
+        self.horizon = below;
     }
 }
