@@ -1,5 +1,5 @@
 -- The rows of a range, as the plain map has them.
-use Rattle.std.proofs.Common.{◌≡◌, ℕ, zero, suc, ◌+◌, ◌≤◌, ◌<◌, nat_le, nat_lt, eqb, Bool, true, false, cond, ◌&&◌, List, [], ◌∷◌, length, map, refl, sym, ap, subst, ◌∙◌, arith}
+use Rattle.std.proofs.Common.{◌≡◌, ℕ, ◌≤◌, ◌<◌, nat_le, eqb, Bool, true, false, cond, ◌&&◌, List, [], ◌∷◌, length, map, refl, sym, ap, subst, ◌∙◌, arith}
 use Rattle.std.specs.Prelude.{T, ◌≢◌, Option, Some, None, slice_get, ◌==◌}
 use Rattle.std.proofs.lemmas.Bool.{eq-eqb, ne_eqb, eqb-true, eqb-false, lt-ltb}
 use Rattle.std.proofs.lemmas.List.{length-map}
@@ -10,12 +10,12 @@ use Rattle.std.specs.declared.cmp.Ordering.TheVariants.{Less, Equal, Greater}
 use Rattle.std.specs.Ordering.{nat_cmp, ordering_then, is_lt}
 use Rattle.std.specs.Cmp.{tied_itself, nat_cmp_total}
 use Rattle.std.specs.FinMap.Entries.{below_all}
-use Rattle.std.specs.FinMap.{get, entries, from_sorted, get-from_sorted, entries-from_sorted, same_map, retain_keys, get-retain_keys, len, len-entries, find, is_sorted}
+use Rattle.std.specs.FinMap.{get, entries, from_sorted, get-from_sorted, entries-from_sorted, same_map, get-retain_keys, len-entries, find, is_sorted}
 use Rattle.schema.specs.declared.look.Look.{Look}
 use Rattle.schema.specs.Rows.{Key, key_cmp, key_cmp_total, key_cmp-IsAntisymmetric, Rows, covers, rows_in, count_in, first_in}
-use Rattle.schema.proofs.RowsLemmas.{is_key, same_key, one_key, other_key}
-use Rattle.row_chain.specs.Version.{Version, ChainState, row_up_to}
-use Rattle.key_table.specs.Table.{Slot, Table, AreAbove, AreRising, chain_at, versions_in, versions_at, with_row, rows_between}
+use Rattle.schema.proofs.RowsLemmas.{same_key, other_key}
+use Rattle.row_chain.specs.Version.{ChainState, row_up_to}
+use Rattle.key_table.specs.Table.{Slot, AreAbove, AreRising, chain_at, versions_in, versions_at, with_row, rows_between}
 
 abbrev pub pair : ℕ → ℕ × List ℕ → Key × List ℕ
 pair t r = ((t, r.0), r.1)

@@ -1,12 +1,11 @@
 -- A change of one table, as each key sees it.
 use Rattle.std.proofs.lemmas.Bool.Decides.{nat_tests}
-use Rattle.std.proofs.Common.{arith, nat_lt, zero, suc, ◌+◌, ◌≤◌, ◌≡◌, ℕ, ◌<◌, eqb, Bool, true, false, cond, ◌&&◌, List, [], ◌∷◌, ◌++◌, length, set, get_or, refl, sym, ap, subst, ◌∙◌, get_or-set_same, get_or-set_other}
-use Rattle.std.specs.Prelude.{◌≢◌, Option}
+use Rattle.std.proofs.Common.{arith, nat_lt, zero, suc, ◌+◌, ◌≤◌, ◌≡◌, ℕ, ◌<◌, eqb, Bool, true, false, cond, List, [], ◌∷◌, ◌++◌, length, set, get_or, refl, sym, ap, subst, ◌∙◌, get_or-set_same, get_or-set_other}
+use Rattle.std.specs.Prelude.{◌≢◌}
 use Rattle.std.proofs.lemmas.Bool.{eqb-true, eqb-false}
-use Rattle.schema.specs.Rows.{Key}
 use Rattle.row_chain.specs.Version.{Version, needed_versions}
-use Rattle.key_table.specs.Table.{Table, Slot, versions_at, HasRoomAt}
-use Rattle.rows_mv.specs.Versions.{no_table, slots_of, IsTableReserved, IsTablePut}
+use Rattle.key_table.specs.Table.{Table, Slot, versions_at}
+use Rattle.rows_mv.specs.Versions.{no_table, slots_of, width_of, AreEmpty}
 
 -- what holds of the changed table and of each other holds of all
 pub at_each : (P : ℕ → List Slot → List Slot → Type 0) (old new : List Table) (i t : ℕ) (x : Table) → i < length old → new ≡ set old i x → P i (slots_of old i) x.slots → (t ≢ i → P t (slots_of old t) (slots_of old t)) → P t (slots_of old t) (slots_of new t)
@@ -74,3 +73,18 @@ all_pruned horizon q t n old new is e =
           let le : length old ≤ t = grind (arith, nat_tests) in
           e ∙ ap (λ (b : Bool). cond b (needed_versions horizon (versions_at (slots_of old t) q)) (versions_at (slots_of old t) q)) ge ∙ none_past horizon q old t le
     ] refl
+
+-- ---- one table more
+
+pub empty_more : (tables : List Table) (x : Table) → x.slots ≡ [] → AreEmpty tables → AreEmpty (tables ++ x ∷ [])
+empty_more [] x is none (zero, q) = ap (λ (s : List Slot). versions_at s q) is
+empty_more [] x is none (suc t, q) = refl
+empty_more (y ∷ tables) x is none (zero, q) = none (0, q)
+empty_more (y ∷ tables) x is none (suc t, q) = empty_more tables x is (λ k. none (suc k.0, k.1)) (t, q)
+
+pub width_more : (tables : List Table) (x : Table) (n t width : ℕ) → length tables ≡ n → (t < n → width_of tables t ≡ width) → (t ≡ n → x.width ≡ width) → t < n + 1 → width_of (tables ++ x ∷ []) t ≡ width
+width_more [] x n zero width is before now lt = now (omega arith)
+width_more [] x n (suc t) width is before now lt = absurd (omega arith)
+width_more (y ∷ tables) x zero t width is before now lt = absurd (omega arith)
+width_more (y ∷ tables) x (suc n) zero width is before now lt = before (omega arith)
+width_more (y ∷ tables) x (suc n) (suc t) width is before now lt = width_more tables x n t width (omega arith) (λ l. before (omega arith)) (λ e. now (ap suc e)) (omega arith)

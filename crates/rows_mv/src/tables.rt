@@ -1,15 +1,43 @@
 //! Changes of one key among all tables, and of each key of a write set.
 
-ghost use Rattle.std.specs.Prelude.{◌≡◌, ◌≢◌, ◌==◌, ◌<◌, ◌++◌, [], ◌∷◌, ℕ, length, is_ok, if◌then◌else◌, IfSome, OnOk, slice_index_or, slice_set, ◌&&◌};
+ghost use Rattle.std.specs.Prelude.{◌≡◌, ◌≢◌, ◌==◌, ◌<◌, ◌++◌, [], ◌∷◌, ℕ, length, is_ok, if◌then◌else◌, IfSome, OnOk, slice_index_or, slice_set, ◌&&◌, IfOk, unwrap_or};
+ghost use Rattle.std.specs.FinMap.{get};
 ghost use Rattle.std.specs.Option.{option_copied, IsSomeAnd};
 ghost use Rattle.schema.specs.Rows.{Key};
 ghost use Rattle.key_table.specs.Table.{Table, versions_at, chain_at, HasRoomAt};
-ghost use Rattle.rows_mv.specs.Versions.{slots_of, width_of, IsTableReserved, IsTablePut, AreOfTables, IsPrepared, HaveWidths, IsInstalled, IsPrunedAt, IsTablePruned};
+ghost use Rattle.rows_mv.specs.Versions.{slots_of, width_of, IsTableReserved, IsTablePut, AreOfTables, IsPrepared, HaveWidths, IsInstalled, IsPrunedAt, IsTablePruned, AreEmpty};
 
 use key_table::KeyTable;
 use row_sets::WriteSet;
 use row_values::Bytes;
+use schema::Schema;
 use std::alloc::{AllocError, Allocator};
+
+/// The width of a table's rows, 0 where the schema hasn't the table.
+fn row_width<B: Allocator>(schema: &Schema<B>, table: u8) -> usize
+    ensures { result ≡ unwrap_or (get schema.now table) 0 }
+{
+    match schema.width(table) {
+        Some(width) => usize::from(width),
+        None => 0,
+    }
+}
+
+/// A table without keys for each number up to the greatest that a schema's table may have.
+pub fn new_tables<A: Allocator + Copy, B: Allocator>(
+    alloc: A,
+    schema: &Schema<B>,
+) -> Result<Vec<KeyTable<A>, A>, AllocError>
+    ensures tables { IfOk result (λ tables. (t : ℕ) → t < 65 → width_of tables.items t ≡ unwrap_or (get schema.now t) 0) }
+    ensures count { IfOk result (λ tables. length tables.items ≡ 65) }
+    ensures none { IfOk result (λ tables. AreEmpty tables.items) }
+{
+    let mut tables = Vec::new(alloc);
+    for number in 0..65u8 {
+        tables.push(KeyTable::new(alloc, row_width(schema, number)))?;
+    }
+    Ok(tables)
+}
 
 fn reserve_at<A: Allocator + Copy>(
     tables: &mut Vec<KeyTable<A>, A>,

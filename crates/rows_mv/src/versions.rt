@@ -5,11 +5,12 @@ ghost use Rattle.std.specs.Option.{option_copied};
 ghost use Rattle.schema.specs.Rows.{Key, Rows, row_at, count_in, first_in};
 ghost use Rattle.row_chain.specs.Version.{needed_versions};
 ghost use Rattle.key_table.specs.Table.{rows_between, AreRising, versions_at, HasRoomAt};
-ghost use Rattle.rows_mv.specs.Versions.{AnswersFrom, AreOfTables, HaveWidths, IsInstalled, IsPrepared, IsPrunedAt, row_seen, slots_of, width_of};
+ghost use Rattle.rows_mv.specs.Versions.{AnswersFrom, AreEmpty, AreOfTables, HaveTables, HaveWidths, IsInstalled, IsPrepared, IsPrunedAt, row_seen, slots_of, width_of};
 
-use crate::tables::{prune_each, put_each, reserve_each};
+use crate::tables::{new_tables, prune_each, put_each, reserve_each};
 use key_table::KeyTable;
 use row_sets::WriteSet;
+use schema::Schema;
 use std::alloc::{AllocError, Allocator, Global};
 use std::marker::Model;
 
@@ -130,6 +131,22 @@ impl<A: Allocator + Copy> Versions<A> {
             return Err(Gone);
         }
         Ok(row_seen(&self.tables, position, table, key))
+    }
+
+    /// Versions of no rows, for the tables of a schema; every position answers from no rows.
+    pub fn new<B: Allocator>(alloc: A, schema: &Schema<B>) -> Result<Versions<A>, AllocError>
+        ensures horizon { IfOk result (λ v. v.horizon ≡ 0) }
+        ensures none { IfOk result (λ v. AreEmpty v.tables) }
+        ensures tables { IfOk result (λ v. HaveTables schema.now v.tables) }
+    {
+        // What is known of every schema: its tables are numbered to 64.
+        let _ = schema.width(0);
+        let tables = new_tables(alloc, schema)?;
+        Ok(Versions {
+            alloc,
+            horizon: 0,
+            tables,
+        })
     }
 
     /// Makes room for the writes of a call, each of which is of one of the tables. After want of memory each key has the

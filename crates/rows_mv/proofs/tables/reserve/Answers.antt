@@ -1,10 +1,8 @@
-use Rattle.std.proofs.Common.{◌≡◌, ℕ, ◌<◌, ◌∙◌, true, refl, List, length, get_or, set, subst, sym, ap}
-use Rattle.std.specs.Prelude.{◌≢◌, is_ok, Result, Ok, Err, OnOk}
-use Rattle.schema.specs.Rows.{Key}
+use Rattle.std.proofs.Common.{◌≡◌, ℕ, ◌∙◌, refl, List, length, get_or, ap}
 use Rattle.key_table.specs.Table.{Table, Slot, versions_at, HasRoomAt}
 use Rattle.key_table.proofs.EditLemmas.{on_ok}
 use Rattle.std.proofs.lemmas.List.{length-set}
-use Rattle.rows_mv.specs.Versions.{no_table, slots_of, IsTableReserved}
+use Rattle.rows_mv.specs.Versions.{no_table, slots_of}
 use Rattle.rows_mv.proofs.TablesLemmas.{at_each, at_table}
 use Rattle.rows_mv.proofs.tables.reserve.Goals as goal
 
