@@ -1,11 +1,10 @@
 -- Pages after a slot of one is changed, and after one more slot.
 use Rattle.std.proofs.Common.{◌≡◌, ℕ, zero, suc, ◌+◌, ◌-◌, ◌≤◌, ◌<◌, nat_lt, Bool, true, false, cond, List, [], ◌∷◌, ◌++◌, length, take, drop, set, get_or, refl, sym, ap, subst, ◌∙◌, arith, append_assoc}
-use Rattle.std.specs.Prelude.{Option, Some, None, Result, Ok, Err, OnOk, OnErr}
+use Rattle.std.specs.Prelude.{Some, Result, Ok, Err, OnOk, OnErr}
 use Rattle.std.specs.List.{insert}
 use Rattle.std.proofs.lemmas.Bool.{lt-ltb, le-ltb, ltb-true, ltb-false}
 use Rattle.std.proofs.lemmas.List.{append-nil, set_split, set-get_or, set-append_left, get_or-append-add, get_or_append_left, length-append, length-set, length-take-le, length-drop, take-append-drop}
-use Rattle.row_chain.specs.Version.{ChainState}
-use Rattle.key_table.specs.Table.{Slot, AreRising, AreWide, below, chain_at}
+use Rattle.key_table.specs.Table.{Slot, AreRising, below, chain_at}
 use Rattle.key_table.specs.Pages.{all_slots, with_slot, begins_by, begun, page_place, in_page, in_pages, AreFilled, ArePages}
 use Rattle.key_table.proofs.EditLemmas.{nil, StandsAt, IsChanged, is_changed, wide_changed}
 use Rattle.key_table.proofs.PagesLemmas.{all-append, rising_front, rising_back}

@@ -1,5 +1,5 @@
 -- Keys in pages, and the one list that they are.
-use Rattle.std.specs.Prelude.{◌≡◌, ℕ, zero, suc, ◌+◌, ◌<◌, ◌≤◌, nat_le, nat_lt, Bool, true, false, if◌then◌else◌, List, [], ◌∷◌, ◌++◌, length, take, drop, filter, Option, Some, None}
+use Rattle.std.specs.Prelude.{◌≡◌, ℕ, zero, suc, ◌<◌, ◌≤◌, nat_le, nat_lt, Bool, false, if◌then◌else◌, List, [], ◌∷◌, ◌++◌, length, take, drop, filter}
 use Rattle.std.specs.List.{insert}
 use Rattle.key_table.specs.Table.{Slot, AreRising, AreWide, ArePruned, below, has_versions}
 

@@ -18,19 +18,29 @@ const PAGE_KEYS: usize = 64;
 const TABLE_PAGES: usize = 144_115_188_075_855_872;
 
 /// Makes room for one more version at a place of a page.
-pub fn reserve_at<A: Allocator>(pages: &mut Vec<Page<A>, A>, page: usize, at: usize) -> Result<(), AllocError>
+pub fn reserve_at<A: Allocator>(
+    pages: &mut Vec<Page<A>, A>,
+    page: usize,
+    at: usize,
+) -> Result<(), AllocError>
     requires page { page < length pages.old.items }
     requires at { (p : List Slot) → at < length (slice_index_or pages.old.items page p) }
     ensures { (p : List Slot) (d : Slot)
         → IsReserved (is_ok result) (slice_index_or (slice_index_or pages.old.items page p) at d) (slice_index_or (slice_index_or pages.new.items page p) at d)
         × (pages.new.items ≡ slice_set pages.old.items page
-            (slice_set (slice_index_or pages.old.items page p) at (slice_index_or (slice_index_or pages.new.items page p) at d))) }
+        (slice_set (slice_index_or pages.old.items page p) at (slice_index_or (slice_index_or pages.new.items page p) at d))) }
 {
     pages[page].reserve_at(at)
 }
 
 /// One version more at a place of a page.
-pub fn push_at<A: Allocator>(pages: &mut Vec<Page<A>, A>, page: usize, at: usize, position: u32, row: Option<&[u8]>)
+pub fn push_at<A: Allocator>(
+    pages: &mut Vec<Page<A>, A>,
+    page: usize,
+    at: usize,
+    position: u32,
+    row: Option<&[u8]>,
+)
     requires page { page < length pages.old.items }
     requires at { (p : List Slot) → at < length (slice_index_or pages.old.items page p) }
     requires room { (p : List Slot) (d : Slot) → HasRoom (slice_index_or (slice_index_or pages.old.items page p) at d).chain }
@@ -39,13 +49,17 @@ pub fn push_at<A: Allocator>(pages: &mut Vec<Page<A>, A>, page: usize, at: usize
     ensures { (p : List Slot) (d : Slot)
         → IsPushed position (option_copied row.entry) (slice_index_or (slice_index_or pages.old.items page p) at d) (slice_index_or (slice_index_or pages.new.items page p) at d)
         × (pages.new.items ≡ slice_set pages.old.items page
-            (slice_set (slice_index_or pages.old.items page p) at (slice_index_or (slice_index_or pages.new.items page p) at d))) }
+        (slice_set (slice_index_or pages.old.items page p) at (slice_index_or (slice_index_or pages.new.items page p) at d))) }
 {
     pages[page].push_at(at, position, row);
 }
 
 /// Puts an entry in its place in a page.
-fn insert_at<A: Allocator>(pages: &mut Vec<Page<A>, A>, page: usize, entry: Entry<A>) -> Result<(), AllocError>
+fn insert_at<A: Allocator>(
+    pages: &mut Vec<Page<A>, A>,
+    page: usize,
+    entry: Entry<A>,
+) -> Result<(), AllocError>
     requires page { page < length pages.old.items }
     requires rising { (p : List Slot) → AreRising (slice_index_or pages.old.items page p) }
     ensures done { OnOk result ((p : List Slot)
@@ -72,7 +86,11 @@ fn begins_by<A: Allocator>(pages: &[Page<A>], page: usize, key: u64) -> bool
 }
 
 /// Takes the upper half of a full page away.
-fn take_upper<A: Allocator + Copy>(pages: &mut Vec<Page<A>, A>, alloc: A, page: usize) -> Result<Page<A>, AllocError>
+fn take_upper<A: Allocator + Copy>(
+    pages: &mut Vec<Page<A>, A>,
+    alloc: A,
+    page: usize,
+) -> Result<Page<A>, AllocError>
     requires page { page < length pages.old.items }
     requires full { (p : List Slot) → length (slice_index_or pages.old.items page p) ≡ 64 }
     ensures lower { OnOk result ((p : List Slot)
@@ -86,12 +104,16 @@ fn take_upper<A: Allocator + Copy>(pages: &mut Vec<Page<A>, A>, alloc: A, page: 
 }
 
 /// Splits a full page: its upper half becomes the next page. After want of memory nothing has changed.
-fn split_at<A: Allocator + Copy>(pages: &mut Vec<Page<A>, A>, alloc: A, page: usize) -> Result<(), AllocError>
+fn split_at<A: Allocator + Copy>(
+    pages: &mut Vec<Page<A>, A>,
+    alloc: A,
+    page: usize,
+) -> Result<(), AllocError>
     requires page { page < length pages.old.items }
     requires full { (p : List Slot) → length (slice_index_or pages.old.items page p) ≡ 64 }
     ensures done { OnOk result ((p : List Slot)
         → pages.new.items ≡ take page pages.old.items ++ take 32 (slice_index_or pages.old.items page p)
-            ∷ drop 32 (slice_index_or pages.old.items page p) ∷ drop (page + 1) pages.old.items) }
+        ∷ drop 32 (slice_index_or pages.old.items page p) ∷ drop (page + 1) pages.old.items) }
     ensures none { OnErr result (pages.new.items ≡ pages.old.items) }
 {
     pages.reserve(1)?;
@@ -102,14 +124,18 @@ fn split_at<A: Allocator + Copy>(pages: &mut Vec<Page<A>, A>, alloc: A, page: us
 }
 
 /// Puts an entry into one of the two halves of a page.
-fn insert_half<A: Allocator>(pages: &mut Vec<Page<A>, A>, page: usize, entry: Entry<A>) -> Result<(), AllocError>
+fn insert_half<A: Allocator>(
+    pages: &mut Vec<Page<A>, A>,
+    page: usize,
+    entry: Entry<A>,
+) -> Result<(), AllocError>
     requires page { page + 1 < length pages.old.items }
     requires lower { (p : List Slot) → AreRising (slice_index_or pages.old.items page p) }
     requires upper { (p : List Slot) → AreRising (slice_index_or pages.old.items (page + 1) p) }
     ensures done { OnOk result ((p : List Slot)
         → pages.new.items ≡ (if begins_by entry.key (slice_index_or pages.old.items (page + 1) p)
-            then slice_set pages.old.items (page + 1) (with_slot entry (slice_index_or pages.old.items (page + 1) p))
-            else slice_set pages.old.items page (with_slot entry (slice_index_or pages.old.items page p)))) }
+        then slice_set pages.old.items (page + 1) (with_slot entry (slice_index_or pages.old.items (page + 1) p))
+        else slice_set pages.old.items page (with_slot entry (slice_index_or pages.old.items page p)))) }
     ensures none { OnErr result (pages.new.items ≡ pages.old.items) }
 {
     if begins_by(pages, page + 1, entry.key()) {
@@ -119,7 +145,12 @@ fn insert_half<A: Allocator>(pages: &mut Vec<Page<A>, A>, page: usize, entry: En
 }
 
 /// Puts an entry into a page, and first splits the page where it is full.
-fn insert_into<A: Allocator + Copy>(pages: &mut Vec<Page<A>, A>, alloc: A, page: usize, entry: Entry<A>) -> Result<(), AllocError>
+fn insert_into<A: Allocator + Copy>(
+    pages: &mut Vec<Page<A>, A>,
+    alloc: A,
+    page: usize,
+    entry: Entry<A>,
+) -> Result<(), AllocError>
     requires page { page < length pages.old.items }
     requires rising { (p : List Slot) → AreRising (slice_index_or pages.old.items page p) }
     requires filled { AreFilled pages.old.items }
@@ -137,7 +168,11 @@ fn insert_into<A: Allocator + Copy>(pages: &mut Vec<Page<A>, A>, alloc: A, page:
 }
 
 /// Makes the first page of an entry.
-fn insert_first<A: Allocator + Copy>(pages: &mut Vec<Page<A>, A>, alloc: A, entry: Entry<A>) -> Result<(), AllocError>
+fn insert_first<A: Allocator + Copy>(
+    pages: &mut Vec<Page<A>, A>,
+    alloc: A,
+    entry: Entry<A>,
+) -> Result<(), AllocError>
     requires { pages.old.items ≡ [] }
     ensures done { OnOk result (pages.new.items ≡ (entry ∷ []) ∷ []) }
     ensures none { OnErr result (pages.new.items ≡ pages.old.items) }
@@ -148,7 +183,11 @@ fn insert_first<A: Allocator + Copy>(pages: &mut Vec<Page<A>, A>, alloc: A, entr
 }
 
 /// Puts an entry in its place. After want of memory the keys are the same.
-fn insert<A: Allocator + Copy>(pages: &mut Vec<Page<A>, A>, alloc: A, entry: Entry<A>) -> Result<(), AllocError>
+fn insert<A: Allocator + Copy>(
+    pages: &mut Vec<Page<A>, A>,
+    alloc: A,
+    entry: Entry<A>,
+) -> Result<(), AllocError>
     requires rising { AreRising (all_slots pages.old.items) }
     requires filled { AreFilled pages.old.items }
     requires few { length pages.old.items ≤ 144115188075855872 }
@@ -168,7 +207,12 @@ fn insert<A: Allocator + Copy>(pages: &mut Vec<Page<A>, A>, alloc: A, entry: Ent
 }
 
 /// Makes room for one more version of a key, which is put in its place where it is new.
-pub fn reserve<A: Allocator + Copy>(pages: &mut Vec<Page<A>, A>, alloc: A, width: usize, key: u64) -> Result<(), AllocError>
+pub fn reserve<A: Allocator + Copy>(
+    pages: &mut Vec<Page<A>, A>,
+    alloc: A,
+    width: usize,
+    key: u64,
+) -> Result<(), AllocError>
     requires { ArePages width pages.old.items }
     ensures pages { ArePages width pages.new.items }
     ensures inserted { OnOk result (chain_at (all_slots pages.old.items) key ≡ None → IsInserted key pages.old.items pages.new.items) }

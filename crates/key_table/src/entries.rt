@@ -124,7 +124,10 @@ pub fn begins_by<A: Allocator>(entries: &[Entry<A>], key: u64) -> bool
 }
 
 /// Puts an entry in its place.
-pub fn insert<A: Allocator>(entries: &mut Vec<Entry<A>, A>, entry: Entry<A>) -> Result<(), AllocError>
+pub fn insert<A: Allocator>(
+    entries: &mut Vec<Entry<A>, A>,
+    entry: Entry<A>,
+) -> Result<(), AllocError>
     requires { AreRising entries.old.items }
     ensures done { OnOk result (entries.new.items ≡ with_slot entry entries.old.items) }
     ensures none { OnErr result (entries.new.items ≡ entries.old.items) }
@@ -150,7 +153,10 @@ fn move_last<A: Allocator>(from: &mut Vec<Entry<A>, A>, to: &mut Vec<Entry<A>, A
 }
 
 /// Takes the upper half of 64 entries away.
-pub fn split<A: Allocator + Copy>(entries: &mut Vec<Entry<A>, A>, alloc: A) -> Result<Vec<Entry<A>, A>, AllocError>
+pub fn split<A: Allocator + Copy>(
+    entries: &mut Vec<Entry<A>, A>,
+    alloc: A,
+) -> Result<Vec<Entry<A>, A>, AllocError>
     requires { length entries.old.items ≡ 64 }
     ensures lower { OnOk result (entries.new.items ≡ take 32 entries.old.items) }
     ensures upper { IfOk result (λ upper. upper.items ≡ drop 32 entries.old.items) }

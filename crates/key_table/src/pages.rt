@@ -76,7 +76,12 @@ pub fn count<A: Allocator>(pages: &[Page<A>], position: u32, lo: u64, hi: u64) -
 }
 
 /// The first row in a range, with its key.
-pub fn first<A: Allocator>(pages: &[Page<A>], position: u32, lo: u64, hi: u64) -> Option<(u64, &[u8])>
+pub fn first<A: Allocator>(
+    pages: &[Page<A>],
+    position: u32,
+    lo: u64,
+    hi: u64,
+) -> Option<(u64, &[u8])>
     requires rising { AreRising (all_slots pages.now) }
     requires filled { AreFilled pages.now }
     ensures { option_map (λ f. (f.0, f.1.now)) result ≡ slice_get (rows_between position lo hi (all_slots pages.now)) 0 }

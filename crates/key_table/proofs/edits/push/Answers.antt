@@ -1,10 +1,9 @@
-use Rattle.std.proofs.Common.{◌≡◌, ◌∙◌, ◌<◌, ℕ, List, [], length, get_or, subst, sym, ap}
-use Rattle.std.specs.Prelude.{Option, Some, None}
+use Rattle.std.proofs.Common.{◌<◌, List, [], length, get_or, subst}
 use Rattle.std.specs.Option.{option_copied}
-use Rattle.key_table.specs.Table.{Slot, AreRising, chain_at, IsPushed}
-use Rattle.key_table.specs.Pages.{all_slots, ArePages}
+use Rattle.key_table.specs.Table.{Slot}
+use Rattle.key_table.specs.Pages.{all_slots}
 use Rattle.key_table.proofs.EditLemmas.{nil, versions_pushed, room_other}
-use Rattle.key_table.proofs.PageEditLemmas.{IsFound, found_at, changed, pages_changed}
+use Rattle.key_table.proofs.PageEditLemmas.{found_at, changed, pages_changed}
 use Rattle.key_table.proofs.edits.push.Goals as goal
 
 pub push_at-requires-clause-at : goal.push_at-requires-clause-at

@@ -1,10 +1,10 @@
 use Rattle.std.proofs.Common.{◌≡◌, ◌∙◌, ◌<◌, ◌≤◌, ℕ, Bool, true, List, [], length, get_or, set, refl, subst, sym, ap}
-use Rattle.std.specs.Prelude.{Option, Some, None, is_ok, OnOk}
+use Rattle.std.specs.Prelude.{None, is_ok}
 use Rattle.std.specs.List.{insert}
-use Rattle.row_chain.specs.Version.{ChainState, HasRoom}
+use Rattle.row_chain.specs.Version.{HasRoom}
 use Rattle.key_table.specs.Table.{Slot, AreRising, AreWide, below, chain_at, versions_in, versions_at, HasRoomAt, IsReserved}
 use Rattle.key_table.specs.Pages.{all_slots, in_pages, AreFilled, ArePages, IsInserted}
-use Rattle.key_table.proofs.EditLemmas.{nil, IsChanged, is_inserted, wide_inserted, versions_same, room_here, room_kept, room_at, on_ok, some-none}
+use Rattle.key_table.proofs.EditLemmas.{nil, is_inserted, wide_inserted, versions_same, room_here, room_kept, room_at, on_ok, some-none}
 use Rattle.key_table.proofs.PagesLemmas.{all-in_pages}
 use Rattle.key_table.proofs.PageEditLemmas.{IsFound, found_at, changed, pages_changed, ok_map, either_way}
 use Rattle.key_table.proofs.edits.reserve.Goals as goal

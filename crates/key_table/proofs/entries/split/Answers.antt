@@ -1,6 +1,5 @@
-use Rattle.std.proofs.Common.{◌≡◌, ◌∙◌, ◌≤◌, ◌+◌, ◌++◌, ℕ, List, length, take, drop, reverse, sym, ap, arith}
+use Rattle.std.proofs.Common.{◌∙◌, take, drop, reverse, sym, ap, arith}
 use Rattle.std.proofs.lemmas.List.{take_at, drop_at}
-use Rattle.key_table.specs.Table.{Slot}
 use Rattle.key_table.proofs.entries.split.Goals as goal
 
 pub returns-clause-lower : goal.returns-clause-lower

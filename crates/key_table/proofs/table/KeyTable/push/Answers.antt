@@ -1,5 +1,5 @@
-use Rattle.std.proofs.Common.{◌≡◌, ◌∙◌, List, length, subst, sym, ap}
-use Rattle.key_table.specs.Table.{Slot, Table, HasRoomAt}
+use Rattle.std.proofs.Common.{length, subst, sym, ap}
+use Rattle.key_table.specs.Table.{Table, HasRoomAt}
 use Rattle.key_table.specs.Pages.{all_slots}
 use Rattle.key_table.proofs.EditLemmas.{wide_row}
 use Rattle.key_table.proofs.table.KeyTable.push.Goals as goal
