@@ -57,7 +57,7 @@ pub raised : (n m : ℕ) (es : List Slot) → AreAbove n es → m ≤ n → AreA
 raised n m [] h le = tt
 raised n m (y ∷ es) h le = let lt : n < y.key = h.0 in (omega arith, raised n m es h.1 le)
 
-some-none : {X : Type 0} (x : X) → Some x ≡ None → ⊥
+pub some-none : {X : Type 0} (x : X) → Some x ≡ None → ⊥
 some-none x e = absurd (cc)
 
 pub rising-insert : (es : List Slot) (x : Slot) → AreRising es → chain_at es x.key ≡ None → AreRising (insert es (below x.key es) x)

@@ -1,0 +1,287 @@
+//! Changes of pages in order.
+
+ghost use Rattle.std.specs.Prelude.{◌≡◌, ◌≢◌, ◌==◌, List, [], ◌∷◌, ◌++◌, ◌<◌, ◌≤◌, ◌+◌, ℕ, length, take, drop, filter, vec_len, vec_capacity, is_ok, slice_index_or, slice_set, Some, None, OnOk, OnErr, IfOk, IfSome, if◌then◌else◌};
+ghost use Rattle.std.specs.Option.{option_copied, IsSomeAnd};
+ghost use Rattle.row_chain.specs.Version.{HasRoom};
+ghost use Rattle.key_table.specs.Table.{Slot, IsReserved, IsPushed, AreRising, AreWide, chain_at, versions_at, HasRoomAt};
+ghost use Rattle.key_table.specs.Pages.{all_slots, with_slot, in_page, in_pages, begins_by, has_slots, AreFilled, ArePages, IsInserted, IsPrunedTo, ArePagesPruned};
+
+use crate::entry::Entry;
+use crate::page::Page;
+use crate::pages::{find, page_of};
+use std::alloc::{AllocError, Allocator};
+
+/// The most keys of a page.
+const PAGE_KEYS: usize = 64;
+
+/// The most pages of a table, more than memory holds, so that its keys can be counted.
+const TABLE_PAGES: usize = 144_115_188_075_855_872;
+
+/// Makes room for one more version at a place of a page.
+pub fn reserve_at<A: Allocator>(
+    pages: &mut Vec<Page<A>, A>,
+    page: usize,
+    at: usize,
+) -> Result<(), AllocError>
+    requires page { page < length pages.old.items }
+    requires at { (p : List Slot) → at < length (slice_index_or pages.old.items page p) }
+    ensures { (p : List Slot) (d : Slot)
+        → IsReserved (is_ok result) (slice_index_or (slice_index_or pages.old.items page p) at d) (slice_index_or (slice_index_or pages.new.items page p) at d)
+        × (pages.new.items ≡ slice_set pages.old.items page
+        (slice_set (slice_index_or pages.old.items page p) at (slice_index_or (slice_index_or pages.new.items page p) at d))) }
+{
+    pages[page].reserve_at(at)
+}
+
+/// One version more at a place of a page.
+pub fn push_at<A: Allocator>(
+    pages: &mut Vec<Page<A>, A>,
+    page: usize,
+    at: usize,
+    position: u32,
+    row: Option<&[u8]>,
+)
+    requires page { page < length pages.old.items }
+    requires at { (p : List Slot) → at < length (slice_index_or pages.old.items page p) }
+    requires room { (p : List Slot) (d : Slot) → HasRoom (slice_index_or (slice_index_or pages.old.items page p) at d).chain }
+    requires width { (p : List Slot) (d : Slot)
+        → IfSome row (λ r. length r.now ≡ (slice_index_or (slice_index_or pages.old.items page p) at d).chain.width) }
+    ensures { (p : List Slot) (d : Slot)
+        → IsPushed position (option_copied row.entry) (slice_index_or (slice_index_or pages.old.items page p) at d) (slice_index_or (slice_index_or pages.new.items page p) at d)
+        × (pages.new.items ≡ slice_set pages.old.items page
+        (slice_set (slice_index_or pages.old.items page p) at (slice_index_or (slice_index_or pages.new.items page p) at d))) }
+{
+    pages[page].push_at(at, position, row);
+}
+
+/// Puts an entry in its place in a page.
+fn insert_at<A: Allocator>(
+    pages: &mut Vec<Page<A>, A>,
+    page: usize,
+    entry: Entry<A>,
+) -> Result<(), AllocError>
+    requires page { page < length pages.old.items }
+    requires rising { (p : List Slot) → AreRising (slice_index_or pages.old.items page p) }
+    ensures done { OnOk result ((p : List Slot)
+        → pages.new.items ≡ slice_set pages.old.items page (with_slot entry (slice_index_or pages.old.items page p))) }
+    ensures none { OnErr result (pages.new.items ≡ pages.old.items) }
+{
+    pages[page].insert(entry)
+}
+
+/// How many keys a page has.
+fn keys<A: Allocator>(pages: &[Page<A>], page: usize) -> usize
+    requires { page < length pages.now }
+    ensures { (p : List Slot) → result ≡ length (slice_index_or pages.now page p) }
+{
+    pages[page].len()
+}
+
+/// Whether a page begins at a key or before.
+fn begins_by<A: Allocator>(pages: &[Page<A>], page: usize, key: u64) -> bool
+    requires { page < length pages.now }
+    ensures { (p : List Slot) → result ≡ begins_by key (slice_index_or pages.now page p) }
+{
+    pages[page].begins_by(key)
+}
+
+/// Takes the upper half of a full page away.
+fn take_upper<A: Allocator + Copy>(
+    pages: &mut Vec<Page<A>, A>,
+    alloc: A,
+    page: usize,
+) -> Result<Page<A>, AllocError>
+    requires page { page < length pages.old.items }
+    requires full { (p : List Slot) → length (slice_index_or pages.old.items page p) ≡ 64 }
+    ensures lower { OnOk result ((p : List Slot)
+        → pages.new.items ≡ slice_set pages.old.items page (take 32 (slice_index_or pages.old.items page p))) }
+    ensures upper { IfOk result (λ upper. (p : List Slot) → upper ≡ drop 32 (slice_index_or pages.old.items page p)) }
+    ensures none { OnErr result (pages.new.items ≡ pages.old.items) }
+    ensures room { vec_capacity pages.new ≡ vec_capacity pages.old }
+    ensures len { vec_len pages.new ≡ vec_len pages.old }
+{
+    pages[page].split(alloc)
+}
+
+/// Splits a full page: its upper half becomes the next page. After want of memory nothing has changed.
+fn split_at<A: Allocator + Copy>(
+    pages: &mut Vec<Page<A>, A>,
+    alloc: A,
+    page: usize,
+) -> Result<(), AllocError>
+    requires page { page < length pages.old.items }
+    requires full { (p : List Slot) → length (slice_index_or pages.old.items page p) ≡ 64 }
+    ensures done { OnOk result ((p : List Slot)
+        → pages.new.items ≡ take page pages.old.items ++ take 32 (slice_index_or pages.old.items page p)
+        ∷ drop 32 (slice_index_or pages.old.items page p) ∷ drop (page + 1) pages.old.items) }
+    ensures none { OnErr result (pages.new.items ≡ pages.old.items) }
+{
+    pages.reserve(1)?;
+    let upper = take_upper(pages, alloc, page)?;
+    let inserted = pages.insert(page + 1, upper);
+    prove!(inserted.is_ok());
+    Ok(())
+}
+
+/// Puts an entry into one of the two halves of a page.
+fn insert_half<A: Allocator>(
+    pages: &mut Vec<Page<A>, A>,
+    page: usize,
+    entry: Entry<A>,
+) -> Result<(), AllocError>
+    requires page { page + 1 < length pages.old.items }
+    requires lower { (p : List Slot) → AreRising (slice_index_or pages.old.items page p) }
+    requires upper { (p : List Slot) → AreRising (slice_index_or pages.old.items (page + 1) p) }
+    ensures done { OnOk result ((p : List Slot)
+        → pages.new.items ≡ (if begins_by entry.key (slice_index_or pages.old.items (page + 1) p)
+        then slice_set pages.old.items (page + 1) (with_slot entry (slice_index_or pages.old.items (page + 1) p))
+        else slice_set pages.old.items page (with_slot entry (slice_index_or pages.old.items page p)))) }
+    ensures none { OnErr result (pages.new.items ≡ pages.old.items) }
+{
+    if begins_by(pages, page + 1, entry.key()) {
+        return insert_at(pages, page + 1, entry);
+    }
+    insert_at(pages, page, entry)
+}
+
+/// Puts an entry into a page, and first splits the page where it is full.
+fn insert_into<A: Allocator + Copy>(
+    pages: &mut Vec<Page<A>, A>,
+    alloc: A,
+    page: usize,
+    entry: Entry<A>,
+) -> Result<(), AllocError>
+    requires page { page < length pages.old.items }
+    requires rising { (p : List Slot) → AreRising (slice_index_or pages.old.items page p) }
+    requires filled { AreFilled pages.old.items }
+    ensures done { OnOk result ((p : List Slot)
+        → pages.new.items ≡ take page pages.old.items ++ (in_page entry (slice_index_or pages.old.items page p) ++ drop (page + 1) pages.old.items)) }
+    ensures none { OnErr result (all_slots pages.new.items ≡ all_slots pages.old.items) }
+    ensures filled { AreFilled pages.new.items }
+    ensures few { length pages.new.items ≤ length pages.old.items + 1 }
+{
+    if keys(pages, page) < PAGE_KEYS {
+        return insert_at(pages, page, entry);
+    }
+    split_at(pages, alloc, page)?;
+    insert_half(pages, page, entry)
+}
+
+/// Makes the first page of an entry.
+fn insert_first<A: Allocator + Copy>(
+    pages: &mut Vec<Page<A>, A>,
+    alloc: A,
+    entry: Entry<A>,
+) -> Result<(), AllocError>
+    requires { pages.old.items ≡ [] }
+    ensures done { OnOk result (pages.new.items ≡ (entry ∷ []) ∷ []) }
+    ensures none { OnErr result (pages.new.items ≡ pages.old.items) }
+{
+    let page = Page::new(alloc, entry)?;
+    pages.push(page)?;
+    Ok(())
+}
+
+/// Puts an entry in its place. After want of memory the keys are the same.
+fn insert<A: Allocator + Copy>(
+    pages: &mut Vec<Page<A>, A>,
+    alloc: A,
+    entry: Entry<A>,
+) -> Result<(), AllocError>
+    requires rising { AreRising (all_slots pages.old.items) }
+    requires filled { AreFilled pages.old.items }
+    requires few { length pages.old.items ≤ 144115188075855872 }
+    ensures done { OnOk result (pages.new.items ≡ in_pages entry pages.old.items) }
+    ensures none { OnErr result (all_slots pages.new.items ≡ all_slots pages.old.items) }
+    ensures filled { AreFilled pages.new.items }
+    ensures few { length pages.new.items ≤ 144115188075855872 }
+{
+    if pages.len() >= TABLE_PAGES {
+        return Err(AllocError);
+    }
+    if pages.is_empty() {
+        return insert_first(pages, alloc, entry);
+    }
+    let page = page_of(pages, entry.key());
+    insert_into(pages, alloc, page, entry)
+}
+
+/// Makes room for one more version of a key, which is put in its place where it is new.
+pub fn reserve<A: Allocator + Copy>(
+    pages: &mut Vec<Page<A>, A>,
+    alloc: A,
+    width: usize,
+    key: u64,
+) -> Result<(), AllocError>
+    requires { ArePages width pages.old.items }
+    ensures pages { ArePages width pages.new.items }
+    ensures inserted { OnOk result (chain_at (all_slots pages.old.items) key ≡ None → IsInserted key pages.old.items pages.new.items) }
+    ensures versions { (q : ℕ) → versions_at (all_slots pages.new.items) q ≡ versions_at (all_slots pages.old.items) q }
+    ensures room { OnOk result (HasRoomAt (all_slots pages.new.items) key) }
+    ensures more { (q : ℕ) → HasRoomAt (all_slots pages.old.items) q → HasRoomAt (all_slots pages.new.items) q }
+{
+    match find(pages, key) {
+        Some((page, at)) => reserve_at(pages, page, at),
+        None => {
+            let mut entry = Entry::new(alloc, width, key);
+            entry.reserve()?;
+            insert(pages, alloc, entry)
+        }
+    }
+}
+
+/// One version more of a key.
+pub fn push<A: Allocator>(pages: &mut Vec<Page<A>, A>, key: u64, position: u32, row: Option<&[u8]>)
+    requires rising { AreRising (all_slots pages.old.items) }
+    requires filled { AreFilled pages.old.items }
+    requires room { HasRoomAt (all_slots pages.old.items) key }
+    requires width { IfSome row (λ r. IsSomeAnd (chain_at (all_slots pages.old.items) key) (λ k. length r.now ≡ k.width)) }
+    ensures pages { (w : ℕ) → ArePages w pages.old.items → ArePages w pages.new.items }
+    ensures versions { (q : ℕ) → versions_at (all_slots pages.new.items) q ≡ (if key == q
+        then versions_at (all_slots pages.old.items) q ++ record { position = position; row = option_copied row.entry } ∷ []
+        else versions_at (all_slots pages.old.items) q) }
+    ensures room { (q : ℕ) → key ≢ q → HasRoomAt (all_slots pages.old.items) q → HasRoomAt (all_slots pages.new.items) q }
+{
+    let found = find(pages, key);
+    prove!(found.is_some());
+    if let Some((page, at)) = found {
+        push_at(pages, page, at, position, row);
+    }
+}
+
+/// Prunes a page.
+fn prune_at<A: Allocator>(pages: &mut Vec<Page<A>, A>, page: usize, horizon: u32)
+    requires { page < length pages.old.items }
+    ensures { (p : List Slot) → IsPrunedTo horizon (slice_index_or pages.old.items page p) (slice_index_or pages.new.items page p)
+        × (pages.new.items ≡ slice_set pages.old.items page (slice_index_or pages.new.items page p)) }
+{
+    pages[page].prune(horizon);
+}
+
+/// Prunes each page.
+fn prune_each<A: Allocator>(pages: &mut Vec<Page<A>, A>, horizon: u32)
+    ensures { ArePagesPruned horizon (length pages.old.items) pages.old.items pages.new.items }
+{
+    let all: &[Page<A>] = pages;
+    let count = all.len();
+    for i in 0..count {
+        prune_at(pages, i, horizon);
+    }
+}
+
+/// Drops the pages without keys.
+fn drop_empty<A: Allocator>(pages: &mut Vec<Page<A>, A>)
+    ensures { pages.new.items ≡ filter has_slots pages.old.items }
+{
+    pages.retain(|page| page.len() > 0);
+}
+
+/// Drops what no position from the horizon on sees, the keys of which nothing is left, and the pages without keys.
+pub fn prune<A: Allocator>(pages: &mut Vec<Page<A>, A>, horizon: u32)
+    ensures slots { IsPrunedTo horizon (all_slots pages.old.items) (all_slots pages.new.items) }
+    ensures filled { AreFilled pages.old.items → AreFilled pages.new.items }
+    ensures few { length pages.new.items ≤ length pages.old.items }
+{
+    prune_each(pages, horizon);
+    drop_empty(pages);
+}
