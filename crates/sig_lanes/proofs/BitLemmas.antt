@@ -3,13 +3,16 @@ use Rattle.std.proofs.Common.{◌≡◌, ◌≢◌, ◌⊎◌, inl, inr, ℕ, ze
 use Rattle.std.specs.List.{list_any, range_with_len}
 use Rattle.std.proofs.lemmas.Bool.Decides.{nat_tests}
 use Rattle.std.proofs.lemmas.List.{drop_more}
-use Rattle.std.specs.Int.{bit_at, w64}
+use Rattle.std.specs.Int.{bit_at, w64, trailing_zeros}
 use Rattle.std.specs.Prelude.{bit_or, slice_set}
 use Rattle.std.proofs.lemmas.Nat.Bits.{bit_at-zero, bit_at_ones, bit_at_set_same, bit_at_set_other}
 use Rattle.std.proofs.lemmas.Simd.{get_or-replicate}
 use Rattle.std.specs.Prelude.{replicate}
 use Rattle.std.proofs.lemmas.List.{get_or-set_same, get_or-set_other}
-use Rattle.sig_lanes.specs.Bits.{has_bit}
+use Rattle.sig_lanes.specs.Bits.{has_bit, Meet}
+use Rattle.std.specs.Prelude.{min, bit_and, not}
+use Rattle.std.proofs.lemmas.Nat.{and_le_l}
+use Rattle.std.proofs.lemmas.Nat.Bits.{bit_at_and, bit_at-trailing_zeros, bit_at-lt}
 
 pub or_false : (a : Bool) → (a || false) ≡ a
 or_false true = refl
@@ -109,3 +112,54 @@ nothing_left (x ∷ xs) (suc i) le = nothing_left xs i (omega arith)
 
 pub all_gathered : {X : Type 0} → (p : X → Bool) (xs : List X) (i : ℕ) (w t : Bool) → length xs ≤ i → (w || list_any p (drop i xs)) ≡ t → w ≡ t
 all_gathered p xs i w t le e = sym (or_false w) ∙ sym (ap (λ ys. w || list_any p ys) (nothing_left xs i le)) ∙ e
+
+is_one : (n : ℕ) → nat_eq n 1 ≡ true → n ≡ 1
+is_one n e = grind (arith, nat_tests)
+
+pub meet_none : (a b : List ℕ) → ((j : ℕ) → j < 16 → bit_and (get_or a j 0) (get_or b j 0) ≡ 0) → Meet a b → ⊥
+unfolding has_bit
+meet_none a b none (bit, lt, e, f) =
+    let k = bit % 64 in
+    let x = is_one (bit_at (get_or a (bit / 64) 0) k) e in
+    let y = is_one (bit_at (get_or b (bit / 64) 0) k) f in
+    let both = sym (bit_at_and (get_or a (bit / 64) 0) (get_or b (bit / 64) 0) k) ∙ ap (λ (w : ℕ). bit_at w k) (none (bit / 64) (omega arith)) ∙ bit_at-zero k in
+    absurd (apart _ _ x y both)
+  where
+    apart : (x y : ℕ) → x ≡ 1 → y ≡ 1 → min x y ≡ 0 → ⊥
+    apart x y e f h = absurd (grind (arith, nat_tests))
+
+-- two words whose conjunction isn't 0 have a bit in common
+pub words_share : (v w : ℕ) → v < 2 ^ 64 → 0 < bit_and v w → (k : ℕ) × (k < 64) × (bit_at v k ≡ 1) × (bit_at w k ≡ 1)
+words_share v w fits some =
+    let le = and_le_l v w in
+    let r = bit_at-trailing_zeros w64 (bit_and v w) some (omega (arith, le, fits)) in
+    let t = trailing_zeros w64 (bit_and v w) in
+    let m = sym (bit_at_and v w t) ∙ r.1 in
+    let x = bit_at-lt v t in
+    let y = bit_at-lt w t in
+    (t, r.0, first (bit_at v t) (bit_at w t) m x y, second (bit_at v t) (bit_at w t) m x y)
+  where
+    first : (x y : ℕ) → min x y ≡ 1 → x < 2 → y < 2 → x ≡ 1
+    first x y e f g = grind (arith, nat_tests)
+
+    second : (x y : ℕ) → min x y ≡ 1 → x < 2 → y < 2 → y ≡ 1
+    second x y e f g = grind (arith, nat_tests)
+
+place : (ws : List ℕ) (j k bit : ℕ) → bit / 64 ≡ j → bit % 64 ≡ k → bit_at (get_or ws j 0) k ≡ 1 → nat_eq (bit_at (get_or ws (bit / 64) 0) (bit % 64)) 1 ≡ true
+place ws j k bit e f g = ap (λ (i : ℕ). nat_eq (bit_at (get_or ws i 0) (bit % 64)) 1) e ∙ ap (λ (i : ℕ). nat_eq (bit_at (get_or ws j 0) i) 1) f ∙ ap (λ (i : ℕ). nat_eq i 1) g
+
+pub meet_some : (a b : List ℕ) (j k : ℕ) → j < 16 → k < 64 → bit_at (get_or a j 0) k ≡ 1 → bit_at (get_or b j 0) k ≡ 1 → Meet a b
+unfolding has_bit
+meet_some a b j k lt few x y =
+    let word : (64 * j + k) / 64 ≡ j = omega (arith, few) in
+    let rest : (64 * j + k) % 64 ≡ k = omega (arith, few) in
+    (64 * j + k, omega (arith, few, lt), place a j k (64 * j + k) word rest x, place b j k (64 * j + k) word rest y)
+
+pub positive : (n : ℕ) → not (nat_eq n 0) ≡ true → 0 < n
+positive n e = grind arith
+
+pub last_or_before : (m n : ℕ) → m < n + 1 → (m < n) ⊎ (m ≡ n)
+last_or_before m n lt = elim (decide m n) [ inl e ↦ inr e | inr f ↦ inl (let ne = unlike m n f in below ne) ]
+  where
+    below : (m ≡ n → ⊥) → m < n
+    below ne = grind (arith, nat_tests)

@@ -1,1 +1,2 @@
 mod BitLemmas
+pub mod LawLemmas

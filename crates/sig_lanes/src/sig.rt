@@ -1,6 +1,8 @@
 //! The bits that looks and writes set.
 
 ghost use Rattle.std.specs.Prelude.{◌≡◌, ◌<◌, ◌||◌, ◌==◌, ◌↔◌, ℕ, List, [], IsTrue, false, nat_lt, length, slice_index_or, IfSome, IfNone};
+ghost use Rattle.std.specs.Prelude.{bit_and};
+ghost use Rattle.std.specs.Int.{bit_at};
 ghost use Rattle.row_model.specs.Signature.{bit_of, look_sets_bit, looks_set_bit, writes_set_bit, shares_bit};
 ghost use Rattle.sig_lanes.specs.Bits.{has_bit, Meet};
 
@@ -33,6 +35,26 @@ fn bit_of(table: u8, key: u64) -> usize
     let of_key = key.wrapping_mul(0x9E3779B97F4A7C15);
     let of_table = u64::from(table).wrapping_mul(0xC2B2AE3D27D4EB4F);
     (of_key.wrapping_add(of_table) >> 54) as usize
+}
+
+/// Whether two words have a bit in common.
+fn words_share(a: u64, b: u64) -> bool
+    ensures shared { IsTrue result → (k : ℕ) × (k < 64) × (bit_at a k ≡ 1) × (bit_at b k ≡ 1) }
+    ensures none { result ≡ false → bit_and a b ≡ 0 }
+{
+    a & b != 0
+}
+
+/// Whether two sets of bits have one in common.
+fn words_meet(a: &[u64; 16], b: &[u64; 16]) -> bool
+    ensures { IsTrue result ↔ Meet a.now b.now }
+{
+    for word in 0..16 {
+        if words_share(a[word], b[word]) {
+            return true;
+        }
+    }
+    false
 }
 
 impl Sig {
@@ -99,4 +121,25 @@ impl Sig {
         }
         sig
     }
+
+    /// Whether some bit is in both.
+    pub fn meets(&self, other: &Sig) -> bool
+        ensures { IsTrue result ↔ Meet self.now other.now }
+    {
+        words_meet(&self.words, &other.words)
+    }
+}
+
+/// The least index of a signature that meets this one.
+pub fn first_meet(sig: &Sig, all: &[Sig]) -> Option<usize>
+    ensures found { IfSome result (λ index. (index < length all.now) × Meet sig.now (slice_index_or all.now index [])) }
+    ensures least { IfSome result (λ index. (other : ℕ) → other < index → Meet sig.now (slice_index_or all.now other []) → ⊥) }
+    ensures none { IfNone result ((other : ℕ) → other < length all.now → Meet sig.now (slice_index_or all.now other []) → ⊥) }
+{
+    for index in 0..all.len() {
+        if sig.meets(&all[index]) {
+            return Some(index);
+        }
+    }
+    None
 }
