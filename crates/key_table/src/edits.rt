@@ -6,9 +6,8 @@ ghost use Rattle.row_chain.specs.Version.{HasRoom};
 ghost use Rattle.key_table.specs.Table.{Slot, IsReserved, IsPushed, AreRising, AreWide, chain_at, versions_at, HasRoomAt};
 ghost use Rattle.key_table.specs.Pages.{all_slots, with_slot, in_page, in_pages, begins_by, has_slots, AreFilled, ArePages, IsInserted, IsPrunedTo, ArePagesPruned};
 
-use crate::entry::Entry;
-use crate::page::Page;
 use crate::pages::{find, page_of};
+use key_page::{Entry, Page};
 use std::alloc::{AllocError, Allocator};
 
 /// The most keys of a page.

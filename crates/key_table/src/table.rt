@@ -5,8 +5,8 @@ ghost use Rattle.std.specs.Option.{option_copied};
 ghost use Rattle.row_chain.specs.Version.{row_up_to, needed_versions};
 ghost use Rattle.key_table.specs.Table.{AreRising, chain_at, versions_at, HasRoomAt, rows_between};
 
-use crate::page::Page;
 use crate::{edits, pages};
+use key_page::Page;
 use std::alloc::{AllocError, Allocator, Global};
 use std::marker::Model;
 

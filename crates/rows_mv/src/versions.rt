@@ -1,6 +1,6 @@
 //! Versions of all rows.
 
-ghost use Rattle.std.specs.Prelude.{◌≡◌, ◌==◌, ◌↔◌, ◌+◌, ◌<◌, ◌≤◌, ◌++◌, [], ◌∷◌, ℕ, length, slice_get, if◌then◌else◌, OnOk, OnErr, IfOk, IfErr, IfSome, option_map, slice_index_or, slice_set};
+ghost use Rattle.std.specs.Prelude.{◌≡◌, ◌==◌, ◌↔◌, ◌+◌, ◌*◌, ◌<◌, ◌≤◌, ◌++◌, [], ◌∷◌, ℕ, length, slice_get, if◌then◌else◌, OnOk, OnErr, IfOk, IfErr, IfSome, option_map, slice_index_or, slice_set};
 ghost use Rattle.std.specs.Option.{option_copied};
 ghost use Rattle.schema.specs.Rows.{Key, Rows, row_at, count_in, first_in};
 ghost use Rattle.row_chain.specs.Version.{needed_versions};
@@ -87,7 +87,27 @@ fn first_seen<A: Allocator>(
     tables[number].first(position, lo, hi)
 }
 
+/// How many pages the keys of a table lie in.
+fn pages_of<A: Allocator>(tables: &[KeyTable<A>], table: u8) -> usize
+    ensures few { result ≤ length (slots_of tables.now table) }
+    ensures enough { length (slots_of tables.now table) ≤ 64 * result }
+{
+    let number = usize::from(table);
+    if number >= tables.len() {
+        return 0;
+    }
+    tables[number].pages()
+}
+
 impl<A: Allocator + Copy> Versions<A> {
+    /// How many pages the keys of a table lie in, 1 to 64 keys each.
+    pub fn pages(&self, table: u8) -> usize
+        ensures few { result ≤ length (slots_of self.now.tables table) }
+        ensures enough { length (slots_of self.now.tables table) ≤ 64 * result }
+    {
+        pages_of(&self.tables, table)
+    }
+
     /// How many rows of a range there are at a position, or `Gone` below those that are kept.
     pub fn count_at(&self, position: u32, table: u8, lo: u64, hi: u64) -> Result<usize, Gone>
         ensures count { IfOk result (λ n. (rows : Rows) → AnswersFrom self.now.tables position rows

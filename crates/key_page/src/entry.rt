@@ -1,0 +1,94 @@
+//! A key with its versions.
+
+ghost use Rattle.std.specs.Prelude.{◌≡◌, ◌==◌, ◌++◌, [], ◌∷◌, length, OnOk, IfSome, is_some};
+ghost use Rattle.std.specs.Option.{option_copied};
+ghost use Rattle.row_chain.specs.Version.{row_up_to, needed_versions, HasRoom};
+
+use row_chain::Chain;
+use std::alloc::{AllocError, Allocator, Global};
+use std::marker::Model;
+
+/// A key with its versions.
+#[derive(Drop)]
+pub struct Entry<A: Allocator = Global> {
+    key: u64,
+    chain: Chain<A>,
+}
+
+impl<A: Allocator> Model for Entry<A> {
+    ghost use Rattle.key_page.specs.Slots.{Slot};
+
+    ghost Value = { Slot };
+
+    ghost view = { λ e. record { key = e.key; chain = e.chain } };
+}
+
+impl<A: Allocator> Entry<A> {
+    pub fn key(&self) -> u64
+        ensures { result ≡ self.now.key }
+    {
+        self.key
+    }
+
+    pub fn row(&self, position: u32) -> Option<&[u8]>
+        ensures { option_copied result ≡ row_up_to position self.now.chain.versions }
+    {
+        self.chain.at(position)
+    }
+
+    pub fn is_empty(&self) -> bool
+        ensures { result ≡ (length self.now.chain.versions == 0) }
+    {
+        self.chain.is_empty()
+    }
+
+    pub fn shows(&self, position: u32) -> bool
+        ensures { result ≡ is_some (row_up_to position self.now.chain.versions) }
+    {
+        self.chain.at(position).is_some()
+    }
+}
+
+impl<A: Allocator> Entry<A> {
+    pub fn new(alloc: A, width: usize, key: u64) -> Entry<A>
+    where
+        A: Copy,
+        ensures key { result.key ≡ key }
+        ensures versions { result.chain.versions ≡ [] }
+        ensures width { result.chain.width ≡ width }
+    {
+        Entry {
+            key,
+            chain: Chain::new(alloc, width),
+        }
+    }
+
+    pub fn reserve(&mut self) -> Result<(), AllocError>
+        ensures key { self.new.key ≡ self.old.key }
+        ensures versions { self.new.chain.versions ≡ self.old.chain.versions }
+        ensures width { self.new.chain.width ≡ self.old.chain.width }
+        ensures room { OnOk result (HasRoom self.new.chain) }
+        ensures more { HasRoom self.old.chain → HasRoom self.new.chain }
+    {
+        self.chain.reserve()
+    }
+
+    pub fn push(&mut self, position: u32, row: Option<&[u8]>)
+        requires room { HasRoom self.old.chain }
+        requires width { IfSome row (λ r. length r.now ≡ self.old.chain.width) }
+        ensures key { self.new.key ≡ self.old.key }
+        ensures versions { self.new.chain.versions
+            ≡ self.old.chain.versions ++ record { position = position; row = option_copied row.entry } ∷ [] }
+        ensures width { self.new.chain.width ≡ self.old.chain.width }
+    {
+        self.chain.push(position, row);
+    }
+
+    pub fn prune(&mut self, horizon: u32)
+        ensures key { self.new.key ≡ self.old.key }
+        ensures versions { self.new.chain.versions ≡ needed_versions horizon self.old.chain.versions }
+        ensures width { self.new.chain.width ≡ self.old.chain.width }
+    {
+        self.chain.prune(horizon);
+    }
+}

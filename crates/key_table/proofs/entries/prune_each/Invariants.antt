@@ -1,5 +1,0 @@
-use Rattle.key_table.specs.Table.{ArePruned}
-use Rattle.key_table.proofs.entries.prune_each.Given as goal
-
-abbrev pub invariant-loop-i : goal.invariant-loop-i
-invariant-loop-i g l = ArePruned l.horizon l.i l.fn.entries.items l.entries.items
