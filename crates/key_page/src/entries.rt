@@ -1,9 +1,12 @@
 //! Keys in order.
 
-ghost use Rattle.std.specs.Prelude.{◌≡◌, List, ◌<◌, ◌≤◌, ◌+◌, ◌++◌, length, take, drop, reverse, vec_capacity, OnOk, OnErr, filter, slice_get, option_map, is_ok, slice_index_or, slice_set, Some, None, IfOk, IfSome, IfNone, ℕ};
+ghost use Rattle.std.specs.Prelude.{◌≡◌, List, ◌<◌, ◌≤◌, ◌+◌, ◌++◌, length, take, drop, reverse, vec_capacity};
+ghost use Rattle.std.specs.Prelude.{OnOk, OnErr, filter, slice_get, option_map, is_ok, slice_index_or, slice_set};
+ghost use Rattle.std.specs.Prelude.{Some, None, IfOk, IfSome, IfNone, ℕ};
 ghost use Rattle.std.specs.Option.{option_copied};
 ghost use Rattle.row_chain.specs.Version.{row_up_to, HasRoom};
-ghost use Rattle.key_page.specs.Slots.{Slot, IsReserved, IsPushed, IsPruned, ArePruned, AreRising, below, chain_at, versions_at, rows_between, AreFrom, has_versions};
+ghost use Rattle.key_page.specs.Slots.{Slot, IsReserved, IsPushed, IsPruned, ArePruned, AreRising, below, chain_at};
+ghost use Rattle.key_page.specs.Slots.{versions_at, rows_between, AreFrom, has_versions};
 ghost use Rattle.key_page.specs.Slots.{begins_by, with_slot, IsPrunedTo};
 
 use crate::entry::Entry;
@@ -189,7 +192,8 @@ pub fn push_at<A: Allocator>(
     requires at { at < length entries.old.items }
     requires room { (d : Slot) → HasRoom (slice_index_or entries.old.items at d).chain }
     requires width { (d : Slot) → IfSome row (λ r. length r.now ≡ (slice_index_or entries.old.items at d).chain.width) }
-    ensures { (d : Slot) → IsPushed position (option_copied row.entry) (slice_index_or entries.old.items at d) (slice_index_or entries.new.items at d)
+    ensures { (d : Slot)
+        → IsPushed position (option_copied row.entry) (slice_index_or entries.old.items at d) (slice_index_or entries.new.items at d)
         × (entries.new.items ≡ slice_set entries.old.items at (slice_index_or entries.new.items at d)) }
 {
     entries[at].push(position, row);

@@ -1,10 +1,14 @@
 //! Changes of pages in order.
 
-ghost use Rattle.std.specs.Prelude.{◌≡◌, ◌≢◌, ◌==◌, List, [], ◌∷◌, ◌++◌, ◌<◌, ◌≤◌, ◌+◌, ℕ, length, take, drop, filter, vec_len, vec_capacity, is_ok, slice_index_or, slice_set, Some, None, OnOk, OnErr, IfOk, IfSome, if◌then◌else◌};
+ghost use Rattle.std.specs.Prelude.{◌≡◌, ◌≢◌, ◌==◌, List, [], ◌∷◌, ◌++◌, ◌<◌, ◌≤◌, ◌+◌, ℕ, length, take, drop};
+ghost use Rattle.std.specs.Prelude.{filter, vec_len, vec_capacity, is_ok, slice_index_or, slice_set, Some, None};
+ghost use Rattle.std.specs.Prelude.{OnOk, OnErr, IfOk, IfSome, if◌then◌else◌};
 ghost use Rattle.std.specs.Option.{option_copied, IsSomeAnd};
 ghost use Rattle.row_chain.specs.Version.{HasRoom};
-ghost use Rattle.key_table.specs.Table.{Slot, IsReserved, IsPushed, AreRising, AreWide, chain_at, versions_at, HasRoomAt};
-ghost use Rattle.key_table.specs.Pages.{all_slots, with_slot, in_page, in_pages, begins_by, has_slots, AreFilled, ArePages, IsInserted, IsPrunedTo, ArePagesPruned};
+ghost use Rattle.key_table.specs.Table.{Slot, IsReserved, IsPushed, AreRising, AreWide, chain_at, versions_at};
+ghost use Rattle.key_table.specs.Table.{HasRoomAt};
+ghost use Rattle.key_table.specs.Pages.{all_slots, with_slot, in_page, in_pages, begins_by, has_slots, AreFilled};
+ghost use Rattle.key_table.specs.Pages.{ArePages, IsInserted, IsPrunedTo, ArePagesPruned};
 
 use crate::pages::{find, page_of};
 use key_page::{Entry, Page};
@@ -25,7 +29,8 @@ pub fn reserve_at<A: Allocator>(
     requires page { page < length pages.old.items }
     requires at { (p : List Slot) → at < length (slice_index_or pages.old.items page p) }
     ensures { (p : List Slot) (d : Slot)
-        → IsReserved (is_ok result) (slice_index_or (slice_index_or pages.old.items page p) at d) (slice_index_or (slice_index_or pages.new.items page p) at d)
+        → IsReserved (is_ok result) (slice_index_or (slice_index_or pages.old.items page p) at d)
+        (slice_index_or (slice_index_or pages.new.items page p) at d)
         × (pages.new.items ≡ slice_set pages.old.items page
         (slice_set (slice_index_or pages.old.items page p) at (slice_index_or (slice_index_or pages.new.items page p) at d))) }
 {
@@ -46,7 +51,8 @@ pub fn push_at<A: Allocator>(
     requires width { (p : List Slot) (d : Slot)
         → IfSome row (λ r. length r.now ≡ (slice_index_or (slice_index_or pages.old.items page p) at d).chain.width) }
     ensures { (p : List Slot) (d : Slot)
-        → IsPushed position (option_copied row.entry) (slice_index_or (slice_index_or pages.old.items page p) at d) (slice_index_or (slice_index_or pages.new.items page p) at d)
+        → IsPushed position (option_copied row.entry) (slice_index_or (slice_index_or pages.old.items page p) at d)
+        (slice_index_or (slice_index_or pages.new.items page p) at d)
         × (pages.new.items ≡ slice_set pages.old.items page
         (slice_set (slice_index_or pages.old.items page p) at (slice_index_or (slice_index_or pages.new.items page p) at d))) }
 {
@@ -154,7 +160,8 @@ fn insert_into<A: Allocator + Copy>(
     requires rising { (p : List Slot) → AreRising (slice_index_or pages.old.items page p) }
     requires filled { AreFilled pages.old.items }
     ensures done { OnOk result ((p : List Slot)
-        → pages.new.items ≡ take page pages.old.items ++ (in_page entry (slice_index_or pages.old.items page p) ++ drop (page + 1) pages.old.items)) }
+        → pages.new.items ≡ take page pages.old.items
+        ++ (in_page entry (slice_index_or pages.old.items page p) ++ drop (page + 1) pages.old.items)) }
     ensures none { OnErr result (all_slots pages.new.items ≡ all_slots pages.old.items) }
     ensures filled { AreFilled pages.new.items }
     ensures few { length pages.new.items ≤ length pages.old.items + 1 }

@@ -1,6 +1,7 @@
 //! The keys of one table in pages.
 
-ghost use Rattle.std.specs.Prelude.{◌≡◌, ◌≢◌, ◌==◌, ◌≤◌, ◌*◌, ◌++◌, [], ◌∷◌, ℕ, length, slice_get, if◌then◌else◌, OnOk, IfSome, IsSome, option_map};
+ghost use Rattle.std.specs.Prelude.{◌≡◌, ◌≢◌, ◌==◌, ◌≤◌, ◌*◌, ◌++◌, [], ◌∷◌, ℕ, length, slice_get, if◌then◌else◌};
+ghost use Rattle.std.specs.Prelude.{OnOk, IfSome, IsSome, option_map};
 ghost use Rattle.std.specs.Option.{option_copied};
 ghost use Rattle.row_chain.specs.Version.{row_up_to, needed_versions};
 ghost use Rattle.key_table.specs.Table.{AreRising, chain_at, versions_at, HasRoomAt, rows_between};

@@ -1,11 +1,13 @@
 //! Changes of one key among all tables, and of each key of a write set.
 
-ghost use Rattle.std.specs.Prelude.{◌≡◌, ◌≢◌, ◌==◌, ◌<◌, ◌++◌, [], ◌∷◌, ℕ, length, is_ok, if◌then◌else◌, IfSome, OnOk, slice_index_or, slice_set, ◌&&◌, IfOk, unwrap_or};
+ghost use Rattle.std.specs.Prelude.{◌≡◌, ◌≢◌, ◌==◌, ◌<◌, ◌++◌, [], ◌∷◌, ℕ, length, is_ok, if◌then◌else◌, IfSome};
+ghost use Rattle.std.specs.Prelude.{OnOk, slice_index_or, slice_set, ◌&&◌, IfOk, unwrap_or};
 ghost use Rattle.std.specs.FinMap.{get};
 ghost use Rattle.std.specs.Option.{option_copied, IsSomeAnd};
 ghost use Rattle.schema.specs.Rows.{Key};
 ghost use Rattle.key_table.specs.Table.{Table, versions_at, chain_at, HasRoomAt};
-ghost use Rattle.rows_mv.specs.Versions.{slots_of, width_of, IsTableReserved, IsTablePut, AreOfTables, IsPrepared, HaveWidths, IsInstalled, IsPrunedAt, IsTablePruned, AreEmpty};
+ghost use Rattle.rows_mv.specs.Versions.{slots_of, width_of, IsTableReserved, IsTablePut, AreOfTables, IsPrepared};
+ghost use Rattle.rows_mv.specs.Versions.{HaveWidths, IsInstalled, IsPrunedAt, IsTablePruned, AreEmpty};
 
 use key_table::KeyTable;
 use row_sets::WriteSet;
@@ -79,7 +81,8 @@ fn put_at<A: Allocator>(
     requires at { at < length tables.old.items }
     requires room { (d : Table) → HasRoomAt (slice_index_or tables.old.items at d).slots key }
     requires width { (d : Table) → IfSome row (λ r. length r.now ≡ (slice_index_or tables.old.items at d).width) }
-    ensures { (d : Table) → IsTablePut key position (option_copied row.entry) (slice_index_or tables.old.items at d) (slice_index_or tables.new.items at d)
+    ensures { (d : Table)
+        → IsTablePut key position (option_copied row.entry) (slice_index_or tables.old.items at d) (slice_index_or tables.new.items at d)
         × (tables.new.items ≡ slice_set tables.old.items at (slice_index_or tables.new.items at d)) }
 {
     tables[at].push(key, position, row);
@@ -99,7 +102,8 @@ pub fn put<A: Allocator>(
     ensures versions { (k : Key) → versions_at (slots_of tables.new.items k.0) k.1 ≡ (if (table == k.0) && (key == k.1)
         then versions_at (slots_of tables.old.items k.0) k.1 ++ record { position = position; row = option_copied row.entry } ∷ []
         else versions_at (slots_of tables.old.items k.0) k.1) }
-    ensures room { (k : Key) → k ≢ (table, key) → HasRoomAt (slots_of tables.old.items k.0) k.1 → HasRoomAt (slots_of tables.new.items k.0) k.1 }
+    ensures room { (k : Key) → k ≢ (table, key)
+        → HasRoomAt (slots_of tables.old.items k.0) k.1 → HasRoomAt (slots_of tables.new.items k.0) k.1 }
     ensures widths { (t : ℕ) → width_of tables.new.items t ≡ width_of tables.old.items t }
     ensures count { length tables.new.items ≡ length tables.old.items }
 {

@@ -1,11 +1,14 @@
 //! Versions of all rows.
 
-ghost use Rattle.std.specs.Prelude.{◌≡◌, ◌==◌, ◌↔◌, ◌+◌, ◌*◌, ◌<◌, ◌≤◌, ◌++◌, [], ◌∷◌, ℕ, length, slice_get, if◌then◌else◌, OnOk, OnErr, IfOk, IfErr, IfSome, option_map, slice_index_or, slice_set};
+ghost use Rattle.std.specs.Prelude.{◌≡◌, ◌==◌, ◌↔◌, ◌+◌, ◌*◌, ◌<◌, ◌≤◌, ◌++◌, [], ◌∷◌, ℕ, length, slice_get};
+ghost use Rattle.std.specs.Prelude.{if◌then◌else◌, OnOk, OnErr, IfOk, IfErr, IfSome, option_map, slice_index_or};
+ghost use Rattle.std.specs.Prelude.{slice_set};
 ghost use Rattle.std.specs.Option.{option_copied};
 ghost use Rattle.schema.specs.Rows.{Key, Rows, row_at, count_in, first_in};
 ghost use Rattle.row_chain.specs.Version.{needed_versions};
 ghost use Rattle.key_table.specs.Table.{rows_between, AreRising, versions_at, HasRoomAt};
-ghost use Rattle.rows_mv.specs.Versions.{AnswersFrom, AreEmpty, AreOfTables, HaveTables, HaveWidths, IsInstalled, IsPrepared, IsPrunedAt, row_seen, slots_of, width_of};
+ghost use Rattle.rows_mv.specs.Versions.{AnswersFrom, AreEmpty, AreOfTables, HaveTables, HaveWidths, IsInstalled};
+ghost use Rattle.rows_mv.specs.Versions.{IsPrepared, IsPrunedAt, row_seen, slots_of, width_of};
 
 use crate::tables::{new_tables, prune_each, put_each, reserve_each};
 use key_table::KeyTable;
