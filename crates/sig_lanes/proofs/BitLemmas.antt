@@ -1,18 +1,17 @@
 -- Bits of words, and unions of bits.
-use Rattle.std.proofs.Common.{◌≡◌, ◌≢◌, ◌⊎◌, inl, inr, ℕ, zero, suc, ◌+◌, ◌≤◌, ◌<◌, ◌^◌, ◌*◌, ◌/◌, ◌%◌, Bool, true, false, ◌||◌, List, [], ◌∷◌, nat_eq, length, get_or, drop, refl, sym, ap, ◌∙◌, arith}
+use Rattle.std.proofs.Common.{◌≡◌, ◌≢◌, ◌⊎◌, inl, inr, ℕ, zero, suc, ◌+◌, ◌-◌, ◌≤◌, ◌<◌, ◌^◌, ◌*◌, ◌/◌, ◌%◌, Bool, true, false, ◌||◌, List, [], ◌∷◌, ◌++◌, nat_eq, length, get_or, drop, refl, sym, ap, ◌∙◌, arith}
 use Rattle.std.specs.List.{list_any, range_with_len}
 use Rattle.std.proofs.lemmas.Bool.Decides.{nat_tests}
 use Rattle.std.proofs.lemmas.List.{drop_more}
-use Rattle.std.specs.Int.{bit_at, w64, trailing_zeros}
+use Rattle.std.specs.Int.{bit_at, w64}
 use Rattle.std.specs.Prelude.{bit_or, slice_set}
 use Rattle.std.proofs.lemmas.Nat.Bits.{bit_at-zero, bit_at_ones, bit_at_set_same, bit_at_set_other}
 use Rattle.std.proofs.lemmas.Simd.{get_or-replicate}
 use Rattle.std.specs.Prelude.{replicate}
-use Rattle.std.proofs.lemmas.List.{get_or-set_same, get_or-set_other}
+use Rattle.std.proofs.lemmas.Bool.{cases_lt}
+use Rattle.std.proofs.lemmas.List.{get_or-set_same, get_or-set_other, get_or_append_left, get_or-append_right}
 use Rattle.sig_lanes.specs.Bits.{has_bit, Meet}
-use Rattle.std.specs.Prelude.{min, bit_and, not}
-use Rattle.std.proofs.lemmas.Nat.{and_le_l}
-use Rattle.std.proofs.lemmas.Nat.Bits.{bit_at_and, bit_at-trailing_zeros, bit_at-lt}
+use Rattle.std.specs.Prelude.{not}
 
 pub or_false : (a : Bool) → (a || false) ≡ a
 or_false true = refl
@@ -58,7 +57,7 @@ unlike m n f e = ne (sym (equal m n e) ∙ f)
     ne : true ≡ false → ⊥
     ne e = absurd cc
 
-zeros : (n i : ℕ) → get_or {A = ℕ} (replicate n 0) i 0 ≡ zero
+pub zeros : (n i : ℕ) → get_or {A = ℕ} (replicate n 0) i 0 ≡ zero
 zeros zero i = refl
 zeros (suc n) zero = refl
 zeros (suc n) (suc i) = zeros n i
@@ -72,9 +71,9 @@ unfolding has_bit
 each_bit bit lt = ap (λ (w : ℕ). nat_eq (bit_at w (bit % 64)) 1) (get_or-replicate 16 (bit / 64) 18446744073709551615 0 (omega arith)) ∙ ap (λ (x : ℕ). nat_eq x 1) (bit_at_ones 64 (bit % 64) (omega arith))
 
 -- one bit more in its word
-pub one_more : (ws : List ℕ) (bit b : ℕ) → length ws ≡ 16 → bit < 1024 → has_bit (slice_set ws (bit / 64) (bit_or (get_or ws (bit / 64) 0) (1 * 2 ^ (bit % 64) % 2 ^ 64))) b ≡ (has_bit ws b || nat_eq bit b)
+pub one_more : (ws : List ℕ) (bit b : ℕ) → bit / 64 < length ws → has_bit (slice_set ws (bit / 64) (bit_or (get_or ws (bit / 64) 0) (1 * 2 ^ (bit % 64) % 2 ^ 64))) b ≡ (has_bit ws b || nat_eq bit b)
 unfolding has_bit
-one_more ws bit b long lt = elim (decide (b / 64) (bit / 64)) [
+one_more ws bit b lt = elim (decide (b / 64) (bit / 64)) [
   | inr apart ↦ (
       let other = get_or-set_other ws (bit / 64) (b / 64) new 0 (unlike (b / 64) (bit / 64) apart) in
       ap (λ (w : ℕ). nat_eq (bit_at w (b % 64)) 1) other ∙ sym (or_else _ _ (not_same (λ e. unlike (b / 64) (bit / 64) apart (sym (ap (λ (n : ℕ). n / 64) e))))))
@@ -116,34 +115,9 @@ all_gathered p xs i w t le e = sym (or_false w) ∙ sym (ap (λ ys. w || list_an
 is_one : (n : ℕ) → nat_eq n 1 ≡ true → n ≡ 1
 is_one n e = grind (arith, nat_tests)
 
-pub meet_none : (a b : List ℕ) → ((j : ℕ) → j < 16 → bit_and (get_or a j 0) (get_or b j 0) ≡ 0) → Meet a b → ⊥
+pub has_bit_at : (ws : List ℕ) (bit : ℕ) → has_bit ws bit ≡ true → bit_at (get_or ws (bit / 64) 0) (bit % 64) ≡ 1
 unfolding has_bit
-meet_none a b none (bit, lt, e, f) =
-    let k = bit % 64 in
-    let x = is_one (bit_at (get_or a (bit / 64) 0) k) e in
-    let y = is_one (bit_at (get_or b (bit / 64) 0) k) f in
-    let both = sym (bit_at_and (get_or a (bit / 64) 0) (get_or b (bit / 64) 0) k) ∙ ap (λ (w : ℕ). bit_at w k) (none (bit / 64) (omega arith)) ∙ bit_at-zero k in
-    absurd (apart _ _ x y both)
-  where
-    apart : (x y : ℕ) → x ≡ 1 → y ≡ 1 → min x y ≡ 0 → ⊥
-    apart x y e f h = absurd (grind (arith, nat_tests))
-
--- two words whose conjunction isn't 0 have a bit in common
-pub words_share : (v w : ℕ) → v < 2 ^ 64 → 0 < bit_and v w → (k : ℕ) × (k < 64) × (bit_at v k ≡ 1) × (bit_at w k ≡ 1)
-words_share v w fits some =
-    let le = and_le_l v w in
-    let r = bit_at-trailing_zeros w64 (bit_and v w) some (omega (arith, le, fits)) in
-    let t = trailing_zeros w64 (bit_and v w) in
-    let m = sym (bit_at_and v w t) ∙ r.1 in
-    let x = bit_at-lt v t in
-    let y = bit_at-lt w t in
-    (t, r.0, first (bit_at v t) (bit_at w t) m x y, second (bit_at v t) (bit_at w t) m x y)
-  where
-    first : (x y : ℕ) → min x y ≡ 1 → x < 2 → y < 2 → x ≡ 1
-    first x y e f g = grind (arith, nat_tests)
-
-    second : (x y : ℕ) → min x y ≡ 1 → x < 2 → y < 2 → y ≡ 1
-    second x y e f g = grind (arith, nat_tests)
+has_bit_at ws bit e = is_one (bit_at (get_or ws (bit / 64) 0) (bit % 64)) e
 
 place : (ws : List ℕ) (j k bit : ℕ) → bit / 64 ≡ j → bit % 64 ≡ k → bit_at (get_or ws j 0) k ≡ 1 → nat_eq (bit_at (get_or ws (bit / 64) 0) (bit % 64)) 1 ≡ true
 place ws j k bit e f g = ap (λ (i : ℕ). nat_eq (bit_at (get_or ws i 0) (bit % 64)) 1) e ∙ ap (λ (i : ℕ). nat_eq (bit_at (get_or ws j 0) i) 1) f ∙ ap (λ (i : ℕ). nat_eq i 1) g
@@ -163,3 +137,38 @@ last_or_before m n lt = elim (decide m n) [ inl e ↦ inr e | inr f ↦ inl (let
   where
     below : (m ≡ n → ⊥) → m < n
     below ne = grind (arith, nat_tests)
+
+-- ---- a set of bits in two halves
+
+low_bit : (low high : List ℕ) (b : ℕ) → length low ≡ 8 → b < 512 → has_bit (low ++ high) b ≡ has_bit low b
+unfolding has_bit
+low_bit low high b long lt = ap (λ (w : ℕ). nat_eq (bit_at w (b % 64)) 1) (get_or_append_left low high 0 (b / 64) (omega arith))
+
+high_bit : (low high : List ℕ) (b : ℕ) → length low ≡ 8 → 512 ≤ b → has_bit (low ++ high) b ≡ has_bit high (b - 512)
+unfolding has_bit
+high_bit low high b long ge =
+    let word : b / 64 - 8 ≡ (b - 512) / 64 = omega arith in
+    let rest : b % 64 ≡ (b - 512) % 64 = omega arith in
+    ap (λ (w : ℕ). nat_eq (bit_at w (b % 64)) 1) (get_or-append_right low high 8 (b / 64) 0 long (omega arith))
+    ∙ ap (λ (i : ℕ). nat_eq (bit_at (get_or high i 0) (b % 64)) 1) word
+    ∙ ap (λ (i : ℕ). nat_eq (bit_at (get_or high ((b - 512) / 64) 0) i) 1) rest
+
+apart_or : (x : Bool) (m n : ℕ) → (m ≡ n → ⊥) → (x || nat_eq m n) ≡ x
+apart_or x m n ne = elim (decide m n) [ inl e ↦ absurd (ne e) | inr f ↦ ap (λ (y : Bool). x || y) f ∙ or_false x ]
+
+pub more_low : (low new high : List ℕ) (bit b : ℕ) → length low ≡ 8 → length new ≡ 8 → bit < 512 → has_bit new b ≡ (has_bit low b || nat_eq bit b)
+    → has_bit (new ++ high) b ≡ (has_bit (low ++ high) b || nat_eq bit b)
+more_low low new high bit b long also within more = elim (cases_lt b 512) [
+  | inl lt ↦ low_bit new high b also lt ∙ more ∙ ap (λ (x : Bool). x || nat_eq bit b) (sym (low_bit low high b long lt))
+  | inr ge ↦ high_bit new high b also ge ∙ sym (high_bit low high b long ge) ∙ sym (apart_or (has_bit (low ++ high) b) bit b (λ e. absurd (omega arith)))
+]
+
+pub more_high : (low high new : List ℕ) (bit b : ℕ) → length low ≡ 8 → 512 ≤ bit → has_bit new (b - 512) ≡ (has_bit high (b - 512) || nat_eq (bit - 512) (b - 512))
+    → has_bit (low ++ new) b ≡ (has_bit (low ++ high) b || nat_eq bit b)
+more_high low high new bit b long within more = elim (cases_lt b 512) [
+  | inl lt ↦ low_bit low new b long lt ∙ sym (low_bit low high b long lt) ∙ sym (apart_or (has_bit (low ++ high) b) bit b (λ e. absurd (omega arith)))
+  | inr ge ↦ high_bit low new b long ge ∙ more ∙ ap (λ (x : Bool). x || nat_eq (bit - 512) (b - 512)) (sym (high_bit low high b long ge)) ∙ ap (λ (y : Bool). has_bit (low ++ high) b || y) (shifted ge)
+]
+  where
+    shifted : 512 ≤ b → nat_eq (bit - 512) (b - 512) ≡ nat_eq bit b
+    shifted ge = grind (arith, nat_tests)

@@ -1,2 +1,3 @@
 mod BitLemmas
+mod LaneLemmas
 pub mod LawLemmas

@@ -1,9 +1,12 @@
 //! Signatures of 1,024 bits, by which most write sets are told from a call's looks without an exact comparison.
 #![tactic(auto)]
 
+pub use block::Block;
 pub use laws::signatures_meet_where_bits_are_shared;
 pub use sig::{Sig, first_meet};
 
+mod block;
+mod lanes;
 mod laws;
 mod sig;
 #[cfg(test)]

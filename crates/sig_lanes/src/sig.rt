@@ -1,30 +1,31 @@
 //! The bits that looks and writes set.
 
-ghost use Rattle.std.specs.Prelude.{◌≡◌, ◌<◌, ◌||◌, ◌==◌, ◌↔◌, ℕ, List, [], IsTrue, false, nat_lt, length, slice_index_or, IfSome, IfNone};
-ghost use Rattle.std.specs.Prelude.{bit_and};
-ghost use Rattle.std.specs.Int.{bit_at};
+ghost use Rattle.std.specs.Prelude.{◌≡◌, ◌<◌, ◌||◌, ◌++◌, ◌==◌, ◌↔◌, ℕ, List, [], IsTrue, false, nat_lt, length, slice_index_or, IfSome, IfNone};
 ghost use Rattle.row_model.specs.Signature.{bit_of, look_sets_bit, looks_set_bit, writes_set_bit, shares_bit};
 ghost use Rattle.sig_lanes.specs.Bits.{has_bit, Meet};
 
+use crate::lanes::{lanes_with_bits, with_word};
 use row_sets::{ReadSet, WriteSet};
 use schema::Look;
 use std::alloc::Allocator;
 use std::marker::Model;
+use std::simd::prelude::*;
 
 /// A set of bits below 1,024. Contracts see its 16 words: bit b is bit b mod 64 of word b / 64.
 #[derive(Drop)]
 pub struct Sig {
-    words: [u64; 16],
+    low: u64x8,
+    high: u64x8,
 }
 
 impl Model for Sig {
-    ghost use Rattle.std.specs.Prelude.{◌≡◌, ℕ, List, length};
+    ghost use Rattle.std.specs.Prelude.{◌≡◌, ◌++◌, ℕ, List, length};
 
     ghost Value = { List ℕ };
 
-    ghost view = { λ s. s.words };
+    ghost view = { λ s. s.low ++ s.high };
 
-    ghost invariant = { λ s. length s.words ≡ 16 };
+    ghost invariant = { λ s. (length s.low ≡ 8) × (length s.high ≡ 8) };
 }
 
 /// The bit of a key.
@@ -37,24 +38,21 @@ fn bit_of(table: u8, key: u64) -> usize
     (of_key.wrapping_add(of_table) >> 54) as usize
 }
 
-/// Whether two words have a bit in common.
-fn words_share(a: u64, b: u64) -> bool
-    ensures shared { IsTrue result → (k : ℕ) × (k < 64) × (bit_at a k ≡ 1) × (bit_at b k ≡ 1) }
-    ensures none { result ≡ false → bit_and a b ≡ 0 }
+/// Whether two sets of bits have one in common.
+#[inline(always)]
+fn halves_meet(low: u64x8, high: u64x8, other_low: u64x8, other_high: u64x8) -> bool
+    ensures { IsTrue result ↔ Meet (low ++ high) (other_low ++ other_high) }
 {
-    a & b != 0
+    lanes_with_bits((low & other_low) | (high & other_high)) != 0
 }
 
-/// Whether two sets of bits have one in common.
-fn words_meet(a: &[u64; 16], b: &[u64; 16]) -> bool
-    ensures { IsTrue result ↔ Meet a.now b.now }
+/// One more bit in half of the words.
+fn with_bit(half: u64x8, bit: usize) -> u64x8
+    requires { bit < 512 }
+    ensures bits { (b : ℕ) → has_bit result b ≡ (has_bit half b || (bit == b)) }
+    ensures eight { length result ≡ 8 }
 {
-    for word in 0..16 {
-        if words_share(a[word], b[word]) {
-            return true;
-        }
-    }
-    false
+    with_word(half, bit / 64, half[bit / 64] | 1 << (bit % 64))
 }
 
 impl Sig {
@@ -62,7 +60,10 @@ impl Sig {
     pub fn empty() -> Sig
         ensures { (bit : ℕ) → has_bit result bit ≡ false }
     {
-        Sig { words: [0; 16] }
+        Sig {
+            low: u64x8::splat(0),
+            high: u64x8::splat(0),
+        }
     }
 
     /// All 1,024 bits.
@@ -70,7 +71,8 @@ impl Sig {
         ensures { (bit : ℕ) → bit < 1024 → IsTrue (has_bit result bit) }
     {
         Sig {
-            words: [u64::MAX; 16],
+            low: u64x8::splat(u64::MAX),
+            high: u64x8::splat(u64::MAX),
         }
     }
 
@@ -79,7 +81,11 @@ impl Sig {
         requires { bit < 1024 }
         ensures { (b : ℕ) → has_bit self.new b ≡ (has_bit self.old b || (bit == b)) }
     {
-        self.words[bit / 64] |= 1 << (bit % 64);
+        if bit < 512 {
+            self.low = with_bit(self.low, bit);
+        } else {
+            self.high = with_bit(self.high, bit - 512);
+        }
     }
 
     /// The bits of a look besides.
@@ -122,11 +128,23 @@ impl Sig {
         sig
     }
 
+    /// The 16 words.
+    #[inline(always)]
+    pub(crate) fn words(&self) -> [u64; 16]
+        ensures words { result ≡ self.now }
+        ensures sixteen { length result ≡ 16 }
+    {
+        let mut words = [0; 16];
+        self.low.copy_to_slice(&mut words[..8]);
+        self.high.copy_to_slice(&mut words[8..]);
+        words
+    }
+
     /// Whether some bit is in both.
     pub fn meets(&self, other: &Sig) -> bool
         ensures { IsTrue result ↔ Meet self.now other.now }
     {
-        words_meet(&self.words, &other.words)
+        halves_meet(self.low, self.high, other.low, other.high)
     }
 }
 

@@ -1,0 +1,114 @@
+//! Eight signatures, against which another is compared at once.
+
+ghost use Rattle.std.specs.Prelude.{◌≡◌, ◌≢◌, ◌<◌, ◌↔◌, ℕ, List, false, slice_index_or};
+ghost use Rattle.std.specs.Int.{bit_at};
+ghost use Rattle.sig_lanes.specs.Bits.{has_bit, Meet, signature_at, SharePlace};
+
+use crate::Sig;
+use crate::lanes::{lanes_with_bits, or_shared, with_word};
+use std::marker::Model;
+use std::simd::prelude::*;
+
+/// The words of one index of eight signatures: lane j is that of signature j.
+#[derive(Clone, Copy)]
+struct Words {
+    lanes: u64x8,
+}
+
+impl Model for Words {
+    ghost use Rattle.std.specs.Prelude.{◌≡◌, ℕ, List, length};
+
+    ghost Value = { List ℕ };
+
+    ghost view = { λ w. w.lanes };
+
+    ghost invariant = { λ w. length w.lanes ≡ 8 };
+
+    ghost inverse = { λ lanes. record { lanes = lanes } };
+}
+
+/// Eight signatures turned round: lane j of vector i is word i of signature j.
+#[derive(Drop)]
+pub struct Block {
+    words: [Words; 16],
+}
+
+impl Model for Block {
+    ghost use Rattle.std.specs.Prelude.{ℕ, List};
+
+    ghost Value = { List (List ℕ) };
+
+    ghost view = { λ b. b.words };
+}
+
+/// The word of one signature replaced.
+fn put_word(words: &mut Words, lane: usize, word: u64)
+    requires { lane < 8 }
+    ensures here { slice_index_or words.new lane 0 ≡ word }
+    ensures others { (other : ℕ) → other ≢ lane → slice_index_or words.new other 0 ≡ slice_index_or words.old other 0 }
+{
+    words.lanes = with_word(words.lanes, lane, word);
+}
+
+/// One of eight signatures replaced.
+fn put_signature(block: &mut [Words; 16], lane: usize, signature: &Sig)
+    requires { lane < 8 }
+    ensures set { signature_at block.new lane ≡ signature.now }
+    ensures others { (other : ℕ) → other ≢ lane → signature_at block.new other ≡ signature_at block.old other }
+{
+    let source = signature.words();
+    for index in 0..16 {
+        put_word(&mut block[index], lane, source[index]);
+    }
+}
+
+/// The bits that each of eight signatures shares with one: those of its 16 words in one, since it only matters if there are any.
+fn shared_bits(block: &[Words; 16], signature: &Sig) -> u64x8
+    ensures { (j k : ℕ) → j < 8
+        → ((bit_at (slice_index_or result j 0) k ≡ 1) ↔ SharePlace (signature_at block.now j) signature.now 16 k) }
+{
+    let source = signature.words();
+    let mut shared = u64x8::splat(0);
+    for index in 0..16 {
+        let words = &block[index];
+        shared = or_shared(shared, words.lanes, source[index]);
+    }
+    shared
+}
+
+impl Block {
+    /// Eight signatures of no bits.
+    pub fn empty() -> Block
+        ensures { (j bit : ℕ) → has_bit (signature_at result j) bit ≡ false }
+    {
+        let none = Words {
+            lanes: u64x8::splat(0),
+        };
+        Block { words: [none; 16] }
+    }
+
+    /// Puts a signature in a lane.
+    pub fn set(&mut self, lane: usize, signature: &Sig)
+        requires { lane < 8 }
+        ensures set { signature_at self.new lane ≡ signature.now }
+        ensures others { (other : ℕ) → other ≢ lane → signature_at self.new other ≡ signature_at self.old other }
+    {
+        put_signature(&mut self.words, lane, signature);
+    }
+
+    /// Leaves no bits in a lane.
+    pub fn clear(&mut self, lane: usize)
+        requires { lane < 8 }
+        ensures none { (bit : ℕ) → has_bit (signature_at self.new lane) bit ≡ false }
+        ensures others { (other : ℕ) → other ≢ lane → signature_at self.new other ≡ signature_at self.old other }
+    {
+        put_signature(&mut self.words, lane, &Sig::empty());
+    }
+
+    /// Which of the eight share a bit with a signature: bit j is set where signature j does.
+    pub fn meets(&self, signature: &Sig) -> u8
+        ensures { (j : ℕ) → j < 8 → ((bit_at result j ≡ 1) ↔ Meet (signature_at self.now j) signature.now) }
+    {
+        lanes_with_bits(shared_bits(&self.words, signature))
+    }
+}
