@@ -38,7 +38,7 @@ fn bit_of(table: u8, key: u64) -> usize
     (of_key.wrapping_add(of_table) >> 54) as usize
 }
 
-/// Whether two sets of bits have one in common.
+/// Whether two sets of bits, each in two halves, have one in common.
 #[inline(always)]
 fn halves_meet(low: u64x8, high: u64x8, other_low: u64x8, other_high: u64x8) -> bool
     ensures { IsTrue result ↔ Meet (low ++ high) (other_low ++ other_high) }
@@ -46,7 +46,7 @@ fn halves_meet(low: u64x8, high: u64x8, other_low: u64x8, other_high: u64x8) -> 
     lanes_with_bits((low & other_low) | (high & other_high)) != 0
 }
 
-/// One more bit in half of the words.
+/// Half of the words with one more bit, which is counted from the first of the half.
 fn with_bit(half: u64x8, bit: usize) -> u64x8
     requires { bit < 512 }
     ensures bits { (b : ℕ) → has_bit result b ≡ (has_bit half b || (bit == b)) }
