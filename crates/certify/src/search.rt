@@ -1,0 +1,115 @@
+//! The search for the first conflict.
+
+ghost use Rattle.std.specs.Prelude.{◌≡◌, ◌==◌, ◌↔◌, Bool, IsTrue, ◌-◌, ◌+◌, ◌/◌, ◌*◌, ◌%◌, ◌<◌, ◌≤◌, ◌^◌, ℕ, length};
+ghost use Rattle.std.specs.Int.{bit_at};
+ghost use Rattle.row_model.specs.Signature.{looks_set_bit};
+ghost use Rattle.sig_lanes.specs.Bits.{has_bit};
+ghost use Rattle.certify.specs.Kept.{HasPlaces};
+ghost use Rattle.certify.specs.Search.{search, lane_met, kept_shares, Meets};
+
+use row_sets::{ReadSet, WriteSet, shares_key};
+use sig_lanes::{Block, Sig};
+use std::alloc::Allocator;
+
+/// How many exact comparisons were made, and the position of the conflict that was found.
+#[derive(Clone, Copy)]
+pub struct SearchResult {
+    pub compared: u64,
+    pub conflict: Option<u32>,
+}
+
+/// Whether a lane is one of those that met.
+fn has_met(met: u8, lane: usize) -> bool
+    requires { lane < 8 }
+    ensures { result ≡ (bit_at met lane == 1) }
+{
+    met >> lane & 1 == 1
+}
+
+/// Searches calls that stand in one block, of which these lanes met: from the one that has so many before it to another,
+/// which isn't searched.
+pub fn search_lanes<A: Allocator + Copy, B: Allocator>(
+    met: u8,
+    kept: &[WriteSet<A>],
+    reads: &ReadSet<B>,
+    from: usize,
+    to: usize,
+) -> SearchResult
+    requires places { 0 < length kept.now }
+    requires order { from ≤ to }
+    requires few { to < 2 ^ 32 }
+    ensures { result ≡ search (lane_met met) (kept_shares kept.now reads.now) from (to - from) }
+{
+    let mut compared = 0;
+    for before in from..to {
+        if has_met(met, before % 8) {
+            compared += 1;
+            if shares_key(reads, &kept[before % kept.len()]) {
+                return SearchResult {
+                    compared,
+                    conflict: Some(before as u32 + 1),
+                };
+            }
+        }
+    }
+    SearchResult {
+        compared,
+        conflict: None,
+    }
+}
+
+/// Searches those of the calls since a snapshot that stand in one block, of all the first that stand in no earlier one.
+fn search_block<A: Allocator + Copy, B: Allocator>(
+    blocks: &[Block],
+    kept: &[WriteSet<A>],
+    reads: &ReadSet<B>,
+    signature: &Sig,
+    from: usize,
+    to: usize,
+) -> SearchResult
+    requires places { HasPlaces (record { blocks = blocks.now; writes = kept.now }) }
+    requires signature { (bit : ℕ) → bit < 1024 → has_bit signature.now bit ≡ looks_set_bit reads.now bit }
+    requires order { from ≤ to }
+    requires one { to ≤ (from / 8) * 8 + 8 }
+    requires few { to < 2 ^ 32 }
+    ensures found { (meets : ℕ → Bool)
+        → ((before : ℕ) → from ≤ before → before < to → IsTrue (meets before) ↔ Meets (record { blocks = blocks.now; writes = kept.now }) reads.now before)
+        → result ≡ search meets (kept_shares kept.now reads.now) from (to - from) }
+    ensures few { result.compared ≤ to - from }
+{
+    let block = &blocks[from / 8 % blocks.len()];
+    search_lanes(block.meets(signature), kept, reads, from, to)
+}
+
+/// Searches the calls since a snapshot, of so many.
+pub fn search_since<A: Allocator + Copy, B: Allocator>(
+    blocks: &[Block],
+    kept: &[WriteSet<A>],
+    reads: &ReadSet<B>,
+    snapshot: usize,
+    count: usize,
+) -> SearchResult
+    requires places { HasPlaces (record { blocks = blocks.now; writes = kept.now }) }
+    requires order { snapshot ≤ count }
+    requires few { count < 2 ^ 32 }
+    ensures { (meets : ℕ → Bool)
+        → ((before : ℕ) → snapshot ≤ before → before < count → IsTrue (meets before) ↔ Meets (record { blocks = blocks.now; writes = kept.now }) reads.now before)
+        → result ≡ search meets (kept_shares kept.now reads.now) snapshot (count - snapshot) }
+{
+    let signature = Sig::of_reads(reads);
+    let mut compared = 0;
+    let mut from = snapshot;
+    while from < count {
+        let to = count.min(from / 8 * 8 + 8);
+        let found = search_block(blocks, kept, reads, &signature, from, to);
+        compared += found.compared;
+        if found.conflict.is_some() {
+            return SearchResult { compared, ..found };
+        }
+        from = to;
+    }
+    SearchResult {
+        compared,
+        conflict: None,
+    }
+}
