@@ -1,3 +1,4 @@
 pub mod SearchLemmas
 pub mod PlaceLemmas
 pub mod MeetLemmas
+pub mod WriteLemmas

@@ -24,6 +24,9 @@ block_of_place before n some = let place = place_in_blocks before n some in omeg
 spread_one : (n a : ℕ) → n * (a + 1) ≡ n * a + n
 spread_one n a = ap (λ (x : ℕ). n * x) (omega arith) ∙ mul-suc n a
 
+pub lane_of_place : (before n : ℕ) → 0 < n → before % (n * 8) % 8 ≡ before % 8
+lane_of_place before n some = let place = place_in_blocks before n some in omega arith
+
 later_apart : (a b n : ℕ) → a < b → b < a + n → a % n ≡ b % n → ⊥
 later_apart a b n lt near same =
     let first : a % n + n * (a / n) ≡ a = mod-add-div a n in

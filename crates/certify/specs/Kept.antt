@@ -34,7 +34,7 @@ abbrev pub place_of : Ring → ℕ → ℕ
 place_of ring before = before % length ring.writes
 
 abbrev pub signature_of : Ring → ℕ → List ℕ
-signature_of ring before = signature_at (slice_index_or ring.blocks (place_of ring before / 8) []) (before % 8)
+signature_of ring before = signature_at (slice_index_or ring.blocks (place_of ring before / 8) []) (place_of ring before % 8)
 
 abbrev pub writes_of : Ring → ℕ → Writes
 writes_of ring before = slice_index_or ring.writes (place_of ring before) empty

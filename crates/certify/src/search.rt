@@ -1,12 +1,16 @@
 //! The search for the first conflict.
 
-ghost use Rattle.std.specs.Prelude.{◌≡◌, ◌==◌, ◌↔◌, Bool, IsTrue, ◌-◌, ◌+◌, ◌/◌, ◌*◌, ◌%◌, ◌<◌, ◌≤◌, ◌^◌, ℕ, length};
+ghost use Rattle.std.specs.Prelude.{◌≡◌, ◌==◌, ◌↔◌, Bool, List, IsTrue, ◌-◌, ◌+◌, ◌/◌, ◌*◌, ◌%◌, ◌<◌, ◌≤◌, ◌^◌, ℕ, length};
 ghost use Rattle.std.specs.Int.{bit_at};
 ghost use Rattle.row_model.specs.Signature.{looks_set_bit};
 ghost use Rattle.sig_lanes.specs.Bits.{has_bit};
-ghost use Rattle.certify.specs.Kept.{HasPlaces};
+ghost use Rattle.dsm_model.specs.Log.{Call, CertifiedCall, verdict_after};
+ghost use Rattle.dsm_model.specs.Comparisons.{comparisons_after};
+ghost use Rattle.certify.specs.Kept.{HasPlaces, StandsFor};
 ghost use Rattle.certify.specs.Search.{search, lane_met, kept_shares, Meets};
 
+use dsm_model::Verdict;
+use row_model::{sets_that_share_a_key_share_a_bit, shared_bits_are_of_both};
 use row_sets::{ReadSet, WriteSet, shares_key};
 use sig_lanes::{Block, Sig};
 use std::alloc::Allocator;
@@ -112,4 +116,36 @@ pub fn search_since<A: Allocator + Copy, B: Allocator>(
         compared,
         conflict: None,
     }
+}
+
+/// The verdict on a call of this snapshot and these looks that has so many before it, and how many exact comparisons it takes.
+pub fn find_verdict<A: Allocator + Copy, B: Allocator>(
+    window: u32,
+    count: u32,
+    blocks: &[Block],
+    kept: &[WriteSet<A>],
+    snapshot: u32,
+    reads: &ReadSet<B>,
+) -> (Verdict, u64)
+    requires places { HasPlaces (record { blocks = blocks.now; writes = kept.now }) }
+    requires enough { window ≤ length kept.now }
+    requires snapshot { snapshot ≤ count }
+    ensures verdict { (past : List CertifiedCall) (call : Call) → call.snapshot ≡ snapshot
+        → StandsFor (record { window = window; count = count; ring = record { blocks = blocks.now; writes = kept.now } }) past
+        → result.0 ≡ verdict_after window past call reads.now }
+    ensures compared { (past : List CertifiedCall) (call : Call) → call.snapshot ≡ snapshot
+        → StandsFor (record { window = window; count = count; ring = record { blocks = blocks.now; writes = kept.now } }) past
+        → result.1 ≡ length (comparisons_after window past call reads.now) }
+{
+    shared_bits_are_of_both();
+    sets_that_share_a_key_share_a_bit();
+    if count - snapshot > window {
+        return (Verdict::Stale, 0);
+    }
+    let found = search_since(blocks, kept, reads, snapshot as usize, count as usize);
+    let verdict = match found.conflict {
+        Some(position) => Verdict::Conflict(position),
+        None => Verdict::Commit,
+    };
+    (verdict, found.compared)
 }

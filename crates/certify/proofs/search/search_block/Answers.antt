@@ -6,7 +6,7 @@ use Rattle.certify.specs.declared.search.SearchResult.{SearchResult}
 use Rattle.certify.specs.Kept.{Ring, signature_of}
 use Rattle.certify.specs.Search.{lane_met, kept_shares}
 use Rattle.certify.proofs.SearchLemmas.{few, alike_of}
-use Rattle.certify.proofs.PlaceLemmas.{block_of_place}
+use Rattle.certify.proofs.PlaceLemmas.{block_of_place, lane_of_place}
 use Rattle.certify.proofs.MeetLemmas.{same_answer, lane_meets}
 use Rattle.certify.proofs.search.search_block.Goals as goal
 
@@ -27,9 +27,10 @@ returns-clause-found g c = λ meets is.
       ap (λ (x : ℕ). get_or blocks x []) there
       ∙ get_or_default blocks (c.args.from / 8 % n) [] c.index-blocks-from.result (mod-lt (c.args.from / 8) c.requires.places.some)
       ∙ sym c.index-blocks-from.is in
+      let lane : k % length c.args.kept.now % 8 ≡ k % 8 = ap (λ (x : ℕ). k % x % 8) c.requires.places.eight ∙ lane_of_place k n c.requires.places.some in
       same_answer (lane_met c.meets.result k) (meets k)
       (lane_meets (record { blocks = c.args.blocks.now; writes = c.args.kept.now }) c.args.reads.now c.args.signature.now c.index-blocks-from.result c.meets.result k c.requires.signature
-        (ap (λ (b : List (List ℕ)). signature_at b (k % 8)) stands) c.meets.ensures)
+        (ap (λ (b : List (List ℕ)). signature_at b (k % length c.args.kept.now % 8)) stands ∙ ap (λ (x : ℕ). signature_at c.index-blocks-from.result x) lane) c.meets.ensures)
       (is k ge last))
     (λ k. refl)
 
