@@ -1,4 +1,6 @@
+pub mod ListLemmas
 pub mod SearchLemmas
 pub mod PlaceLemmas
 pub mod MeetLemmas
 pub mod WriteLemmas
+pub mod VerdictLemmas
