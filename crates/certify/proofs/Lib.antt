@@ -1,3 +1,4 @@
+pub mod RingLemmas
 pub mod ListLemmas
 pub mod SearchLemmas
 pub mod PlaceLemmas
