@@ -1,15 +1,14 @@
 -- One call more in a ring.
-use Rattle.std.proofs.Common.{◌≡◌, ◌≢◌, ◌⊎◌, inl, inr, ℕ, ◌+◌, ◌-◌, ◌*◌, ◌/◌, ◌%◌, ◌≤◌, ◌<◌, Bool, ◌&&◌, List, [], ◌∷◌, ◌++◌, length, slice_get, get_or, refl, sym, ap, subst, ◌∙◌, arith}
-use Rattle.std.specs.Prelude.{slice_index_or, slice_set, Some}
+use Rattle.std.proofs.Common.{◌≡◌, ◌≢◌, inl, inr, ℕ, ◌+◌, ◌/◌, ◌%◌, ◌<◌, Bool, ◌&&◌, List, [], ◌∷◌, ◌++◌, length, get_or, sym, ap, subst, ◌∙◌, arith}
+use Rattle.std.specs.Prelude.{slice_index_or, slice_set}
 use Rattle.std.specs.FinMap.{empty}
 use Rattle.std.proofs.lemmas.List.{length-append, get_or-set_same, get_or-set_other}
 use Rattle.std.proofs.Math.Nat.{mod-lt}
 use Rattle.schema.specs.Rows.{Writes}
-use Rattle.row_model.specs.Signature.{writes_set_bit}
 use Rattle.sig_lanes.specs.Bits.{has_bit, signature_at}
 use Rattle.dsm_model.specs.declared.verdict.Verdict.{Verdict}
 use Rattle.dsm_model.specs.Log.{CertifiedCall, is_commit}
-use Rattle.certify.specs.Kept.{PreparedCall, IsPreparedOf, ShareAlike, Ring, HasPlaces, signature_of, writes_of, IsKept, Keeps}
+use Rattle.certify.specs.Kept.{PreparedCall, IsPreparedOf, ShareAlike, Ring, IsKept, Keeps}
 use Rattle.certify.proofs.ListLemmas.{get_one_more}
 use Rattle.certify.proofs.PlaceLemmas.{places_apart}
 
@@ -65,5 +64,5 @@ keeps_one_more old new past before verdict p c some count same put is keeps othe
           let at : other ≡ before = new_one.0 ∙ count in
           subst (λ (n : ℕ). IsKept new n x) (sym at)
           (subst (IsKept new before) new_one.1
-            (kept_new old new before p c some (subst (λ (v : Verdict). IsPut old new before v p) (sym same) put) is))
+          (kept_new old new before p c some (subst (λ (v : Verdict). IsPut old new before v p) (sym same) put) is))
     ]

@@ -4,19 +4,16 @@ use Rattle.std.specs.Prelude.{Option, Some, None}
 use Rattle.std.specs.List.{list_any}
 use Rattle.std.specs.FinMap.{keys}
 use Rattle.std.proofs.lemmas.List.{length-drop}
-use Rattle.std.proofs.lemmas.Option.{slice_get_within}
 use Rattle.std.proofs.lemmas.Bool.Decides.{nat_tests}
 use Rattle.schema.specs.declared.look.Look.{Look}
 use Rattle.schema.specs.Rows.{Key, Writes, shares_key}
 use Rattle.row_model.specs.Signature.{bit_of, looks_set_bit, writes_set_bit, shares_bit}
-use Rattle.sig_lanes.specs.Bits.{has_bit}
-use Rattle.dsm_model.specs.declared.verdict.Verdict.{Verdict}
 use Rattle.dsm_model.specs.declared.verdict.Verdict.TheVariants.{Stale}
 use Rattle.dsm_model.specs.Log.{Call, CertifiedCall, is_commit, conflicts, first_conflict, unless_conflict, verdict_after}
 use Rattle.dsm_model.specs.Comparisons.{comparisons_from, comparisons_after}
 use Rattle.certify.proofs.ListLemmas.{get_drop}
 use Rattle.certify.specs.declared.search.SearchResult.{SearchResult}
-use Rattle.certify.specs.Kept.{Ring, HasPlaces, signature_of, writes_of, IsKept, Keeps, Memory, StandsFor}
+use Rattle.certify.specs.Kept.{Ring, IsKept, Keeps, Memory, StandsFor}
 use Rattle.certify.specs.Search.{search, with_compared, Meets, kept_shares}
 use Rattle.certify.proofs.SearchLemmas.{nothing, found, compared, passed}
 
@@ -160,14 +157,13 @@ answers : (meets shares : ℕ → Bool) (looks : List Look) (later : List Certif
 answers meets shares looks [] before h = tt
 answers meets shares looks (c ∷ later) before h =
     let here : before + 0 ≡ before = omega arith in
-    let first = h 0 c refl in
-    (
+    let first = h 0 c refl in (
       ap meets (sym here) ∙ first.0,
       ap shares (sym here) ∙ first.1,
       answers meets shares looks later (before + 1) (λ i d e.
-        let next = h (suc i) d e in
-        let there : before + 1 + i ≡ before + suc i = omega arith in
-        (ap meets there ∙ next.0, ap shares there ∙ next.1)),
+          let next = h (suc i) d e in
+          let there : before + 1 + i ≡ before + suc i = omega arith in
+          (ap meets there ∙ next.0, ap shares there ∙ next.1)),
     )
 
 -- the calls since a snapshot that is within the places
@@ -179,9 +175,9 @@ search_since_snapshot ring looks past snapshot bits keeps le near =
     ap (λ (n : ℕ). search (meets_at looks past) (kept_shares ring.writes looks) snapshot n) (sym (length-drop snapshot past))
     ∙ search_gives (meets_at looks past) (kept_shares ring.writes looks) looks bits (drop snapshot past) snapshot
     (answers (meets_at looks past) (kept_shares ring.writes looks) looks (drop snapshot past) snapshot (λ i c e.
-      let there : slice_get past (snapshot + i) ≡ Some c = sym (get_drop past snapshot i) ∙ e in
-      let kept = keeps (snapshot + i) c there (omega arith) in
-      (ap (meets_some looks) there, kept.keys looks)))
+    let there : slice_get past (snapshot + i) ≡ Some c = sym (get_drop past snapshot i) ∙ e in
+    let kept = keeps (snapshot + i) c there (omega arith) in
+    (ap (meets_some looks) there, kept.keys looks)))
 
 -- ---- verdicts
 
@@ -223,7 +219,7 @@ pub result_is : (m : Memory) (looks : List Look) (past : List CertifiedCall) (sn
     → ((k : Key) → bit_of k < 1024) → SharedBits looks → ((c : CertifiedCall) → shares_key looks c.writes ≡ true → shares_bit looks c.writes ≡ true)
     → StandsFor m past → m.window ≤ length m.ring.writes → snapshot ≤ m.count → m.count - snapshot ≤ m.window
     → ((meets : ℕ → Bool) → ((before : ℕ) → snapshot ≤ before → before < m.count → IsTrue (meets before) ↔ Meets m.ring looks before)
-      → result ≡ search meets (kept_shares m.ring.writes looks) snapshot (m.count - snapshot))
+    → result ≡ search meets (kept_shares m.ring.writes looks) snapshot (m.count - snapshot))
     → result ≡ result_of looks snapshot (drop snapshot past)
 result_is m looks past snapshot result few shared bits stands enough le near searched =
     let count : m.count ≡ length past = stands.count in

@@ -1,4 +1,4 @@
-use Rattle.std.proofs.Common.{◌≡◌, ◌≢◌, ℕ, ◌/◌, ◌%◌, ◌*◌, ◌<◌, ◌&&◌, Bool, List, [], length, refl, sym, ap, subst, ◌∙◌, arith}
+use Rattle.std.proofs.Common.{◌≡◌, ℕ, ◌/◌, ◌%◌, ◌<◌, ◌&&◌, Bool, List, [], length, sym, ap, ◌∙◌, arith}
 use Rattle.std.specs.Prelude.{slice_set, slice_index_or}
 use Rattle.std.proofs.lemmas.List.{length-set}
 use Rattle.schema.specs.Rows.{Writes}
@@ -14,13 +14,13 @@ returns-clause-kept g c = λ past x count same is keeps.
     keeps_one_more (record { blocks = c.args.blocks.now.items; writes = c.args.kept.now.items }) (record { blocks = c.put_signature.new.blocks.items; writes = c.put_writes.new.all.items })
     past c.args.before c.args.verdict (record { signature = c.args.signature.now; writes = c.args.writes }) x some count same
     (record {
-        blocks = c.put_signature.ensures.count;
-        writes = written;
-        count = ap length written ∙ length-set c.args.kept.now.items (c.args.before % length c.args.kept.now.items) c.args.writes;
-        put = λ bit.
-            ap (λ (n : ℕ). has_bit (signature_at (slice_index_or c.put_signature.new.blocks.items (n / 8) []) (n % 8)) bit) (sym place)
-            ∙ c.put_signature.ensures.put bit
-            ∙ ap (λ (b : Bool). b && has_bit c.args.signature.now bit) c.is_commit.ensures;
-        others = λ other apart. c.put_signature.ensures.others other (λ e. apart (e ∙ place));
-      })
+      blocks = c.put_signature.ensures.count;
+      writes = written;
+      count = ap length written ∙ length-set c.args.kept.now.items (c.args.before % length c.args.kept.now.items) c.args.writes;
+      put = λ bit.
+          ap (λ (n : ℕ). has_bit (signature_at (slice_index_or c.put_signature.new.blocks.items (n / 8) []) (n % 8)) bit) (sym place)
+          ∙ c.put_signature.ensures.put bit
+          ∙ ap (λ (b : Bool). b && has_bit c.args.signature.now bit) c.is_commit.ensures;
+      others = λ other apart. c.put_signature.ensures.others other (λ e. apart (e ∙ place));
+    })
     is keeps

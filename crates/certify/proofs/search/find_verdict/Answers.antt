@@ -1,8 +1,7 @@
-use Rattle.std.proofs.Common.{◌≡◌, ℕ, ◌-◌, ◌≤◌, List, drop, refl, sym, ap, ◌∙◌, arith}
-use Rattle.std.specs.Prelude.{Option}
+use Rattle.std.proofs.Common.{◌≡◌, ◌-◌, ◌≤◌, List, drop, sym, ap, ◌∙◌, arith}
 use Rattle.dsm_model.specs.Log.{CertifiedCall, unless_conflict}
 use Rattle.certify.specs.declared.search.SearchResult.{SearchResult}
-use Rattle.certify.specs.Kept.{Memory, StandsFor}
+use Rattle.certify.specs.Kept.{StandsFor}
 use Rattle.certify.proofs.VerdictLemmas.{stale, none_compared, verdict_of_search, compared_of_search, result_of, result_is}
 use Rattle.certify.proofs.search.find_verdict.Given as given
 use Rattle.certify.proofs.search.find_verdict.Goals as goal

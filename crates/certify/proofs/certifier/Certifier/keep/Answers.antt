@@ -1,6 +1,5 @@
-use Rattle.std.proofs.Common.{◌≡◌, ℕ, ◌+◌, List, [], ◌∷◌, ◌++◌, length, refl, sym, ap, subst, ◌∙◌, arith}
+use Rattle.std.proofs.Common.{◌≡◌, ◌+◌, [], ◌∷◌, ◌++◌, length, sym, ap, subst, ◌∙◌, arith}
 use Rattle.std.proofs.lemmas.List.{length-append}
-use Rattle.dsm_model.specs.Log.{CertifiedCall}
 use Rattle.certify.specs.Kept.{PreparedCall, IsPreparedOf, CertifierState, StandsFor}
 use Rattle.certify.proofs.certifier.Certifier.keep.Goals as goal
 
