@@ -1,0 +1,123 @@
+//! Verdicts on calls in the order of their delivery.
+
+ghost use Rattle.std.specs.Prelude.{◌≡◌, ◌+◌, ◌<◌, ◌≤◌, ◌^◌, ◌++◌, [], ◌∷◌, List, length, IfOk, IfSome};
+ghost use Rattle.dsm_model.specs.Log.{CertifiedCall, verdict_after};
+ghost use Rattle.dsm_model.specs.Comparisons.{comparisons_after};
+ghost use Rattle.certify.specs.Kept.{IsPreparedOf, StandsFor};
+
+use crate::prepared::{Prepared, prepared_of};
+use crate::ring::{empty_blocks, empty_writes, keep_in};
+use crate::search::find_verdict;
+use dsm_model::Verdict;
+use log_entry::Entry;
+use row_sets::WriteSet;
+use sig_lanes::Block;
+use std::alloc::{AllocError, Allocator, Global};
+use std::marker::Model;
+
+/// Verdicts on calls in the order of their delivery, by what was kept of the latest. Contracts see that, and how many
+/// exact comparisons the last verdict made.
+#[derive(Drop)]
+pub struct Certifier<A: Allocator + Copy = Global> {
+    alloc: A,
+    window: u32,
+    count: u32,
+    compared: u64,
+    blocks: Vec<Block, A>,
+    writes: Vec<WriteSet<A>, A>,
+}
+
+impl<A: Allocator + Copy> Model for Certifier<A> {
+    ghost use Rattle.std.specs.Prelude.{◌≤◌, ◌<◌, ◌^◌, length};
+    ghost use Rattle.certify.specs.Kept.{CertifierState, HasPlaces};
+    ghost use Rattle.certify.specs.Codes.{state_code};
+
+    ghost Value = { CertifierState };
+
+    ghost coded = { state_code };
+
+    ghost view = { λ c. record {
+      memory = record { window = c.window; count = c.count; ring = record { blocks = c.blocks.items; writes = c.writes.items } };
+      compared = c.compared;
+    } };
+
+    ghost invariant = { λ c. HasPlaces (record { blocks = c.blocks.items; writes = c.writes.items }) × (c.window ≤ length c.writes.items) };
+}
+
+impl<A: Allocator + Copy> Certifier<A> {
+    /// One that has had no calls. Of so many of the latest calls those that committed count for a verdict.
+    pub fn new(alloc: A, window: u32) -> Result<Certifier<A>, AllocError>
+        ensures stands { IfOk result (λ c. StandsFor c.memory []) }
+        ensures window { IfOk result (λ c. c.memory.window ≡ window) }
+    {
+        let count = (window as usize).div_ceil(8).max(1);
+        let blocks = empty_blocks(alloc, count)?;
+        let writes = empty_writes(alloc, count * 8)?;
+        Ok(Certifier {
+            alloc,
+            window,
+            count: 0,
+            compared: 0,
+            blocks,
+            writes,
+        })
+    }
+
+    /// The verdict on a call at the next position, whatever the calls are that were kept. Takes no memory.
+    pub fn verdict<B: Allocator + Copy>(&mut self, entry: &Entry<B>, position: u32) -> Verdict
+        requires next { position ≡ self.old.memory.count + 1 }
+        requires snapshot { entry.now.call.snapshot < position }
+        ensures verdict { (past : List CertifiedCall) → StandsFor self.old.memory past
+            → result ≡ verdict_after self.old.memory.window past entry.now.call entry.now.looks }
+        ensures compared { (past : List CertifiedCall) → StandsFor self.old.memory past
+            → self.new.compared ≡ length (comparisons_after self.old.memory.window past entry.now.call entry.now.looks) }
+        ensures memory { self.new.memory ≡ self.old.memory }
+    {
+        let (verdict, compared) = find_verdict(
+            self.window,
+            self.count,
+            &self.blocks,
+            &self.writes,
+            entry.snapshot,
+            &entry.reads,
+        );
+        self.compared = compared;
+        verdict
+    }
+
+    /// How many exact comparisons the last verdict made; 0 before the first.
+    pub fn compared(&self) -> u64
+        ensures { result ≡ self.now.compared }
+    {
+        self.compared
+    }
+
+    /// What will be kept of a call.
+    pub fn prepare<B: Allocator + Copy>(&self, entry: &Entry<B>) -> Result<Prepared<A>, AllocError>
+        ensures { IfOk result (λ p. IsPreparedOf p entry.now.writes) }
+    {
+        prepared_of(self.alloc, &entry.writes)
+    }
+
+    /// Keeps a call of this verdict, which stands at the next position. Takes no memory.
+    pub fn keep(&mut self, position: u32, verdict: Verdict, prepared: Prepared<A>)
+        requires { position ≡ self.old.memory.count + 1 }
+        ensures stands { (past : List CertifiedCall) (c : CertifiedCall) → StandsFor self.old.memory past
+            → c.verdict ≡ verdict → IsPreparedOf prepared c.writes → StandsFor self.new.memory (past ++ c ∷ []) }
+        ensures window { self.new.memory.window ≡ self.old.memory.window }
+        ensures count { self.new.memory.count ≡ position }
+        ensures compared { self.new.compared ≡ self.old.compared }
+    {
+        let Prepared { signature, writes } = prepared;
+        let before = self.count as usize;
+        keep_in(
+            &mut self.blocks,
+            &mut self.writes,
+            before,
+            verdict,
+            &signature,
+            writes,
+        );
+        self.count = position;
+    }
+}

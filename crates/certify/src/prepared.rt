@@ -1,0 +1,57 @@
+//! What will be kept of a call.
+
+ghost use Rattle.std.specs.Prelude.{◌≡◌, IfOk, IsSome, ◌↔◌, ℕ};
+ghost use Rattle.std.specs.FinMap.{get};
+ghost use Rattle.schema.specs.Rows.{Key};
+ghost use Rattle.certify.specs.Kept.{IsPreparedOf};
+
+use row_sets::WriteSet;
+use schema::writes_share_a_key_with_looks;
+use sig_lanes::Sig;
+use std::alloc::{AllocError, Allocator, Global};
+use std::marker::Model;
+
+/// What will be kept of a call, in memory of its own. Contracts see its signature and writes of its keys.
+#[derive(Drop)]
+pub struct Prepared<A: Allocator + Copy = Global> {
+    pub(crate) signature: Sig,
+    pub(crate) writes: WriteSet<A>,
+}
+
+impl<A: Allocator + Copy> Model for Prepared<A> {
+    ghost use Rattle.certify.specs.Kept.{PreparedCall};
+    ghost use Rattle.certify.specs.Codes.{prepared_code};
+
+    ghost Value = { PreparedCall };
+
+    ghost coded = { prepared_code };
+
+    ghost view = { λ p. record { signature = p.signature; writes = p.writes } };
+}
+
+/// A removal of each written key: with looks it shares a key where the writes do.
+fn removals<A: Allocator + Copy, B: Allocator + Copy>(
+    alloc: A,
+    writes: &WriteSet<B>,
+) -> Result<WriteSet<A>, AllocError>
+    ensures { IfOk result (λ copy. (k : Key) → IsSome (get copy k) ↔ IsSome (get writes.now k)) }
+{
+    let mut copy = WriteSet::new(alloc);
+    for (key, _) in writes.iter() {
+        copy.remove(key.0, key.1)?;
+    }
+    Ok(copy)
+}
+
+/// What will be kept of a call that wrote this.
+pub(crate) fn prepared_of<A: Allocator + Copy, B: Allocator + Copy>(
+    alloc: A,
+    writes: &WriteSet<B>,
+) -> Result<Prepared<A>, AllocError>
+    ensures { IfOk result (λ p. IsPreparedOf p writes.now) }
+{
+    writes_share_a_key_with_looks();
+    let signature = Sig::of_writes(writes);
+    let writes = removals(alloc, writes)?;
+    Ok(Prepared { signature, writes })
+}

@@ -1,0 +1,151 @@
+//! The search for the first conflict.
+
+ghost use Rattle.std.specs.Prelude.{◌≡◌, ◌==◌, ◌↔◌, Bool, List, IsTrue, ◌-◌, ◌+◌, ◌/◌, ◌*◌, ◌%◌, ◌<◌, ◌≤◌, ◌^◌, ℕ, length};
+ghost use Rattle.std.specs.Int.{bit_at};
+ghost use Rattle.row_model.specs.Signature.{looks_set_bit};
+ghost use Rattle.sig_lanes.specs.Bits.{has_bit};
+ghost use Rattle.dsm_model.specs.Log.{Call, CertifiedCall, verdict_after};
+ghost use Rattle.dsm_model.specs.Comparisons.{comparisons_after};
+ghost use Rattle.certify.specs.Kept.{HasPlaces, StandsFor};
+ghost use Rattle.certify.specs.Search.{search, lane_met, kept_shares, Meets};
+
+use dsm_model::Verdict;
+use row_model::{sets_that_share_a_key_share_a_bit, shared_bits_are_of_both};
+use row_sets::{ReadSet, WriteSet, shares_key};
+use sig_lanes::{Block, Sig};
+use std::alloc::Allocator;
+
+/// How many exact comparisons were made, and the position of the conflict that was found.
+#[derive(Clone, Copy)]
+pub struct SearchResult {
+    pub compared: u64,
+    pub conflict: Option<u32>,
+}
+
+/// Whether a lane is one of those that met.
+fn has_met(met: u8, lane: usize) -> bool
+    requires { lane < 8 }
+    ensures { result ≡ (bit_at met lane == 1) }
+{
+    met >> lane & 1 == 1
+}
+
+/// Searches calls that stand in one block, of which these lanes met: from the one that has so many before it to another,
+/// which isn't searched.
+pub fn search_lanes<A: Allocator + Copy, B: Allocator>(
+    met: u8,
+    kept: &[WriteSet<A>],
+    reads: &ReadSet<B>,
+    from: usize,
+    to: usize,
+) -> SearchResult
+    requires places { 0 < length kept.now }
+    requires order { from ≤ to }
+    requires few { to < 2 ^ 32 }
+    ensures { result ≡ search (lane_met met) (kept_shares kept.now reads.now) from (to - from) }
+{
+    let mut compared = 0;
+    for before in from..to {
+        if has_met(met, before % 8) {
+            compared += 1;
+            if shares_key(reads, &kept[before % kept.len()]) {
+                return SearchResult {
+                    compared,
+                    conflict: Some(before as u32 + 1),
+                };
+            }
+        }
+    }
+    SearchResult {
+        compared,
+        conflict: None,
+    }
+}
+
+/// Searches those of the calls since a snapshot that stand in one block, of all the first that stand in no earlier one.
+fn search_block<A: Allocator + Copy, B: Allocator>(
+    blocks: &[Block],
+    kept: &[WriteSet<A>],
+    reads: &ReadSet<B>,
+    signature: &Sig,
+    from: usize,
+    to: usize,
+) -> SearchResult
+    requires places { HasPlaces (record { blocks = blocks.now; writes = kept.now }) }
+    requires signature { (bit : ℕ) → bit < 1024 → has_bit signature.now bit ≡ looks_set_bit reads.now bit }
+    requires order { from ≤ to }
+    requires one { to ≤ (from / 8) * 8 + 8 }
+    requires few { to < 2 ^ 32 }
+    ensures found { (meets : ℕ → Bool)
+        → ((before : ℕ) → from ≤ before → before < to → IsTrue (meets before) ↔ Meets (record { blocks = blocks.now; writes = kept.now }) reads.now before)
+        → result ≡ search meets (kept_shares kept.now reads.now) from (to - from) }
+    ensures few { result.compared ≤ to - from }
+{
+    let block = &blocks[from / 8 % blocks.len()];
+    search_lanes(block.meets(signature), kept, reads, from, to)
+}
+
+/// Searches the calls since a snapshot, of so many.
+pub fn search_since<A: Allocator + Copy, B: Allocator>(
+    blocks: &[Block],
+    kept: &[WriteSet<A>],
+    reads: &ReadSet<B>,
+    snapshot: usize,
+    count: usize,
+) -> SearchResult
+    requires places { HasPlaces (record { blocks = blocks.now; writes = kept.now }) }
+    requires order { snapshot ≤ count }
+    requires few { count < 2 ^ 32 }
+    ensures { (meets : ℕ → Bool)
+        → ((before : ℕ) → snapshot ≤ before → before < count → IsTrue (meets before) ↔ Meets (record { blocks = blocks.now; writes = kept.now }) reads.now before)
+        → result ≡ search meets (kept_shares kept.now reads.now) snapshot (count - snapshot) }
+{
+    let signature = Sig::of_reads(reads);
+    let mut compared = 0;
+    let mut from = snapshot;
+    while from < count {
+        let to = count.min(from / 8 * 8 + 8);
+        let found = search_block(blocks, kept, reads, &signature, from, to);
+        compared += found.compared;
+        if found.conflict.is_some() {
+            return SearchResult { compared, ..found };
+        }
+        from = to;
+    }
+    SearchResult {
+        compared,
+        conflict: None,
+    }
+}
+
+/// The verdict on a call of this snapshot and these looks that has so many before it, and how many exact comparisons it takes.
+pub fn find_verdict<A: Allocator + Copy, B: Allocator>(
+    window: u32,
+    count: u32,
+    blocks: &[Block],
+    kept: &[WriteSet<A>],
+    snapshot: u32,
+    reads: &ReadSet<B>,
+) -> (Verdict, u64)
+    requires places { HasPlaces (record { blocks = blocks.now; writes = kept.now }) }
+    requires enough { window ≤ length kept.now }
+    requires snapshot { snapshot ≤ count }
+    ensures verdict { (past : List CertifiedCall) (call : Call) → call.snapshot ≡ snapshot
+        → StandsFor (record { window = window; count = count; ring = record { blocks = blocks.now; writes = kept.now } }) past
+        → result.0 ≡ verdict_after window past call reads.now }
+    ensures compared { (past : List CertifiedCall) (call : Call) → call.snapshot ≡ snapshot
+        → StandsFor (record { window = window; count = count; ring = record { blocks = blocks.now; writes = kept.now } }) past
+        → result.1 ≡ length (comparisons_after window past call reads.now) }
+{
+    shared_bits_are_of_both();
+    sets_that_share_a_key_share_a_bit();
+    if count - snapshot > window {
+        return (Verdict::Stale, 0);
+    }
+    let found = search_since(blocks, kept, reads, snapshot as usize, count as usize);
+    let verdict = match found.conflict {
+        Some(position) => Verdict::Conflict(position),
+        None => Verdict::Commit,
+    };
+    (verdict, found.compared)
+}
