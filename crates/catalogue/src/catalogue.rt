@@ -1,6 +1,6 @@
 //! A catalogue.
 
-ghost use Rattle.std.specs.Prelude.{◌≡◌, [], ◌∷◌, ◌++◌, map, option_map, None, OnOk, OnErr};
+ghost use Rattle.std.specs.Prelude.{◌≡◌, ◌<◌, ◌^◌, [], ◌∷◌, ◌++◌, length, map, option_map, None, OnOk, OnErr};
 ghost use Rattle.std.specs.Option.{option_copied};
 ghost use Rattle.dsm_model.specs.Log.{by_number};
 ghost use Rattle.schema.specs.Schema.{Tables};
@@ -107,7 +107,9 @@ impl<A: Allocator + Copy> Catalogue<A> {
 
     /// The procedures in order of entry.
     pub fn list(&self) -> Entries<'_, A>
-        ensures { result ≡ map (entry_of self.now.tables) self.now.procedures }
+        ensures list { result ≡ map (entry_of self.now.tables) self.now.procedures }
+        // So that they can be counted.
+        ensures few { length result < 2 ^ 63 }
     {
         Entries::new(self.procedures.iter())
     }

@@ -11,6 +11,7 @@ use std::alloc::{Allocator, Global};
 use std::marker::Model;
 
 /// A procedure of a catalogue.
+#[derive_where(Clone, Copy)]
 pub struct Entry<'a, A: Allocator = Global> {
     /// 1 to 32 letters, digits or `_`.
     pub name: &'a [u8],

@@ -13,3 +13,5 @@ mod laws;
 mod name;
 mod named;
 mod procedures;
+#[cfg(test)]
+mod tests;
