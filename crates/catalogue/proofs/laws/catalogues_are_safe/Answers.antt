@@ -10,5 +10,5 @@ returns g c = λ window.
     let known = c.schema.ensures.accepted in
     c.catalogues_of_accepted_procedures_are_safe.ensures (record { tables = tables; catalogue = procedures; window = window }) known.tables
     (λ number p found.
-        let one = found_by_number (IsAcceptedWith tables) number procedures p (recursion_from_All (IsAcceptedWith tables) procedures known.procedures) found in
-        (one.program, one.accepted))
+    let one = found_by_number (IsAcceptedWith tables) number procedures p (recursion_from_All (IsAcceptedWith tables) procedures known.procedures) found in
+    (one.program, one.accepted))

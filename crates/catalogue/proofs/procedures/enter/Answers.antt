@@ -7,7 +7,7 @@ use Rattle.catalogue.proofs.procedures.enter.Goals as goal
 pub returns-clause-entered : goal.returns-clause-entered
 returns-clause-entered g c =
     let named : c.new.result ≡ record { name = c.args.name.now; accepted = c.args.accepted } =
-        c.new.ensures ∙ ap (λ (name : List ℕ). record { name = name; accepted = c.args.accepted }) c.in_ok-name.ensures.items in
+    c.new.ensures ∙ ap (λ (name : List ℕ). record { name = name; accepted = c.args.accepted }) c.in_ok-name.ensures.items in
     ap stored_procedures (c.in_ok-insert.ensures.entries ∙ entered_last c.args.procedures.now c.args.number c.new.result c.requires)
     ∙ one_more_stored c.args.procedures.now.entries (c.args.number, c.new.result)
     ∙ ap (λ (n : NamedProcedure). stored_procedures c.args.procedures.now.entries ++ stored_of n.name c.args.number n.accepted ∷ []) named
