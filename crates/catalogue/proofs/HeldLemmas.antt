@@ -10,7 +10,7 @@ use Rattle.indexmap.proofs.CallerLemmas.{insert_entry-new}
 use Rattle.schema.specs.Schema.{Tables}
 use Rattle.bpf_verify.specs.Flow.{Procedure, IsAccepted}
 use Rattle.dsm_model.specs.Log.{StoredProcedure, Catalogue, by_number}
-use Rattle.catalogue.specs.Catalogue.{accepted_of, entry_of, stored_of, IsAcceptedWith}
+use Rattle.catalogue.specs.Catalogue.{accepted_of, listed_of, stored_of, IsAcceptedWith}
 use Rattle.catalogue.specs.Held.{NamedProcedure, stored_procedures, listed, IsAcceptedFor, AreAcceptedFor}
 
 abbrev Held : Type 0
@@ -77,7 +77,7 @@ found_by_number P number (q ∷ procedures) p all found = by (nat_eq q.number nu
     by true h rest = let same : q ≡ p = cc in subst P same all.0
     by false h rest = rest h
 
-pub listed_are : (tables : Tables) (held : Held) → AreAcceptedFor tables held → listed held ≡ map (entry_of tables) (stored_procedures held)
+pub listed_are : (tables : Tables) (held : Held) → AreAcceptedFor tables held → listed held ≡ map (listed_of tables) (stored_procedures held)
 listed_are tables [] all = refl
 listed_are tables (e ∷ held) all =
     (λ i. record { name = e.1.name; number = e.0; accepted = own_parts tables e.1.accepted all.0.own i } ∷ listed_are tables held all.1 i)

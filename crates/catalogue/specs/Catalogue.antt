@@ -23,13 +23,13 @@ abbrev pub accepted_of : Tables → StoredProcedure → Procedure
 accepted_of tables p = record { program = p.program; tables = tables; args_len = p.args_len }
 
 -- a stored procedure as it is listed
-pub record CatalogueEntry : Type 0 where
+pub record ListedProcedure : Type 0 where
   pub name : List ℕ
   pub number : ℕ
   pub accepted : Procedure
 
-abbrev pub entry_of : Tables → StoredProcedure → CatalogueEntry
-entry_of tables p = record { name = p.name; number = p.number; accepted = accepted_of tables p }
+abbrev pub listed_of : Tables → StoredProcedure → ListedProcedure
+listed_of tables p = record { name = p.name; number = p.number; accepted = accepted_of tables p }
 
 -- the verifier accepted it for these tables
 pub record IsAcceptedWith (tables : Tables) (p : StoredProcedure) : Type 0 where

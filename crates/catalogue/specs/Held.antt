@@ -9,7 +9,7 @@ use Rattle.schema.specs.Schema.{Tables}
 use Rattle.bpf_verify.specs.Flow.{Procedure, IsAccepted}
 use Rattle.bpf_verify.specs.Procedure.{procedure_code}
 use Rattle.dsm_model.specs.Log.{StoredProcedure, Catalogue}
-use Rattle.catalogue.specs.Catalogue.{SystemCatalogue, CatalogueEntry, stored_of}
+use Rattle.catalogue.specs.Catalogue.{SystemCatalogue, ListedProcedure, stored_of}
 
 pub record NamedProcedure : Type 0 where
   pub name : List ℕ
@@ -20,7 +20,7 @@ abbrev pub stored_procedures : List (ℕ × NamedProcedure) → Catalogue
 stored_procedures held = map (λ e. stored_of e.1.name e.0 e.1.accepted) held
 
 -- the same as they are listed
-abbrev pub listed : List (ℕ × NamedProcedure) → List CatalogueEntry
+abbrev pub listed : List (ℕ × NamedProcedure) → List ListedProcedure
 listed held = map (λ e. record { name = e.1.name; number = e.0; accepted = e.1.accepted }) held
 
 -- the verifier accepted the program, for these tables
@@ -47,8 +47,8 @@ stored_code = code_by (List ℕ × (ℕ × (Program × ℕ)))
 abbrev pub catalogue_code : Coded SystemCatalogue
 catalogue_code = code_by (Tables × Catalogue) (coded× (finite.code coded_ℕ coded_ℕ) (coded_list stored_code)) (λ w. (w.tables, w.procedures)) (λ c. record { tables = c.0; procedures = c.1 }) (λ _. refl)
 
-abbrev entry_code : Coded CatalogueEntry
-entry_code = code_by (List ℕ × (ℕ × Procedure)) (coded× (coded_list coded_ℕ) (coded× coded_ℕ procedure_code)) (λ e. (e.name, (e.number, e.accepted))) (λ c. record { name = c.0; number = c.1.0; accepted = c.1.1 }) (λ _. refl)
+abbrev listed_one_code : Coded ListedProcedure
+listed_one_code = code_by (List ℕ × (ℕ × Procedure)) (coded× (coded_list coded_ℕ) (coded× coded_ℕ procedure_code)) (λ e. (e.name, (e.number, e.accepted))) (λ c. record { name = c.0; number = c.1.0; accepted = c.1.1 }) (λ _. refl)
 
-abbrev pub entries_code : Coded (List CatalogueEntry)
-entries_code = coded_list entry_code
+abbrev pub listed_code : Coded (List ListedProcedure)
+listed_code = coded_list listed_one_code

@@ -4,12 +4,12 @@ ghost use Rattle.std.specs.Prelude.{◌≡◌, ◌<◌, ◌^◌, [], ◌∷◌, 
 ghost use Rattle.std.specs.Option.{option_copied};
 ghost use Rattle.dsm_model.specs.Log.{by_number};
 ghost use Rattle.schema.specs.Schema.{Tables};
-ghost use Rattle.catalogue.specs.Catalogue.{by_name, accepted_of, entry_of, stored_of, IsCatalogue};
+ghost use Rattle.catalogue.specs.Catalogue.{by_name, accepted_of, listed_of, stored_of, IsCatalogue};
 ghost use Rattle.catalogue.specs.Fault.{fault_of, fault_besides_memory};
 
-use crate::entries::Entries;
 use crate::fault::CatalogueFault;
 use crate::laws::accepted_programs_are_accepted;
+use crate::listed::ListedProcedures;
 use crate::name::is_name;
 use crate::procedures::{Procedures, accepted_by_number, enter, number_by_name};
 use bpf_verify::Accepted;
@@ -106,12 +106,12 @@ impl<A: Allocator + Copy> Catalogue<A> {
     }
 
     /// The procedures in order of entry.
-    pub fn list(&self) -> Entries<'_, A>
-        ensures list { result ≡ map (entry_of self.now.tables) self.now.procedures }
+    pub fn list(&self) -> ListedProcedures<'_, A>
+        ensures list { result ≡ map (listed_of self.now.tables) self.now.procedures }
         // So that they can be counted.
         ensures few { length result < 2 ^ 63 }
     {
-        Entries::new(self.procedures.iter())
+        ListedProcedures::new(self.procedures.iter())
     }
 
     /// The tables that the procedures may name.

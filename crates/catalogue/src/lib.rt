@@ -2,14 +2,14 @@
 #![tactic(auto)]
 
 pub use catalogue::Catalogue;
-pub use entries::{Entries, Entry};
 pub use fault::CatalogueFault;
 pub use laws::catalogues_are_safe;
+pub use listed::{ListedProcedure, ListedProcedures};
 
 mod catalogue;
-mod entries;
 mod fault;
 mod laws;
+mod listed;
 mod name;
 mod named;
 mod procedures;
