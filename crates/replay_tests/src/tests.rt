@@ -1,63 +1,16 @@
 ghost use Rattle.std.specs.Prelude.{◌<◌, ◌^◌, length};
 
-use bpf_code::decode;
 use dsm_model::Verdict;
-use dsm_replayer::{
-    CallReport, CompletedReplay, PlainCall, PlainProcedure, PlainSetting, replay_log,
-};
+use dsm_replayer::{CallReport, CompletedReplay, PlainCall, replay_log};
 use plain_runner::{Row, Write};
-use programs::PROCEDURES;
+use sample_procedures::{args_of, setting_of};
 use scarce::Scarce;
-use schema::{Look, Schema};
+use schema::Look;
 use std::alloc::Global;
 use std::fmt::Write as _;
 use std::test::Fail;
 
 mod drawn;
-mod programs;
-
-/// Table 1 has rows of 8 bytes.
-const TABLES: [(u8, u16); 1] = [(1, 8)];
-
-/// The bytes of a program in hex.
-fn bytes_of(alloc: Global, hex: &str) -> Result<Vec<u8>, Fail> {
-    let mut bytes = Vec::new(alloc);
-    for slot in hex.split_whitespace() {
-        bytes.extend_from_slice(&hex::decode(alloc, slot)?)?;
-    }
-    Ok(bytes)
-}
-
-/// The words as an argument block, each least byte first.
-fn args_of(alloc: Global, words: &[u64]) -> Result<Vec<u8>, Fail> {
-    let mut args = Vec::new(alloc);
-    for word in words {
-        args.extend_from_slice(&word.to_le_bytes())?;
-    }
-    Ok(args)
-}
-
-/// A procedure of so many words, which goes without a name.
-fn procedure_of(
-    alloc: Global,
-    number: u16,
-    hex: &str,
-    words: usize,
-) -> Result<PlainProcedure, Fail> {
-    let code = decode(alloc, &bytes_of(alloc, hex)?)?;
-    let args_len = u16::try_from(words).unwrap_or(0).wrapping_mul(8);
-    Ok(PlainProcedure::new(Vec::new(alloc), number, code, args_len))
-}
-
-/// The procedures over table 1.
-fn setting_of(alloc: Global, window: u32) -> Result<PlainSetting, Fail> {
-    let mut catalogue = Vec::new(alloc);
-    for (number, hex, words) in &PROCEDURES {
-        catalogue.push(procedure_of(alloc, *number, hex, *words)?)?;
-    }
-    let schema = Schema::new(alloc, &TABLES)?;
-    Ok(PlainSetting::new(schema, catalogue, window))
-}
 
 /// A procedure's number, its arguments, and a snapshot.
 type CallCase = (u16, &'static [u64], u32);

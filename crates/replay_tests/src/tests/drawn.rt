@@ -1,13 +1,13 @@
 //! A log that is drawn: what commits in it ran alike on the rows just before it.
 
-use super::programs::PROCEDURES;
-use super::{TABLES, args_of, bytes_of, rows_text, run_text, setting_of, short};
+use super::{rows_text, run_text, short};
 use bpf_code::decode;
 use dsm_model::Verdict;
 use dsm_replayer::{CallReport, CompletedReplay, PlainCall, replay_log};
 use plain_runner::{Row, run_program};
 use rand_core::utils::NextWord;
 use rand_pcg::Pcg32;
+use sample_procedures::{PROCEDURES, TABLES, args_of, bytes_of, setting_of};
 use schema::Schema;
 use std::alloc::Global;
 use std::test::Fail;

@@ -1,0 +1,51 @@
+//! The procedures as those that replay a log take them.
+
+use crate::programs::PROCEDURES;
+use bpf_code::decode;
+use dsm_replayer::{PlainProcedure, PlainSetting};
+use schema::Schema;
+use std::alloc::Global;
+use std::test::Fail;
+
+/// Table 1 has rows of 8 bytes.
+pub const TABLES: [(u8, u16); 1] = [(1, 8)];
+
+/// The bytes of a program in hex.
+pub fn bytes_of(alloc: Global, hex: &str) -> Result<Vec<u8>, Fail> {
+    let mut bytes = Vec::new(alloc);
+    for slot in hex.split_whitespace() {
+        bytes.extend_from_slice(&hex::decode(alloc, slot)?)?;
+    }
+    Ok(bytes)
+}
+
+/// The words as an argument block, each least byte first.
+pub fn args_of(alloc: Global, words: &[u64]) -> Result<Vec<u8>, Fail> {
+    let mut args = Vec::new(alloc);
+    for word in words {
+        args.extend_from_slice(&word.to_le_bytes())?;
+    }
+    Ok(args)
+}
+
+/// A procedure of so many words, which goes without a name.
+fn procedure_of(
+    alloc: Global,
+    number: u16,
+    hex: &str,
+    words: usize,
+) -> Result<PlainProcedure, Fail> {
+    let code = decode(alloc, &bytes_of(alloc, hex)?)?;
+    let args_len = u16::try_from(words).unwrap_or(0).wrapping_mul(8);
+    Ok(PlainProcedure::new(Vec::new(alloc), number, code, args_len))
+}
+
+/// All of them, under a window.
+pub fn setting_of(alloc: Global, window: u32) -> Result<PlainSetting, Fail> {
+    let mut catalogue = Vec::new(alloc);
+    for (number, hex, words) in &PROCEDURES {
+        catalogue.push(procedure_of(alloc, *number, hex, *words)?)?;
+    }
+    let schema = Schema::new(alloc, &TABLES)?;
+    Ok(PlainSetting::new(schema, catalogue, window))
+}
