@@ -1,6 +1,10 @@
-//! A replica that takes what is handed to it only where its own conditions hold, for tests and benchmarks.
+//! Replicas and versions that take what is handed to them only where their own conditions hold, for tests and benchmarks.
 #![tactic(auto)]
 
+pub use checked::CheckedReplica;
 pub use fit::writes_fit;
+pub use versions::CheckedVersions;
 
+mod checked;
 mod fit;
+mod versions;
