@@ -11,7 +11,6 @@ use Rattle.std.specs.Prelude.{replicate}
 use Rattle.std.proofs.lemmas.Bool.{cases_lt}
 use Rattle.std.proofs.lemmas.List.{get_or-set_same, get_or-set_other, get_or_append_left, get_or-append_right}
 use Rattle.sig_lanes.specs.Bits.{has_bit, Meet}
-use Rattle.std.specs.Prelude.{not}
 
 pub or_false : (a : Bool) → (a || false) ≡ a
 or_false true = refl
@@ -129,9 +128,6 @@ meet_some a b j k lt few x y =
     let rest : (64 * j + k) % 64 ≡ k = omega (arith, few) in
     (64 * j + k, omega (arith, few, lt), place a j k (64 * j + k) word rest x, place b j k (64 * j + k) word rest y)
 
-pub positive : (n : ℕ) → not (nat_eq n 0) ≡ true → 0 < n
-positive n e = grind arith
-
 pub last_or_before : (m n : ℕ) → m < n + 1 → (m < n) ⊎ (m ≡ n)
 last_or_before m n lt = elim (decide m n) [ inl e ↦ inr e | inr f ↦ inl (let ne = unlike m n f in below ne) ]
   where
@@ -153,22 +149,32 @@ high_bit low high b long ge =
     ∙ ap (λ (i : ℕ). nat_eq (bit_at (get_or high i 0) (b % 64)) 1) word
     ∙ ap (λ (i : ℕ). nat_eq (bit_at (get_or high ((b - 512) / 64) 0) i) 1) rest
 
-apart_or : (x : Bool) (m n : ℕ) → (m ≡ n → ⊥) → (x || nat_eq m n) ≡ x
-apart_or x m n ne = elim (decide m n) [ inl e ↦ absurd (ne e) | inr f ↦ ap (λ (y : Bool). x || y) f ∙ or_false x ]
+or_other : (x : Bool) (m n : ℕ) → (m ≡ n → ⊥) → x ≡ (x || nat_eq m n)
+or_other x m n ne = elim (decide m n) [ inl e ↦ absurd (ne e) | inr f ↦ sym (ap (λ (y : Bool). x || y) f ∙ or_false x) ]
 
-pub more_low : (low new high : List ℕ) (bit b : ℕ) → length low ≡ 8 → length new ≡ 8 → bit < 512 → has_bit new b ≡ (has_bit low b || nat_eq bit b)
-    → has_bit (new ++ high) b ≡ (has_bit (low ++ high) b || nat_eq bit b)
+pub more_low : (low new high : List ℕ) (bit b : ℕ) → length low ≡ 8 → length new ≡ 8 → bit < 512
+    → has_bit new b ≡ (has_bit low b || nat_eq bit b) → has_bit (new ++ high) b ≡ (has_bit (low ++ high) b || nat_eq bit b)
 more_low low new high bit b long also within more = elim (cases_lt b 512) [
   | inl lt ↦ low_bit new high b also lt ∙ more ∙ ap (λ (x : Bool). x || nat_eq bit b) (sym (low_bit low high b long lt))
-  | inr ge ↦ high_bit new high b also ge ∙ sym (high_bit low high b long ge) ∙ sym (apart_or (has_bit (low ++ high) b) bit b (λ e. absurd (omega arith)))
+  | inr ge ↦ (
+      let same = high_bit new high b also ge ∙ sym (high_bit low high b long ge) in
+      same ∙ or_other (has_bit (low ++ high) b) bit b (λ e. absurd (omega arith)))
 ]
 
-pub more_high : (low high new : List ℕ) (bit b : ℕ) → length low ≡ 8 → 512 ≤ bit → has_bit new (b - 512) ≡ (has_bit high (b - 512) || nat_eq (bit - 512) (b - 512))
+pub more_high : (low high new : List ℕ) (bit b : ℕ) → length low ≡ 8 → 512 ≤ bit
+    → has_bit new (b - 512) ≡ (has_bit high (b - 512) || nat_eq (bit - 512) (b - 512))
     → has_bit (low ++ new) b ≡ (has_bit (low ++ high) b || nat_eq bit b)
 more_high low high new bit b long within more = elim (cases_lt b 512) [
-  | inl lt ↦ low_bit low new b long lt ∙ sym (low_bit low high b long lt) ∙ sym (apart_or (has_bit (low ++ high) b) bit b (λ e. absurd (omega arith)))
-  | inr ge ↦ high_bit low new b long ge ∙ more ∙ ap (λ (x : Bool). x || nat_eq (bit - 512) (b - 512)) (sym (high_bit low high b long ge)) ∙ ap (λ (y : Bool). has_bit (low ++ high) b || y) (shifted ge)
+  | inl lt ↦ (
+      let same = low_bit low new b long lt ∙ sym (low_bit low high b long lt) in
+      same ∙ or_other (has_bit (low ++ high) b) bit b (λ e. absurd (omega arith)))
+  | inr ge ↦ (
+      let shifted : nat_eq (bit - 512) (b - 512) ≡ nat_eq bit b = same_test ge in
+      high_bit low new b long ge
+      ∙ more
+      ∙ ap (λ (x : Bool). x || nat_eq (bit - 512) (b - 512)) (sym (high_bit low high b long ge))
+      ∙ ap (λ (x : Bool). has_bit (low ++ high) b || x) shifted)
 ]
   where
-    shifted : 512 ≤ b → nat_eq (bit - 512) (b - 512) ≡ nat_eq bit b
-    shifted ge = grind (arith, nat_tests)
+    same_test : 512 ≤ b → nat_eq (bit - 512) (b - 512) ≡ nat_eq bit b
+    same_test ge = grind (arith, nat_tests)

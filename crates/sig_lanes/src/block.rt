@@ -27,7 +27,8 @@ impl Model for Words {
     ghost inverse = { λ lanes. record { lanes = lanes } };
 }
 
-/// Eight signatures turned round: lane j of vector i is word i of signature j.
+/// Eight signatures, turned round: lane j of vector i is word i of signature j. Contracts see the 16 vectors, each as
+/// its eight words, and tell the signatures by `signature_at`.
 #[derive(Drop)]
 pub struct Block {
     words: [Words; 16],
@@ -41,7 +42,7 @@ impl Model for Block {
     ghost view = { λ b. b.words };
 }
 
-/// The word of one signature replaced.
+/// Replaces the word of one signature.
 fn put_word(words: &mut Words, lane: usize, word: u64)
     requires { lane < 8 }
     ensures here { slice_index_or words.new lane 0 ≡ word }
@@ -50,7 +51,7 @@ fn put_word(words: &mut Words, lane: usize, word: u64)
     words.lanes = with_word(words.lanes, lane, word);
 }
 
-/// One of eight signatures replaced.
+/// Replaces one of eight signatures.
 fn put_signature(block: &mut [Words; 16], lane: usize, signature: &Sig)
     requires { lane < 8 }
     ensures set { signature_at block.new lane ≡ signature.now }
@@ -62,16 +63,16 @@ fn put_signature(block: &mut [Words; 16], lane: usize, signature: &Sig)
     }
 }
 
-/// The bits that each of eight signatures shares with one: those of its 16 words in one, since it only matters if there are any.
+/// The bits that each of eight signatures shares with another, whichever word they are in.
 fn shared_bits(block: &[Words; 16], signature: &Sig) -> u64x8
     ensures { (j k : ℕ) → j < 8
         → ((bit_at (slice_index_or result j 0) k ≡ 1) ↔ SharePlace (signature_at block.now j) signature.now 16 k) }
 {
     let source = signature.words();
     let mut shared = u64x8::splat(0);
-    for index in 0..16 {
-        let words = &block[index];
-        shared = or_shared(shared, words.lanes, source[index]);
+    for word in 0..16 {
+        let words = &block[word];
+        shared = or_shared(shared, words.lanes, source[word]);
     }
     shared
 }

@@ -5,7 +5,7 @@ ghost use Rattle.std.specs.Int.{bit_at};
 
 use std::simd::prelude::*;
 
-/// Bit j is set where lane j has some bit.
+/// Which lanes aren't 0: bit j is set where lane j has some bit.
 #[inline(always)]
 pub(crate) fn lanes_with_bits(lanes: u64x8) -> u8
     ensures { (j : ℕ) → j < 8 → ((bit_at result j ≡ 1) ↔ ((k : ℕ) × (k < 64) × (bit_at (slice_index_or lanes j 0) k ≡ 1))) }
@@ -22,7 +22,7 @@ pub(crate) fn or_shared(so_far: u64x8, lanes: u64x8, word: u64) -> u64x8
     so_far | (lanes & u64x8::splat(word))
 }
 
-/// One word replaced.
+/// The lanes with one word replaced.
 #[inline(always)]
 pub(crate) fn with_word(lanes: u64x8, lane: usize, word: u64) -> u64x8
     requires { lane < 8 }

@@ -1,6 +1,7 @@
 //! The bits that looks and writes set.
 
-ghost use Rattle.std.specs.Prelude.{◌≡◌, ◌<◌, ◌||◌, ◌++◌, ◌==◌, ◌↔◌, ℕ, List, [], IsTrue, false, nat_lt, length, slice_index_or, IfSome, IfNone};
+ghost use Rattle.std.specs.Prelude.{◌≡◌, ◌<◌, ◌||◌, ◌++◌, ◌==◌, ◌↔◌, ℕ, List, [], IsTrue, false, nat_lt};
+ghost use Rattle.std.specs.Prelude.{length, slice_index_or, IfSome, IfNone};
 ghost use Rattle.row_model.specs.Signature.{bit_of, look_sets_bit, looks_set_bit, writes_set_bit, shares_bit};
 ghost use Rattle.sig_lanes.specs.Bits.{has_bit, Meet};
 
@@ -38,7 +39,7 @@ fn bit_of(table: u8, key: u64) -> usize
     (of_key.wrapping_add(of_table) >> 54) as usize
 }
 
-/// Whether two sets of bits have one in common.
+/// Whether two sets of bits, each in two halves, have one in common.
 #[inline(always)]
 fn halves_meet(low: u64x8, high: u64x8, other_low: u64x8, other_high: u64x8) -> bool
     ensures { IsTrue result ↔ Meet (low ++ high) (other_low ++ other_high) }
@@ -46,7 +47,7 @@ fn halves_meet(low: u64x8, high: u64x8, other_low: u64x8, other_high: u64x8) -> 
     lanes_with_bits((low & other_low) | (high & other_high)) != 0
 }
 
-/// One more bit in half of the words.
+/// Half of the words with one more bit, which is counted from the first of the half.
 fn with_bit(half: u64x8, bit: usize) -> u64x8
     requires { bit < 512 }
     ensures bits { (b : ℕ) → has_bit result b ≡ (has_bit half b || (bit == b)) }

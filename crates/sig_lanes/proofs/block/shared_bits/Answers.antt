@@ -5,13 +5,13 @@ use Rattle.sig_lanes.specs.Bits.{signature_at}
 use Rattle.sig_lanes.proofs.LaneLemmas.{lane_at, share_more}
 use Rattle.sig_lanes.proofs.block.shared_bits.Goals as goal
 
-pub loop-index-preserved : goal.loop-index-preserved
-loop-index-preserved c j k lt =
-    let n = c.loop-index.index in
+pub loop-word-preserved : goal.loop-word-preserved
+loop-word-preserved c j k lt =
+    let n = c.loop-word.word in
     let block = c.args.block.now in
     let source = c.words-source.result in
-    let here = c.words.view_is ∙ get_or_default {X = List ℕ} block n c.index-block-index.result [] (omega arith) in
+    let here = c.words.view_is ∙ get_or_default {X = List ℕ} block n c.index-block-word.result [] (omega arith) in
     let word = ap (λ (ws : List ℕ). get_or ws j 0) here ∙ sym (lane_at block j n (omega arith)) in
-    share_more (signature_at block j) source n k _ (get_or c.loop-index.shared j 0)
-    (c.or_shared-shared.ensures j lt ∙ ap (λ (w : ℕ). bit_or (get_or c.loop-index.shared j 0) (bit_and w (get_or source n 0))) word)
-    (c.loop-index.invariant j k lt)
+    share_more (signature_at block j) source n k _ (get_or c.loop-word.shared j 0)
+    (c.or_shared-shared.ensures j lt ∙ ap (λ (w : ℕ). bit_or (get_or c.loop-word.shared j 0) (bit_and w (get_or source n 0))) word)
+    (c.loop-word.invariant j k lt)

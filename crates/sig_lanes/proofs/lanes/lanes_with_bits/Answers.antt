@@ -5,7 +5,10 @@ use Rattle.sig_lanes.proofs.LaneLemmas.{mask_is, mask_fits, mask_bit}
 use Rattle.sig_lanes.proofs.lanes.lanes_with_bits.Goals as goal
 
 pub overflow_cast-result : goal.overflow_cast-result
-overflow_cast-result c = record { fits = subst (λ (n : ℕ). n < 256) (sym (mask_is c.args.lanes c.fits-lanes.0)) (mask_fits c.args.lanes c.fits-lanes.0) }
+overflow_cast-result c =
+    let xs = c.args.lanes in
+    let long = c.fits-lanes.0 in
+    record { fits = subst (λ (n : ℕ). n < 256) (sym (mask_is xs long)) (mask_fits xs long) }
 
 pub returns : goal.returns
 returns c j lt =

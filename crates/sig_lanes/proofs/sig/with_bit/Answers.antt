@@ -10,5 +10,6 @@ returns-clause-bits c b =
     let half = c.args.half in
     let bit = c.args.bit in
     let read = c.index.ensures ∙ get_or_default half (bit / 64) c.index.result.now 0 (omega arith) in
-    ap (λ (ws : List ℕ). has_bit ws b) (c.with_word.ensures ∙ ap (λ (word : ℕ). slice_set half (bit / 64) (bit_or word (1 * 2 ^ (bit % 64) % 2 ^ 64))) read)
+    let set = ap (λ (word : ℕ). slice_set half (bit / 64) (bit_or word (1 * 2 ^ (bit % 64) % 2 ^ 64))) read in
+    ap (λ (ws : List ℕ). has_bit ws b) (c.with_word.ensures ∙ set)
     ∙ one_more half bit b (omega arith)
