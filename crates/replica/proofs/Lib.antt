@@ -1,0 +1,3 @@
+pub mod KeepsLemmas
+pub mod FitLemmas
+pub mod DeliveryLemmas

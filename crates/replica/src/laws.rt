@@ -1,0 +1,43 @@
+//! What holds of what a replica keeps.
+
+ghost use Rattle.std.specs.Prelude.{◌≡◌, ℕ, suc, ◌-◌, ◌≤◌, List, [], ◌∷◌, ◌++◌, length, true, false};
+ghost use Rattle.schema.specs.Schema.{Tables};
+ghost use Rattle.schema.specs.Rows.{Rows, Writes, AreWrites, after_writes};
+ghost use Rattle.rows_mv.specs.Versions.{Versions, HaveTables};
+ghost use Rattle.dsm_model.specs.Log.{is_commit, verdict_after, if_commits};
+ghost use Rattle.dsm_model.specs.Entries.{Entry, certified_calls_of};
+ghost use Rattle.key_table.specs.Table.{Table};
+ghost use Rattle.replica.specs.declared.certification.Certification.{Certification};
+ghost use Rattle.replica.specs.Replica.{FitTables, IsDelivered, IsRefused, Replica, StandsFor, rows_kept};
+
+use row_model::map_after_each_write_set;
+use rows_mv::answers_after_an_install;
+
+/// Tables that have the schema's widths take the schema's writes.
+pub fn tables_take_the_schemas_writes()
+    ensures { (tables : Tables) (versions : Versions) (writes : Writes)
+        → HaveTables tables versions.tables → AreWrites tables writes → FitTables versions writes }
+{}
+
+/// No rows at first; one more entry lays its writes on where it commits, from its own position on.
+pub fn rows_of_each_delivery()
+    ensures later { (window s : ℕ) (entries : List Entry) (e : Entry) → suc (length entries) ≤ s
+        → rows_kept window (entries ++ e ∷ []) s
+        ≡ if_commits (verdict_after window (certified_calls_of window entries) e.call e.looks)
+        (after_writes e.writes (rows_kept window entries s)) (rows_kept window entries s) }
+    ensures before { (window s : ℕ) (entries : List Entry) (e : Entry) → s ≤ length entries
+        → rows_kept window (entries ++ e ∷ []) s ≡ rows_kept window entries s }
+{
+    map_after_each_write_set();
+}
+
+/// A replica goes on standing for what it delivered, and where a delivery is refused it stands for the same.
+pub fn deliveries_are_kept()
+    ensures delivered { (old new : Replica) (e : Entry) (c : Certification) (installed : List Table) (entries : List Entry)
+        → IsDelivered old new e c installed → StandsFor old entries → StandsFor new (entries ++ e ∷ []) }
+    ensures refused { (old new : Replica) (entries : List Entry)
+        → IsRefused old new → StandsFor old entries → StandsFor new entries }
+{
+    map_after_each_write_set();
+    answers_after_an_install();
+}

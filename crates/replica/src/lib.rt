@@ -1,0 +1,9 @@
+//! A replica of the database: it takes delivered calls one by one and is proved to keep the model's verdicts and rows,
+//! though it never runs a call.
+#![tactic(auto)]
+
+pub use certification::Certification;
+pub use laws::{deliveries_are_kept, rows_of_each_delivery, tables_take_the_schemas_writes};
+
+mod certification;
+mod laws;
