@@ -57,11 +57,7 @@ fn put_signature<A: Allocator>(
 }
 
 /// Puts writes at a place.
-fn put_writes<A: Allocator + Copy>(
-    all: &mut Vec<WriteSet<A>, A>,
-    place: usize,
-    writes: WriteSet<A>,
-)
+fn put_writes<A: Allocator + Copy>(all: &mut Vec<WriteSet<A>, A>, place: usize, writes: WriteSet<A>)
     requires { place < length all.old.items }
     ensures { all.new.items ≡ slice_set all.old.items place writes }
 {

@@ -1,4 +1,3 @@
-use Rattle.std.proofs.Common.{◌≡◌}
 use Rattle.certify.proofs.WriteLemmas.{share_alike}
 use Rattle.certify.proofs.prepared.prepared_of.Goals as goal
 
