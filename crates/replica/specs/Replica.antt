@@ -41,6 +41,13 @@ pub record Replica : Type 0 where
   pub memory : certifier.Memory
   pub versions : Versions
 
+-- what is known of every replica
+pub record IsReplica (r : Replica) : Type 0 where
+  pub certifications : length r.certifications ≡ r.position
+  pub count : r.memory.count ≡ r.position
+  pub window : r.memory.window ≡ r.window
+  pub horizon : r.versions.horizon ≤ r.position - r.window
+
 pub record StandsFor (r : Replica) (entries : List Entry) : Type 0 where
   pub position : r.position ≡ length entries
   pub window : r.memory.window ≡ r.window

@@ -2,8 +2,13 @@
 //! though it never runs a call.
 #![tactic(auto)]
 
+pub use at::At;
 pub use certification::Certification;
 pub use laws::{deliveries_are_kept, rows_of_each_delivery, tables_take_the_schemas_writes};
+pub use replica::Replica;
 
+mod at;
 mod certification;
+mod deliver;
 mod laws;
+mod replica;
