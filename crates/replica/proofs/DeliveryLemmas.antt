@@ -7,7 +7,8 @@ use Rattle.std.proofs.lemmas.Bool.{cases_lt}
 use Rattle.schema.specs.Rows.{Key, Rows, Writes, after_writes}
 use Rattle.row_chain.specs.Version.{row_up_to}
 use Rattle.key_table.specs.Table.{Table}
-use Rattle.rows_mv.specs.Versions.{Versions, AnswersFrom, IsInstalled}
+use Rattle.std.specs.FinMap.{empty}
+use Rattle.rows_mv.specs.Versions.{Versions, AnswersFrom, AreEmpty, IsInstalled}
 use Rattle.dsm_model.specs.declared.verdict.Verdict.{Verdict}
 use Rattle.dsm_model.specs.declared.verdict.Verdict.TheVariants.{Commit, Conflict, Stale}
 use Rattle.dsm_model.specs.Log.{CertifiedCall, is_commit, if_commits, verdict_after}
@@ -148,3 +149,20 @@ refused old new entries is stands =
       rows = subst (λ (w : ℕ). KeepsRows w new.versions entries new.position) same keeps;
       certifications = subst (λ (w : ℕ). AreCertificationsOf w entries new.certifications) same (subst (AreCertificationsOf old.window entries) (sym is.certifications) stands.certifications);
     }
+
+-- at first, with no versions
+pub stands_at_first : (r : Replica) → ((s : ℕ) (tables : List Table) → AreEmpty tables → AnswersFrom tables s empty) → ((window s : ℕ) → rows_kept window [] s ≡ empty)
+    → r.position ≡ 0 → r.memory.window ≡ r.window → certifier.StandsFor r.memory [] → r.versions.horizon ≡ 0 → AreEmpty r.versions.tables → r.certifications ≡ []
+    → StandsFor r []
+unfolding certified_calls_of
+stands_at_first r answers rows position window memory horizon none certifications = record {
+  position = position;
+  window = window;
+  memory = memory;
+  horizon = omega arith;
+  rows = λ s near. moved r.versions.tables s (rows_kept r.window [] s) empty (rows r.window s) (answers s r.versions.tables none);
+  certifications = record {
+    count = ap (λ (l : List Certification). length l) certifications;
+    each = λ before e at. let bad : None ≡ Some e = at in cc;
+  };
+}

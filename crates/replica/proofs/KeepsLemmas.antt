@@ -4,7 +4,7 @@ use Rattle.std.specs.Prelude.{Option, Some, None, if◌then◌else◌, IsSome}
 use Rattle.std.specs.List.{fold}
 use Rattle.std.proofs.lemmas.List.{take-append-le, take_all, length-append, append-nil}
 use Rattle.std.proofs.lemmas.List.Sums.{fold-append}
-use Rattle.std.specs.FinMap.{get}
+use Rattle.std.specs.FinMap.{empty}
 use Rattle.schema.specs.Schema.{Tables}
 use Rattle.schema.specs.declared.look.Look.{Look}
 use Rattle.schema.specs.Rows.{Key, Rows, Writes, AreWrites, IsRow, IsKey, IsWrite, after_writes}
@@ -89,3 +89,7 @@ rows_before law window s entries e le =
     let count = certified_count window entries in
     ap (λ (l : List CertifiedCall). rows_by l s) (certified_more window entries e)
     ∙ before_by law (certified_calls_of window entries) e.writes (verdict_after window (certified_calls_of window entries) e.call e.looks) s (omega arith)
+
+pub rows_none : ((position : ℕ) → map_after [] position ≡ empty) → (window s : ℕ) → rows_kept window [] s ≡ empty
+unfolding certified_calls_of installed_from
+rows_none none window s = none s

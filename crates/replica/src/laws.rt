@@ -1,6 +1,7 @@
 //! What holds of what a replica keeps.
 
 ghost use Rattle.std.specs.Prelude.{◌≡◌, ℕ, suc, ◌-◌, ◌≤◌, List, [], ◌∷◌, ◌++◌, length, true, false};
+ghost use Rattle.std.specs.FinMap.{empty};
 ghost use Rattle.schema.specs.Schema.{Tables};
 ghost use Rattle.schema.specs.Rows.{Rows, Writes, AreWrites, after_writes};
 ghost use Rattle.rows_mv.specs.Versions.{Versions, HaveTables};
@@ -40,4 +41,11 @@ pub fn deliveries_are_kept()
 {
     map_after_each_write_set();
     answers_after_an_install();
+}
+
+/// At first there are no rows at any position.
+pub(crate) fn no_rows_at_first()
+    ensures { (window s : ℕ) → rows_kept window [] s ≡ empty }
+{
+    map_after_each_write_set();
 }

@@ -6,9 +6,11 @@ pub use at::At;
 pub use certification::Certification;
 pub use laws::{deliveries_are_kept, rows_of_each_delivery, tables_take_the_schemas_writes};
 pub use replica::Replica;
+pub use stopped::Stopped;
 
 mod at;
 mod certification;
 mod deliver;
 mod laws;
 mod replica;
+mod stopped;
