@@ -62,18 +62,18 @@ next_answers lays law old new window position s entries e at installs refuses fr
 
 -- ---- the certifications
 
-get_left : {X : Type 0} (xs ys : List X) (i : ℕ) → i < length xs → slice_get (xs ++ ys) i ≡ slice_get xs i
+pub get_left : {X : Type 0} (xs ys : List X) (i : ℕ) → i < length xs → slice_get (xs ++ ys) i ≡ slice_get xs i
 get_left [] ys i lt = absurd (omega arith)
 get_left (x ∷ xs) ys zero lt = refl
 get_left (x ∷ xs) ys (suc i) lt = get_left xs ys i (omega arith)
 
-get_end : {X : Type 0} (xs : List X) (y : X) (i : ℕ) → i ≡ length xs → slice_get (xs ++ y ∷ []) i ≡ Some y
+pub get_end : {X : Type 0} (xs : List X) (y : X) (i : ℕ) → i ≡ length xs → slice_get (xs ++ y ∷ []) i ≡ Some y
 get_end [] y zero is = refl
 get_end [] y (suc i) is = absurd (omega arith)
 get_end (x ∷ xs) y zero is = absurd (omega arith)
 get_end (x ∷ xs) y (suc i) is = get_end xs y i (omega arith)
 
-same_some : {X : Type 0} (x y : X) → Some x ≡ Some y → x ≡ y
+pub same_some : {X : Type 0} (x y : X) → Some x ≡ Some y → x ≡ y
 same_some x y is = cc
 
 certifications_more : (window : ℕ) (entries : List Entry) (e : Entry) (certifications : List Certification) (c : Certification)

@@ -3,9 +3,10 @@ use Rattle.std.specs.Prelude.{◌≡◌, ℕ, ◌+◌, ◌-◌, ◌≤◌, Bool,
 use Rattle.schema.specs.Rows.{Key, Rows, Writes}
 use Rattle.schema.specs.declared.look.Look.{Look}
 use Rattle.row_model.specs.InstalledWrites.{map_after}
-use Rattle.dsm_model.specs.Log.{Call, CertifiedCall, is_commit, verdict_after}
+use Rattle.dsm_model.specs.Log.{Setting, Call, CertifiedCall, IsLog, is_commit, verdict_after}
 use Rattle.dsm_model.specs.Comparisons.{comparisons_after}
-use Rattle.dsm_model.specs.Entries.{Entry, certified_calls_of, installed_from}
+use Rattle.dsm_model.specs.Entries.{Entry, calls_of, CarryRuns, certified_calls_of, installed_from}
+use Rattle.dsm_model.specs.Fit.{HasSafeProcedures, AreCalls}
 use Rattle.key_table.specs.Table.{Table, versions_at}
 use Rattle.rows_mv.specs.Versions.{Versions, slots_of, AnswersFrom, IsInstalled, AreOfTables, HaveWidths}
 use Rattle.certify.specs.Kept as certifier
@@ -90,3 +91,12 @@ pub record IsRefused (old new : Replica) : Type 0 where
   pub memory : new.memory ≡ old.memory
   pub versions : HasSameVersions old.versions.tables new.versions.tables
   pub horizon : new.versions.horizon ≡ old.versions.horizon
+
+-- ---- the log
+
+-- the calls are a log of this setting, and each entry carries its run
+pub record AreEntriesOf (w : Setting) (entries : List Entry) : Type 0 where
+  pub procedures : HasSafeProcedures w
+  pub log : IsLog (calls_of entries)
+  pub calls : AreCalls w (calls_of entries)
+  pub runs : CarryRuns w entries

@@ -1,16 +1,17 @@
 //! What holds of what a replica keeps.
 
-ghost use Rattle.std.specs.Prelude.{◌≡◌, ℕ, suc, ◌-◌, ◌≤◌, List, [], ◌∷◌, ◌++◌, length, true, false};
+ghost use Rattle.std.specs.Prelude.{◌≡◌, ℕ, suc, ◌-◌, ◌≤◌, List, [], ◌∷◌, ◌++◌, length, slice_get, Some, true, false, ◌+◌};
 ghost use Rattle.std.specs.FinMap.{empty};
 ghost use Rattle.schema.specs.Schema.{Tables};
 ghost use Rattle.schema.specs.Rows.{Rows, Writes, AreWrites, after_writes};
-ghost use Rattle.rows_mv.specs.Versions.{Versions, HaveTables};
-ghost use Rattle.dsm_model.specs.Log.{is_commit, verdict_after, if_commits};
-ghost use Rattle.dsm_model.specs.Entries.{Entry, certified_calls_of};
+ghost use Rattle.rows_mv.specs.Versions.{Versions, AnswersFrom, HaveTables};
+ghost use Rattle.dsm_model.specs.Log.{Setting, is_commit, verdict_after, verdict_of, if_commits, rows_after};
+ghost use Rattle.dsm_model.specs.Entries.{Entry, calls_of, certified_calls_of};
 ghost use Rattle.key_table.specs.Table.{Table};
 ghost use Rattle.replica.specs.declared.certification.Certification.{Certification};
-ghost use Rattle.replica.specs.Replica.{FitTables, IsDelivered, IsRefused, Replica, StandsFor, rows_kept};
+ghost use Rattle.replica.specs.Replica.{AreEntriesOf, FitTables, IsDelivered, IsRefused, Replica, StandsFor, rows_kept};
 
+use dsm_model::entries_suffice;
 use row_model::map_after_each_write_set;
 use rows_mv::answers_after_an_install;
 
@@ -48,4 +49,20 @@ pub(crate) fn no_rows_at_first()
     ensures { (window s : ℕ) → rows_kept window [] s ≡ empty }
 {
     map_after_each_write_set();
+}
+
+/// Where the delivered entries are a log's and carry their runs, a replica's verdicts are those of the log, and the rows of
+/// the positions within its window are the log's.
+pub fn replicas_follow_the_log()
+    ensures verdicts { (w : Setting) (r : Replica) (entries : List Entry) (before : ℕ) (c : Certification)
+        → w.window ≡ r.window → StandsFor r entries → AreEntriesOf w entries
+        → slice_get r.certifications before ≡ Some c → verdict_of w (calls_of entries) (before + 1) ≡ Some c.verdict }
+    ensures rows { (w : Setting) (r : Replica) (entries : List Entry) (s : ℕ)
+        → w.window ≡ r.window → StandsFor r entries → AreEntriesOf w entries → s ≤ r.position → r.position - s ≤ r.window
+        → AnswersFrom r.versions.tables s (rows_after w (calls_of entries) s) }
+    ensures next { (w : Setting) (entries : List Entry) (e : Entry) → AreEntriesOf w (entries ++ e ∷ [])
+        → verdict_of w (calls_of (entries ++ e ∷ [])) (length entries + 1)
+        ≡ Some (verdict_after w.window (certified_calls_of w.window entries) e.call e.looks) }
+{
+    entries_suffice();
 }

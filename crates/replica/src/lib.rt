@@ -4,7 +4,7 @@
 
 pub use at::At;
 pub use certification::Certification;
-pub use laws::{deliveries_are_kept, rows_of_each_delivery, tables_take_the_schemas_writes};
+pub use laws::{deliveries_are_kept, replicas_follow_the_log, rows_of_each_delivery, tables_take_the_schemas_writes};
 pub use replica::Replica;
 pub use stopped::Stopped;
 
@@ -12,5 +12,6 @@ mod at;
 mod certification;
 mod deliver;
 mod laws;
+mod rebuild;
 mod replica;
 mod stopped;

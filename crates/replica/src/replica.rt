@@ -1,16 +1,18 @@
 //! A replica.
 
 ghost use Rattle.std.specs.Prelude.{◌≡◌, ℕ, ◌+◌, ◌-◌, ◌≤◌, ◌<◌, ◌^◌, nat_lt, List, [], ◌∷◌, ◌++◌, length, slice_get, Some, true, false, is_err};
-ghost use Rattle.std.specs.Prelude.{IfOk, OnOk, OnErr};
-ghost use Rattle.dsm_model.specs.Log.{verdict_after};
-ghost use Rattle.dsm_model.specs.Entries.{Entry as Delivered, certified_calls_of};
-ghost use Rattle.rows_mv.specs.Versions.{HaveTables, width_of};
-ghost use Rattle.replica.specs.Replica.{FitTables, StandsFor, certification_of, rows_kept};
+ghost use Rattle.schema.specs.Rows.{AreWrites};
+ghost use Rattle.std.specs.Prelude.{All, IfOk, OnOk, OnErr};
+ghost use Rattle.dsm_model.specs.Log.{IsLog, Setting, rows_after, verdict_after, verdict_of};
+ghost use Rattle.dsm_model.specs.Entries.{Entry as Delivered, calls_of, certified_calls_of};
+ghost use Rattle.rows_mv.specs.Versions.{AnswersFrom, HaveTables, width_of};
+ghost use Rattle.replica.specs.Replica.{AreEntriesOf, FitTables, StandsFor, certification_of, rows_kept};
 
 use crate::at::At;
 use crate::certification::Certification;
 use crate::deliver::{drop_unseen, take_entry};
-use crate::laws::{deliveries_are_kept, no_rows_at_first};
+use crate::laws::{deliveries_are_kept, no_rows_at_first, replicas_follow_the_log};
+use crate::rebuild::replica_of;
 use crate::stopped::Stopped;
 use catalogue::Catalogue;
 use certify::Certifier;
@@ -24,6 +26,7 @@ use txn_view::Store;
 /// A replica of the database. Contracts see what it keeps of the calls that were delivered to it.
 #[derive(Drop)]
 pub struct Replica<A: Allocator + Copy = Global> {
+    alloc: A,
     window: u32,
     position: u32,
     stopped: bool,
@@ -81,6 +84,7 @@ impl<A: Allocator + Copy> Replica<A> {
         let certifier = Certifier::new(alloc, window)?;
         let versions = Versions::new(alloc, catalogue.schema())?;
         Ok(Replica {
+            alloc,
             window,
             position: 0,
             stopped: false,
@@ -143,6 +147,12 @@ impl<A: Allocator + Copy> Replica<A> {
             → v ≡ verdict_after self.old.window (certified_calls_of self.old.window entries) entry.now.call entry.now.looks) }
         ensures stands { OnOk result ((entries : List Delivered) → StandsFor self.old entries
             → StandsFor self.new (entries ++ entry.now ∷ [])) }
+        ensures log_verdict { IfOk result (λ v. (w : Setting) (entries : List Delivered) → w.window ≡ self.old.window
+            → StandsFor self.old entries → AreEntriesOf w (entries ++ entry.now ∷ [])
+            → verdict_of w (calls_of (entries ++ entry.now ∷ [])) self.new.position ≡ Some v) }
+        ensures log_rows { OnOk result ((w : Setting) (entries : List Delivered) → w.window ≡ self.old.window
+            → StandsFor self.old entries → AreEntriesOf w (entries ++ entry.now ∷ [])
+            → AnswersFrom self.new.versions.tables self.new.position (rows_after w (calls_of (entries ++ entry.now ∷ [])) self.new.position)) }
         ensures still { OnErr result ((entries : List Delivered) → StandsFor self.old entries → StandsFor self.new entries) }
         ensures next { OnOk result (self.new.position ≡ self.old.position + 1) }
         ensures same_position { OnErr result (self.new.position ≡ self.old.position) }
@@ -153,6 +163,7 @@ impl<A: Allocator + Copy> Replica<A> {
         ensures tables { length self.new.versions.tables ≡ length self.old.versions.tables }
     {
         deliveries_are_kept();
+        replicas_follow_the_log();
         if self.stopped {
             return Err(Stopped);
         }
@@ -171,6 +182,28 @@ impl<A: Allocator + Copy> Replica<A> {
         self.position = position;
         self.next_prune = drop_unseen(&mut self.versions, self.window, position, self.next_prune);
         Ok(certification.verdict)
+    }
+
+    /// Takes all calls in anew, from the first on. The replica changes only where that is done.
+    pub fn rebuild<B: Allocator + Copy, C: Allocator + Copy>(
+        &mut self,
+        catalogue: &Catalogue<B>,
+        entries: &[Entry<C>],
+    ) -> Result<u32, AllocError>
+        requires few { length entries.now < 2 ^ 32 }
+        requires log { IsLog (calls_of entries.now) }
+        requires fit { All (λ e. AreWrites catalogue.now.tables e.writes) entries.now }
+        ensures stands { OnOk result (StandsFor self.new entries.now) }
+        ensures position { IfOk result (λ p. p ≡ length entries.now) }
+        ensures running { OnOk result (self.new.stopped ≡ false) }
+        ensures window { self.new.window ≡ self.old.window }
+        ensures tables { OnOk result (HaveTables catalogue.now.tables self.new.versions.tables) }
+        ensures unchanged { OnErr result (self.new ≡ self.old) }
+    {
+        let fresh = replica_of(self.alloc, self.window, catalogue, entries)?;
+        let position = fresh.position;
+        *self = fresh;
+        Ok(position)
     }
 
     /// What became of the call at a position that was reached, from 1 on.
