@@ -2,6 +2,7 @@
 use Rattle.std.proofs.Common.{◌≡◌, ℕ, ◌≤◌, ◌<◌, nat_le, eqb, Bool, true, false, cond, ◌&&◌, List, [], ◌∷◌, length, map, refl, sym, ap, subst, ◌∙◌, arith}
 use Rattle.std.specs.Prelude.{T, ◌≢◌, Option, Some, None, slice_get, ◌==◌}
 use Rattle.std.proofs.lemmas.Bool.{eq-eqb, ne_eqb, eqb-true, eqb-false, lt-ltb}
+use Rattle.std.proofs.lemmas.Bool.Decides.{nat_tests}
 use Rattle.std.proofs.lemmas.List.{length-map}
 use Rattle.std.specs.Option.{option_map}
 use Rattle.std.proofs.lemmas.Option.{slice_get-map}
@@ -146,3 +147,22 @@ pub first_between : (t s lo hi : ℕ) (es : List Slot) (rows : Rows) → AreRisi
     → option_map (pair t) (slice_get (rows_between s lo hi es) 0) ≡ first_in (record { table = t; lo = lo; hi = hi }) rows
 first_between t s lo hi es rows up seen =
     sym (ap (λ (l : List (Key × List ℕ)). slice_get l 0) (entries_between t s lo hi es rows up seen) ∙ slice_get-map (pair t) (rows_between s lo hi es) 0)
+
+-- ---- the first lies in the range
+
+first_row : (a b : Bool) (k lo hi : ℕ) (o : Option (List ℕ)) (rows : List (ℕ × List ℕ)) (x : ℕ × List ℕ) → (a ≡ true → lo ≤ k) → (b ≡ true → k ≤ hi)
+    → (slice_get rows 0 ≡ Some x → (lo ≤ x.0) × (x.0 ≤ hi)) → slice_get (with_row (a && b) k o rows) 0 ≡ Some x → (lo ≤ x.0) × (x.0 ≤ hi)
+first_row true true k lo hi (Some r) rows x from to later is =
+    let same : (k, r) ≡ x = cc in
+    subst (λ (y : ℕ × List ℕ). (lo ≤ y.0) × (y.0 ≤ hi)) same (from refl, to refl)
+first_row true true k lo hi None rows x from to later is = later is
+first_row true false k lo hi (Some r) rows x from to later is = later is
+first_row true false k lo hi None rows x from to later is = later is
+first_row false b k lo hi (Some r) rows x from to later is = later is
+first_row false b k lo hi None rows x from to later is = later is
+
+pub first_within : (s lo hi : ℕ) (slots : List Slot) (x : ℕ × List ℕ) → slice_get (rows_between s lo hi slots) 0 ≡ Some x → (lo ≤ x.0) × (x.0 ≤ hi)
+first_within s lo hi [] x is = let bad : None ≡ Some x = is in cc
+first_within s lo hi (slot ∷ slots) x is =
+    first_row (nat_le lo slot.key) (nat_le slot.key hi) slot.key lo hi (row_up_to s slot.chain.versions) (rows_between s lo hi slots) x
+    (λ e. grind (arith, nat_tests)) (λ e. grind (arith, nat_tests)) (first_within s lo hi slots x) is

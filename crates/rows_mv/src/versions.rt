@@ -134,6 +134,7 @@ impl<A: Allocator + Copy> Versions<A> {
     ) -> Result<Option<(u64, &[u8])>, Gone>
         ensures first { IfOk result (λ r. (rows : Rows) → AnswersFrom self.now.tables position rows
             → option_map (λ f. ((table, f.0), f.1.now)) r ≡ first_in (record { table = table; lo = lo; hi = hi }) rows) }
+        ensures covered { IfOk result (λ r. IfSome r (λ row. (lo ≤ row.0) × (row.0 ≤ hi))) }
         ensures kept { OnOk result (self.now.horizon ≤ position) }
         ensures gone { OnErr result (position < self.now.horizon) }
     {

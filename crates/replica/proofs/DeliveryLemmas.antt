@@ -1,0 +1,168 @@
+-- A replica goes on standing for what it delivered.
+use Rattle.std.proofs.Common.{◌≡◌, ℕ, zero, suc, ◌+◌, ◌-◌, ◌≤◌, ◌<◌, Bool, true, false, cond, List, [], ◌∷◌, ◌++◌, length, take, slice_get, refl, sym, ap, subst, ◌∙◌, arith, inl, inr}
+use Rattle.std.specs.Prelude.{Option, Some, None}
+use Rattle.std.proofs.lemmas.List.{take-append-le, take_all, length-append}
+use Rattle.std.proofs.lemmas.Option.{slice_get_within}
+use Rattle.std.proofs.lemmas.Bool.{cases_lt}
+use Rattle.schema.specs.Rows.{Key, Rows, Writes, after_writes}
+use Rattle.row_chain.specs.Version.{row_up_to}
+use Rattle.key_table.specs.Table.{Table}
+use Rattle.std.specs.FinMap.{empty}
+use Rattle.rows_mv.specs.Versions.{Versions, AnswersFrom, AreEmpty, IsInstalled}
+use Rattle.dsm_model.specs.declared.verdict.Verdict.{Verdict}
+use Rattle.dsm_model.specs.declared.verdict.Verdict.TheVariants.{Commit, Conflict, Stale}
+use Rattle.dsm_model.specs.Log.{CertifiedCall, is_commit, if_commits, verdict_after}
+use Rattle.dsm_model.specs.Entries.{Entry, with_entry, certified_calls_of}
+use Rattle.certify.specs.Kept as certifier
+use Rattle.replica.specs.declared.certification.Certification.{Certification}
+use Rattle.replica.specs.Replica.{rows_kept, KeepsRows, certification_after, certification_of, AreCertificationsOf, Replica, StandsFor, HasSameVersions, IsDelivered, IsRefused}
+use Rattle.replica.proofs.KeepsLemmas.{LaysOn, certified_more, certified_count, rows_later, rows_before}
+
+-- the laws of one more install
+pub record Installs : Type 0 where
+  pub after : (s p : ℕ) (writes : Writes) (old new : List Table) (rows : Rows) → IsInstalled p writes old new → p ≤ s → AnswersFrom old s rows → AnswersFrom new s (after_writes writes rows)
+  pub before : (s p : ℕ) (writes : Writes) (old new : List Table) (rows : Rows) → IsInstalled p writes old new → s < p → AnswersFrom old s rows → AnswersFrom new s rows
+
+-- ---- the rows
+
+pub same_answers : (old new : List Table) (s : ℕ) (rows : Rows) → HasSameVersions old new → AnswersFrom old s rows → AnswersFrom new s rows
+same_answers old new s rows same from k = ap (row_up_to s) (same k) ∙ from k
+
+moved : (tables : List Table) (s : ℕ) (m n : Rows) → m ≡ n → AnswersFrom tables s n → AnswersFrom tables s m
+moved tables s m n same from = subst (AnswersFrom tables s) (sym same) from
+
+-- where the next position sees an entry of some verdict
+laid_on : Installs → (old new : List Table) (position s : ℕ) (writes : Writes) (v : Verdict) (rows : Rows) → position + 1 ≤ s
+    → (is_commit v ≡ true → IsInstalled (position + 1) writes old new) → (is_commit v ≡ false → HasSameVersions old new)
+    → AnswersFrom old s rows → AnswersFrom new s (if_commits v (after_writes writes rows) rows)
+laid_on law old new position s writes Commit rows le installs refuses from = law.after s (position + 1) writes old new rows (installs refl) le from
+laid_on law old new position s writes (Conflict at) rows le installs refuses from = same_answers old new s rows (refuses refl) from
+laid_on law old new position s writes Stale rows le installs refuses from = same_answers old new s rows (refuses refl) from
+
+-- and where it doesn't
+left_out : Installs → (old new : List Table) (position s : ℕ) (writes : Writes) (v : Verdict) (rows : Rows) → s < position + 1
+    → (is_commit v ≡ true → IsInstalled (position + 1) writes old new) → (is_commit v ≡ false → HasSameVersions old new)
+    → AnswersFrom old s rows → AnswersFrom new s rows
+left_out law old new position s writes Commit rows lt installs refuses from = law.before s (position + 1) writes old new rows (installs refl) lt from
+left_out law old new position s writes (Conflict at) rows lt installs refuses from = same_answers old new s rows (refuses refl) from
+left_out law old new position s writes Stale rows lt installs refuses from = same_answers old new s rows (refuses refl) from
+
+next_answers : LaysOn → Installs → (old new : List Table) (window position s : ℕ) (entries : List Entry) (e : Entry) → position ≡ length entries
+    → (is_commit (verdict_after window (certified_calls_of window entries) e.call e.looks) ≡ true → IsInstalled (position + 1) e.writes old new)
+    → (is_commit (verdict_after window (certified_calls_of window entries) e.call e.looks) ≡ false → HasSameVersions old new)
+    → AnswersFrom old s (rows_kept window entries s) → AnswersFrom new s (rows_kept window (entries ++ e ∷ []) s)
+next_answers lays law old new window position s entries e at installs refuses from =
+    let v = verdict_after window (certified_calls_of window entries) e.call e.looks in
+    elim (cases_lt (length entries) s) [
+      | inl lt ↦ moved new s (rows_kept window (entries ++ e ∷ []) s) _ (rows_later lays window s entries e (omega arith))
+          (laid_on law old new position s e.writes v (rows_kept window entries s) (omega arith) installs refuses from)
+      | inr ge ↦ moved new s (rows_kept window (entries ++ e ∷ []) s) _ (rows_before lays window s entries e (omega arith))
+          (left_out law old new position s e.writes v (rows_kept window entries s) (omega arith) installs refuses from)
+    ]
+
+-- ---- the certifications
+
+pub get_left : {X : Type 0} (xs ys : List X) (i : ℕ) → i < length xs → slice_get (xs ++ ys) i ≡ slice_get xs i
+get_left [] ys i lt = absurd (omega arith)
+get_left (x ∷ xs) ys zero lt = refl
+get_left (x ∷ xs) ys (suc i) lt = get_left xs ys i (omega arith)
+
+pub get_end : {X : Type 0} (xs : List X) (y : X) (i : ℕ) → i ≡ length xs → slice_get (xs ++ y ∷ []) i ≡ Some y
+get_end [] y zero is = refl
+get_end [] y (suc i) is = absurd (omega arith)
+get_end (x ∷ xs) y zero is = absurd (omega arith)
+get_end (x ∷ xs) y (suc i) is = get_end xs y i (omega arith)
+
+pub same_some : {X : Type 0} (x y : X) → Some x ≡ Some y → x ≡ y
+same_some x y is = cc
+
+certifications_more : (window : ℕ) (entries : List Entry) (e : Entry) (certifications : List Certification) (c : Certification)
+    → AreCertificationsOf window entries certifications → c ≡ certification_after window (certified_calls_of window entries) e.call e.looks
+    → AreCertificationsOf window (entries ++ e ∷ []) (certifications ++ c ∷ [])
+certifications_more window entries e certifications c are is =
+    let more : length (entries ++ e ∷ []) ≡ length entries + 1 = length-append entries (e ∷ []) in
+    let count : length (certifications ++ c ∷ []) ≡ length certifications + 1 = length-append certifications (c ∷ []) in
+    let same = are.count in
+    record {
+      count = omega arith;
+      each = λ before x at.
+        let within = slice_get_within (entries ++ e ∷ []) before x at in
+        elim (cases_lt before (length entries)) [
+          | inl lt ↦ get_left certifications (c ∷ []) before (omega arith)
+              ∙ are.each before x (sym (get_left entries (e ∷ []) before lt) ∙ at)
+              ∙ ap (λ (l : List Entry). Some (certification_after window (certified_calls_of window l) x.call x.looks)) (sym (take-append-le before entries (e ∷ []) (omega arith)))
+          | inr ge ↦
+              let last : e ≡ x = same_some e x (sym (get_end entries e before (omega arith)) ∙ at) in
+              let all : take before (entries ++ e ∷ []) ≡ entries = take-append-le before entries (e ∷ []) (omega arith) ∙ take_all before entries (omega arith) in
+              get_end certifications c before (omega arith)
+              ∙ ap (λ (y : Certification). Some y) is
+              ∙ ap (λ (y : Entry). Some (certification_after window (certified_calls_of window entries) y.call y.looks)) last
+              ∙ ap (λ (l : List Entry). Some (certification_after window (certified_calls_of window l) x.call x.looks)) (sym all)
+        ];
+    }
+
+-- ---- the replica
+
+pub delivered : LaysOn → Installs → (old new : Replica) (e : Entry) (c : Certification) (installed : List Table) (entries : List Entry) → IsDelivered old new e c installed → StandsFor old entries → StandsFor new (entries ++ e ∷ [])
+delivered lays law old new e c installed entries is stands =
+    let at = stands.position in
+    let next = is.position in
+    let more : length (entries ++ e ∷ []) ≡ length entries + 1 = length-append entries (e ∷ []) in
+    let past = certified_calls_of old.window entries in
+    let certified : c ≡ certification_after old.window past e.call e.looks =
+      is.certified past stands.memory ∙ ap (λ (w : ℕ). certification_after w past e.call e.looks) stands.window in
+    let verdict : c.verdict ≡ verdict_after old.window past e.call e.looks = ap (λ (x : Certification). x.verdict) certified in
+    let window = is.window in
+    let same = sym is.window in
+    let all = entries ++ e ∷ [] in
+    let keeps : KeepsRows old.window new.versions all new.position =
+      (λ s near. is.pruned s (rows_kept old.window all s) (omega arith)
+        (next_answers lays law old.versions.tables installed old.window old.position s entries e at
+          (λ commits. is.installs (ap is_commit verdict ∙ commits)) (λ refuses. is.refuses (ap is_commit verdict ∙ refuses))
+          (stands.rows s (omega arith)))) in
+    let memory : certifier.StandsFor new.memory (certified_calls_of old.window all) =
+      subst (certifier.StandsFor new.memory) (ap (λ (v : Verdict). past ++ record { writes = e.writes; verdict = v } ∷ []) verdict ∙ sym (certified_more old.window entries e)) (is.memory past stands.memory) in
+    record {
+      position = omega arith;
+      window = is.same_window ∙ stands.window ∙ same;
+      memory = subst (λ (w : ℕ). certifier.StandsFor new.memory (certified_calls_of w all)) same memory;
+      horizon = is.horizon;
+      rows = subst (λ (w : ℕ). KeepsRows w new.versions all new.position) same keeps;
+      certifications = subst (λ (w : ℕ). AreCertificationsOf w all new.certifications) same
+        (subst (AreCertificationsOf old.window all) (sym is.certifications) (certifications_more old.window entries e old.certifications c stands.certifications certified));
+    }
+
+pub refused : (old new : Replica) (entries : List Entry) → IsRefused old new → StandsFor old entries → StandsFor new entries
+refused old new entries is stands =
+    let position = is.position in
+    let window = is.window in
+    let same = sym is.window in
+    let horizon = stands.horizon in
+    let now = is.horizon in
+    let keeps : KeepsRows old.window new.versions entries new.position =
+      (λ s near. same_answers old.versions.tables new.versions.tables s (rows_kept old.window entries s) is.versions (stands.rows s (omega arith))) in
+    record {
+      position = is.position ∙ stands.position;
+      window = ap (λ (m : certifier.Memory). m.window) is.memory ∙ stands.window ∙ same;
+      memory = subst (λ (w : ℕ). certifier.StandsFor new.memory (certified_calls_of w entries)) same (subst (λ (m : certifier.Memory). certifier.StandsFor m (certified_calls_of old.window entries)) (sym is.memory) stands.memory);
+      horizon = omega arith;
+      rows = subst (λ (w : ℕ). KeepsRows w new.versions entries new.position) same keeps;
+      certifications = subst (λ (w : ℕ). AreCertificationsOf w entries new.certifications) same (subst (AreCertificationsOf old.window entries) (sym is.certifications) stands.certifications);
+    }
+
+-- at first, with no versions
+pub stands_at_first : (r : Replica) → ((s : ℕ) (tables : List Table) → AreEmpty tables → AnswersFrom tables s empty) → ((window s : ℕ) → rows_kept window [] s ≡ empty)
+    → r.position ≡ 0 → r.memory.window ≡ r.window → certifier.StandsFor r.memory [] → r.versions.horizon ≡ 0 → AreEmpty r.versions.tables → r.certifications ≡ []
+    → StandsFor r []
+unfolding certified_calls_of
+stands_at_first r answers rows position window memory horizon none certifications = record {
+  position = position;
+  window = window;
+  memory = memory;
+  horizon = omega arith;
+  rows = λ s near. moved r.versions.tables s (rows_kept r.window [] s) empty (rows r.window s) (answers s r.versions.tables none);
+  certifications = record {
+    count = ap (λ (l : List Certification). length l) certifications;
+    each = λ before e at. let bad : None ≡ Some e = at in cc;
+  };
+}

@@ -1,0 +1,2 @@
+pub mod Replica
+pub mod Codes

@@ -1,0 +1,102 @@
+-- What a replica keeps, and the delivered entries for which it stands.
+use Rattle.std.specs.Prelude.{◌≡◌, ℕ, ◌+◌, ◌-◌, ◌≤◌, Bool, true, false, List, [], ◌∷◌, ◌++◌, length, take, slice_get, Some}
+use Rattle.schema.specs.Rows.{Key, Rows, Writes}
+use Rattle.schema.specs.declared.look.Look.{Look}
+use Rattle.row_model.specs.InstalledWrites.{map_after}
+use Rattle.dsm_model.specs.Log.{Setting, Call, CertifiedCall, IsLog, is_commit, verdict_after}
+use Rattle.dsm_model.specs.Comparisons.{comparisons_after}
+use Rattle.dsm_model.specs.Entries.{Entry, calls_of, CarryRuns, certified_calls_of, installed_from}
+use Rattle.dsm_model.specs.Fit.{HasSafeProcedures, AreCalls}
+use Rattle.key_table.specs.Table.{Table, versions_at}
+use Rattle.rows_mv.specs.Versions.{Versions, slots_of, AnswersFrom, IsInstalled, AreOfTables, HaveWidths}
+use Rattle.certify.specs.Kept as certifier
+use Rattle.replica.specs.declared.certification.Certification.{Certification}
+
+-- the rows after a position, by the delivered entries alone
+abbrev pub rows_kept : ℕ → List Entry → ℕ → Rows
+rows_kept window entries s = map_after (installed_from 1 (certified_calls_of window entries)) s
+
+-- each position within the window, and each later one, answers from the rows after it
+abbrev pub KeepsRows : ℕ → Versions → List Entry → ℕ → Type 0
+KeepsRows window versions entries position = (s : ℕ) → position - s ≤ window → AnswersFrom versions.tables s (rows_kept window entries s)
+
+-- the verdict on the next call, and how many exact comparisons it takes
+abbrev pub certification_after : ℕ → List CertifiedCall → Call → List Look → Certification
+certification_after window past call looks = record { verdict = verdict_after window past call looks; compared = length (comparisons_after window past call looks) }
+
+-- that of an entry which has so many before it
+abbrev pub certification_of : ℕ → List Entry → ℕ → Entry → Certification
+certification_of window entries before e = certification_after window (certified_calls_of window (take before entries)) e.call e.looks
+
+-- that of each entry
+pub record AreCertificationsOf (window : ℕ) (entries : List Entry) (certifications : List Certification) : Type 0 where
+  pub count : length certifications ≡ length entries
+  pub each : (before : ℕ) (e : Entry) → slice_get entries before ≡ Some e → slice_get certifications before ≡ Some (certification_of window entries before e)
+
+-- what a replica keeps of the delivered entries for verdicts and for rows, and whether it has stopped
+pub record Replica : Type 0 where
+  pub window : ℕ
+  pub position : ℕ
+  pub stopped : Bool
+  pub certifications : List Certification
+  pub memory : certifier.Memory
+  pub versions : Versions
+
+-- what is known of every replica
+pub record IsReplica (r : Replica) : Type 0 where
+  pub certifications : length r.certifications ≡ r.position
+  pub count : r.memory.count ≡ r.position
+  pub window : r.memory.window ≡ r.window
+  pub horizon : r.versions.horizon ≤ r.position - r.window
+
+pub record StandsFor (r : Replica) (entries : List Entry) : Type 0 where
+  pub position : r.position ≡ length entries
+  pub window : r.memory.window ≡ r.window
+  pub memory : certifier.StandsFor r.memory (certified_calls_of r.window entries)
+  pub horizon : r.versions.horizon ≤ r.position - r.window
+  pub rows : KeepsRows r.window r.versions entries r.position
+  pub certifications : AreCertificationsOf r.window entries r.certifications
+
+-- writes for which the tables have room: of their keys, and of their widths
+pub record FitTables (versions : Versions) (writes : Writes) : Type 0 where
+  pub tables : AreOfTables writes versions.tables
+  pub widths : HaveWidths writes versions.tables
+
+-- ---- one delivery
+
+-- each key has the versions that it had
+abbrev pub HasSameVersions : List Table → List Table → Type 0
+HasSameVersions old new = (k : Key) → versions_at (slots_of new k.0) k.1 ≡ versions_at (slots_of old k.0) k.1
+
+-- what one delivery leaves: the certifier has taken the entry in, the writes of one that commits are installed, and then
+-- what no position within the window sees may be dropped
+pub record IsDelivered (old new : Replica) (e : Entry) (c : Certification) (installed : List Table) : Type 0 where
+  pub window : new.window ≡ old.window
+  pub position : new.position ≡ old.position + 1
+  pub certified : (past : List CertifiedCall) → certifier.StandsFor old.memory past → c ≡ certification_after old.memory.window past e.call e.looks
+  pub certifications : new.certifications ≡ old.certifications ++ c ∷ []
+  pub memory : (past : List CertifiedCall) → certifier.StandsFor old.memory past
+      → certifier.StandsFor new.memory (past ++ record { writes = e.writes; verdict = c.verdict } ∷ [])
+  pub same_window : new.memory.window ≡ old.memory.window
+  pub installs : is_commit c.verdict ≡ true → IsInstalled (old.position + 1) e.writes old.versions.tables installed
+  pub refuses : is_commit c.verdict ≡ false → HasSameVersions old.versions.tables installed
+  pub pruned : (s : ℕ) (rows : Rows) → new.position - s ≤ new.window → AnswersFrom installed s rows → AnswersFrom new.versions.tables s rows
+  pub horizon : new.versions.horizon ≤ new.position - new.window
+
+-- what a delivery leaves for which there is no memory
+pub record IsRefused (old new : Replica) : Type 0 where
+  pub window : new.window ≡ old.window
+  pub position : new.position ≡ old.position
+  pub certifications : new.certifications ≡ old.certifications
+  pub memory : new.memory ≡ old.memory
+  pub versions : HasSameVersions old.versions.tables new.versions.tables
+  pub horizon : new.versions.horizon ≡ old.versions.horizon
+
+-- ---- the log
+
+-- the calls are a log of this setting, and each entry carries its run
+pub record AreEntriesOf (w : Setting) (entries : List Entry) : Type 0 where
+  pub procedures : HasSafeProcedures w
+  pub log : IsLog (calls_of entries)
+  pub calls : AreCalls w (calls_of entries)
+  pub runs : CarryRuns w entries

@@ -1,0 +1,126 @@
+//! One delivery, in what a replica keeps.
+
+ghost use Rattle.std.specs.Prelude.{◌≡◌, ℕ, ◌+◌, ◌-◌, ◌<◌, ◌≤◌, List, [], ◌∷◌, ◌++◌, length, true, false, IfOk, OnOk, OnErr};
+ghost use Rattle.schema.specs.Rows.{Rows};
+ghost use Rattle.rows_mv.specs.Versions.{AnswersFrom, IsInstalled, width_of};
+ghost use Rattle.dsm_model.specs.Log.{CertifiedCall, is_commit};
+ghost use Rattle.certify.specs.Kept.{StandsFor};
+ghost use Rattle.replica.specs.Replica.{FitTables, HasSameVersions, certification_after};
+
+use crate::certification::Certification;
+use certify::Certifier;
+use dsm_model::Verdict;
+use log_entry::Entry;
+use row_sets::WriteSet;
+use rows_mv::{Versions, answers_after_pruning};
+use std::alloc::{AllocError, Allocator};
+
+/// Installs the writes of a call that commits and enters its certification. Where memory is refused each key has the
+/// versions that it had.
+fn install<A: Allocator + Copy, B: Allocator + Copy>(
+    versions: &mut Versions<A>,
+    certifications: &mut Vec<Certification, A>,
+    certification: Certification,
+    position: u32,
+    writes: &WriteSet<B>,
+) -> Result<(), AllocError>
+    requires { FitTables versions.old writes.now }
+    ensures installs { OnOk result (is_commit certification.verdict ≡ true
+        → IsInstalled position writes.now versions.old.tables versions.new.tables) }
+    ensures refuses { OnOk result (is_commit certification.verdict ≡ false
+        → HasSameVersions versions.old.tables versions.new.tables) }
+    ensures entered { OnOk result (certifications.new.items ≡ certifications.old.items ++ certification ∷ []) }
+    ensures same { OnErr result (HasSameVersions versions.old.tables versions.new.tables) }
+    ensures unchanged { OnErr result (certifications.new.items ≡ certifications.old.items) }
+    ensures widths { (t : ℕ) → width_of versions.new.tables t ≡ width_of versions.old.tables t }
+    ensures count { length versions.new.tables ≡ length versions.old.tables }
+    ensures horizon { versions.new.horizon ≡ versions.old.horizon }
+{
+    if !matches!(certification.verdict, Verdict::Commit) {
+        certifications.push(certification)?;
+        return Ok(());
+    }
+    versions.prepare(writes)?;
+    certifications.push(certification)?;
+    versions.install(position, writes);
+    Ok(())
+}
+
+/// Takes one entry in at the next position. Where memory is refused the certifier and the certifications are as before,
+/// and each key has the versions that it had.
+pub(crate) fn take_entry<A: Allocator + Copy, B: Allocator + Copy>(
+    certifier: &mut Certifier<A>,
+    versions: &mut Versions<A>,
+    certifications: &mut Vec<Certification, A>,
+    position: u32,
+    entry: &Entry<B>,
+) -> Result<Certification, AllocError>
+    requires next { position ≡ certifier.old.memory.count + 1 }
+    requires snapshot { entry.now.call.snapshot < position }
+    requires fit { FitTables versions.old entry.now.writes }
+    ensures certified { IfOk result (λ c. (past : List CertifiedCall) → StandsFor certifier.old.memory past
+        → c ≡ certification_after certifier.old.memory.window past entry.now.call entry.now.looks) }
+    ensures memory { IfOk result (λ c. (past : List CertifiedCall) → StandsFor certifier.old.memory past
+        → StandsFor certifier.new.memory (past ++ record { writes = entry.now.writes; verdict = c.verdict } ∷ [])) }
+    ensures window { certifier.new.memory.window ≡ certifier.old.memory.window }
+    ensures taken { OnOk result (certifier.new.memory.count ≡ position) }
+    ensures same_memory { OnErr result (certifier.new.memory ≡ certifier.old.memory) }
+    ensures installs { IfOk result (λ c. is_commit c.verdict ≡ true
+        → IsInstalled position entry.now.writes versions.old.tables versions.new.tables) }
+    ensures refuses { IfOk result (λ c. is_commit c.verdict ≡ false
+        → HasSameVersions versions.old.tables versions.new.tables) }
+    ensures same_versions { OnErr result (HasSameVersions versions.old.tables versions.new.tables) }
+    ensures entered { IfOk result (λ c. certifications.new.items ≡ certifications.old.items ++ c ∷ []) }
+    ensures same_certifications { OnErr result (certifications.new.items ≡ certifications.old.items) }
+    ensures widths { (t : ℕ) → width_of versions.new.tables t ≡ width_of versions.old.tables t }
+    ensures tables { length versions.new.tables ≡ length versions.old.tables }
+    ensures horizon { versions.new.horizon ≡ versions.old.horizon }
+{
+    let verdict = certifier.verdict(entry, position);
+    let certification = Certification {
+        verdict,
+        compared: certifier.compared(),
+    };
+    let prepared = certifier.prepare(entry)?;
+    install(
+        versions,
+        certifications,
+        certification,
+        position,
+        &entry.writes,
+    )?;
+    certifier.keep(position, verdict, prepared);
+    Ok(certification)
+}
+
+/// At least as many keys as there are, where they are fewer than 2^32.
+fn key_bound<A: Allocator + Copy>(versions: &Versions<A>) -> u32 {
+    let mut pages: usize = 0;
+    for table in 0..65u8 {
+        pages = pages.saturating_add(versions.pages(table));
+    }
+    u32::try_from(pages.saturating_mul(64)).unwrap_or(u32::MAX)
+}
+
+/// Drops what no position within the window sees, where the position has come so far, and tells from which on to do so
+/// again: after as many deliveries as the window has, or there are keys, so that each delivery pays the same.
+pub(crate) fn drop_unseen<A: Allocator + Copy>(
+    versions: &mut Versions<A>,
+    window: u32,
+    position: u32,
+    from: u32,
+) -> u32
+    requires { versions.old.horizon ≤ position - window }
+    ensures seen { (s : ℕ) (rows : Rows) → position - s ≤ window
+        → AnswersFrom versions.old.tables s rows → AnswersFrom versions.new.tables s rows }
+    ensures horizon { versions.new.horizon ≤ position - window }
+    ensures widths { (t : ℕ) → width_of versions.new.tables t ≡ width_of versions.old.tables t }
+    ensures tables { length versions.new.tables ≡ length versions.old.tables }
+{
+    answers_after_pruning();
+    if position < from {
+        return from;
+    }
+    versions.prune(position.saturating_sub(window));
+    position.saturating_add(window.max(key_bound(versions)))
+}

@@ -1,0 +1,68 @@
+//! What holds of what a replica keeps.
+
+ghost use Rattle.std.specs.Prelude.{◌≡◌, ℕ, suc, ◌-◌, ◌≤◌, List, [], ◌∷◌, ◌++◌, length, slice_get, Some, true, false, ◌+◌};
+ghost use Rattle.std.specs.FinMap.{empty};
+ghost use Rattle.schema.specs.Schema.{Tables};
+ghost use Rattle.schema.specs.Rows.{Rows, Writes, AreWrites, after_writes};
+ghost use Rattle.rows_mv.specs.Versions.{Versions, AnswersFrom, HaveTables};
+ghost use Rattle.dsm_model.specs.Log.{Setting, is_commit, verdict_after, verdict_of, if_commits, rows_after};
+ghost use Rattle.dsm_model.specs.Entries.{Entry, calls_of, certified_calls_of};
+ghost use Rattle.key_table.specs.Table.{Table};
+ghost use Rattle.replica.specs.declared.certification.Certification.{Certification};
+ghost use Rattle.replica.specs.Replica.{AreEntriesOf, FitTables, IsDelivered, IsRefused, Replica, StandsFor, rows_kept};
+
+use dsm_model::entries_suffice;
+use row_model::map_after_each_write_set;
+use rows_mv::answers_after_an_install;
+
+/// Tables that have the schema's widths take the schema's writes.
+pub fn tables_take_the_schemas_writes()
+    ensures { (tables : Tables) (versions : Versions) (writes : Writes)
+        → HaveTables tables versions.tables → AreWrites tables writes → FitTables versions writes }
+{}
+
+/// No rows at first; one more entry lays its writes on where it commits, from its own position on.
+pub fn rows_of_each_delivery()
+    ensures later { (window s : ℕ) (entries : List Entry) (e : Entry) → suc (length entries) ≤ s
+        → rows_kept window (entries ++ e ∷ []) s
+        ≡ if_commits (verdict_after window (certified_calls_of window entries) e.call e.looks)
+        (after_writes e.writes (rows_kept window entries s)) (rows_kept window entries s) }
+    ensures before { (window s : ℕ) (entries : List Entry) (e : Entry) → s ≤ length entries
+        → rows_kept window (entries ++ e ∷ []) s ≡ rows_kept window entries s }
+{
+    map_after_each_write_set();
+}
+
+/// A replica goes on standing for what it delivered, and where a delivery is refused it stands for the same.
+pub fn deliveries_are_kept()
+    ensures delivered { (old new : Replica) (e : Entry) (c : Certification) (installed : List Table) (entries : List Entry)
+        → IsDelivered old new e c installed → StandsFor old entries → StandsFor new (entries ++ e ∷ []) }
+    ensures refused { (old new : Replica) (entries : List Entry)
+        → IsRefused old new → StandsFor old entries → StandsFor new entries }
+{
+    map_after_each_write_set();
+    answers_after_an_install();
+}
+
+/// At first there are no rows at any position.
+pub(crate) fn no_rows_at_first()
+    ensures { (window s : ℕ) → rows_kept window [] s ≡ empty }
+{
+    map_after_each_write_set();
+}
+
+/// Where the delivered entries are a log's and carry their runs, a replica's verdicts are those of the log, and the rows of
+/// the positions within its window are the log's.
+pub fn replicas_follow_the_log()
+    ensures verdicts { (w : Setting) (r : Replica) (entries : List Entry) (before : ℕ) (c : Certification)
+        → w.window ≡ r.window → StandsFor r entries → AreEntriesOf w entries
+        → slice_get r.certifications before ≡ Some c → verdict_of w (calls_of entries) (before + 1) ≡ Some c.verdict }
+    ensures rows { (w : Setting) (r : Replica) (entries : List Entry) (s : ℕ)
+        → w.window ≡ r.window → StandsFor r entries → AreEntriesOf w entries → s ≤ r.position → r.position - s ≤ r.window
+        → AnswersFrom r.versions.tables s (rows_after w (calls_of entries) s) }
+    ensures next { (w : Setting) (entries : List Entry) (e : Entry) → AreEntriesOf w (entries ++ e ∷ [])
+        → verdict_of w (calls_of (entries ++ e ∷ [])) (length entries + 1)
+        ≡ Some (verdict_after w.window (certified_calls_of w.window entries) e.call e.looks) }
+{
+    entries_suffice();
+}

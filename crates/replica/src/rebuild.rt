@@ -1,0 +1,39 @@
+//! A replica made anew from all entries.
+
+ghost use Rattle.std.specs.Prelude.{◌≡◌, ◌<◌, ◌^◌, All, length, false, IfOk};
+ghost use Rattle.schema.specs.Rows.{AreWrites};
+ghost use Rattle.rows_mv.specs.Versions.{HaveTables};
+ghost use Rattle.dsm_model.specs.Log.{IsLog};
+ghost use Rattle.dsm_model.specs.Entries.{calls_of};
+ghost use Rattle.replica.specs.Replica.{StandsFor};
+
+use crate::laws::tables_take_the_schemas_writes;
+use crate::replica::Replica;
+use catalogue::Catalogue;
+use log_entry::Entry;
+use std::alloc::{AllocError, Allocator};
+
+/// A replica to which these entries were delivered.
+pub(crate) fn replica_of<A: Allocator + Copy, B: Allocator + Copy, C: Allocator + Copy>(
+    alloc: A,
+    window: u32,
+    catalogue: &Catalogue<B>,
+    entries: &[Entry<C>],
+) -> Result<Replica<A>, AllocError>
+    requires few { length entries.now < 2 ^ 32 }
+    requires log { IsLog (calls_of entries.now) }
+    requires fit { All (λ e. AreWrites catalogue.now.tables e.writes) entries.now }
+    ensures stands { IfOk result (λ r. StandsFor r entries.now) }
+    ensures window { IfOk result (λ r. r.window ≡ window) }
+    ensures running { IfOk result (λ r. r.stopped ≡ false) }
+    ensures tables { IfOk result (λ r. HaveTables catalogue.now.tables r.versions.tables) }
+{
+    tables_take_the_schemas_writes();
+    let mut replica = Replica::new(alloc, window, catalogue)?;
+    for entry in entries {
+        if replica.deliver(entry).is_err() {
+            return Err(AllocError);
+        }
+    }
+    Ok(replica)
+}

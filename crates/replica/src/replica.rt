@@ -1,0 +1,219 @@
+//! A replica.
+
+ghost use Rattle.std.specs.Prelude.{◌≡◌, ℕ, ◌+◌, ◌-◌, ◌≤◌, ◌<◌, ◌^◌, nat_lt, List, [], ◌∷◌, ◌++◌, length, slice_get, Some, true, false, is_err};
+ghost use Rattle.schema.specs.Rows.{AreWrites};
+ghost use Rattle.std.specs.Prelude.{All, IfOk, OnOk, OnErr};
+ghost use Rattle.dsm_model.specs.Log.{IsLog, Setting, rows_after, verdict_after, verdict_of};
+ghost use Rattle.dsm_model.specs.Entries.{Entry as Delivered, calls_of, certified_calls_of};
+ghost use Rattle.rows_mv.specs.Versions.{AnswersFrom, HaveTables, width_of};
+ghost use Rattle.replica.specs.Replica.{AreEntriesOf, FitTables, StandsFor, certification_of, rows_kept};
+
+use crate::at::At;
+use crate::certification::Certification;
+use crate::deliver::{drop_unseen, take_entry};
+use crate::laws::{deliveries_are_kept, no_rows_at_first, replicas_follow_the_log};
+use crate::rebuild::replica_of;
+use crate::stopped::Stopped;
+use catalogue::Catalogue;
+use certify::Certifier;
+use dsm_model::Verdict;
+use log_entry::Entry;
+use rows_mv::{Versions, empty_versions_answer_from_no_rows};
+use std::alloc::{AllocError, Allocator, Global};
+use std::marker::Model;
+use txn_view::Store;
+
+/// A replica of the database. Contracts see what it keeps of the calls that were delivered to it.
+#[derive(Drop)]
+pub struct Replica<A: Allocator + Copy = Global> {
+    alloc: A,
+    window: u32,
+    position: u32,
+    stopped: bool,
+    certifications: Vec<Certification, A>,
+    certifier: Certifier<A>,
+    versions: Versions<A>,
+    /// The position from which versions are dropped next.
+    next_prune: u32,
+}
+
+impl<A: Allocator + Copy> Model for Replica<A> {
+    ghost use Rattle.std.specs.Prelude.{◌≡◌, ◌≤◌, ◌-◌};
+    ghost use Rattle.replica.specs.Replica.{Replica, IsReplica};
+
+    ghost use Rattle.replica.specs.Codes.{replica_code};
+
+    ghost Value = { Replica };
+
+    ghost coded = { replica_code };
+
+    ghost view = { λ r. record {
+      window = r.window;
+      position = r.position;
+      stopped = r.stopped;
+      certifications = r.certifications.items;
+      memory = r.certifier.memory;
+      versions = r.versions;
+    } };
+
+    ghost invariant = { λ r. IsReplica (record {
+      window = r.window;
+      position = r.position;
+      stopped = r.stopped;
+      certifications = r.certifications.items;
+      memory = r.certifier.memory;
+      versions = r.versions;
+    }) };
+}
+
+impl<A: Allocator + Copy> Replica<A> {
+    /// One to which nothing was delivered, for the tables of a catalogue. Calls of which more than a window were delivered
+    /// since their snapshot find its rows no more.
+    pub fn new<B: Allocator + Copy>(
+        alloc: A,
+            window: u32,
+        catalogue: &Catalogue<B>,
+    ) -> Result<Replica<A>, AllocError>
+        ensures stands { IfOk result (λ r. StandsFor r []) }
+        ensures window { IfOk result (λ r. r.window ≡ window) }
+        ensures running { IfOk result (λ r. r.stopped ≡ false) }
+        ensures tables { IfOk result (λ r. HaveTables catalogue.now.tables r.versions.tables) }
+    {
+        empty_versions_answer_from_no_rows();
+        no_rows_at_first();
+        let certifier = Certifier::new(alloc, window)?;
+        let versions = Versions::new(alloc, catalogue.schema())?;
+        Ok(Replica {
+            alloc,
+            window,
+            position: 0,
+            stopped: false,
+            certifications: Vec::new(alloc),
+            certifier,
+            versions,
+            next_prune: window,
+        })
+    }
+
+    /// How many calls were delivered.
+    pub fn position(&self) -> u32
+        ensures { result ≡ self.now.position }
+    {
+        self.position
+    }
+
+    /// Whether a delivery found no memory; then there are no more.
+    pub fn stopped(&self) -> bool
+        ensures { result ≡ self.now.stopped }
+    {
+        self.stopped
+    }
+
+    /// How many of the latest positions it keeps besides the last.
+    pub fn window(&self) -> u32
+        ensures { result ≡ self.now.window }
+    {
+        self.window
+    }
+
+    /// The snapshot of a call that begins now.
+    pub fn begin(&self) -> u32
+        ensures { result ≡ self.now.position }
+    {
+        self.position
+    }
+
+    /// The rows at a position that was reached. They are gone where it is out of the window.
+    pub fn at<'a>(&'a self, position: u32) -> At<'a, A>
+        requires { position ≤ self.now.position }
+        ensures answers { (entries : List Delivered) → StandsFor self.now entries → self.now.position - position ≤ self.now.window
+            → ⟦<At<'a, A> as Store>⟧.answers_from result (rows_kept self.now.window entries position) }
+        ensures gone { ⟦<At<'a, A> as Store>⟧.is_gone result ≡ nat_lt self.now.window (self.now.position - position) }
+    {
+        At {
+            versions: &self.versions,
+            position,
+            gone: self.position - position > self.window,
+        }
+    }
+
+    /// Takes the next call in and tells its verdict. Where there is no memory the replica stops, and the rows at each
+    /// position stay as they were.
+    pub fn deliver<B: Allocator + Copy>(&mut self, entry: &Entry<B>) -> Result<Verdict, Stopped>
+        requires snapshot { entry.now.call.snapshot ≤ self.old.position }
+        requires room { self.old.position + 1 < 2 ^ 32 }
+        requires fit { FitTables self.old.versions entry.now.writes }
+        ensures verdict { IfOk result (λ v. (entries : List Delivered) → StandsFor self.old entries
+            → v ≡ verdict_after self.old.window (certified_calls_of self.old.window entries) entry.now.call entry.now.looks) }
+        ensures stands { OnOk result ((entries : List Delivered) → StandsFor self.old entries
+            → StandsFor self.new (entries ++ entry.now ∷ [])) }
+        ensures log_verdict { IfOk result (λ v. (w : Setting) (entries : List Delivered) → w.window ≡ self.old.window
+            → StandsFor self.old entries → AreEntriesOf w (entries ++ entry.now ∷ [])
+            → verdict_of w (calls_of (entries ++ entry.now ∷ [])) self.new.position ≡ Some v) }
+        ensures log_rows { OnOk result ((w : Setting) (entries : List Delivered) → w.window ≡ self.old.window
+            → StandsFor self.old entries → AreEntriesOf w (entries ++ entry.now ∷ [])
+            → AnswersFrom self.new.versions.tables self.new.position (rows_after w (calls_of (entries ++ entry.now ∷ [])) self.new.position)) }
+        ensures still { OnErr result ((entries : List Delivered) → StandsFor self.old entries → StandsFor self.new entries) }
+        ensures next { OnOk result (self.new.position ≡ self.old.position + 1) }
+        ensures same_position { OnErr result (self.new.position ≡ self.old.position) }
+        ensures stopped { self.new.stopped ≡ is_err result }
+        ensures refused { self.old.stopped ≡ true → (is_err result ≡ true) × (self.new ≡ self.old) }
+        ensures window { self.new.window ≡ self.old.window }
+        ensures widths { (t : ℕ) → width_of self.new.versions.tables t ≡ width_of self.old.versions.tables t }
+        ensures tables { length self.new.versions.tables ≡ length self.old.versions.tables }
+    {
+        deliveries_are_kept();
+        replicas_follow_the_log();
+        if self.stopped {
+            return Err(Stopped);
+        }
+        let position = self.position + 1;
+        let taken = take_entry(
+            &mut self.certifier,
+            &mut self.versions,
+            &mut self.certifications,
+            position,
+            entry,
+        );
+        let Ok(certification) = taken else {
+            self.stopped = true;
+            return Err(Stopped);
+        };
+        self.position = position;
+        self.next_prune = drop_unseen(&mut self.versions, self.window, position, self.next_prune);
+        Ok(certification.verdict)
+    }
+
+    /// Takes all calls in anew, from the first on. The replica changes only where that is done.
+    pub fn rebuild<B: Allocator + Copy, C: Allocator + Copy>(
+        &mut self,
+        catalogue: &Catalogue<B>,
+        entries: &[Entry<C>],
+    ) -> Result<u32, AllocError>
+        requires few { length entries.now < 2 ^ 32 }
+        requires log { IsLog (calls_of entries.now) }
+        requires fit { All (λ e. AreWrites catalogue.now.tables e.writes) entries.now }
+        ensures stands { OnOk result (StandsFor self.new entries.now) }
+        ensures position { IfOk result (λ p. p ≡ length entries.now) }
+        ensures running { OnOk result (self.new.stopped ≡ false) }
+        ensures window { self.new.window ≡ self.old.window }
+        ensures tables { OnOk result (HaveTables catalogue.now.tables self.new.versions.tables) }
+        ensures unchanged { OnErr result (self.new ≡ self.old) }
+    {
+        let fresh = replica_of(self.alloc, self.window, catalogue, entries)?;
+        let position = fresh.position;
+        *self = fresh;
+        Ok(position)
+    }
+
+    /// What became of the call at a position that was reached, from 1 on.
+    pub fn verdict_at(&self, position: u32) -> Certification
+        requires from { 1 ≤ position }
+        requires to { position ≤ self.now.position }
+        ensures { (entries : List Delivered) (e : Delivered) → StandsFor self.now entries
+            → slice_get entries (position - 1) ≡ Some e
+            → result ≡ certification_of self.now.window entries (position - 1) e }
+    {
+        self.certifications[position as usize - 1]
+    }
+}
