@@ -20,7 +20,7 @@ use Rattle.key_table.specs.Table.{Slot, AreAbove, AreRising, chain_at, versions_
 abbrev pub pair : ℕ → ℕ × List ℕ → Key × List ℕ
 pair t r = ((t, r.0), r.1)
 
-abbrev found : ℕ → List (ℕ × List ℕ) → Key → Option (List ℕ)
+abbrev pub found : ℕ → List (ℕ × List ℕ) → Key → Option (List ℕ)
 found t rows q = find key_cmp q (map (pair t) rows)
 
 none_above : (n k : ℕ) (es : List Slot) → AreAbove n es → k ≤ n → chain_at es k ≡ None
@@ -43,7 +43,7 @@ found_here t false k (Some r) rows none = none
 found_here t false k None rows none = none
 
 -- of another table nothing is found
-found_other : (t s lo hi : ℕ) (es : List Slot) (q : Key) → q.0 ≢ t → found t (rows_between s lo hi es) q ≡ None
+pub found_other : (t s lo hi : ℕ) (es : List Slot) (q : Key) → q.0 ≢ t → found t (rows_between s lo hi es) q ≡ None
 found_other t s lo hi [] q ne = refl
 found_other t s lo hi (e ∷ es) q ne =
     found-with_row t (nat_le lo e.key && nat_le e.key hi) e.key (row_up_to s e.chain.versions) (rows_between s lo hi es) q (λ same. ne (ap (λ (k : Key). k.0) same))
@@ -54,7 +54,7 @@ none-seen s true o none = ap (λ (p : Option ChainState). row_up_to s (versions_
 none-seen s false o none = refl
 
 -- of this table what stands at the key
-found_between : (t s lo hi : ℕ) (es : List Slot) (k : ℕ) → AreRising es → found t (rows_between s lo hi es) (t, k) ≡ cond (nat_le lo k && nat_le k hi) (row_up_to s (versions_at es k)) None
+pub found_between : (t s lo hi : ℕ) (es : List Slot) (k : ℕ) → AreRising es → found t (rows_between s lo hi es) (t, k) ≡ cond (nat_le lo k && nat_le k hi) (row_up_to s (versions_at es k)) None
 found_between t s lo hi [] k up = sym (none-seen s (nat_le lo k && nat_le k hi) None refl)
 found_between t s lo hi (e ∷ es) k up =
     elim (eqb e.key k) as (λ (b : Bool). eqb e.key k ≡ b → found t (rows_between s lo hi (e ∷ es)) (t, k) ≡ cond (nat_le lo k && nat_le k hi) (row_up_to s (versions_in (cond b (Some e.chain) (chain_at es k)))) None) [
@@ -71,11 +71,11 @@ found_between t s lo hi (e ∷ es) k up =
 
 -- ---- they are in order
 
-both : (a b : Bool) → T a → T b → T (a && b)
+pub both : (a b : Bool) → T a → T b → T (a && b)
 both true b p q = q
 both false b p q = p
 
-first : (a b : Bool) → T (a && b) → T a
+pub first : (a b : Bool) → T (a && b) → T a
 first true b p = tt
 first false b p = p
 
@@ -101,7 +101,7 @@ sorted-with_row t true k None rows a h = h
 sorted-with_row t false k (Some r) rows a h = h
 sorted-with_row t false k None rows a h = h
 
-sorted_between : (t s lo hi : ℕ) (es : List Slot) → AreRising es → T (is_sorted key_cmp (map (pair t) (rows_between s lo hi es)))
+pub sorted_between : (t s lo hi : ℕ) (es : List Slot) → AreRising es → T (is_sorted key_cmp (map (pair t) (rows_between s lo hi es)))
 sorted_between t s lo hi [] up = tt
 sorted_between t s lo hi (e ∷ es) up = sorted-with_row t (nat_le lo e.key && nat_le e.key hi) e.key (row_up_to s e.chain.versions) (rows_between s lo hi es) (below_between t e.key s lo hi es up.0) (sorted_between t s lo hi es up.1)
 
