@@ -2,7 +2,8 @@
 
 ghost use Rattle.std.specs.Prelude.{◌≡◌, ◌==◌, ◌↔◌, ◌+◌, ◌*◌, ◌<◌, ◌≤◌, ◌++◌, [], ◌∷◌, ℕ, length, slice_get};
 ghost use Rattle.std.specs.Prelude.{if◌then◌else◌, OnOk, OnErr, IfOk, IfErr, IfSome, option_map, slice_index_or};
-ghost use Rattle.std.specs.Prelude.{slice_set};
+ghost use Rattle.std.specs.Prelude.{slice_set, IsSome, ◌^◌};
+ghost use Rattle.std.specs.FinMap.{entries, get};
 ghost use Rattle.std.specs.Option.{option_copied};
 ghost use Rattle.schema.specs.Rows.{Key, Rows, row_at, count_in, first_in};
 ghost use Rattle.row_chain.specs.Version.{needed_versions};
@@ -10,9 +11,11 @@ ghost use Rattle.key_table.specs.Table.{rows_between, AreRising, versions_at, Ha
 ghost use Rattle.rows_mv.specs.Versions.{AnswersFrom, AreEmpty, AreOfTables, HaveTables, HaveWidths, IsInstalled};
 ghost use Rattle.rows_mv.specs.Versions.{IsPrepared, IsPrunedAt, row_seen, slots_of, width_of};
 
+use crate::listing::list_rows;
 use crate::tables::{new_tables, prune_each, put_each, reserve_each};
 use key_table::KeyTable;
 use row_sets::WriteSet;
+use row_values::Row;
 use schema::Schema;
 use std::alloc::{AllocError, Allocator, Global};
 use std::marker::Model;
@@ -30,11 +33,15 @@ pub struct Versions<A: Allocator + Copy = Global> {
 }
 
 impl<A: Allocator + Copy> Model for Versions<A> {
+    ghost use Rattle.std.specs.Prelude.{◌≡◌, length};
     ghost use Rattle.rows_mv.specs.Versions.{Versions};
 
     ghost Value = { Versions };
 
     ghost view = { λ v. record { horizon = v.horizon; tables = v.tables.items } };
+
+    // As many as the numbers that a schema's table may have.
+    ghost invariant = { λ v. length v.tables.items ≡ 65 };
 }
 
 /// The row of a key at a position.
@@ -155,6 +162,19 @@ impl<A: Allocator + Copy> Versions<A> {
             return Err(Gone);
         }
         Ok(row_seen(&self.tables, position, table, key))
+    }
+
+    /// The rows at a position that is kept, in the order of tables and keys.
+    pub fn rows_at<B: Allocator + Copy>(
+        &self,
+        alloc: B,
+        position: u32,
+    ) -> Result<Vec<Row<B>, B>, AllocError>
+        requires { self.now.horizon ≤ position }
+        ensures { IfOk result (λ list. (rows : Rows) → AnswersFrom self.now.tables position rows
+            → ((k : Key) → IsSome (get rows k) → k.1 < 2 ^ 64) → list.items ≡ entries rows) }
+    {
+        list_rows(&self.tables, alloc, position)
     }
 
     /// Versions of no rows, for the tables of a schema; every position answers from no rows.
