@@ -35,7 +35,10 @@ AreAcceptedFor tables held = AllByRecursion (λ e. IsAcceptedFor tables e.1.acce
 -- ---- how values are told from others, as the checker needs it
 
 abbrev pub named_code : Coded NamedProcedure
-named_code = code_by (List ℕ × Procedure) (coded× (coded_list coded_ℕ) procedure_code) (λ n. (n.name, n.accepted)) (λ c. record { name = c.0; accepted = c.1 }) (λ _. refl)
+named_code = code_by (List ℕ × Procedure) (coded× (coded_list coded_ℕ) procedure_code)
+    (λ n. (n.name, n.accepted))
+    (λ c. record { name = c.0; accepted = c.1 })
+    (λ _. refl)
 
 abbrev stored_code : Coded StoredProcedure
 stored_code = code_by (List ℕ × (ℕ × (Program × ℕ)))
@@ -45,10 +48,16 @@ stored_code = code_by (List ℕ × (ℕ × (Program × ℕ)))
     (λ _. refl)
 
 abbrev pub catalogue_code : Coded SystemCatalogue
-catalogue_code = code_by (Tables × Catalogue) (coded× (finite.code coded_ℕ coded_ℕ) (coded_list stored_code)) (λ w. (w.tables, w.procedures)) (λ c. record { tables = c.0; procedures = c.1 }) (λ _. refl)
+catalogue_code = code_by (Tables × Catalogue) (coded× (finite.code coded_ℕ coded_ℕ) (coded_list stored_code))
+    (λ w. (w.tables, w.procedures))
+    (λ c. record { tables = c.0; procedures = c.1 })
+    (λ _. refl)
 
 abbrev listed_one_code : Coded ListedProcedure
-listed_one_code = code_by (List ℕ × (ℕ × Procedure)) (coded× (coded_list coded_ℕ) (coded× coded_ℕ procedure_code)) (λ e. (e.name, (e.number, e.accepted))) (λ c. record { name = c.0; number = c.1.0; accepted = c.1.1 }) (λ _. refl)
+listed_one_code = code_by (List ℕ × (ℕ × Procedure)) (coded× (coded_list coded_ℕ) (coded× coded_ℕ procedure_code))
+    (λ e. (e.name, (e.number, e.accepted)))
+    (λ c. record { name = c.0; number = c.1.0; accepted = c.1.1 })
+    (λ _. refl)
 
 abbrev pub listed_code : Coded (List ListedProcedure)
 listed_code = coded_list listed_one_code

@@ -15,5 +15,6 @@ returns-clause-entered g c =
 pub returns-clause-accepted : goal.returns-clause-accepted
 returns-clause-accepted g c = λ tables one all.
     let own : c.args.accepted ≡ c.new.result.accepted = sym (ap (λ (n : NamedProcedure). n.accepted) c.new.ensures) in
-    subst (AreAcceptedFor tables) (sym (c.in_ok-insert.ensures.entries ∙ entered_last c.args.procedures.now c.args.number c.new.result c.requires))
+    subst (AreAcceptedFor tables)
+    (sym (c.in_ok-insert.ensures.entries ∙ entered_last c.args.procedures.now c.args.number c.new.result c.requires))
     (one_more_accepted tables c.args.procedures.now.entries (c.args.number, c.new.result) all (subst (IsAcceptedFor tables) own one))
