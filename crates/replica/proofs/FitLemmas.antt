@@ -1,10 +1,12 @@
 -- Writes of a schema fit tables of its widths.
-use Rattle.std.proofs.Common.{◌≡◌, ℕ, List, length, refl, sym, ap, ◌∙◌, arith}
-use Rattle.std.specs.Prelude.{Option, Some, None, IsSome, is_some}
+use Rattle.std.proofs.Common.{◌≡◌, ℕ, zero, suc, ◌+◌, ◌≤◌, ◌<◌, List, [], ◌∷◌, length, refl, sym, ◌∙◌, arith}
+use Rattle.std.specs.Prelude.{Option, Some, None, IsSome, slice_index_or}
 use Rattle.std.proofs.lemmas.Bool.{false≢true}
 use Rattle.std.specs.FinMap.{get}
 use Rattle.schema.specs.Schema.{Tables}
 use Rattle.schema.specs.Rows.{Key, Writes, AreWrites, IsKey, IsWrite}
+use Rattle.dsm_model.specs.Log.{IsLogFrom}
+use Rattle.dsm_model.specs.Entries.{Entry, calls_of}
 use Rattle.key_table.specs.Table.{Table}
 use Rattle.rows_mv.specs.Versions.{Versions, HaveTables, width_of}
 use Rattle.replica.specs.Replica.{FitTables}
@@ -27,3 +29,17 @@ schema_fits tables versions writes have are = record {
     let of = are k (Some row) is in
     sym (have k.0 (length row) of.width).1;
 }
+
+-- tables of the same number and widths
+pub tables_kept : (schema : Tables) (old new : List Table) → ((t : ℕ) → width_of new t ≡ width_of old t) → length new ≡ length old → HaveTables schema old → HaveTables schema new
+tables_kept schema old new widths count have t width is =
+    let has = have t width is in
+    let within = has.0 in
+    (omega arith, widths t ∙ has.1)
+
+-- ---- entries that are delivered one by one
+
+pub snapshot_below : (n : ℕ) (entries : List Entry) (i : ℕ) (d : Entry) → IsLogFrom n (calls_of entries) → i < length entries → (slice_index_or entries i d).call.snapshot ≤ n + i
+snapshot_below n [] i d log lt = absurd (omega arith)
+snapshot_below n (e ∷ entries) zero d log lt = let first : e.call.snapshot ≤ n = log.0 in omega arith
+snapshot_below n (e ∷ entries) (suc i) d log lt = let later = snapshot_below (suc n) entries i d log.1 (omega arith) in omega arith

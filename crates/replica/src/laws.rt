@@ -4,7 +4,7 @@ ghost use Rattle.std.specs.Prelude.{◌≡◌, ℕ, suc, ◌-◌, ◌≤◌, Lis
 ghost use Rattle.std.specs.FinMap.{empty};
 ghost use Rattle.schema.specs.Schema.{Tables};
 ghost use Rattle.schema.specs.Rows.{Rows, Writes, AreWrites, after_writes};
-ghost use Rattle.rows_mv.specs.Versions.{Versions, AnswersFrom, HaveTables};
+ghost use Rattle.rows_mv.specs.Versions.{Versions, AnswersFrom, HaveTables, width_of};
 ghost use Rattle.dsm_model.specs.Log.{Setting, is_commit, verdict_after, verdict_of, if_commits, rows_after};
 ghost use Rattle.dsm_model.specs.Entries.{Entry, calls_of, certified_calls_of};
 ghost use Rattle.key_table.specs.Table.{Table};
@@ -15,10 +15,12 @@ use dsm_model::entries_suffice;
 use row_model::map_after_each_write_set;
 use rows_mv::answers_after_an_install;
 
-/// Tables that have the schema's widths take the schema's writes.
+/// Tables that have the schema's widths take the schema's writes, and so do others of the same widths.
 pub fn tables_take_the_schemas_writes()
-    ensures { (tables : Tables) (versions : Versions) (writes : Writes)
-        → HaveTables tables versions.tables → AreWrites tables writes → FitTables versions writes }
+    ensures fit { (schema : Tables) (versions : Versions) (writes : Writes)
+        → HaveTables schema versions.tables → AreWrites schema writes → FitTables versions writes }
+    ensures kept { (schema : Tables) (old new : List Table) → ((t : ℕ) → width_of new t ≡ width_of old t)
+        → length new ≡ length old → HaveTables schema old → HaveTables schema new }
 {}
 
 /// No rows at first; one more entry lays its writes on where it commits, from its own position on.

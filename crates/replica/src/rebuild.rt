@@ -31,9 +31,9 @@ pub(crate) fn replica_of<A: Allocator + Copy, B: Allocator + Copy, C: Allocator 
     tables_take_the_schemas_writes();
     let mut replica = Replica::new(alloc, window, catalogue)?;
     for entry in entries {
-        if replica.deliver(entry).is_err() {
+        let Ok(_) = replica.deliver(entry) else {
             return Err(AllocError);
-        }
+        };
     }
     Ok(replica)
 }
