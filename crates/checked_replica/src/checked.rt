@@ -1,15 +1,12 @@
 //! A replica, and versions, that are asked only what they may be.
 
-ghost use Rattle.std.specs.Prelude.{◌≡◌, IfOk};
-ghost use Rattle.rows_mv.specs.Versions.{HaveTables};
+ghost use Rattle.std.specs.Prelude.{◌≡◌};
 
 use crate::fit::writes_fit;
 use catalogue::Catalogue;
 use dsm_model::Verdict;
 use log_entry::Entry;
 use replica::{Replica, Stopped, tables_take_the_schemas_writes};
-use row_sets::WriteSet;
-use rows_mv::Versions;
 use std::alloc::{AllocError, Allocator, Global};
 use std::marker::Model;
 

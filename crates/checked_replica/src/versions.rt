@@ -1,5 +1,7 @@
 //! Versions that take any writes.
 
+ghost use Rattle.std.specs.Prelude.{◌≡◌};
+
 use crate::fit::writes_fit;
 use replica::tables_take_the_schemas_writes;
 use row_sets::WriteSet;
