@@ -15,7 +15,8 @@ use Rattle.dsm_model.specs.Log.{CertifiedCall, is_commit, if_commits, verdict_af
 use Rattle.dsm_model.specs.Entries.{Entry, with_entry, certified_calls_of}
 use Rattle.certify.specs.Kept as certifier
 use Rattle.replica.specs.declared.certification.Certification.{Certification}
-use Rattle.replica.specs.Replica.{rows_kept, KeepsRows, certification_after, certification_of, AreCertificationsOf, Replica, StandsFor, HasSameVersions, IsDelivered, IsRefused}
+use Rattle.replica.specs.Replica.{rows_kept, KeepsRows, certification_after, certification_of, AreCertificationsOf, Replica, StandsFor}
+use Rattle.replica.specs.Delivery.{HasSameVersions, IsDelivered, IsRefused}
 use Rattle.replica.proofs.KeepsLemmas.{LaysOn, certified_more, certified_count, rows_later, rows_before}
 
 -- the laws of one more install
