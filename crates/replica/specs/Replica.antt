@@ -1,14 +1,13 @@
 -- What a replica keeps, and the delivered entries for which it stands.
-use Rattle.std.specs.Prelude.{◌≡◌, ℕ, ◌+◌, ◌-◌, ◌≤◌, Bool, true, false, List, [], ◌∷◌, ◌++◌, length, take, slice_get, Some}
-use Rattle.schema.specs.Rows.{Key, Rows, Writes}
+use Rattle.std.specs.Prelude.{◌≡◌, ℕ, ◌-◌, ◌≤◌, Bool, List, length, take, slice_get, Some}
+use Rattle.schema.specs.Rows.{Rows, Writes}
 use Rattle.schema.specs.declared.look.Look.{Look}
 use Rattle.row_model.specs.InstalledWrites.{map_after}
-use Rattle.dsm_model.specs.Log.{Setting, Call, CertifiedCall, IsLog, is_commit, verdict_after}
+use Rattle.dsm_model.specs.Log.{Setting, Call, CertifiedCall, IsLog, verdict_after}
 use Rattle.dsm_model.specs.Comparisons.{comparisons_after}
 use Rattle.dsm_model.specs.Entries.{Entry, calls_of, CarryRuns, certified_calls_of, installed_from}
 use Rattle.dsm_model.specs.Fit.{HasSafeProcedures, AreCalls}
-use Rattle.key_table.specs.Table.{Table, versions_at}
-use Rattle.rows_mv.specs.Versions.{Versions, slots_of, AnswersFrom, IsInstalled, AreOfTables, HaveWidths}
+use Rattle.rows_mv.specs.Versions.{Versions, AnswersFrom, AreOfTables, HaveWidths}
 use Rattle.certify.specs.Kept as certifier
 use Rattle.replica.specs.declared.certification.Certification.{Certification}
 

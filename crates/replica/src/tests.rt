@@ -82,7 +82,11 @@ fn deliver_step<A: Allocator + Copy, B: Allocator + Copy>(
 }
 
 /// The byte at a key, where the position is reached and kept.
-fn byte_at<A: Allocator + Copy>(replica: &Replica<A>, position: u32, key: u64) -> Option<Option<u8>> {
+fn byte_at<A: Allocator + Copy>(
+    replica: &Replica<A>,
+    position: u32,
+    key: u64,
+) -> Option<Option<u8>> {
     if position > replica.position() {
         return None;
     }
@@ -146,7 +150,11 @@ fn deliveries_have_verdicts_and_rows(rt: HostRuntime) -> Result<(), Fail> {
     let wrong = first_wrong(&mut replica, alloc, &catalogue)?;
     assert_eq!(rt; wrong, None);
     for (position, key, expected) in ROWS {
-        assert_eq!(rt; byte_at(&replica, position, key), expected, "{position} {key}");
+        assert_eq!(rt;
+            byte_at(&replica, position, key),
+            expected,
+            "{position} {key}"
+        );
     }
     Ok(())
 }
