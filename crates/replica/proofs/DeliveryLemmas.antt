@@ -1,22 +1,23 @@
 -- A replica goes on standing for what it delivered.
-use Rattle.std.proofs.Common.{◌≡◌, ℕ, zero, suc, ◌+◌, ◌-◌, ◌≤◌, ◌<◌, Bool, true, false, cond, List, [], ◌∷◌, ◌++◌, length, take, slice_get, refl, sym, ap, subst, ◌∙◌, arith, inl, inr}
-use Rattle.std.specs.Prelude.{Option, Some, None}
+use Rattle.std.proofs.Common.{◌≡◌, ℕ, zero, suc, ◌+◌, ◌≤◌, ◌<◌, true, false, List, [], ◌∷◌, ◌++◌, length, take, slice_get, refl, sym, ap, subst, ◌∙◌, arith, inl, inr}
+use Rattle.std.specs.Prelude.{Some, None}
 use Rattle.std.proofs.lemmas.List.{take-append-le, take_all, length-append}
 use Rattle.std.proofs.lemmas.Option.{slice_get_within}
 use Rattle.std.proofs.lemmas.Bool.{cases_lt}
-use Rattle.schema.specs.Rows.{Key, Rows, Writes, after_writes}
+use Rattle.schema.specs.Rows.{Rows, Writes, after_writes}
 use Rattle.row_chain.specs.Version.{row_up_to}
 use Rattle.key_table.specs.Table.{Table}
 use Rattle.std.specs.FinMap.{empty}
-use Rattle.rows_mv.specs.Versions.{Versions, AnswersFrom, AreEmpty, IsInstalled}
+use Rattle.rows_mv.specs.Versions.{AnswersFrom, AreEmpty, IsInstalled}
 use Rattle.dsm_model.specs.declared.verdict.Verdict.{Verdict}
 use Rattle.dsm_model.specs.declared.verdict.Verdict.TheVariants.{Commit, Conflict, Stale}
-use Rattle.dsm_model.specs.Log.{CertifiedCall, is_commit, if_commits, verdict_after}
-use Rattle.dsm_model.specs.Entries.{Entry, with_entry, certified_calls_of}
+use Rattle.dsm_model.specs.Log.{is_commit, if_commits, verdict_after}
+use Rattle.dsm_model.specs.Entries.{Entry, certified_calls_of}
 use Rattle.certify.specs.Kept as certifier
 use Rattle.replica.specs.declared.certification.Certification.{Certification}
-use Rattle.replica.specs.Replica.{rows_kept, KeepsRows, certification_after, certification_of, AreCertificationsOf, Replica, StandsFor, HasSameVersions, IsDelivered, IsRefused}
-use Rattle.replica.proofs.KeepsLemmas.{LaysOn, certified_more, certified_count, rows_later, rows_before}
+use Rattle.replica.specs.Replica.{rows_kept, KeepsRows, certification_after, AreCertificationsOf, Replica, StandsFor}
+use Rattle.replica.specs.Delivery.{HasSameVersions, IsDelivered, IsRefused}
+use Rattle.replica.proofs.KeepsLemmas.{LaysOn, certified_more, rows_later, rows_before}
 
 -- the laws of one more install
 pub record Installs : Type 0 where
@@ -86,19 +87,19 @@ certifications_more window entries e certifications c are is =
     record {
       count = omega arith;
       each = λ before x at.
-        let within = slice_get_within (entries ++ e ∷ []) before x at in
-        elim (cases_lt before (length entries)) [
-          | inl lt ↦ get_left certifications (c ∷ []) before (omega arith)
-              ∙ are.each before x (sym (get_left entries (e ∷ []) before lt) ∙ at)
-              ∙ ap (λ (l : List Entry). Some (certification_after window (certified_calls_of window l) x.call x.looks)) (sym (take-append-le before entries (e ∷ []) (omega arith)))
-          | inr ge ↦
-              let last : e ≡ x = same_some e x (sym (get_end entries e before (omega arith)) ∙ at) in
-              let all : take before (entries ++ e ∷ []) ≡ entries = take-append-le before entries (e ∷ []) (omega arith) ∙ take_all before entries (omega arith) in
-              get_end certifications c before (omega arith)
-              ∙ ap (λ (y : Certification). Some y) is
-              ∙ ap (λ (y : Entry). Some (certification_after window (certified_calls_of window entries) y.call y.looks)) last
-              ∙ ap (λ (l : List Entry). Some (certification_after window (certified_calls_of window l) x.call x.looks)) (sym all)
-        ];
+          let within = slice_get_within (entries ++ e ∷ []) before x at in
+          elim (cases_lt before (length entries)) [
+            | inl lt ↦ get_left certifications (c ∷ []) before (omega arith)
+                ∙ are.each before x (sym (get_left entries (e ∷ []) before lt) ∙ at)
+                ∙ ap (λ (l : List Entry). Some (certification_after window (certified_calls_of window l) x.call x.looks)) (sym (take-append-le before entries (e ∷ []) (omega arith)))
+            | inr ge ↦
+                let last : e ≡ x = same_some e x (sym (get_end entries e before (omega arith)) ∙ at) in
+                let all : take before (entries ++ e ∷ []) ≡ entries = take-append-le before entries (e ∷ []) (omega arith) ∙ take_all before entries (omega arith) in
+                get_end certifications c before (omega arith)
+                ∙ ap (λ (y : Certification). Some y) is
+                ∙ ap (λ (y : Entry). Some (certification_after window (certified_calls_of window entries) y.call y.looks)) last
+                ∙ ap (λ (l : List Entry). Some (certification_after window (certified_calls_of window l) x.call x.looks)) (sym all)
+          ];
     }
 
 -- ---- the replica
@@ -110,18 +111,18 @@ delivered lays law old new e c installed entries is stands =
     let more : length (entries ++ e ∷ []) ≡ length entries + 1 = length-append entries (e ∷ []) in
     let past = certified_calls_of old.window entries in
     let certified : c ≡ certification_after old.window past e.call e.looks =
-      is.certified past stands.memory ∙ ap (λ (w : ℕ). certification_after w past e.call e.looks) stands.window in
+    is.certified past stands.memory ∙ ap (λ (w : ℕ). certification_after w past e.call e.looks) stands.window in
     let verdict : c.verdict ≡ verdict_after old.window past e.call e.looks = ap (λ (x : Certification). x.verdict) certified in
     let window = is.window in
     let same = sym is.window in
     let all = entries ++ e ∷ [] in
     let keeps : KeepsRows old.window new.versions all new.position =
-      (λ s near. is.pruned s (rows_kept old.window all s) (omega arith)
-        (next_answers lays law old.versions.tables installed old.window old.position s entries e at
-          (λ commits. is.installs (ap is_commit verdict ∙ commits)) (λ refuses. is.refuses (ap is_commit verdict ∙ refuses))
-          (stands.rows s (omega arith)))) in
+    (λ s near. is.pruned s (rows_kept old.window all s) (omega arith)
+    (next_answers lays law old.versions.tables installed old.window old.position s entries e at
+    (λ commits. is.installs (ap is_commit verdict ∙ commits)) (λ refuses. is.refuses (ap is_commit verdict ∙ refuses))
+    (stands.rows s (omega arith)))) in
     let memory : certifier.StandsFor new.memory (certified_calls_of old.window all) =
-      subst (certifier.StandsFor new.memory) (ap (λ (v : Verdict). past ++ record { writes = e.writes; verdict = v } ∷ []) verdict ∙ sym (certified_more old.window entries e)) (is.memory past stands.memory) in
+    subst (certifier.StandsFor new.memory) (ap (λ (v : Verdict). past ++ record { writes = e.writes; verdict = v } ∷ []) verdict ∙ sym (certified_more old.window entries e)) (is.memory past stands.memory) in
     record {
       position = omega arith;
       window = is.same_window ∙ stands.window ∙ same;
@@ -129,7 +130,7 @@ delivered lays law old new e c installed entries is stands =
       horizon = is.horizon;
       rows = subst (λ (w : ℕ). KeepsRows w new.versions all new.position) same keeps;
       certifications = subst (λ (w : ℕ). AreCertificationsOf w all new.certifications) same
-        (subst (AreCertificationsOf old.window all) (sym is.certifications) (certifications_more old.window entries e old.certifications c stands.certifications certified));
+          (subst (AreCertificationsOf old.window all) (sym is.certifications) (certifications_more old.window entries e old.certifications c stands.certifications certified));
     }
 
 pub refused : (old new : Replica) (entries : List Entry) → IsRefused old new → StandsFor old entries → StandsFor new entries
@@ -140,7 +141,7 @@ refused old new entries is stands =
     let horizon = stands.horizon in
     let now = is.horizon in
     let keeps : KeepsRows old.window new.versions entries new.position =
-      (λ s near. same_answers old.versions.tables new.versions.tables s (rows_kept old.window entries s) is.versions (stands.rows s (omega arith))) in
+    (λ s near. same_answers old.versions.tables new.versions.tables s (rows_kept old.window entries s) is.versions (stands.rows s (omega arith))) in
     record {
       position = is.position ∙ stands.position;
       window = ap (λ (m : certifier.Memory). m.window) is.memory ∙ stands.window ∙ same;

@@ -22,12 +22,12 @@ key_of tables k None is = is
 pub schema_fits : (tables : Tables) (versions : Versions) (writes : Writes) → HaveTables tables versions.tables → AreWrites tables writes → FitTables versions writes
 schema_fits tables versions writes have are = record {
   tables = λ k some.
-    let write = of_some (get writes k) some in
-    let width = of_some (get tables k.0) (key_of tables k write.0 (are k write.0 write.1)).table_is in
-    (have k.0 width.0 width.1).0;
+      let write = of_some (get writes k) some in
+      let width = of_some (get tables k.0) (key_of tables k write.0 (are k write.0 write.1)).table_is in
+      (have k.0 width.0 width.1).0;
   widths = λ k row is.
-    let of = are k (Some row) is in
-    sym (have k.0 (length row) of.width).1;
+      let of = are k (Some row) is in
+      sym (have k.0 (length row) of.width).1;
 }
 
 -- tables of the same number and widths

@@ -1,21 +1,17 @@
 -- What one more entry changes.
-use Rattle.std.proofs.Common.{◌≡◌, ℕ, zero, suc, ◌+◌, ◌-◌, ◌≤◌, ◌<◌, Bool, true, false, cond, List, [], ◌∷◌, ◌++◌, length, take, slice_get, refl, sym, ap, subst, ◌∙◌, arith}
-use Rattle.std.specs.Prelude.{Option, Some, None, if◌then◌else◌, IsSome}
+use Rattle.std.proofs.Common.{◌≡◌, ℕ, suc, ◌+◌, ◌≤◌, ◌<◌, List, [], ◌∷◌, ◌++◌, length, refl, ap, ◌∙◌, arith}
+use Rattle.std.specs.Prelude.{if◌then◌else◌}
 use Rattle.std.specs.List.{fold}
-use Rattle.std.proofs.lemmas.List.{take-append-le, take_all, length-append, append-nil}
+use Rattle.std.proofs.lemmas.List.{length-append, append-nil}
 use Rattle.std.proofs.lemmas.List.Sums.{fold-append}
 use Rattle.std.specs.FinMap.{empty}
-use Rattle.schema.specs.Schema.{Tables}
-use Rattle.schema.specs.declared.look.Look.{Look}
-use Rattle.schema.specs.Rows.{Key, Rows, Writes, AreWrites, IsRow, IsKey, IsWrite, after_writes}
+use Rattle.schema.specs.Rows.{Rows, Writes, after_writes}
 use Rattle.row_model.specs.InstalledWrites.{InstalledWrites, map_after}
 use Rattle.dsm_model.specs.declared.verdict.Verdict.{Verdict}
 use Rattle.dsm_model.specs.declared.verdict.Verdict.TheVariants.{Commit, Conflict, Stale}
-use Rattle.dsm_model.specs.Log.{Call, CertifiedCall, is_commit, if_commits, verdict_after, certified_call_after}
+use Rattle.dsm_model.specs.Log.{CertifiedCall, is_commit, if_commits, verdict_after, certified_call_after}
 use Rattle.dsm_model.specs.Entries.{Entry, with_entry, certified_calls_of, installed_from}
-use Rattle.key_table.specs.Table.{Table}
-use Rattle.rows_mv.specs.Versions.{Versions, AreOfTables, HaveWidths, HaveTables, width_of}
-use Rattle.replica.specs.Replica.{rows_kept, FitTables}
+use Rattle.replica.specs.Replica.{rows_kept}
 
 -- ---- the certified calls of one entry more
 

@@ -1,14 +1,12 @@
 -- Verdicts and rows of a replica are the log's.
 use Rattle.std.proofs.Common.{◌≡◌, ℕ, zero, suc, ◌+◌, ◌-◌, ◌≤◌, ◌<◌, List, [], ◌∷◌, ◌++◌, length, take, slice_get, refl, sym, ap, subst, ◌∙◌, arith}
-use Rattle.std.specs.Prelude.{Option, Some, None}
+use Rattle.std.specs.Prelude.{Some, None}
 use Rattle.std.specs.Option.{option_map}
 use Rattle.std.specs.List.{fold}
 use Rattle.std.proofs.lemmas.List.{take-append-le, take_all, length-append}
 use Rattle.std.proofs.lemmas.Option.{slice_get_within}
-use Rattle.schema.specs.Rows.{Rows}
 use Rattle.row_model.specs.InstalledWrites.{map_after}
-use Rattle.dsm_model.specs.declared.verdict.Verdict.{Verdict}
-use Rattle.dsm_model.specs.Log.{Setting, CertifiedCall, IsLog, certified_call_after, verdict_after, verdict_in, verdict_of, history, rows_after}
+use Rattle.dsm_model.specs.Log.{Setting, CertifiedCall, IsLog, certified_call_after, verdict_after, verdict_of, history, rows_after}
 use Rattle.dsm_model.specs.Fit.{HasSafeProcedures, AreCalls}
 use Rattle.dsm_model.specs.Entries.{Entry, calls_of, CarryRuns, with_entry, certified_calls_of, installed_from}
 use Rattle.rows_mv.specs.Versions.{AnswersFrom}
@@ -76,14 +74,14 @@ verdicts_follow law w r entries before c window stands are at =
     ∙ ap (λ (x : Certification). Some x.verdict) is
 
 pub rows_follow : ((w : Setting) (entries : List Entry) (position : ℕ) → HasSafeProcedures w → IsLog (calls_of entries) → AreCalls w (calls_of entries) → CarryRuns w entries → position ≤ length entries
-      → map_after (installed_from 1 (certified_calls_of w.window entries)) position ≡ rows_after w (calls_of entries) position)
+    → map_after (installed_from 1 (certified_calls_of w.window entries)) position ≡ rows_after w (calls_of entries) position)
     → (w : Setting) (r : Replica) (entries : List Entry) (s : ℕ) → w.window ≡ r.window → StandsFor r entries → AreEntriesOf w entries → s ≤ r.position → r.position - s ≤ r.window
     → AnswersFrom r.versions.tables s (rows_after w (calls_of entries) s)
 rows_follow law w r entries s window stands are le near =
     let position = stands.position in
     subst (AnswersFrom r.versions.tables s)
-      (ap (λ (n : ℕ). rows_kept n entries s) (sym window) ∙ law w entries s are.procedures are.log are.calls are.runs (omega arith))
-      (stands.rows s near)
+    (ap (λ (n : ℕ). rows_kept n entries s) (sym window) ∙ law w entries s are.procedures are.log are.calls are.runs (omega arith))
+    (stands.rows s near)
 
 pub next_follows : Suffice → (w : Setting) (entries : List Entry) (e : Entry) → AreEntriesOf w (entries ++ e ∷ [])
     → verdict_of w (calls_of (entries ++ e ∷ [])) (length entries + 1) ≡ Some (verdict_after w.window (certified_calls_of w.window entries) e.call e.looks)

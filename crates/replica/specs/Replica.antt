@@ -1,14 +1,13 @@
 -- What a replica keeps, and the delivered entries for which it stands.
-use Rattle.std.specs.Prelude.{◌≡◌, ℕ, ◌+◌, ◌-◌, ◌≤◌, Bool, true, false, List, [], ◌∷◌, ◌++◌, length, take, slice_get, Some}
-use Rattle.schema.specs.Rows.{Key, Rows, Writes}
+use Rattle.std.specs.Prelude.{◌≡◌, ℕ, ◌-◌, ◌≤◌, Bool, List, length, take, slice_get, Some}
+use Rattle.schema.specs.Rows.{Rows, Writes}
 use Rattle.schema.specs.declared.look.Look.{Look}
 use Rattle.row_model.specs.InstalledWrites.{map_after}
-use Rattle.dsm_model.specs.Log.{Setting, Call, CertifiedCall, IsLog, is_commit, verdict_after}
+use Rattle.dsm_model.specs.Log.{Setting, Call, CertifiedCall, IsLog, verdict_after}
 use Rattle.dsm_model.specs.Comparisons.{comparisons_after}
 use Rattle.dsm_model.specs.Entries.{Entry, calls_of, CarryRuns, certified_calls_of, installed_from}
 use Rattle.dsm_model.specs.Fit.{HasSafeProcedures, AreCalls}
-use Rattle.key_table.specs.Table.{Table, versions_at}
-use Rattle.rows_mv.specs.Versions.{Versions, slots_of, AnswersFrom, IsInstalled, AreOfTables, HaveWidths}
+use Rattle.rows_mv.specs.Versions.{Versions, AnswersFrom, AreOfTables, HaveWidths}
 use Rattle.certify.specs.Kept as certifier
 use Rattle.replica.specs.declared.certification.Certification.{Certification}
 
@@ -61,36 +60,6 @@ pub record StandsFor (r : Replica) (entries : List Entry) : Type 0 where
 pub record FitTables (versions : Versions) (writes : Writes) : Type 0 where
   pub tables : AreOfTables writes versions.tables
   pub widths : HaveWidths writes versions.tables
-
--- ---- one delivery
-
--- each key has the versions that it had
-abbrev pub HasSameVersions : List Table → List Table → Type 0
-HasSameVersions old new = (k : Key) → versions_at (slots_of new k.0) k.1 ≡ versions_at (slots_of old k.0) k.1
-
--- what one delivery leaves: the certifier has taken the entry in, the writes of one that commits are installed, and then
--- what no position within the window sees may be dropped
-pub record IsDelivered (old new : Replica) (e : Entry) (c : Certification) (installed : List Table) : Type 0 where
-  pub window : new.window ≡ old.window
-  pub position : new.position ≡ old.position + 1
-  pub certified : (past : List CertifiedCall) → certifier.StandsFor old.memory past → c ≡ certification_after old.memory.window past e.call e.looks
-  pub certifications : new.certifications ≡ old.certifications ++ c ∷ []
-  pub memory : (past : List CertifiedCall) → certifier.StandsFor old.memory past
-      → certifier.StandsFor new.memory (past ++ record { writes = e.writes; verdict = c.verdict } ∷ [])
-  pub same_window : new.memory.window ≡ old.memory.window
-  pub installs : is_commit c.verdict ≡ true → IsInstalled (old.position + 1) e.writes old.versions.tables installed
-  pub refuses : is_commit c.verdict ≡ false → HasSameVersions old.versions.tables installed
-  pub pruned : (s : ℕ) (rows : Rows) → new.position - s ≤ new.window → AnswersFrom installed s rows → AnswersFrom new.versions.tables s rows
-  pub horizon : new.versions.horizon ≤ new.position - new.window
-
--- what a delivery leaves for which there is no memory
-pub record IsRefused (old new : Replica) : Type 0 where
-  pub window : new.window ≡ old.window
-  pub position : new.position ≡ old.position
-  pub certifications : new.certifications ≡ old.certifications
-  pub memory : new.memory ≡ old.memory
-  pub versions : HasSameVersions old.versions.tables new.versions.tables
-  pub horizon : new.versions.horizon ≡ old.versions.horizon
 
 -- ---- the log
 

@@ -37,7 +37,10 @@ impl<'a, A: Allocator + Copy> Store for At<'a, A> {
         if self.gone {
             return Err(Gone);
         }
-        match self.versions.count_at(self.position, look.table, look.lo, look.hi) {
+        match self
+            .versions
+            .count_at(self.position, look.table, look.lo, look.hi)
+        {
             Ok(count) => Ok(count as u64),
             Err(_) => unreachable!(),
         }
@@ -49,7 +52,10 @@ impl<'a, A: Allocator + Copy> Store for At<'a, A> {
         if self.gone {
             return Err(Gone);
         }
-        match self.versions.next_at(self.position, look.table, look.lo, look.hi) {
+        match self
+            .versions
+            .next_at(self.position, look.table, look.lo, look.hi)
+        {
             Ok(row) => Ok(row),
             Err(_) => unreachable!(),
         }

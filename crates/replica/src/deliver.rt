@@ -5,7 +5,8 @@ ghost use Rattle.schema.specs.Rows.{Rows};
 ghost use Rattle.rows_mv.specs.Versions.{AnswersFrom, IsInstalled, width_of};
 ghost use Rattle.dsm_model.specs.Log.{CertifiedCall, is_commit};
 ghost use Rattle.certify.specs.Kept.{StandsFor};
-ghost use Rattle.replica.specs.Replica.{FitTables, HasSameVersions, certification_after};
+ghost use Rattle.replica.specs.Replica.{FitTables, certification_after};
+ghost use Rattle.replica.specs.Delivery.{HasSameVersions};
 
 use crate::certification::Certification;
 use certify::Certifier;

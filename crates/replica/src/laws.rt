@@ -9,7 +9,8 @@ ghost use Rattle.dsm_model.specs.Log.{Setting, is_commit, verdict_after, verdict
 ghost use Rattle.dsm_model.specs.Entries.{Entry, calls_of, certified_calls_of};
 ghost use Rattle.key_table.specs.Table.{Table};
 ghost use Rattle.replica.specs.declared.certification.Certification.{Certification};
-ghost use Rattle.replica.specs.Replica.{AreEntriesOf, FitTables, IsDelivered, IsRefused, Replica, StandsFor, rows_kept};
+ghost use Rattle.replica.specs.Replica.{AreEntriesOf, FitTables, Replica, StandsFor, rows_kept};
+ghost use Rattle.replica.specs.Delivery.{IsDelivered, IsRefused};
 
 use dsm_model::entries_suffice;
 use row_model::map_after_each_write_set;
@@ -36,7 +37,7 @@ pub fn rows_of_each_delivery()
 }
 
 /// A replica goes on standing for what it delivered, and where a delivery is refused it stands for the same.
-pub fn deliveries_are_kept()
+pub(crate) fn deliveries_are_kept()
     ensures delivered { (old new : Replica) (e : Entry) (c : Certification) (installed : List Table) (entries : List Entry)
         → IsDelivered old new e c installed → StandsFor old entries → StandsFor new (entries ++ e ∷ []) }
     ensures refused { (old new : Replica) (entries : List Entry)

@@ -40,7 +40,6 @@ pub struct Replica<A: Allocator + Copy = Global> {
 impl<A: Allocator + Copy> Model for Replica<A> {
     ghost use Rattle.std.specs.Prelude.{◌≡◌, ◌≤◌, ◌-◌};
     ghost use Rattle.replica.specs.Replica.{Replica, IsReplica};
-
     ghost use Rattle.replica.specs.Codes.{replica_code};
 
     ghost Value = { Replica };
@@ -71,7 +70,7 @@ impl<A: Allocator + Copy> Replica<A> {
     /// since their snapshot find its rows no more.
     pub fn new<B: Allocator + Copy>(
         alloc: A,
-            window: u32,
+        window: u32,
         catalogue: &Catalogue<B>,
     ) -> Result<Replica<A>, AllocError>
         ensures stands { IfOk result (λ r. StandsFor r []) }

@@ -11,7 +11,6 @@ use std::test::Fail;
 
 mod drawn;
 mod pages;
-mod refused;
 mod replayed;
 mod stores;
 

@@ -74,50 +74,77 @@ fn says_the_same(replica: &Replica, position: u32, report: &CallReport) -> bool 
     }
 }
 
-/// How many calls of a drawn log committed, conflicted and were stale, where a replica comes to what the plain replay
-/// says; else the position at which it doesn't.
-fn verdicts(alloc: Global, window: u32) -> Result<Result<[u32; 3], u32>, Fail> {
-    let log = drawn_log(alloc, window, CALLS)?;
-    let replay = replay_log(alloc, &setting_of(alloc, window)?, short(&log))?;
-    let catalogue = catalogue_of(alloc)?;
-    let mut checked = CheckedReplica::new(alloc, window, &catalogue)?;
-    let mut counts = [0u32; 3];
-    let mut position = 0u32;
-    for (call, report) in log.iter().zip(replay.reports()) {
-        position = position.wrapping_add(1);
-        let verdict = checked.deliver(&entry_of(alloc, call, report)?);
-        let same = verdict == Some(Ok(report.verdict()))
-            && says_the_same(checked.replica(), position, report);
-        if !same || position % 1_000 == 0 && !keeps_rows(checked.replica(), &replay) {
-            return Ok(Err(position));
-        }
-        count(&mut counts, report.verdict());
-    }
-    Ok(Ok(counts))
+/// What became of a drawn log: how many calls committed, conflicted and were stale, and the position at which a replica
+/// doesn't come to what the plain replay says, or 0.
+#[derive(Clone, Copy, Debug, PartialEq, Eq)]
+struct Outcome {
+    commits: u32,
+    conflicts: u32,
+    stale: u32,
+    difference: u32,
 }
 
-/// Counts a verdict among the commits, the conflicts or the stale ones.
-fn count(counts: &mut [u32; 3], verdict: Verdict) {
-    let place = match verdict {
-        Verdict::Commit => 0,
-        Verdict::Conflict(_) => 1,
-        Verdict::Stale => 2,
-    };
-    if let Some(count) = counts.get_mut(place) {
-        *count = count.wrapping_add(1);
+impl Outcome {
+    fn count(&mut self, verdict: Verdict) {
+        match verdict {
+            Verdict::Commit => self.commits = self.commits.wrapping_add(1),
+            Verdict::Conflict(_) => self.conflicts = self.conflicts.wrapping_add(1),
+            Verdict::Stale => self.stale = self.stale.wrapping_add(1),
+        }
     }
+}
+
+/// Delivers a call as it is shipped: whether the replica says of it what the replay says.
+fn delivers_the_same(
+    alloc: Global,
+    checked: &mut CheckedReplica,
+    call: &PlainCall,
+    report: &CallReport,
+) -> Result<bool, Fail> {
+    let entry = entry_of(alloc, call, report)?;
+    let verdict = checked.deliver(&entry);
+    let position = checked.replica().position();
+    Ok(verdict == Some(Ok(report.verdict())) && says_the_same(checked.replica(), position, report))
+}
+
+fn outcome_of(alloc: Global, window: u32) -> Result<Outcome, Fail> {
+    let log = drawn_log(alloc, window, CALLS)?;
+    let setting = setting_of(alloc, window)?;
+    let replay = replay_log(alloc, &setting, short(&log))?;
+    let catalogue = catalogue_of(alloc)?;
+    let mut checked = CheckedReplica::new(alloc, window, &catalogue)?;
+    let mut outcome = Outcome {
+        commits: 0,
+        conflicts: 0,
+        stale: 0,
+        difference: 0,
+    };
+    for (call, report) in log.iter().zip(replay.reports()) {
+        let same = delivers_the_same(alloc, &mut checked, call, report)?;
+        let position = checked.replica().position();
+        if !same || position % 1_000 == 0 && !keeps_rows(checked.replica(), &replay) {
+            outcome.difference = position;
+            return Ok(outcome);
+        }
+        outcome.count(report.verdict());
+    }
+    Ok(outcome)
 }
 
 #[test]
 fn replicas_come_to_what_the_plain_replay_says(rt: HostRuntime) -> Result<(), Fail> {
     for window in [1, 7, 8, 9, 4_096] {
-        match verdicts(rt.alloc(), window)? {
-            Ok([commits, conflicts, stale]) => {
-                assert!(rt; commits > 1_000 && conflicts > 100 && stale > 0, "window {window}");
-                assert_eq!(rt; commits.wrapping_add(conflicts).wrapping_add(stale), CALLS);
-            }
-            Err(position) => assert_eq!(rt; position, 0, "window {window}"),
-        }
+        let outcome = outcome_of(rt.alloc(), window)?;
+        let Outcome {
+            commits,
+            conflicts,
+            stale,
+            difference,
+        } = outcome;
+        assert_eq!(rt; difference, 0, "window {window}");
+        assert!(rt; commits > 1_000 && conflicts > 100 && stale > 0, "window {window}");
+        let all = commits.wrapping_add(conflicts).wrapping_add(stale);
+        assert_eq!(rt; all, CALLS);
     }
     Ok(())
 }

@@ -11,7 +11,8 @@ fn value_at(replica: &Replica, position: u32) -> Result<Option<u8>, Gone> {
     if position > replica.position() {
         return Err(Gone);
     }
-    let row = replica.at(position).get(1, 1)?;
+    let store = replica.at(position);
+    let row = store.get(1, 1)?;
     Ok(row.and_then(|bytes| bytes.first().copied()))
 }
 
@@ -23,7 +24,7 @@ fn expected(window: u32, delivered: u32, position: u32) -> Result<Option<u8>, Go
     } else if position == 0 {
         Ok(None)
     } else {
-        Ok(Some(position as u8))
+        Ok(u8::try_from(position).ok())
     }
 }
 

@@ -1,4 +1,4 @@
-use Rattle.std.proofs.Common.{◌≡◌, ℕ, ◌+◌, ◌≤◌, false, List, [], ◌∷◌, ◌++◌, take, sym, ap, subst, ◌∙◌, arith}
+use Rattle.std.proofs.Common.{◌≡◌, ℕ, ◌+◌, [], ◌∷◌, ◌++◌, take, sym, ap, subst, ◌∙◌, arith}
 use Rattle.std.specs.Prelude.{slice_index_or}
 use Rattle.std.proofs.lemmas.List.{take_more}
 use Rattle.schema.specs.Rows.{AreWrites}
@@ -22,12 +22,12 @@ deliver-requires-clause-fit g c =
 pub loop-entry-preserved : goal.loop-entry-preserved
 loop-entry-preserved g c = record {
   stands = subst (StandsFor c.deliver.new.self)
-    (ap (λ (e : Entry). take c.loop-entry.entry-index c.args.entries.now ++ e ∷ []) c.entry-item.is
+      (ap (λ (e : Entry). take c.loop-entry.entry-index c.args.entries.now ++ e ∷ []) c.entry-item.is
       ∙ sym (take_more c.args.entries.now c.loop-entry.entry-index c.entry-item.result c.loop-entry-test.true))
-    (c.in-Ok.ensures.stands (take c.loop-entry.entry-index c.args.entries.now) c.loop-entry.invariant.stands);
+      (c.in-Ok.ensures.stands (take c.loop-entry.entry-index c.args.entries.now) c.loop-entry.invariant.stands);
   position = c.in-Ok.ensures.next ∙ ap (λ (n : ℕ). n + 1) c.loop-entry.invariant.position;
   window = c.deliver.ensures.window ∙ c.loop-entry.invariant.window;
   running = c.in-Ok.ensures.stopped;
   tables = c.tables_take_the_schemas_writes.ensures.kept c.args.catalogue.now.tables c.loop-entry.replica.versions.tables c.deliver.new.self.versions.tables
-    c.deliver.ensures.widths c.deliver.ensures.tables c.loop-entry.invariant.tables;
+      c.deliver.ensures.widths c.deliver.ensures.tables c.loop-entry.invariant.tables;
 }

@@ -1,4 +1,4 @@
-use Rattle.std.proofs.Common.{◌≡◌, false, take, length}
+use Rattle.std.proofs.Common.{◌≡◌, false, take}
 use Rattle.rows_mv.specs.Versions.{HaveTables}
 use Rattle.replica.specs.Replica.{StandsFor}
 use Rattle.replica.proofs.rebuild.replica_of.Given as goal

@@ -1,6 +1,6 @@
-use Rattle.std.proofs.Common.{◌≡◌, ℕ, ◌+◌, List, [], ◌∷◌, ◌++◌, refl, sym, ap, subst, ◌∙◌, arith}
+use Rattle.std.proofs.Common.{◌≡◌, ◌+◌, List, [], ◌∷◌, ◌++◌, refl, sym, ap, subst, ◌∙◌, arith}
 use Rattle.std.specs.Prelude.{Some}
-use Rattle.dsm_model.specs.Log.{Setting, verdict_of}
+use Rattle.dsm_model.specs.Log.{verdict_of}
 use Rattle.dsm_model.specs.Entries.{Entry, calls_of}
 use Rattle.replica.specs.Replica.{Replica, StandsFor, AreEntriesOf}
 use Rattle.replica.proofs.LogLemmas.{delivered_verdict}
@@ -20,39 +20,39 @@ returns-clause-stands g c entries =
       versions = c.drop_unseen-self-inside.new.versions;
     } in
     subst (λ (old : Replica). StandsFor old entries → StandsFor new (entries_after entries c.args.entry.now)) c.self.view_is (λ stands.
-      c.deliveries_are_kept.ensures.delivered (record {
-        window = c.self.inside.window;
-        position = c.self.inside.position;
-        stopped = c.self.inside.stopped;
-        certifications = c.self.inside.certifications.items;
-        memory = c.self.inside.certifier.memory;
-        versions = c.self.inside.versions;
-      }) new c.args.entry.now c.in-Ok.certification c.take_entry-taken.new.versions.tables entries
-      (record {
-        window = refl;
-        position = refl;
-        certified = c.in-Ok.ensures.certified;
-        certifications = c.in-Ok.ensures.entered;
-        memory = c.in-Ok.ensures.memory;
-        same_window = c.in-Ok.ensures.window;
-        installs = c.in-Ok.ensures.installs;
-        refuses = c.in-Ok.ensures.refuses;
-        pruned = c.drop_unseen-self-inside.ensures.seen;
-        horizon = c.drop_unseen-self-inside.ensures.horizon;
-      }) stands)
+    c.deliveries_are_kept.ensures.delivered (record {
+      window = c.self.inside.window;
+      position = c.self.inside.position;
+      stopped = c.self.inside.stopped;
+      certifications = c.self.inside.certifications.items;
+      memory = c.self.inside.certifier.memory;
+      versions = c.self.inside.versions;
+    }) new c.args.entry.now c.in-Ok.certification c.take_entry-taken.new.versions.tables entries
+    (record {
+      window = refl;
+      position = refl;
+      certified = c.in-Ok.ensures.certified;
+      certifications = c.in-Ok.ensures.entered;
+      memory = c.in-Ok.ensures.memory;
+      same_window = c.in-Ok.ensures.window;
+      installs = c.in-Ok.ensures.installs;
+      refuses = c.in-Ok.ensures.refuses;
+      pruned = c.drop_unseen-self-inside.ensures.seen;
+      horizon = c.drop_unseen-self-inside.ensures.horizon;
+    }) stands)
 
 pub returns-clause-log_verdict : goal.returns-clause-log_verdict
 returns-clause-log_verdict g c w entries =
     subst (λ (old : Replica). w.window ≡ old.window → StandsFor old entries → AreEntriesOf w (entries_after entries c.args.entry.now)
-      → verdict_of w (calls_of (entries_after entries c.args.entry.now)) (c.self.inside.position + 1) ≡ Some c.in-Ok.certification.verdict) c.self.view_is
+    → verdict_of w (calls_of (entries_after entries c.args.entry.now)) (c.self.inside.position + 1) ≡ Some c.in-Ok.certification.verdict) c.self.view_is
     (delivered_verdict c.replicas_follow_the_log.ensures.next w (record {
-        window = c.self.inside.window;
-        position = c.self.inside.position;
-        stopped = c.self.inside.stopped;
-        certifications = c.self.inside.certifications.items;
-        memory = c.self.inside.certifier.memory;
-        versions = c.self.inside.versions;
-      }) entries c.args.entry.now c.in-Ok.certification c.in-Ok.ensures.certified)
+      window = c.self.inside.window;
+      position = c.self.inside.position;
+      stopped = c.self.inside.stopped;
+      certifications = c.self.inside.certifications.items;
+      memory = c.self.inside.certifier.memory;
+      versions = c.self.inside.versions;
+    }) entries c.args.entry.now c.in-Ok.certification c.in-Ok.ensures.certified)
 
 pub returns-clause-log_rows : goal.returns-clause-log_rows
 returns-clause-log_rows g c w entries window stands are =

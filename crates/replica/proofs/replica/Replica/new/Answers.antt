@@ -1,4 +1,4 @@
-use Rattle.std.proofs.Common.{refl, subst, List}
+use Rattle.std.proofs.Common.{refl, subst}
 use Rattle.schema.specs.Schema.{Tables}
 use Rattle.rows_mv.specs.Versions.{HaveTables}
 use Rattle.replica.proofs.DeliveryLemmas.{stands_at_first}
