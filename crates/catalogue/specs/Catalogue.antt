@@ -1,10 +1,12 @@
 -- The catalogue of a database: its tables, and its stored procedures in order of entry.
-use Rattle.std.specs.Prelude.{ℕ, List, Option, find, All}
+use Rattle.std.specs.Prelude.{◌≡◌, ℕ, List, Option, find, All, map, nat_eq, true}
+use Rattle.std.specs.List.{IsDistinct}
 use Rattle.std.specs.Str.{bytes_eq}
 use Rattle.bpf_code.specs.Program.{IsProgram}
 use Rattle.schema.specs.Schema.{Tables, AreTables}
 use Rattle.bpf_verify.specs.Flow.{Procedure, IsAccepted}
 use Rattle.dsm_model.specs.Log.{StoredProcedure, Catalogue}
+use Rattle.catalogue.specs.Name.{is_name}
 
 pub record SystemCatalogue : Type 0 where
   pub tables : Tables
@@ -31,12 +33,17 @@ pub record ListedProcedure : Type 0 where
 abbrev pub listed_of : Tables → StoredProcedure → ListedProcedure
 listed_of tables p = record { name = p.name; number = p.number; accepted = accepted_of tables p }
 
--- the verifier accepted it for these tables
-pub record IsAcceptedWith (tables : Tables) (p : StoredProcedure) : Type 0 where
+-- the verifier accepted the program, for these tables
+pub record IsAcceptedFor (tables : Tables) (p : Procedure) : Type 0 where
+  pub own : p.tables ≡ tables
   pub program : IsProgram p.program
-  pub accepted : IsAccepted (accepted_of tables p)
+  pub accepted : IsAccepted p
 
--- what is known of every catalogue: each procedure was accepted for its tables
+-- what is known of every catalogue: each procedure was accepted for its tables, no two have a number or a name in common,
+-- and each name is one
 pub record IsCatalogue (c : SystemCatalogue) : Type 0 where
   pub tables : AreTables c.tables
-  pub procedures : All (IsAcceptedWith c.tables) c.procedures
+  pub procedures : All (λ p. IsAcceptedFor c.tables (accepted_of c.tables p)) c.procedures
+  pub numbers : IsDistinct nat_eq (map (λ p. p.number) c.procedures)
+  pub names : IsDistinct bytes_eq (map (λ p. p.name) c.procedures)
+  pub shapes : All (λ p. is_name p.name ≡ true) c.procedures
