@@ -3,6 +3,9 @@
 ghost use Rattle.std.specs.Prelude.{◌≡◌, ℕ, ◌+◌, ◌-◌, ◌≤◌, ◌<◌, ◌^◌, nat_lt, List, [], ◌∷◌, ◌++◌, length, slice_get, Some, true, false, is_err};
 ghost use Rattle.schema.specs.Rows.{AreWrites};
 ghost use Rattle.std.specs.Prelude.{All, IfOk, OnOk, OnErr};
+ghost use Rattle.std.specs.Prelude.{IsSome};
+ghost use Rattle.std.specs.FinMap as map;
+ghost use Rattle.schema.specs.Rows.{Key};
 ghost use Rattle.dsm_model.specs.Log.{IsLog, Setting, rows_after, verdict_after, verdict_of};
 ghost use Rattle.dsm_model.specs.Entries.{Entry as Delivered, calls_of, certified_calls_of};
 ghost use Rattle.rows_mv.specs.Versions.{AnswersFrom, HaveTables, width_of};
@@ -18,6 +21,7 @@ use catalogue::Catalogue;
 use certify::Certifier;
 use dsm_model::Verdict;
 use log_entry::Entry;
+use row_values::Row;
 use rows_mv::{Versions, empty_versions_answer_from_no_rows};
 use std::alloc::{AllocError, Allocator, Global};
 use std::marker::Model;
@@ -134,6 +138,15 @@ impl<A: Allocator + Copy> Replica<A> {
             position,
             gone: self.position - position > self.window,
         }
+    }
+
+    /// The rows after the last position, in the order of tables and keys.
+    pub fn rows<B: Allocator + Copy>(&self, alloc: B) -> Result<Vec<Row<B>, B>, AllocError>
+        ensures { IfOk result (λ list. (entries : List Delivered) → StandsFor self.now entries
+            → ((k : Key) → IsSome (map.get (rows_kept self.now.window entries self.now.position) k) → k.1 < 2 ^ 64)
+            → list.items ≡ map.entries (rows_kept self.now.window entries self.now.position)) }
+    {
+        self.versions.rows_at(alloc, self.position)
     }
 
     /// Takes the next call in and tells its verdict. Where there is no memory the replica stops, and the rows at each
