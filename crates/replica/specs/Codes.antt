@@ -15,21 +15,34 @@ version_code = code_by (ℕ × Option (List ℕ)) (coded× coded_ℕ (coded_opti
     (λ v. (v.position, v.row)) (λ c. record { position = c.0; row = c.1 }) (λ _. refl)
 
 abbrev chain_code : Coded ChainState
-chain_code = code_by (List Version × (ℕ × (ℕ × ℕ))) (coded× (coded_list version_code) (coded× coded_ℕ (coded× coded_ℕ coded_ℕ)))
-    (λ k. (k.versions, (k.width, (k.places, k.bytes)))) (λ c. record { versions = c.0; width = c.1.0; places = c.1.1.0; bytes = c.1.1.1 }) (λ _. refl)
+chain_code = code_by (List Version × (ℕ × (ℕ × ℕ)))
+    (coded× (coded_list version_code) (coded× coded_ℕ (coded× coded_ℕ coded_ℕ)))
+    (λ k. (k.versions, (k.width, (k.places, k.bytes))))
+    (λ c. record { versions = c.0; width = c.1.0; places = c.1.1.0; bytes = c.1.1.1 }) (λ _. refl)
 
 abbrev slot_code : Coded Slot
-slot_code = code_by (ℕ × ChainState) (coded× coded_ℕ chain_code) (λ s. (s.key, s.chain)) (λ c. record { key = c.0; chain = c.1 }) (λ _. refl)
+slot_code = code_by (ℕ × ChainState) (coded× coded_ℕ chain_code)
+    (λ s. (s.key, s.chain)) (λ c. record { key = c.0; chain = c.1 }) (λ _. refl)
 
 abbrev table_code : Coded Table
-table_code = code_by (ℕ × List Slot) (coded× coded_ℕ (coded_list slot_code)) (λ t. (t.width, t.slots)) (λ c. record { width = c.0; slots = c.1 }) (λ _. refl)
+table_code = code_by (ℕ × List Slot) (coded× coded_ℕ (coded_list slot_code))
+    (λ t. (t.width, t.slots)) (λ c. record { width = c.0; slots = c.1 }) (λ _. refl)
 
 abbrev versions_code : Coded Versions
-versions_code = code_by (ℕ × List Table) (coded× coded_ℕ (coded_list table_code)) (λ v. (v.horizon, v.tables)) (λ c. record { horizon = c.0; tables = c.1 }) (λ _. refl)
+versions_code = code_by (ℕ × List Table) (coded× coded_ℕ (coded_list table_code))
+    (λ v. (v.horizon, v.tables)) (λ c. record { horizon = c.0; tables = c.1 }) (λ _. refl)
 
 abbrev pub replica_code : Coded Replica
 replica_code = code_by (ℕ × (ℕ × (Bool × (List Certification × (CertifierState × Versions)))))
-    (coded× coded_ℕ (coded× coded_ℕ (coded× coded_bool (coded× (coded_list certification.the_row.coded) (coded× state_code versions_code)))))
+    (coded× coded_ℕ (coded× coded_ℕ (coded× coded_bool
+    (coded× (coded_list certification.the_row.coded) (coded× state_code versions_code)))))
     (λ r. (r.window, (r.position, (r.stopped, (r.certifications, (record { memory = r.memory; compared = 0 }, r.versions))))))
-    (λ c. record { window = c.0; position = c.1.0; stopped = c.1.1.0; certifications = c.1.1.1.0; memory = c.1.1.1.1.0.memory; versions = c.1.1.1.1.1 })
+    (λ c. record {
+      window = c.0;
+      position = c.1.0;
+      stopped = c.1.1.0;
+      certifications = c.1.1.1.0;
+      memory = c.1.1.1.1.0.memory;
+      versions = c.1.1.1.1.1;
+    })
     (λ _. refl)

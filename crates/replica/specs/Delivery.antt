@@ -18,14 +18,16 @@ HasSameVersions old new = (k : Key) → versions_at (slots_of new k.0) k.1 ≡ v
 pub record IsDelivered (old new : Replica) (e : Entry) (c : Certification) (installed : List Table) : Type 0 where
   pub window : new.window ≡ old.window
   pub position : new.position ≡ old.position + 1
-  pub certified : (past : List CertifiedCall) → certifier.StandsFor old.memory past → c ≡ certification_after old.memory.window past e.call e.looks
+  pub certified : (past : List CertifiedCall) → certifier.StandsFor old.memory past
+      → c ≡ certification_after old.memory.window past e.call e.looks
   pub certifications : new.certifications ≡ old.certifications ++ c ∷ []
   pub memory : (past : List CertifiedCall) → certifier.StandsFor old.memory past
       → certifier.StandsFor new.memory (past ++ record { writes = e.writes; verdict = c.verdict } ∷ [])
   pub same_window : new.memory.window ≡ old.memory.window
   pub installs : is_commit c.verdict ≡ true → IsInstalled (old.position + 1) e.writes old.versions.tables installed
   pub refuses : is_commit c.verdict ≡ false → HasSameVersions old.versions.tables installed
-  pub pruned : (s : ℕ) (rows : Rows) → new.position - s ≤ new.window → AnswersFrom installed s rows → AnswersFrom new.versions.tables s rows
+  pub pruned : (s : ℕ) (rows : Rows) → new.position - s ≤ new.window
+      → AnswersFrom installed s rows → AnswersFrom new.versions.tables s rows
   pub horizon : new.versions.horizon ≤ new.position - new.window
 
 -- what a delivery leaves for which there is no memory

@@ -17,11 +17,15 @@ rows_kept window entries s = map_after (installed_from 1 (certified_calls_of win
 
 -- each position within the window, and each later one, answers from the rows after it
 abbrev pub KeepsRows : ℕ → Versions → List Entry → ℕ → Type 0
-KeepsRows window versions entries position = (s : ℕ) → position - s ≤ window → AnswersFrom versions.tables s (rows_kept window entries s)
+KeepsRows window versions entries position =
+    (s : ℕ) → position - s ≤ window → AnswersFrom versions.tables s (rows_kept window entries s)
 
 -- the verdict on the next call, and how many exact comparisons it takes
 abbrev pub certification_after : ℕ → List CertifiedCall → Call → List Look → Certification
-certification_after window past call looks = record { verdict = verdict_after window past call looks; compared = length (comparisons_after window past call looks) }
+certification_after window past call looks = record {
+  verdict = verdict_after window past call looks;
+  compared = length (comparisons_after window past call looks);
+}
 
 -- that of an entry which has so many before it
 abbrev pub certification_of : ℕ → List Entry → ℕ → Entry → Certification
@@ -30,7 +34,8 @@ certification_of window entries before e = certification_after window (certified
 -- that of each entry
 pub record AreCertificationsOf (window : ℕ) (entries : List Entry) (certifications : List Certification) : Type 0 where
   pub count : length certifications ≡ length entries
-  pub each : (before : ℕ) (e : Entry) → slice_get entries before ≡ Some e → slice_get certifications before ≡ Some (certification_of window entries before e)
+  pub each : (before : ℕ) (e : Entry) → slice_get entries before ≡ Some e
+      → slice_get certifications before ≡ Some (certification_of window entries before e)
 
 -- what a replica keeps of the delivered entries for verdicts and for rows, and whether it has stopped
 pub record Replica : Type 0 where
@@ -48,6 +53,7 @@ pub record IsReplica (r : Replica) : Type 0 where
   pub window : r.memory.window ≡ r.window
   pub horizon : r.versions.horizon ≤ r.position - r.window
 
+-- what it keeps is of these entries, in the order of their delivery
 pub record StandsFor (r : Replica) (entries : List Entry) : Type 0 where
   pub position : r.position ≡ length entries
   pub window : r.memory.window ≡ r.window

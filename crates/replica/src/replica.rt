@@ -1,6 +1,7 @@
 //! A replica.
 
-ghost use Rattle.std.specs.Prelude.{◌≡◌, ℕ, ◌+◌, ◌-◌, ◌≤◌, ◌<◌, ◌^◌, nat_lt, List, [], ◌∷◌, ◌++◌, length, slice_get, Some, true, false, is_err};
+ghost use Rattle.std.specs.Prelude.{◌≡◌, ℕ, ◌+◌, ◌-◌, ◌≤◌, ◌<◌, ◌^◌, nat_lt, List, [], ◌∷◌, ◌++◌, length, slice_get, Some, true};
+ghost use Rattle.std.specs.Prelude.{false, is_err};
 ghost use Rattle.schema.specs.Rows.{AreWrites};
 ghost use Rattle.std.specs.Prelude.{All, IfOk, OnOk, OnErr};
 ghost use Rattle.std.specs.Prelude.{IsSome};
@@ -164,7 +165,8 @@ impl<A: Allocator + Copy> Replica<A> {
             → verdict_of w (calls_of (entries ++ entry.now ∷ [])) self.new.position ≡ Some v) }
         ensures log_rows { OnOk result ((w : Setting) (entries : List Delivered) → w.window ≡ self.old.window
             → StandsFor self.old entries → AreEntriesOf w (entries ++ entry.now ∷ [])
-            → AnswersFrom self.new.versions.tables self.new.position (rows_after w (calls_of (entries ++ entry.now ∷ [])) self.new.position)) }
+            → AnswersFrom self.new.versions.tables self.new.position
+            (rows_after w (calls_of (entries ++ entry.now ∷ [])) self.new.position)) }
         ensures still { OnErr result ((entries : List Delivered) → StandsFor self.old entries → StandsFor self.new entries) }
         ensures next { OnOk result (self.new.position ≡ self.old.position + 1) }
         ensures same_position { OnErr result (self.new.position ≡ self.old.position) }
