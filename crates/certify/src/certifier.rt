@@ -45,10 +45,11 @@ impl<A: Allocator + Copy> Model for Certifier<A> {
 }
 
 impl<A: Allocator + Copy> Certifier<A> {
-    /// One that has had no calls. Of so many of the latest calls those that committed count for a verdict.
+    /// A certifier that has kept no calls. A call is stale where more calls than the window came since its snapshot.
     pub fn new(alloc: A, window: u32) -> Result<Certifier<A>, AllocError>
         ensures stands { IfOk result (λ c. StandsFor c.memory []) }
         ensures window { IfOk result (λ c. c.memory.window ≡ window) }
+        ensures compared { IfOk result (λ c. c.compared ≡ 0) }
     {
         let count = (window as usize).div_ceil(8).max(1);
         let blocks = empty_blocks(alloc, count)?;
@@ -63,7 +64,7 @@ impl<A: Allocator + Copy> Certifier<A> {
         })
     }
 
-    /// The verdict on a call at the next position, whatever the calls are that were kept. Takes no memory.
+    /// The verdict on a call at the next position. Takes no memory.
     pub fn verdict<B: Allocator + Copy>(&mut self, entry: &Entry<B>, position: u32) -> Verdict
         requires next { position ≡ self.old.memory.count + 1 }
         requires snapshot { entry.now.call.snapshot < position }

@@ -45,7 +45,8 @@ fn put_signature<A: Allocator>(
 )
     requires { place / 8 < length blocks.old.items }
     ensures count { length blocks.new.items ≡ length blocks.old.items }
-    ensures put { (bit : ℕ) → has_bit (signature_at (slice_index_or blocks.new.items (place / 8) []) (place % 8)) bit ≡ (committed && has_bit signature.now bit) }
+    ensures put { (bit : ℕ) → has_bit (signature_at (slice_index_or blocks.new.items (place / 8) []) (place % 8)) bit
+        ≡ (committed && has_bit signature.now bit) }
     ensures others { (other : ℕ) → other ≢ place → signature_at (slice_index_or blocks.new.items (other / 8) []) (other % 8)
         ≡ signature_at (slice_index_or blocks.old.items (other / 8) []) (other % 8) }
 {

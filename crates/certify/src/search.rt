@@ -77,7 +77,8 @@ fn search_block<A: Allocator + Copy, B: Allocator>(
     requires one { to ≤ (from / 8) * 8 + 8 }
     requires few { to < 2 ^ 32 }
     ensures found { (meets : ℕ → Bool)
-        → ((before : ℕ) → from ≤ before → before < to → IsTrue (meets before) ↔ Meets (record { blocks = blocks.now; writes = kept.now }) reads.now before)
+        → ((before : ℕ) → from ≤ before → before < to
+            → IsTrue (meets before) ↔ Meets (record { blocks = blocks.now; writes = kept.now }) reads.now before)
         → result ≡ search meets (kept_shares kept.now reads.now) from (to - from) }
     ensures few { result.compared ≤ to - from }
 {
@@ -97,7 +98,8 @@ pub fn search_since<A: Allocator + Copy, B: Allocator>(
     requires order { snapshot ≤ count }
     requires few { count < 2 ^ 32 }
     ensures { (meets : ℕ → Bool)
-        → ((before : ℕ) → snapshot ≤ before → before < count → IsTrue (meets before) ↔ Meets (record { blocks = blocks.now; writes = kept.now }) reads.now before)
+        → ((before : ℕ) → snapshot ≤ before → before < count
+            → IsTrue (meets before) ↔ Meets (record { blocks = blocks.now; writes = kept.now }) reads.now before)
         → result ≡ search meets (kept_shares kept.now reads.now) snapshot (count - snapshot) }
 {
     let signature = Sig::of_reads(reads);

@@ -77,7 +77,11 @@ fn writes_of(alloc: Global, report: &CallReport) -> Result<WriteSet, Fail> {
 }
 
 /// A call as it is shipped, with what its run looked at and wrote.
-pub(super) fn entry_of(alloc: Global, call: &PlainCall, report: &CallReport) -> Result<Entry, Fail> {
+pub(super) fn entry_of(
+    alloc: Global,
+    call: &PlainCall,
+    report: &CallReport,
+) -> Result<Entry, Fail> {
     Ok(Entry {
         call: 0,
         procedure: call.procedure(),

@@ -40,7 +40,11 @@ fn a_position_reads_alike_until_it_is_gone(rt: HostRuntime) -> Result<(), Fail> 
             assert_eq!(rt; checked.replica().begin(), delivered);
             for position in 0..=delivered {
                 let value = value_at(checked.replica(), position);
-                assert_eq!(rt; value, expected(window, delivered, position), "{position} of {delivered}");
+                assert_eq!(rt;
+                    value,
+                    expected(window, delivered, position),
+                    "{position} of {delivered}"
+                );
             }
         }
     }
