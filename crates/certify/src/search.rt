@@ -78,7 +78,7 @@ fn search_block<A: Allocator + Copy, B: Allocator>(
     requires few { to < 2 ^ 32 }
     ensures found { (meets : ℕ → Bool)
         → ((before : ℕ) → from ≤ before → before < to
-            → IsTrue (meets before) ↔ Meets (record { blocks = blocks.now; writes = kept.now }) reads.now before)
+        → IsTrue (meets before) ↔ Meets (record { blocks = blocks.now; writes = kept.now }) reads.now before)
         → result ≡ search meets (kept_shares kept.now reads.now) from (to - from) }
     ensures few { result.compared ≤ to - from }
 {
@@ -99,7 +99,7 @@ pub fn search_since<A: Allocator + Copy, B: Allocator>(
     requires few { count < 2 ^ 32 }
     ensures { (meets : ℕ → Bool)
         → ((before : ℕ) → snapshot ≤ before → before < count
-            → IsTrue (meets before) ↔ Meets (record { blocks = blocks.now; writes = kept.now }) reads.now before)
+        → IsTrue (meets before) ↔ Meets (record { blocks = blocks.now; writes = kept.now }) reads.now before)
         → result ≡ search meets (kept_shares kept.now reads.now) snapshot (count - snapshot) }
 {
     let signature = Sig::of_reads(reads);
