@@ -1,7 +1,8 @@
 -- The listing of a program: a line for each instruction.
-use Rattle.std.specs.Prelude.{ℕ, ◌+◌, ◌-◌, ◌*◌, List, [], ◌∷◌, ◌++◌, length, replicate, codes, Option, Some, None}
+use Rattle.std.specs.Prelude.{ℕ, ◌+◌, ◌*◌, List, [], ◌∷◌, ◌++◌, codes, Option, Some, None}
 use Rattle.std.specs.Fmt.{decimal, signed_decimal}
 use Rattle.hex.specs.Hex.{encode_lower}
+use Rattle.byte_output.specs.Column.{right_in}
 use Rattle.bpf_words.specs.declared.operation.BinaryOperation.{BinaryOperation}
 use Rattle.bpf_words.specs.declared.operation.BinaryOperation.TheVariants as operation
 use Rattle.bpf_words.specs.declared.operation.ByteOrder.TheVariants.{Little, Big, Swap}
@@ -81,10 +82,6 @@ bits_text (Some bits) = decimal bits
 
 abbrev pub name_text : List ℕ × Option ℕ → List ℕ
 name_text parts = parts.0 ++ bits_text parts.1
-
--- a text at the right of so many places
-abbrev pub right_in : ℕ → List ℕ → List ℕ
-right_in places text = replicate (places - length text) 32 ++ text
 
 -- the bytes of the slots in hex
 abbrev pub slot_hex : Option Fields → List ℕ

@@ -1,14 +1,14 @@
-ghost use Rattle.std.specs.Prelude.{◌≡◌, ◌<◌, ◌≤◌, ◌+◌, ◌-◌, ◌++◌, length, codes, Some};
+ghost use Rattle.std.specs.Prelude.{◌≡◌, ◌<◌, ◌≤◌, ◌+◌, ◌++◌, length, codes, Some};
 ghost use Rattle.std.specs.Fmt.{decimal};
 ghost use Rattle.hex.specs.Hex.{encode_lower};
 ghost use Rattle.arrayvec.specs.ArrayVec.{array_vec_len};
 ghost use Rattle.byte_output.specs.declared.line.TheConstants.{LINE_BYTES};
-ghost use Rattle.bpf_list.specs.Listing.{right_in, name_parts, name_text, slot_hex, immediate_text, line as line_of};
+ghost use Rattle.bpf_list.specs.Listing.{name_parts, name_text, slot_hex, immediate_text, line as line_of};
 ghost use Rattle.bpf_code.specs.Spelling.{fields_of, second_slot};
 
 use crate::name::name;
 use bpf_code::Instruction;
-use byte_output::line::{Line, push, push_signed, push_unsigned};
+use byte_output::line::{Line, push, push_column, push_signed, push_unsigned};
 use itoa::Buffer;
 
 fn push_hex(line: &mut Line, bytes: &[u8])
@@ -20,24 +20,6 @@ fn push_hex(line: &mut Line, bytes: &[u8])
     let mut digits = [0u8; 16];
     let _ = hex::encode_to_slice(bytes, &mut digits);
     push(line, &digits);
-}
-
-/// A text at the right of four places.
-fn push_right(line: &mut Line, text: &[u8])
-    requires short { length text.now ≤ 4 }
-    requires room { array_vec_len line.old + 4 ≤ LINE_BYTES }
-    ensures items { line.new.items ≡ line.old.items ++ right_in 4 text.now }
-    ensures len { array_vec_len line.new ≡ array_vec_len line.old + 4 }
-{
-    let padding: &[u8] = match text.len() {
-        0 => b"    ",
-        1 => b"   ",
-        2 => b"  ",
-        3 => b" ",
-        _ => b"",
-    };
-    push(line, padding);
-    push(line, text);
 }
 
 fn push_name(line: &mut Line, instruction: Instruction)
@@ -83,7 +65,7 @@ pub fn line(slot: usize, instruction: Instruction) -> Line
 {
     let fields = instruction.fields();
     let mut line = Line::new();
-    push_right(&mut line, Buffer::new().format(slot).as_bytes());
+    push_column(&mut line, 4, slot as u64);
     push(&mut line, b" ");
     push_bytes(&mut line, instruction);
     push_name(&mut line, instruction);

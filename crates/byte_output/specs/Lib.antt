@@ -1,2 +1,3 @@
 pub mod Writes
 pub mod Pending
+pub mod Column

@@ -3,13 +3,17 @@
 ghost use Rattle.std.specs.Prelude.{◌≡◌, ◌≤◌, ◌+◌, ◌++◌, length};
 ghost use Rattle.std.specs.Fmt.{decimal, signed_decimal};
 ghost use Rattle.arrayvec.specs.ArrayVec.{array_vec_len};
-ghost use Rattle.byte_output.specs.declared.line.TheConstants.{LINE_BYTES};
+ghost use Rattle.byte_output.specs.Column.{right_in};
+ghost use Rattle.byte_output.specs.declared.line.TheConstants.{LINE_BYTES, COLUMN_BYTES};
 
 use arrayvec::ArrayVec;
 use itoa::Buffer;
 
 /// The most bytes that a line has.
 pub const LINE_BYTES: usize = 160;
+
+/// The most bytes of a column, and of what stands in it.
+pub const COLUMN_BYTES: usize = 20;
 
 /// A line's bytes so far.
 pub type Line = ArrayVec<u8, LINE_BYTES>;
@@ -43,4 +47,28 @@ pub fn push_signed(line: &mut Line, label: &str, number: i32)
     let mut digits = Buffer::new();
     push(line, label.as_bytes());
     push(line, digits.format(number).as_bytes());
+}
+
+/// Appends a text at the right of so many places. One that is longer stands as it is.
+pub fn push_right(line: &mut Line, places: usize, text: &[u8])
+    requires narrow { places ≤ COLUMN_BYTES }
+    requires short { length text.now ≤ COLUMN_BYTES }
+    requires room { array_vec_len line.old + COLUMN_BYTES ≤ LINE_BYTES }
+    ensures items { line.new.items ≡ line.old.items ++ right_in places text.now }
+    ensures len { array_vec_len line.new ≤ array_vec_len line.old + COLUMN_BYTES }
+{
+    let spaces = [b' '; COLUMN_BYTES];
+    push(line, &spaces[..places.saturating_sub(text.len())]);
+    push(line, text);
+}
+
+/// Appends a number in decimal at the right of so many places.
+pub fn push_column(line: &mut Line, places: usize, number: u64)
+    requires narrow { places ≤ COLUMN_BYTES }
+    requires room { array_vec_len line.old + COLUMN_BYTES ≤ LINE_BYTES }
+    ensures items { line.new.items ≡ line.old.items ++ right_in places (decimal number) }
+    ensures len { array_vec_len line.new ≤ array_vec_len line.old + COLUMN_BYTES }
+{
+    let mut digits = Buffer::new();
+    push_right(line, places, digits.format(number).as_bytes());
 }

@@ -1,10 +1,13 @@
--- Each write in turn.
-use Rattle.std.proofs.Common.{◌≡◌, ◌⊎◌, inl, inr, ℕ, Bool, true, false, cond, List, [], ◌∷◌, refl, sym, ap, subst, ◌∙◌}
-use Rattle.std.specs.Prelude.{Option, Some, None}
+-- Each write, and each entry, in turn.
+use Rattle.std.proofs.Common.{◌≡◌, ◌⊎◌, inl, inr, ℕ, suc, ◌+◌, ◌≤◌, ◌<◌, true, false, cond, List, [], ◌∷◌, length, drop, refl, sym, ap, subst, ◌∙◌, arith}
+use Rattle.std.specs.Prelude.{Option, Some, None, Result, Ok, Err, OnOk, OnErr, slice_index_or}
+use Rattle.std.proofs.lemmas.List.{drop_more}
 use Rattle.std.specs.FinMap.{find}
 use Rattle.schema.specs.Schema.{Tables}
 use Rattle.schema.specs.Rows.{Key, key_cmp, IsWrite}
 use Rattle.schema.proofs.RowsLemmas.{is_key, one_key}
+use Rattle.dsm_model.specs.Log.{IsLogFrom}
+use Rattle.dsm_model.specs.Entries.{Entry, calls_of}
 
 abbrev pub Write : Type 0
 Write = Key × Option (List ℕ)
@@ -21,3 +24,19 @@ fits_or_later tables x rest k write fits h =
 
 pub none_later : (rest : List Write) (k : Key) (write : Option (List ℕ)) → rest ≡ [] → find key_cmp k rest ≡ Some write → ⊥
 none_later rest k write is h = let bad : None ≡ Some write = ap (λ (l : List Write). find key_cmp k l) (sym is) ∙ h in cc
+
+-- ---- entries from one on
+
+pub log_more : (entries : List Entry) (i : ℕ) (e : Entry) → i < length entries → e ≡ slice_index_or entries i e → e.call.snapshot ≤ i
+    → IsLogFrom (i + 1) (calls_of (drop (i + 1) entries)) → IsLogFrom i (calls_of (drop i entries))
+log_more entries i e lt is below later =
+    let next : i + 1 ≡ suc i = omega arith in
+    let first = subst (λ (x : Entry). x.call.snapshot ≤ i) is below in
+    subst (λ (l : List Entry). IsLogFrom i (calls_of l)) (sym (drop_more entries i e lt))
+    (first, subst (λ (n : ℕ). IsLogFrom n (calls_of (drop (i + 1) entries))) next later)
+
+-- ---- what a call leaves
+
+pub either_way : {A E : Type 0} (r : Result A E) (P Q R : Type 0) → (P → R) → (Q → R) → OnOk r P → OnErr r Q → R
+either_way (Ok x) P Q R p q ok err = p ok
+either_way (Err e) P Q R p q ok err = q err

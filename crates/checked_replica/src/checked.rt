@@ -2,7 +2,7 @@
 
 ghost use Rattle.std.specs.Prelude.{◌≡◌};
 
-use crate::fit::writes_fit;
+use crate::fit::{entries_fit, writes_fit};
 use catalogue::Catalogue;
 use dsm_model::Verdict;
 use log_entry::Entry;
@@ -54,6 +54,17 @@ impl<'a, A: Allocator + Copy> CheckedReplica<'a, A> {
             return None;
         }
         Some(self.replica.deliver(entry))
+    }
+
+    /// Takes all entries in anew, where they are a log whose writes are of the catalogue's tables.
+    pub fn rebuild<B: Allocator + Copy>(
+        &mut self,
+        entries: &[Entry<B>],
+    ) -> Option<Result<u32, AllocError>> {
+        if entries.len() > u32::MAX as usize || !entries_fit(self.catalogue.schema(), entries) {
+            return None;
+        }
+        Some(self.replica.rebuild(self.catalogue, entries))
     }
 
     /// The replica itself.

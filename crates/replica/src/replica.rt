@@ -130,7 +130,7 @@ impl<A: Allocator + Copy> Replica<A> {
     /// The rows at a position that was reached. They are gone where it is out of the window.
     pub fn at<'a>(&'a self, position: u32) -> At<'a, A>
         requires { position ≤ self.now.position }
-        ensures answers { (entries : List Delivered) → StandsFor self.now entries → self.now.position - position ≤ self.now.window
+        ensures answers { (entries : List Delivered) → StandsFor self.now entries
             → ⟦<At<'a, A> as Store>⟧.answers_from result (rows_kept self.now.window entries position) }
         ensures gone { ⟦<At<'a, A> as Store>⟧.is_gone result ≡ nat_lt self.now.window (self.now.position - position) }
     {

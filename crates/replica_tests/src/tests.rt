@@ -11,6 +11,7 @@ use std::test::Fail;
 
 mod drawn;
 mod pages;
+mod refused;
 mod replayed;
 mod stores;
 

@@ -1,4 +1,4 @@
-use Rattle.std.proofs.Common.{◌≡◌, ◌∙◌, ℕ, List, ◌∷◌, inl, inr, refl, sym, ap, subst}
+use Rattle.std.proofs.Common.{◌∙◌, List, inl, inr, sym, ap}
 use Rattle.std.specs.FinMap.{find, get-entries}
 use Rattle.schema.specs.Rows.{key_cmp}
 use Rattle.checked_replica.proofs.FitLemmas.{Write, fits_or_later, none_later}

@@ -1,0 +1,6 @@
+pub mod Numbered
+pub mod StepLemmas
+pub mod EntryLemmas
+pub mod ReplicaLemmas
+pub mod CallLemmas
+pub mod RunLemmas

@@ -1,0 +1,223 @@
+-- When a step of the definitions answers what, and what it leaves.
+use Rattle.std.proofs.Common.{◌≡◌, ◌≢◌, inl, inr, ℕ, ◌+◌, ◌-◌, ◌≤◌, ◌<◌, Bool, true, false, not, cond, List, length, nat_eq, nat_le, nat_lt, Option, Some, None, refl, sym, ap, ◌∙◌, arith}
+use Rattle.std.proofs.lemmas.Bool.Decides.{nat_tests}
+use Rattle.std.specs.FinMap.{len}
+use Rattle.bpf_vm.specs.declared.turn.Turn.{Turn as TurnAnswer}
+use Rattle.bpf_vm.specs.declared.turn.Turn.TheVariants as answer
+use Rattle.dsm_model.specs.declared.verdict.Verdict.{Verdict}
+use Rattle.dsm_model.specs.declared.outcome.StepRefusal.TheVariants.{NoReplica, NoProcedure, ArgumentsLength, NoCall, NotAtExit, NothingToDeliver, ReplicaStopped, LogFull, OutOfMemory, TooManyCalls}
+use Rattle.dsm_model.specs.declared.outcome.Outcome.{Outcome}
+use Rattle.dsm_model.specs.declared.outcome.Outcome.TheVariants.{Begun, More, Exit, Ordered, Read, Cancelled, Delivered, Rebuilt, Refused}
+use Rattle.dsm_model.specs.Log.{StoredProcedure, Setting, by_number, run_in, verdict_of}
+use Rattle.dsm_model.specs.World.{World, Replica, OpenCall, Begin, Turn, Order, Deliver, Rebuild, max_calls, numbered, position_of, open_call, without_call, with_open_call, with_replica, with_begun, new_call, after_begin, moment_at, is_stale, after_turn_by_run, after_turn, with_ordered, after_order_by_run, after_order, after_deliver_next, after_deliver, after_rebuild, after_step, at_row_helper, after_turn_without_memory, after_refused_memory, after_step_without_memory, with_stopped, IsStep}
+use Rattle.world_calls.specs.OpenCall.{IsTurn, stays_open}
+use Rattle.dsm_world.specs.Turned.{outcome_of}
+
+abbrev just : {X : Type 0} → X → Option X
+just x = Some x
+
+abbrev Done : Type 0
+Done = Outcome × World
+
+yes : {X : Type 0} (b : Bool) (x y : X) → b ≡ true → cond b x y ≡ x
+yes true x y e = refl
+yes false x y e = absurd cc
+
+no : {X : Type 0} (b : Bool) (x y : X) → b ≡ false → cond b x y ≡ y
+no false x y e = refl
+no true x y e = absurd cc
+
+is_le : (m n : ℕ) → m ≤ n → nat_le m n ≡ true
+is_le m n le = grind (arith, nat_tests)
+
+not_le : (m n : ℕ) → n < m → nat_le m n ≡ false
+not_le m n lt = grind (arith, nat_tests)
+
+is_lt : (m n : ℕ) → m < n → nat_lt m n ≡ true
+is_lt m n lt = grind (arith, nat_tests)
+
+not_lt : (m n : ℕ) → n ≤ m → nat_lt m n ≡ false
+not_lt m n le = grind (arith, nat_tests)
+
+same_number : (m n : ℕ) → m ≡ n → not (nat_eq m n) ≡ false
+same_number m n e = grind (arith, nat_tests)
+
+other_number : (m n : ℕ) → m ≢ n → not (nat_eq m n) ≡ true
+other_number m n e = grind (arith, nat_tests)
+
+no_number : (m n : ℕ) → m ≢ n → nat_eq m n ≡ false
+no_number m n e = grind (arith, nat_tests)
+
+one_number : (m n : ℕ) → m ≡ n → nat_eq m n ≡ true
+one_number m n e = grind (arith, nat_tests)
+
+-- ---- Begin
+
+begins : (w : Setting) (world : World) (r p : ℕ) (args : List ℕ) (o : Option Replica) (q : Option StoredProcedure) → numbered world.replicas r ≡ o → by_number w.catalogue p ≡ q → after_step w world (Begin r p args) ≡ after_begin world r p args o q
+unfolding after_step
+begins w world r p args o q e f = ap (λ x. after_begin world r p args x (by_number w.catalogue p)) e ∙ ap (after_begin world r p args o) f
+
+pub begin_no_replica : (w : Setting) (world : World) (r p : ℕ) (args : List ℕ) → numbered world.replicas r ≡ None → IsStep w world (Begin r p args) (Refused NoReplica) world
+begin_no_replica w world r p args e = inl (begins w world r p args None _ e refl)
+
+pub begin_no_procedure : (w : Setting) (world : World) (r p : ℕ) (args : List ℕ) (k : Replica) → numbered world.replicas r ≡ Some k → by_number w.catalogue p ≡ None → IsStep w world (Begin r p args) (Refused NoProcedure) world
+begin_no_procedure w world r p args k e f = inl (begins w world r p args (just k) None e f)
+
+pub begin_other_length : (w : Setting) (world : World) (r p : ℕ) (args : List ℕ) (k : Replica) (q : StoredProcedure) → numbered world.replicas r ≡ Some k → by_number w.catalogue p ≡ Some q → length args ≢ q.args_len
+    → IsStep w world (Begin r p args) (Refused ArgumentsLength) world
+begin_other_length w world r p args k q e f other = inl (begins w world r p args (just k) (just q) e f ∙ yes (not (nat_eq (length args) q.args_len)) _ _ (other_number (length args) q.args_len other))
+
+begun_or_many : (w : Setting) (world : World) (r p : ℕ) (args : List ℕ) (k : Replica) (q : StoredProcedure) → numbered world.replicas r ≡ just k → by_number w.catalogue p ≡ just q → length args ≡ q.args_len → after_step w world (Begin r p args)
+    ≡ cond (nat_le max_calls (length world.calls)) (Refused TooManyCalls, world) (Begun (length world.calls + 1) k.position, with_begun world r (new_call world p args k.position))
+begun_or_many w world r p args k q e f long = begins w world r p args (just k) (just q) e f ∙ no (not (nat_eq (length args) q.args_len)) _ _ (same_number (length args) q.args_len long)
+
+pub begin_too_many : (w : Setting) (world : World) (r p : ℕ) (args : List ℕ) (k : Replica) (q : StoredProcedure) → numbered world.replicas r ≡ Some k → by_number w.catalogue p ≡ Some q → length args ≡ q.args_len → max_calls ≤ length world.calls
+    → IsStep w world (Begin r p args) (Refused TooManyCalls) world
+begin_too_many w world r p args k q e f long many = inl (begun_or_many w world r p args k q e f long ∙ yes (nat_le max_calls (length world.calls)) _ _ (is_le max_calls (length world.calls) many))
+
+begins_new : (w : Setting) (world : World) (r p : ℕ) (args : List ℕ) (k : Replica) (q : StoredProcedure) → numbered world.replicas r ≡ just k → by_number w.catalogue p ≡ just q → length args ≡ q.args_len → length world.calls < max_calls
+    → after_step w world (Begin r p args) ≡ (Begun (length world.calls + 1) k.position, with_begun world r (new_call world p args k.position))
+begins_new w world r p args k q e f long few = begun_or_many w world r p args k q e f long ∙ no (nat_le max_calls (length world.calls)) _ _ (not_le max_calls (length world.calls) few)
+
+pub begin_new : (w : Setting) (world : World) (r p : ℕ) (args : List ℕ) (k : Replica) (q : StoredProcedure) → numbered world.replicas r ≡ Some k → by_number w.catalogue p ≡ Some q → length args ≡ q.args_len → length world.calls < max_calls
+    → IsStep w world (Begin r p args) (Begun (length world.calls + 1) k.position) (with_begun world r (new_call world p args k.position))
+begin_new w world r p args k q e f long few = inl (begins_new w world r p args k q e f long few)
+
+pub begin_without_memory : (w : Setting) (world : World) (r p : ℕ) (args : List ℕ) (k : Replica) (q : StoredProcedure) → numbered world.replicas r ≡ Some k → by_number w.catalogue p ≡ Some q → length args ≡ q.args_len → length world.calls < max_calls
+    → IsStep w world (Begin r p args) (Refused OutOfMemory) world
+unfolding after_step_without_memory
+begin_without_memory w world r p args k q e f long few = inr (ap (λ (d : Done). after_refused_memory world (Begin r p args) d.0) (begins_new w world r p args k q e f long few))
+
+-- ---- Turn
+
+turns : (w : Setting) (world : World) (c : ℕ) (o : Option OpenCall) → open_call world c ≡ o → after_step w world (Turn c) ≡ after_turn w world c o
+unfolding after_step
+turns w world c o e = ap (after_turn w world c) e
+
+pub turn_no_call : (w : Setting) (world : World) (c : ℕ) → open_call world c ≡ None → IsStep w world (Turn c) (Refused NoCall) world
+turn_no_call w world c e = inl (turns w world c None e)
+
+abbrev pub is_gone : Setting → World → OpenCall → Bool
+is_gone w world o = nat_lt w.window (position_of (numbered world.replicas o.replica) - o.call.snapshot)
+
+abbrev pub world_after : World → ℕ → OpenCall → TurnAnswer → World
+world_after world c n turn = with_open_call world c (cond (stays_open turn) (Some n) None)
+
+turns_fresh : (w : Setting) (world : World) (c : ℕ) (o : OpenCall) → open_call world c ≡ just o → is_stale w world o ≡ false → after_step w world (Turn c) ≡ after_turn_by_run world c o (run_in w world.log o.call)
+turns_fresh w world c o e fresh = turns w world c (just o) e ∙ no (is_stale w world o) _ _ fresh
+
+pub turn_on : (w : Setting) (world : World) (c : ℕ) (o n : OpenCall) (turn : TurnAnswer) → open_call world c ≡ Some o → IsTurn w world.log (is_gone w world o) o turn n → IsStep w world (Turn c) (outcome_of turn) (world_after world c n turn)
+unfolding is_stale after_step_without_memory
+turn_on w world c o n answer.More e h = inl (
+    turns_fresh w world c o e h.0
+    ∙ yes (nat_lt (o.turns + 1) (run_in w world.log o.call).steps) _ _ (is_lt (o.turns + 1) (run_in w world.log o.call).steps h.1)
+    ∙ ap (λ (x : OpenCall). (More, with_open_call world c (just x))) (sym h.2)
+    )
+turn_on w world c o n (answer.Exit reply) e h = inl (
+    turns_fresh w world c o e h.0
+    ∙ no (nat_lt (o.turns + 1) (run_in w world.log o.call).steps) _ _ (not_lt (o.turns + 1) (run_in w world.log o.call).steps h.1)
+    ∙ ap (λ (x : OpenCall). (Exit (run_in w world.log o.call).reply, with_open_call world c (just x))) (sym h.3)
+    ∙ ap (λ (m : ℕ). (Exit m, with_open_call world c (just n))) (sym h.2)
+    )
+turn_on w world c o n answer.Stale e h = inl (turns w world c (just o) e ∙ yes (is_stale w world o) _ _ h)
+turn_on w world c o n answer.NoMemory e h = inr (
+    ap (after_turn_without_memory w world c) e ∙ no (is_stale w world o) _ _ h.0 ∙ yes (at_row_helper (by_number w.catalogue o.call.procedure) (moment_at w world.log o.call o.turns)) _ _ h.1
+    )
+
+-- ---- Order
+
+orders : (w : Setting) (world : World) (c : ℕ) (o : Option OpenCall) → open_call world c ≡ o → after_step w world (Order c) ≡ after_order w world c o
+unfolding after_step
+orders w world c o e = ap (after_order w world c) e
+
+pub order_no_call : (w : Setting) (world : World) (c : ℕ) → open_call world c ≡ None → IsStep w world (Order c) (Refused NoCall) world
+order_no_call w world c e = inl (orders w world c None e)
+
+pub order_early : (w : Setting) (world : World) (c : ℕ) (o : OpenCall) → open_call world c ≡ Some o → o.turns < (run_in w world.log o.call).steps → IsStep w world (Order c) (Refused NotAtExit) world
+order_early w world c o e lt = inl (orders w world c (just o) e ∙ yes (nat_lt o.turns (run_in w world.log o.call).steps) _ _ (is_lt o.turns (run_in w world.log o.call).steps lt))
+
+orders_by_run : (w : Setting) (world : World) (c : ℕ) (o : OpenCall) (code : Option ℕ) → open_call world c ≡ just o → o.turns ≡ (run_in w world.log o.call).steps → (run_in w world.log o.call).cancel_code ≡ code
+    → after_step w world (Order c) ≡ after_order_by_run world c o.call code (run_in w world.log o.call)
+orders_by_run w world c o code e end cancelled =
+    let le : (run_in w world.log o.call).steps ≤ o.turns = omega arith in
+    orders w world c (just o) e ∙ no (nat_lt o.turns (run_in w world.log o.call).steps) _ _ (not_lt o.turns (run_in w world.log o.call).steps le)
+    ∙ ap (λ (x : Option ℕ). after_order_by_run world c o.call x (run_in w world.log o.call)) cancelled
+
+pub order_cancelled : (w : Setting) (world : World) (c : ℕ) (o : OpenCall) (code : ℕ) → open_call world c ≡ Some o → o.turns ≡ (run_in w world.log o.call).steps → (run_in w world.log o.call).cancel_code ≡ Some code
+    → IsStep w world (Order c) (Cancelled o.call.snapshot code) (without_call world c)
+order_cancelled w world c o code e end cancelled = inl (orders_by_run w world c o (just code) e end cancelled)
+
+pub order_read : (w : Setting) (world : World) (c : ℕ) (o : OpenCall) → open_call world c ≡ Some o → o.turns ≡ (run_in w world.log o.call).steps → (run_in w world.log o.call).cancel_code ≡ None → len (run_in w world.log o.call).writes ≡ 0
+    → IsStep w world (Order c) (Read o.call.snapshot (run_in w world.log o.call).reply) (without_call world c)
+order_read w world c o e end kept nothing = inl (orders_by_run w world c o None e end kept ∙ yes (nat_eq (len (run_in w world.log o.call).writes) 0) _ _ (one_number (len (run_in w world.log o.call).writes) 0 nothing))
+
+orders_writes : (w : Setting) (world : World) (c : ℕ) (o : OpenCall) → open_call world c ≡ just o → o.turns ≡ (run_in w world.log o.call).steps → (run_in w world.log o.call).cancel_code ≡ None → len (run_in w world.log o.call).writes ≢ 0
+    → after_step w world (Order c) ≡ cond (nat_le max_calls (length world.log)) (Refused LogFull, without_call world c) (Ordered (length world.log + 1), with_ordered world c o.call)
+orders_writes w world c o e end kept some = orders_by_run w world c o None e end kept ∙ no (nat_eq (len (run_in w world.log o.call).writes) 0) _ _ (no_number (len (run_in w world.log o.call).writes) 0 some)
+
+pub order_full : (w : Setting) (world : World) (c : ℕ) (o : OpenCall) → open_call world c ≡ Some o → o.turns ≡ (run_in w world.log o.call).steps → (run_in w world.log o.call).cancel_code ≡ None → len (run_in w world.log o.call).writes ≢ 0 → max_calls ≤ length world.log
+    → IsStep w world (Order c) (Refused LogFull) (without_call world c)
+order_full w world c o e end kept some full = inl (orders_writes w world c o e end kept some ∙ yes (nat_le max_calls (length world.log)) _ _ (is_le max_calls (length world.log) full))
+
+orders_new : (w : Setting) (world : World) (c : ℕ) (o : OpenCall) → open_call world c ≡ just o → o.turns ≡ (run_in w world.log o.call).steps → (run_in w world.log o.call).cancel_code ≡ None → len (run_in w world.log o.call).writes ≢ 0 → length world.log < max_calls
+    → after_step w world (Order c) ≡ (Ordered (length world.log + 1), with_ordered world c o.call)
+orders_new w world c o e end kept some few = orders_writes w world c o e end kept some ∙ no (nat_le max_calls (length world.log)) _ _ (not_le max_calls (length world.log) few)
+
+pub order_new : (w : Setting) (world : World) (c : ℕ) (o : OpenCall) → open_call world c ≡ Some o → o.turns ≡ (run_in w world.log o.call).steps → (run_in w world.log o.call).cancel_code ≡ None → len (run_in w world.log o.call).writes ≢ 0 → length world.log < max_calls
+    → IsStep w world (Order c) (Ordered (length world.log + 1)) (with_ordered world c o.call)
+order_new w world c o e end kept some few = inl (orders_new w world c o e end kept some few)
+
+pub order_without_memory : (w : Setting) (world : World) (c : ℕ) (o : OpenCall) → open_call world c ≡ Some o → o.turns ≡ (run_in w world.log o.call).steps → (run_in w world.log o.call).cancel_code ≡ None → len (run_in w world.log o.call).writes ≢ 0 → length world.log < max_calls
+    → IsStep w world (Order c) (Refused OutOfMemory) (without_call world c)
+unfolding after_step_without_memory
+order_without_memory w world c o e end kept some few = inr (ap (λ (d : Done). after_refused_memory world (Order c) d.0) (orders_new w world c o e end kept some few))
+
+-- ---- Deliver
+
+delivers : (w : Setting) (world : World) (r : ℕ) (k : Option Replica) → numbered world.replicas r ≡ k → after_step w world (Deliver r) ≡ after_deliver w world r k
+unfolding after_step
+delivers w world r k e = ap (after_deliver w world r) e
+
+pub deliver_no_replica : (w : Setting) (world : World) (r : ℕ) → numbered world.replicas r ≡ None → IsStep w world (Deliver r) (Refused NoReplica) world
+deliver_no_replica w world r e = inl (delivers w world r None e)
+
+delivers_next : (w : Setting) (world : World) (r : ℕ) (k : Replica) (v : Option Verdict) → numbered world.replicas r ≡ just k → verdict_of w world.log (k.position + 1) ≡ v → after_step w world (Deliver r) ≡ after_deliver_next world r k v
+delivers_next w world r k v e f = delivers w world r (just k) e ∙ ap (after_deliver_next world r k) f
+
+pub deliver_nothing : (w : Setting) (world : World) (r : ℕ) (k : Replica) → numbered world.replicas r ≡ Some k → verdict_of w world.log (k.position + 1) ≡ None → IsStep w world (Deliver r) (Refused NothingToDeliver) world
+deliver_nothing w world r k e f = inl (delivers_next w world r k None e f)
+
+pub deliver_stopped : (w : Setting) (world : World) (r : ℕ) (k : Replica) (v : Verdict) → numbered world.replicas r ≡ Some k → verdict_of w world.log (k.position + 1) ≡ Some v → k.running ≡ false → IsStep w world (Deliver r) (Refused ReplicaStopped) world
+deliver_stopped w world r k v e f stopped = inl (delivers_next w world r k (just v) e f ∙ no k.running _ _ stopped)
+
+delivers_new : (w : Setting) (world : World) (r : ℕ) (k : Replica) (v : Verdict) → numbered world.replicas r ≡ just k → verdict_of w world.log (k.position + 1) ≡ just v → k.running ≡ true
+    → after_step w world (Deliver r) ≡ (Delivered (k.position + 1) v, with_replica world r (record k { position = k.position + 1 }))
+delivers_new w world r k v e f running = delivers_next w world r k (just v) e f ∙ yes k.running _ _ running
+
+pub deliver_new : (w : Setting) (world : World) (r : ℕ) (k : Replica) (v : Verdict) → numbered world.replicas r ≡ Some k → verdict_of w world.log (k.position + 1) ≡ Some v → k.running ≡ true
+    → IsStep w world (Deliver r) (Delivered (k.position + 1) v) (with_replica world r (record k { position = k.position + 1 }))
+deliver_new w world r k v e f running = inl (delivers_new w world r k v e f running)
+
+pub deliver_without_memory : (w : Setting) (world : World) (r : ℕ) (k : Replica) (v : Verdict) → numbered world.replicas r ≡ Some k → verdict_of w world.log (k.position + 1) ≡ Some v → k.running ≡ true
+    → IsStep w world (Deliver r) (Refused OutOfMemory) (with_replica world r (record k { running = false }))
+unfolding after_step_without_memory
+deliver_without_memory w world r k v e f running = inr (
+    ap (λ (d : Done). after_refused_memory world (Deliver r) d.0) (delivers_new w world r k v e f running)
+    ∙ ap (λ (x : Option Replica). just (Refused OutOfMemory, with_stopped world r x)) e
+    )
+
+-- ---- Rebuild
+
+rebuilds : (w : Setting) (world : World) (r : ℕ) (k : Option Replica) → numbered world.replicas r ≡ k → after_step w world (Rebuild r) ≡ after_rebuild world r k
+unfolding after_step
+rebuilds w world r k e = ap (after_rebuild world r) e
+
+pub rebuild_no_replica : (w : Setting) (world : World) (r : ℕ) → numbered world.replicas r ≡ None → IsStep w world (Rebuild r) (Refused NoReplica) world
+rebuild_no_replica w world r e = inl (rebuilds w world r None e)
+
+pub rebuild_new : (w : Setting) (world : World) (r : ℕ) (k : Replica) → numbered world.replicas r ≡ Some k → IsStep w world (Rebuild r) (Rebuilt (length world.log)) (with_replica world r (record { position = length world.log; running = true }))
+rebuild_new w world r k e = inl (rebuilds w world r (just k) e)
+
+pub rebuild_without_memory : (w : Setting) (world : World) (r : ℕ) (k : Replica) → numbered world.replicas r ≡ Some k → IsStep w world (Rebuild r) (Refused OutOfMemory) world
+unfolding after_step_without_memory
+rebuild_without_memory w world r k e = inr (ap (λ (d : Done). after_refused_memory world (Rebuild r) d.0) (rebuilds w world r (just k) e))

@@ -1,0 +1,165 @@
+use Rattle.std.proofs.Common.{◌+◌, ◌≤◌, List, length, refl, sym, ap, subst, ◌∙◌, arith}
+use Rattle.dsm_model.specs.declared.outcome.Outcome.TheVariants.{Delivered}
+use Rattle.dsm_model.specs.Entries.{Entry}
+use Rattle.dsm_model.specs.World.{Deliver, IsStep}
+use Rattle.replica.specs.Replica.{Replica}
+use Rattle.dsm_world.specs.System.{setting_of, world_of}
+use Rattle.dsm_world.specs.Holdings.{system_of, slots_of, HasDelivered, HasStopped}
+use Rattle.dsm_world.proofs.StepLemmas.{deliver_no_replica}
+use Rattle.dsm_world.proofs.ReplicaLemmas.{with_one, one_changed, none_to_deliver, stopped_before, delivered, delivered_replica, stops, stopped_replica, next_entry_fits, get_is, no_replica, entry_at, same_item, no_further}
+use Rattle.dsm_world.proofs.deliver.deliver.Goals as goal
+
+pub returns-in_default-clause-step : goal.returns-in_default-clause-step
+returns-in_default-clause-step g c =
+    let s = system_of c.args.world.now in
+    deliver_no_replica (setting_of s) (world_of s) c.args.replica (no_replica s c.args.replica c.len.result (let e = c.len.ensures in omega arith) (c.in_default.ensures.none refl))
+
+pub returns-in_default-get-clause-step : goal.returns-in_default-get-clause-step
+returns-in_default-get-clause-step g c =
+    let s = system_of c.args.world.now in
+    let old = c.index.result.now in
+    let place = c.in-Some.ensures.there in
+    let count = c.len.ensures in
+    let lt = place.1 in
+    let position = c.position-position.ensures in
+    let entries = c.deref.ensures.value in
+    let far = no_further c.position-position.result (length c.deref.result.now) c.in_default-get.ensures.lookup.0 in
+    none_to_deliver s c.args.replica c.in-Some.at old c.each_call_has_a_verdict.ensures.beyond place.0 (get_is s.replicas c.in-Some.at old (omega arith) c.index.ensures) (subst (λ (xs : List Entry). length xs ≤ old.position) entries (omega arith))
+
+pub returns-then-stopped-clause-step : goal.returns-then-stopped-clause-step
+returns-then-stopped-clause-step g c =
+    let s = system_of c.args.world.now in
+    let old = c.index.result.now in
+    let place = c.in-Some.ensures.there in
+    let count = c.len.ensures in
+    let lt = place.1 in
+    let lookup = c.in-Some-get.ensures.lookup in
+    let at = get_is s.replicas c.in-Some.at old (omega arith) c.index.ensures in
+    let at_2 = get_is s.replicas c.in-Some.at c.index-2.result.now (omega arith) c.index-2.ensures in
+    stopped_before s (slots_of c.args.world.now) c.args.replica c.in-Some.at old c.in-Some-get.entry.now c.each_call_has_a_verdict.ensures.within c.requires place.0 at
+    (entry_at s.entries c.deref.result.now c.position-position.result old.position c.in-Some-get.entry.now c.deref.ensures.value c.position-position.ensures lookup.3.0 lookup.1)
+    (ap (λ (r : Replica). r.stopped) (same_item s.replicas c.in-Some.at old c.index-2.result.now at at_2) ∙ sym c.stopped.ensures ∙ c.if-stopped.true)
+
+pub deliver-requires-clause-snapshot : goal.deliver-requires-clause-snapshot
+deliver-requires-clause-snapshot g c =
+    let s = system_of c.args.world.now in
+    let old = c.index_mut.result.now in
+    let place = c.in-Some.ensures.there in
+    let count = c.len.ensures in
+    let lt = place.1 in
+    let lookup = c.in-Some-get.ensures.lookup in
+    let at = get_is s.replicas c.in-Some.at old (omega arith) c.index_mut.ensures.value in
+    let at_1 = get_is s.replicas c.in-Some.at c.index.result.now (omega arith) c.index.ensures in
+    let same = same_item s.replicas c.in-Some.at c.index.result.now old at_1 at in
+    let next = entry_at s.entries c.deref.result.now c.position-position.result old.position c.in-Some-get.entry.now c.deref.ensures.value (c.position-position.ensures ∙ ap (λ (r : Replica). r.position) same) lookup.3.0 lookup.1 in
+    (next_entry_fits s (slots_of c.args.world.now) c.in-Some.at old c.in-Some-get.entry.now c.requires at next).0
+
+pub deliver-requires-clause-fit : goal.deliver-requires-clause-fit
+deliver-requires-clause-fit g c =
+    let s = system_of c.args.world.now in
+    let old = c.index_mut.result.now in
+    let place = c.in-Some.ensures.there in
+    let count = c.len.ensures in
+    let lt = place.1 in
+    let lookup = c.in-Some-get.ensures.lookup in
+    let at = get_is s.replicas c.in-Some.at old (omega arith) c.index_mut.ensures.value in
+    let at_1 = get_is s.replicas c.in-Some.at c.index.result.now (omega arith) c.index.ensures in
+    let same = same_item s.replicas c.in-Some.at c.index.result.now old at_1 at in
+    let next = entry_at s.entries c.deref.result.now c.position-position.result old.position c.in-Some-get.entry.now c.deref.ensures.value (c.position-position.ensures ∙ ap (λ (r : Replica). r.position) same) lookup.3.0 lookup.1 in
+    let facts = next_entry_fits s (slots_of c.args.world.now) c.in-Some.at old c.in-Some-get.entry.now c.requires at next in
+    c.tables_take_the_schemas_writes.ensures.fit s.catalogue.tables old.versions c.in-Some-get.entry.now.writes facts.2 facts.1
+
+pub returns-in-Ok-clause-step : goal.returns-in-Ok-clause-step
+returns-in-Ok-clause-step g c =
+    let s = system_of c.args.world.now in
+    let old = c.index_mut.result.now in
+    let new = c.deliver.new.self in
+    let e = c.in-Some-get.entry.now in
+    let place = c.in-Some.ensures.there in
+    let count = c.len.ensures in
+    let lt = place.1 in
+    let lookup = c.in-Some-get.ensures.lookup in
+    let at = get_is s.replicas c.in-Some.at old (omega arith) c.index_mut.ensures.value in
+    let at_1 = get_is s.replicas c.in-Some.at c.index.result.now (omega arith) c.index.ensures in
+    let at_2 = get_is s.replicas c.in-Some.at c.index-2.result.now (omega arith) c.index-2.ensures in
+    let same = same_item s.replicas c.in-Some.at c.index.result.now old at_1 at in
+    let position = c.position-position.ensures ∙ ap (λ (r : Replica). r.position) same in
+    let next = entry_at s.entries c.deref.result.now c.position-position.result old.position e c.deref.ensures.value position lookup.3.0 lookup.1 in
+    let d : HasDelivered old new e c.in-Ok.verdict = record {
+      stands = c.in-Ok.ensures.stands;
+      verdict = c.in-Ok.ensures.log_verdict;
+      position = c.in-Ok.ensures.next;
+      running = c.in-Ok.ensures.stopped;
+      tables = record { window = c.in-Ok.ensures.window; widths = c.in-Ok.ensures.widths; count = c.in-Ok.ensures.tables };
+    } in
+    subst (λ n. IsStep (setting_of s) (world_of s) (Deliver c.args.replica) (Delivered (n + 1) c.in-Ok.verdict) (world_of (with_one s c.in-Some.at new))) (sym position)
+    (delivered s (slots_of c.args.world.now) c.args.replica c.in-Some.at old new e c.in-Ok.verdict c.a_log_only_grows.ensures.rows c.a_log_only_grows.ensures.verdicts c.requires place.0 at next
+    (ap (λ (r : Replica). r.stopped) (same_item s.replicas c.in-Some.at old c.index-2.result.now at at_2) ∙ sym c.stopped.ensures ∙ c.if-stopped.false) d)
+
+pub returns-in-Ok-clause-consistent : goal.returns-in-Ok-clause-consistent
+returns-in-Ok-clause-consistent g c =
+    let s = system_of c.args.world.now in
+    let old = c.index_mut.result.now in
+    let new = c.deliver.new.self in
+    let e = c.in-Some-get.entry.now in
+    let place = c.in-Some.ensures.there in
+    let count = c.len.ensures in
+    let lt = place.1 in
+    let lookup = c.in-Some-get.ensures.lookup in
+    let at = get_is s.replicas c.in-Some.at old (omega arith) c.index_mut.ensures.value in
+    let at_1 = get_is s.replicas c.in-Some.at c.index.result.now (omega arith) c.index.ensures in
+    let same = same_item s.replicas c.in-Some.at c.index.result.now old at_1 at in
+    let next = entry_at s.entries c.deref.result.now c.position-position.result old.position e c.deref.ensures.value (c.position-position.ensures ∙ ap (λ (r : Replica). r.position) same) lookup.3.0 lookup.1 in
+    let d : HasDelivered old new e c.in-Ok.verdict = record {
+      stands = c.in-Ok.ensures.stands;
+      verdict = c.in-Ok.ensures.log_verdict;
+      position = c.in-Ok.ensures.next;
+      running = c.in-Ok.ensures.stopped;
+      tables = record { window = c.in-Ok.ensures.window; widths = c.in-Ok.ensures.widths; count = c.in-Ok.ensures.tables };
+    } in
+    one_changed s (slots_of c.args.world.now) c.in-Some.at new c.requires
+    (delivered_replica s (slots_of c.args.world.now) c.in-Some.at old new e c.in-Ok.verdict c.tables_take_the_schemas_writes.ensures.kept c.requires at next d)
+    (c.steps_keep_a_world.ensures.step (setting_of s) (world_of s) (Deliver c.args.replica) _ (world_of (with_one s c.in-Some.at new)) tt (returns-in-Ok-clause-step g c) c.requires.world)
+
+pub returns-in-Err-clause-step : goal.returns-in-Err-clause-step
+returns-in-Err-clause-step g c =
+    let s = system_of c.args.world.now in
+    let old = c.index_mut.result.now in
+    let new = c.deliver.new.self in
+    let e = c.in-Some-get.entry.now in
+    let place = c.in-Some.ensures.there in
+    let count = c.len.ensures in
+    let lt = place.1 in
+    let lookup = c.in-Some-get.ensures.lookup in
+    let at = get_is s.replicas c.in-Some.at old (omega arith) c.index_mut.ensures.value in
+    let at_1 = get_is s.replicas c.in-Some.at c.index.result.now (omega arith) c.index.ensures in
+    let at_2 = get_is s.replicas c.in-Some.at c.index-2.result.now (omega arith) c.index-2.ensures in
+    let same = same_item s.replicas c.in-Some.at c.index.result.now old at_1 at in
+    let next = entry_at s.entries c.deref.result.now c.position-position.result old.position e c.deref.ensures.value (c.position-position.ensures ∙ ap (λ (r : Replica). r.position) same) lookup.3.0 lookup.1 in
+    let d : HasStopped old new = record {
+      stands = c.in-Err.ensures.still;
+      position = c.in-Err.ensures.same_position;
+      stopped = c.in-Err.ensures.stopped;
+      tables = record { window = c.in-Err.ensures.window; widths = c.in-Err.ensures.widths; count = c.in-Err.ensures.tables };
+    } in
+    stops s (slots_of c.args.world.now) c.args.replica c.in-Some.at old new e c.each_call_has_a_verdict.ensures.within c.requires place.0 at next
+    (ap (λ (r : Replica). r.stopped) (same_item s.replicas c.in-Some.at old c.index-2.result.now at at_2) ∙ sym c.stopped.ensures ∙ c.if-stopped.false) d
+
+pub returns-in-Err-clause-consistent : goal.returns-in-Err-clause-consistent
+returns-in-Err-clause-consistent g c =
+    let s = system_of c.args.world.now in
+    let old = c.index_mut.result.now in
+    let new = c.deliver.new.self in
+    let place = c.in-Some.ensures.there in
+    let count = c.len.ensures in
+    let lt = place.1 in
+    let at = get_is s.replicas c.in-Some.at old (omega arith) c.index_mut.ensures.value in
+    let d : HasStopped old new = record {
+      stands = c.in-Err.ensures.still;
+      position = c.in-Err.ensures.same_position;
+      stopped = c.in-Err.ensures.stopped;
+      tables = record { window = c.in-Err.ensures.window; widths = c.in-Err.ensures.widths; count = c.in-Err.ensures.tables };
+    } in
+    one_changed s (slots_of c.args.world.now) c.in-Some.at new c.requires
+    (stopped_replica s (slots_of c.args.world.now) c.in-Some.at old new c.tables_take_the_schemas_writes.ensures.kept c.requires at d)
+    (c.steps_keep_a_world.ensures.step (setting_of s) (world_of s) (Deliver c.args.replica) _ (world_of (with_one s c.in-Some.at new)) tt (returns-in-Err-clause-step g c) c.requires.world)

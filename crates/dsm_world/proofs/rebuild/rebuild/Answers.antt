@@ -1,0 +1,62 @@
+use Rattle.std.proofs.Common.{List, All, length, slice_set, refl, sym, ap, subst, ◌∙◌, arith}
+use Rattle.std.proofs.lemmas.List.Elements.{All-from_recursion}
+use Rattle.schema.specs.Rows.{AreWrites}
+use Rattle.dsm_model.specs.declared.outcome.StepRefusal.TheVariants.{OutOfMemory}
+use Rattle.dsm_model.specs.declared.outcome.Outcome.TheVariants.{Rebuilt, Refused}
+use Rattle.dsm_model.specs.Entries.{Entry}
+use Rattle.dsm_model.specs.World.{Rebuild, IsStep}
+use Rattle.replica.specs.Replica.{Replica, StandsFor}
+use Rattle.dsm_world.specs.System.{setting_of, progress_of, world_of}
+use Rattle.dsm_world.specs.Holdings.{system_of, slots_of}
+use Rattle.dsm_world.proofs.Numbered.{set_same}
+use Rattle.dsm_world.proofs.StepLemmas.{rebuild_no_replica, rebuild_without_memory}
+use Rattle.dsm_world.proofs.ReplicaLemmas.{with_one, one_changed, rebuilt, rebuilt_replica, replica_at, get_is, no_replica}
+use Rattle.dsm_world.proofs.rebuild.rebuild.Goals as goal
+
+pub returns-in_default-clause-step : goal.returns-in_default-clause-step
+returns-in_default-clause-step g c =
+    let s = system_of c.args.world.now in
+    rebuild_no_replica (setting_of s) (world_of s) c.args.replica (no_replica s c.args.replica c.len.result (let e = c.len.ensures in omega arith) (c.in_default.ensures.none refl))
+
+pub rebuild-requires-clause-fit : goal.rebuild-requires-clause-fit
+rebuild-requires-clause-fit g c =
+    let s = system_of c.args.world.now in
+    subst (λ (xs : List Entry). All (λ e. AreWrites s.catalogue.tables e.writes) xs) (sym c.deref.ensures.value) (All-from_recursion (λ e. AreWrites s.catalogue.tables e.writes) s.entries c.requires.writes)
+
+pub returns-in-Ok-clause-step : goal.returns-in-Ok-clause-step
+returns-in-Ok-clause-step g c =
+    let s = system_of c.args.world.now in
+    let old = c.index_mut.result.now in
+    let new = c.rebuild.new.self in
+    let place = c.in-Some.ensures.there in
+    let count = c.len.ensures in
+    let lt = place.1 in
+    let at = get_is s.replicas c.in-Some.at old (omega arith) c.index_mut.ensures.value in
+    let position = c.in-Ok.ensures.position ∙ ap (λ (xs : List Entry). length xs) c.deref.ensures.value in
+    subst (λ n. IsStep (setting_of s) (world_of s) (Rebuild c.args.replica) (Rebuilt n) (world_of (with_one s c.in-Some.at new))) (sym position)
+    (rebuilt s c.args.replica c.in-Some.at old new place.0 at (subst (λ (xs : List Entry). StandsFor new xs) c.deref.ensures.value c.in-Ok.ensures.stands) c.in-Ok.ensures.running)
+
+pub returns-in-Ok-clause-consistent : goal.returns-in-Ok-clause-consistent
+returns-in-Ok-clause-consistent g c =
+    let s = system_of c.args.world.now in
+    let old = c.index_mut.result.now in
+    let new = c.rebuild.new.self in
+    let place = c.in-Some.ensures.there in
+    let count = c.len.ensures in
+    let lt = place.1 in
+    let at = get_is s.replicas c.in-Some.at old (omega arith) c.index_mut.ensures.value in
+    one_changed s (slots_of c.args.world.now) c.in-Some.at new c.requires
+    (rebuilt_replica s (slots_of c.args.world.now) c.in-Some.at old new c.requires at (subst (λ (xs : List Entry). StandsFor new xs) c.deref.ensures.value c.in-Ok.ensures.stands) c.in-Ok.ensures.window c.in-Ok.ensures.tables)
+    (c.steps_keep_a_world.ensures.step (setting_of s) (world_of s) (Rebuild c.args.replica) _ (world_of (with_one s c.in-Some.at new)) tt (returns-in-Ok-clause-step g c) c.requires.world)
+
+pub returns-in-Err-clause-step : goal.returns-in-Err-clause-step
+returns-in-Err-clause-step g c =
+    let s = system_of c.args.world.now in
+    let old = c.index_mut.result.now in
+    let place = c.in-Some.ensures.there in
+    let count = c.len.ensures in
+    let lt = place.1 in
+    let at = get_is s.replicas c.in-Some.at old (omega arith) c.index_mut.ensures.value in
+    let same = ap (λ (r : Replica). slice_set s.replicas c.in-Some.at r) c.in-Err.ensures.unchanged ∙ set_same s.replicas c.in-Some.at old at in
+    subst (λ (rs : List Replica). IsStep (setting_of s) (world_of s) (Rebuild c.args.replica) (Refused OutOfMemory) (world_of (record s { replicas = rs }))) (sym same)
+    (rebuild_without_memory (setting_of s) (world_of s) c.args.replica (progress_of old) (replica_at s c.args.replica c.in-Some.at old place.0 at))

@@ -1,0 +1,19 @@
+use Rattle.std.proofs.Common.{◌≡◌, Some, subst}
+use Rattle.dsm_model.specs.Fit.{HasSafeProcedures}
+use Rattle.dsm_model.specs.Sound.{IsWorld}
+use Rattle.dsm_model.specs.World.{numbered}
+use Rattle.dsm_world.specs.System.{SystemWorld, setting_of, world_of, KeepsDelivered}
+use Rattle.dsm_world.specs.Holdings.{system_of, slots_of}
+use Rattle.dsm_world.proofs.RunLemmas.{keeps_delivered}
+use Rattle.dsm_world.proofs.world.World.known.Goals as goal
+
+pub returns-clause-world : goal.returns-clause-world
+returns-clause-world g c = subst (λ (s : SystemWorld). IsWorld (setting_of s) (world_of s)) c.self.view_is c.self.invariant.world
+
+pub returns-clause-procedures : goal.returns-clause-procedures
+returns-clause-procedures g c = subst (λ (s : SystemWorld). HasSafeProcedures (setting_of s)) c.self.view_is c.self.invariant.entries.procedures
+
+pub returns-clause-replicas : goal.returns-clause-replicas
+returns-clause-replicas g c n r =
+    subst (λ (s : SystemWorld). numbered s.replicas n ≡ Some r → KeepsDelivered s r) c.self.view_is
+    (keeps_delivered (system_of c.self.inside.holdings) (slots_of c.self.inside.holdings) n r c.a_log_only_grows.ensures.rows c.replicas_follow_the_log.ensures.rows c.self.invariant)

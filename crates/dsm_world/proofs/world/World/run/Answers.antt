@@ -1,0 +1,60 @@
+use Rattle.std.proofs.Common.{◌≡◌, ◌<◌, Some, slice_get, List, [], map, refl, sym, subst, ◌∙◌, arith}
+use Rattle.std.proofs.lemmas.List.{take_more}
+use Rattle.std.specs.List.{AllByRecursion}
+use Rattle.dsm_model.specs.declared.outcome.Outcome.{Outcome}
+use Rattle.dsm_model.specs.declared.verdict.Verdict.TheVariants.{Commit}
+use Rattle.dsm_model.specs.declared.outcome.Outcome.TheVariants.{Exit, Ordered}
+use Rattle.dsm_model.specs.Log.{Setting, verdict_of}
+use Rattle.dsm_model.specs.World.{Turn as TurnStep, Order as OrderStep, IsStep, AreSteps}
+use Rattle.dsm_model.specs.Sound.{HasByteArguments, IsSerialReply}
+use Rattle.dsm_world.specs.System.{setting_of, world_of, step_of}
+use Rattle.std.specs.Prelude.{slice_index_or}
+use Rattle.dsm_world.specs.declared.step.Step.{Step}
+use Rattle.dsm_world.specs.declared.step.Step.TheVariants.{Begin}
+use Rattle.dsm_world.proofs.EntryLemmas.{take_all}
+use Rattle.dsm_world.proofs.RunLemmas.{no_steps, one_more_step, one_more_of_bytes}
+use Rattle.dsm_world.proofs.world.World.run.Goals as goal
+
+pub returns-in_err-outcomes-clause-sound : goal.returns-in_err-outcomes-clause-sound
+returns-in_err-outcomes-clause-sound g c n o e =
+    c.open_calls_are_sound.ensures (setting_of c.args.self.now) (world_of c.args.self.now) n o c.known.ensures.procedures c.known.ensures.world e
+
+pub loop-step-init : goal.loop-step-init
+loop-step-init g c = record {
+  done = subst (λ (xs : List Outcome). AreSteps (setting_of c.args.self.now) (world_of c.args.self.now) [] xs (world_of c.args.self.now)) (sym c.in_ok-outcomes.ensures.items) (no_steps (setting_of c.args.self.now) (world_of c.args.self.now));
+  bytes = tt;
+  same = refl;
+  count = (let e = c.in_ok-outcomes.ensures.len in omega arith);
+  room = (let e = c.in_ok-outcomes.ensures.capacity in omega arith);
+}
+
+pub loop-step-preserved : goal.loop-step-preserved
+loop-step-preserved g c =
+    let s = c.args.self.now in
+    let n = c.loop-step.step-index in
+    let item = slice_index_or c.args.steps.now n (Begin 0 0 (record { ref_ptr = (0, 0); now = [] })) in
+    let taken = take_more c.args.steps.now n (Begin 0 0 (record { ref_ptr = (0, 0); now = [] })) c.loop-step-test.true in
+    let stepped = subst (λ (w : Setting). IsStep w (world_of c.loop-step.self) (step_of item) c.step-outcome.result (world_of c.step-outcome.new.self)) c.loop-step.invariant.same c.step-outcome.ensures.step in
+    record {
+      done = one_more_step (setting_of s) (world_of s) c.args.steps.now n item c.loop-step.outcomes.items c.push_within.new.outcomes.items (world_of c.loop-step.self) c.step-outcome.result (world_of c.step-outcome.new.self)
+          taken c.push_within.ensures.items c.loop-step.invariant.done stepped;
+      bytes = one_more_of_bytes c.args.steps.now n item taken c.loop-step.invariant.bytes c.step-outcome.ensures.bytes;
+      same = c.step-outcome.ensures.setting ∙ c.loop-step.invariant.same;
+      count = (let len = c.push_within.ensures.len in let count = c.loop-step.invariant.count in omega arith);
+      room = (let grown = c.push_within.ensures.capacity in let room = c.loop-step.invariant.room in omega arith);
+    }
+
+pub returns-clause-sound : goal.returns-clause-sound
+returns-clause-sound g c n o e =
+    c.open_calls_are_sound.ensures (setting_of c.loop-step.self) (world_of c.loop-step.self) n o c.known-2.ensures.procedures c.known-2.ensures.world e
+
+pub returns-clause-replies : goal.returns-clause-replies
+returns-clause-replies g c n i j position reply =
+    let s = c.args.self.now in
+    let t = c.loop-step.self in
+    let all = take_all c.args.steps.now c.loop-step.step-index c.loop-step-test.false in
+    let done = subst (λ (xs : List Step). AreSteps (setting_of s) (world_of s) (map step_of xs) c.loop-step.outcomes.items (world_of t)) all c.loop-step.invariant.done in
+    let bytes = subst (λ (xs : List Step). AllByRecursion HasByteArguments (map step_of xs)) all c.loop-step.invariant.bytes in
+    subst (λ (w : Setting). slice_get (map step_of c.args.steps.now) i ≡ Some (TurnStep n) → slice_get c.loop-step.outcomes.items i ≡ Some (Exit reply) → slice_get (map step_of c.args.steps.now) j ≡ Some (OrderStep n) → slice_get c.loop-step.outcomes.items j ≡ Some (Ordered position) → i < j
+    → verdict_of w (world_of t).log position ≡ Some Commit → IsSerialReply w (world_of t).log position reply) (sym c.loop-step.invariant.same)
+    (c.replies_are_serial.ensures (setting_of s) (world_of s) (map step_of c.args.steps.now) c.loop-step.outcomes.items (world_of t) n i j position reply c.known.ensures.procedures bytes c.known.ensures.world done)

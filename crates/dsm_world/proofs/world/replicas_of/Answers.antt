@@ -1,0 +1,19 @@
+use Rattle.std.proofs.Common.{◌≡◌, List, [], ◌∷◌, length, ap, ◌∙◌, true, arith}
+use Rattle.std.proofs.lemmas.List.{length-append}
+use Rattle.replica.specs.Replica.{Replica}
+use Rattle.dsm_world.specs.System.{progress_of}
+use Rattle.dsm_world.specs.Holdings.{IsReplicaOf}
+use Rattle.dsm_world.proofs.RunLemmas.{first_replica, first_progress, one_more_replica}
+use Rattle.dsm_world.proofs.world.replicas_of.Goals as goal
+
+pub loop-preserved : goal.loop-preserved
+loop-preserved g c =
+    let new = c.in_ok-new.field-0 in
+    let more = c.in_ok-push.ensures.items in
+    let stands = c.in_ok-new.ensures.stands in
+    record {
+      counted = (let count = ap (λ (xs : List Replica). length xs) more ∙ length-append c.loop.replicas.items (new ∷ []) in let before = c.loop.invariant.counted in omega arith);
+      each = one_more_replica (λ r. IsReplicaOf c.args.catalogue.now.tables c.args.window [] r) c.loop.replicas.items c.push.new.self.items new more
+          (first_replica c.args.catalogue.now.tables c.args.window new stands c.in_ok-new.ensures.window c.in_ok-new.ensures.tables) c.loop.invariant.each;
+      fresh = one_more_replica (λ r. progress_of r ≡ record { position = 0; running = true }) c.loop.replicas.items c.push.new.self.items new more (first_progress new stands c.in_ok-new.ensures.running) c.loop.invariant.fresh;
+    }

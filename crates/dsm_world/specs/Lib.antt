@@ -1,0 +1,4 @@
+pub mod System
+pub mod Turned
+pub mod Holdings
+pub mod Codes

@@ -1,0 +1,57 @@
+//! A call begins.
+
+ghost use Rattle.std.specs.Prelude.{◌≡◌, ◌<◌, All};
+ghost use Rattle.dsm_model.specs.World.{Begin, IsStep};
+ghost use Rattle.dsm_world.specs.System.{setting_of, world_of};
+ghost use Rattle.dsm_world.specs.Holdings.{system_of, IsConsistent};
+
+use crate::calls::enter;
+use crate::holdings::Holdings;
+use crate::numbers::index_of;
+use dsm_model::{Outcome, StepRefusal, rows_fit_the_schema, steps_keep_a_world};
+use std::alloc::Allocator;
+use world_calls::OpenCall;
+
+/// The most calls of a world, and of its log.
+pub(crate) const MAX_CALLS: usize = 1_048_576;
+
+/// Begins a call of a procedure at a replica.
+pub(crate) fn begin<A: Allocator + Copy>(
+    world: &mut Holdings<A>,
+    replica: u32,
+    procedure: u16,
+    args: &[u8],
+) -> Outcome
+    requires { IsConsistent world.old }
+    ensures step { IsStep (setting_of (system_of world.old)) (world_of (system_of world.old)) (Begin replica procedure args.now)
+        result (world_of (system_of world.new)) }
+    ensures setting { setting_of (system_of world.new) ≡ setting_of (system_of world.old) }
+    ensures consistent { IsConsistent world.new }
+    ensures bytes { All (λ b. b < 256) args.now }
+{
+    rows_fit_the_schema();
+    steps_keep_a_world();
+    let Some(at) = index_of(replica, world.replicas.len()) else {
+        return Outcome::Refused(StepRefusal::NoReplica);
+    };
+    let Some(accepted) = world.catalogue.by_number(procedure) else {
+        return Outcome::Refused(StepRefusal::NoProcedure);
+    };
+    if args.len() != usize::from(accepted.args_len()) {
+        return Outcome::Refused(StepRefusal::ArgumentsLength);
+    }
+    if world.calls.len() >= MAX_CALLS {
+        return Outcome::Refused(StepRefusal::TooManyCalls);
+    }
+    let alloc = world.alloc;
+    let call = world.calls.len() as u32 + 1;
+    let snapshot = world.replicas[at].begin();
+    let begun = OpenCall::begin(alloc, replica, call, procedure, accepted, args, snapshot);
+    let Ok(open_call) = begun else {
+        return Outcome::Refused(StepRefusal::OutOfMemory);
+    };
+    match enter(&mut world.calls, alloc, open_call) {
+        Ok(()) => Outcome::Begun { call, snapshot },
+        Err(_) => Outcome::Refused(StepRefusal::OutOfMemory),
+    }
+}

@@ -1,0 +1,20 @@
+//! What a world holds.
+
+use crate::calls::Calls;
+use catalogue::Catalogue;
+use log_entry::Entry;
+use replica::Replica;
+use std::alloc::{Allocator, Global};
+
+/// What a world holds.
+#[derive(Drop)]
+pub(crate) struct Holdings<A: Allocator + Copy = Global> {
+    pub(crate) alloc: A,
+    pub(crate) window: u32,
+    pub(crate) catalogue: Catalogue<A>,
+    /// What was ordered.
+    pub(crate) entries: Vec<Entry<A>, A>,
+    pub(crate) replicas: Vec<Replica<A>, A>,
+    /// The calls that were begun.
+    pub(crate) calls: Calls<A>,
+}

@@ -1,0 +1,17 @@
+//! A world of replicas in one thread: it begins calls, runs them an instruction at a time, orders, delivers and rebuilds,
+//! and is proved to go on as the definitions of the world say.
+#![tactic(auto)]
+
+pub use step::Step;
+pub use world::World;
+
+mod begin;
+mod calls;
+mod deliver;
+mod holdings;
+mod numbers;
+mod order;
+mod rebuild;
+mod step;
+mod turn;
+mod world;

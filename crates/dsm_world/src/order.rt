@@ -1,0 +1,58 @@
+//! A call is ordered.
+
+ghost use Rattle.std.specs.Prelude.{◌≡◌};
+ghost use Rattle.dsm_model.specs.World.{Order, IsStep};
+ghost use Rattle.dsm_world.specs.System.{setting_of, world_of};
+ghost use Rattle.dsm_world.specs.Holdings.{system_of, IsConsistent};
+ghost use Rattle.dsm_world.specs.Turned.{IsAppended};
+
+use crate::begin::MAX_CALLS;
+use crate::calls::{put_call, take_call};
+use crate::holdings::Holdings;
+use dsm_model::{
+    Outcome, StepRefusal, a_log_only_grows, one_more_entry_carries_its_run, steps_keep_a_world,
+};
+use log_entry::Entry;
+use std::alloc::Allocator;
+use world_calls::Completion;
+
+/// Orders a call that is at its end.
+pub(crate) fn order<A: Allocator + Copy>(world: &mut Holdings<A>, call: u32) -> Outcome
+    requires { IsConsistent world.old }
+    ensures step { IsStep (setting_of (system_of world.old)) (world_of (system_of world.old)) (Order call)
+        result (world_of (system_of world.new)) }
+    ensures setting { setting_of (system_of world.new) ≡ setting_of (system_of world.old) }
+    ensures consistent { IsConsistent world.new }
+{
+    a_log_only_grows();
+    one_more_entry_carries_its_run();
+    steps_keep_a_world();
+    let Some((at, open_call)) = take_call(&mut world.calls, call) else {
+        return Outcome::Refused(StepRefusal::NoCall);
+    };
+    let Some(_reply) = open_call.reply() else {
+        put_call(&mut world.calls, at, open_call);
+        return Outcome::Refused(StepRefusal::NotAtExit);
+    };
+    let open_call = Box::into_inner(open_call);
+    let store = world.replicas[open_call.replica as usize - 1].at(open_call.snapshot);
+    match open_call.complete(store) {
+        Completion::Cancelled { snapshot, code } => Outcome::Cancelled { snapshot, code },
+        Completion::Read { snapshot, reply } => Outcome::Read { snapshot, reply },
+        Completion::Wrote(entry) => append(&mut world.entries, entry),
+    }
+}
+
+/// Puts an entry behind the others.
+fn append<A: Allocator + Copy>(entries: &mut Vec<Entry<A>, A>, entry: Entry<A>) -> Outcome
+    ensures { IsAppended entries.old.items entry result entries.new.items }
+{
+    if entries.len() >= MAX_CALLS {
+        return Outcome::Refused(StepRefusal::LogFull);
+    }
+    let position = entries.len() as u32 + 1;
+    match entries.push(entry) {
+        Ok(()) => Outcome::Ordered { position },
+        Err(_) => Outcome::Refused(StepRefusal::OutOfMemory),
+    }
+}

@@ -1,0 +1,235 @@
+//! A world of replicas.
+
+ghost use Rattle.std.specs.Prelude.{◌≡◌, ℕ, ◌+◌, ◌<◌, ◌≤◌, ◌++◌, [], ◌∷◌, length, map};
+ghost use Rattle.std.specs.Prelude.{option_map, slice_get, Some, None, IsSome, true, IfOk, OnErr, vec_len, vec_capacity};
+ghost use Rattle.dsm_model.specs.declared.verdict.Verdict.{Verdict as ModelVerdict};
+ghost use Rattle.dsm_model.specs.declared.verdict.Verdict.TheVariants.{Commit};
+ghost use Rattle.dsm_model.specs.declared.outcome.Outcome.TheVariants.{Exit, Ordered, Delivered};
+ghost use Rattle.dsm_model.specs.Log.{verdict_of};
+ghost use Rattle.dsm_model.specs.Fit.{HasSafeProcedures};
+ghost use Rattle.dsm_model.specs.World.{OpenCall as ModelCall, Turn as TurnStep, Order as OrderStep};
+ghost use Rattle.dsm_model.specs.World.{IsStep, AreSteps, first_world, numbered, open_call};
+ghost use Rattle.dsm_model.specs.Sound.{HasByteArguments, IsSound, IsSerialReply, IsWorld};
+ghost use Rattle.replica.specs.Replica.{Replica as ReplicaState};
+ghost use Rattle.catalogue.specs.Catalogue.{by_name};
+ghost use Rattle.dsm_world.specs.System.{setting_of, world_of, step_of, progress_of, KeepsDelivered};
+ghost use Rattle.dsm_world.specs.Holdings.{system_of, IsConsistent, IsReplicaOf};
+
+use crate::begin::begin;
+use crate::deliver::deliver;
+use crate::holdings::Holdings;
+use crate::order::order;
+use crate::rebuild::rebuild;
+use crate::step::Step;
+use crate::turn::turn;
+use catalogue::{Catalogue, catalogues_are_safe};
+use dsm_model::{
+    Outcome, a_log_only_grows, delivered_verdicts_are_the_logs, open_calls_are_sound,
+    replies_are_serial, steps_keep_a_world,
+};
+use log_entry::Entry;
+use replica::{Replica, replicas_follow_the_log};
+use std::alloc::{AllocError, Allocator, Global};
+use std::marker::Model;
+
+/// A world of replicas of one database, which share one log. Contracts see what it holds, and by that the world of the
+/// definitions.
+#[derive(Drop)]
+pub struct World<A: Allocator + Copy = Global> {
+    holdings: Holdings<A>,
+}
+
+impl<A: Allocator + Copy> Model for World<A> {
+    ghost use Rattle.dsm_world.specs.System.{SystemWorld};
+    ghost use Rattle.dsm_world.specs.Holdings.{system_of, IsConsistent};
+    ghost use Rattle.dsm_world.specs.Codes.{world_code};
+
+    ghost Value = { SystemWorld };
+
+    ghost coded = { world_code };
+
+    ghost view = { λ w. system_of w.holdings };
+
+    ghost invariant = { λ w. IsConsistent w.holdings };
+}
+
+/// One step.
+fn take_step<A: Allocator + Copy>(world: &mut Holdings<A>, step: Step<'_>) -> Outcome
+    requires { IsConsistent world.old }
+    ensures step { IsStep (setting_of (system_of world.old)) (world_of (system_of world.old)) (step_of step.entry) result
+        (world_of (system_of world.new)) }
+    ensures setting { setting_of (system_of world.new) ≡ setting_of (system_of world.old) }
+    ensures consistent { IsConsistent world.new }
+    ensures bytes { HasByteArguments (step_of step.entry) }
+{
+    match step {
+        Step::Begin {
+            replica,
+            procedure,
+            args,
+        } => begin(world, replica, procedure, args),
+        Step::Turn { call } => turn(world, call),
+        Step::Order { call } => order(world, call),
+        Step::Deliver { replica } => deliver(world, replica),
+        Step::Rebuild { replica } => rebuild(world, replica),
+    }
+}
+
+/// So many replicas to which nothing was delivered.
+fn replicas_of<A: Allocator + Copy>(
+    alloc: A,
+    count: u32,
+    window: u32,
+    catalogue: &Catalogue<A>,
+) -> Result<Vec<Replica<A>, A>, AllocError>
+    ensures count { IfOk result (λ v. length v.items ≡ count) }
+    ensures first { IfOk result (λ v. (k : ℕ) (r : ReplicaState) → slice_get v.items k ≡ Some r
+        → IsReplicaOf catalogue.now.tables window [] r) }
+    ensures running { IfOk result (λ v. (k : ℕ) (r : ReplicaState) → slice_get v.items k ≡ Some r
+        → progress_of r ≡ record { position = 0; running = true }) }
+{
+    let mut replicas = Vec::new(alloc);
+    for _ in 0..count {
+        replicas.push(Replica::new(alloc, window, catalogue)?)?;
+    }
+    Ok(replicas)
+}
+
+/// Puts an outcome behind the others, in room that there is.
+fn push_within<A: Allocator>(outcomes: &mut Vec<Outcome, A>, outcome: Outcome)
+    requires { vec_len outcomes.old < vec_capacity outcomes.old }
+    ensures items { outcomes.new.items ≡ outcomes.old.items ++ outcome ∷ [] }
+    ensures len { vec_len outcomes.new ≡ vec_len outcomes.old + 1 }
+    ensures capacity { vec_capacity outcomes.old ≤ vec_capacity outcomes.new }
+{
+    let pushed = outcomes.push(outcome);
+    prove!(pushed.is_ok());
+}
+
+impl<A: Allocator + Copy> World<A> {
+    /// A world of so many replicas that run at position 0, in which nothing was begun or ordered. It has 1 to 8 replicas, and
+    /// each keeps the rows of 1 to 4,096 positions besides the last.
+    pub fn new(
+        alloc: A,
+        replicas: u32,
+        window: u32,
+        catalogue: Catalogue<A>,
+    ) -> Result<World<A>, AllocError>
+        requires replicas { (1 ≤ replicas) × (replicas ≤ 8) }
+        requires window { (1 ≤ window) × (window ≤ 4096) }
+        ensures first { IfOk result (λ w. world_of w ≡ first_world replicas) }
+        ensures setting { IfOk result (λ w. setting_of w ≡ record {
+          tables = catalogue.tables;
+          catalogue = catalogue.procedures;
+          window = window;
+        }) }
+    {
+        catalogues_are_safe(&catalogue);
+        steps_keep_a_world();
+        let replicas = replicas_of(alloc, replicas, window, &catalogue)?;
+        Ok(World {
+            holdings: Holdings {
+                alloc,
+                window,
+                catalogue,
+                entries: Vec::new(alloc),
+                replicas,
+                calls: Vec::new(alloc),
+            },
+        })
+    }
+
+    /// One step: what it answers, as the definitions of the world say.
+    pub fn step(&mut self, step: Step<'_>) -> Outcome
+        ensures step { IsStep (setting_of self.old) (world_of self.old) (step_of step.entry) result (world_of self.new) }
+        ensures setting { setting_of self.new ≡ setting_of self.old }
+        // What their type says of the arguments.
+        ensures bytes { HasByteArguments (step_of step.entry) }
+    {
+        take_step(&mut self.holdings, step)
+    }
+
+    /// Steps, one after another: what each answers. Room for all answers is made first; where there is no memory for it,
+    /// no step is taken.
+    ///
+    /// Whatever the steps are, and whichever of them find no memory: they go on as the definitions of the world say; each
+    /// open call is sound; each ordered call is committed exactly where the written test says so; what a replica keeps are
+    /// the verdicts and rows of the log as far as it has come; and a reply that was answered is that of the call run in its
+    /// turn, where it commits.
+    pub fn run(&mut self, steps: &[Step<'_>]) -> Result<Vec<Outcome, A>, AllocError>
+        ensures steps { IfOk result (λ outcomes. AreSteps (setting_of self.old) (world_of self.old) (map step_of steps.now)
+            outcomes.items (world_of self.new)) }
+        ensures sound { (c : ℕ) (o : ModelCall) → open_call (world_of self.new) c ≡ Some o
+            → IsSound (setting_of self.new) (world_of self.new).log o }
+        ensures verdicts { IfOk result (λ outcomes. (j position : ℕ) (v : ModelVerdict)
+            → slice_get outcomes.items j ≡ Some (Delivered position v)
+            → verdict_of (setting_of self.new) (world_of self.new).log position ≡ Some v) }
+        ensures rows { (r : ℕ) (k : ReplicaState) → numbered self.new.replicas r ≡ Some k → KeepsDelivered self.new k }
+        ensures replies { IfOk result (λ outcomes. (c i j position reply : ℕ)
+            → slice_get (map step_of steps.now) i ≡ Some (TurnStep c) → slice_get outcomes.items i ≡ Some (Exit reply)
+            → slice_get (map step_of steps.now) j ≡ Some (OrderStep c) → slice_get outcomes.items j ≡ Some (Ordered position)
+            → i < j → verdict_of (setting_of self.new) (world_of self.new).log position ≡ Some Commit
+            → IsSerialReply (setting_of self.new) (world_of self.new).log position reply) }
+        ensures setting { setting_of self.new ≡ setting_of self.old }
+        ensures unchanged { OnErr result (self.new ≡ self.old) }
+    {
+        delivered_verdicts_are_the_logs();
+        open_calls_are_sound();
+        replies_are_serial();
+        self.known();
+        let mut outcomes = Vec::with_capacity(self.holdings.alloc, steps.len())?;
+        for step in steps {
+            let outcome = self.step(*step);
+            push_within(&mut outcomes, outcome);
+        }
+        self.known();
+        Ok(outcomes)
+    }
+
+    /// What is known of every world.
+    fn known(&self)
+        ensures world { IsWorld (setting_of self.now) (world_of self.now) }
+        ensures procedures { HasSafeProcedures (setting_of self.now) }
+        ensures replicas { (r : ℕ) (k : ReplicaState) → numbered self.now.replicas r ≡ Some k → KeepsDelivered self.now k }
+    {
+        a_log_only_grows();
+        replicas_follow_the_log();
+        // The parts are looked at, so that it is known how they fit together.
+        let _ = self.holdings.entries.len();
+    }
+
+    /// How many calls were ordered.
+    pub fn log_len(&self) -> u32
+        ensures { result ≡ length self.now.entries }
+    {
+        self.holdings.entries.len() as u32
+    }
+
+    /// The entry at a position, from 1 on.
+    pub fn entry(&self, position: u32) -> Option<&Entry<A>>
+        ensures { option_map (λ e. e.now) result ≡ numbered self.now.entries position }
+    {
+        self.holdings
+            .entries
+            .get((position as usize).checked_sub(1)?)
+    }
+
+    /// A replica, by its number from 1 on.
+    pub fn replica(&self, number: u32) -> Option<&Replica<A>>
+        ensures { option_map (λ r. r.now) result ≡ numbered self.now.replicas number }
+    {
+        self.holdings
+            .replicas
+            .get((number as usize).checked_sub(1)?)
+    }
+
+    /// The number of a procedure, by its name, at a replica.
+    pub fn by_name(&self, replica: u32, name: &[u8]) -> Option<u16>
+        ensures there { IsSome (numbered self.now.replicas replica)
+            → result ≡ option_map (λ p. p.number) (by_name self.now.catalogue.procedures name.now) }
+        ensures no_replica { numbered self.now.replicas replica ≡ None → result ≡ None }
+    {
+        let _ = self.replica(replica)?;
+        self.holdings.catalogue.by_name(name)
+    }
+}

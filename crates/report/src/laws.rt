@@ -1,0 +1,11 @@
+//! What is known of the lines of answers.
+
+ghost use Rattle.std.specs.Prelude.{◌≡◌, ℕ, true, IsSome};
+ghost use Rattle.dsm_model.specs.declared.outcome.Outcome.{Outcome};
+ghost use Rattle.dsm_model.specs.World.{Step, is_answer};
+ghost use Rattle.report.specs.Answers.{answer_line};
+
+/// Whatever a step may answer has a line.
+pub fn each_answer_has_a_line()
+    ensures { (step : Step) (outcome : Outcome) (reply : ℕ) → is_answer step outcome ≡ true → IsSome (answer_line step outcome reply) }
+{}

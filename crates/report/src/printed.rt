@@ -1,0 +1,92 @@
+//! What a line says.
+
+use dsm_model::{StepRefusal, Verdict};
+
+/// A printed line, by its values.
+#[derive(Clone, Copy)]
+pub enum Line<'a> {
+    /// A call began at a replica.
+    Begun {
+        call: u32,
+        replica: u32,
+        snapshot: u32,
+    },
+    /// No call began.
+    BeginRefused(StepRefusal),
+    Call {
+        call: u32,
+        report: CallReport,
+    },
+    Replica {
+        replica: u32,
+        report: ReplicaReport,
+    },
+    Row {
+        table: u8,
+        key: u64,
+        bytes: &'a [u8],
+    },
+    /// An entry of the log that some replica has delivered, and how many exact comparisons its verdict took.
+    Certified {
+        entry: LoggedEntry,
+        compared: u64,
+        verdict: Verdict,
+    },
+    /// An entry of the log that no replica has delivered.
+    Open(LoggedEntry),
+    /// How many entries the log has.
+    Log {
+        entries: u32,
+    },
+    /// The bytes of the entry at a position; none where the log doesn't reach so far.
+    Entry {
+        position: u32,
+        bytes: Option<&'a [u8]>,
+    },
+}
+
+/// What is said of a call.
+#[derive(Clone, Copy)]
+pub enum CallReport {
+    /// It isn't at EXIT yet.
+    More,
+    Exit { reply: u64 },
+    /// It is over: the rows of its snapshot are kept no longer.
+    Stale,
+    /// It is over: a turn found no memory.
+    NoMemory,
+    Ordered { position: u32 },
+    Read { snapshot: u32, reply: u64 },
+    Cancelled { snapshot: u32, code: u64 },
+    Refused(StepRefusal),
+}
+
+/// What is said of a replica.
+#[derive(Clone, Copy)]
+pub enum ReplicaReport {
+    /// It delivered the entry at a position, with the reply of that call.
+    Delivered {
+        position: u32,
+        verdict: Verdict,
+        reply: u64,
+    },
+    Rebuilt {
+        position: u32,
+    },
+    /// Its position, and how many rows it has.
+    Rows {
+        position: u32,
+        rows: usize,
+    },
+    Refused(StepRefusal),
+}
+
+/// What stands of an entry in the log's lines.
+#[derive(Clone, Copy)]
+pub struct LoggedEntry {
+    pub position: u32,
+    pub procedure: u16,
+    pub snapshot: u32,
+    /// How many keys it wrote.
+    pub writes: usize,
+}

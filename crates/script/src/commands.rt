@@ -1,0 +1,53 @@
+//! What a line says.
+
+/// What a line says. Names, programs and arguments are a `B`.
+#[derive(Drop)]
+pub enum Command<B> {
+    /// 1 to 4,096.
+    Window(u32),
+    /// 1 to 8.
+    Replicas(u32),
+    /// The number of a table, and the width of its rows.
+    Table {
+        table: u8,
+        width: u16,
+    },
+    Procedure {
+        name: B,
+        number: u16,
+        /// 0 to 256.
+        args_len: u16,
+        program: B,
+    },
+    Begin {
+        replica: u32,
+        name: B,
+        args: B,
+    },
+    /// At most so many instructions of a call, at least one.
+    Turn {
+        call: u32,
+        most: u32,
+    },
+    Exec {
+        call: u32,
+    },
+    Order {
+        call: u32,
+    },
+    /// At most so many entries to a replica, at least one.
+    Deliver {
+        replica: u32,
+        most: u32,
+    },
+    Rows {
+        replica: u32,
+    },
+    Log,
+    Entry {
+        position: u32,
+    },
+    Rebuild {
+        replica: u32,
+    },
+}

@@ -1,0 +1,44 @@
+//! Why a line says nothing.
+
+ghost use Rattle.std.specs.Prelude.{◌≡◌};
+ghost use Rattle.script.specs.Fault.{number_of_line_fault};
+ghost use Rattle.script.specs.declared.fault.LineFault.TheVariants.{OutOfMemory};
+
+use std::alloc::AllocError;
+
+/// Why a line says nothing, in the order in which a line's faults count.
+#[derive(Clone, Copy, Debug, PartialEq, Eq)]
+pub enum LineFault {
+    /// A byte isn't printable ASCII, or there are more bytes than a line may have.
+    Bytes,
+    /// There is no such word.
+    Word,
+    /// The word asks for more fields, or for fewer.
+    FieldCount,
+    /// A field can't be read, or is outside its limits.
+    Field,
+    OutOfMemory,
+}
+
+impl LineFault {
+    /// The number after the letter L in printed faults: 1 to 4, or 9.
+    pub fn number(self) -> u8
+        ensures { result ≡ number_of_line_fault self }
+    {
+        match self {
+            LineFault::Bytes => 1,
+            LineFault::Word => 2,
+            LineFault::FieldCount => 3,
+            LineFault::Field => 4,
+            LineFault::OutOfMemory => 9,
+        }
+    }
+}
+
+impl From<AllocError> for LineFault {
+    ghost from_gives = { λ _ fault. fault ≡ OutOfMemory };
+
+    fn from(_error: AllocError) -> LineFault {
+        LineFault::OutOfMemory
+    }
+}

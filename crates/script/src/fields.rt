@@ -1,0 +1,42 @@
+//! A line's text and its fields.
+
+ghost use Rattle.std.specs.Prelude.{◌≡◌, false, true, map, IfOk, IfSome, IfNone};
+ghost use Rattle.std.specs.List.{list_all};
+ghost use Rattle.script.specs.Text.{fields_of, is_printable, is_readable};
+
+use crate::input::MAX_LINE;
+use std::alloc::{AllocError, Allocator};
+
+/// A line's text, where it is one: printable, and no longer than a line may be.
+pub(crate) fn readable_text(line: &[u8]) -> Option<&str>
+    ensures text { IfSome result (λ text. text.now ≡ line.now) }
+    ensures readable { IfSome result (λ _. is_readable line.now ≡ true) }
+    ensures unreadable { IfNone result (is_readable line.now ≡ false) }
+{
+    if line.len() > MAX_LINE || !are_printable(line) {
+        return None;
+    }
+    match str::from_utf8(line) {
+        Ok(text) => Some(text),
+        Err(_) => None,
+    }
+}
+
+fn are_printable(line: &[u8]) -> bool
+    ensures { result ≡ list_all is_printable line.now }
+{
+    line.iter().all(|byte| is_printable(*byte))
+}
+
+fn is_printable(byte: u8) -> bool
+    ensures { result ≡ is_printable byte }
+{
+    byte >= 0x20 && byte <= 0x7e
+}
+
+/// What stands between the spaces of a text.
+pub(crate) fn fields<A: Allocator>(alloc: A, text: &str) -> Result<Vec<&str, A>, AllocError>
+    ensures { IfOk result (λ fields. map (λ field. field.now) fields.items ≡ fields_of text.now) }
+{
+    text.split(' ').collect(alloc)
+}

@@ -1,0 +1,20 @@
+//! The lines of a script: reading them from an input, and what each of them says.
+#![tactic(auto)]
+
+pub use commands::Command;
+pub use fault::LineFault;
+pub use input::{MAX_LINE, Next, next_line};
+pub use laws::lines_that_are_too_long_are_at_fault;
+pub use saying::command;
+
+mod commands;
+mod fault;
+mod fields;
+mod hex_field;
+mod input;
+mod laws;
+mod number;
+mod saying;
+#[cfg(test)]
+mod tests;
+mod word;

@@ -1,0 +1,207 @@
+use crate::{Command, LineFault, MAX_LINE, Next, command, next_line};
+use row_values::Bytes;
+use scarce::Scarce;
+use std::alloc::Allocator;
+use std::io;
+use std::io::{BufRead, ErrorKind, Read};
+use std::test::Fail;
+
+/// A line, and the number of its fault; 0 where it says something.
+const LINES: [(&[u8], u8); 54] = [
+    (b"window\t4", 1),
+    (b"# \t", 1),
+    (b"log\r", 1),
+    (b"rows \x7f", 1),
+    (b"jump 1", 2),
+    (b" window 4", 2),
+    (b"Window 4", 2),
+    (b"window4", 2),
+    (b"window", 3),
+    (b"window 4 ", 3),
+    (b"window  4", 3),
+    (b"log 1", 3),
+    (b"log ", 3),
+    (b"proc x 1 0", 3),
+    (b"begin 1 add", 3),
+    (b"window 0", 4),
+    (b"window 4097", 4),
+    (b"window 04", 4),
+    (b"window +4", 4),
+    (b"window -4", 4),
+    (b"window 4x", 4),
+    (b"replicas 0", 4),
+    (b"replicas 9", 4),
+    (b"table 256 8", 4),
+    (b"table 1 65536", 4),
+    (b"table 1 ", 4),
+    (b"proc x 65536 0 -", 4),
+    (b"proc x 1 257 -", 4),
+    (b"begin 1 add 050", 4),
+    (b"begin 1 add 0g", 4),
+    (b"begin 1 add ", 4),
+    (b"begin 4294967296 add -", 4),
+    (b"turn 1 0", 4),
+    (b"deliver 1 0", 4),
+    (b"deliver 1 -1", 4),
+    (b"exec 4294967296", 4),
+    (b"entry 18446744073709551616", 4),
+    (b"window 4096", 0),
+    (b"replicas 8", 0),
+    (b"table 0 8", 0),
+    (b"table 255 65535", 0),
+    (b"proc x 1 0 -", 0),
+    (b"proc a-b 65535 256 b7000000010000009500000000000000", 0),
+    (b"begin 1 add 05000000000000000A00000000000000", 0),
+    (b"begin 0  -", 0),
+    (b"turn 1 4294967295", 0),
+    (b"exec 4294967295", 0),
+    (b"order 0", 0),
+    (b"deliver 1 1", 0),
+    (b"rows 2", 0),
+    (b"log", 0),
+    (b"entry 9", 0),
+    (b"rebuild 2", 0),
+    (b"# window 0", 0),
+];
+
+#[test]
+fn lines_have_their_first_fault(rt: HostRuntime) {
+    for (line, number) in LINES {
+        let fault = match command(rt.alloc(), line) {
+            Ok(_) => 0,
+            Err(fault) => fault.number(),
+        };
+        assert_eq!(rt; fault, number);
+    }
+}
+
+#[test]
+fn the_longest_lines(rt: HostRuntime) -> Result<(), Fail> {
+    for (len, first, number) in [
+        (MAX_LINE, b'#', 0),
+        (MAX_LINE, b'a', 2),
+        (MAX_LINE + 1, b'#', 1),
+    ] {
+        let mut line = vec![in rt.alloc(); b'0'; len]?;
+        line[0] = first;
+        let fault = match command(rt.alloc(), &line) {
+            Ok(_) => 0,
+            Err(fault) => fault.number(),
+        };
+        assert_eq!(rt; fault, number);
+    }
+    assert!(rt; matches!(command(rt.alloc(), b""), Ok(None)));
+    Ok(())
+}
+
+/// The name and the arguments of a line that begins a call.
+fn begun<A: Allocator>(command: &Command<Bytes<A>>) -> Option<(&[u8], &[u8])> {
+    match command {
+        Command::Begin { name, args, .. } => Some((name.as_slice(), args.as_slice())),
+        _ => None,
+    }
+}
+
+#[test]
+fn growths_are_refused_in_turn(rt: HostRuntime) {
+    let scarce = Scarce::new(rt.alloc());
+    let failed = scarce.refuse_each(|| match command(&scarce, b"begin 1 add 05FF") {
+        Ok(said) => {
+            let expected: (&[u8], &[u8]) = (b"add", &[5, 255]);
+            assert_eq!(rt; said.as_ref().and_then(|said| begun(said)), Some(expected));
+            true
+        }
+        Err(fault) => {
+            assert_eq!(rt; fault, LineFault::OutOfMemory);
+            false
+        }
+    });
+    assert!(rt; failed.is_some());
+}
+
+/// Shows so many bytes at a time, interrupts each look once, and fails where it is at its end.
+#[derive(Drop)]
+struct Input<'a> {
+    left: &'a [u8],
+    shown: usize,
+    interrupts: bool,
+    fails: bool,
+}
+
+impl Read for Input<'_> {
+    fn read(&mut self, buf: &mut [u8]) -> io::Result<usize> {
+        self.left.read(buf)
+    }
+}
+
+impl BufRead for Input<'_> {
+    fn fill_buf(&mut self) -> io::Result<&[u8]> {
+        self.interrupts = !self.interrupts;
+        if !self.interrupts {
+            return Err(io::Error::from(ErrorKind::Interrupted));
+        }
+        if self.left.is_empty() && self.fails {
+            return Err(io::Error::from(ErrorKind::Other));
+        }
+        Ok(&self.left[..self.left.len().min(self.shown)])
+    }
+
+    fn consume(&mut self, amount: usize) {
+        self.left = &self.left[amount.min(self.left.len())..];
+    }
+}
+
+#[test]
+fn lines_are_read_one_by_one(rt: HostRuntime) -> Result<(), Fail> {
+    let rows: [(&[u8], &[&[u8]]); 5] = [
+        (b"", &[]),
+        (b"a", &[b"a"]),
+        (b"ab\ncd\n", &[b"ab", b"cd"]),
+        (b"\n\n", &[b"", b""]),
+        (b"log\nrows 1", &[b"log", b"rows 1"]),
+    ];
+    for (bytes, lines) in rows {
+        for shown in [1, 4, 100] {
+            for fails in [false, true] {
+                let mut input = Input {
+                    left: bytes,
+                    shown,
+                    interrupts: false,
+                    fails,
+                };
+                let mut line = Vec::new(rt.alloc());
+                for (index, expected) in lines.iter().enumerate() {
+                    let next = next_line(&mut input, &mut line);
+                    // The last may lack its LF, and then it isn't known to be whole.
+                    if fails && index + 1 == lines.len() && !bytes.ends_with(b"\n") {
+                        assert!(rt; next.is_err());
+                    } else {
+                        assert!(rt; matches!(next, Ok(Next::Line)));
+                        assert_eq!(rt; line.as_slice(), *expected);
+                    }
+                }
+                let end = next_line(&mut input, &mut line);
+                assert_eq!(rt; end.is_err(), fails);
+                assert_eq!(rt; matches!(end, Ok(Next::AtEnd)), !fails);
+            }
+        }
+    }
+    Ok(())
+}
+
+/// Of a line that is too long no more is taken than a line may have.
+#[test]
+fn long_lines_stay_on_the_input(rt: HostRuntime) -> Result<(), Fail> {
+    let bytes = vec![in rt.alloc(); b'a'; MAX_LINE + 10]?;
+    let mut input = Input {
+        left: &bytes,
+        shown: 1000,
+        interrupts: false,
+        fails: false,
+    };
+    let mut line = Vec::new(rt.alloc());
+    assert!(rt; matches!(next_line(&mut input, &mut line), Ok(Next::TooLong)));
+    assert_eq!(rt; line.len(), MAX_LINE);
+    assert_eq!(rt; input.left.len(), 10);
+    Ok(())
+}

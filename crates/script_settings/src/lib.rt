@@ -1,0 +1,12 @@
+//! What the setting lines of a script have set, and the faults that end a script.
+#![tactic(auto)]
+
+pub use cause::{FaultCause, ScriptFault};
+pub use settings::{Settings, is_setting};
+
+mod cause;
+mod procedure;
+mod settings;
+mod table;
+#[cfg(test)]
+mod tests;

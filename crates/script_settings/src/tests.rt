@@ -1,0 +1,110 @@
+use crate::{FaultCause, ScriptFault, Settings};
+use scarce::Scarce;
+use script::command;
+use std::alloc::Allocator;
+use std::test::Fail;
+
+/// Sets what the lines say, up to the first fault.
+fn set_all<A: Allocator + Copy>(
+    settings: &mut Settings<A>,
+    alloc: A,
+    lines: &[&str],
+) -> Result<(), ScriptFault> {
+    for (index, text) in lines.iter().enumerate() {
+        let line = index as u64 + 1;
+        let fault = |cause: FaultCause| ScriptFault { line, cause };
+        match command(alloc, text.as_bytes()) {
+            Ok(Some(said)) => settings.set(said).map_err(fault)?,
+            Ok(None) => {}
+            Err(other) => return Err(fault(FaultCause::from(other))),
+        }
+    }
+    Ok(())
+}
+
+const ONE: &str = "proc one 9 0 b7000000010000009500000000000000";
+
+/// An increment without the call that gets the row.
+const INCREMENT: &str =
+    "proc add 1 16 79160000000000007917080000000000b701000001000000bf62000000000000\
+    bfa300000000000007030000f8ffffff79a8f8ff000000000f780000000000007b8af8ff00000000\
+    b701000001000000bf62000000000000bfa300000000000007030000f8ffffff8500000002000000\
+    bf800000000000009500000000000000";
+
+/// Lines, and the fault of the last.
+const FAULTS: [(&[&str], &str); 17] = [
+    (&["window 0"], "line 1: L4"),
+    (&["# \t"], "line 1: L1"),
+    (&["", "jump 1"], "line 2: L2"),
+    (&["window"], "line 1: L3"),
+    (&["deliver 1 1"], "line 1: L5"),
+    (&["window 4", "replicas 2", "window 4"], "line 3: L5"),
+    (&["replicas 2", "replicas 1"], "line 2: L5"),
+    (&[ONE, "table 1 8"], "line 2: L5"),
+    (&["table 0 8"], "line 1: L6 S1"),
+    (&["table 1 8", "table 2 129"], "line 2: L6 S2"),
+    (&["table 1 8", "table 1 8"], "line 2: L6 S3"),
+    (&["proc x 1 0 -"], "line 1: L7 B1 slot 0"),
+    (
+        &["window 4", "replicas 2", "table 1 8", INCREMENT],
+        "line 4: L7 V5 slot 6",
+    ),
+    (&["proc a-b 1 0 9500000000000000"], "line 1: L7 V1 slot 0"),
+    (
+        &["proc a-b 1 0 b7000000010000009500000000000000"],
+        "line 1: L8 C4",
+    ),
+    (&[ONE, ONE], "line 2: L8 C1"),
+    (
+        &[ONE, "proc two 9 0 b7000000010000009500000000000000"],
+        "line 2: L8 C2",
+    ),
+];
+
+#[test]
+fn faults_are_printed(rt: HostRuntime) -> Result<(), Fail> {
+    let alloc = rt.alloc();
+    for (lines, text) in FAULTS {
+        let mut settings = Settings::new(alloc)?;
+        let told = match set_all(&mut settings, alloc, lines) {
+            Ok(()) => String::from_str(alloc, "set")?,
+            Err(fault) => format!(in alloc; "{fault}")?,
+        };
+        assert_eq!(rt; told.as_str(), text);
+    }
+    let cause = FaultCause::OutOfMemory;
+    let told = format!(in alloc; "{}", ScriptFault { line: 0, cause })?;
+    assert_eq!(rt; told.as_str(), "line 0: L9");
+    Ok(())
+}
+
+const LINES: [&str; 5] = [
+    "table 64 128",
+    "replicas 8",
+    "table 1 8",
+    "window 4096",
+    ONE,
+];
+
+/// What the lines set is there, and each growth that is refused is want of memory.
+#[test]
+fn growths_are_refused_in_turn(rt: HostRuntime) {
+    let scarce = Scarce::new(rt.alloc());
+    let failed = scarce.refuse_each(|| {
+        let Ok(mut settings) = Settings::new(&scarce) else {
+            return false;
+        };
+        if let Err(fault) = set_all(&mut settings, &scarce, &LINES) {
+            assert!(rt; matches!(fault.cause, FaultCause::OutOfMemory));
+            return false;
+        }
+        assert_eq!(rt; settings.window(), Some(4096));
+        assert_eq!(rt; settings.replicas(), Some(8));
+        let catalogue = settings.into_catalogue();
+        assert_eq!(rt; catalogue.by_name(b"one"), Some(9));
+        assert_eq!(rt; catalogue.schema().width(64), Some(128));
+        assert_eq!(rt; catalogue.schema().width(1), Some(8));
+        true
+    });
+    assert!(rt; failed.is_some());
+}

@@ -1,0 +1,177 @@
+//! A call that isn't over.
+
+ghost use Rattle.std.specs.Prelude.{◌≡◌, ℕ, true, length, Some, IfOk, IfSome};
+ghost use Rattle.schema.specs.Rows.{AreRows};
+ghost use Rattle.dsm_model.specs.Log.{Setting, Log, StoredProcedure, by_number, rows_after};
+ghost use Rattle.catalogue.specs.Catalogue.{accepted_of};
+ghost use Rattle.bpf_vm.specs.declared.turn.Turn.TheVariants.{More, Exit};
+ghost use Rattle.world_calls.specs.OpenCall.{open_call_of, Follows, CanGoOn, IsTurn, stays_open, call_of, IsReplyOf, IsCompletion};
+
+use crate::completion::Completion;
+use acceptance::accepted_programs_never_go_wrong;
+use bpf_semantics::states_fit;
+use bpf_verify::Accepted;
+use bpf_vm::{Machine, Turn, open_calls_can_turn};
+use log_entry::Entry;
+use row_values::Bytes;
+use std::alloc::{AllocError, Allocator, Global};
+use std::mem;
+use txn_view::{Own, Store, View};
+
+/// A call that isn't over.
+#[derive(Drop)]
+pub struct OpenCall<A: Allocator + Copy = Global> {
+    /// The number of its replica.
+    pub replica: u32,
+    /// Its number among all calls of its world.
+    pub number: u32,
+    /// The procedure's number.
+    pub procedure: u16,
+    pub args: Bytes<A>,
+    /// The position whose rows it reads.
+    pub snapshot: u32,
+    /// How many instructions it has run.
+    pub turns: u32,
+    pub machine: Machine,
+    /// What it has done so far.
+    pub own: Own<A>,
+}
+
+/// Whether a call isn't over after a turn that answered this.
+pub fn stays_open(turn: Turn) -> bool
+    ensures { result ≡ stays_open turn }
+{
+    match turn {
+        Turn::More | Turn::Exit(_) => true,
+        Turn::Stale | Turn::NoMemory => false,
+    }
+}
+
+impl<A: Allocator + Copy> OpenCall<A> {
+    /// A call that has run nothing yet. The arguments are copied.
+    pub fn begin<P: Allocator, Q: Allocator>(
+        alloc: A,
+        replica: u32,
+        number: u32,
+        procedure: u16,
+        accepted: &Accepted<P, Q>,
+        args: &[u8],
+        snapshot: u32,
+    ) -> Result<OpenCall<A>, AllocError>
+        requires { length args.now ≡ accepted.now.args_len }
+        ensures begun { IfOk result (λ c. open_call_of c ≡ record {
+          replica = replica;
+          call = record { number = number; procedure = procedure; args = args.now; snapshot = snapshot };
+          turns = 0;
+        }) }
+        ensures follows { IfOk result (λ c. (w : Setting) (log : Log) (p : StoredProcedure)
+            → by_number w.catalogue procedure ≡ Some p → accepted.now ≡ accepted_of w.tables p
+            → AreRows w.tables (rows_after w log snapshot) → Follows w log c) }
+    {
+        let Ok(machine) = Machine::start(accepted, args) else {
+            unreachable!()
+        };
+        Ok(OpenCall {
+            replica,
+            number,
+            procedure,
+            args: Bytes::new(Vec::from_slice(alloc, args)?),
+            snapshot,
+            turns: 0,
+            machine,
+            own: Own::new(alloc),
+        })
+    }
+
+    /// The next instruction, where there is one, on the rows of the snapshot; none after the end, which is answered again.
+    pub fn turn<P: Allocator, Q: Allocator, S: Store + Drop>(
+        &mut self,
+        alloc: A,
+        accepted: &Accepted<P, Q>,
+        store: S,
+    ) -> Turn
+        requires { (w : Setting) × (log : Log) × CanGoOn w log accepted.now (S.answers_from store) self.old }
+        ensures turn { (w : Setting) (log : Log) → CanGoOn w log accepted.now (S.answers_from store) self.old
+            → IsTurn w log (S.is_gone store) (open_call_of self.old) result (open_call_of self.new) }
+        ensures follows { (w : Setting) (log : Log) → CanGoOn w log accepted.now (S.answers_from store) self.old
+            → stays_open result ≡ true → Follows w log self.new }
+    {
+        match self.machine.last() {
+            Turn::More => self.advance(alloc, accepted, store),
+            over => over,
+        }
+    }
+
+    /// The next instruction.
+    fn advance<P: Allocator, Q: Allocator, S: Store + Drop>(
+        &mut self,
+        alloc: A,
+        accepted: &Accepted<P, Q>,
+        store: S,
+    ) -> Turn
+        requires more { self.old.machine.last ≡ More }
+        requires can { (w : Setting) × (log : Log) × CanGoOn w log accepted.now (S.answers_from store) self.old }
+        ensures turn { (w : Setting) (log : Log) → CanGoOn w log accepted.now (S.answers_from store) self.old
+            → IsTurn w log (S.is_gone store) (open_call_of self.old) result (open_call_of self.new) }
+        ensures follows { (w : Setting) (log : Log) → CanGoOn w log accepted.now (S.answers_from store) self.old
+            → stays_open result ≡ true → Follows w log self.new }
+    {
+        accepted_programs_never_go_wrong();
+        // So that the count of turns is known to fit.
+        let _bound = accepted.bound();
+        let own = mem::replace(&mut self.own, Own::new(alloc));
+        let mut view = View::over(store, own);
+        open_calls_can_turn(&view);
+        let turn = self.machine.turn(accepted, &mut view);
+        self.own = view.pause();
+        if stays_open(turn) {
+            self.turns += 1;
+        }
+        turn
+    }
+
+    /// The reply, where the call is at its end.
+    pub fn reply(&self) -> Option<u64>
+        ensures run { (w : Setting) (log : Log) → Follows w log self.now → IsReplyOf w log (open_call_of self.now) result }
+        ensures exit { IfSome result (λ reply. self.now.machine.last ≡ Exit reply) }
+    {
+        accepted_programs_never_go_wrong();
+        match self.machine.last() {
+            Turn::Exit(reply) => Some(reply),
+            _ => None,
+        }
+    }
+
+    /// What comes of a call that is at its end.
+    pub fn complete<S: Store + Drop>(self, store: S) -> Completion<A>
+        requires { (reply : ℕ) × (self.machine.last ≡ Exit reply) }
+        ensures { (w : Setting) (log : Log) → Follows w log self → IsCompletion w log (call_of self) result }
+    {
+        states_fit();
+        let Turn::Exit(reply) = self.machine.last() else {
+            unreachable!()
+        };
+        let (reads, writes, cancel_code) = View::over(store, self.own).finish();
+        if let Some(code) = cancel_code {
+            return Completion::Cancelled {
+                snapshot: self.snapshot,
+                code,
+            };
+        }
+        if writes.is_empty() {
+            return Completion::Read {
+                snapshot: self.snapshot,
+                reply,
+            };
+        }
+        Completion::Wrote(Entry {
+            call: self.number,
+            procedure: self.procedure,
+            args: self.args,
+            snapshot: self.snapshot,
+            reads,
+            writes,
+            reply,
+        })
+    }
+}
