@@ -10,7 +10,7 @@ ghost use Rattle.dsm_model.specs.Fit.{HasSafeProcedures};
 ghost use Rattle.dsm_model.specs.World.{OpenCall as ModelCall, Turn as TurnStep, Order as OrderStep};
 ghost use Rattle.dsm_model.specs.World.{IsStep, AreSteps, first_world, numbered, open_call};
 ghost use Rattle.dsm_model.specs.Sound.{HasByteArguments, IsSound, IsSerialReply, IsWorld};
-ghost use Rattle.replica.specs.Replica.{Replica as ReplicaState};
+ghost use Rattle.replica.specs.Replica.{Replica as ReplicaState, AreEntriesOf};
 ghost use Rattle.catalogue.specs.Catalogue.{by_name};
 ghost use Rattle.dsm_world.specs.System.{setting_of, world_of, step_of, progress_of, KeepsDelivered};
 ghost use Rattle.dsm_world.specs.Holdings.{system_of, IsConsistent, IsReplicaOf};
@@ -176,20 +176,22 @@ impl<A: Allocator + Copy> World<A> {
         delivered_verdicts_are_the_logs();
         open_calls_are_sound();
         replies_are_serial();
-        self.known();
+        self.keeps_what_was_delivered();
         let mut outcomes = Vec::with_capacity(self.holdings.alloc, steps.len())?;
         for step in steps {
             let outcome = self.step(*step);
             push_within(&mut outcomes, outcome);
         }
-        self.known();
+        self.keeps_what_was_delivered();
         Ok(outcomes)
     }
 
-    /// What is known of every world.
-    fn known(&self)
+    /// What is known of every world: steps lead to such a one, its procedures are safe, its entries are those of a log and
+    /// carry their runs, and what each replica keeps are the verdicts and rows of the log as far as it has come.
+    pub fn keeps_what_was_delivered(&self)
         ensures world { IsWorld (setting_of self.now) (world_of self.now) }
         ensures procedures { HasSafeProcedures (setting_of self.now) }
+        ensures entries { AreEntriesOf (setting_of self.now) self.now.entries }
         ensures replicas { (r : ℕ) (k : ReplicaState) → numbered self.now.replicas r ≡ Some k → KeepsDelivered self.now k }
     {
         a_log_only_grows();
@@ -221,6 +223,13 @@ impl<A: Allocator + Copy> World<A> {
         self.holdings
             .replicas
             .get((number as usize).checked_sub(1)?)
+    }
+
+    /// The replicas, in the order of their numbers.
+    pub fn replicas(&self) -> &[Replica<A>]
+        ensures { result.now ≡ self.now.replicas }
+    {
+        &self.holdings.replicas
     }
 
     /// The number of a procedure, by its name, at a replica.

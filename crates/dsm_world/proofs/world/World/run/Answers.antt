@@ -17,7 +17,7 @@ use Rattle.dsm_world.proofs.world.World.run.Goals as goal
 
 pub returns-in_err-outcomes-clause-sound : goal.returns-in_err-outcomes-clause-sound
 returns-in_err-outcomes-clause-sound g c n o e =
-    c.open_calls_are_sound.ensures (setting_of c.args.self.now) (world_of c.args.self.now) n o c.known.ensures.procedures c.known.ensures.world e
+    c.open_calls_are_sound.ensures (setting_of c.args.self.now) (world_of c.args.self.now) n o c.keeps_what_was_delivered.ensures.procedures c.keeps_what_was_delivered.ensures.world e
 
 pub loop-step-init : goal.loop-step-init
 loop-step-init g c = record {
@@ -46,7 +46,7 @@ loop-step-preserved g c =
 
 pub returns-clause-sound : goal.returns-clause-sound
 returns-clause-sound g c n o e =
-    c.open_calls_are_sound.ensures (setting_of c.loop-step.self) (world_of c.loop-step.self) n o c.known-2.ensures.procedures c.known-2.ensures.world e
+    c.open_calls_are_sound.ensures (setting_of c.loop-step.self) (world_of c.loop-step.self) n o c.keeps_what_was_delivered-2.ensures.procedures c.keeps_what_was_delivered-2.ensures.world e
 
 pub returns-clause-replies : goal.returns-clause-replies
 returns-clause-replies g c n i j position reply =
@@ -57,4 +57,4 @@ returns-clause-replies g c n i j position reply =
     let bytes = subst (λ (xs : List Step). AllByRecursion HasByteArguments (map step_of xs)) all c.loop-step.invariant.bytes in
     subst (λ (w : Setting). slice_get (map step_of c.args.steps.now) i ≡ Some (TurnStep n) → slice_get c.loop-step.outcomes.items i ≡ Some (Exit reply) → slice_get (map step_of c.args.steps.now) j ≡ Some (OrderStep n) → slice_get c.loop-step.outcomes.items j ≡ Some (Ordered position) → i < j
     → verdict_of w (world_of t).log position ≡ Some Commit → IsSerialReply w (world_of t).log position reply) (sym c.loop-step.invariant.same)
-    (c.replies_are_serial.ensures (setting_of s) (world_of s) (map step_of c.args.steps.now) c.loop-step.outcomes.items (world_of t) n i j position reply c.known.ensures.procedures bytes c.known.ensures.world done)
+    (c.replies_are_serial.ensures (setting_of s) (world_of s) (map step_of c.args.steps.now) c.loop-step.outcomes.items (world_of t) n i j position reply c.keeps_what_was_delivered.ensures.procedures bytes c.keeps_what_was_delivered.ensures.world done)

@@ -2,16 +2,20 @@ use Rattle.std.proofs.Common.{◌≡◌, Some, subst}
 use Rattle.dsm_model.specs.Fit.{HasSafeProcedures}
 use Rattle.dsm_model.specs.Sound.{IsWorld}
 use Rattle.dsm_model.specs.World.{numbered}
+use Rattle.replica.specs.Replica.{AreEntriesOf}
 use Rattle.dsm_world.specs.System.{SystemWorld, setting_of, world_of, KeepsDelivered}
 use Rattle.dsm_world.specs.Holdings.{system_of, slots_of}
 use Rattle.dsm_world.proofs.RunLemmas.{keeps_delivered}
-use Rattle.dsm_world.proofs.world.World.known.Goals as goal
+use Rattle.dsm_world.proofs.world.World.keeps_what_was_delivered.Goals as goal
 
 pub returns-clause-world : goal.returns-clause-world
 returns-clause-world g c = subst (λ (s : SystemWorld). IsWorld (setting_of s) (world_of s)) c.self.view_is c.self.invariant.world
 
 pub returns-clause-procedures : goal.returns-clause-procedures
 returns-clause-procedures g c = subst (λ (s : SystemWorld). HasSafeProcedures (setting_of s)) c.self.view_is c.self.invariant.entries.procedures
+
+pub returns-clause-entries : goal.returns-clause-entries
+returns-clause-entries g c = subst (λ (s : SystemWorld). AreEntriesOf (setting_of s) s.entries) c.self.view_is c.self.invariant.entries
 
 pub returns-clause-replicas : goal.returns-clause-replicas
 returns-clause-replicas g c n r =

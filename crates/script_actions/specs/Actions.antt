@@ -1,0 +1,81 @@
+-- What a line of a script that acts does to a world, and what it prints.
+use Rattle.std.specs.Prelude.{◌≡◌, ℕ, zero, suc, Bool, true, false, List, [], ◌∷◌, Option, Some, None, option_map}
+use Rattle.std.specs.List.{concat}
+use Rattle.bpf_code.specs.Program.{max_slots}
+use Rattle.catalogue.specs.Catalogue.{by_name}
+use Rattle.dsm_model.specs.declared.outcome.Outcome.{Outcome}
+use Rattle.dsm_model.specs.declared.outcome.Outcome.TheVariants.{More, Delivered}
+use Rattle.dsm_model.specs.Log.{Setting}
+use Rattle.dsm_model.specs.World.{World, Step, Begin, Turn, Order, Deliver, Rebuild, IsStep, after_begin, numbered}
+use Rattle.script.specs.Script.{ScriptCommand}
+use Rattle.script.specs.declared.commands.Command.TheVariants as command
+use Rattle.script_actions.specs.Printed.{step_text, rows_text, log_text, entry_text}
+
+-- ---- steps that are taken again
+
+-- what follows an outcome: more of the same, or nothing
+abbrev pub Later : Bool → Type 0 → List (List ℕ) → World → World → Type 0
+Later true more lines between after = more
+Later false more lines between after = (lines ≡ []) × (between ≡ after)
+
+-- a step again and again, at most so many times, as long as its outcome goes on; with the line of each outcome
+unfoldable pub Repeats : Setting → Step → (Outcome → Bool) → ℕ → World → List (List ℕ) → World → Type 0
+Repeats w step goes zero before lines after = (lines ≡ []) × (before ≡ after)
+Repeats w step goes (suc n) before lines after =
+    (first : Outcome) × (rest : List (List ℕ)) × (between : World) × (lines ≡ step_text w between.log step first ∷ rest)
+    × IsStep w before step first between × Later (goes first) (Repeats w step goes n between rest after) rest between after
+
+abbrev pub is_more : Outcome → Bool
+is_more More = true
+is_more _ = false
+
+abbrev pub is_delivery : Outcome → Bool
+is_delivery (Delivered position verdict) = true
+is_delivery _ = false
+
+-- the last of some lines
+abbrev pub last_line : List (List ℕ) → List ℕ
+last_line [] = []
+last_line (line ∷ []) = line
+last_line (line ∷ next ∷ more) = last_line (next ∷ more)
+
+-- up to so many turns, as long as there is more to run; the last answer is printed
+abbrev pub Turns : Setting → World → ℕ → ℕ → List ℕ → World → Type 0
+Turns w before call most text after = (lines : List (List ℕ)) × Repeats w (Turn call) is_more most before lines after × (text ≡ last_line lines)
+
+-- up to so many deliveries, up to the first that is refused; each answer is printed
+abbrev pub Deliveries : Setting → World → ℕ → ℕ → List ℕ → World → Type 0
+Deliveries w before r most text after = (lines : List (List ℕ)) × Repeats w (Deliver r) is_delivery most before lines after × (text ≡ concat lines)
+
+-- ---- one step
+
+abbrev pub OneStep : Setting → World → Step → List ℕ → World → Type 0
+OneStep w before step text after = (outcome : Outcome) × IsStep w before step outcome after × (text ≡ step_text w after.log step outcome)
+
+-- a name that isn't in the catalogue is refused as a number that isn't, and no step is taken
+abbrev pub Begins : Setting → World → ℕ → List ℕ → Option ℕ → List ℕ → World → Type 0
+Begins w before r args (Some procedure) text after = OneStep w before (Begin r procedure args) text after
+Begins w before r args None text after =
+    (text ≡ step_text w before.log (Begin r 0 args) (after_begin before r 0 args (numbered before.replicas r) None).0) × (before ≡ after)
+
+abbrev pub number_of_name : Setting → List ℕ → Option ℕ
+number_of_name w name = option_map (λ p. p.number) (by_name w.catalogue name)
+
+-- ---- a line
+
+-- no program runs more instructions than it has slots, of which there are at most so many
+abbrev pub longest_run : ℕ
+longest_run = max_slots
+
+-- what a line that acts prints, and the world after it; `exec` runs a call to its end
+unfoldable pub Does : Setting → World → ScriptCommand → List ℕ → World → Type 0
+Does w before (command.Begin r name args) text after = Begins w before r args (number_of_name w name) text after
+Does w before (command.Turn call most) text after = Turns w before call most text after
+Does w before (command.Exec call) text after = Turns w before call longest_run text after
+Does w before (command.Order call) text after = OneStep w before (Order call) text after
+Does w before (command.Deliver r most) text after = Deliveries w before r most text after
+Does w before (command.Rebuild r) text after = OneStep w before (Rebuild r) text after
+Does w before (command.Rows r) text after = (text ≡ rows_text w before.log r (numbered before.replicas r)) × (before ≡ after)
+Does w before command.Log text after = (text ≡ log_text w before) × (before ≡ after)
+Does w before (command.Entry position) text after = (text ≡ entry_text w before.log position) × (before ≡ after)
+Does w before _ text after = ⊥

@@ -1,0 +1,60 @@
+//! Doing what a line says.
+
+ghost use Rattle.std.specs.Prelude.{◌≡◌, false};
+ghost use Rattle.byte_output.specs.Pending.{output_of};
+ghost use Rattle.dsm_world.specs.System.{setting_of, world_of};
+ghost use Rattle.script.specs.Script.{IsWithinLimits};
+ghost use Rattle.script_settings.specs.Settings.{is_setting};
+ghost use Rattle.script_actions.specs.Doing.{HasDone};
+
+use crate::answers::{begin, deliver, order, rebuild, turn};
+use crate::failure::Failure;
+use crate::log::{put_entry, put_log};
+use crate::rows::put_rows;
+use bpf_code::MAX_SLOTS;
+use byte_output::paged::PagedOutput;
+use dsm_world::World;
+use row_values::Bytes;
+use script::Command;
+use std::alloc::Allocator;
+use std::io::Write;
+
+/// No program runs more instructions than it has slots.
+const LONGEST_RUN: u32 = MAX_SLOTS as u32;
+
+/// Does what a line says to a world that acts, and gives what it prints to the output. An error is the output's, or want of
+/// memory for what is printed; then a beginning of that was given.
+pub fn act<A: Allocator + Copy, W: Write>(
+    alloc: A,
+    world: &mut World<A>,
+    output: &mut PagedOutput<'_, W>,
+    command: &Command<Bytes<A>>,
+) -> Result<(), Failure>
+    requires acts { is_setting command.now ≡ false }
+    // As a line's command is.
+    requires limits { IsWithinLimits command.now }
+    ensures same_output { (output_of output.new).ghost_name ≡ (output_of output.old).ghost_name }
+    ensures setting { setting_of world.new ≡ setting_of world.old }
+    ensures done { HasDone W.contents (setting_of world.old) (world_of world.old) command.now
+        output.old output.new result (world_of world.new) }
+{
+    match command {
+        Command::Window(_)
+        | Command::Replicas(_)
+        | Command::Table { .. }
+        | Command::Procedure { .. } => unreachable!(),
+        Command::Begin {
+            replica,
+            name,
+            args,
+        } => begin(alloc, world, output, *replica, name.as_slice(), args.as_slice()),
+        Command::Turn { call, most } => turn(alloc, world, output, *call, *most),
+        Command::Exec { call } => turn(alloc, world, output, *call, LONGEST_RUN),
+        Command::Order { call } => order(alloc, world, output, *call),
+        Command::Deliver { replica, most } => deliver(alloc, world, output, *replica, *most),
+        Command::Rows { replica } => put_rows(alloc, world, output, *replica),
+        Command::Log => put_log(alloc, world, output),
+        Command::Entry { position } => put_entry(alloc, world, output, *position),
+        Command::Rebuild { replica } => rebuild(alloc, world, output, *replica),
+    }
+}

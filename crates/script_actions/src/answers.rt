@@ -1,0 +1,190 @@
+//! Steps of a world, each with the line of its answer.
+
+ghost use Rattle.std.specs.Prelude.{◌≡◌, ◌≤◌, IfOk, OnErr};
+ghost use Rattle.byte_output.specs.Pending.{output_of, Passes};
+ghost use Rattle.dsm_model.specs.declared.outcome.Outcome.{Outcome as ModelOutcome};
+ghost use Rattle.dsm_model.specs.World.{IsStep};
+ghost use Rattle.dsm_world.specs.System.{setting_of, world_of, step_of};
+ghost use Rattle.report.specs.Answers.{answer_line};
+ghost use Rattle.script.specs.declared.commands.Command.TheVariants as command;
+ghost use Rattle.script_actions.specs.Printed.{delivered_reply, step_text};
+ghost use Rattle.script_actions.specs.Actions.{is_more, is_delivery};
+ghost use Rattle.script_actions.specs.Doing.{PassesBeginning, HasDone};
+
+use crate::failure::Failure;
+use crate::output::put_answer;
+use byte_output::paged::PagedOutput;
+use dsm_model::{Outcome, StepRefusal};
+use dsm_world::{Step, World};
+use report::{Line, begin_line, call_line, replica_line};
+use std::alloc::Allocator;
+use std::io::Write;
+
+/// One step, and its line.
+fn step<A: Allocator + Copy, W: Write>(
+    alloc: A,
+    world: &mut World<A>,
+    output: &mut PagedOutput<'_, W>,
+    step: Step<'_>,
+) -> Result<Outcome, Failure>
+    ensures same_output { (output_of output.new).ghost_name ≡ (output_of output.old).ghost_name }
+    ensures setting { setting_of world.new ≡ setting_of world.old }
+    ensures stepped { IfOk result (λ outcome. IsStep (setting_of world.old) (world_of world.old) (step_of step.entry) outcome (world_of world.new)
+        × Passes W.contents output.old output.new (step_text (setting_of world.old) (world_of world.new).log (step_of step.entry) outcome)) }
+    ensures failed { OnErr result ((outcome : ModelOutcome)
+        × IsStep (setting_of world.old) (world_of world.old) (step_of step.entry) outcome (world_of world.new)
+        × PassesBeginning W.contents output.old output.new (step_text (setting_of world.old) (world_of world.new).log (step_of step.entry) outcome)) }
+{
+    let outcome = world.step(step);
+    let reply = delivered_reply(world, outcome);
+    put_answer(alloc, output, answer_line(step, outcome, reply))?;
+    Ok(outcome)
+}
+
+/// The line of a step's answer.
+fn answer_line(step: Step<'_>, outcome: Outcome, reply: u64) -> Option<Line<'static>>
+    ensures { result ≡ answer_line (step_of step.entry) outcome reply }
+{
+    match step {
+        Step::Begin { replica, .. } => begin_line(replica, outcome),
+        Step::Turn { call } => call_line(call, outcome),
+        Step::Order { call } => call_line(call, outcome),
+        Step::Deliver { replica } => replica_line(replica, outcome, reply),
+        Step::Rebuild { replica } => replica_line(replica, outcome, reply),
+    }
+}
+
+/// The reply of the delivered call.
+fn delivered_reply<A: Allocator + Copy>(world: &World<A>, outcome: Outcome) -> u64
+    ensures { result ≡ delivered_reply (setting_of world.now) (world_of world.now).log outcome }
+{
+    world.keeps_what_was_delivered();
+    let Outcome::Delivered { position, .. } = outcome else {
+        return 0;
+    };
+    match world.entry(position) {
+        Some(entry) => entry.reply,
+        None => 0,
+    }
+}
+
+/// A call begins, of the procedure of a name.
+pub(crate) fn begin<A: Allocator + Copy, W: Write>(
+    alloc: A,
+    world: &mut World<A>,
+    output: &mut PagedOutput<'_, W>,
+    replica: u32,
+    name: &[u8],
+    args: &[u8],
+) -> Result<(), Failure>
+    ensures same_output { (output_of output.new).ghost_name ≡ (output_of output.old).ghost_name }
+    ensures setting { setting_of world.new ≡ setting_of world.old }
+    ensures done { HasDone W.contents (setting_of world.old) (world_of world.old) (command.Begin replica name.now args.now)
+        output.old output.new result (world_of world.new) }
+{
+    if world.replica(replica).is_none() {
+        let refused = Outcome::Refused(StepRefusal::NoReplica);
+        return put_answer(alloc, output, begin_line(replica, refused));
+    }
+    let Some(procedure) = world.by_name(replica, name) else {
+        let refused = Outcome::Refused(StepRefusal::NoProcedure);
+        return put_answer(alloc, output, begin_line(replica, refused));
+    };
+    let begin = Step::Begin {
+        replica,
+        procedure,
+        args,
+    };
+    step(alloc, world, output, begin)?;
+    Ok(())
+}
+
+/// Up to so many turns of a call, as long as there is more to run, and the line of the last.
+pub(crate) fn turn<A: Allocator + Copy, W: Write>(
+    alloc: A,
+    world: &mut World<A>,
+    output: &mut PagedOutput<'_, W>,
+    call: u32,
+    most: u32,
+) -> Result<(), Failure>
+    requires { 1 ≤ most }
+    ensures same_output { (output_of output.new).ghost_name ≡ (output_of output.old).ghost_name }
+    ensures setting { setting_of world.new ≡ setting_of world.old }
+    ensures done { HasDone W.contents (setting_of world.old) (world_of world.old) (command.Turn call most)
+        output.old output.new result (world_of world.new) }
+{
+    for _ in 1..most {
+        let outcome = world.step(Step::Turn { call });
+        if !is_more(outcome) {
+            return put_answer(alloc, output, call_line(call, outcome));
+        }
+    }
+    let outcome = world.step(Step::Turn { call });
+    put_answer(alloc, output, call_line(call, outcome))
+}
+
+fn is_more(outcome: Outcome) -> bool
+    ensures { result ≡ is_more outcome }
+{
+    matches!(outcome, Outcome::More)
+}
+
+/// A call is ordered.
+pub(crate) fn order<A: Allocator + Copy, W: Write>(
+    alloc: A,
+    world: &mut World<A>,
+    output: &mut PagedOutput<'_, W>,
+    call: u32,
+) -> Result<(), Failure>
+    ensures same_output { (output_of output.new).ghost_name ≡ (output_of output.old).ghost_name }
+    ensures setting { setting_of world.new ≡ setting_of world.old }
+    ensures done { HasDone W.contents (setting_of world.old) (world_of world.old) (command.Order call)
+        output.old output.new result (world_of world.new) }
+{
+    step(alloc, world, output, Step::Order { call })?;
+    Ok(())
+}
+
+/// Up to so many deliveries to a replica, each with its line; the first that is refused is the last.
+pub(crate) fn deliver<A: Allocator + Copy, W: Write>(
+    alloc: A,
+    world: &mut World<A>,
+    output: &mut PagedOutput<'_, W>,
+    replica: u32,
+    most: u32,
+) -> Result<(), Failure>
+    ensures same_output { (output_of output.new).ghost_name ≡ (output_of output.old).ghost_name }
+    ensures setting { setting_of world.new ≡ setting_of world.old }
+    ensures done { HasDone W.contents (setting_of world.old) (world_of world.old) (command.Deliver replica most)
+        output.old output.new result (world_of world.new) }
+{
+    for _ in 0..most {
+        let outcome = step(alloc, world, output, Step::Deliver { replica })?;
+        if !is_delivery(outcome) {
+            return Ok(());
+        }
+    }
+    Ok(())
+}
+
+fn is_delivery(outcome: Outcome) -> bool
+    ensures { result ≡ is_delivery outcome }
+{
+    matches!(outcome, Outcome::Delivered { .. })
+}
+
+/// A replica is made anew.
+pub(crate) fn rebuild<A: Allocator + Copy, W: Write>(
+    alloc: A,
+    world: &mut World<A>,
+    output: &mut PagedOutput<'_, W>,
+    replica: u32,
+) -> Result<(), Failure>
+    ensures same_output { (output_of output.new).ghost_name ≡ (output_of output.old).ghost_name }
+    ensures setting { setting_of world.new ≡ setting_of world.old }
+    ensures done { HasDone W.contents (setting_of world.old) (world_of world.old) (command.Rebuild replica)
+        output.old output.new result (world_of world.new) }
+{
+    step(alloc, world, output, Step::Rebuild { replica })?;
+    Ok(())
+}

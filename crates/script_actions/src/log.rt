@@ -1,0 +1,85 @@
+//! The log, and its entries.
+
+ghost use Rattle.std.specs.Prelude.{◌≡◌, ◌≤◌, length};
+ghost use Rattle.byte_output.specs.Pending.{output_of};
+ghost use Rattle.dsm_world.specs.System.{setting_of, world_of};
+ghost use Rattle.script_actions.specs.Printed.{log_text, entry_text};
+ghost use Rattle.script_actions.specs.Doing.{Gives};
+
+use crate::failure::Failure;
+use crate::output::put_line;
+use byte_output::paged::PagedOutput;
+use dsm_world::World;
+use log_entry::to_bytes;
+use report::{Line, LoggedEntry};
+use std::alloc::Allocator;
+use std::io::Write;
+
+/// Prints a line for each entry of the log.
+pub(crate) fn put_log<A: Allocator + Copy, W: Write>(
+    alloc: A,
+    world: &World<A>,
+    output: &mut PagedOutput<'_, W>,
+) -> Result<(), Failure>
+    ensures same_output { (output_of output.new).ghost_name ≡ (output_of output.old).ghost_name }
+    ensures given { Gives W.contents output.old output.new result (log_text (setting_of world.now) (world_of world.now)) }
+{
+    let entries = world.log_len();
+    for before in 0..entries {
+        let line = logged(world, before);
+        put_line(alloc, output, &line)?;
+    }
+    put_line(alloc, output, &Line::Log { entries })
+}
+
+/// The line of the entry that has so many before it.
+fn logged<A: Allocator + Copy>(world: &World<A>, before: u32) -> Line<'static>
+{
+    world.keeps_what_was_delivered();
+    let Some(entry) = world.entry(before + 1) else {
+        unreachable!()
+    };
+    let entry = LoggedEntry {
+        position: before + 1,
+        procedure: entry.procedure,
+        snapshot: entry.snapshot,
+        writes: entry.writes.len(),
+    };
+    match world.replicas().iter().find(|kept| kept.position() > before) {
+        Some(kept) => {
+            let certification = kept.verdict_at(before + 1);
+            Line::Certified {
+                entry,
+                compared: certification.compared,
+                verdict: certification.verdict,
+            }
+        }
+        None => Line::Open(entry),
+    }
+}
+
+/// Prints the bytes of the entry at a position.
+pub(crate) fn put_entry<A: Allocator + Copy, W: Write>(
+    alloc: A,
+    world: &World<A>,
+    output: &mut PagedOutput<'_, W>,
+    position: u32,
+) -> Result<(), Failure>
+    ensures same_output { (output_of output.new).ghost_name ≡ (output_of output.old).ghost_name }
+    ensures given { Gives W.contents output.old output.new result (entry_text (setting_of world.now) (world_of world.now).log position) }
+{
+    world.keeps_what_was_delivered();
+    let Some(entry) = world.entry(position) else {
+        let none = Line::Entry {
+            position,
+            bytes: None,
+        };
+        return put_line(alloc, output, &none);
+    };
+    let bytes = to_bytes(alloc, entry)?;
+    let line = Line::Entry {
+        position,
+        bytes: Some(&bytes),
+    };
+    put_line(alloc, output, &line)
+}

@@ -1,0 +1,49 @@
+//! Lines that are given to an output.
+
+ghost use Rattle.std.specs.Prelude.{◌≡◌};
+ghost use Rattle.byte_output.specs.Pending.{output_of};
+ghost use Rattle.report.specs.Lines.{line_text};
+ghost use Rattle.report.specs.Answers.{text_of};
+ghost use Rattle.script_actions.specs.Doing.{Gives};
+
+use crate::failure::Failure;
+use byte_output::paged::PagedOutput;
+use report::{Line, line};
+use std::alloc::Allocator;
+use std::io::Write;
+
+/// Gives a line to the output.
+pub(crate) fn put_line<A: Allocator + Copy, W: Write>(
+    alloc: A,
+    output: &mut PagedOutput<'_, W>,
+    said: &Line,
+) -> Result<(), Failure>
+    ensures same_output { (output_of output.new).ghost_name ≡ (output_of output.old).ghost_name }
+    ensures given { Gives W.contents output.old output.new result (line_text said.now) }
+{
+    let text = line(alloc, said)?;
+    put(output, &text)
+}
+
+/// Gives the line of an answer to the output, where it has one.
+pub(crate) fn put_answer<A: Allocator + Copy, W: Write>(
+    alloc: A,
+    output: &mut PagedOutput<'_, W>,
+    said: Option<Line<'static>>,
+) -> Result<(), Failure>
+    ensures same_output { (output_of output.new).ghost_name ≡ (output_of output.old).ghost_name }
+    ensures given { Gives W.contents output.old output.new result (text_of said) }
+{
+    let text = answer(alloc, said)?;
+    put(output, &text)
+}
+
+fn put<W: Write>(output: &mut PagedOutput<'_, W>, text: &[u8]) -> Result<(), Failure>
+    ensures same_output { (output_of output.new).ghost_name ≡ (output_of output.old).ghost_name }
+    ensures given { Gives W.contents output.old output.new result text.now }
+{
+    match output.put(text) {
+        Ok(()) => Ok(()),
+        Err(error) => Err(Failure::Output(error)),
+    }
+}
