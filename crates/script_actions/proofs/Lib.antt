@@ -1,0 +1,3 @@
+pub mod GivenLemmas
+mod RepeatLemmas
+mod PrintedLemmas

@@ -1,0 +1,2 @@
+//! Replaying a script.
+#![tactic(auto)]
