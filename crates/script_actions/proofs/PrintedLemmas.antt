@@ -1,5 +1,5 @@
 -- What a world keeps, in words of its log.
-use Rattle.std.proofs.Common.{◌≡◌, ℕ, zero, suc, ◌+◌, ◌-◌, ◌<◌, ◌≤◌, Bool, true, false, List, [], ◌∷◌, ◌++◌, length, map, take, drop, slice_get, option_map, Option, Some, None, refl, sym, ap, subst, ◌∙◌, arith, append_assoc}
+use Rattle.std.proofs.Common.{◌≡◌, ℕ, zero, suc, ◌+◌, ◌-◌, ◌<◌, ◌≤◌, Bool, true, false, List, [], ◌∷◌, ◌++◌, length, map, take, drop, slice_get, option_map, Option, Some, None, Result, Ok, Err, refl, sym, ap, subst, ◌∙◌, arith, append_assoc}
 use Rattle.std.proofs.lemmas.List.{append-nil}
 use Rattle.std.specs.FinMap.{get}
 use Rattle.schema.specs.declared.look.Look.{Look}
@@ -18,7 +18,15 @@ use Rattle.replica.proofs.KeepsLemmas.{certified_more, certified_count}
 use Rattle.dsm_world.specs.System.{SystemWorld, setting_of, world_of, KeepsDelivered}
 use Rattle.dsm_world.proofs.Numbered.{numbered_map, get_lt}
 use Rattle.dsm_world.proofs.EntryLemmas.{RowsGrow, take_all, take_first, take_drop, calls_append, calls_count, take_count, all_at, entries_taken}
-use Rattle.script_actions.specs.Printed.{reply_of, entry_of}
+use Rattle.byte_output.specs.declared.paged.PagedOutput.{PagedOutput}
+use Rattle.byte_output.specs.Pending.{Passes}
+use Rattle.byte_output.proofs.PendingLemmas.{Passes-then}
+use Rattle.dsm_model.specs.World.{World}
+use Rattle.report.specs.declared.printed.Line.TheVariants as line
+use Rattle.report.specs.Lines.{line_text}
+use Rattle.script_actions.specs.Printed.{reply_of, entry_of, logged_text, calls_text, log_text}
+use Rattle.script_actions.specs.Doing.{PassesBeginning, Gives}
+use Rattle.script_actions.proofs.GivenLemmas.{nothing_given, beginning_then, beginning_more}
 
 -- ---- entries
 
@@ -152,3 +160,62 @@ module _ (s : SystemWorld) (r : Replica) (before : ℕ) (e : Entry) (keeps : Kee
       ap (λ (looks : List Look). length (comparisons_after w.window (take before (history w (calls_of s.entries)).certified_calls) e.call looks)) (sym runs.looks)
       ∙ ap (λ (cs : List CertifiedCall). length (comparisons_after w.window cs e.call e.looks)) (sym past)
       ∙ ap (λ (n : ℕ). length (comparisons_after n (certified_calls_of r.window (take before (take r.position s.entries))) e.call e.looks)) (sym keeps.window)
+
+-- ---- lines of the log, as far as a loop has come
+
+-- so many calls have their lines, and what was given stands in front of those of the others
+pub record HaveLines {W : Type 0} (contents : W → Option (List ℕ)) (w : Setting) (world : World) (before : ℕ) (old new : PagedOutput W) : Type 0 where
+  pub done : List ℕ
+  pub given : Passes contents old new done
+  pub all : calls_text w world 0 world.log ≡ done ++ calls_text w world before (drop before world.log)
+
+pub no_lines : {W : Type 0} (contents : W → Option (List ℕ)) (w : Setting) (world : World) (old : PagedOutput W) → HaveLines contents w world 0 old old
+no_lines contents w world old = record { done = []; given = nothing_given contents old; all = refl }
+
+drop_next : {X : Type 0} (xs : List X) (k : ℕ) (x : X) → slice_get xs k ≡ Some x → drop k xs ≡ x ∷ drop (suc k) xs
+drop_next [] k x e = absurd cc
+drop_next (y ∷ xs) zero x e = cc
+drop_next (y ∷ xs) (suc k) x e = drop_next xs k x e
+
+drop_out : {X : Type 0} (xs : List X) (n : ℕ) → length xs ≤ n → drop n xs ≡ []
+drop_out [] zero le = refl
+drop_out [] (suc n) le = refl
+drop_out (x ∷ xs) zero le = absurd (omega arith)
+drop_out (x ∷ xs) (suc n) le = drop_out xs n (omega arith)
+
+-- the lines from the next call on
+next_lines : (w : Setting) (world : World) (before : ℕ) (call : Call) → slice_get world.log before ≡ Some call
+    → calls_text w world before (drop before world.log) ≡ logged_text w world before call ++ calls_text w world (before + 1) (drop (before + 1) world.log)
+next_lines w world before call at =
+    let next : before + 1 ≡ suc before = omega arith in
+    ap (calls_text w world before) (drop_next world.log before call at)
+    ∙ ap (λ (n : ℕ). logged_text w world before call ++ calls_text w world (before + 1) (drop n world.log)) (sym next)
+
+pub one_more_line : {W : Type 0} (contents : W → Option (List ℕ)) (w : Setting) (world : World) (before : ℕ) (call : Call) (old mid new : PagedOutput W) → HaveLines contents w world before old mid → slice_get world.log before ≡ Some call
+    → Passes contents mid new (logged_text w world before call) → HaveLines contents w world (before + 1) old new
+one_more_line contents w world before call old mid new have at given = record {
+  done = have.done ++ logged_text w world before call;
+  given = Passes-then contents old mid new have.done (logged_text w world before call) have.given given;
+  all = have.all ∙ ap (λ (t : List ℕ). have.done ++ t) (next_lines w world before call at) ∙ sym (append_assoc have.done (logged_text w world before call) (calls_text w world (before + 1) (drop (before + 1) world.log)));
+}
+
+-- a line of which a beginning was given
+pub line_breaks : {W : Type 0} (contents : W → Option (List ℕ)) (w : Setting) (world : World) (before : ℕ) (call : Call) (old mid new : PagedOutput W) → HaveLines contents w world before old mid → slice_get world.log before ≡ Some call
+    → PassesBeginning contents mid new (logged_text w world before call) → PassesBeginning contents old new (log_text w world)
+line_breaks contents w world before call old mid new have at begun =
+    let rest = calls_text w world (before + 1) (drop (before + 1) world.log) in
+    let all = have.all ∙ ap (λ (t : List ℕ). have.done ++ t) (next_lines w world before call at) in
+    beginning_more contents old new (calls_text w world 0 world.log) _
+    (subst (PassesBeginning contents old new) (sym all) (beginning_then contents old mid new have.done (logged_text w world before call ++ rest) have.given (beginning_more contents mid new (logged_text w world before call) rest begun)))
+
+-- all have their lines
+all_given : {W : Type 0} (contents : W → Option (List ℕ)) (w : Setting) (world : World) (before : ℕ) (old new : PagedOutput W) → HaveLines contents w world before old new → length world.log ≤ before → Passes contents old new (calls_text w world 0 world.log)
+all_given contents w world before old new have le =
+    let none : calls_text w world before (drop before world.log) ≡ [] = ap (calls_text w world before) (drop_out world.log before le) in
+    subst (Passes contents old new) (sym (have.all ∙ ap (λ (t : List ℕ). have.done ++ t) none ∙ append-nil have.done)) have.given
+
+-- and then the last line was given
+pub log_given : {W T E : Type 0} (contents : W → Option (List ℕ)) (w : Setting) (world : World) (before : ℕ) (old mid new : PagedOutput W) (result : Result T E) → HaveLines contents w world before old mid → length world.log ≤ before
+    → Gives contents mid new result (line_text (line.Log (length world.log))) → Gives contents old new result (log_text w world)
+log_given contents w world before old mid new (Ok x) have le given = Passes-then contents old mid new _ _ (all_given contents w world before old mid have le) given
+log_given contents w world before old mid new (Err x) have le given = beginning_then contents old mid new _ _ (all_given contents w world before old mid have le) given
