@@ -4,7 +4,7 @@ use Rattle.std.proofs.lemmas.List.{append-nil}
 use Rattle.std.specs.Io.KnownBytes.{Appends}
 use Rattle.byte_output.specs.declared.paged.PagedOutput.{PagedOutput}
 use Rattle.byte_output.specs.Writes.{AppendsBeginning}
-use Rattle.byte_output.specs.Pending.{output_of, pending_of, Passes, Takes}
+use Rattle.byte_output.specs.Pending.{output_of, pending_of, Passes}
 use Rattle.byte_output.proofs.WritesLemmas.{Appends-then}
 use Rattle.byte_output.proofs.PendingLemmas.{Passes-then}
 use Rattle.dsm_model.specs.Log.{Setting}
@@ -49,10 +49,6 @@ beginning_more contents a b xs ys (front, rest, split, p) = (
   sym (append_assoc (pending_of a) xs ys) ∙ ap (λ (t : List ℕ). t ++ ys) split ∙ append_assoc (front ++ pending_of b) rest ys,
   p,
 )
-
--- a text that is put
-pub put_given : {W T E : Type 0} (contents : W → Option (List ℕ)) (a b : PagedOutput W) (text : List ℕ) (e : E) → Takes {T = T} contents a b (Err e) text → pending_of b ≡ [] → PassesBeginning contents a b text
-put_given contents a b text e takes none = beginning_left contents a b text takes none
 
 -- a line that prints a text, of which that was given
 pub gives_done : {W T E : Type 0} (contents : W → Option (List ℕ)) (w : Setting) (before : World) (c : ScriptCommand) (a b : PagedOutput W) (result : Result T E) (after : World) (text : List ℕ)

@@ -1,3 +1,4 @@
 pub mod GivenLemmas
-mod RepeatLemmas
+pub mod RepeatLemmas
 mod PrintedLemmas
+pub mod DoneLemmas

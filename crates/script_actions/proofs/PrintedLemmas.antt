@@ -7,9 +7,9 @@ use Rattle.schema.specs.Schema.{Tables}
 use Rattle.schema.specs.Rows.{Key, Rows, Writes, AreRows}
 use Rattle.row_model.specs.InstalledWrites.{map_after}
 use Rattle.dsm_model.specs.declared.verdict.Verdict.{Verdict}
-use Rattle.dsm_model.specs.Log.{Setting, Call, Log, CertifiedCall, IsLog, rows_after, run_in, verdict_of, history}
+use Rattle.dsm_model.specs.Log.{Setting, Call, Log, CertifiedCall, IsLog, rows_after, run_in, verdict_of, history, certified_call_after}
 use Rattle.dsm_model.specs.Comparisons.{comparisons_of, comparisons_after}
-use Rattle.dsm_model.specs.Entries.{Entry, calls_of, CarriesRun, CarryRuns, certified_calls_of, certified_call_after, installed_from}
+use Rattle.dsm_model.specs.Entries.{Entry, calls_of, CarriesRun, CarryRuns, certified_calls_of, installed_from}
 use Rattle.dsm_model.specs.Fit.{HasSafeProcedures, AreCalls}
 use Rattle.dsm_model.specs.World.{numbered}
 use Rattle.replica.specs.declared.certification.Certification.{Certification}

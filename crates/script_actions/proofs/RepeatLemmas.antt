@@ -1,5 +1,5 @@
 -- A step that is taken again, as far as a loop has come.
-use Rattle.std.proofs.Common.{◌≡◌, ℕ, zero, suc, Bool, true, false, List, [], ◌∷◌, ◌++◌, refl, sym, ap, subst, ◌∙◌, append_assoc}
+use Rattle.std.proofs.Common.{◌≡◌, ◌⊎◌, inl, ℕ, zero, suc, Bool, true, false, List, [], ◌∷◌, ◌++◌, refl, sym, ap, subst, ◌∙◌, append_assoc}
 use Rattle.std.proofs.lemmas.List.{append-nil}
 use Rattle.std.specs.List.{concat}
 use Rattle.std.specs.Prelude.{Option}
@@ -12,7 +12,7 @@ use Rattle.dsm_model.specs.World.{World, Step, IsStep, after_step}
 use Rattle.script_actions.specs.Printed.{step_text}
 use Rattle.script_actions.specs.Actions.{Later, Repeats, last_line}
 use Rattle.script_actions.specs.Doing.{PassesBeginning}
-use Rattle.script_actions.proofs.GivenLemmas.{nothing_given, beginning_then}
+use Rattle.script_actions.proofs.GivenLemmas.{nothing_given, beginning_then, beginning_more}
 
 -- ---- there is always a way on
 
@@ -89,7 +89,7 @@ SomeGiven contents w step goes most start old new = (lines : List (List ℕ)) ×
 
 begun : {W : Type 0} (contents : W → Option (List ℕ)) (old mid new : PagedOutput W) (done here later all : List ℕ) → Passes contents old mid done → PassesBeginning contents mid new here → all ≡ done ++ (here ++ later) → PassesBeginning contents old new all
 begun contents old mid new done here later all given began e =
-    subst (PassesBeginning contents old new) (sym e) (beginning_then contents old mid new done (here ++ later) given (Rattle.script_actions.proofs.GivenLemmas.beginning_more contents mid new here later began))
+    subst (PassesBeginning contents old new) (sym e) (beginning_then contents old mid new done (here ++ later) given (beginning_more contents mid new here later began))
 
 onward : {W : Type 0} (contents : W → Option (List ℕ)) (w : Setting) (step : Step) (goes : Outcome → Bool) (most left : ℕ) (start now next : World) (old mid new : PagedOutput W) (outcome : Outcome) (came : Came contents w step goes most (suc left) start now old mid)
     → IsStep w now step outcome next → PassesBeginning contents mid new (said w next step outcome) → (b : Bool) → b ≡ goes outcome → SomeGiven contents w step goes most start old new

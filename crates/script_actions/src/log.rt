@@ -1,9 +1,11 @@
 //! The log, and its entries.
 
-ghost use Rattle.std.specs.Prelude.{◌≡◌, ◌≤◌, length};
+ghost use Rattle.std.specs.Prelude.{◌≡◌, ◌<◌, length, slice_get, Some};
 ghost use Rattle.byte_output.specs.Pending.{output_of};
+ghost use Rattle.dsm_model.specs.Log.{Call};
 ghost use Rattle.dsm_world.specs.System.{setting_of, world_of};
-ghost use Rattle.script_actions.specs.Printed.{log_text, entry_text};
+ghost use Rattle.report.specs.Lines.{line_text};
+ghost use Rattle.script_actions.specs.Printed.{logged_text, log_text, entry_text};
 ghost use Rattle.script_actions.specs.Doing.{Gives};
 
 use crate::failure::Failure;
@@ -34,6 +36,9 @@ pub(crate) fn put_log<A: Allocator + Copy, W: Write>(
 
 /// The line of the entry that has so many before it.
 fn logged<A: Allocator + Copy>(world: &World<A>, before: u32) -> Line<'static>
+    requires { before < length world.now.entries }
+    ensures { (call : Call) → slice_get (world_of world.now).log before ≡ Some call
+        → line_text result ≡ logged_text (setting_of world.now) (world_of world.now) before call }
 {
     world.keeps_what_was_delivered();
     let Some(entry) = world.entry(before + 1) else {

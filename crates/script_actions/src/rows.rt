@@ -37,7 +37,7 @@ pub(crate) fn put_rows<A: Allocator + Copy, W: Write>(
         let line = Line::Row {
             table: row.table(),
             key: row.key(),
-            bytes: row.value().as_slice(),
+            bytes: row.bytes(),
         };
         put_line(alloc, output, &line)?;
     }

@@ -6,4 +6,4 @@ use Rattle.script_actions.proofs.log.put_log.Given as goal
 
 abbrev pub invariant-loop-before : goal.invariant-loop-before
 invariant-loop-before g l =
-    HaveLines g.W.Write.contents (setting_of l.world.now) (world_of l.world.now) l.before l.initial.output l.output × ((output_of l.output).ghost_name ≡ (output_of l.initial.output).ghost_name)
+    HaveLines g.W.Write.contents (setting_of l.world) (world_of l.world) l.before l.initial.output l.output × ((output_of l.output).ghost_name ≡ (output_of l.initial.output).ghost_name)
