@@ -1,6 +1,5 @@
 -- What lines do, by what was done.
-use Rattle.std.proofs.Common.{◌≡◌, ◌⊎◌, inl, ℕ, List, Option, Some, None, Result, Ok, Err, refl, sym, ap, subst}
-use Rattle.std.specs.Prelude.{option_map}
+use Rattle.std.proofs.Common.{◌≡◌, inl, ℕ, List, Option, Some, None, Result, Ok, Err, refl, sym, ap, subst}
 use Rattle.std.specs.List.{concat}
 use Rattle.byte_output.specs.declared.paged.PagedOutput.{PagedOutput}
 use Rattle.dsm_model.specs.declared.outcome.Outcome.{Outcome}
@@ -8,7 +7,6 @@ use Rattle.dsm_model.specs.declared.outcome.Outcome.TheVariants.{Refused}
 use Rattle.dsm_model.specs.declared.outcome.StepRefusal.TheVariants.{NoReplica, NoProcedure}
 use Rattle.dsm_model.specs.Log.{Setting, by_number}
 use Rattle.dsm_model.specs.World.{World, Replica, Begin, Turn, Order, Deliver, Rebuild, IsStep, after_begin, after_step, numbered}
-use Rattle.script.specs.Script.{ScriptCommand}
 use Rattle.script.specs.declared.commands.Command.TheVariants as command
 use Rattle.script_actions.specs.Printed.{step_text, rows_text, log_text, entry_text}
 use Rattle.script_actions.specs.Actions.{Repeats, Begins, Does, is_more, is_delivery, longest_run, number_of_name}

@@ -1,12 +1,11 @@
 -- Texts that are given one after another, up to one of which a beginning is given.
-use Rattle.std.proofs.Common.{◌≡◌, ℕ, List, [], ◌++◌, Option, Some, None, Result, Ok, Err, refl, sym, ap, subst, ◌∙◌, append_assoc}
+use Rattle.std.proofs.Common.{◌≡◌, ℕ, List, [], ◌++◌, Option, Some, None, Result, Ok, Err, refl, sym, ap, ◌∙◌, append_assoc}
 use Rattle.std.proofs.lemmas.List.{append-nil}
 use Rattle.std.specs.Io.KnownBytes.{Appends}
 use Rattle.byte_output.specs.declared.paged.PagedOutput.{PagedOutput}
 use Rattle.byte_output.specs.Writes.{AppendsBeginning}
 use Rattle.byte_output.specs.Pending.{output_of, pending_of, Passes}
 use Rattle.byte_output.proofs.WritesLemmas.{Appends-then}
-use Rattle.byte_output.proofs.PendingLemmas.{Passes-then}
 use Rattle.dsm_model.specs.Log.{Setting}
 use Rattle.dsm_model.specs.World.{World}
 use Rattle.script.specs.Script.{ScriptCommand}
@@ -38,7 +37,7 @@ beginning_then contents a b c xs ys (left, first, p) (front, rest, second, q) = 
   left ++ front,
   rest,
   sym (append_assoc (pending_of a) xs ys) ∙ ap (λ (t : List ℕ). t ++ ys) first ∙ append_assoc left (pending_of b) ys ∙ ap (λ (t : List ℕ). left ++ t) second
-  ∙ sym (append_assoc left (front ++ pending_of c) rest) ∙ ap (λ (t : List ℕ). t ++ rest) (sym (append_assoc left front (pending_of c))),
+      ∙ sym (append_assoc left (front ++ pending_of c) rest) ∙ ap (λ (t : List ℕ). t ++ rest) (sym (append_assoc left front (pending_of c))),
   Appends-then (contents (output_of a).now) (contents (output_of b).now) (contents (output_of c).now) left front p q,
 )
 

@@ -1,13 +1,13 @@
 -- The lines of a log, by what replicas keep.
-use Rattle.std.proofs.Common.{◌≡◌, ℕ, zero, suc, ◌+◌, ◌<◌, ◌≤◌, Bool, true, false, cond, ◌||◌, find, nat_lt, List, [], ◌∷◌, length, map, take, slice_get, Option, Some, None, refl, sym, ap, subst, ◌∙◌, arith}
+use Rattle.std.proofs.Common.{◌≡◌, ℕ, suc, ◌+◌, ◌<◌, ◌≤◌, Bool, true, false, cond, ◌||◌, find, nat_lt, List, [], ◌∷◌, length, map, take, slice_get, Option, Some, None, refl, sym, ap, subst, ◌∙◌}
 use Rattle.std.specs.List.{list_any}
 use Rattle.std.specs.FinMap.{len}
 use Rattle.schema.specs.Rows.{Writes}
 use Rattle.dsm_model.specs.declared.verdict.Verdict.{Verdict}
-use Rattle.dsm_model.specs.Log.{Setting, Call, Log, run_in, verdict_of}
+use Rattle.dsm_model.specs.Log.{Call, run_in, verdict_of}
 use Rattle.dsm_model.specs.Comparisons.{comparisons_of}
 use Rattle.dsm_model.specs.Entries.{Entry, calls_of}
-use Rattle.dsm_model.specs.World.{World, Replica as Progress, numbered}
+use Rattle.dsm_model.specs.World.{Replica as Progress}
 use Rattle.replica.specs.Replica.{Replica, certification_of}
 use Rattle.dsm_world.specs.System.{SystemWorld, setting_of, world_of, progress_of, KeepsDelivered}
 use Rattle.dsm_world.proofs.Numbered.{get_map}

@@ -1,12 +1,9 @@
 -- What a world keeps, in words of its log.
-use Rattle.std.proofs.Common.{◌≡◌, ℕ, zero, suc, ◌+◌, ◌-◌, ◌<◌, ◌≤◌, Bool, true, false, List, [], ◌∷◌, ◌++◌, length, map, take, drop, slice_get, option_map, Option, Some, None, Result, Ok, Err, refl, sym, ap, subst, ◌∙◌, arith, append_assoc}
+use Rattle.std.proofs.Common.{◌≡◌, ℕ, zero, suc, ◌+◌, ◌<◌, ◌≤◌, List, [], ◌∷◌, ◌++◌, length, take, drop, slice_get, option_map, Option, Some, None, Result, Ok, Err, refl, sym, ap, subst, ◌∙◌, arith, append_assoc}
 use Rattle.std.proofs.lemmas.List.{append-nil}
-use Rattle.std.specs.FinMap.{get}
 use Rattle.schema.specs.declared.look.Look.{Look}
-use Rattle.schema.specs.Schema.{Tables}
-use Rattle.schema.specs.Rows.{Key, Rows, Writes, AreRows}
+use Rattle.schema.specs.Rows.{Writes}
 use Rattle.row_model.specs.InstalledWrites.{map_after}
-use Rattle.dsm_model.specs.declared.verdict.Verdict.{Verdict}
 use Rattle.dsm_model.specs.Log.{Setting, Call, Log, CertifiedCall, IsLog, rows_after, run_in, verdict_of, history, certified_call_after}
 use Rattle.dsm_model.specs.Comparisons.{comparisons_of, comparisons_after}
 use Rattle.dsm_model.specs.Entries.{Entry, calls_of, CarriesRun, CarryRuns, certified_calls_of, installed_from}
@@ -15,7 +12,7 @@ use Rattle.dsm_model.specs.World.{numbered}
 use Rattle.replica.specs.declared.certification.Certification.{Certification}
 use Rattle.replica.specs.Replica.{Replica, AreEntriesOf, StandsFor, rows_kept, certification_of}
 use Rattle.replica.proofs.KeepsLemmas.{certified_more, certified_count}
-use Rattle.dsm_world.specs.System.{SystemWorld, setting_of, world_of, KeepsDelivered}
+use Rattle.dsm_world.specs.System.{SystemWorld, setting_of, KeepsDelivered}
 use Rattle.dsm_world.proofs.Numbered.{numbered_map, get_lt}
 use Rattle.dsm_world.proofs.EntryLemmas.{RowsGrow, take_all, take_first, take_drop, calls_append, calls_count, take_count, all_at, entries_taken}
 use Rattle.byte_output.specs.declared.paged.PagedOutput.{PagedOutput}
@@ -129,7 +126,6 @@ taken_twice [] (suc n) (suc k) le = refl
 taken_twice (x ∷ xs) (suc n) (suc k) le = ap (λ ys. x ∷ ys) (taken_twice xs n k (omega arith))
 
 module _ (s : SystemWorld) (r : Replica) (before : ℕ) (e : Entry) (keeps : KeepsDelivered s r) (within : r.position ≤ length s.entries) (delivered : before < r.position) (at : slice_get s.entries before ≡ Some e) where
-
   pub stands_there : slice_get (take r.position s.entries) before ≡ Some e
   stands_there = get_taken s.entries r.position before delivered ∙ at
 

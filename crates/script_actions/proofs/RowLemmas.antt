@@ -1,5 +1,5 @@
 -- The lines of rows, as far as a loop has come.
-use Rattle.std.proofs.Common.{◌≡◌, ℕ, zero, suc, ◌+◌, ◌^◌, ◌<◌, ◌≤◌, List, [], ◌∷◌, ◌++◌, length, map, take, drop, slice_get, get_or, Option, Some, None, IsSome, refl, sym, ap, subst, ◌∙◌, arith, append_assoc}
+use Rattle.std.proofs.Common.{◌≡◌, ℕ, zero, suc, ◌+◌, ◌^◌, ◌<◌, ◌≤◌, List, [], ◌∷◌, ◌++◌, length, map, take, drop, slice_get, Option, Some, None, IsSome, refl, sym, ap, subst, ◌∙◌, arith, append_assoc}
 use Rattle.std.proofs.lemmas.List.{append-nil}
 use Rattle.std.specs.List.{concat}
 use Rattle.std.specs.FinMap.{get, entries}
@@ -12,7 +12,7 @@ use Rattle.schema.specs.Schema.{Tables}
 use Rattle.dsm_model.specs.Log.{Setting, Log, IsLog, rows_after}
 use Rattle.dsm_model.specs.Fit.{HasSafeProcedures, AreCalls}
 use Rattle.dsm_model.specs.Entries.{Entry, calls_of}
-use Rattle.dsm_model.specs.World.{Replica as Progress, numbered}
+use Rattle.dsm_model.specs.World.{numbered}
 use Rattle.replica.specs.Replica.{Replica, StandsFor, rows_kept}
 use Rattle.dsm_world.specs.System.{SystemWorld, setting_of, world_of, progress_of, KeepsDelivered}
 use Rattle.dsm_world.proofs.Numbered.{numbered_map}

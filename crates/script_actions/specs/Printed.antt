@@ -1,9 +1,9 @@
 -- What lines print of a world: the answers of steps, the rows of a replica, the log, an entry.
-use Rattle.std.specs.Prelude.{ℕ, zero, suc, ◌+◌, nat_lt, Bool, if◌then◌else◌, List, [], ◌∷◌, ◌++◌, codes, length, map, Option, Some, None}
+use Rattle.std.specs.Prelude.{ℕ, ◌+◌, nat_lt, Bool, if◌then◌else◌, List, [], ◌∷◌, ◌++◌, codes, length, map, Option, Some, None}
 use Rattle.std.specs.List.{concat, list_any}
 use Rattle.std.specs.Option.{option_map}
 use Rattle.std.specs.FinMap.{len, entries}
-use Rattle.schema.specs.Rows.{Key, Rows}
+use Rattle.schema.specs.Rows.{Key}
 use Rattle.dsm_model.specs.declared.outcome.Outcome.{Outcome}
 use Rattle.dsm_model.specs.declared.outcome.Outcome.TheVariants.{Delivered}
 use Rattle.dsm_model.specs.declared.outcome.StepRefusal.TheVariants.{NoReplica}

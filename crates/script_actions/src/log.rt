@@ -67,10 +67,7 @@ fn logged<A: Allocator + Copy>(world: &World<A>, before: u32) -> Line<'static>
 }
 
 /// The first of some replicas that has come further.
-fn further_than<A: Allocator + Copy>(
-    replicas: &[Replica<A>],
-    position: u32,
-) -> Option<&Replica<A>>
+fn further_than<A: Allocator + Copy>(replicas: &[Replica<A>], position: u32) -> Option<&Replica<A>>
     ensures { option_map (λ kept. kept.now) result ≡ find (λ kept. nat_lt position kept.position) replicas.now }
 {
     replicas.iter().find(|kept| kept.position() > position)

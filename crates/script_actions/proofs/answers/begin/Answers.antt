@@ -1,7 +1,7 @@
 use Rattle.std.proofs.Common.{◌≡◌, Option, Some, None, IsSome, sym, ap, subst, ◌∙◌, refl}
 use Rattle.std.specs.Prelude.{option_map}
 use Rattle.std.proofs.lemmas.Result.{err_from_is_err_and}
-use Rattle.dsm_model.specs.World.{Begin, numbered}
+use Rattle.dsm_model.specs.World.{Begin}
 use Rattle.dsm_world.specs.System.{setting_of, world_of, progress_of}
 use Rattle.dsm_world.proofs.Numbered.{numbered_map}
 use Rattle.replica.specs.Replica.{Replica as ReplicaState}
@@ -40,14 +40,20 @@ returns-in_err-step-clause-done g c =
     let f = c.in_err-step.ensures.failed in
     let named : number_of_name w c.args.name.now ≡ Some c.in-Some-by_name.procedure = sym (c.in-Some-by_name.ensures.there (subst IsSome c.in-Some.ensures refl)) in
     let q = err_from_is_err_and c.from_residual.result c.from_residual.ensures.1 in
-    rw q.1 (step_text w after.log (Begin c.args.replica c.in-Some-by_name.procedure c.args.args.now) f.0, after,
-    begins w (world_of c.args.world.now) c.args.replica c.args.name.now c.args.args.now c.in-Some-by_name.procedure f.0 after named f.1, f.2)
+    rw q.1 (
+      step_text w after.log (Begin c.args.replica c.in-Some-by_name.procedure c.args.args.now) f.0,
+      after,
+      begins w (world_of c.args.world.now) c.args.replica c.args.name.now c.args.args.now c.in-Some-by_name.procedure f.0 after named f.1,
+      f.2,
+    )
 
 pub returns-clause-done : goal.returns-clause-done
 returns-clause-done g c =
     let w = setting_of c.args.world.now in
     let after = world_of c.step.new.world in
     let s = c.in_ok-step.ensures.stepped in
-    let named : number_of_name w c.args.name.now ≡ Some c.in-Some-by_name.procedure = sym (c.in-Some-by_name.ensures.there (subst IsSome c.in-Some.ensures refl)) in
-    (step_text w after.log (Begin c.args.replica c.in-Some-by_name.procedure c.args.args.now) c.in_ok-step.field-0,
-    begins w (world_of c.args.world.now) c.args.replica c.args.name.now c.args.args.now c.in-Some-by_name.procedure c.in_ok-step.field-0 after named s.0, s.1)
+    let named : number_of_name w c.args.name.now ≡ Some c.in-Some-by_name.procedure = sym (c.in-Some-by_name.ensures.there (subst IsSome c.in-Some.ensures refl)) in (
+      step_text w after.log (Begin c.args.replica c.in-Some-by_name.procedure c.args.args.now) c.in_ok-step.field-0,
+      begins w (world_of c.args.world.now) c.args.replica c.args.name.now c.args.args.now c.in-Some-by_name.procedure c.in_ok-step.field-0 after named s.0,
+      s.1,
+    )

@@ -1,7 +1,6 @@
-use Rattle.std.proofs.Common.{◌≡◌, ℕ, suc, ◌+◌, ◌-◌, ◌<◌, ◌≤◌, zero, true, false, subst, sym, arith, rules, refl, ◌∙◌}
+use Rattle.std.proofs.Common.{◌≡◌, suc, ◌+◌, ◌-◌, zero, subst, arith, rules, refl, ◌∙◌}
 use Rattle.std.proofs.lemmas.Result.{err_from_is_err_and}
 use Rattle.std.specs.List.{concat}
-use Rattle.dsm_model.specs.declared.outcome.Outcome.{Outcome}
 use Rattle.dsm_model.specs.Log.{Setting}
 use Rattle.dsm_model.specs.World.{Deliver, IsStep}
 use Rattle.byte_output.specs.Pending.{Passes}
@@ -17,9 +16,12 @@ pub loop-init : goal.loop-init
 loop-init g c =
     let w = setting_of c.args.world.now in
     let start = world_of c.args.world.now in
-    let all : c.args.most ≡ c.args.most - 0 = omega arith in
-    (subst (λ k. Came g.W.Write.contents w (Deliver c.args.replica) is_delivery c.args.most k start start c.args.output.now c.args.output.now) all
-    (at_start g.W.Write.contents w (Deliver c.args.replica) is_delivery c.args.most start c.args.output.now), refl, refl)
+    let all : c.args.most ≡ c.args.most - 0 = omega arith in (
+      subst (λ k. Came g.W.Write.contents w (Deliver c.args.replica) is_delivery c.args.most k start start c.args.output.now c.args.output.now) all
+          (at_start g.W.Write.contents w (Deliver c.args.replica) is_delivery c.args.most start c.args.output.now),
+      refl,
+      refl,
+    )
 
 pub loop-preserved : goal.loop-preserved
 loop-preserved g c =
@@ -32,9 +34,11 @@ loop-preserved g c =
     let s = c.in_ok-outcome.ensures.stepped in
     let outcome = c.in_ok-outcome.outcome in
     let is = subst (λ (v : Setting). IsStep v here (Deliver c.args.replica) outcome next) c.loop.invariant.1 s.0 in
-    let given = subst (λ (v : Setting). Passes g.W.Write.contents c.loop.output c.step.new.output (step_text v next.log (Deliver c.args.replica) outcome)) c.loop.invariant.1 s.1 in
-    (came_more g.W.Write.contents w (Deliver c.args.replica) is_delivery c.args.most _ start here next c.args.output.now c.loop.output c.step.new.output outcome came is (search rules) given,
-    c.step.ensures.setting ∙ c.loop.invariant.1, c.step.ensures.same_output ∙ c.loop.invariant.2)
+    let given = subst (λ (v : Setting). Passes g.W.Write.contents c.loop.output c.step.new.output (step_text v next.log (Deliver c.args.replica) outcome)) c.loop.invariant.1 s.1 in (
+      came_more g.W.Write.contents w (Deliver c.args.replica) is_delivery c.args.most _ start here next c.args.output.now c.loop.output c.step.new.output outcome came is (search rules) given,
+      c.step.ensures.setting ∙ c.loop.invariant.1,
+      c.step.ensures.same_output ∙ c.loop.invariant.2,
+    )
 
 pub returns-then-not-is_delivery-clause-done : goal.returns-then-not-is_delivery-clause-done
 returns-then-not-is_delivery-clause-done g c =

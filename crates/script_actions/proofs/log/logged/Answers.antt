@@ -1,10 +1,8 @@
-use Rattle.std.proofs.Common.{◌≡◌, ◌+◌, ◌-◌, ◌<◌, Some, None, take, slice_get, length, subst, sym, ap, ◌∙◌, refl, arith, suc}
+use Rattle.std.proofs.Common.{◌≡◌, ◌+◌, ◌-◌, ◌<◌, Some, take, slice_get, subst, sym, ap, ◌∙◌, refl, arith, suc}
 use Rattle.std.proofs.lemmas.Bool.{ltb-true}
 use Rattle.std.specs.List.{find}
 use Rattle.std.specs.FinMap.{len}
-use Rattle.dsm_model.specs.World.{numbered}
-use Rattle.dsm_model.specs.Entries.{Entry, calls_of}
-use Rattle.dsm_world.specs.System.{setting_of, world_of}
+use Rattle.dsm_model.specs.Entries.{Entry}
 use Rattle.dsm_world.proofs.Numbered.{numbered_at}
 use Rattle.replica.specs.declared.certification.Certification.{Certification}
 use Rattle.replica.specs.Replica.{certification_of}
@@ -53,4 +51,5 @@ pub verdict_at-certification-requires-clause-to : goal.verdict_at-certification-
 verdict_at-certification-requires-clause-to g c =
     let r = c.in-Some-further_than.kept.now in
     let f = found c.args.before c.args.world.now.replicas r (ap (λ xs. find (further c.args.before) xs) (sym c.replicas.ensures) ∙ sym c.in-Some-further_than.ensures) in
-    ltb-true c.args.before r.position f.has
+    let delivered = ltb-true c.args.before r.position f.has in
+    omega arith

@@ -1,7 +1,6 @@
-use Rattle.std.proofs.Common.{◌≡◌, ◌<◌, ◌≤◌, ◌+◌, length, Some, slice_get, subst, sym, ap, ◌∙◌, refl, arith}
+use Rattle.std.proofs.Common.{subst, sym, ◌∙◌, refl, arith}
 use Rattle.std.proofs.lemmas.Result.{err_from_is_err_and}
 use Rattle.byte_output.specs.Pending.{Passes}
-use Rattle.dsm_model.specs.Entries.{calls_of}
 use Rattle.dsm_world.specs.System.{setting_of, world_of}
 use Rattle.dsm_world.proofs.EntryLemmas.{calls_count}
 use Rattle.dsm_world.proofs.Numbered.{get_within}
@@ -19,9 +18,11 @@ loop-before-preserved g c =
     let before = c.loop-before.before in
     let count = calls_count c.args.world.now.entries in
     let len = c.log_len-entries.ensures in
-    let there = get_within world.log before (omega arith) in
-    (one_more_line g.W.Write.contents w world before there.0 c.args.output.now c.loop-before.output c.put_line.new.output c.loop-before.invariant.0 there.1
-    (subst (Passes g.W.Write.contents c.loop-before.output c.put_line.new.output) (c.logged-line.ensures there.0 there.1) c.in_ok-put_line.ensures.given), c.put_line.ensures.same_output ∙ c.loop-before.invariant.1)
+    let there = get_within world.log before (omega arith) in (
+      one_more_line g.W.Write.contents w world before there.0 c.args.output.now c.loop-before.output c.put_line.new.output c.loop-before.invariant.0 there.1
+          (subst (Passes g.W.Write.contents c.loop-before.output c.put_line.new.output) (c.logged-line.ensures there.0 there.1) c.in_ok-put_line.ensures.given),
+      c.put_line.ensures.same_output ∙ c.loop-before.invariant.1,
+    )
 
 pub returns-in_err-put_line-clause-same_output : goal.returns-in_err-put_line-clause-same_output
 returns-in_err-put_line-clause-same_output g c = c.put_line.ensures.same_output ∙ c.loop-before.invariant.1

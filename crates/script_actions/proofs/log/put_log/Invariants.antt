@@ -1,4 +1,4 @@
-use Rattle.std.proofs.Common.{◌≡◌, drop}
+use Rattle.std.proofs.Common.{◌≡◌}
 use Rattle.byte_output.specs.Pending.{output_of}
 use Rattle.dsm_world.specs.System.{setting_of, world_of}
 use Rattle.script_actions.proofs.PrintedLemmas.{HaveLines}

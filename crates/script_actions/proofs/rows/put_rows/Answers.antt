@@ -45,9 +45,10 @@ loop-row-preserved g c =
     let there = get_is c.deref-row-items.result.now c.loop-row.row-index x c.loop-row-test.true c.row-item.is in
     let text : row_words c.table.result c.key.result c.bytes.result.now ++ codes "\n" ≡ row_text x =
     ap (λ n. row_words n c.key.result c.bytes.result.now ++ codes "\n") c.table.ensures ∙ ap (λ n. row_words x.0.0 n c.bytes.result.now ++ codes "\n") c.key.ensures ∙ ap (λ (b : List ℕ). row_words x.0.0 x.0.1 b ++ codes "\n") c.bytes.ensures in
-    let this = subst (Passes g.W.Write.contents c.loop-row.output c.put_line-in-loop-row.new.output) text c.in_ok-put_line.ensures.given in
-    (one_more_row g.W.Write.contents c.args.output.now c.loop-row.output c.put_line-in-loop-row.new.output c.deref-row-items.result.now c.loop-row.row-index x there c.loop-row.invariant.0 this,
-    c.put_line-in-loop-row.ensures.same_output ∙ c.loop-row.invariant.1)
+    let this = subst (Passes g.W.Write.contents c.loop-row.output c.put_line-in-loop-row.new.output) text c.in_ok-put_line.ensures.given in (
+      one_more_row g.W.Write.contents c.args.output.now c.loop-row.output c.put_line-in-loop-row.new.output c.deref-row-items.result.now c.loop-row.row-index x there c.loop-row.invariant.0 this,
+      c.put_line-in-loop-row.ensures.same_output ∙ c.loop-row.invariant.1,
+    )
 
 pub returns-clause-given : goal.returns-clause-given
 returns-clause-given g c =
