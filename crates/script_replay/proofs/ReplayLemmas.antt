@@ -1,5 +1,5 @@
 -- What a script may print from a stage on.
-use Rattle.std.proofs.Common.{◌≡◌, ◌≢◌, ◌⊎◌, inl, inr, ℕ, zero, suc, ◌+◌, Bool, true, false, cond, List, [], ◌∷◌, ◌++◌, Option, Some, None, Result, Ok, Err, refl, sym, ap, subst, ◌∙◌}
+use Rattle.std.proofs.Common.{◌≡◌, inl, ℕ, zero, suc, ◌+◌, Bool, true, false, List, [], ◌∷◌, ◌++◌, Option, Some, None, Result, Ok, Err, refl, sym, subst, ◌∙◌}
 use Rattle.std.specs.List.{concat}
 use Rattle.dsm_model.specs.declared.outcome.Outcome.{Outcome}
 use Rattle.dsm_model.specs.Log.{Setting}
@@ -13,7 +13,7 @@ use Rattle.script_settings.specs.Settings.{ScriptSettings, setting_after, is_set
 use Rattle.script_actions.specs.Printed.{step_text, rows_text, log_text, entry_text}
 use Rattle.script_actions.specs.Actions.{Later, Repeats, is_more, is_delivery, last_line, longest_run, number_of_name, Turns, Deliveries, OneStep, Begins, Does}
 use Rattle.script_replay.specs.Stage.{Stage, Setting_up, Acting, Action, Fails, Goes, Acts, sets, acts_first, action_of}
-use Rattle.script_replay.specs.Replay.{Ending, Finished, Faulty, PrintsAction, Prints}
+use Rattle.script_replay.specs.Replay.{Ending, Finished, Faulty, Prints}
 use Rattle.script_replay.specs.Doing.{PrintsFrom}
 
 -- ---- there is always a way on

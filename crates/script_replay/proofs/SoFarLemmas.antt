@@ -1,17 +1,17 @@
 -- A script as far as a loop over its lines has come.
-use Rattle.std.proofs.Common.{◌≡◌, ◌⊎◌, inl, inr, ℕ, ◌+◌, ◌<◌, List, [], ◌∷◌, ◌++◌, length, Option, Some, None, Result, Ok, Err, refl, sym, ap, subst, ◌∙◌, append_assoc}
+use Rattle.std.proofs.Common.{◌≡◌, inl, inr, ℕ, ◌+◌, List, [], ◌∷◌, ◌++◌, Option, Result, Ok, Err, refl, sym, ap, subst, ◌∙◌, append_assoc}
 use Rattle.byte_output.specs.declared.paged.PagedOutput.{PagedOutput}
 use Rattle.byte_output.specs.Pending.{Passes}
 use Rattle.byte_output.proofs.PendingLemmas.{Passes-then}
 use Rattle.script.specs.declared.fault.LineFault.TheVariants.{Bytes}
 use Rattle.script.specs.Text.{lines_of}
 use Rattle.script.specs.Script.{line_says}
-use Rattle.script_settings.specs.declared.cause.FaultCause.TheVariants.{Line, OutOfMemory}
-use Rattle.script_actions.specs.Doing.{PassesBeginning}
+use Rattle.script_settings.specs.declared.cause.FaultCause.TheVariants.{Line}
+use Rattle.script_settings.specs.declared.cause.ScriptFault.{ScriptFault}
 use Rattle.script_replay.specs.declared.stage.Stage as code
 use Rattle.script_replay.specs.declared.stop.Stop.{Stop}
 use Rattle.script_replay.specs.declared.stop.Stop.TheVariants.{Fault, Input, Output}
-use Rattle.script_replay.specs.Stage.{Stage, first_stage, Fails, action_of}
+use Rattle.script_replay.specs.Stage.{Stage, first_stage, action_of}
 use Rattle.script_replay.specs.Replay.{Ending, Finished, Faulty, Prints}
 use Rattle.script_replay.specs.Doing.{stage_of, PrintsFrom, Begun, Stopped, ActionDone, Replayed}
 use Rattle.script_replay.proofs.PassesLemmas.{Passes-nothing, PassesBeginning-front, PassesBeginning-then}
@@ -58,13 +58,15 @@ ends_here contents now number lines left old new so_far e = (
 )
 
 -- the next line is at fault for its bytes
-pub ends_at_bytes : {W : Type 0} (contents : W → Option (List ℕ)) (now : Stage) (number : ℕ) (lines left more : List (List ℕ)) (line : List ℕ) (old new : PagedOutput W) → SoFar W contents now number lines left old new
-    → left ≡ line ∷ more → line_says line ≡ Err Bytes → Stopped contents old new (Prints first_stage 1 lines) (Fault (record { line = number; cause = Line Bytes }))
-ends_at_bytes contents now number lines left more line old new so_far e says =
-    let p = prints_line now number line more [] (Faulty (record { line = number; cause = Line Bytes }))
-    (subst (λ said. PrintsFrom number (action_of now said) more [] (Faulty (record { line = number; cause = Line Bytes }))) (sym says) (refl, refl)) in
-    stopped contents now number lines left old new new (Fault (record { line = number; cause = Line Bytes })) so_far
-    (inr ([], subst (λ (ls : List (List ℕ)). Prints now number ls [] (Faulty (record { line = number; cause = Line Bytes }))) (sym e) p, Passes-nothing contents new))
+pub ends_at_bytes : {W : Type 0} (contents : W → Option (List ℕ)) (now : Stage) (number : ℕ) (lines left more : List (List ℕ)) (line : List ℕ) (old new : PagedOutput W) (stop : Stop) → SoFar W contents now number lines left old new
+    → left ≡ line ∷ more → line_says line ≡ Err Bytes → stop ≡ Fault (record { line = number; cause = Line Bytes }) → Stopped contents old new (Prints first_stage 1 lines) stop
+ends_at_bytes contents now number lines left more line old new stop so_far e says is =
+    let fault : ScriptFault = record { line = number; cause = Line Bytes } in
+    let p : Prints now number (line ∷ more) [] (Faulty fault) = prints_line now number line more [] (Faulty fault)
+    (subst (λ said. PrintsFrom number (action_of now said) more [] (Faulty fault)) (sym says) (refl, refl)) in
+    subst (Stopped contents old new (Prints first_stage 1 lines)) (sym is)
+    (stopped contents now number lines left old new new (Fault fault) so_far
+    (inr ([], subst (λ (ls : List (List ℕ)). Prints now number ls [] (Faulty fault)) (sym e) p, Passes-nothing contents new)))
 
 -- the next line was done
 pub line_goes_on : {A W : Type 0} (contents : W → Option (List ℕ)) (now : Stage) (next : code.Stage A) (number : ℕ) (lines left more : List (List ℕ)) (line : List ℕ) (old mid new : PagedOutput W)
@@ -74,9 +76,9 @@ line_goes_on contents now next number lines left more line old mid new so_far e 
   done = so_far.done ++ here;
   passed = Passes-then contents old mid new so_far.done here so_far.passed passes;
   back = λ text ending p.
-    subst (λ (t : List ℕ). Prints first_stage 1 lines t ending) (sym (append_assoc so_far.done here text))
-    (so_far.back (here ++ text) ending
-    (subst (λ (ls : List (List ℕ)). Prints now number ls (here ++ text) ending) (sym e) (prints_line now number line more (here ++ text) ending (on more text ending p))));
+      subst (λ (t : List ℕ). Prints first_stage 1 lines t ending) (sym (append_assoc so_far.done here text))
+      (so_far.back (here ++ text) ending
+      (subst (λ (ls : List (List ℕ)). Prints now number ls (here ++ text) ending) (sym e) (prints_line now number line more (here ++ text) ending (on more text ending p))));
 }
 
 -- what may be printed from a line on is what its action and then the lines behind it may print

@@ -1,10 +1,10 @@
 -- What is written at the end of a script, and what is said of it.
-use Rattle.std.proofs.Common.{◌≡◌, ◌⊎◌, inl, inr, ℕ, Bool, true, false, List, [], ◌++◌, Option, Some, None, Result, Ok, Err, IfSome, refl, sym, ap, subst, ◌∙◌}
+use Rattle.std.proofs.Common.{◌≡◌, ◌⊎◌, inl, inr, ℕ, true, List, [], Option, Some, None, Result, Ok, Err, IfSome, refl, sym, ap, subst, ◌∙◌}
 use Rattle.std.proofs.lemmas.List.{append-nil}
 use Rattle.std.specs.Io.KnownBytes.{Appends}
 use Rattle.byte_output.specs.declared.paged.PagedOutput.{PagedOutput}
 use Rattle.byte_output.specs.Pending.{output_of, pending_of, Passes}
-use Rattle.byte_output.specs.Writes.{AppendsBeginning, WritesText}
+use Rattle.byte_output.specs.Writes.{AppendsBeginning}
 use Rattle.byte_output.proofs.PendingLemmas.{Writes-finished}
 use Rattle.engines.specs.declared.status.TheConstants.{FAILED}
 use Rattle.script_settings.specs.declared.cause.FaultCause.{FaultCause}
@@ -14,13 +14,12 @@ use Rattle.script_replay.specs.declared.stop.Stop.{Stop}
 use Rattle.script_replay.specs.declared.stop.Stop.TheVariants.{Fault, Input, Output}
 use Rattle.script_replay.specs.Replay.{Ending, Finished, Faulty}
 use Rattle.script_replay.specs.Told.{Told}
-use Rattle.script_replay.specs.Doing.{Begun, Stopped, Replayed, has_output_failed, WrittenBeginning, Written, status_of_cause, IsSaid}
+use Rattle.script_replay.specs.Doing.{Begun, Replayed, has_output_failed, WrittenBeginning, Written, status_of_cause, IsSaid}
 use Rattle.script_replay.proofs.PassesLemmas.{Appends-nothing, PassesBeginning-front, PassesBeginning-finished, PassesBeginning-lost}
 
 -- ---- what was given is written
 
 module _ {W : Type 0} (contents : W → Option (List ℕ)) (a b : PagedOutput W) (old : W) (P : List ℕ → Ending → Type 0) (same : (output_of a).now ≡ old) (none : pending_of a ≡ []) where
-
   whole : (new : Option (List ℕ)) (text : List ℕ) → Passes contents a b text → Appends (contents (output_of b).now) new (pending_of b) → Appends (contents old) new text
   whole new text passes q = Writes-finished {T = ℕ} {E = ℕ} contents a b old new new text (Ok 0) refl same none passes q
 

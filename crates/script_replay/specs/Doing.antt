@@ -1,6 +1,6 @@
 -- What is given to an output, in front of which a page is kept, while a script's lines are done; and what is written at its
 -- end.
-use Rattle.std.specs.Prelude.{◌≡◌, ◌⊎◌, ℕ, ◌+◌, Bool, true, false, List, [], ◌++◌, Option, Result, Ok, Err}
+use Rattle.std.specs.Prelude.{◌≡◌, ◌⊎◌, ℕ, ◌+◌, Bool, true, false, List, ◌++◌, Option, Result, Ok, Err}
 use Rattle.std.specs.Io.KnownBytes.{Appends}
 use Rattle.byte_output.specs.declared.paged.PagedOutput.{PagedOutput}
 use Rattle.byte_output.specs.Pending.{Passes}
@@ -13,7 +13,7 @@ use Rattle.script_actions.specs.Doing.{PassesBeginning}
 use Rattle.script_replay.specs.declared.stage.Stage as code
 use Rattle.script_replay.specs.declared.stage.Stage.TheVariants.{SettingUp as SettingUpCode, Acting as ActingCode}
 use Rattle.script_replay.specs.declared.stop.Stop.{Stop}
-use Rattle.script_replay.specs.declared.stop.Stop.TheVariants.{Fault, Input, Output}
+use Rattle.script_replay.specs.declared.stop.Stop.TheVariants.{Fault, Output}
 use Rattle.script_replay.specs.Stage.{Stage, Setting_up, Acting, Action, Fails}
 use Rattle.script_replay.specs.Replay.{Ending, Finished, Faulty, Prints, PrintsAction}
 use Rattle.script_replay.specs.Told.{fault_line}

@@ -8,5 +8,3 @@ mod replay;
 mod stage;
 mod stop;
 mod told;
-#[cfg(test)]
-mod tests;

@@ -1,10 +1,10 @@
-use Rattle.std.proofs.Common.{◌∙◌, sym, subst}
+use Rattle.std.proofs.Common.{◌∙◌, subst}
 use Rattle.std.proofs.lemmas.Result.{err_from_is_err_and}
 use Rattle.script.specs.Text.{lines_of}
 use Rattle.script.specs.Reading.{IsNext}
 use Rattle.script_replay.specs.Stage.{first_stage}
 use Rattle.script_replay.specs.Replay.{ScriptPrints}
-use Rattle.script_replay.specs.Doing.{stage_of, Stopped}
+use Rattle.script_replay.specs.Doing.{stage_of}
 use Rattle.script_replay.proofs.DoneLemmas.{wanting}
 use Rattle.script_replay.proofs.SoFarLemmas.{from_start, stops_here, ends_here, ends_at_bytes, line_goes_on, line_stops, replayed_by, first_line}
 use Rattle.script_replay.proofs.replay.replay.Goals as goal
@@ -29,9 +29,8 @@ pub returns-in-Ok-TooLong-clause-replayed : goal.returns-in-Ok-TooLong-clause-re
 returns-in-Ok-TooLong-clause-replayed g c = λ bytes known.
     let s = c.loop-number.invariant.1 bytes known in
     let next = subst (IsNext s.0 (g.R.Read.remaining c.next_line.new.input) c.next_line.new.line.items) c.in-Ok-TooLong.field-0-is (c.in-Ok-TooLong.ensures s.0 s.1) in
-    subst (Stopped g.W.Write.contents c.args.output.now c.loop-number.output (ScriptPrints bytes)) (sym c.fault_at.ensures)
-    (ends_at_bytes g.W.Write.contents (stage_of c.loop-number.stage) c.loop-number.number (lines_of bytes) (lines_of s.0) next.1 next.0 c.args.output.now c.loop-number.output s.2 next.2
-    (c.lines_that_are_too_long_are_at_fault.ensures next.0 next.3))
+    ends_at_bytes g.W.Write.contents (stage_of c.loop-number.stage) c.loop-number.number (lines_of bytes) (lines_of s.0) next.1 next.0 c.args.output.now c.loop-number.output c.fault_at.result s.2 next.2
+    (c.lines_that_are_too_long_are_at_fault.ensures next.0 next.3) c.fault_at.ensures
 
 pub returns-in-Err-clause-replayed : goal.returns-in-Err-clause-replayed
 returns-in-Err-clause-replayed g c = λ bytes known.
@@ -56,7 +55,7 @@ loop-number-preserved g c = (
         next.0,
         next.1,
         line_goes_on g.W.Write.contents (stage_of c.loop-number.stage) c.in_ok-stage.stage c.loop-number.number (lines_of bytes) (lines_of s.0) (lines_of next.0) c.deref.result.now
-        c.args.output.now c.loop-number.output c.do_line.new.output s.2 (first_line s.0 next.0 c.next_line.new.line.items c.deref.result.now next.2 c.deref.ensures.value) c.in_ok-stage.ensures.done,
+            c.args.output.now c.loop-number.output c.do_line.new.output s.2 (first_line s.0 next.0 c.next_line.new.line.items c.deref.result.now next.2 c.deref.ensures.value) c.in_ok-stage.ensures.done,
       ),
 )
 
