@@ -1,4 +1,4 @@
--- The command lines `dsmdb list FILE` and `dsmdb check FILE ARGS [T:W ...]`, and what they ask for.
+-- The command lines `dsmdb list FILE`, `dsmdb check FILE ARGS [T:W ...]` and `dsmdb replay SCRIPT`, and what they ask for.
 use Rattle.std.specs.Prelude.{◌≡◌, true, List, [], codes, map, Option, Some, None}
 use Rattle.std.specs.Option.{option_and_then, unwrap_or}
 use Rattle.clap.specs.Words.{App, Rule, Row, Text, all_of, first_of, new_app, new_rule, with_rule, with_subcommand}
@@ -11,6 +11,9 @@ use Rattle.dsmdb.specs.declared.request.Plan.TheVariants as plan
 
 abbrev pub file_rule : Rule
 file_rule = record (new_rule (codes "FILE")) { required = true; action = Some Set }
+
+abbrev pub script_rule : Rule
+script_rule = record (new_rule (codes "SCRIPT")) { required = true; action = Some Set }
 
 abbrev pub args_rule : Rule
 args_rule = record (new_rule (codes "ARGS")) { required = true; action = Some Set }
@@ -25,14 +28,17 @@ list_line = with_rule (new_app (codes "list")) file_rule
 abbrev pub check_line : App
 check_line = with_rule (with_rule (with_rule (new_app (codes "check")) file_rule) args_rule) table_rule
 
+abbrev pub replay_line : App
+replay_line = with_rule (new_app (codes "replay")) script_rule
+
 abbrev pub named_command : App
 named_command = new_app (codes "dsmdb")
 
 -- a command is required, but for the flags `--help` and `--version`
 abbrev pub command_line : App
 command_line = with_subcommand
-    (with_subcommand (record named_command { top = record named_command.top { has_version = true; subcommand_required = true } }) list_line.top)
-    check_line.top
+    (with_subcommand (with_subcommand (record named_command { top = record named_command.top { has_version = true; subcommand_required = true } }) list_line.top) check_line.top)
+    replay_line.top
 
 -- ---- what it asks for
 
@@ -48,8 +54,13 @@ IsCheckOf rows (plan.Check file args_len tables) =
     × (map table_of (unwrap_or (all_of (codes "T:W") rows) []) ≡ map (λ t. Some t) tables.items)
 IsCheckOf rows _ = ⊥
 
+abbrev pub IsReplayOf : List Row → Plan → Type 0
+IsReplayOf rows (plan.Replay script) = first_of (codes "SCRIPT") rows ≡ Some script.now
+IsReplayOf rows _ = ⊥
+
 -- the plan is the command that was met, with the values that were read for it
 abbrev pub IsPlanOf : Option (Text × List Row) → Plan → Type 0
 IsPlanOf None _ = ⊥
 IsPlanOf (Some command) (plan.List file) = (command.0 ≡ codes "list") × IsListOf command.1 (plan.List file)
 IsPlanOf (Some command) (plan.Check file args_len tables) = (command.0 ≡ codes "check") × IsCheckOf command.1 (plan.Check file args_len tables)
+IsPlanOf (Some command) (plan.Replay script) = (command.0 ≡ codes "replay") × IsReplayOf command.1 (plan.Replay script)

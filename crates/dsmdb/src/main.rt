@@ -6,11 +6,13 @@ ghost use Rattle.std.specs.Prelude.{◌≤◌};
 use engines::{FAILED, check_over, list_over};
 use plan::plan;
 use request::{Plan, PlanFault};
+use script_replay::replay_over;
 use std::fs::File;
-use std::io::Write;
+use std::io::{BufReader, Write};
 use std::process::ExitCode;
 use std::{env, io};
 
+mod help;
 mod plan;
 mod request;
 
@@ -56,6 +58,22 @@ fn check_file(rt: &HostRuntime, path: &str, args_len: u16, tables: &[(u8, u16)])
     }
 }
 
+/// Replays the script in a file.
+fn replay_file(rt: &HostRuntime, path: &str) -> io::Result<u8> {
+    let mut faults = rt.stderr();
+    match File::open(rt, path) {
+        Ok(file) => {
+            let mut input = BufReader::new(rt.alloc(), file)?;
+            let mut output = rt.stdout();
+            Ok(replay_over(rt.alloc(), &mut input, &mut output, &mut faults))
+        }
+        Err(error) => {
+            writeln!(faults, "dsmdb: {path}: {error}")?;
+            Ok(FAILED)
+        }
+    }
+}
+
 fn refused(rt: &HostRuntime, fault: &PlanFault<'_>) -> io::Result<u8> {
     match fault {
         PlanFault::CommandLine(error) => {
@@ -84,6 +102,7 @@ fn run(rt: &HostRuntime) -> io::Result<u8> {
                 tables,
             },
         ) => check_file(rt, file, args_len, &tables),
+        Ok(Plan::Replay { script }) => replay_file(rt, script),
         Err(fault) => refused(rt, &fault),
     }
 }

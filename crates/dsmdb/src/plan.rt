@@ -4,8 +4,9 @@ ghost use Rattle.std.specs.Prelude.{◌≡◌, [], codes, Some, IfOk, map};
 ghost use Rattle.std.specs.Option.{unwrap_or};
 ghost use Rattle.clap.specs.Words.{all_of, app_of, found_of, rows_of, rule_of, subcommand_of, subcommand_rows_of};
 ghost use Rattle.engines.specs.Number.{table_of};
-ghost use Rattle.dsmdb.specs.Plan.{args_rule, check_line, command_line, file_rule, list_line, table_rule, IsPlanOf, IsListOf, IsCheckOf};
+ghost use Rattle.dsmdb.specs.Plan.{args_rule, check_line, command_line, file_rule, list_line, replay_line, script_rule, table_rule, IsPlanOf, IsListOf, IsCheckOf, IsReplayOf};
 
+use crate::help::SCRIPT_HELP;
 use crate::request::{Plan, PlanFault};
 use clap::{Arg, ArgAction, ArgMatches, Command};
 use engines::{number_in, table};
@@ -23,6 +24,7 @@ pub fn plan<'a, S: AsStr>(alloc: Global, words: &'a [S]) -> Result<Plan<'a>, Pla
     match matches.subcommand() {
         Some(("list", values)) => list_plan(values),
         Some(("check", values)) => check_plan(alloc, values),
+        Some(("replay", values)) => replay_plan(values),
         _ => Err(PlanFault::NoCommand),
     }
 }
@@ -83,18 +85,30 @@ fn read_tables<'a>(alloc: Global, words: &[&'a str]) -> Result<Vec<(u8, u16)>, P
     Ok(tables)
 }
 
+/// The values of `replay`.
+fn replay_plan<'a>(values: &ArgMatches<'a>) -> Result<Plan<'a>, PlanFault<'a>>
+    ensures { IfOk result (IsReplayOf (rows_of (found_of values.now))) }
+{
+    match values.get_str("SCRIPT") {
+        Some(script) => Ok(Plan::Replay { script }),
+        None => Err(PlanFault::NoCommand),
+    }
+}
+
 /// What clap reads of the words.
 fn matches<'a, S: AsStr>(alloc: Global, words: &'a [S]) -> Result<ArgMatches<'a>, PlanFault<'a>>
     ensures { IfOk result (λ m. subcommand_rows_of m ≡ subcommand_of command_line (map S.text words.entry.now)) }
 {
     let list = list_command(alloc)?;
     let check = check_command(alloc)?;
+    let replay = replay_command(alloc)?;
     let dsmdb = Command::new(alloc, "dsmdb")
         .about("A multi-master row database with verified BPF procedures")
         .version(VERSION)
         .subcommand_required(true)
         .subcommand(list)?;
     let dsmdb = dsmdb.subcommand(check)?;
+    let dsmdb = dsmdb.subcommand(replay)?;
     Ok(dsmdb.try_get_matches_from(words)?)
 }
 
@@ -114,6 +128,24 @@ fn check_command<'a>(alloc: Global) -> Result<Command<'a>, AllocError>
         .arg(file(alloc))?;
     let command = command.arg(args(alloc))?;
     command.arg(tables_arg(alloc))
+}
+
+fn replay_command<'a>(alloc: Global) -> Result<Command<'a>, AllocError>
+    ensures { IfOk result (λ c. app_of c ≡ replay_line) }
+{
+    Command::new(alloc, "replay")
+        .about("Runs a script on a world of replicas, and prints what each line answers")
+        .after_help(SCRIPT_HELP)
+        .arg(script(alloc))
+}
+
+fn script<'a>(alloc: Global) -> Arg<'a>
+    ensures { rule_of result ≡ script_rule }
+{
+    Arg::new(alloc, "SCRIPT")
+        .help("A file with the lines of a script")
+        .required(true)
+        .action(ArgAction::Set)
 }
 
 fn file<'a>(alloc: Global) -> Arg<'a>

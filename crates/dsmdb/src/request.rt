@@ -17,6 +17,10 @@ pub enum Plan<'a> {
         args_len: u16,
         tables: Vec<(u8, u16)>,
     },
+    /// Replay the script in this file.
+    Replay {
+        script: &'a str,
+    },
 }
 
 /// Why the words are no plan.

@@ -3,12 +3,12 @@
 ghost use Rattle.std.specs.Prelude.{◌≡◌, ◌≤◌, IfOk, OnErr};
 ghost use Rattle.byte_output.specs.Pending.{output_of, Passes};
 ghost use Rattle.dsm_model.specs.declared.outcome.Outcome.{Outcome as ModelOutcome};
-ghost use Rattle.dsm_model.specs.World.{IsStep};
+ghost use Rattle.dsm_model.specs.World.{IsStep, Turn as TurnStep};
 ghost use Rattle.dsm_world.specs.System.{setting_of, world_of, step_of};
 ghost use Rattle.report.specs.Answers.{answer_line};
 ghost use Rattle.script.specs.declared.commands.Command.TheVariants as command;
 ghost use Rattle.script_actions.specs.Printed.{delivered_reply, step_text};
-ghost use Rattle.script_actions.specs.Actions.{is_more, is_delivery};
+ghost use Rattle.script_actions.specs.Actions.{is_more, is_delivery, Turns};
 ghost use Rattle.script_actions.specs.Doing.{PassesBeginning, HasDone};
 
 use crate::failure::Failure;
@@ -82,10 +82,10 @@ pub(crate) fn begin<A: Allocator + Copy, W: Write>(
     ensures done { HasDone W.contents (setting_of world.old) (world_of world.old) (command.Begin replica name.now args.now)
         output.old output.new result (world_of world.new) }
 {
-    if world.replica(replica).is_none() {
+    let Some(_kept) = world.replica(replica) else {
         let refused = Outcome::Refused(StepRefusal::NoReplica);
         return put_answer(alloc, output, begin_line(replica, refused));
-    }
+    };
     let Some(procedure) = world.by_name(replica, name) else {
         let refused = Outcome::Refused(StepRefusal::NoProcedure);
         return put_answer(alloc, output, begin_line(replica, refused));
@@ -113,14 +113,24 @@ pub(crate) fn turn<A: Allocator + Copy, W: Write>(
     ensures done { HasDone W.contents (setting_of world.old) (world_of world.old) (command.Turn call most)
         output.old output.new result (world_of world.new) }
 {
+    let outcome = last_turn(world, call, most);
+    put_answer(alloc, output, call_line(call, outcome))
+}
+
+/// What the last of up to so many turns of a call answers.
+fn last_turn<A: Allocator + Copy>(world: &mut World<A>, call: u32, most: u32) -> Outcome
+    requires { 1 ≤ most }
+    ensures setting { setting_of world.new ≡ setting_of world.old }
+    ensures turned { Turns (setting_of world.old) (world_of world.old) call most
+        (step_text (setting_of world.old) (world_of world.new).log (TurnStep call) result) (world_of world.new) }
+{
     for _ in 1..most {
         let outcome = world.step(Step::Turn { call });
         if !is_more(outcome) {
-            return put_answer(alloc, output, call_line(call, outcome));
+            return outcome;
         }
     }
-    let outcome = world.step(Step::Turn { call });
-    put_answer(alloc, output, call_line(call, outcome))
+    world.step(Step::Turn { call })
 }
 
 fn is_more(outcome: Outcome) -> bool

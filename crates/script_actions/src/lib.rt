@@ -1,10 +1,10 @@
 //! What the lines of a script do to a world of replicas, and what they print of it.
 #![tactic(auto)]
 
-pub use act::act;
+pub use actions::act;
 pub use failure::Failure;
 
-mod act;
+mod actions;
 mod answers;
 mod failure;
 mod log;

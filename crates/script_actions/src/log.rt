@@ -1,16 +1,20 @@
 //! The log, and its entries.
 
-ghost use Rattle.std.specs.Prelude.{◌≡◌, ◌≤◌, length};
+ghost use Rattle.std.specs.Prelude.{◌≡◌, ◌<◌, find, length, nat_lt, option_map, slice_get, Some};
 ghost use Rattle.byte_output.specs.Pending.{output_of};
+ghost use Rattle.dsm_model.specs.Log.{Call};
 ghost use Rattle.dsm_world.specs.System.{setting_of, world_of};
-ghost use Rattle.script_actions.specs.Printed.{log_text, entry_text};
+ghost use Rattle.report.specs.Lines.{line_text};
+ghost use Rattle.script_actions.specs.Printed.{logged_text, log_text, entry_text};
 ghost use Rattle.script_actions.specs.Doing.{Gives};
 
 use crate::failure::Failure;
 use crate::output::put_line;
 use byte_output::paged::PagedOutput;
+use dsm_model::{a_log_only_grows, entries_suffice};
 use dsm_world::World;
 use log_entry::to_bytes;
+use replica::{Replica, replicas_follow_the_log};
 use report::{Line, LoggedEntry};
 use std::alloc::Allocator;
 use std::io::Write;
@@ -34,7 +38,13 @@ pub(crate) fn put_log<A: Allocator + Copy, W: Write>(
 
 /// The line of the entry that has so many before it.
 fn logged<A: Allocator + Copy>(world: &World<A>, before: u32) -> Line<'static>
+    requires { before < length world.now.entries }
+    ensures { (call : Call) → slice_get (world_of world.now).log before ≡ Some call
+        → line_text result ≡ logged_text (setting_of world.now) (world_of world.now) before call }
 {
+    a_log_only_grows();
+    entries_suffice();
+    replicas_follow_the_log();
     world.keeps_what_was_delivered();
     let Some(entry) = world.entry(before + 1) else {
         unreachable!()
@@ -45,17 +55,25 @@ fn logged<A: Allocator + Copy>(world: &World<A>, before: u32) -> Line<'static>
         snapshot: entry.snapshot,
         writes: entry.writes.len(),
     };
-    match world.replicas().iter().find(|kept| kept.position() > before) {
-        Some(kept) => {
-            let certification = kept.verdict_at(before + 1);
-            Line::Certified {
-                entry,
-                compared: certification.compared,
-                verdict: certification.verdict,
-            }
-        }
-        None => Line::Open(entry),
+    let Some(kept) = further_than(world.replicas(), before) else {
+        return Line::Open(entry);
+    };
+    let certification = kept.verdict_at(before + 1);
+    Line::Certified {
+        entry,
+        compared: certification.compared,
+        verdict: certification.verdict,
     }
+}
+
+/// The first of some replicas that has come further.
+fn further_than<A: Allocator + Copy>(
+    replicas: &[Replica<A>],
+    position: u32,
+) -> Option<&Replica<A>>
+    ensures { option_map (λ kept. kept.now) result ≡ find (λ kept. nat_lt position kept.position) replicas.now }
+{
+    replicas.iter().find(|kept| kept.position() > position)
 }
 
 /// Prints the bytes of the entry at a position.

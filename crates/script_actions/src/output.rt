@@ -8,7 +8,7 @@ ghost use Rattle.script_actions.specs.Doing.{Gives};
 
 use crate::failure::Failure;
 use byte_output::paged::PagedOutput;
-use report::{Line, line};
+use report::{Line, answer, line};
 use std::alloc::Allocator;
 use std::io::Write;
 
@@ -32,7 +32,7 @@ pub(crate) fn put_answer<A: Allocator + Copy, W: Write>(
     said: Option<Line<'static>>,
 ) -> Result<(), Failure>
     ensures same_output { (output_of output.new).ghost_name ≡ (output_of output.old).ghost_name }
-    ensures given { Gives W.contents output.old output.new result (text_of said) }
+    ensures given { Gives W.contents output.old output.new result (text_of said.entry) }
 {
     let text = answer(alloc, said)?;
     put(output, &text)

@@ -10,7 +10,7 @@ ghost use Rattle.script_actions.specs.Doing.{Gives};
 use crate::failure::Failure;
 use crate::output::put_line;
 use byte_output::paged::PagedOutput;
-use dsm_model::StepRefusal;
+use dsm_model::{StepRefusal, a_log_only_grows, entries_suffice, rows_fit_the_schema};
 use dsm_world::World;
 use report::{Line, ReplicaReport};
 use std::alloc::Allocator;
@@ -27,6 +27,9 @@ pub(crate) fn put_rows<A: Allocator + Copy, W: Write>(
     ensures given { Gives W.contents output.old output.new result
         (rows_text (setting_of world.now) (world_of world.now).log replica (numbered (world_of world.now).replicas replica)) }
 {
+    a_log_only_grows();
+    entries_suffice();
+    rows_fit_the_schema();
     world.keeps_what_was_delivered();
     let Some(kept) = world.replica(replica) else {
         let report = ReplicaReport::Refused(StepRefusal::NoReplica);
@@ -37,7 +40,7 @@ pub(crate) fn put_rows<A: Allocator + Copy, W: Write>(
         let line = Line::Row {
             table: row.table(),
             key: row.key(),
-            bytes: row.value().as_slice(),
+            bytes: row.bytes(),
         };
         put_line(alloc, output, &line)?;
     }

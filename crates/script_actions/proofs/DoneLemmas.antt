@@ -1,0 +1,79 @@
+-- What lines do, by what was done.
+use Rattle.std.proofs.Common.{◌≡◌, ◌⊎◌, inl, ℕ, List, Option, Some, None, Result, Ok, Err, refl, sym, ap, subst}
+use Rattle.std.specs.Prelude.{option_map}
+use Rattle.std.specs.List.{concat}
+use Rattle.byte_output.specs.declared.paged.PagedOutput.{PagedOutput}
+use Rattle.dsm_model.specs.declared.outcome.Outcome.{Outcome}
+use Rattle.dsm_model.specs.declared.outcome.Outcome.TheVariants.{Refused}
+use Rattle.dsm_model.specs.declared.outcome.StepRefusal.TheVariants.{NoReplica, NoProcedure}
+use Rattle.dsm_model.specs.Log.{Setting, by_number}
+use Rattle.dsm_model.specs.World.{World, Replica, Begin, Turn, Order, Deliver, Rebuild, IsStep, after_begin, after_step, numbered}
+use Rattle.script.specs.Script.{ScriptCommand}
+use Rattle.script.specs.declared.commands.Command.TheVariants as command
+use Rattle.script_actions.specs.Printed.{step_text, rows_text, log_text, entry_text}
+use Rattle.script_actions.specs.Actions.{Repeats, Begins, Does, is_more, is_delivery, longest_run, number_of_name}
+use Rattle.script_actions.specs.Doing.{Gives, HasDone}
+use Rattle.script_actions.proofs.GivenLemmas.{gives_done}
+use Rattle.script_actions.proofs.RepeatLemmas.{AllRan}
+
+pub orders : (w : Setting) (before : World) (call : ℕ) (outcome : Outcome) (after : World) → IsStep w before (Order call) outcome after → Does w before (command.Order call) (step_text w after.log (Order call) outcome) after
+unfolding Does
+orders w before call outcome after is = (outcome, is, refl)
+
+pub rebuilds : (w : Setting) (before : World) (r : ℕ) (outcome : Outcome) (after : World) → IsStep w before (Rebuild r) outcome after → Does w before (command.Rebuild r) (step_text w after.log (Rebuild r) outcome) after
+unfolding Does
+rebuilds w before r outcome after is = (outcome, is, refl)
+
+pub begins : (w : Setting) (before : World) (r : ℕ) (name args : List ℕ) (procedure : ℕ) (outcome : Outcome) (after : World) → number_of_name w name ≡ Some procedure → IsStep w before (Begin r procedure args) outcome after
+    → Does w before (command.Begin r name args) (step_text w after.log (Begin r procedure args) outcome) after
+unfolding Does
+begins w before r name args procedure outcome after named is = subst (λ (o : Option ℕ). Begins w before r args o (step_text w after.log (Begin r procedure args) outcome) after) (sym named) (outcome, is, refl)
+
+pub begins_unnamed : (w : Setting) (before : World) (r : ℕ) (name args : List ℕ) (kept : Replica) → number_of_name w name ≡ None → numbered before.replicas r ≡ Some kept
+    → Does w before (command.Begin r name args) (step_text w before.log (Begin r 0 args) (Refused NoProcedure)) before
+unfolding Does
+begins_unnamed w before r name args kept named there =
+    subst (λ (o : Option ℕ). Begins w before r args o (step_text w before.log (Begin r 0 args) (Refused NoProcedure)) before) (sym named)
+    (ap (λ (k : Option Replica). step_text w before.log (Begin r 0 args) (after_begin before r 0 args k None).0) (sym there), refl)
+
+nowhere : (w : Setting) (before : World) (r procedure : ℕ) (args : List ℕ) → numbered before.replicas r ≡ None → after_step w before (Begin r procedure args) ≡ (Refused NoReplica, before)
+unfolding after_step
+nowhere w before r procedure args none = ap (λ (k : Option Replica). after_begin before r procedure args k (by_number w.catalogue procedure)) none
+
+pub begins_nowhere : (w : Setting) (before : World) (r : ℕ) (name args : List ℕ) → numbered before.replicas r ≡ None
+    → Does w before (command.Begin r name args) (step_text w before.log (Begin r 0 args) (Refused NoReplica)) before
+unfolding Does
+begins_nowhere w before r name args none = go (number_of_name w name)
+  where
+    go : (o : Option ℕ) → Begins w before r args o (step_text w before.log (Begin r 0 args) (Refused NoReplica)) before
+    go None = (ap (λ (k : Option Replica). step_text w before.log (Begin r 0 args) (after_begin before r 0 args k None).0) (sym none), refl)
+    go (Some p) = (Refused NoReplica, inl (nowhere w before r p args none), refl)
+
+pub delivers : (w : Setting) (before : World) (r most : ℕ) (lines : List (List ℕ)) (after : World) → Repeats w (Deliver r) is_delivery most before lines after → Does w before (command.Deliver r most) (concat lines) after
+unfolding Does
+delivers w before r most lines after r-is = (lines, r-is, refl)
+
+pub turns : (w : Setting) (before : World) (call most : ℕ) (text : List ℕ) (after : World) → AllRan w (Turn call) is_more most before after text → Does w before (command.Turn call most) text after
+unfolding Does
+turns w before call most text after ran = ran
+
+-- `exec` is so many turns
+pub executes : {W T E : Type 0} (contents : W → Option (List ℕ)) (w : Setting) (before : World) (call : ℕ) (old new : PagedOutput W) (result : Result T E) (after : World)
+    → HasDone contents w before (command.Turn call longest_run) old new result after → HasDone contents w before (command.Exec call) old new result after
+unfolding Does
+executes contents w before call old new (Ok x) after done = done
+executes contents w before call old new (Err x) after done = done
+
+pub shows_rows : {W T E : Type 0} (contents : W → Option (List ℕ)) (w : Setting) (world : World) (r : ℕ) (old new : PagedOutput W) (result : Result T E) → Gives contents old new result (rows_text w world.log r (numbered world.replicas r))
+    → HasDone contents w world (command.Rows r) old new result world
+unfolding Does
+shows_rows contents w world r old new result given = gives_done contents w world (command.Rows r) old new result world (rows_text w world.log r (numbered world.replicas r)) (refl, refl) given
+
+pub shows_log : {W T E : Type 0} (contents : W → Option (List ℕ)) (w : Setting) (world : World) (old new : PagedOutput W) (result : Result T E) → Gives contents old new result (log_text w world) → HasDone contents w world command.Log old new result world
+unfolding Does
+shows_log contents w world old new result given = gives_done contents w world command.Log old new result world (log_text w world) (refl, refl) given
+
+pub shows_entry : {W T E : Type 0} (contents : W → Option (List ℕ)) (w : Setting) (world : World) (position : ℕ) (old new : PagedOutput W) (result : Result T E) → Gives contents old new result (entry_text w world.log position)
+    → HasDone contents w world (command.Entry position) old new result world
+unfolding Does
+shows_entry contents w world position old new result given = gives_done contents w world (command.Entry position) old new result world (entry_text w world.log position) (refl, refl) given

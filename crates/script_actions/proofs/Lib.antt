@@ -1,0 +1,6 @@
+pub mod GivenLemmas
+pub mod RepeatLemmas
+mod PrintedLemmas
+mod LogLemmas
+mod RowLemmas
+pub mod DoneLemmas

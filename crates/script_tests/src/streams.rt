@@ -1,0 +1,103 @@
+//! Inputs and outputs that fail.
+
+use std::alloc::Global;
+use std::io;
+use std::io::{BufRead, ErrorKind, Read, Write};
+
+/// Gives its bytes, so many at a time, and then fails, or ends.
+#[derive(Drop)]
+pub(crate) struct Input<'a> {
+    pub(crate) left: &'a [u8],
+    pub(crate) at_once: usize,
+    pub(crate) fails: bool,
+}
+
+impl Read for Input<'_> {
+    fn read(&mut self, buf: &mut [u8]) -> io::Result<usize> {
+        if self.left.is_empty() && self.fails {
+            return Err(io::Error::from(ErrorKind::Other));
+        }
+        self.left.read(buf)
+    }
+}
+
+impl BufRead for Input<'_> {
+    fn fill_buf(&mut self) -> io::Result<&[u8]> {
+        if self.left.is_empty() && self.fails {
+            return Err(io::Error::from(ErrorKind::Other));
+        }
+        let (shown, _) = self.left.split_at(self.left.len().min(self.at_once));
+        Ok(shown)
+    }
+
+    fn consume(&mut self, amt: usize) {
+        let (_, left) = self.left.split_at(self.left.len().min(amt));
+        self.left = left;
+    }
+}
+
+/// How an output goes on behind its room.
+#[derive(Clone, Copy, PartialEq, Eq)]
+pub(crate) enum Full {
+    Fails,
+    TakesNothing,
+}
+
+/// Takes so many bytes, and what it took. Its flush may fail.
+#[derive(Drop)]
+pub(crate) struct Output {
+    pub(crate) room: usize,
+    pub(crate) full: Full,
+    pub(crate) flushes: bool,
+    pub(crate) held: Vec<u8>,
+    /// How often it was written to or flushed after it had failed.
+    pub(crate) after_failure: u32,
+    failed: bool,
+}
+
+impl Output {
+    pub(crate) fn new(alloc: Global, room: usize, full: Full) -> Output {
+        Output {
+            room,
+            full,
+            flushes: true,
+            held: Vec::new(alloc),
+            after_failure: 0,
+            failed: false,
+        }
+    }
+
+    fn count(&mut self) {
+        if self.failed {
+            self.after_failure = self.after_failure.saturating_add(1);
+        }
+    }
+}
+
+impl Write for Output {
+    fn write(&mut self, buf: &[u8]) -> io::Result<usize> {
+        self.count();
+        if self.room == 0 {
+            self.failed = true;
+            return match self.full {
+                Full::Fails => Err(io::Error::from(ErrorKind::Other)),
+                Full::TakesNothing => Ok(0),
+            };
+        }
+        let taken = buf.len().min(self.room);
+        let (front, _) = buf.split_at(taken);
+        self.held.extend_from_slice(front)?;
+        self.room -= taken;
+        Ok(taken)
+    }
+
+    fn flush(&mut self) -> io::Result<()> {
+        self.count();
+        if self.flushes {
+            Ok(())
+        } else {
+            self.failed = true;
+            Err(io::Error::from(ErrorKind::Other))
+        }
+    }
+}

@@ -1,0 +1,215 @@
+use crate::stories::{FALLS_BEHIND, INTERVALS, STORIES, Story, TWO_INCREMENTS};
+use crate::streams::{Full, Input, Output};
+use scarce::Scarce;
+use script_replay::replay_over;
+use std::alloc::{AllocError, Allocator, Global};
+use std::test::Fail;
+
+/// Lines, each with an LF.
+fn joined(alloc: Global, lines: &[&str]) -> Result<Vec<u8>, AllocError> {
+    let mut text = Vec::new(alloc);
+    for line in lines {
+        text.extend_from_slice(line.as_bytes())?;
+        text.extend_from_slice(b"\n")?;
+    }
+    Ok(text)
+}
+
+/// The exit status, what is printed, and what is said of faults.
+fn replayed<A: Allocator + Copy>(alloc: A, global: Global, script: &[u8]) -> (u8, Vec<u8>, Vec<u8>) {
+    let mut input = script;
+    let mut output = Vec::new(global);
+    let mut faults = Vec::new(global);
+    let status = replay_over(alloc, &mut input, &mut output, &mut faults);
+    (status, output, faults)
+}
+
+/// Whether a script prints what it should, with one line said of its fault where it has one, and with the status of that.
+fn tells(alloc: Global, lines: &[&str], prints: &[&str], fault: &str) -> Result<bool, AllocError> {
+    let script = joined(alloc, lines)?;
+    let expected = joined(alloc, prints)?;
+    let (status, output, faults) = replayed(alloc, alloc, &script);
+    let said = if fault.is_empty() {
+        Vec::new(alloc)
+    } else {
+        joined(alloc, &[fault])?
+    };
+    let is_faulty = u8::from(!fault.is_empty());
+    Ok(status == is_faulty && output.as_slice() == expected.as_slice() && faults.as_slice() == said.as_slice())
+}
+
+#[test]
+fn stories_print_what_they_should(rt: HostRuntime) -> Result<(), Fail> {
+    for (at, story) in STORIES.iter().enumerate() {
+        let told = tells(rt.alloc(), story.lines, story.prints, story.fault)?;
+        assert!(rt; told, "story {at}");
+    }
+    Ok(())
+}
+
+const ONE: &str = "proc one 9 0 b7000000010000009500000000000000";
+
+/// Lines, what they print, and the fault of the last.
+const FAULTS: [(&[&str], &[&str], &str); 21] = [
+    (&["window\t4"], &[], "line 1: L1"),
+    (&["jump 1"], &[], "line 1: L2"),
+    (&["window"], &[], "line 1: L3"),
+    (&["window 0"], &[], "line 1: L4"),
+    (&["deliver 1 1"], &[], "line 1: L5"),
+    (&["table 0 8"], &[], "line 1: L6 S1"),
+    (&["proc x 1 0 -"], &[], "line 1: L7 B1 slot 0"),
+    (&["proc a-b 1 0 b7000000010000009500000000000000"], &[], "line 1: L8 C4"),
+    (&["", "# a comment", "window 4", "log"], &[], "line 4: L5"),
+    (&["replicas 2", "entry 1"], &[], "line 2: L5"),
+    (&["window 4", "window 4"], &[], "line 2: L5"),
+    (&[ONE, "table 1 8"], &[], "line 2: L5"),
+    (&["window 4", "replicas 1", "log", "window 4"], &["log 0"], "line 4: L5"),
+    (&["window 4", "replicas 1", "log", "replicas 1"], &["log 0"], "line 4: L5"),
+    (&["window 4", "replicas 1", "log", "table 1 8"], &["log 0"], "line 4: L5"),
+    (&["window 4", "replicas 1", "log", ONE], &["log 0"], "line 4: L5"),
+    (&["window 4", "replicas 1", "log", "turn 1 0", "log"], &["log 0"], "line 4: L4"),
+    (&["window 4", "replicas 1", "rows 2", "deliver 1"], &["replica 2 refused P1"], "line 4: L3"),
+    (&["table 1 8", "table 1 8"], &[], "line 2: L6 S3"),
+    (&[ONE, ONE], &[], "line 2: L8 C1"),
+    (&["table 1 129"], &[], "line 1: L6 S2"),
+];
+
+#[test]
+fn a_line_at_fault_ends_the_script(rt: HostRuntime) -> Result<(), Fail> {
+    for (lines, prints, fault) in FAULTS {
+        assert!(rt; tells(rt.alloc(), lines, prints, fault)?, "{fault}");
+    }
+    Ok(())
+}
+
+/// Settings alone print nothing, and so do no lines at all; the last line may lack its LF.
+#[test]
+fn scripts_may_end_anywhere(rt: HostRuntime) -> Result<(), Fail> {
+    let alloc = rt.alloc();
+    assert!(rt; tells(alloc, &[], &[], "")?);
+    assert!(rt; tells(alloc, &["window 4", "", "# no replicas"], &[], "")?);
+    let (status, output, faults) = replayed(alloc, alloc, b"window 4\nreplicas 1\nlog");
+    assert_eq!(rt; (status, output.as_slice(), faults.is_empty()), (0, b"log 0\n".as_slice(), true));
+    Ok(())
+}
+
+/// A comment of so many bytes, and a line behind it.
+fn long_comment(alloc: Global, len: usize) -> Result<Vec<u8>, AllocError> {
+    let mut script = vec![in alloc; b'#'; len]?;
+    script.extend_from_slice(b"\nwindow 4")?;
+    Ok(script)
+}
+
+#[test]
+fn lines_have_at_most_70000_bytes(rt: HostRuntime) -> Result<(), Fail> {
+    let alloc = rt.alloc();
+    let longest = long_comment(alloc, 70_000)?;
+    let (status, _, faults) = replayed(alloc, alloc, &longest);
+    assert_eq!(rt; (status, faults.len()), (0, 0));
+    let longer = long_comment(alloc, 70_001)?;
+    let (status, _, faults) = replayed(alloc, alloc, &longer);
+    assert_eq!(rt; (status, faults.as_slice()), (1, b"line 1: L1\n".as_slice()));
+    Ok(())
+}
+
+/// Whether one begins with the other.
+fn begins_with(whole: &[u8], front: &[u8]) -> bool {
+    whole.get(..front.len()) == Some(front)
+}
+
+/// Two stories, one behind the other, but for the settings of the second.
+fn long_script(alloc: Global) -> Result<(Vec<u8>, Vec<u8>), AllocError> {
+    let script = joined(alloc, INTERVALS.lines)?;
+    let prints = joined(alloc, INTERVALS.prints)?;
+    Ok((script, prints))
+}
+
+/// Wherever the input fails: what stands before is done and printed, and the status is 3.
+#[test]
+fn a_failing_input_answers_3(rt: HostRuntime) -> Result<(), Fail> {
+    let alloc = rt.alloc();
+    let (script, prints) = long_script(alloc)?;
+    for len in 0..script.len() {
+        let (front, _) = script.split_at(len);
+        let mut input = Input {
+            left: front,
+            at_once: len % 7 + 1,
+            fails: true,
+        };
+        let mut output = Vec::new(alloc);
+        let mut faults = Vec::new(alloc);
+        let status = replay_over(alloc, &mut input, &mut output, &mut faults);
+        assert_eq!(rt; (status, faults.is_empty()), (3, false));
+        assert!(rt; begins_with(&prints, &output));
+    }
+    Ok(())
+}
+
+/// Wherever the output fails, or takes nothing: it holds what there was room for, isn't asked again, and the status is 3.
+#[test]
+fn a_failing_output_answers_3(rt: HostRuntime) -> Result<(), Fail> {
+    let alloc = rt.alloc();
+    let (script, prints) = long_script(alloc)?;
+    for full in [Full::Fails, Full::TakesNothing] {
+        for room in 0..prints.len() {
+            let mut input = script.as_slice();
+            let mut output = Output::new(alloc, room, full);
+            let mut faults = Vec::new(alloc);
+            let status = replay_over(alloc, &mut input, &mut output, &mut faults);
+            assert_eq!(rt; (status, faults.is_empty(), output.after_failure), (3, false, 0));
+            assert_eq!(rt; Some(output.held.as_slice()), prints.get(..room));
+        }
+    }
+    let mut input = script.as_slice();
+    let mut output = Output::new(alloc, prints.len(), Full::Fails);
+    output.flushes = false;
+    let mut faults = Vec::new(alloc);
+    assert_eq!(rt; replay_over(alloc, &mut input, &mut output, &mut faults), 3);
+    assert_eq!(rt; output.held.as_slice(), prints.as_slice());
+    Ok(())
+}
+
+/// A writer for faults that fails changes neither the output nor the status.
+#[test]
+fn faults_may_find_no_room(rt: HostRuntime) -> Result<(), Fail> {
+    let alloc = rt.alloc();
+    let script = joined(alloc, &["window 4", "replicas 1", "log", "jump"])?;
+    for room in 0..11 {
+        let mut input = script.as_slice();
+        let mut output = Vec::new(alloc);
+        let mut faults = Output::new(alloc, room, Full::Fails);
+        let status = replay_over(alloc, &mut input, &mut output, &mut faults);
+        assert_eq!(rt; (status, output.as_slice()), (1, b"log 0\n".as_slice()));
+        assert_eq!(rt; Some(faults.held.as_slice()), b"line 4: L2\n".get(..room));
+    }
+    Ok(())
+}
+
+/// The first growths of a replay, refused in turn: a step says so and the script goes on, or the script ends.
+#[test]
+fn growths_are_refused_in_turn(rt: HostRuntime) -> Result<(), Fail> {
+    let alloc = rt.alloc();
+    let script = joined(alloc, TWO_INCREMENTS.lines)?;
+    let prints = joined(alloc, TWO_INCREMENTS.prints)?;
+    let scarce = Scarce::new(alloc);
+    let mut ended = 0u32;
+    let mut refused = 0u32;
+    let all = scarce.refuse_each(|| {
+        let (status, output, faults) = replayed(&scarce, alloc, &script);
+        if status == 3 {
+            assert!(rt; faults.as_slice().ends_with(b": L9\n"));
+            assert!(rt; begins_with(&prints, &output));
+            ended = ended.saturating_add(1);
+            return false;
+        }
+        assert_eq!(rt; (status, faults.is_empty()), (0, true));
+        if output.as_slice() == prints.as_slice() {
+            return true;
+        }
+        refused = refused.saturating_add(1);
+        false
+    });
+    assert!(rt; all.is_some());
+    assert!(rt; ended > 0 && refused > 0);
+    Ok(())
+}
