@@ -1,3 +1,4 @@
 pub mod Stage
 pub mod Replay
 pub mod Told
+pub mod Doing

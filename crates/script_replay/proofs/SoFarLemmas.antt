@@ -1,0 +1,111 @@
+-- A script as far as a loop over its lines has come.
+use Rattle.std.proofs.Common.{◌≡◌, inl, inr, ℕ, ◌+◌, List, [], ◌∷◌, ◌++◌, Option, Result, Ok, Err, refl, sym, ap, subst, ◌∙◌, append_assoc}
+use Rattle.byte_output.specs.declared.paged.PagedOutput.{PagedOutput}
+use Rattle.byte_output.specs.Pending.{Passes}
+use Rattle.byte_output.proofs.PendingLemmas.{Passes-then}
+use Rattle.script.specs.declared.fault.LineFault.TheVariants.{Bytes}
+use Rattle.script.specs.Text.{lines_of}
+use Rattle.script.specs.Script.{line_says}
+use Rattle.script_settings.specs.declared.cause.FaultCause.TheVariants.{Line}
+use Rattle.script_settings.specs.declared.cause.ScriptFault.{ScriptFault}
+use Rattle.script_replay.specs.declared.stage.Stage as code
+use Rattle.script_replay.specs.declared.stop.Stop.{Stop}
+use Rattle.script_replay.specs.declared.stop.Stop.TheVariants.{Fault, Input, Output}
+use Rattle.script_replay.specs.Stage.{Stage, first_stage, action_of}
+use Rattle.script_replay.specs.Replay.{Ending, Finished, Faulty, Prints}
+use Rattle.script_replay.specs.Doing.{stage_of, PrintsFrom, Begun, Stopped, ActionDone, Replayed}
+use Rattle.script_replay.proofs.PassesLemmas.{Passes-nothing, PassesBeginning-front, PassesBeginning-then}
+use Rattle.script_replay.proofs.ReplayLemmas.{can_print, nothing_left, prints_line}
+
+-- so much of a script with these lines was given; and whatever the lines that are left print, so much in front of it is a
+-- print of the whole
+pub record SoFar (W : Type 0) (contents : W → Option (List ℕ)) (now : Stage) (number : ℕ) (lines left : List (List ℕ)) (old new : PagedOutput W) : Type 0 where
+  pub done : List ℕ
+  pub passed : Passes contents old new done
+  pub back : (text : List ℕ) (ending : Ending) → Prints now number left text ending → Prints first_stage 1 lines (done ++ text) ending
+
+pub from_start : {W : Type 0} (contents : W → Option (List ℕ)) (lines : List (List ℕ)) (page : PagedOutput W) → SoFar W contents first_stage 1 lines lines page page
+from_start contents lines page = record { done = []; passed = Passes-nothing contents page; back = λ text ending p. p }
+
+-- a beginning of the whole, in front of a beginning of what is left
+begun : {W : Type 0} (contents : W → Option (List ℕ)) (now : Stage) (number : ℕ) (lines left : List (List ℕ)) (old mid new : PagedOutput W) → SoFar W contents now number lines left old mid
+    → Begun contents mid new (Prints now number left) → Begun contents old new (Prints first_stage 1 lines)
+begun contents now number lines left old mid new so_far (text, ending, prints, passes) =
+    (so_far.done ++ text, ending, so_far.back text ending prints, PassesBeginning-then contents old mid new so_far.done text so_far.passed passes)
+
+stopped : {W : Type 0} (contents : W → Option (List ℕ)) (now : Stage) (number : ℕ) (lines left : List (List ℕ)) (old mid new : PagedOutput W) (stop : Stop) → SoFar W contents now number lines left old mid
+    → Stopped contents mid new (Prints now number left) stop → Stopped contents old new (Prints first_stage 1 lines) stop
+stopped contents now number lines left old mid new (Fault fault) so_far (inl (memory, h)) = inl (memory, begun contents now number lines left old mid new so_far h)
+stopped contents now number lines left old mid new (Fault fault) so_far (inr (text, prints, passes)) =
+    inr (so_far.done ++ text, so_far.back text (Faulty fault) prints, Passes-then contents old mid new so_far.done text so_far.passed passes)
+stopped contents now number lines left old mid new (Input error) so_far h = begun contents now number lines left old mid new so_far h
+stopped contents now number lines left old mid new (Output error) so_far h = begun contents now number lines left old mid new so_far h
+
+-- it stops here, with no more given
+pub stops_here : {W : Type 0} (contents : W → Option (List ℕ)) (now : Stage) (number : ℕ) (lines left : List (List ℕ)) (old new : PagedOutput W) → SoFar W contents now number lines left old new
+    → Begun contents old new (Prints first_stage 1 lines)
+stops_here contents now number lines left old new so_far =
+    let rest = can_print now number left in
+    begun contents now number lines left old new new so_far (rest.0, rest.1, rest.2, PassesBeginning-front contents new new [] rest.0 (Passes-nothing contents new))
+
+-- no line is left
+pub ends_here : {W : Type 0} (contents : W → Option (List ℕ)) (now : Stage) (number : ℕ) (lines left : List (List ℕ)) (old new : PagedOutput W) → SoFar W contents now number lines left old new → left ≡ []
+    → (text : List ℕ) × Prints first_stage 1 lines text Finished × Passes contents old new text
+ends_here contents now number lines left old new so_far e = (
+  so_far.done ++ [],
+  so_far.back [] Finished (subst (λ (ls : List (List ℕ)). Prints now number ls [] Finished) (sym e) (nothing_left now number)),
+  Passes-then contents old new new so_far.done [] so_far.passed (Passes-nothing contents new),
+)
+
+-- the next line is at fault for its bytes
+pub ends_at_bytes : {W : Type 0} (contents : W → Option (List ℕ)) (now : Stage) (number : ℕ) (lines left more : List (List ℕ)) (line : List ℕ) (old new : PagedOutput W) (stop : Stop) → SoFar W contents now number lines left old new
+    → left ≡ line ∷ more → line_says line ≡ Err Bytes → stop ≡ Fault (record { line = number; cause = Line Bytes }) → Stopped contents old new (Prints first_stage 1 lines) stop
+ends_at_bytes contents now number lines left more line old new stop so_far e says is =
+    let fault : ScriptFault = record { line = number; cause = Line Bytes } in
+    let p : Prints now number (line ∷ more) [] (Faulty fault) = prints_line now number line more [] (Faulty fault)
+    (subst (λ said. PrintsFrom number (action_of now said) more [] (Faulty fault)) (sym says) (refl, refl)) in
+    subst (Stopped contents old new (Prints first_stage 1 lines)) (sym is)
+    (stopped contents now number lines left old new new (Fault fault) so_far
+    (inr ([], subst (λ (ls : List (List ℕ)). Prints now number ls [] (Faulty fault)) (sym e) p, Passes-nothing contents new)))
+
+-- the next line was done
+pub line_goes_on : {A W : Type 0} (contents : W → Option (List ℕ)) (now : Stage) (next : code.Stage A) (number : ℕ) (lines left more : List (List ℕ)) (line : List ℕ) (old mid new : PagedOutput W)
+    → SoFar W contents now number lines left old mid → left ≡ line ∷ more → ActionDone contents number (action_of now (line_says line)) mid new (Ok next)
+    → SoFar W contents (stage_of next) (number + 1) lines more old new
+line_goes_on contents now next number lines left more line old mid new so_far e (here, passes, on) = record {
+  done = so_far.done ++ here;
+  passed = Passes-then contents old mid new so_far.done here so_far.passed passes;
+  back = λ text ending p.
+      subst (λ (t : List ℕ). Prints first_stage 1 lines t ending) (sym (append_assoc so_far.done here text))
+      (so_far.back (here ++ text) ending
+      (subst (λ (ls : List (List ℕ)). Prints now number ls (here ++ text) ending) (sym e) (prints_line now number line more (here ++ text) ending (on more text ending p))));
+}
+
+-- what may be printed from a line on is what its action and then the lines behind it may print
+stopped_at_line : {W : Type 0} (contents : W → Option (List ℕ)) (now : Stage) (number : ℕ) (line : List ℕ) (left more : List (List ℕ)) (old new : PagedOutput W) (stop : Stop) → left ≡ line ∷ more
+    → Stopped contents old new (PrintsFrom number (action_of now (line_says line)) more) stop → Stopped contents old new (Prints now number left) stop
+stopped_at_line contents now number line left more old new stop e h =
+    subst (λ (ls : List (List ℕ)). Stopped contents old new (Prints now number ls) stop) (sym e) (by_cases stop h)
+  where
+    by_cases : (s : Stop) → Stopped contents old new (PrintsFrom number (action_of now (line_says line)) more) s → Stopped contents old new (Prints now number (line ∷ more)) s
+    by_cases (Fault fault) (inl (memory, (text, ending, prints, passes))) = inl (memory, (text, ending, prints_line now number line more text ending prints, passes))
+    by_cases (Fault fault) (inr (text, prints, passes)) = inr (text, prints_line now number line more text (Faulty fault) prints, passes)
+    by_cases (Input error) (text, ending, prints, passes) = (text, ending, prints_line now number line more text ending prints, passes)
+    by_cases (Output error) (text, ending, prints, passes) = (text, ending, prints_line now number line more text ending prints, passes)
+
+-- the next line stopped the script
+pub line_stops : {W : Type 0} (contents : W → Option (List ℕ)) (now : Stage) (number : ℕ) (lines left more : List (List ℕ)) (line : List ℕ) (old mid new : PagedOutput W) (stop : Stop)
+    → SoFar W contents now number lines left old mid → left ≡ line ∷ more → ActionDone {A = ℕ} contents number (action_of now (line_says line)) mid new (Err stop)
+    → Stopped contents old new (Prints first_stage 1 lines) stop
+line_stops contents now number lines left more line old mid new stop so_far e done =
+    stopped contents now number lines left old mid new stop so_far (stopped_at_line contents now number line left more mid new stop e (done more))
+
+-- it stopped with what a `?` returns
+pub replayed_by : {T W : Type 0} (contents : W → Option (List ℕ)) (old new : PagedOutput W) (P : List ℕ → Ending → Type 0) (result : Result T Stop) (passed stop : Stop) → result ≡ Err passed → passed ≡ stop
+    → Stopped contents old new P stop → Replayed contents old new P result
+replayed_by contents old new P (Ok t) passed stop e same h = absurd cc
+replayed_by contents old new P (Err given) passed stop e same h = let is : stop ≡ given = cc in subst (Stopped contents old new P) is h
+
+-- the first of the lines is the one that was read
+pub first_line : (bytes rest read line : List ℕ) → lines_of bytes ≡ read ∷ lines_of rest → line ≡ read → lines_of bytes ≡ line ∷ lines_of rest
+first_line bytes rest read line e is = e ∙ ap (λ (l : List ℕ). l ∷ lines_of rest) (sym is)

@@ -1,0 +1,104 @@
+-- What is written at the end of a script, and what is said of it.
+use Rattle.std.proofs.Common.{◌≡◌, ◌⊎◌, inl, inr, ℕ, true, List, [], Option, Some, None, Result, Ok, Err, IfSome, refl, sym, ap, subst, ◌∙◌}
+use Rattle.std.proofs.lemmas.List.{append-nil}
+use Rattle.std.specs.Io.KnownBytes.{Appends}
+use Rattle.byte_output.specs.declared.paged.PagedOutput.{PagedOutput}
+use Rattle.byte_output.specs.Pending.{output_of, pending_of, Passes}
+use Rattle.byte_output.specs.Writes.{AppendsBeginning}
+use Rattle.byte_output.proofs.PendingLemmas.{Writes-finished}
+use Rattle.engines.specs.declared.status.TheConstants.{FAILED}
+use Rattle.script_settings.specs.declared.cause.FaultCause.{FaultCause}
+use Rattle.script_settings.specs.declared.cause.FaultCause.TheVariants.{Line, Place, Table, Program, Refused, Procedure, OutOfMemory}
+use Rattle.script_actions.specs.Doing.{PassesBeginning}
+use Rattle.script_replay.specs.declared.stop.Stop.{Stop}
+use Rattle.script_replay.specs.declared.stop.Stop.TheVariants.{Fault, Input, Output}
+use Rattle.script_replay.specs.Replay.{Ending, Finished, Faulty}
+use Rattle.script_replay.specs.Told.{Told}
+use Rattle.script_replay.specs.Doing.{Begun, Replayed, has_output_failed, WrittenBeginning, Written, status_of_cause, IsSaid}
+use Rattle.script_replay.proofs.PassesLemmas.{Appends-nothing, PassesBeginning-front, PassesBeginning-finished, PassesBeginning-lost}
+
+-- ---- what was given is written
+
+module _ {W : Type 0} (contents : W → Option (List ℕ)) (a b : PagedOutput W) (old : W) (P : List ℕ → Ending → Type 0) (same : (output_of a).now ≡ old) (none : pending_of a ≡ []) where
+  whole : (new : Option (List ℕ)) (text : List ℕ) → Passes contents a b text → Appends (contents (output_of b).now) new (pending_of b) → Appends (contents old) new text
+  whole new text passes q = Writes-finished {T = ℕ} {E = ℕ} contents a b old new new text (Ok 0) refl same none passes q
+
+  -- whatever was given, it is a beginning
+  begun_of : {T : Type 0} (ended : Result T Stop) → Replayed contents a b P ended → Begun contents a b P
+  begun_of (Ok t) (text, prints, passes) = (text, Finished, prints, subst (PassesBeginning contents a b) (append-nil text) (PassesBeginning-front contents a b text [] passes))
+  begun_of (Err (Fault fault)) (inl (memory, h)) = h
+  begun_of (Err (Fault fault)) (inr (text, prints, passes)) = (text, Faulty fault, prints, subst (PassesBeginning contents a b) (append-nil text) (PassesBeginning-front contents a b text [] passes))
+  begun_of (Err (Input error)) h = h
+  begun_of (Err (Output error)) h = h
+
+  -- the output failed: what was pending is lost
+  pub lost : {T : Type 0} (ended : Result T Stop) (new : Option (List ℕ)) → new ≡ contents (output_of b).now → has_output_failed ended ≡ true → Replayed contents a b P ended → Written (contents old) new P ended
+  lost (Ok t) new is e h = absurd cc
+  lost (Err (Fault fault)) new is e h = absurd cc
+  lost (Err (Input error)) new is e h = absurd cc
+  lost (Err (Output error)) new is e (text, ending, prints, passes) =
+      (text, ending, prints, subst (λ (t : Option (List ℕ)). AppendsBeginning (contents old) t text) (sym is) (PassesBeginning-lost contents a b old text same none passes))
+
+  finished_begun : (new : Option (List ℕ)) → AppendsBeginning (contents (output_of b).now) new (pending_of b) → Begun contents a b P → WrittenBeginning (contents old) new P
+  finished_begun new q (text, ending, prints, passes) = (text, ending, prints, PassesBeginning-finished contents a b old new text same none passes q)
+
+  beginning : (new : Option (List ℕ)) → Appends (contents (output_of b).now) new (pending_of b) → AppendsBeginning (contents (output_of b).now) new (pending_of b)
+  beginning new q = (pending_of b, [], sym (append-nil (pending_of b)), q)
+
+  put_out : {T : Type 0} (ended : Result T Stop) (new : Option (List ℕ)) → Appends (contents (output_of b).now) new (pending_of b) → Replayed contents a b P ended → Written (contents old) new P ended
+  put_out (Ok t) new q (text, prints, passes) = (text, prints, whole new text passes q)
+  put_out (Err (Fault fault)) new q (inl (memory, h)) = inl (memory, finished_begun new (beginning new q) h)
+  put_out (Err (Fault fault)) new q (inr (text, prints, passes)) = inr (text, prints, whole new text passes q)
+  put_out (Err (Input error)) new q h = finished_begun new (beginning new q) h
+  put_out (Err (Output error)) new q h = finished_begun new (beginning new q) h
+
+  -- what was pending was put out
+  pub finished : {T : Type 0} (ended : Result T Stop) (new left : Option (List ℕ)) → new ≡ left → Appends (contents (output_of b).now) left (pending_of b) → Replayed contents a b P ended → Written (contents old) new P ended
+  finished ended new left is q h = subst (λ (t : Option (List ℕ)). Written (contents old) t P ended) (sym is) (put_out ended left q h)
+
+  -- or that failed
+  pub unfinished : {T : Type 0} (ended : Result T Stop) (new left : Option (List ℕ)) → new ≡ left → AppendsBeginning (contents (output_of b).now) left (pending_of b) → Replayed contents a b P ended
+      → WrittenBeginning (contents old) new P
+  unfinished ended new left is q h = subst (λ (t : Option (List ℕ)). WrittenBeginning (contents old) t P) (sym is) (finished_begun left q (begun_of ended h))
+
+-- ---- what is said of it
+
+AppendsBeginning-all : (a b : Option (List ℕ)) (text : List ℕ) → Appends a b text → AppendsBeginning a b text
+AppendsBeginning-all a b text p = (text, [], sym (append-nil text), p)
+
+-- a text and an ending of which it is told
+abbrev pub SomeTold : Option (List ℕ) → Option (List ℕ) → Option (List ℕ) → Option (List ℕ) → ℕ → (List ℕ → Ending → Type 0) → Type 0
+SomeTold old new old_faults new_faults status P = (text : List ℕ) × (ending : Ending) × P text ending × Told old new old_faults new_faults status text ending
+
+failed : (old new old_faults new_faults : Option (List ℕ)) (status : ℕ) (P : List ℕ → Ending → Type 0) → status ≡ FAILED → WrittenBeginning old new P → SomeTold old new old_faults new_faults status P
+failed old new old_faults new_faults status P e (text, ending, prints, q) = (text, ending, prints, inl (e, q))
+
+-- nothing is said at the end
+pub told_finished : (old new faults : Option (List ℕ)) (P : List ℕ → Ending → Type 0) → (text : List ℕ) × P text Finished × Appends old new text → SomeTold old new faults faults 0 P
+told_finished old new faults P (text, prints, q) = (text, Finished, prints, inr (refl, q, ([], [], refl, Appends-nothing faults)))
+
+-- a fault is a want of memory, or the script's
+memory_or_not : (cause : FaultCause) (status : ℕ) → status ≡ status_of_cause cause → (status ≡ FAILED) ⊎ (status ≡ 1)
+memory_or_not (Line fault) status e = inr e
+memory_or_not Place status e = inr e
+memory_or_not (Table fault) status e = inr e
+memory_or_not (Program fault) status e = inr e
+memory_or_not (Refused refusal) status e = inr e
+memory_or_not (Procedure fault) status e = inr e
+memory_or_not OutOfMemory status e = inl e
+
+pub told_stopped : (old new old_faults new_faults : Option (List ℕ)) (P : List ℕ → Ending → Type 0) (stop : Stop) (status : ℕ) → Written {T = ℕ} old new P (Err stop) → IsSaid old_faults new_faults stop status
+    → SomeTold old new old_faults new_faults status P
+told_stopped old new old_faults new_faults P (Fault fault) status (inl (memory, h)) (e, said) =
+    failed old new old_faults new_faults status P (e ∙ ap status_of_cause memory) h
+told_stopped old new old_faults new_faults P (Fault fault) status (inr (text, prints, q)) (e, said) = by_cases (memory_or_not fault.cause status e)
+  where
+    by_cases : (status ≡ FAILED) ⊎ (status ≡ 1) → SomeTold old new old_faults new_faults status P
+    by_cases (inl f) = (text, Faulty fault, prints, inl (f, AppendsBeginning-all old new text q))
+    by_cases (inr f) = (text, Faulty fault, prints, inr (f, q, said))
+told_stopped old new old_faults new_faults P (Input error) status h e = failed old new old_faults new_faults status P e h
+told_stopped old new old_faults new_faults P (Output error) status h e = failed old new old_faults new_faults status P e h
+
+pub if_known : (a : Option (List ℕ)) (P : List ℕ → Type 0) → ((bytes : List ℕ) → a ≡ Some bytes → P bytes) → IfSome a P
+if_known None P h = tt
+if_known (Some bytes) P h = h bytes refl

@@ -1,0 +1,101 @@
+//! Replaying a whole script.
+
+ghost use Rattle.std.specs.Prelude.{◌≡◌, ◌⊎◌, ℕ, List, Some, IfSome};
+ghost use Rattle.byte_output.specs.Pending.{output_of};
+ghost use Rattle.engines.specs.declared.status.TheConstants.{FAILED};
+ghost use Rattle.script.specs.Text.{lines_of};
+ghost use Rattle.script_replay.specs.Stage.{first_stage};
+ghost use Rattle.script_replay.specs.Replay.{Ending, Prints, ScriptPrints};
+ghost use Rattle.script_replay.specs.Told.{Told};
+ghost use Rattle.script_replay.specs.Doing.{Replayed, Written, has_output_failed};
+
+use crate::line::do_line;
+use crate::stage::Stage;
+use crate::stop::{Stop, fault_at, out_of_memory};
+use crate::told::tell;
+use byte_output::paged::PagedOutput;
+use script::{LineFault, MAX_LINE, Next, lines_that_are_too_long_are_at_fault, next_line};
+use script_settings::{FaultCause, Settings};
+use std::alloc::Allocator;
+use std::io;
+use std::io::{BufRead, ErrorKind, Write};
+
+/// Replays the script in the input: what it prints goes to the output, and what ends it before its end is said to `faults`.
+/// The exit status is 0 at its end, 1 where a line is at fault, and 3 where a stream or memory failed.
+pub fn replay_over<A: Allocator + Copy, R: BufRead, W: Write, E: Write>(
+    alloc: A,
+    input: &mut R,
+    output: &mut W,
+    faults: &mut E,
+) -> u8
+    // The status is that of the script's end, or something failed.
+    ensures range { ((result ≡ 0) ⊎ (result ≡ 1)) ⊎ (result ≡ FAILED) }
+    // What was written is what the script prints; where something failed, a beginning of it.
+    ensures told { IfSome (R.remaining input.old) (λ bytes. (text : List ℕ) × (ending : Ending) × ScriptPrints bytes text ending
+        × Told (W.contents output.old) (W.contents output.new) (E.contents faults.old) (E.contents faults.new) result text ending) }
+    // Nothing is said where nothing failed and no line is at fault.
+    ensures silent { result ≡ 0 → faults.new ≡ faults.old }
+{
+    match replay_whole(alloc, input, output) {
+        Ok(()) => 0,
+        Err(stop) => tell(faults, stop),
+    }
+}
+
+/// Replays the script over pages. Unless the output failed, what is pending is put out.
+fn replay_whole<A: Allocator + Copy, R: BufRead, W: Write>(
+    alloc: A,
+    input: &mut R,
+    output: &mut W,
+) -> Result<(), Stop>
+    ensures { (bytes : List ℕ) → R.remaining input.old ≡ Some bytes
+        → Written (W.contents output.old) (W.contents output.new) (ScriptPrints bytes) result }
+{
+    let mut pages = PagedOutput::new(output);
+    let ended = replay(alloc, input, &mut pages);
+    if has_output_failed(&ended) {
+        return ended;
+    }
+    match pages.finish() {
+        Ok(()) => ended,
+        Err(error) => Err(Stop::Output(error)),
+    }
+}
+
+fn has_output_failed(ended: &Result<(), Stop>) -> bool
+    ensures { result ≡ has_output_failed ended.now }
+{
+    matches!(ended, Err(Stop::Output(_)))
+}
+
+/// Does the lines of the script, one after another.
+fn replay<A: Allocator + Copy, R: BufRead, W: Write>(
+    alloc: A,
+    input: &mut R,
+    output: &mut PagedOutput<'_, W>,
+) -> Result<(), Stop>
+    ensures same_output { (output_of output.new).ghost_name ≡ (output_of output.old).ghost_name }
+    ensures replayed { (bytes : List ℕ) → R.remaining input.old ≡ Some bytes
+        → Replayed W.contents output.old output.new (ScriptPrints bytes) result }
+{
+    lines_that_are_too_long_are_at_fault();
+    let Ok(mut line) = Vec::with_capacity(alloc, MAX_LINE) else {
+        return Err(out_of_memory(0));
+    };
+    let Ok(settings) = Settings::new(alloc) else {
+        return Err(out_of_memory(0));
+    };
+    let mut stage = Stage::SettingUp(settings);
+    for number in 1..u64::MAX {
+        match next_line(input, &mut line) {
+            Ok(Next::Line) => {}
+            Ok(Next::AtEnd) => return Ok(()),
+            Ok(Next::TooLong) => {
+                return Err(fault_at(number, FaultCause::Line(LineFault::Bytes)));
+            }
+            Err(error) => return Err(Stop::Input(error)),
+        }
+        stage = do_line(alloc, stage, output, &line, number)?;
+    }
+    Err(Stop::Input(io::Error::from(ErrorKind::Interrupted)))
+}
