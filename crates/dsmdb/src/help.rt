@@ -2,7 +2,7 @@
 
 /// The lines of a script and what they print, as docs/FORMATS.md explains them.
 pub const SCRIPT_HELP: &str = "\
-Lines of a script (fields one space apart; empty lines and lines from # on are skipped), and what they print:
+Lines of a script (fields one space apart; empty lines, and those that begin with #, are skipped), and what they print:
   window N                      how many entries a snapshot may fall behind, 1 to 4096
   replicas N                    how many replicas there are, 1 to 8
   table T W                     a table, 1 to 64, and how many bytes its rows have, 1 to 128
@@ -18,9 +18,10 @@ Lines of a script (fields one space apart; empty lines and lines from # on are s
   entry D                       the bytes of entry D, or none
   rebuild R                     replica R is made anew from the log: replica R rebuilt P
 
-HEX is an even number of digits, or - for no bytes. Window and replicas are set once each before the first line from
-begin on, which ends the settings; tables stand before procedures.
+HEX is an even number of digits, at least two, or - for no bytes. Window and replicas are set once each before the
+first line that acts, which ends the settings; tables stand before procedures.
 A step that is refused says so, as replica 1 refused P6, and the script goes on. A line at fault ends it, as
 line 4: L7 V5 slot 6 on standard error. docs/REFUSALS.md explains the numbers.
 
-Exit status: 0 done, 1 a line at fault, 2 a command line that can't be read, 3 a file or memory.";
+Exit status: 0 done, 1 a line at fault, 2 a command line that can't be read, 3 a file, a
+stream or memory.";
