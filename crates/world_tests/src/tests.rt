@@ -4,6 +4,7 @@ use catalogue::Catalogue;
 use dsm_model::Outcome;
 use dsm_world::{Step, World};
 use sample_procedures::{PROCEDURES, TABLES, bytes_of};
+use scarce::Scarce;
 use schema::Schema;
 use std::alloc::{Allocator, Global};
 use std::fmt::Write as _;
@@ -43,6 +44,12 @@ fn catalogue_of<A: Allocator + Copy>(alloc: A, global: Global) -> Result<Catalog
     Ok(catalogue)
 }
 
+/// A world of two replicas with a window of 4.
+fn two_replicas<'s>(alloc: Global, scarce: &'s Scarce) -> Result<World<&'s Scarce>, Fail> {
+    let catalogue = catalogue_of(scarce, alloc)?;
+    Ok(World::new(scarce, 2, 4, catalogue)?)
+}
+
 /// Steps, each as often as it says.
 type Script = &'static [(Step<'static>, usize)];
 
@@ -56,27 +63,24 @@ fn steps_of(alloc: Global, script: Script) -> Result<Vec<Step<'static>>, Fail> {
     Ok(steps)
 }
 
-/// The outcomes of a run, but for those of turns after which there are more.
-fn told<A: Allocator + Copy>(
+/// Takes steps by one call, and adds what they are answered, but for turns after which there are more.
+fn run_script(
     alloc: Global,
-    world: &mut World<A>,
-    steps: &[Step<'_>],
-) -> Result<Vec<Outcome>, Fail> {
-    let mut told = Vec::new(alloc);
-    for outcome in &world.run(steps)? {
+    world: &mut World<&Scarce>,
+    script: Script,
+    told: &mut Vec<Outcome>,
+) -> Result<(), Fail> {
+    let steps = steps_of(alloc, script)?;
+    for outcome in &world.run(&steps)? {
         if *outcome != Outcome::More {
             told.push(*outcome)?;
         }
     }
-    Ok(told)
+    Ok(())
 }
 
 /// A replica in a line: its position, whether it is stopped, and its rows, each as table, key and bytes in hex.
-fn described<A: Allocator + Copy>(
-    alloc: Global,
-    world: &World<A>,
-    number: u32,
-) -> Result<String, Fail> {
+fn described(alloc: Global, world: &World<&Scarce>, number: u32) -> Result<String, Fail> {
     let mut text = String::new(alloc);
     let Some(replica) = world.replica(number) else {
         return Ok(text);

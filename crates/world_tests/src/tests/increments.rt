@@ -1,9 +1,10 @@
 //! Two increments of one row, of which the second conflicts and is begun anew.
 
-use super::{ADD_SEVEN, ADD_TEN, catalogue_of, described, steps_of, told};
+use super::{ADD_SEVEN, ADD_TEN, described, run_script, steps_of, two_replicas};
 use dsm_model::{Outcome, Verdict};
 use dsm_world::{Step, World};
 use scarce::Scarce;
+use std::alloc::Global;
 use std::test::Fail;
 
 static STEPS: [(Step<'static>, usize); 12] = [
@@ -84,20 +85,31 @@ static TOLD: [Outcome; 14] = [
     },
 ];
 
-/// Without room for the answers no step is taken: the same steps are answered afterwards as in a new world.
-#[test]
-fn of_two_increments_the_second_is_begun_anew(rt: HostRuntime) -> Result<(), Fail> {
-    let alloc = rt.alloc();
-    let scarce = Scarce::new(alloc);
-    let mut world = World::new(&scarce, 2, 4, catalogue_of(&scarce, alloc)?)?;
+/// Whether no steps are taken where there is no room for their answers.
+fn is_refused(alloc: Global, scarce: &Scarce, world: &mut World<&Scarce>) -> Result<bool, Fail> {
     let steps = steps_of(alloc, &STEPS)?;
     scarce.refuse_all(true);
     let refused = world.run(&steps).is_err();
     scarce.refuse_all(false);
-    assert!(rt; refused);
-    let found = told(alloc, &mut world, &steps)?;
-    assert_eq!(rt; found.as_slice(), TOLD.as_slice());
+    Ok(refused && world.log_len() == 0)
+}
+
+/// What is answered by the steps after they were refused, and what replica 2 is then.
+fn increments(alloc: Global, scarce: &Scarce) -> Result<(Vec<Outcome>, String), Fail> {
+    let mut world = two_replicas(alloc, scarce)?;
+    let mut told = Vec::new(alloc);
+    if is_refused(alloc, scarce, &mut world)? {
+        run_script(alloc, &mut world, &STEPS, &mut told)?;
+    }
     let replica = described(alloc, &world, 2)?;
+    Ok((told, replica))
+}
+
+#[test]
+fn of_two_increments_the_second_is_begun_anew(rt: HostRuntime) -> Result<(), Fail> {
+    let scarce = Scarce::new(rt.alloc());
+    let (told, replica) = increments(rt.alloc(), &scarce)?;
+    assert_eq!(rt; told.as_slice(), TOLD.as_slice());
     assert_eq!(rt; replica.as_str(), "3 running 1:5=1100000000000000");
     Ok(())
 }

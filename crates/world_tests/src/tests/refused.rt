@@ -1,6 +1,6 @@
 //! Memory that is refused to a world.
 
-use super::{ADD_SEVEN, ADD_TEN, catalogue_of, described, steps_of, told};
+use super::{ADD_SEVEN, ADD_TEN, catalogue_of, described, run_script, two_replicas};
 use dsm_model::{Outcome, StepRefusal, Verdict};
 use dsm_world::{Step, World};
 use scarce::Scarce;
@@ -38,25 +38,6 @@ static BEFORE: [(Step<'static>, usize); 7] = [
     (Step::Deliver { replica: 2 }, 1),
 ];
 
-static TOLD_BEFORE: [Outcome; 7] = [
-    Outcome::Begun {
-        call: 1,
-        snapshot: 0,
-    },
-    Outcome::Begun {
-        call: 2,
-        snapshot: 0,
-    },
-    Outcome::Exit { reply: 10 },
-    Outcome::Exit { reply: 0 },
-    Outcome::Ordered { position: 1 },
-    Outcome::Ordered { position: 2 },
-    Outcome::Delivered {
-        position: 1,
-        verdict: Verdict::Commit,
-    },
-];
-
 /// Replica 2 is stopped until it is made anew, replica 1 goes on meanwhile; then a further call is delivered to replica 2.
 static AFTER: [(Step<'static>, usize); 7] = [
     (Step::Deliver { replica: 2 }, 1),
@@ -75,7 +56,25 @@ static AFTER: [(Step<'static>, usize); 7] = [
     (Step::Deliver { replica: 2 }, 1),
 ];
 
-static TOLD_AFTER: [Outcome; 8] = [
+/// What is answered to them, with a delivery between them for which there is no memory.
+static TOLD: [Outcome; 16] = [
+    Outcome::Begun {
+        call: 1,
+        snapshot: 0,
+    },
+    Outcome::Begun {
+        call: 2,
+        snapshot: 0,
+    },
+    Outcome::Exit { reply: 10 },
+    Outcome::Exit { reply: 0 },
+    Outcome::Ordered { position: 1 },
+    Outcome::Ordered { position: 2 },
+    Outcome::Delivered {
+        position: 1,
+        verdict: Verdict::Commit,
+    },
+    Outcome::Refused(StepRefusal::OutOfMemory),
     Outcome::Refused(StepRefusal::ReplicaStopped),
     Outcome::Delivered {
         position: 1,
@@ -98,36 +97,38 @@ static TOLD_AFTER: [Outcome; 8] = [
     },
 ];
 
-/// A delivery for which there is no memory.
-fn deliver_refused(scarce: &Scarce, world: &mut World<&Scarce>, replica: u32) -> Outcome {
+/// Delivers to replica 2 without memory: what is answered.
+fn deliver_refused(scarce: &Scarce, world: &mut World<&Scarce>) -> Outcome {
     scarce.refuse_all(true);
-    let outcome = world.step(Step::Deliver { replica });
+    let outcome = world.step(Step::Deliver { replica: 2 });
     scarce.refuse_all(false);
     outcome
 }
 
+/// What is answered, and what replica 2 is while it is stopped and at the end.
+fn stopped_and_made_anew(
+    alloc: Global,
+    scarce: &Scarce,
+) -> Result<(Vec<Outcome>, String, String), Fail> {
+    let mut world = two_replicas(alloc, scarce)?;
+    let mut told = Vec::new(alloc);
+    run_script(alloc, &mut world, &BEFORE, &mut told)?;
+    told.push(deliver_refused(scarce, &mut world))?;
+    let stopped = described(alloc, &world, 2)?;
+    run_script(alloc, &mut world, &AFTER, &mut told)?;
+    let anew = described(alloc, &world, 2)?;
+    Ok((told, stopped, anew))
+}
+
 #[test]
 fn a_stopped_replica_is_made_anew(rt: HostRuntime) -> Result<(), Fail> {
-    let alloc = rt.alloc();
-    let scarce = Scarce::new(alloc);
-    let mut world = World::new(&scarce, 2, 4, catalogue_of(&scarce, alloc)?)?;
-    let before = told(alloc, &mut world, &steps_of(alloc, &BEFORE)?)?;
-    assert_eq!(rt; before.as_slice(), TOLD_BEFORE.as_slice());
-    let refused = deliver_refused(&scarce, &mut world, 2);
-    assert_eq!(rt; refused, Outcome::Refused(StepRefusal::OutOfMemory));
-    let stopped = described(alloc, &world, 2)?;
+    let scarce = Scarce::new(rt.alloc());
+    let (told, stopped, anew) = stopped_and_made_anew(rt.alloc(), &scarce)?;
+    assert_eq!(rt; told.as_slice(), TOLD.as_slice());
     assert_eq!(rt; stopped.as_str(), "1 stopped 1:5=0a00000000000000");
-    let after = told(alloc, &mut world, &steps_of(alloc, &AFTER)?)?;
-    assert_eq!(rt; after.as_slice(), TOLD_AFTER.as_slice());
-    let anew = described(alloc, &world, 2)?;
     assert_eq!(rt;
         anew.as_str(),
         "3 running 1:5=1100000000000000 1:6=0100000000000000"
-    );
-    let other = described(alloc, &world, 1)?;
-    assert_eq!(rt;
-        other.as_str(),
-        "2 running 1:5=0a00000000000000 1:6=0100000000000000"
     );
     Ok(())
 }

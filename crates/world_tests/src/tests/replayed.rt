@@ -6,7 +6,7 @@ use dsm_world::World;
 use replica::Replica;
 use sample_procedures::setting_of;
 use scarce::Scarce;
-use std::alloc::{Allocator, Global};
+use std::alloc::Global;
 use std::test::Fail;
 
 /// How many worlds are drawn.
@@ -41,11 +41,7 @@ fn log_of(alloc: Global, history: &History) -> Result<Vec<PlainCall>, Fail> {
 }
 
 /// Whether each ordered call answered the reply of its run in the replay, and stands with it in the world's log.
-fn has_replies<A: Allocator + Copy>(
-    world: &World<A>,
-    history: &History,
-    reports: &[CallReport],
-) -> bool {
+fn has_replies(world: &World<&Scarce>, history: &History, reports: &[CallReport]) -> bool {
     let mut position = 0u32;
     for (number, report) in history.ordered.iter().zip(reports) {
         position = position.wrapping_add(1);
@@ -70,7 +66,7 @@ fn has_verdicts(history: &History, reports: &[CallReport]) -> bool {
 }
 
 /// Whether a replica is at the end of the log, and says of each call what the replay says.
-fn says_the_same<A: Allocator + Copy>(replica: &Replica<A>, reports: &[CallReport]) -> bool {
+fn says_the_same(replica: &Replica<&Scarce>, reports: &[CallReport]) -> bool {
     let last = replica.position();
     let mut position = 0u32;
     for report in reports {
@@ -98,9 +94,9 @@ fn are_rows(found: &[Row], rows: &[Row]) -> bool {
 }
 
 /// Whether each replica has the rows of the replay after its position.
-fn have_rows<A: Allocator + Copy>(
+fn have_rows(
     alloc: Global,
-    replicas: &[Replica<A>],
+    replicas: &[Replica<&Scarce>],
     replay: &CompletedReplay,
 ) -> Result<bool, Fail> {
     for replica in replicas {
