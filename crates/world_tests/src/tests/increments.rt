@@ -95,14 +95,22 @@ fn is_refused(alloc: Global, scarce: &Scarce, world: &mut World<&Scarce>) -> Res
 }
 
 /// What is answered by the steps after they were refused, and what replica 2 is then.
+fn refused_and_run(
+    alloc: Global,
+    scarce: &Scarce,
+    world: &mut World<&Scarce>,
+) -> Result<(Vec<Outcome>, String), Fail> {
+    let mut told = Vec::new(alloc);
+    if is_refused(alloc, scarce, world)? {
+        run_script(alloc, world, &STEPS, &mut told)?;
+    }
+    Ok((told, described(alloc, world, 2)?))
+}
+
+/// The same in a world of its own.
 fn increments(alloc: Global, scarce: &Scarce) -> Result<(Vec<Outcome>, String), Fail> {
     let mut world = two_replicas(alloc, scarce)?;
-    let mut told = Vec::new(alloc);
-    if is_refused(alloc, scarce, &mut world)? {
-        run_script(alloc, &mut world, &STEPS, &mut told)?;
-    }
-    let replica = described(alloc, &world, 2)?;
-    Ok((told, replica))
+    refused_and_run(alloc, scarce, &mut world)
 }
 
 #[test]

@@ -105,25 +105,35 @@ fn deliver_refused(scarce: &Scarce, world: &mut World<&Scarce>) -> Outcome {
     outcome
 }
 
-/// What is answered, and what replica 2 is while it is stopped and at the end.
-fn stopped_and_made_anew(
+/// Lets replica 2 stop and be made anew: what it is while it is stopped, and at the end. What is answered is added.
+fn stop_and_rebuild(
     alloc: Global,
     scarce: &Scarce,
-) -> Result<(Vec<Outcome>, String, String), Fail> {
+    world: &mut World<&Scarce>,
+    told: &mut Vec<Outcome>,
+) -> Result<(String, String), Fail> {
+    run_script(alloc, world, &BEFORE, told)?;
+    told.push(deliver_refused(scarce, world))?;
+    let stopped = described(alloc, world, 2)?;
+    run_script(alloc, world, &AFTER, told)?;
+    Ok((stopped, described(alloc, world, 2)?))
+}
+
+/// The same in a world of its own.
+fn stopped_and_rebuilt(
+    alloc: Global,
+    scarce: &Scarce,
+    told: &mut Vec<Outcome>,
+) -> Result<(String, String), Fail> {
     let mut world = two_replicas(alloc, scarce)?;
-    let mut told = Vec::new(alloc);
-    run_script(alloc, &mut world, &BEFORE, &mut told)?;
-    told.push(deliver_refused(scarce, &mut world))?;
-    let stopped = described(alloc, &world, 2)?;
-    run_script(alloc, &mut world, &AFTER, &mut told)?;
-    let anew = described(alloc, &world, 2)?;
-    Ok((told, stopped, anew))
+    stop_and_rebuild(alloc, scarce, &mut world, told)
 }
 
 #[test]
 fn a_stopped_replica_is_made_anew(rt: HostRuntime) -> Result<(), Fail> {
     let scarce = Scarce::new(rt.alloc());
-    let (told, stopped, anew) = stopped_and_made_anew(rt.alloc(), &scarce)?;
+    let mut told = Vec::new(rt.alloc());
+    let (stopped, anew) = stopped_and_rebuilt(rt.alloc(), &scarce, &mut told)?;
     assert_eq!(rt; told.as_slice(), TOLD.as_slice());
     assert_eq!(rt; stopped.as_str(), "1 stopped 1:5=0a00000000000000");
     assert_eq!(rt;
