@@ -1,0 +1,43 @@
+//! Worlds whose one procedure adds to the row at a key, and what comes of their deliveries.
+
+use bpf_code::decode;
+use bpf_verify::verify;
+use catalogue::Catalogue;
+use dsm_model::{Outcome, Verdict};
+use dsm_world::World;
+use sample_procedures::{ADD, TABLES};
+use schema::Schema;
+use std::alloc::Global;
+
+fn catalogue_of(alloc: Global) -> anyhow::Result<Catalogue> {
+    let mut bytes = Vec::new(alloc);
+    for slot in ADD.split_whitespace() {
+        bytes.extend_from_slice(&hex::decode(alloc, slot)?)?;
+    }
+    let code = decode(alloc, &bytes)?;
+    let schema = Schema::new(alloc, &TABLES)?;
+    let accepted = verify(alloc, code, &schema, 16)?;
+    let mut catalogue = Catalogue::new(alloc, schema);
+    catalogue.add(b"add", 1, accepted)?;
+    Ok(catalogue)
+}
+
+/// One of two replicas, each with a window of 4,096.
+pub(crate) fn new_world(alloc: Global) -> anyhow::Result<World> {
+    Ok(World::new(alloc, 2, 4_096, catalogue_of(alloc)?)?)
+}
+
+/// How many deliveries found their call committed.
+pub(crate) fn commits(outcomes: &[Outcome]) -> u32 {
+    let mut commits = 0u32;
+    for outcome in outcomes {
+        if let Outcome::Delivered {
+            verdict: Verdict::Commit,
+            ..
+        } = outcome
+        {
+            commits = commits.wrapping_add(1);
+        }
+    }
+    commits
+}

@@ -1,0 +1,99 @@
+use bpf_code::decode;
+use bpf_verify::{Accepted, verify};
+use catalogue::Catalogue;
+use dsm_model::Outcome;
+use dsm_world::{Step, World};
+use sample_procedures::{PROCEDURES, TABLES, bytes_of};
+use scarce::Scarce;
+use schema::Schema;
+use std::alloc::{Allocator, Global};
+use std::fmt::Write as _;
+use std::test::Fail;
+
+mod drawn;
+mod increments;
+mod refused;
+mod replayed;
+
+/// Arguments by which 10 is added to the row at key 5.
+const ADD_TEN: [u8; 16] = [5, 0, 0, 0, 0, 0, 0, 0, 10, 0, 0, 0, 0, 0, 0, 0];
+
+/// Arguments by which 7 is added to it.
+const ADD_SEVEN: [u8; 16] = [5, 0, 0, 0, 0, 0, 0, 0, 7, 0, 0, 0, 0, 0, 0, 0];
+
+fn accepted_of<A: Allocator + Copy>(
+    alloc: A,
+    global: Global,
+    hex: &str,
+    words: usize,
+) -> Result<Accepted<A, A>, Fail> {
+    let code = decode(alloc, &bytes_of(global, hex)?)?;
+    let schema = Schema::new(alloc, &TABLES)?;
+    let args_len = u16::try_from(words).unwrap_or(0).wrapping_mul(8);
+    Ok(verify(alloc, code, &schema, args_len.min(256))?)
+}
+
+/// The sample procedures under their numbers, each with its digit as its name.
+fn catalogue_of<A: Allocator + Copy>(alloc: A, global: Global) -> Result<Catalogue<A>, Fail> {
+    let mut catalogue = Catalogue::new(alloc, Schema::new(alloc, &TABLES)?);
+    for (number, hex, words) in &PROCEDURES {
+        let accepted = accepted_of(alloc, global, hex, *words)?;
+        let digit = u8::try_from(*number).unwrap_or(0).wrapping_add(b'0');
+        catalogue.add(&[digit], *number, accepted)?;
+    }
+    Ok(catalogue)
+}
+
+/// A world of two replicas with a window of 4.
+fn two_replicas<'s>(alloc: Global, scarce: &'s Scarce) -> Result<World<&'s Scarce>, Fail> {
+    let catalogue = catalogue_of(scarce, alloc)?;
+    Ok(World::new(scarce, 2, 4, catalogue)?)
+}
+
+/// Steps, each as often as it says.
+type Script = &'static [(Step<'static>, usize)];
+
+fn steps_of(alloc: Global, script: Script) -> Result<Vec<Step<'static>>, Fail> {
+    let mut steps = Vec::new(alloc);
+    for (step, times) in script {
+        for _ in 0..*times {
+            steps.push(*step)?;
+        }
+    }
+    Ok(steps)
+}
+
+/// Takes steps by one call, and adds what they are answered, but for turns after which there are more.
+fn run_script(
+    alloc: Global,
+    world: &mut World<&Scarce>,
+    script: Script,
+    told: &mut Vec<Outcome>,
+) -> Result<(), Fail> {
+    let steps = steps_of(alloc, script)?;
+    for outcome in &world.run(&steps)? {
+        if *outcome != Outcome::More {
+            told.push(*outcome)?;
+        }
+    }
+    Ok(())
+}
+
+/// A replica in a line: its position, whether it is stopped, and its rows, each as table, key and bytes in hex.
+fn described(alloc: Global, world: &World<&Scarce>, number: u32) -> Result<String, Fail> {
+    let mut text = String::new(alloc);
+    let Some(replica) = world.replica(number) else {
+        return Ok(text);
+    };
+    let state = if replica.stopped() {
+        "stopped"
+    } else {
+        "running"
+    };
+    write!(text, "{} {state}", replica.position())?;
+    for row in &replica.rows(alloc)? {
+        let hex = hex::encode(alloc, row.bytes())?;
+        write!(text, " {}:{}={hex}", row.table(), row.key())?;
+    }
+    Ok(text)
+}

@@ -1,0 +1,123 @@
+//! Two increments of one row, of which the second conflicts and is begun anew.
+
+use super::{ADD_SEVEN, ADD_TEN, described, run_script, steps_of, two_replicas};
+use dsm_model::{Outcome, Verdict};
+use dsm_world::{Step, World};
+use scarce::Scarce;
+use std::alloc::Global;
+use std::test::Fail;
+
+static STEPS: [(Step<'static>, usize); 12] = [
+    (
+        Step::Begin {
+            replica: 1,
+            procedure: 1,
+            args: &ADD_TEN,
+        },
+        1,
+    ),
+    (
+        Step::Begin {
+            replica: 2,
+            procedure: 1,
+            args: &ADD_SEVEN,
+        },
+        1,
+    ),
+    (Step::Turn { call: 1 }, 17),
+    (Step::Turn { call: 2 }, 17),
+    (Step::Order { call: 1 }, 1),
+    (Step::Order { call: 2 }, 1),
+    (Step::Deliver { replica: 1 }, 2),
+    (Step::Deliver { replica: 2 }, 2),
+    (
+        Step::Begin {
+            replica: 2,
+            procedure: 1,
+            args: &ADD_SEVEN,
+        },
+        1,
+    ),
+    (Step::Turn { call: 3 }, 17),
+    (Step::Order { call: 3 }, 1),
+    (Step::Deliver { replica: 2 }, 1),
+];
+
+/// What is answered, but for the turns after which there are more: all but the last of each call.
+static TOLD: [Outcome; 14] = [
+    Outcome::Begun {
+        call: 1,
+        snapshot: 0,
+    },
+    Outcome::Begun {
+        call: 2,
+        snapshot: 0,
+    },
+    Outcome::Exit { reply: 10 },
+    Outcome::Exit { reply: 7 },
+    Outcome::Ordered { position: 1 },
+    Outcome::Ordered { position: 2 },
+    Outcome::Delivered {
+        position: 1,
+        verdict: Verdict::Commit,
+    },
+    Outcome::Delivered {
+        position: 2,
+        verdict: Verdict::Conflict(1),
+    },
+    Outcome::Delivered {
+        position: 1,
+        verdict: Verdict::Commit,
+    },
+    Outcome::Delivered {
+        position: 2,
+        verdict: Verdict::Conflict(1),
+    },
+    Outcome::Begun {
+        call: 3,
+        snapshot: 2,
+    },
+    Outcome::Exit { reply: 17 },
+    Outcome::Ordered { position: 3 },
+    Outcome::Delivered {
+        position: 3,
+        verdict: Verdict::Commit,
+    },
+];
+
+/// Whether no steps are taken where there is no room for their answers.
+fn is_refused(alloc: Global, scarce: &Scarce, world: &mut World<&Scarce>) -> Result<bool, Fail> {
+    let steps = steps_of(alloc, &STEPS)?;
+    scarce.refuse_all(true);
+    let refused = world.run(&steps).is_err();
+    scarce.refuse_all(false);
+    Ok(refused && world.log_len() == 0)
+}
+
+/// What is answered by the steps after they were refused, and what replica 2 is then.
+fn refused_and_run(
+    alloc: Global,
+    scarce: &Scarce,
+    world: &mut World<&Scarce>,
+) -> Result<(Vec<Outcome>, String), Fail> {
+    let mut told = Vec::new(alloc);
+    if is_refused(alloc, scarce, world)? {
+        run_script(alloc, world, &STEPS, &mut told)?;
+    }
+    Ok((told, described(alloc, world, 2)?))
+}
+
+/// The same in a world of its own.
+fn increments(alloc: Global, scarce: &Scarce) -> Result<(Vec<Outcome>, String), Fail> {
+    let mut world = two_replicas(alloc, scarce)?;
+    refused_and_run(alloc, scarce, &mut world)
+}
+
+#[test]
+fn of_two_increments_the_second_is_begun_anew(rt: HostRuntime) -> Result<(), Fail> {
+    let scarce = Scarce::new(rt.alloc());
+    let (told, replica) = increments(rt.alloc(), &scarce)?;
+    assert_eq!(rt; told.as_slice(), TOLD.as_slice());
+    assert_eq!(rt; replica.as_str(), "3 running 1:5=1100000000000000");
+    Ok(())
+}

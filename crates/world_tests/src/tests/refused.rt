@@ -1,0 +1,168 @@
+//! Memory that is refused to a world.
+
+use super::{ADD_SEVEN, ADD_TEN, catalogue_of, described, run_script, two_replicas};
+use dsm_model::{Outcome, StepRefusal, Verdict};
+use dsm_world::{Step, World};
+use scarce::Scarce;
+use std::alloc::Global;
+use std::test::Fail;
+
+/// More growths than any call of these tests makes.
+const MOST: u64 = 200;
+
+/// Arguments by which 1 is put at key 6.
+const PUT_ONE: [u8; 16] = [6, 0, 0, 0, 0, 0, 0, 0, 1, 0, 0, 0, 0, 0, 0, 0];
+
+/// Two calls are ordered, and the first is delivered to replica 2.
+static BEFORE: [(Step<'static>, usize); 7] = [
+    (
+        Step::Begin {
+            replica: 1,
+            procedure: 1,
+            args: &ADD_TEN,
+        },
+        1,
+    ),
+    (
+        Step::Begin {
+            replica: 2,
+            procedure: 3,
+            args: &PUT_ONE,
+        },
+        1,
+    ),
+    (Step::Turn { call: 1 }, 17),
+    (Step::Turn { call: 2 }, 8),
+    (Step::Order { call: 1 }, 1),
+    (Step::Order { call: 2 }, 1),
+    (Step::Deliver { replica: 2 }, 1),
+];
+
+/// Replica 2 is stopped until it is made anew, replica 1 goes on meanwhile; then a further call is delivered to replica 2.
+static AFTER: [(Step<'static>, usize); 7] = [
+    (Step::Deliver { replica: 2 }, 1),
+    (Step::Deliver { replica: 1 }, 2),
+    (Step::Rebuild { replica: 2 }, 1),
+    (
+        Step::Begin {
+            replica: 2,
+            procedure: 1,
+            args: &ADD_SEVEN,
+        },
+        1,
+    ),
+    (Step::Turn { call: 3 }, 17),
+    (Step::Order { call: 3 }, 1),
+    (Step::Deliver { replica: 2 }, 1),
+];
+
+/// What is answered to them, with a delivery between them for which there is no memory.
+static TOLD: [Outcome; 16] = [
+    Outcome::Begun {
+        call: 1,
+        snapshot: 0,
+    },
+    Outcome::Begun {
+        call: 2,
+        snapshot: 0,
+    },
+    Outcome::Exit { reply: 10 },
+    Outcome::Exit { reply: 0 },
+    Outcome::Ordered { position: 1 },
+    Outcome::Ordered { position: 2 },
+    Outcome::Delivered {
+        position: 1,
+        verdict: Verdict::Commit,
+    },
+    Outcome::Refused(StepRefusal::OutOfMemory),
+    Outcome::Refused(StepRefusal::ReplicaStopped),
+    Outcome::Delivered {
+        position: 1,
+        verdict: Verdict::Commit,
+    },
+    Outcome::Delivered {
+        position: 2,
+        verdict: Verdict::Commit,
+    },
+    Outcome::Rebuilt { position: 2 },
+    Outcome::Begun {
+        call: 3,
+        snapshot: 2,
+    },
+    Outcome::Exit { reply: 17 },
+    Outcome::Ordered { position: 3 },
+    Outcome::Delivered {
+        position: 3,
+        verdict: Verdict::Commit,
+    },
+];
+
+/// Delivers to replica 2 without memory: what is answered.
+fn deliver_refused(scarce: &Scarce, world: &mut World<&Scarce>) -> Outcome {
+    scarce.refuse_all(true);
+    let outcome = world.step(Step::Deliver { replica: 2 });
+    scarce.refuse_all(false);
+    outcome
+}
+
+/// Lets replica 2 stop and be made anew: what it is while it is stopped, and at the end. What is answered is added.
+fn stop_and_rebuild(
+    alloc: Global,
+    scarce: &Scarce,
+    world: &mut World<&Scarce>,
+    told: &mut Vec<Outcome>,
+) -> Result<(String, String), Fail> {
+    run_script(alloc, world, &BEFORE, told)?;
+    told.push(deliver_refused(scarce, world))?;
+    let stopped = described(alloc, world, 2)?;
+    run_script(alloc, world, &AFTER, told)?;
+    Ok((stopped, described(alloc, world, 2)?))
+}
+
+/// The same in a world of its own.
+fn stopped_and_rebuilt(
+    alloc: Global,
+    scarce: &Scarce,
+    told: &mut Vec<Outcome>,
+) -> Result<(String, String), Fail> {
+    let mut world = two_replicas(alloc, scarce)?;
+    stop_and_rebuild(alloc, scarce, &mut world, told)
+}
+
+#[test]
+fn a_stopped_replica_is_made_anew(rt: HostRuntime) -> Result<(), Fail> {
+    let scarce = Scarce::new(rt.alloc());
+    let mut told = Vec::new(rt.alloc());
+    let (stopped, anew) = stopped_and_rebuilt(rt.alloc(), &scarce, &mut told)?;
+    assert_eq!(rt; told.as_slice(), TOLD.as_slice());
+    assert_eq!(rt; stopped.as_str(), "1 stopped 1:5=0a00000000000000");
+    assert_eq!(rt;
+        anew.as_str(),
+        "3 running 1:5=1100000000000000 1:6=0100000000000000"
+    );
+    Ok(())
+}
+
+/// Whether a world is made where the growth of this number is refused.
+fn is_made(alloc: Global, scarce: &Scarce, growth: u64) -> Result<bool, Fail> {
+    let catalogue = catalogue_of(scarce, alloc)?;
+    scarce.refuse_nth(growth);
+    let made = World::new(scarce, 2, 4, catalogue).is_ok();
+    scarce.refuse_nth(0);
+    Ok(made)
+}
+
+#[test]
+fn each_refused_growth_is_want_of_memory(rt: HostRuntime) -> Result<(), Fail> {
+    let alloc = rt.alloc();
+    let scarce = Scarce::new(alloc);
+    let mut refused = 0;
+    for growth in 1..MOST {
+        if is_made(alloc, &scarce, growth)? {
+            break;
+        }
+        refused = growth;
+    }
+    assert!(rt; refused > 4 && refused < 100, "{refused}");
+    Ok(())
+}

@@ -1,0 +1,186 @@
+//! What the plain replayer says of the calls that a drawn world ordered, the world came to.
+
+ghost use Rattle.std.specs.Prelude.{◌<◌, ◌^◌, length};
+
+use super::drawn::{DrawnWorld, History, KINDS, new_world};
+use dsm_replayer::{CallReport, CompletedReplay, PlainCall, Row, replay_log};
+use dsm_world::World;
+use replica::Replica;
+use sample_procedures::setting_of;
+use scarce::Scarce;
+use std::alloc::Global;
+use std::test::Fail;
+
+/// How many worlds are drawn.
+const WORLDS: u64 = 320;
+
+/// Where a world isn't what the plain replay says.
+#[derive(Clone, Copy, Debug, PartialEq, Eq)]
+enum Difference {
+    None,
+    /// An outcome has another number or position than the next one.
+    Numbers,
+    Replies,
+    Verdicts,
+    /// What a replica says of the calls that were delivered to it.
+    Certifications,
+    /// The rows of a replica before it is brought to the end of the log.
+    Rows,
+    LastRows,
+}
+
+/// The log, which is short in these tests.
+fn short(log: &[PlainCall]) -> &[PlainCall]
+    ensures { length result.now < 2 ^ 32 }
+{
+    if log.len() < 10_000 { log } else { &[] }
+}
+
+/// The calls that were ordered, as the plain replayer takes them.
+fn log_of(alloc: Global, history: &History) -> Result<Vec<PlainCall>, Fail> {
+    let mut log = Vec::new(alloc);
+    for number in &history.ordered {
+        let Some(call) = history.call(*number) else {
+            return Ok(log);
+        };
+        let args = Vec::from_slice(alloc, &call.args)?;
+        log.push(PlainCall::new(*number, call.procedure, args, call.snapshot))?;
+    }
+    Ok(log)
+}
+
+/// Whether each ordered call answered the reply of its run in the replay, and stands with it in the world's log.
+fn has_replies(world: &World<&Scarce>, history: &History, reports: &[CallReport]) -> bool {
+    let mut position = 0u32;
+    for (number, report) in history.ordered.iter().zip(reports) {
+        position = position.wrapping_add(1);
+        let reply = history.call(*number).and_then(|call| call.reply);
+        let logged = world.entry(position).map(|entry| entry.reply);
+        if reply != Some(report.reply()) || logged != reply {
+            return false;
+        }
+    }
+    history.ordered.len() == reports.len() && world.log_len() == position
+}
+
+/// Whether each delivery told the verdict of the replay.
+fn has_verdicts(history: &History, reports: &[CallReport]) -> bool {
+    for (position, verdict) in &history.delivered {
+        let report = reports.get((*position as usize).wrapping_sub(1));
+        if report.map(|report| report.verdict()) != Some(*verdict) {
+            return false;
+        }
+    }
+    true
+}
+
+/// Whether a replica is at the end of the log, and says of each call what the replay says.
+fn says_the_same(replica: &Replica<&Scarce>, reports: &[CallReport]) -> bool {
+    let last = replica.position();
+    let mut position = 0u32;
+    for report in reports {
+        position = position.wrapping_add(1);
+        if position == 0 || position > last {
+            return false;
+        }
+        let said = replica.verdict_at(position);
+        let compared = report.comparisons().len() as u64;
+        if said.verdict != report.verdict() || said.compared != compared {
+            return false;
+        }
+    }
+    position == last && !replica.stopped()
+}
+
+fn are_rows(found: &[Row], rows: &[Row]) -> bool {
+    for (one, other) in found.iter().zip(rows) {
+        let same_key = one.table() == other.table() && one.key() == other.key();
+        if !same_key || one.bytes() != other.bytes() {
+            return false;
+        }
+    }
+    found.len() == rows.len()
+}
+
+/// Whether each replica has the rows of the replay after its position.
+fn have_rows(
+    alloc: Global,
+    replicas: &[Replica<&Scarce>],
+    replay: &CompletedReplay,
+) -> Result<bool, Fail> {
+    for replica in replicas {
+        let found = replica.rows(alloc)?;
+        let rows = replay.rows(replica.position() as usize);
+        if !rows.is_some_and(|rows| are_rows(&found, rows)) {
+            return Ok(false);
+        }
+    }
+    Ok(true)
+}
+
+/// Where the answers of a world, and its replicas at the end of the log, aren't what the replay says.
+fn difference_of_answers(drawn: &DrawnWorld<'_>, reports: &[CallReport]) -> Difference {
+    for replica in drawn.world.replicas() {
+        if !says_the_same(replica, reports) {
+            return Difference::Certifications;
+        }
+    }
+    if drawn.history.odd {
+        Difference::Numbers
+    } else if !has_replies(&drawn.world, &drawn.history, reports) {
+        Difference::Replies
+    } else if !has_verdicts(&drawn.history, reports) {
+        Difference::Verdicts
+    } else {
+        Difference::None
+    }
+}
+
+/// The replay of a world's log.
+fn replay_of(alloc: Global, drawn: &DrawnWorld<'_>) -> Result<CompletedReplay, Fail> {
+    let log = log_of(alloc, &drawn.history)?;
+    let setting = setting_of(alloc, drawn.window)?;
+    Ok(replay_log(alloc, &setting, short(&log))?)
+}
+
+/// Where a world isn't what the replay of its log says, before and after its replicas are brought to the end.
+fn find_difference(alloc: Global, drawn: &mut DrawnWorld<'_>) -> Result<Difference, Fail> {
+    let replay = replay_of(alloc, drawn)?;
+    if !have_rows(alloc, drawn.world.replicas(), &replay)? {
+        return Ok(Difference::Rows);
+    }
+    drawn.finish()?;
+    if !have_rows(alloc, drawn.world.replicas(), &replay)? {
+        return Ok(Difference::LastRows);
+    }
+    Ok(difference_of_answers(drawn, replay.reports()))
+}
+
+/// Takes the steps of a drawn world, and compares it.
+fn run_and_compare(alloc: Global, drawn: &mut DrawnWorld<'_>) -> Result<Difference, Fail> {
+    drawn.run()?;
+    find_difference(alloc, drawn)
+}
+
+/// Draws a world of a seed and compares it. Its outcomes are added by their kinds.
+fn compare(alloc: Global, seed: u64, kinds: &mut [u32; KINDS]) -> Result<Difference, Fail> {
+    let scarce = Scarce::new(alloc);
+    let mut drawn = new_world(alloc, &scarce, seed, *kinds)?;
+    let found = run_and_compare(alloc, &mut drawn);
+    *kinds = drawn.history.kinds;
+    found
+}
+
+#[test]
+fn worlds_come_to_what_the_plain_replay_says(rt: HostRuntime) -> Result<(), Fail> {
+    let alloc = rt.alloc();
+    let mut kinds = [0; KINDS];
+    for seed in 0..WORLDS {
+        let found = compare(alloc, seed, &mut kinds)?;
+        assert_eq!(rt; found, Difference::None, "seed {seed}");
+    }
+    let common = kinds.iter().filter(|count| **count > 100).count();
+    // All but a full log and too many calls.
+    assert_eq!(rt; common, KINDS - 2, "{kinds:?}");
+    Ok(())
+}
