@@ -6,6 +6,8 @@ use std::test::Fail;
 fn a_plan_is_read_off_the_words(rt: HostRuntime) -> Result<(), Fail> {
     let words = ["dsmdb", "list", "add.bpf"];
     assert!(rt; plan(rt.alloc(), &words)? == Plan::List { file: "add.bpf" });
+    let words = ["dsmdb", "replay", "a.dsm"];
+    assert!(rt; plan(rt.alloc(), &words)? == Plan::Replay { script: "a.dsm" });
     let rows: [(&[&str], u16, &[(u8, u16)]); 3] = [
         (&["dsmdb", "check", "add.bpf", "0"], 0, &[]),
         (&["dsmdb", "check", "add.bpf", "16", "1:8"], 16, &[(1, 8)]),
@@ -58,13 +60,16 @@ fn other_numbers_are_refused(rt: HostRuntime) -> Result<(), Fail> {
 /// The exit status for words that are no plan, and how the text begins.
 #[test]
 fn other_words_are_refused(rt: HostRuntime) -> Result<(), Fail> {
-    let rows: [(&[&str], i32, &str); 9] = [
+    let rows: [(&[&str], i32, &str); 12] = [
         (&["dsmdb"], 2, ""),
         (&["dsmdb", "list"], 2, "error: "),
         (&["dsmdb", "list", "a", "b"], 2, "error: "),
         (&["dsmdb", "check"], 2, "error: "),
         (&["dsmdb", "check", "a"], 2, "error: "),
         (&["dsmdb", "check", "a", "-1"], 2, "error: "),
+        (&["dsmdb", "replay"], 2, "error: "),
+        (&["dsmdb", "replay", "a", "b"], 2, "error: "),
+        (&["dsmdb", "replay", "--help"], 0, "Runs a script"),
         (&["dsmdb", "jump", "a"], 2, "error: "),
         (&["dsmdb", "--help"], 0, ""),
         (&["dsmdb", "--version"], 0, "dsmdb 0.1.0\n"),

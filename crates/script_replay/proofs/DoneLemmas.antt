@@ -18,7 +18,7 @@ use Rattle.script_replay.specs.declared.stage.Stage as code
 use Rattle.script_replay.specs.declared.stop.Stop.{Stop}
 use Rattle.script_replay.specs.declared.stop.Stop.TheVariants.{Fault, Input, Output}
 use Rattle.script_replay.specs.declared.stage.Stage.TheVariants.{SettingUp as SettingUpCode, Acting as ActingCode}
-use Rattle.script_replay.specs.Stage.{Stage, Acting, Action, Fails, Goes, Acts, acts_first, action_of}
+use Rattle.script_replay.specs.Stage.{Stage, Acting, Action, Fails, Goes, Acts, first_action, action_of}
 use Rattle.script_replay.specs.Replay.{Ending, Faulty, Prints}
 use Rattle.script_replay.specs.Doing.{stage_of, PrintsFrom, IsFaultOf, Begun, Stopped, ActionDone}
 use Rattle.script_replay.proofs.PassesLemmas.{Passes-nothing, PassesBeginning-front, PassesBeginning-more}
@@ -90,10 +90,10 @@ setting_from c window = record { tables = c.tables; catalogue = c.procedures; wi
 
 -- the world that is made acts
 pub set_up_acts : (s : ScriptSettings) (o p : Option ℕ) (catalogue : SystemCatalogue) (window replicas : ℕ) (w : Setting) (world : World) (c : ScriptCommand) → o ≡ Some window → p ≡ Some replicas → catalogue ≡ s.catalogue
-    → w ≡ setting_from catalogue window → world ≡ first_world replicas → acts_first s o p c ≡ Acts w world c
+    → w ≡ setting_from catalogue window → world ≡ first_world replicas → first_action s o p c ≡ Acts w world c
 set_up_acts s o p catalogue window replicas w world c e f same is first =
-    ap (λ (q : Option ℕ). acts_first s q p c) e
-    ∙ ap (λ (q : Option ℕ). acts_first s (Some window) q c) f
+    ap (λ (q : Option ℕ). first_action s q p c) e
+    ∙ ap (λ (q : Option ℕ). first_action s (Some window) q c) f
     ∙ ap (λ (k : SystemCatalogue). Acts (setting_from k window) (first_world replicas) c) (sym same)
     ∙ ap (λ (u : Setting). Acts u (first_world replicas) c) (sym is)
     ∙ ap (λ (v : World). Acts w v c) (sym first)
@@ -101,11 +101,11 @@ set_up_acts s o p catalogue window replicas w world c e f same is first =
 -- ---- at a stage of the code
 
 pub fault_of_first : {A X : Type 0} (n : ℕ) (stage : code.Stage A) (s : ScriptSettings) (result : Result X Stop) → stage ≡ SettingUpCode s
-    → IfErr result (λ stop. (c : ScriptCommand) → IsFaultOf n (acts_first s s.window s.replicas c) stop)
+    → IfErr result (λ stop. (c : ScriptCommand) → IsFaultOf n (first_action s s.window s.replicas c) stop)
     → IfErr result (λ stop. (c : ScriptCommand) → is_setting c ≡ false → IsFaultOf n (action_of (stage_of stage) (Ok (Some c))) stop)
 fault_of_first n stage s (Ok x) e h = tt
 fault_of_first n stage s (Err stop) e h = λ c is.
-    let same : action_of (stage_of stage) (Ok (Some c)) ≡ acts_first s s.window s.replicas c = ap (λ st. action_of (stage_of st) (Ok (Some c))) e ∙ setting_up_acts s c is in
+    let same : action_of (stage_of stage) (Ok (Some c)) ≡ first_action s s.window s.replicas c = ap (λ st. action_of (stage_of st) (Ok (Some c))) e ∙ setting_up_acts s c is in
     subst (λ (a : Action). IsFaultOf n a stop) (sym same) (h c)
 
 pub acting_at : {A : Type 0} (stage : code.Stage A) (w : SystemWorld) → stage ≡ ActingCode w → (c : ScriptCommand) → is_setting c ≡ false → action_of (stage_of stage) (Ok (Some c)) ≡ Acts (setting_of w) (world_of w) c

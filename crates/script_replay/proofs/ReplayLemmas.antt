@@ -1,9 +1,8 @@
 -- What a script may print from a stage on.
-use Rattle.std.proofs.Common.{◌≡◌, inl, ℕ, zero, suc, ◌+◌, Bool, true, false, List, [], ◌∷◌, ◌++◌, Option, Some, None, Result, Ok, Err, refl, sym, subst, ◌∙◌}
+use Rattle.std.proofs.Common.{◌≡◌, inl, ℕ, ◌+◌, Bool, true, false, List, [], ◌∷◌, ◌++◌, Option, Some, None, Result, Ok, Err, refl, sym, subst, ◌∙◌}
 use Rattle.std.specs.List.{concat}
-use Rattle.dsm_model.specs.declared.outcome.Outcome.{Outcome}
 use Rattle.dsm_model.specs.Log.{Setting}
-use Rattle.dsm_model.specs.World.{World, Step, Begin, Turn, Order, Deliver, Rebuild, IsStep, after_step, after_begin, numbered}
+use Rattle.dsm_model.specs.World.{World, Step, Begin, Turn, Order, Deliver, Rebuild, after_step, after_begin, numbered}
 use Rattle.script.specs.declared.fault.LineFault.{LineFault}
 use Rattle.script.specs.declared.commands.Command.TheVariants as command
 use Rattle.script.specs.Script.{ScriptCommand, line_says}
@@ -11,35 +10,13 @@ use Rattle.script_settings.specs.declared.cause.FaultCause.{FaultCause}
 use Rattle.script_settings.specs.declared.cause.FaultCause.TheVariants as cause
 use Rattle.script_settings.specs.Settings.{ScriptSettings, setting_after, is_setting}
 use Rattle.script_actions.specs.Printed.{step_text, rows_text, log_text, entry_text}
-use Rattle.script_actions.specs.Actions.{Later, Repeats, is_more, is_delivery, last_line, longest_run, number_of_name, Turns, Deliveries, OneStep, Begins, Does}
-use Rattle.script_replay.specs.Stage.{Stage, Setting_up, Acting, Action, Fails, Goes, Acts, sets, acts_first, action_of}
+use Rattle.script_actions.specs.Actions.{is_more, is_delivery, last_line, longest_run, number_of_name, Turns, Deliveries, OneStep, Begins, Does}
+use Rattle.script_actions.proofs.RepeatLemmas.{repeats_can}
+use Rattle.script_replay.specs.Stage.{Stage, Setting_up, Acting, Action, Fails, Goes, Acts, setting_action, first_action, action_of}
 use Rattle.script_replay.specs.Replay.{Ending, Finished, Faulty, Prints}
 use Rattle.script_replay.specs.Doing.{PrintsFrom}
 
 -- ---- there is always a way on
-
-abbrev SomeWay : (List (List ℕ) → World → Type 0) → Type 0
-SomeWay P = (lines : List (List ℕ)) × (after : World) × P lines after
-
-later : (w : Setting) (step : Step) (goes : Outcome → Bool) (n : ℕ) (before between : World) (first : Outcome) (b : Bool) → IsStep w before step first between → b ≡ goes first
-    → SomeWay (Repeats w step goes n between) → SomeWay (Repeats w step goes (suc n) before)
-unfolding Repeats
-later w step goes n before between first true is e (rest, after, more) = (
-  step_text w between.log step first ∷ rest,
-  after,
-  (first, rest, between, refl, is, subst (λ (b : Bool). Later b (Repeats w step goes n between rest after) rest between after) e more),
-)
-later w step goes n before between first false is e _ = (
-  step_text w between.log step first ∷ [],
-  between,
-  (first, [], between, refl, is, subst (λ (b : Bool). Later b (Repeats w step goes n between [] between) [] between between) e (refl, refl)),
-)
-
-repeats_can : (w : Setting) (step : Step) (goes : Outcome → Bool) (n : ℕ) (before : World) → SomeWay (Repeats w step goes n before)
-unfolding Repeats
-repeats_can w step goes zero before = ([], before, (refl, refl))
-repeats_can w step goes (suc n) before =
-    later w step goes n before (after_step w before step).1 (after_step w before step).0 (goes (after_step w before step).0) (inl refl) refl (repeats_can w step goes n (after_step w before step).1)
 
 abbrev CanDo : (List ℕ → World → Type 0) → Type 0
 CanDo P = (text : List ℕ) × (after : World) × P text after
@@ -84,17 +61,17 @@ acting_setting w world c e = rw e
 pub acting_acts : (w : Setting) (world : World) (c : ScriptCommand) → is_setting c ≡ false → action_of (Acting w world) (Ok (Some c)) ≡ Acts w world c
 acting_acts w world c e = rw e
 
-pub setting_up_sets : (s : ScriptSettings) (c : ScriptCommand) → is_setting c ≡ true → action_of (Setting_up s) (Ok (Some c)) ≡ sets (setting_after s c)
+pub setting_up_sets : (s : ScriptSettings) (c : ScriptCommand) → is_setting c ≡ true → action_of (Setting_up s) (Ok (Some c)) ≡ setting_action (setting_after s c)
 setting_up_sets s c e = rw e
 
-pub setting_up_acts : (s : ScriptSettings) (c : ScriptCommand) → is_setting c ≡ false → action_of (Setting_up s) (Ok (Some c)) ≡ acts_first s s.window s.replicas c
+pub setting_up_acts : (s : ScriptSettings) (c : ScriptCommand) → is_setting c ≡ false → action_of (Setting_up s) (Ok (Some c)) ≡ first_action s s.window s.replicas c
 setting_up_acts s c e = rw e
 
-no_acts : (made : Result ScriptSettings FaultCause) (w : Setting) (world : World) (c : ScriptCommand) → sets made ≡ Acts w world c → ⊥
+no_acts : (made : Result ScriptSettings FaultCause) (w : Setting) (world : World) (c : ScriptCommand) → setting_action made ≡ Acts w world c → ⊥
 no_acts (Ok s) w world c e = cc
 no_acts (Err cause) w world c e = cc
 
-same_first : (s : ScriptSettings) (window replicas : Option ℕ) (d : ScriptCommand) (w : Setting) (world : World) (c : ScriptCommand) → acts_first s window replicas d ≡ Acts w world c → d ≡ c
+same_first : (s : ScriptSettings) (window replicas : Option ℕ) (d : ScriptCommand) (w : Setting) (world : World) (c : ScriptCommand) → first_action s window replicas d ≡ Acts w world c → d ≡ c
 same_first s (Some n) (Some m) d w world c e = cc
 same_first s (Some n) None d w world c e = absurd cc
 same_first s None (Some m) d w world c e = absurd cc

@@ -13,10 +13,10 @@ pub data Ending : Type 0 where
 
 -- what an action prints, followed by what is printed from the stage behind it
 abbrev pub PrintsAction : ℕ → Action → (Stage → List ℕ → Type 0) → List ℕ → Ending → Type 0
-PrintsAction number (Fails cause) Later text ending = (text ≡ []) × (ending ≡ Faulty (record { line = number; cause = cause }))
-PrintsAction number (Goes stage) Later text ending = Later stage text
-PrintsAction number (Acts w before c) Later text ending =
-    (here rest : List ℕ) × (after : World) × Does w before c here after × (text ≡ here ++ rest) × Later (Acting w after) rest
+PrintsAction number (Fails cause) Behind text ending = (text ≡ []) × (ending ≡ Faulty (record { line = number; cause = cause }))
+PrintsAction number (Goes stage) Behind text ending = Behind stage text
+PrintsAction number (Acts w before c) Behind text ending =
+    (here rest : List ℕ) × (after : World) × Does w before c here after × (text ≡ here ++ rest) × Behind (Acting w after) rest
 
 -- what lines print from a stage on, and how they end; the first of them has this number. A line at fault ends the script
 unfoldable pub Prints : Stage → ℕ → List (List ℕ) → List ℕ → Ending → Type 0

@@ -27,18 +27,18 @@ pub data Action : Type 0 where
   Goes : Stage → Action
   Acts : Setting → World → ScriptCommand → Action
 
-abbrev pub sets : Result ScriptSettings FaultCause → Action
-sets (Ok s) = Goes (Setting_up s)
-sets (Err cause) = Fails cause
+abbrev pub setting_action : Result ScriptSettings FaultCause → Action
+setting_action (Ok s) = Goes (Setting_up s)
+setting_action (Err cause) = Fails cause
 
 -- the first line that acts makes the world, of which window and replicas have to be set
-abbrev pub acts_first : ScriptSettings → Option ℕ → Option ℕ → ScriptCommand → Action
-acts_first s (Some window) (Some replicas) c = Acts (setting_with s window) (first_world replicas) c
-acts_first s _ _ c = Fails cause.Place
+abbrev pub first_action : ScriptSettings → Option ℕ → Option ℕ → ScriptCommand → Action
+first_action s (Some window) (Some replicas) c = Acts (setting_with s window) (first_world replicas) c
+first_action s _ _ c = Fails cause.Place
 
 -- no line sets anything once a world acts
 abbrev pub action_of : Stage → Result (Option ScriptCommand) LineFault → Action
 action_of stage (Err fault) = Fails (cause_of_line_fault fault)
 action_of stage (Ok None) = Goes stage
-action_of (Setting_up s) (Ok (Some c)) = if is_setting c then sets (setting_after s c) else acts_first s s.window s.replicas c
+action_of (Setting_up s) (Ok (Some c)) = if is_setting c then setting_action (setting_after s c) else first_action s s.window s.replicas c
 action_of (Acting w world) (Ok (Some c)) = if is_setting c then Fails cause.Place else Acts w world c

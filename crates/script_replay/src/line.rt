@@ -5,7 +5,7 @@ ghost use Rattle.byte_output.specs.Pending.{output_of};
 ghost use Rattle.dsm_world.specs.System.{setting_of, world_of};
 ghost use Rattle.script.specs.Script.{ScriptCommand, IsWithinLimits, line_says};
 ghost use Rattle.script_settings.specs.Settings.{is_setting};
-ghost use Rattle.script_replay.specs.Stage.{Goes, Acts, acts_first, action_of};
+ghost use Rattle.script_replay.specs.Stage.{Goes, Acts, first_action, action_of};
 ghost use Rattle.script_replay.specs.Doing.{stage_of, IsFaultOf, ActionDone};
 
 use crate::stage::Stage;
@@ -99,9 +99,9 @@ fn set_up<A: Allocator + Copy>(
     number: u64,
 ) -> Result<World<A>, Stop>
     ensures ok { IfOk result (λ world. (c : ScriptCommand)
-        → acts_first settings settings.window settings.replicas c ≡ Acts (setting_of world) (world_of world) c) }
+        → first_action settings settings.window settings.replicas c ≡ Acts (setting_of world) (world_of world) c) }
     ensures fault { IfErr result (λ stop. (c : ScriptCommand)
-        → IsFaultOf number (acts_first settings settings.window settings.replicas c) stop) }
+        → IsFaultOf number (first_action settings settings.window settings.replicas c) stop) }
 {
     let Some(window) = settings.window() else {
         return Err(fault_at(number, FaultCause::Place));

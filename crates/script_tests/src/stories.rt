@@ -1,6 +1,7 @@
 //! Scripts, and what they print.
 
 /// A script, what it prints, and the line that is said of a fault.
+#[derive(Clone, Copy)]
 pub(crate) struct Story {
     pub(crate) lines: &'static [&'static str],
     pub(crate) prints: &'static [&'static str],
@@ -46,6 +47,7 @@ const ONE_LINE: &str = "proc one 9 0 b7000000010000009500000000000000";
 /// It jumps over a wide load of two slots, into its middle.
 const INTO_LOAD_LINE: &str =
     "proc jump 1 0 0500010000000000180000000100000000000000000000009500000000000000";
+
 const TO_LOAD_LINE: &str =
     "proc jump 1 0 0500000000000000180000000100000000000000000000009500000000000000";
 
@@ -91,11 +93,7 @@ pub(crate) const READS: Story = Story {
 
 /// A jump into a wide load is no program.
 pub(crate) const JUMPS_INTO_A_LOAD: Story = Story {
-    lines: &[
-        "window 4",
-        INTO_LOAD_LINE,
-        "jump",
-    ],
+    lines: &["window 4", INTO_LOAD_LINE, "jump"],
     prints: &[],
     fault: "line 2: L7 B10 slot 0",
 };
@@ -122,27 +120,21 @@ pub(crate) const JUMPS_TO_A_LOAD: Story = Story {
 
 /// A register that may hold either of two kinds can't be read.
 pub(crate) const JOINS: Story = Story {
-    lines: &[
-        JOINED_LINE,
-    ],
+    lines: &[JOINED_LINE],
     prints: &[],
     fault: "line 1: L7 V1 slot 4",
 };
 
 /// Each place inside the arguments may be read.
 pub(crate) const INDEXES: Story = Story {
-    lines: &[
-        INDEX_LINE,
-    ],
+    lines: &[INDEX_LINE],
     prints: &[],
     fault: "",
 };
 
 /// And none beyond.
 pub(crate) const INDEXES_PAST_THE_END: Story = Story {
-    lines: &[
-        INDEX_PAST_LINE,
-    ],
+    lines: &[INDEX_PAST_LINE],
     prints: &[],
     fault: "line 1: L7 V4 slot 3",
 };

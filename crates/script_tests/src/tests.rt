@@ -16,7 +16,11 @@ fn joined(alloc: Global, lines: &[&str]) -> Result<Vec<u8>, AllocError> {
 }
 
 /// The exit status, what is printed, and what is said of faults.
-fn replayed<A: Allocator + Copy>(alloc: A, global: Global, script: &[u8]) -> (u8, Vec<u8>, Vec<u8>) {
+fn replayed<A: Allocator + Copy>(
+    alloc: A,
+    global: Global,
+    script: &[u8],
+) -> (u8, Vec<u8>, Vec<u8>) {
     let mut input = script;
     let mut output = Vec::new(global);
     let mut faults = Vec::new(global);
@@ -35,7 +39,11 @@ fn tells(alloc: Global, lines: &[&str], prints: &[&str], fault: &str) -> Result<
         joined(alloc, &[fault])?
     };
     let is_faulty = u8::from(!fault.is_empty());
-    Ok(status == is_faulty && output.as_slice() == expected.as_slice() && faults.as_slice() == said.as_slice())
+    Ok(
+        status == is_faulty
+            && output.as_slice() == expected.as_slice()
+            && faults.as_slice() == said.as_slice(),
+    )
 }
 
 #[test]
@@ -58,17 +66,45 @@ const FAULTS: [(&[&str], &[&str], &str); 21] = [
     (&["deliver 1 1"], &[], "line 1: L5"),
     (&["table 0 8"], &[], "line 1: L6 S1"),
     (&["proc x 1 0 -"], &[], "line 1: L7 B1 slot 0"),
-    (&["proc a-b 1 0 b7000000010000009500000000000000"], &[], "line 1: L8 C4"),
+    (
+        &["proc a-b 1 0 b7000000010000009500000000000000"],
+        &[],
+        "line 1: L8 C4",
+    ),
     (&["", "# a comment", "window 4", "log"], &[], "line 4: L5"),
     (&["replicas 2", "entry 1"], &[], "line 2: L5"),
     (&["window 4", "window 4"], &[], "line 2: L5"),
     (&[ONE, "table 1 8"], &[], "line 2: L5"),
-    (&["window 4", "replicas 1", "log", "window 4"], &["log 0"], "line 4: L5"),
-    (&["window 4", "replicas 1", "log", "replicas 1"], &["log 0"], "line 4: L5"),
-    (&["window 4", "replicas 1", "log", "table 1 8"], &["log 0"], "line 4: L5"),
-    (&["window 4", "replicas 1", "log", ONE], &["log 0"], "line 4: L5"),
-    (&["window 4", "replicas 1", "log", "turn 1 0", "log"], &["log 0"], "line 4: L4"),
-    (&["window 4", "replicas 1", "rows 2", "deliver 1"], &["replica 2 refused P1"], "line 4: L3"),
+    (
+        &["window 4", "replicas 1", "log", "window 4"],
+        &["log 0"],
+        "line 4: L5",
+    ),
+    (
+        &["window 4", "replicas 1", "log", "replicas 1"],
+        &["log 0"],
+        "line 4: L5",
+    ),
+    (
+        &["window 4", "replicas 1", "log", "table 1 8"],
+        &["log 0"],
+        "line 4: L5",
+    ),
+    (
+        &["window 4", "replicas 1", "log", ONE],
+        &["log 0"],
+        "line 4: L5",
+    ),
+    (
+        &["window 4", "replicas 1", "log", "turn 1 0", "log"],
+        &["log 0"],
+        "line 4: L4",
+    ),
+    (
+        &["window 4", "replicas 1", "rows 2", "deliver 1"],
+        &["replica 2 refused P1"],
+        "line 4: L3",
+    ),
     (&["table 1 8", "table 1 8"], &[], "line 2: L6 S3"),
     (&[ONE, ONE], &[], "line 2: L8 C1"),
     (&["table 1 129"], &[], "line 1: L6 S2"),
@@ -89,7 +125,10 @@ fn scripts_may_end_anywhere(rt: HostRuntime) -> Result<(), Fail> {
     assert!(rt; tells(alloc, &[], &[], "")?);
     assert!(rt; tells(alloc, &["window 4", "", "# no replicas"], &[], "")?);
     let (status, output, faults) = replayed(alloc, alloc, b"window 4\nreplicas 1\nlog");
-    assert_eq!(rt; (status, output.as_slice(), faults.is_empty()), (0, b"log 0\n".as_slice(), true));
+    assert_eq!(rt;
+        (status, output.as_slice(), faults.is_empty()),
+        (0, b"log 0\n".as_slice(), true)
+    );
     Ok(())
 }
 
@@ -108,7 +147,10 @@ fn lines_have_at_most_70000_bytes(rt: HostRuntime) -> Result<(), Fail> {
     assert_eq!(rt; (status, faults.len()), (0, 0));
     let longer = long_comment(alloc, 70_001)?;
     let (status, _, faults) = replayed(alloc, alloc, &longer);
-    assert_eq!(rt; (status, faults.as_slice()), (1, b"line 1: L1\n".as_slice()));
+    assert_eq!(rt;
+        (status, faults.as_slice()),
+        (1, b"line 1: L1\n".as_slice())
+    );
     Ok(())
 }
 
@@ -156,7 +198,10 @@ fn a_failing_output_answers_3(rt: HostRuntime) -> Result<(), Fail> {
             let mut output = Output::new(alloc, room, full);
             let mut faults = Vec::new(alloc);
             let status = replay_over(alloc, &mut input, &mut output, &mut faults);
-            assert_eq!(rt; (status, faults.is_empty(), output.after_failure), (3, false, 0));
+            assert_eq!(rt;
+                (status, faults.is_empty(), output.after_failure),
+                (3, false, 0)
+            );
             assert_eq!(rt; Some(output.held.as_slice()), prints.get(..room));
         }
     }
@@ -185,31 +230,56 @@ fn faults_may_find_no_room(rt: HostRuntime) -> Result<(), Fail> {
     Ok(())
 }
 
-/// The first growths of a replay, refused in turn: a step says so and the script goes on, or the script ends.
+/// How a replay went on that found no memory once.
+#[derive(Clone, Copy, PartialEq, Eq)]
+enum Course {
+    /// It ended there, with all that was printed before.
+    Ended,
+    /// A step was refused, and the script went on.
+    WentOn,
+    /// It came to what it comes to with memory.
+    Same,
+}
+
+/// The course of a replay, where it is one.
+fn course_of(status: u8, output: &[u8], faults: &[u8], prints: &[u8]) -> Option<Course> {
+    if status == 3 {
+        let told = faults.ends_with(b": L9\n") && begins_with(prints, output);
+        let lines = output.is_empty() || output.ends_with(b"\n");
+        return if told && lines {
+            Some(Course::Ended)
+        } else {
+            None
+        };
+    }
+    if status != 0 || !faults.is_empty() {
+        return None;
+    }
+    Some(if output == prints {
+        Course::Same
+    } else {
+        Course::WentOn
+    })
+}
+
+/// Each growth of a replay is refused in turn. Some of them end the script, and some refuse a step.
 #[test]
 fn growths_are_refused_in_turn(rt: HostRuntime) -> Result<(), Fail> {
     let alloc = rt.alloc();
     let script = joined(alloc, TWO_INCREMENTS.lines)?;
     let prints = joined(alloc, TWO_INCREMENTS.prints)?;
     let scarce = Scarce::new(alloc);
-    let mut ended = 0u32;
-    let mut refused = 0u32;
-    let all = scarce.refuse_each(|| {
+    let mut ended_late = false;
+    let mut went_on = false;
+    for nth in 1..2000 {
+        scarce.refuse_nth(nth);
         let (status, output, faults) = replayed(&scarce, alloc, &script);
-        if status == 3 {
-            assert!(rt; faults.as_slice().ends_with(b": L9\n"));
-            assert!(rt; begins_with(&prints, &output));
-            ended = ended.saturating_add(1);
-            return false;
-        }
-        assert_eq!(rt; (status, faults.is_empty()), (0, true));
-        if output.as_slice() == prints.as_slice() {
-            return true;
-        }
-        refused = refused.saturating_add(1);
-        false
-    });
-    assert!(rt; all.is_some());
-    assert!(rt; ended > 0 && refused > 0);
+        let course = course_of(status, &output, &faults, &prints);
+        assert!(rt; course.is_some(), "growth {nth}");
+        ended_late = ended_late || (course == Some(Course::Ended) && !output.is_empty());
+        went_on = went_on || course == Some(Course::WentOn);
+    }
+    assert!(rt; ended_late && went_on);
+    assert!(rt; scarce.refused() < 1999);
     Ok(())
 }
