@@ -11,7 +11,7 @@ ghost use Rattle.dsm_model.specs.World.{OpenCall as ModelCall, Turn as TurnStep,
 ghost use Rattle.dsm_model.specs.World.{IsStep, AreSteps, first_world, numbered, open_call};
 ghost use Rattle.dsm_model.specs.Sound.{HasByteArguments, IsSound, IsSerialReply, IsWorld};
 ghost use Rattle.replica.specs.Replica.{Replica as ReplicaState, AreEntriesOf};
-ghost use Rattle.catalogue.specs.Catalogue.{by_name};
+ghost use Rattle.catalogue.specs.Catalogue.{IsCatalogue, by_name};
 ghost use Rattle.dsm_world.specs.System.{setting_of, world_of, step_of, progress_of, KeepsDelivered};
 ghost use Rattle.dsm_world.specs.Holdings.{system_of, IsConsistent, IsReplicaOf};
 
@@ -22,7 +22,7 @@ use crate::order::order;
 use crate::rebuild::rebuild;
 use crate::step::Step;
 use crate::turn::turn;
-use catalogue::{Catalogue, catalogues_are_safe};
+use catalogue::{Catalogue, catalogues_are_safe, each_catalogue_is_consistent};
 use dsm_model::{
     Outcome, a_log_only_grows, delivered_verdicts_are_the_logs, open_calls_are_sound,
     replies_are_serial, steps_keep_a_world,
@@ -186,18 +186,20 @@ impl<A: Allocator + Copy> World<A> {
         Ok(outcomes)
     }
 
-    /// What is known of every world: steps lead to such a one, its procedures are safe, its entries are those of a log and
-    /// carry their runs, and what each replica keeps are the verdicts and rows of the log as far as it has come.
+    /// What is known of every world: steps lead to such a one, its catalogue's procedures were accepted and are safe, its
+    /// entries are those of a log and carry their runs, and what each replica keeps are the verdicts and rows of the log as
+    /// far as it has come.
     pub fn keeps_what_was_delivered(&self)
         ensures world { IsWorld (setting_of self.now) (world_of self.now) }
+        ensures catalogue { IsCatalogue self.now.catalogue }
         ensures procedures { HasSafeProcedures (setting_of self.now) }
         ensures entries { AreEntriesOf (setting_of self.now) self.now.entries }
         ensures replicas { (r : ℕ) (k : ReplicaState) → numbered self.now.replicas r ≡ Some k → KeepsDelivered self.now k }
     {
         a_log_only_grows();
         replicas_follow_the_log();
-        // The parts are looked at, so that it is known how they fit together.
-        let _ = self.holdings.entries.len();
+        // A part is looked at, so that it is known how all fit together.
+        each_catalogue_is_consistent(&self.holdings.catalogue);
     }
 
     /// How many calls were ordered.

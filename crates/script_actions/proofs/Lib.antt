@@ -4,3 +4,4 @@ mod PrintedLemmas
 mod LogLemmas
 mod RowLemmas
 pub mod DoneLemmas
+mod TurnLemmas

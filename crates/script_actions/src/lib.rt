@@ -3,10 +3,12 @@
 
 pub use actions::act;
 pub use failure::Failure;
+pub use laws::executions_end;
 
 mod actions;
 mod answers;
 mod failure;
+mod laws;
 mod log;
 mod output;
 mod rows;

@@ -3,6 +3,7 @@ use Rattle.dsm_model.specs.Fit.{HasSafeProcedures}
 use Rattle.dsm_model.specs.Sound.{IsWorld}
 use Rattle.dsm_model.specs.World.{numbered}
 use Rattle.replica.specs.Replica.{AreEntriesOf}
+use Rattle.catalogue.specs.Catalogue.{IsCatalogue}
 use Rattle.dsm_world.specs.System.{SystemWorld, setting_of, world_of, KeepsDelivered}
 use Rattle.dsm_world.specs.Holdings.{system_of, slots_of}
 use Rattle.dsm_world.proofs.RunLemmas.{keeps_delivered}
@@ -10,6 +11,9 @@ use Rattle.dsm_world.proofs.world.World.keeps_what_was_delivered.Goals as goal
 
 pub returns-clause-world : goal.returns-clause-world
 returns-clause-world g c = subst (λ (s : SystemWorld). IsWorld (setting_of s) (world_of s)) c.self.view_is c.self.invariant.world
+
+pub returns-clause-catalogue : goal.returns-clause-catalogue
+returns-clause-catalogue g c = subst (λ (s : SystemWorld). IsCatalogue s.catalogue) c.self.view_is c.each_catalogue_is_consistent.ensures
 
 pub returns-clause-procedures : goal.returns-clause-procedures
 returns-clause-procedures g c = subst (λ (s : SystemWorld). HasSafeProcedures (setting_of s)) c.self.view_is c.self.invariant.entries.procedures

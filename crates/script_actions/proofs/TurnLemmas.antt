@@ -1,0 +1,185 @@
+-- Turns of a call, as many as a program has slots, come to its end.
+use Rattle.std.proofs.Common.{◌≡◌, ℕ, zero, suc, ◌+◌, ◌<◌, ◌≤◌, ◌==◌, Bool, true, false, cond, List, [], ◌∷◌, length, slice_get, slice_set, Option, Some, None, inl, inr, refl, sym, ap, subst, ◌∙◌, arith}
+use Rattle.std.proofs.lemmas.Bool.{cases_lt}
+use Rattle.std.proofs.lemmas.List.Elements.{All-head, All-tail}
+use Rattle.std.specs.Prelude.{All, find}
+use Rattle.bpf_code.specs.Program.{Program, max_slots}
+use Rattle.bpf_semantics.specs.Path.{longest_path, instructions}
+use Rattle.dsm_model.specs.declared.outcome.Outcome.{Outcome}
+use Rattle.dsm_model.specs.declared.outcome.Outcome.TheVariants.{More}
+use Rattle.dsm_model.specs.Log.{StoredProcedure, Catalogue, Setting, Log, by_number, run_in}
+use Rattle.dsm_model.specs.World.{World, OpenCall, Step, Turn, IsStep, flatten, moment_at, numbered, open_call, with_numbered, with_open_call}
+use Rattle.dsm_model.specs.Sound.{HasByteArguments, IsSound, IsWorld}
+use Rattle.catalogue.specs.Catalogue.{SystemCatalogue, IsAcceptedFor, IsCatalogue, accepted_of}
+use Rattle.script.specs.declared.commands.Command.TheVariants as command
+use Rattle.script_actions.specs.Printed.{step_text}
+use Rattle.script_actions.specs.Actions.{Later, Repeats, Does, is_more, last_line}
+
+-- ---- programs are short
+
+-- what holds of each procedure holds of one that is found
+found_among : (P : StoredProcedure → Type 0) (test : StoredProcedure → Bool) (procedures : Catalogue) (p : StoredProcedure)
+    → All P procedures → find test procedures ≡ Some p → P p
+found_among P test [] p all found = absurd cc
+found_among P test (q ∷ procedures) p all found = by (test q) found (found_among P test procedures p (All-tail P q procedures all))
+  where
+    by : (b : Bool) → cond b (Some q) (find test procedures) ≡ Some p → (find test procedures ≡ Some p → P p) → P p
+    by true h rest = let same : q ≡ p = cc in subst P same (All-head P q procedures all)
+    by false h rest = rest h
+
+instructions-le : (p : Program) → instructions p ≤ length p
+instructions-le [] = omega arith
+instructions-le (None ∷ p) = let rest = instructions-le p in omega arith
+instructions-le (Some i ∷ p) = let rest = instructions-le p in omega arith
+
+abbrev ShortPrograms : Catalogue → Type 0
+ShortPrograms procedures = (number : ℕ) (p : StoredProcedure) → by_number procedures number ≡ Some p → longest_path p.program ≤ max_slots
+
+pub short_programs : (c : SystemCatalogue) → IsCatalogue c → ((p : Program) → longest_path p ≤ instructions p) → ShortPrograms c.procedures
+short_programs c is short number p found =
+    let one = found_among (λ q. IsAcceptedFor c.tables (accepted_of c.tables q)) (λ q. q.number == number) c.procedures p is.procedures found in
+    let slots = one.program.not_long in
+    let path = short p.program in
+    let few = instructions-le p.program in
+    omega arith
+
+-- ---- a turn after which there is more
+
+abbrev further : OpenCall → OpenCall
+further o = record { replica = o.replica; call = o.call; turns = o.turns + 1 }
+
+-- the call had a next instruction, and is that much further
+abbrev pub WentOn : Setting → World → ℕ → World → Type 0
+WentOn w before c after = (o : OpenCall) × (open_call before c ≡ Some o) × (o.turns + 1 < (run_in w before.log o.call).steps)
+    × (after ≡ with_open_call before c (Some (further o)))
+
+-- what is known of the turns of calls whose programs are short
+pub record TurnLaws (w : Setting) : Type 0 where
+  pub keeps : (before : World) (step : Step) (outcome : Outcome) (after : World) → HasByteArguments step → IsStep w before step outcome after
+      → IsWorld w before → IsWorld w after
+  pub sound : (world : World) (c : ℕ) (o : OpenCall) → IsWorld w world → open_call world c ≡ Some o → IsSound w world.log o
+  pub more : (before : World) (c : ℕ) (after : World) → IsStep w before (Turn c) More after → WentOn w before c after
+  pub short : ShortPrograms w.catalogue
+
+set_open : (calls : List (Option OpenCall)) (k : ℕ) (o p : OpenCall)
+    → flatten (slice_get calls k) ≡ Some o → flatten (slice_get (slice_set calls k (Some p)) k) ≡ Some p
+set_open [] k o p e = absurd cc
+set_open (x ∷ calls) zero o p e = refl
+set_open (x ∷ calls) (suc k) o p e = set_open calls k o p e
+
+set_numbered : (calls : List (Option OpenCall)) (c : ℕ) (o p : OpenCall)
+    → flatten (numbered calls c) ≡ Some o → flatten (numbered (with_numbered calls c (Some p)) c) ≡ Some p
+set_numbered calls zero o p e = absurd cc
+set_numbered calls (suc k) o p e = set_open calls k o p e
+
+still_open : (w : Setting) (before : World) (c : ℕ) (after : World) (on : WentOn w before c after) → open_call after c ≡ Some (further on.0)
+still_open w before c after on = ap (λ (v : World). open_call v c) on.3 ∙ set_numbered before.calls c on.0 (further on.0) on.1
+
+one_open : (slot : Option OpenCall) (o p : OpenCall) → slot ≡ Some o → slot ≡ Some p → p ≡ o
+one_open slot o p e f = cc
+
+-- where the call is open, it has run so many instructions
+abbrev HasRun : World → ℕ → ℕ → Type 0
+HasRun world c k = (o : OpenCall) → open_call world c ≡ Some o → k ≤ o.turns
+
+has_run_more : (w : Setting) (before : World) (c : ℕ) (after : World) (k : ℕ) → WentOn w before c after → HasRun before c k → HasRun after c (suc k)
+has_run_more w before c after k on has o e =
+    let same = one_open (open_call after c) (further on.0) o (still_open w before c after on) e in
+    let turns : o.turns ≡ on.0.turns + 1 = ap (λ (p : OpenCall). p.turns) same in
+    let least = has on.0 on.1 in
+    omega arith
+
+-- before its end a call has run fewer instructions than the longest path has
+within_path : (w : Setting) (log : Log) (o : OpenCall) (sound : IsSound w log o)
+    → o.turns < (run_in w log o.call).steps → o.turns < longest_path sound.is_call.procedure.program
+within_path w log o sound more = elim sound.so_far [
+  | inl goes ↦ elim (cases_lt o.turns (longest_path sound.is_call.procedure.program)) [
+    | inl lt ↦ lt
+    | inr ge ↦
+        let within = sound.within in
+        let same : o.turns ≡ longest_path sound.is_call.procedure.program = omega arith in
+        let here = goes.1 in
+        let ends = ap (λ (k : ℕ). moment_at w log o.call k) same ∙ sound.ends in
+        absurd cc
+  ]
+  | inr ended ↦ let at = ended.2 in absurd (omega arith)
+]
+
+fewer_than_slots : (w : Setting) → TurnLaws w → (before : World) (c : ℕ) (after : World) → IsWorld w after → (on : WentOn w before c after)
+    → on.0.turns + 1 < max_slots
+fewer_than_slots w laws before c after is on =
+    let log : before.log ≡ after.log = sym (ap (λ (v : World). v.log) on.3) in
+    let sound = laws.sound after c (further on.0) is (still_open w before c after on) in
+    let more = subst (λ (l : Log). on.0.turns + 1 < (run_in w l on.0.call).steps) log on.2 in
+    let path = within_path w after.log (further on.0) sound more in
+    let short = laws.short on.0.call.procedure sound.is_call.procedure sound.is_call.known in
+    omega arith
+
+-- ---- turns, as long as there is more
+
+-- the last line is that of an outcome other than that there is more
+abbrev Ends : Setting → ℕ → World → List (List ℕ) → Type 0
+Ends w c after lines = (outcome : Outcome) × (is_more outcome ≡ false) × (last_line lines ≡ step_text w after.log (Turn c) outcome)
+
+more_is : (outcome : Outcome) → is_more outcome ≡ true → outcome ≡ More
+more_is More e = refl
+more_is _ e = absurd cc
+
+ends_here : (w : Setting) (c : ℕ) (outcome : Outcome) (between after : World) (lines rest : List (List ℕ)) → is_more outcome ≡ false
+    → lines ≡ step_text w between.log (Turn c) outcome ∷ rest → (rest ≡ []) × (between ≡ after) → Ends w c after lines
+ends_here w c outcome between after lines rest ends is last = (
+  outcome,
+  ends,
+  ap (λ (ls : List (List ℕ)). last_line ls) is
+      ∙ ap (λ (ls : List (List ℕ)). last_line (step_text w between.log (Turn c) outcome ∷ ls)) last.0
+      ∙ ap (λ (v : World). step_text w v.log (Turn c) outcome) last.1,
+)
+
+ends_later : (w : Setting) (c : ℕ) (after : World) (line next : List ℕ) (lines rest later : List (List ℕ))
+    → lines ≡ line ∷ rest → rest ≡ next ∷ later → Ends w c after rest → Ends w c after lines
+ends_later w c after line next lines rest later is follows ends = (
+  ends.0,
+  ends.1,
+  ap (λ (ls : List (List ℕ)). last_line ls) is
+      ∙ ap (λ (ls : List (List ℕ)). last_line (line ∷ ls)) follows
+      ∙ sym (ap (λ (ls : List (List ℕ)). last_line ls) follows)
+      ∙ ends.2,
+)
+
+went_on : (w : Setting) → TurnLaws w → (before : World) (c : ℕ) (outcome : Outcome) (after : World) → is_more outcome ≡ true
+    → IsStep w before (Turn c) outcome after → WentOn w before c after
+went_on w laws before c outcome after goes step =
+    laws.more before c after (subst (λ (o : Outcome). IsStep w before (Turn c) o after) (more_is outcome goes) step)
+
+-- as many instructions as a program has slots are left and were run
+turns_end : (w : Setting) → TurnLaws w → (c left k : ℕ) (before after : World) (lines : List (List ℕ)) → IsWorld w before → HasRun before c k
+    → suc left + k ≡ max_slots → Repeats w (Turn c) is_more (suc left) before lines after → Ends w c after lines
+unfolding Repeats
+turns_end w laws c zero k before after lines is has count r =
+    elim (is_more r.0) as (λ b. is_more r.0 ≡ b → Later b (Repeats w (Turn c) is_more zero r.2 r.1 after) r.1 r.2 after → Ends w c after lines) [
+      | false ↦ λ ends last. ends_here w c r.0 r.2 after lines r.1 ends r.3 last
+      | true ↦ λ goes more.
+          let on = went_on w laws before c r.0 r.2 goes r.4 in
+          let fewer = fewer_than_slots w laws before c r.2 (laws.keeps before (Turn c) r.0 r.2 tt r.4 is) on in
+          let least = has on.0 on.1 in
+          absurd (omega arith)
+    ] refl r.5
+turns_end w laws c (suc left) k before after lines is has count r =
+    elim (is_more r.0) as (λ b. is_more r.0 ≡ b → Later b (Repeats w (Turn c) is_more (suc left) r.2 r.1 after) r.1 r.2 after → Ends w c after lines) [
+      | false ↦ λ ends last. ends_here w c r.0 r.2 after lines r.1 ends r.3 last
+      | true ↦ λ goes more.
+          let on = went_on w laws before c r.0 r.2 goes r.4 in
+          let count_on : suc left + suc k ≡ max_slots = omega arith in
+          ends_later w c after (step_text w r.2.log (Turn c) r.0) (step_text w more.2.log (Turn c) more.0) lines r.1 more.1 r.3 more.3
+          (turns_end w laws c left (suc k) r.2 after r.1 (laws.keeps before (Turn c) r.0 r.2 tt r.4 is) (has_run_more w before c r.2 k on has) count_on more)
+    ] refl r.5
+
+-- ---- an execution
+
+pub execution_ends : (w : Setting) → TurnLaws w → (before : World) (call : ℕ) (text : List ℕ) (after : World) → IsWorld w before
+    → Does w before (command.Exec call) text after
+    → (outcome : Outcome) × (is_more outcome ≡ false) × (text ≡ step_text w after.log (Turn call) outcome)
+unfolding Does
+execution_ends w laws before call text after is done =
+    let ends = turns_end w laws call 4095 0 before after done.0 is (λ o e. omega arith) refl done.1 in
+    (ends.0, ends.1, done.2 ∙ ends.2)
