@@ -66,8 +66,31 @@ const INDEX_PAST_LINE: &str = "proc index 1 256 \
     791200000000000025020300f90000000f2100000000000079100000000000009500000000000000b700000000\
     0000009500000000000000";
 
+/// What is shown of the first of two increments.
+pub(crate) const ADD_ENTRY: &str = "entry 1 010000000100100005000000000000000a00000000000000000000000a00000000000000\
+         010001050000000000000005000000000000000100010500000000000000010a00000000000000";
+
+/// One increment, of which each line that acts prints a line.
+pub(crate) const INCREMENT: Story = Story {
+    lines: &[
+        "window 4",
+        "replicas 1",
+        "table 1 8",
+        ADD_LINE,
+        "begin 1 add 05000000000000000a00000000000000",
+        "exec 1",
+        "order 1",
+    ],
+    prints: &[
+        "call 1 replica 1 snapshot 0",
+        "call 1 exit 10",
+        "call 1 number 1",
+    ],
+    fault: "",
+};
+
 /// A call that reads nothing and writes nothing.
-pub(crate) const READS: Story = Story {
+const READS: Story = Story {
     lines: &[
         "window 4",
         "replicas 1",
@@ -180,8 +203,7 @@ pub(crate) const TWO_INCREMENTS: Story = Story {
         "replica 2 number 3 commit reply 17",
         " 1                    5 1100000000000000",
         "replica 2 position 3 rows 1",
-        "entry 1 010000000100100005000000000000000a00000000000000000000000a00000000000000\
-         010001050000000000000005000000000000000100010500000000000000010a00000000000000",
+        ADD_ENTRY,
         "entry 9 none",
         "entry 0 none",
     ],
@@ -249,7 +271,7 @@ pub(crate) const BLIND_WRITES: Story = Story {
 };
 
 /// A count and a search beside a row that comes.
-pub(crate) const INTERVALS: Story = Story {
+const INTERVALS: Story = Story {
     lines: &[
         "window 4",
         "replicas 2",
@@ -300,8 +322,8 @@ pub(crate) const INTERVALS: Story = Story {
     fault: "",
 };
 
-/// Calls that fall more than the window behind.
-pub(crate) const FALLS_BEHIND: Story = Story {
+/// Calls that fall more than the window behind; one that had come to its end before isn't stale.
+const FALLS_BEHIND: Story = Story {
     lines: &[
         "window 2",
         "replicas 1",
@@ -313,6 +335,8 @@ pub(crate) const FALLS_BEHIND: Story = Story {
         "begin 1 put 03000000000000000300000000000000",
         "begin 1 put 04000000000000000400000000000000",
         "begin 1 add 09000000000000000100000000000000",
+        "begin 1 put 05000000000000000500000000000000",
+        "exec 6",
         "exec 1",
         "exec 2",
         "exec 3",
@@ -330,6 +354,7 @@ pub(crate) const FALLS_BEHIND: Story = Story {
         "turn 5 1",
         "turn 5 1",
         "turn 5 1",
+        "turn 6 1",
         "deliver 1 1",
     ],
     prints: &[
@@ -338,6 +363,8 @@ pub(crate) const FALLS_BEHIND: Story = Story {
         "call 3 replica 1 snapshot 0",
         "call 4 replica 1 snapshot 0",
         "call 5 replica 1 snapshot 0",
+        "call 6 replica 1 snapshot 0",
+        "call 6 exit 0",
         "call 1 exit 0",
         "call 2 exit 0",
         "call 3 exit 0",
@@ -357,6 +384,7 @@ pub(crate) const FALLS_BEHIND: Story = Story {
         "call 5 more",
         "call 5 stale",
         "call 5 refused P4",
+        "call 6 exit 0",
         "replica 1 number 4 stale",
     ],
     fault: "",
@@ -485,6 +513,7 @@ pub(crate) const EMPTY_INTERVAL: Story = Story {
         "order 1",
         "order 2",
         "deliver 1 2",
+        "entry 2",
     ],
     prints: &[
         "call 1 replica 1 snapshot 0",
@@ -495,6 +524,9 @@ pub(crate) const EMPTY_INTERVAL: Story = Story {
         "call 2 number 2",
         "replica 1 number 1 commit reply 0",
         "replica 1 number 2 commit reply 0",
+        "entry 2 020000000400180014000000000000000a0000000000000064000000000000000000000000000000\
+         00000000000001000164000000000000000100000000000000\
+         00",
     ],
     fault: "",
 };
@@ -524,7 +556,7 @@ pub(crate) const CANCELS: Story = Story {
     fault: "",
 };
 
-/// A replica that is made anew from the log.
+/// A replica that is made anew from the log has delivered it.
 pub(crate) const REBUILDS: Story = Story {
     lines: &[
         "window 4",
@@ -534,23 +566,29 @@ pub(crate) const REBUILDS: Story = Story {
         "begin 1 add 05000000000000000a00000000000000",
         "exec 1",
         "order 1",
-        "deliver 1 1",
+        "log",
         "rows 2",
         "rebuild 2",
+        "log",
         "rows 2",
         "deliver 2 1",
+        "deliver 1 1",
         "rebuild 0",
     ],
     prints: &[
         "call 1 replica 1 snapshot 0",
         "call 1 exit 10",
         "call 1 number 1",
-        "replica 1 number 1 commit reply 10",
+        "      1     1       0     1     - open",
+        "log 1",
         "replica 2 position 0 rows 0",
         "replica 2 rebuilt 1",
+        "      1     1       0     1     0 commit",
+        "log 1",
         " 1                    5 0a00000000000000",
         "replica 2 position 1 rows 1",
         "replica 2 refused P6",
+        "replica 1 number 1 commit reply 10",
         "replica 0 refused P1",
     ],
     fault: "",
@@ -589,6 +627,53 @@ pub(crate) const REFUSED_STEPS: Story = Story {
         "call 0 refused P4",
         "call 1 refused P4",
         "call 1 refused P4",
+    ],
+    fault: "",
+};
+
+/// A replica that finds no memory for its second entry: it is stopped until it is made anew.
+pub(crate) const STOPS: Story = Story {
+    lines: &[
+    "window 4",
+    "replicas 2",
+    "table 1 8",
+    ADD_LINE,
+    PUT_LINE,
+    "begin 1 add 05000000000000000a00000000000000",
+    "begin 2 put 06000000000000000100000000000000",
+    "exec 1",
+    "exec 2",
+    "order 1",
+    "order 2",
+    "deliver 1 2",
+    "deliver 2 2",
+    "rows 2",
+    "deliver 2 1",
+    "rebuild 2",
+    "begin 2 add 05000000000000000700000000000000",
+    "exec 3",
+    "order 3",
+    "deliver 2 1",
+    ],
+    prints: &[
+        "call 1 replica 1 snapshot 0",
+        "call 2 replica 2 snapshot 0",
+        "call 1 exit 10",
+        "call 2 exit 0",
+        "call 1 number 1",
+        "call 2 number 2",
+        "replica 1 number 1 commit reply 10",
+        "replica 1 number 2 commit reply 0",
+        "replica 2 number 1 commit reply 10",
+        "replica 2 refused P9",
+        " 1                    5 0a00000000000000",
+        "replica 2 position 1 rows 1",
+        "replica 2 refused P7",
+        "replica 2 rebuilt 2",
+        "call 3 replica 2 snapshot 2",
+        "call 3 exit 17",
+        "call 3 number 3",
+        "replica 2 number 3 commit reply 17",
     ],
     fault: "",
 };

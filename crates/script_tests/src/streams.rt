@@ -43,11 +43,12 @@ pub(crate) enum Full {
     TakesNothing,
 }
 
-/// Takes so many bytes, and what it took. Its flush may fail.
+/// Takes so many bytes, so many at a time, and keeps them. Its flush may fail.
 #[derive(Drop)]
 pub(crate) struct Output {
-    pub(crate) room: usize,
-    pub(crate) full: Full,
+    room: usize,
+    at_once: usize,
+    full: Full,
     pub(crate) flushes: bool,
     pub(crate) held: Vec<u8>,
     /// How often it was written to or flushed after it had failed.
@@ -56,9 +57,10 @@ pub(crate) struct Output {
 }
 
 impl Output {
-    pub(crate) fn new(alloc: Global, room: usize, full: Full) -> Output {
+    pub(crate) fn new(alloc: Global, room: usize, at_once: usize, full: Full) -> Output {
         Output {
             room,
+            at_once,
             full,
             flushes: true,
             held: Vec::new(alloc),
@@ -84,7 +86,7 @@ impl Write for Output {
                 Full::TakesNothing => Ok(0),
             };
         }
-        let taken = buf.len().min(self.room);
+        let taken = buf.len().min(self.room).min(self.at_once);
         let (front, _) = buf.split_at(taken);
         self.held.extend_from_slice(front)?;
         self.room -= taken;

@@ -1,4 +1,4 @@
-use crate::stories::{FALLS_BEHIND, INTERVALS, STORIES, Story, TWO_INCREMENTS};
+use crate::stories::{ADD_ENTRY, INCREMENT, STOPS, STORIES, TWO_INCREMENTS};
 use crate::streams::{Full, Input, Output};
 use scarce::Scarce;
 use script_replay::replay_over;
@@ -58,7 +58,7 @@ fn stories_print_what_they_should(rt: HostRuntime) -> Result<(), Fail> {
 const ONE: &str = "proc one 9 0 b7000000010000009500000000000000";
 
 /// Lines, what they print, and the fault of the last.
-const FAULTS: [(&[&str], &[&str], &str); 21] = [
+const FAULTS: [(&[&str], &[&str], &str); 22] = [
     (&["window\t4"], &[], "line 1: L1"),
     (&["jump 1"], &[], "line 1: L2"),
     (&["window"], &[], "line 1: L3"),
@@ -68,6 +68,11 @@ const FAULTS: [(&[&str], &[&str], &str); 21] = [
     (&["proc x 1 0 -"], &[], "line 1: L7 B1 slot 0"),
     (
         &["proc a-b 1 0 b7000000010000009500000000000000"],
+        &[],
+        "line 1: L8 C4",
+    ),
+    (
+        &["proc  1 0 b7000000010000009500000000000000"],
         &[],
         "line 1: L8 C4",
     ),
@@ -159,19 +164,55 @@ fn begins_with(whole: &[u8], front: &[u8]) -> bool {
     whole.get(..front.len()) == Some(front)
 }
 
-/// Two stories, one behind the other, but for the settings of the second.
+/// How many lines of the long script set things. Each further one prints a line.
+const SETTINGS: usize = 4;
+
+/// How many lines of it show an entry, and what each of them says and prints.
+const ENTRIES: usize = 28;
+const ENTRY_LINE: &[u8] = b"entry 1\n";
+
+/// How many bytes are printed before the line for which the page of 4,096 bytes has no room: three short ones, and 25 of
+/// 159 bytes.
+const FIRST_PAGE: usize = 59 + 25 * 159;
+
+/// How many bytes of the script stand behind that line.
+const BEHIND_FIRST_PAGE: usize = 2 * 8;
+
+/// A script that prints more than a page, and what it prints: a call, and then its entry again and again.
 fn long_script(alloc: Global) -> Result<(Vec<u8>, Vec<u8>), AllocError> {
-    let script = joined(alloc, INTERVALS.lines)?;
-    let prints = joined(alloc, INTERVALS.prints)?;
+    let mut script = joined(alloc, INCREMENT.lines)?;
+    let mut prints = joined(alloc, INCREMENT.prints)?;
+    for _ in 0..ENTRIES {
+        script.extend_from_slice(ENTRY_LINE)?;
+        prints.extend_from_slice(ADD_ENTRY.as_bytes())?;
+        prints.extend_from_slice(b"\n")?;
+    }
     Ok((script, prints))
 }
 
-/// Wherever the input fails: what stands before is done and printed, and the status is 3.
+/// How many lines end in a text.
+fn line_count(text: &[u8]) -> usize {
+    text.iter().filter(|byte| **byte == b'\n').count()
+}
+
+/// So many lines from the front of a text.
+fn first_lines(text: &[u8], count: usize) -> &[u8] {
+    let mut ended = 0usize;
+    for (at, byte) in text.iter().enumerate() {
+        if ended == count {
+            return text.get(..at).unwrap_or(text);
+        }
+        ended = ended.wrapping_add(usize::from(*byte == b'\n'));
+    }
+    text
+}
+
+/// Wherever the input fails, exactly what the lines before it print is printed, and the status is 3.
 #[test]
 fn a_failing_input_answers_3(rt: HostRuntime) -> Result<(), Fail> {
     let alloc = rt.alloc();
     let (script, prints) = long_script(alloc)?;
-    for len in 0..script.len() {
+    for len in 0..=script.len() {
         let (front, _) = script.split_at(len);
         let mut input = Input {
             left: front,
@@ -181,51 +222,94 @@ fn a_failing_input_answers_3(rt: HostRuntime) -> Result<(), Fail> {
         let mut output = Vec::new(alloc);
         let mut faults = Vec::new(alloc);
         let status = replay_over(alloc, &mut input, &mut output, &mut faults);
+        let printed = first_lines(&prints, line_count(front).saturating_sub(SETTINGS));
         assert_eq!(rt; (status, faults.is_empty()), (3, false));
-        assert!(rt; begins_with(&prints, &output));
+        assert_eq!(rt; output.as_slice(), printed, "{len}");
     }
     Ok(())
 }
 
-/// Wherever the output fails, or takes nothing: it holds what there was room for, isn't asked again, and the status is 3.
+/// Replays a script over an output with so much room: whether the status is 3, something is said of it, the output holds what
+/// there was room for and isn't asked again, and so much of the script wasn't read.
+fn ends_at(
+    alloc: Global,
+    script: &[u8],
+    prints: &[u8],
+    room: usize,
+    full: Full,
+    unread: usize,
+) -> bool {
+    let mut input = script;
+    let mut output = Output::new(alloc, room, room % 600 + 1, full);
+    let mut faults = Vec::new(alloc);
+    let status = replay_over(alloc, &mut input, &mut output, &mut faults);
+    let said = status == 3 && !faults.is_empty();
+    let held = prints.get(..room) == Some(output.held.as_slice());
+    said && held && output.after_failure == 0 && input.len() == unread
+}
+
+/// What is printed within a page leaves at the end, so the whole script is read.
 #[test]
-fn a_failing_output_answers_3(rt: HostRuntime) -> Result<(), Fail> {
+fn an_output_that_fails_at_some_byte_answers_3(rt: HostRuntime) -> Result<(), Fail> {
+    let alloc = rt.alloc();
+    let script = joined(alloc, TWO_INCREMENTS.lines)?;
+    let prints = joined(alloc, TWO_INCREMENTS.prints)?;
+    for full in [Full::Fails, Full::TakesNothing] {
+        for room in 0..prints.len() {
+            assert!(rt; ends_at(alloc, &script, &prints, room, full, 0), "{room}");
+        }
+    }
+    Ok(())
+}
+
+/// Where the first page can't leave, no line is read behind the one that needs its room.
+#[test]
+fn a_script_ends_where_its_output_fails(rt: HostRuntime) -> Result<(), Fail> {
     let alloc = rt.alloc();
     let (script, prints) = long_script(alloc)?;
     for full in [Full::Fails, Full::TakesNothing] {
-        for room in 0..prints.len() {
-            let mut input = script.as_slice();
-            let mut output = Output::new(alloc, room, full);
-            let mut faults = Vec::new(alloc);
-            let status = replay_over(alloc, &mut input, &mut output, &mut faults);
-            assert_eq!(rt;
-                (status, faults.is_empty(), output.after_failure),
-                (3, false, 0)
-            );
-            assert_eq!(rt; Some(output.held.as_slice()), prints.get(..room));
+        for room in [0, 1, 58, 59, 2_000, FIRST_PAGE - 1] {
+            let ends = ends_at(alloc, &script, &prints, room, full, BEHIND_FIRST_PAGE);
+            assert!(rt; ends, "{room}");
+        }
+        for room in [FIRST_PAGE, FIRST_PAGE + 1, prints.len().saturating_sub(1)] {
+            assert!(rt; ends_at(alloc, &script, &prints, room, full, 0), "{room}");
         }
     }
-    let mut input = script.as_slice();
-    let mut output = Output::new(alloc, prints.len(), Full::Fails);
-    output.flushes = false;
-    let mut faults = Vec::new(alloc);
-    assert_eq!(rt; replay_over(alloc, &mut input, &mut output, &mut faults), 3);
-    assert_eq!(rt; output.held.as_slice(), prints.as_slice());
     Ok(())
 }
 
-/// A writer for faults that fails changes neither the output nor the status.
+/// An output that takes a byte at a time has all in the end. Where its flush fails then, the status is 3.
+#[test]
+fn outputs_may_take_little_at_once(rt: HostRuntime) -> Result<(), Fail> {
+    let alloc = rt.alloc();
+    let (script, prints) = long_script(alloc)?;
+    for (flushes, wanted) in [(true, 0), (false, 3)] {
+        let mut input = script.as_slice();
+        let mut output = Output::new(alloc, prints.len(), 1, Full::Fails);
+        output.flushes = flushes;
+        let mut faults = Vec::new(alloc);
+        let status = replay_over(alloc, &mut input, &mut output, &mut faults);
+        assert_eq!(rt; (status, faults.is_empty()), (wanted, flushes));
+        assert_eq!(rt; output.held.as_slice(), prints.as_slice());
+    }
+    Ok(())
+}
+
+/// A writer for faults that fails, or takes nothing, changes neither the output nor the status.
 #[test]
 fn faults_may_find_no_room(rt: HostRuntime) -> Result<(), Fail> {
     let alloc = rt.alloc();
     let script = joined(alloc, &["window 4", "replicas 1", "log", "jump"])?;
-    for room in 0..11 {
-        let mut input = script.as_slice();
-        let mut output = Vec::new(alloc);
-        let mut faults = Output::new(alloc, room, Full::Fails);
-        let status = replay_over(alloc, &mut input, &mut output, &mut faults);
-        assert_eq!(rt; (status, output.as_slice()), (1, b"log 0\n".as_slice()));
-        assert_eq!(rt; Some(faults.held.as_slice()), b"line 4: L2\n".get(..room));
+    for full in [Full::Fails, Full::TakesNothing] {
+        for room in 0..11 {
+            let mut input = script.as_slice();
+            let mut output = Vec::new(alloc);
+            let mut faults = Output::new(alloc, room, 3, full);
+            let status = replay_over(alloc, &mut input, &mut output, &mut faults);
+            assert_eq!(rt; (status, output.as_slice()), (1, b"log 0\n".as_slice()));
+            assert_eq!(rt; Some(faults.held.as_slice()), b"line 4: L2\n".get(..room));
+        }
     }
     Ok(())
 }
@@ -239,6 +323,12 @@ enum Course {
     WentOn,
     /// It came to what it comes to with memory.
     Same,
+}
+
+/// Whether some line says that there was no memory.
+fn says_no_memory(output: &[u8]) -> bool {
+    let text = str::from_utf8(output).unwrap_or("");
+    text.contains(" refused P9\n") || text.contains(" no memory\n")
 }
 
 /// The course of a replay, where it is one.
@@ -255,12 +345,18 @@ fn course_of(status: u8, output: &[u8], faults: &[u8], prints: &[u8]) -> Option<
     if status != 0 || !faults.is_empty() {
         return None;
     }
-    Some(if output == prints {
-        Course::Same
+    if output == prints {
+        return Some(Course::Same);
+    }
+    if says_no_memory(output) {
+        Some(Course::WentOn)
     } else {
-        Course::WentOn
-    })
+        None
+    }
 }
+
+/// More growths than any replay of these tests makes.
+const MOST: u64 = 2_000;
 
 /// Each growth of a replay is refused in turn. Some of them end the script, and some refuse a step.
 #[test]
@@ -271,15 +367,39 @@ fn growths_are_refused_in_turn(rt: HostRuntime) -> Result<(), Fail> {
     let scarce = Scarce::new(alloc);
     let mut ended_late = false;
     let mut went_on = false;
-    for nth in 1..2000 {
+    let mut refused = 0;
+    for nth in 1..MOST {
         scarce.refuse_nth(nth);
         let (status, output, faults) = replayed(&scarce, alloc, &script);
+        if scarce.refused() < nth {
+            break;
+        }
         let course = course_of(status, &output, &faults, &prints);
         assert!(rt; course.is_some(), "growth {nth}");
         ended_late = ended_late || (course == Some(Course::Ended) && !output.is_empty());
         went_on = went_on || course == Some(Course::WentOn);
+        refused = nth;
     }
     assert!(rt; ended_late && went_on);
-    assert!(rt; scarce.refused() < 1999);
+    assert!(rt; refused < MOST - 1);
+    Ok(())
+}
+
+/// There is a growth without which the replica is stopped, and then it goes on as the story says.
+#[test]
+fn a_stopped_replica_is_made_anew(rt: HostRuntime) -> Result<(), Fail> {
+    let alloc = rt.alloc();
+    let script = joined(alloc, STOPS.lines)?;
+    let prints = joined(alloc, STOPS.prints)?;
+    let scarce = Scarce::new(alloc);
+    for nth in 1..MOST {
+        scarce.refuse_nth(nth);
+        let (status, output, _) = replayed(&scarce, alloc, &script);
+        if status == 0 && output.as_slice() == prints.as_slice() {
+            return Ok(());
+        }
+        assert_eq!(rt; scarce.refused(), nth);
+    }
+    assert!(rt; false, "no growth stops the replica");
     Ok(())
 }

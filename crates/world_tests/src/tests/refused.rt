@@ -1,6 +1,8 @@
 //! Memory that is refused to a world.
 
-use super::{ADD_SEVEN, ADD_TEN, catalogue_of, described, run_script, two_replicas};
+use super::{
+    ADD_SEVEN, ADD_TEN, Script, catalogue_of, described, run_script, steps_of, two_replicas,
+};
 use dsm_model::{Outcome, StepRefusal, Verdict};
 use dsm_world::{Step, World};
 use scarce::Scarce;
@@ -164,5 +166,117 @@ fn each_refused_growth_is_want_of_memory(rt: HostRuntime) -> Result<(), Fail> {
         refused = growth;
     }
     assert!(rt; refused > 4 && refused < 100, "{refused}");
+    Ok(())
+}
+
+/// A step that takes memory, in a world in which these were taken before: what it answers, and what it does where a growth is
+/// refused; and a step by which is seen what that left, with its answer.
+struct Case {
+    before: Script,
+    step: Step<'static>,
+    answer: Outcome,
+    refused: Outcome,
+    next: Step<'static>,
+    left: Outcome,
+}
+
+const BEGIN: Step<'static> = Step::Begin {
+    replica: 1,
+    procedure: 1,
+    args: &ADD_TEN,
+};
+
+const NO_MEMORY: Outcome = Outcome::Refused(StepRefusal::OutOfMemory);
+
+const NO_CALL: Outcome = Outcome::Refused(StepRefusal::NoCall);
+
+static CASES: [Case; 5] = [
+    Case {
+        before: &[],
+        step: BEGIN,
+        answer: Outcome::Begun {
+            call: 1,
+            snapshot: 0,
+        },
+        refused: NO_MEMORY,
+        next: Step::Turn { call: 1 },
+        left: NO_CALL,
+    },
+    // Its seventh instruction gets a row.
+    Case {
+        before: &[(BEGIN, 1), (Step::Turn { call: 1 }, 6)],
+        step: Step::Turn { call: 1 },
+        answer: Outcome::More,
+        refused: Outcome::NoMemory,
+        next: Step::Turn { call: 1 },
+        left: NO_CALL,
+    },
+    Case {
+        before: &[(BEGIN, 1), (Step::Turn { call: 1 }, 17)],
+        step: Step::Order { call: 1 },
+        answer: Outcome::Ordered { position: 1 },
+        refused: NO_MEMORY,
+        next: Step::Order { call: 1 },
+        left: NO_CALL,
+    },
+    Case {
+        before: &[
+            (BEGIN, 1),
+            (Step::Turn { call: 1 }, 17),
+            (Step::Order { call: 1 }, 1),
+        ],
+        step: Step::Deliver { replica: 2 },
+        answer: Outcome::Delivered {
+            position: 1,
+            verdict: Verdict::Commit,
+        },
+        refused: NO_MEMORY,
+        next: Step::Deliver { replica: 2 },
+        left: Outcome::Refused(StepRefusal::ReplicaStopped),
+    },
+    Case {
+        before: &[
+            (BEGIN, 1),
+            (Step::Turn { call: 1 }, 17),
+            (Step::Order { call: 1 }, 1),
+        ],
+        step: Step::Rebuild { replica: 2 },
+        answer: Outcome::Rebuilt { position: 1 },
+        refused: NO_MEMORY,
+        next: Step::Deliver { replica: 2 },
+        left: Outcome::Delivered {
+            position: 1,
+            verdict: Verdict::Commit,
+        },
+    },
+];
+
+/// What the step of a case answers where the growth of this number is refused, and what is answered then.
+fn answers(alloc: Global, case: &Case, growth: u64) -> Result<(Outcome, Outcome), Fail> {
+    let scarce = Scarce::new(alloc);
+    let mut world = two_replicas(alloc, &scarce)?;
+    for step in &steps_of(alloc, case.before)? {
+        let _ = world.step(*step);
+    }
+    scarce.refuse_nth(growth);
+    let answer = world.step(case.step);
+    scarce.refuse_nth(0);
+    Ok((answer, world.step(case.next)))
+}
+
+#[test]
+fn each_step_may_find_no_memory(rt: HostRuntime) -> Result<(), Fail> {
+    for (at, case) in CASES.iter().enumerate() {
+        let mut refused = 0;
+        for growth in 1..MOST {
+            let (answer, left) = answers(rt.alloc(), case, growth)?;
+            if answer == case.answer {
+                break;
+            }
+            assert_eq!(rt; (answer, left), (case.refused, case.left), "{at} {growth}");
+            refused = growth;
+        }
+        assert!(rt; refused > 0 && refused < MOST - 1, "{at} {refused}");
+    }
     Ok(())
 }
