@@ -69,7 +69,7 @@ logged_text w world before call =
       writes = len (run_in w world.log call).writes;
     } in
     line_text (certified_line e (length (comparisons_of w world.log before call))
-      (if is_delivered world before then verdict_of w world.log (before + 1) else None))
+    (if is_delivered world before then verdict_of w world.log (before + 1) else None))
 
 -- the lines of calls, of which the first has so many before it
 abbrev pub calls_text : Setting → World → ℕ → Log → List ℕ

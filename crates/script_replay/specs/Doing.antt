@@ -55,7 +55,7 @@ abbrev pub ActionDone : {A W : Type 0} → (W → Option (List ℕ)) → ℕ →
 ActionDone contents number action old new (Ok next) =
     (here : List ℕ) × Passes contents old new here
     × ((more : List (List ℕ)) (text : List ℕ) (ending : Ending) → Prints (stage_of next) (number + 1) more text ending
-      → PrintsFrom number action more (here ++ text) ending)
+    → PrintsFrom number action more (here ++ text) ending)
 ActionDone contents number action old new (Err stop) =
     (more : List (List ℕ)) → Stopped contents old new (PrintsFrom number action more) stop
 
