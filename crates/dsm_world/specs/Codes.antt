@@ -22,7 +22,8 @@ open_call_code = code_by (ℕ × (Call × ℕ)) (coded× coded_ℕ (coded× call
 
 abbrev pub world_code : Coded SystemWorld
 world_code = code_by (SystemCatalogue × (ℕ × (List Entry × (List Replica × List (Option OpenCall)))))
-    (coded× catalogue_code (coded× coded_ℕ (coded× (coded_list entry_code) (coded× (coded_list replica_code) (coded_list (coded_option open_call_code))))))
+    (coded× catalogue_code (coded× coded_ℕ (coded× (coded_list entry_code)
+    (coded× (coded_list replica_code) (coded_list (coded_option open_call_code))))))
     (λ s. (s.catalogue, (s.window, (s.entries, (s.replicas, s.calls)))))
     (λ c. record { catalogue = c.0; window = c.1.0; entries = c.1.1.0; replicas = c.1.1.1.0; calls = c.1.1.1.1 })
     (λ _. refl)

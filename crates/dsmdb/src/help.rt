@@ -2,26 +2,51 @@
 
 /// The lines of a script and what they print, as docs/FORMATS.md explains them.
 pub const SCRIPT_HELP: &str = "\
-Lines of a script (fields one space apart; empty lines, and those that begin with #, are skipped), and what they print:
-  window N                      how many entries a snapshot may fall behind, 1 to 4096
-  replicas N                    how many replicas there are, 1 to 8
-  table T W                     a table, 1 to 64, and how many bytes its rows have, 1 to 128
-  proc NAME NUMBER ARGSLEN HEX  a procedure, how many bytes its arguments have, 0 to 256, and its program
-  begin R NAME HEX              a call begins at replica R: call C replica R snapshot S
-  turn C N                      it runs at most N instructions: call C more, exit V, stale or no memory
-  exec C                        it runs to its end
-  order C                       it is ordered: call C number D, read S reply V or cancelled S code V
-  deliver R N                   replica R takes up to N entries, each:
-                                replica R number D commit reply V, conflict E or stale
-  rows R                        each row of replica R, then replica R position P rows N
-  log                           each entry: number, procedure, snapshot, writes, compared, verdict; then log N
-  entry D                       the bytes of entry D, or none
-  rebuild R                     replica R is made anew from the log: replica R rebuilt P
+Lines of a script. Fields stand one space apart; empty lines, and those that
+begin with #, are skipped. Settings, which print nothing:
+  window N                 entries that a snapshot may fall behind, 1 to 4096
+  replicas N               how many replicas there are, 1 to 8
+  table T W                a table, 1 to 64, with rows of W bytes, 1 to 128
+  proc NAME NUMBER ARGSLEN HEX
+                           a procedure, the length of its arguments in bytes,
+                           0 to 256, and its program
 
-HEX is an even number of digits, at least two, or - for no bytes. Window and replicas are set once each before the
-first line that acts, which ends the settings; tables stand before procedures.
-A step that is refused says so, as replica 1 refused P6, and the script goes on. A line at fault ends it, as
+Lines that act, each with what it prints:
+  begin R NAME HEX         a call begins at replica R, with these arguments
+    call C replica R snapshot S     its number; it reads the rows at position S
+  turn C N                 the call runs at most N instructions
+    call C more                     there is more to run
+    call C exit V                   it is at its end, with reply V
+    call C stale                    rows that it reads are gone: it is over
+    call C no memory                it found no memory: it is over
+  exec C                   the call runs to its end: as turn, but never more
+  order C                  a call at its end is ordered, and is over
+    call C number D                 its position in the log
+    call C read S reply V           it wrote nothing, so it isn't ordered
+    call C cancelled S code V       it cancelled, so it isn't ordered
+  deliver R N              replica R takes up to N entries, each with its line
+    replica R number D commit reply V
+                                    its writes are done
+    replica R number D conflict E   entry E wrote what it had looked at
+    replica R number D stale        its snapshot is too far behind
+  rows R                   each row of replica R: table, key, bytes; and then
+    replica R position P rows N     how far it has come, and how many rows
+  log                      each entry: number, procedure, snapshot, writes,
+                           comparisons, verdict, or - open where no replica
+                           has delivered it yet; and then
+    log N                           how many there are
+  entry D                  the bytes of an entry of the log
+    entry D HEX, entry D none
+  rebuild R                replica R is made anew from the log
+    replica R rebuilt P             it has taken P entries
+
+HEX is an even number of digits, at least two, or - for no bytes. Window and
+replicas are set once each before the first line that acts, which ends the
+settings; tables stand before procedures.
+A step that is refused prints begin refused P2, call 1 refused P5 or
+replica 1 refused P6 (rows of no replica: P1), and the script goes on; deliver
+ends there, also after entries. A line at fault ends the script, as
 line 4: L7 V5 slot 6 on standard error. docs/REFUSALS.md explains the numbers.
 
-Exit status: 0 done, 1 a line at fault, 2 a command line that can't be read, 3 a file, a
-stream or memory.";
+Exit status: 0 done, 1 a line at fault, 2 a command line that can't be read,
+3 a file, a stream or memory.";

@@ -37,8 +37,8 @@ replica_report (Rebuilt position) reply = Some (replica.Rebuilt position)
 replica_report (Refused refusal) reply = Some (replica.Refused refusal)
 replica_report _ reply = None
 
--- the line of a step's answer, given the reply of the delivered call, by the kind of the step: of a call's beginning, of a call, of a replica; none of
--- an answer of another kind
+-- the line of a step's answer, given the reply of the delivered call, by the kind of the step: of a call's beginning, of a call,
+-- of a replica; none of an answer of another kind
 abbrev pub answer_line : Step → Outcome → ℕ → Option Line
 answer_line (Begin replica procedure args) outcome reply = begin_report replica outcome
 answer_line (Turn call) outcome reply = option_map (line.Call call) (call_report outcome)

@@ -53,14 +53,17 @@ reply_words verdict.Commit reply = codes " reply " ++ decimal reply
 reply_words _ reply = []
 
 abbrev pub replica_words : ReplicaReport → List ℕ
-replica_words (replica.Delivered position verdict reply) = codes "number " ++ decimal position ++ codes " " ++ verdict_words verdict ++ reply_words verdict reply
+replica_words (replica.Delivered position verdict reply) =
+    codes "number " ++ decimal position ++ codes " " ++ verdict_words verdict ++ reply_words verdict reply
 replica_words (replica.Rebuilt position) = codes "rebuilt " ++ decimal position
 replica_words (replica.Rows position rows) = codes "position " ++ decimal position ++ codes " rows " ++ decimal rows
 replica_words (replica.Refused refusal) = step_refusal_words refusal
 
 -- the columns that an entry of the log has in any case
 abbrev pub entry_words : LoggedEntry → List ℕ
-entry_words e = right_in 7 (decimal e.position) ++ codes " " ++ right_in 5 (decimal e.procedure) ++ codes " " ++ right_in 7 (decimal e.snapshot) ++ codes " " ++ right_in 5 (decimal e.writes) ++ codes " "
+entry_words e =
+    right_in 7 (decimal e.position) ++ codes " " ++ right_in 5 (decimal e.procedure) ++ codes " "
+    ++ right_in 7 (decimal e.snapshot) ++ codes " " ++ right_in 5 (decimal e.writes) ++ codes " "
 
 -- a row of a table
 abbrev pub row_words : ℕ → ℕ → List ℕ → List ℕ
@@ -73,7 +76,8 @@ bytes_words position None = codes "entry " ++ decimal position ++ codes " none"
 
 -- what a line says, without the LF at its end
 unfoldable pub line_words : Line → List ℕ
-line_words (Begun call replica snapshot) = codes "call " ++ decimal call ++ codes " replica " ++ decimal replica ++ codes " snapshot " ++ decimal snapshot
+line_words (Begun call replica snapshot) =
+    codes "call " ++ decimal call ++ codes " replica " ++ decimal replica ++ codes " snapshot " ++ decimal snapshot
 line_words (BeginRefused refusal) = codes "begin " ++ step_refusal_words refusal
 line_words (Call call report) = codes "call " ++ decimal call ++ codes " " ++ call_words report
 line_words (Replica replica report) = codes "replica " ++ decimal replica ++ codes " " ++ replica_words report

@@ -11,8 +11,10 @@ HasNoLf bytes = All (λ b. b ≢ 10) bytes
 
 -- what one look at the input did: it had these bytes and has those left, and the line grew
 abbrev pub IsPiece : List ℕ → Option (List ℕ) → List ℕ → List ℕ → Piece → Type 0
-IsPiece bytes left before after piece.More = (p rest : List ℕ) × (bytes ≡ p ++ rest) × (left ≡ Some rest) × HasNoLf p × (after ≡ before ++ p)
-IsPiece bytes left before after piece.Ended = (p rest : List ℕ) × (bytes ≡ p ++ (10 ∷ rest)) × (left ≡ Some rest) × HasNoLf p × (after ≡ before ++ p)
+IsPiece bytes left before after piece.More =
+    (p rest : List ℕ) × (bytes ≡ p ++ rest) × (left ≡ Some rest) × HasNoLf p × (after ≡ before ++ p)
+IsPiece bytes left before after piece.Ended =
+    (p rest : List ℕ) × (bytes ≡ p ++ (10 ∷ rest)) × (left ≡ Some rest) × HasNoLf p × (after ≡ before ++ p)
 IsPiece bytes left before after piece.AtEnd = (bytes ≡ []) × (left ≡ Some []) × (after ≡ before)
 IsPiece bytes left before after piece.TooLong = (p rest : List ℕ) × (bytes ≡ p ++ rest) × HasNoLf p × (max_line < length before + length p)
 

@@ -63,7 +63,8 @@ unfoldable pub said : Word → List (List ℕ) → Result ScriptCommand LineFaul
 said word.Window (n ∷ []) = one Window (number_of 1 4096 n)
 said word.Replicas (n ∷ []) = one Replicas (number_of 1 8 n)
 said word.Table (table ∷ width ∷ []) = two Table (u8_of table) (u16_of width)
-said word.Proc (name ∷ number ∷ args_len ∷ program ∷ []) = three (Procedure name) (u16_of number) (number_of 0 256 args_len) (bytes_of_hex program)
+said word.Proc (name ∷ number ∷ args_len ∷ program ∷ []) =
+    three (Procedure name) (u16_of number) (number_of 0 256 args_len) (bytes_of_hex program)
 said word.Begin (replica ∷ name ∷ args ∷ []) = two (λ r bytes. Begin r name bytes) (u32_of replica) (bytes_of_hex args)
 said word.Turn (call ∷ most ∷ []) = two Turn (u32_of call) (count_of most)
 said word.Exec (call ∷ []) = one Exec (u32_of call)

@@ -41,11 +41,13 @@ last_line (line ∷ next ∷ more) = last_line (next ∷ more)
 
 -- up to so many turns, as long as there is more to run; the last answer is printed
 abbrev pub Turns : Setting → World → ℕ → ℕ → List ℕ → World → Type 0
-Turns w before call most text after = (lines : List (List ℕ)) × Repeats w (Turn call) is_more most before lines after × (text ≡ last_line lines)
+Turns w before call most text after =
+    (lines : List (List ℕ)) × Repeats w (Turn call) is_more most before lines after × (text ≡ last_line lines)
 
 -- up to so many deliveries, up to the first that is refused; each answer is printed
 abbrev pub Deliveries : Setting → World → ℕ → ℕ → List ℕ → World → Type 0
-Deliveries w before r most text after = (lines : List (List ℕ)) × Repeats w (Deliver r) is_delivery most before lines after × (text ≡ concat lines)
+Deliveries w before r most text after =
+    (lines : List (List ℕ)) × Repeats w (Deliver r) is_delivery most before lines after × (text ≡ concat lines)
 
 -- ---- one step
 

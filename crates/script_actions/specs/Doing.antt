@@ -18,6 +18,8 @@ abbrev pub Gives : {W T E : Type 0} → (W → Option (List ℕ)) → PagedOutpu
 Gives contents old new result text = MatchResult result (λ _. Passes contents old new text) (λ _. PassesBeginning contents old new text)
 
 -- at `Ok` the line was done and its text given, at `Err` a beginning of a text that it may print
-abbrev pub HasDone : {W T E : Type 0} → (W → Option (List ℕ)) → Setting → World → ScriptCommand → PagedOutput W → PagedOutput W → Result T E → World → Type 0
+abbrev pub HasDone : {W T E : Type 0} → (W → Option (List ℕ)) → Setting → World → ScriptCommand → PagedOutput W → PagedOutput W
+    → Result T E → World → Type 0
 HasDone contents w before c old new (Ok _) after = (text : List ℕ) × Does w before c text after × Passes contents old new text
-HasDone contents w before c old new (Err _) now = (text : List ℕ) × (after : World) × Does w before c text after × PassesBeginning contents old new text
+HasDone contents w before c old new (Err _) now =
+    (text : List ℕ) × (after : World) × Does w before c text after × PassesBeginning contents old new text

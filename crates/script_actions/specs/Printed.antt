@@ -62,8 +62,14 @@ certified_line e compared None = line.Open e
 -- its line: the verdict, and how many exact comparisons that took, where some replica has delivered it
 abbrev pub logged_text : Setting → World → ℕ → Call → List ℕ
 logged_text w world before call =
-    let e : LoggedEntry = record { position = before + 1; procedure = call.procedure; snapshot = call.snapshot; writes = len (run_in w world.log call).writes } in
-    line_text (certified_line e (length (comparisons_of w world.log before call)) (if is_delivered world before then verdict_of w world.log (before + 1) else None))
+    let e : LoggedEntry = record {
+      position = before + 1;
+      procedure = call.procedure;
+      snapshot = call.snapshot;
+      writes = len (run_in w world.log call).writes;
+    } in
+    line_text (certified_line e (length (comparisons_of w world.log before call))
+    (if is_delivered world before then verdict_of w world.log (before + 1) else None))
 
 -- the lines of calls, of which the first has so many before it
 abbrev pub calls_text : Setting → World → ℕ → Log → List ℕ
@@ -84,4 +90,5 @@ entry_of w log call =
 
 -- the bytes of the entry at a position, where there is one
 abbrev pub entry_text : Setting → Log → ℕ → List ℕ
-entry_text w log position = bytes_words position (option_map (λ call. entry_bytes (entry_of w log call)) (numbered log position)) ++ codes "\n"
+entry_text w log position =
+    bytes_words position (option_map (λ call. entry_bytes (entry_of w log call)) (numbered log position)) ++ codes "\n"

@@ -29,11 +29,14 @@ fn step<A: Allocator + Copy, W: Write>(
 ) -> Result<Outcome, Failure>
     ensures same_output { (output_of output.new).ghost_name ≡ (output_of output.old).ghost_name }
     ensures setting { setting_of world.new ≡ setting_of world.old }
-    ensures stepped { IfOk result (λ outcome. IsStep (setting_of world.old) (world_of world.old) (step_of step.entry) outcome (world_of world.new)
-        × Passes W.contents output.old output.new (step_text (setting_of world.old) (world_of world.new).log (step_of step.entry) outcome)) }
+    ensures stepped { IfOk result (λ outcome.
+        IsStep (setting_of world.old) (world_of world.old) (step_of step.entry) outcome (world_of world.new)
+        × Passes W.contents output.old output.new
+        (step_text (setting_of world.old) (world_of world.new).log (step_of step.entry) outcome)) }
     ensures failed { OnErr result ((outcome : ModelOutcome)
         × IsStep (setting_of world.old) (world_of world.old) (step_of step.entry) outcome (world_of world.new)
-        × PassesBeginning W.contents output.old output.new (step_text (setting_of world.old) (world_of world.new).log (step_of step.entry) outcome)) }
+        × PassesBeginning W.contents output.old output.new
+        (step_text (setting_of world.old) (world_of world.new).log (step_of step.entry) outcome)) }
 {
     let outcome = world.step(step);
     let reply = delivered_reply(world, outcome);

@@ -29,7 +29,8 @@ Printable = List ℕ → Ending → Type 0
 
 -- what an action and then these lines may print; the action's line has this number
 abbrev pub PrintsFrom : ℕ → Action → List (List ℕ) → List ℕ → Ending → Type 0
-PrintsFrom number action more text ending = PrintsAction number action (λ stage rest. Prints stage (number + 1) more rest ending) text ending
+PrintsFrom number action more text ending =
+    PrintsAction number action (λ stage rest. Prints stage (number + 1) more rest ending) text ending
 
 -- ---- one line
 
@@ -49,11 +50,14 @@ Stopped contents old new P (Fault fault) =
 Stopped contents old new P _ = Begun contents old new P
 
 -- an action was done, and the lines behind it go on from a stage; or it stopped there
-abbrev pub ActionDone : {A W : Type 0} → (W → Option (List ℕ)) → ℕ → Action → PagedOutput W → PagedOutput W → Result (code.Stage A) Stop → Type 0
+abbrev pub ActionDone : {A W : Type 0} → (W → Option (List ℕ)) → ℕ → Action → PagedOutput W → PagedOutput W
+    → Result (code.Stage A) Stop → Type 0
 ActionDone contents number action old new (Ok next) =
     (here : List ℕ) × Passes contents old new here
-    × ((more : List (List ℕ)) (text : List ℕ) (ending : Ending) → Prints (stage_of next) (number + 1) more text ending → PrintsFrom number action more (here ++ text) ending)
-ActionDone contents number action old new (Err stop) = (more : List (List ℕ)) → Stopped contents old new (PrintsFrom number action more) stop
+    × ((more : List (List ℕ)) (text : List ℕ) (ending : Ending) → Prints (stage_of next) (number + 1) more text ending
+    → PrintsFrom number action more (here ++ text) ending)
+ActionDone contents number action old new (Err stop) =
+    (more : List (List ℕ)) → Stopped contents old new (PrintsFrom number action more) stop
 
 -- ---- a whole script
 

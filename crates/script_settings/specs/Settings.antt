@@ -46,7 +46,8 @@ without_procedures tables = Ok (record { tables = tables; procedures = [] })
 -- with one more table, which stands before all procedures
 abbrev pub with_table : SystemCatalogue → ℕ → ℕ → Result SystemCatalogue FaultCause
 with_table c table width =
-    if length c.procedures == 0 then then_with (caused cause.Table (with_pairs ((table, width) ∷ []) c.tables)) without_procedures else Err cause.Place
+    if length c.procedures == 0 then then_with (caused cause.Table (with_pairs ((table, width) ∷ []) c.tables)) without_procedures
+    else Err cause.Place
 
 abbrev pub unless_refused : Procedure → Option Refusal → Result Procedure FaultCause
 unless_refused p None = Ok p
@@ -62,7 +63,8 @@ unless_fault c (Some fault) = Err (cause.Procedure fault)
 
 -- with an accepted procedure behind the others
 abbrev pub stored : SystemCatalogue → List ℕ → ℕ → Procedure → Result SystemCatalogue FaultCause
-stored c name number p = unless_fault (record c { procedures = c.procedures ++ stored_of name number p ∷ [] }) (fault_of c name number p.tables)
+stored c name number p =
+    unless_fault (record c { procedures = c.procedures ++ stored_of name number p ∷ [] }) (fault_of c name number p.tables)
 
 abbrev pub program_for : Tables → ℕ → Program → Procedure
 program_for tables args_len program = record { program = program; tables = tables; args_len = args_len }
@@ -84,7 +86,8 @@ once (Some _) n = Err cause.Place
 unfoldable pub setting_after : ScriptSettings → ScriptCommand → Result ScriptSettings FaultCause
 setting_after s (command.Window window) = then_with (once s.window window) (λ window. Ok (record s { window = window }))
 setting_after s (command.Replicas replicas) = then_with (once s.replicas replicas) (λ replicas. Ok (record s { replicas = replicas }))
-setting_after s (command.Table table width) = then_with (with_table s.catalogue table width) (λ catalogue. Ok (record s { catalogue = catalogue }))
+setting_after s (command.Table table width) =
+    then_with (with_table s.catalogue table width) (λ catalogue. Ok (record s { catalogue = catalogue }))
 setting_after s (command.Procedure name number args_len program) =
     then_with (with_procedure s.catalogue name number args_len program) (λ catalogue. Ok (record s { catalogue = catalogue }))
 setting_after s _ = Err cause.Place

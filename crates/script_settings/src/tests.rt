@@ -106,5 +106,5 @@ fn growths_are_refused_in_turn(rt: HostRuntime) {
         assert_eq!(rt; catalogue.schema().width(1), Some(8));
         true
     });
-    assert!(rt; failed.is_some());
+    assert!(rt; failed.is_some_and(|count| count > 0));
 }

@@ -32,16 +32,18 @@ HasCome p args rows turns More m effects = HasRun p args rows turns m effects
 HasCome p args rows turns (Exit reply) m effects = HasEnded p args rows turns reply effects
 HasCome p args rows turns _ m effects = ⊥
 
--- a call of an accepted procedure of the setting's catalogue that has come as many instructions of its run on the rows of its snapshot as it has
--- turns
+-- a call of an accepted procedure of the setting's catalogue that has come as many instructions of its run on the rows of its
+-- snapshot as it has turns
 pub record Follows {A : Type 0} (w : Setting) (log : Log) (c : OpenCallState A) : Type 0 where
   pub is_call : IsCall w (call_of c)
   pub accepted : IsAcceptedProcedure (accepted_of w.tables is_call.procedure)
   pub rows : AreRows w.tables (rows_after w log c.snapshot)
-  pub so_far : HasCome (accepted_of w.tables is_call.procedure) c.args (rows_after w log c.snapshot) c.turns c.machine.last c.machine (own_effects c.own)
+  pub so_far : HasCome (accepted_of w.tables is_call.procedure) c.args (rows_after w log c.snapshot) c.turns c.machine.last c.machine
+      (own_effects c.own)
 
 -- it can go on with its own program, and with a store that answers from the rows of its snapshot
-pub record CanGoOn {A : Type 0} (w : Setting) (log : Log) (accepted : Procedure) (answers_from : Rows → Type 0) (c : OpenCallState A) : Type 0 where
+pub record CanGoOn {A : Type 0} (w : Setting) (log : Log) (accepted : Procedure) (answers_from : Rows → Type 0)
+    (c : OpenCallState A) : Type 0 where
   pub follows : Follows w log c
   pub program : accepted ≡ accepted_of w.tables follows.is_call.procedure
   pub answers : answers_from (rows_after w log c.snapshot)
@@ -54,11 +56,15 @@ looks_at_gone w log gone o = makes_look w log o && gone
 
 -- what a turn answers and leaves, by the run on the rows of the snapshot and whether the store has them no more
 abbrev pub IsTurn : Setting → Log → Bool → OpenCall → Turn → OpenCall → Type 0
-IsTurn w log gone o More after = (looks_at_gone w log gone o ≡ false) × (o.turns + 1 < (run_in w log o.call).steps) × (after ≡ record o { turns = o.turns + 1 })
+IsTurn w log gone o More after =
+    (looks_at_gone w log gone o ≡ false) × (o.turns + 1 < (run_in w log o.call).steps) × (after ≡ record o { turns = o.turns + 1 })
 IsTurn w log gone o (Exit reply) after =
-    (looks_at_gone w log gone o ≡ false) × ((run_in w log o.call).steps ≤ o.turns + 1) × (reply ≡ (run_in w log o.call).reply) × (after ≡ record o { turns = (run_in w log o.call).steps })
+    (looks_at_gone w log gone o ≡ false) × ((run_in w log o.call).steps ≤ o.turns + 1) × (reply ≡ (run_in w log o.call).reply)
+    × (after ≡ record o { turns = (run_in w log o.call).steps })
 IsTurn w log gone o Stale after = looks_at_gone w log gone o ≡ true
-IsTurn w log gone o NoMemory after = (looks_at_gone w log gone o ≡ false) × (at_row_helper (by_number w.catalogue o.call.procedure) (moment_at w log o.call o.turns) ≡ true)
+IsTurn w log gone o NoMemory after =
+    (looks_at_gone w log gone o ≡ false)
+    × (at_row_helper (by_number w.catalogue o.call.procedure) (moment_at w log o.call o.turns) ≡ true)
 
 -- a turn after which the call isn't over
 abbrev pub stays_open : Turn → Bool
@@ -78,6 +84,8 @@ IsReplyOf w log o (Some reply) = (o.turns ≡ (run_in w log o.call).steps) × (r
 abbrev pub IsCompletion : {A : Type 0} → Setting → Log → Call → Completion A → Type 0
 IsCompletion w log call (Cancelled snapshot code) = ((run_in w log call).cancel_code ≡ Some code) × (snapshot ≡ call.snapshot)
 IsCompletion w log call (Read snapshot reply) =
-    ((run_in w log call).cancel_code ≡ None) × (len (run_in w log call).writes ≡ 0) × (snapshot ≡ call.snapshot) × (reply ≡ (run_in w log call).reply)
+    ((run_in w log call).cancel_code ≡ None) × (len (run_in w log call).writes ≡ 0) × (snapshot ≡ call.snapshot)
+    × (reply ≡ (run_in w log call).reply)
 IsCompletion w log call (Wrote e) =
-    ((run_in w log call).cancel_code ≡ None) × (len (run_in w log call).writes ≢ 0) × (e.call ≡ call) × CarriesRun w log e × AreWrites w.tables e.writes
+    ((run_in w log call).cancel_code ≡ None) × (len (run_in w log call).writes ≢ 0) × (e.call ≡ call)
+    × CarriesRun w log e × AreWrites w.tables e.writes
