@@ -8,7 +8,8 @@ use Rattle.bpf_semantics.specs.Path.{longest_path, instructions}
 use Rattle.dsm_model.specs.declared.outcome.Outcome.{Outcome}
 use Rattle.dsm_model.specs.declared.outcome.Outcome.TheVariants.{More}
 use Rattle.dsm_model.specs.Log.{StoredProcedure, Catalogue, Setting, Log, by_number, run_in}
-use Rattle.dsm_model.specs.World.{World, OpenCall, Step, Turn, IsStep, flatten, moment_at, numbered, open_call, with_numbered, with_open_call}
+use Rattle.dsm_model.specs.World.{World, OpenCall, Step, Turn, IsStep, flatten, moment_at, numbered, open_call}
+use Rattle.dsm_model.specs.World.{with_numbered, with_open_call}
 use Rattle.dsm_model.specs.Sound.{HasByteArguments, IsSound, IsWorld}
 use Rattle.catalogue.specs.Catalogue.{SystemCatalogue, IsAcceptedFor, IsCatalogue, accepted_of}
 use Rattle.script.specs.declared.commands.Command.TheVariants as command
@@ -35,9 +36,11 @@ instructions-le (Some i ∷ p) = let rest = instructions-le p in omega arith
 abbrev ShortPrograms : Catalogue → Type 0
 ShortPrograms procedures = (number : ℕ) (p : StoredProcedure) → by_number procedures number ≡ Some p → longest_path p.program ≤ max_slots
 
-pub short_programs : (c : SystemCatalogue) → IsCatalogue c → ((p : Program) → longest_path p ≤ instructions p) → ShortPrograms c.procedures
+pub short_programs : (c : SystemCatalogue) → IsCatalogue c → ((p : Program) → longest_path p ≤ instructions p)
+    → ShortPrograms c.procedures
 short_programs c is short number p found =
-    let one = found_among (λ q. IsAcceptedFor c.tables (accepted_of c.tables q)) (λ q. q.number == number) c.procedures p is.procedures found in
+    let accepted = λ (q : StoredProcedure). IsAcceptedFor c.tables (accepted_of c.tables q) in
+    let one = found_among accepted (λ q. q.number == number) c.procedures p is.procedures found in
     let slots = one.program.not_long in
     let path = short p.program in
     let few = instructions-le p.program in
@@ -55,8 +58,8 @@ WentOn w before c after = (o : OpenCall) × (open_call before c ≡ Some o) × (
 
 -- what is known of the turns of calls whose programs are short
 pub record TurnLaws (w : Setting) : Type 0 where
-  pub keeps : (before : World) (step : Step) (outcome : Outcome) (after : World) → HasByteArguments step → IsStep w before step outcome after
-      → IsWorld w before → IsWorld w after
+  pub keeps : (before : World) (step : Step) (outcome : Outcome) (after : World)
+      → HasByteArguments step → IsStep w before step outcome after → IsWorld w before → IsWorld w after
   pub sound : (world : World) (c : ℕ) (o : OpenCall) → IsWorld w world → open_call world c ≡ Some o → IsSound w world.log o
   pub more : (before : World) (c : ℕ) (after : World) → IsStep w before (Turn c) More after → WentOn w before c after
   pub short : ShortPrograms w.catalogue
@@ -72,7 +75,8 @@ set_numbered : (calls : List (Option OpenCall)) (c : ℕ) (o p : OpenCall)
 set_numbered calls zero o p e = absurd cc
 set_numbered calls (suc k) o p e = set_open calls k o p e
 
-still_open : (w : Setting) (before : World) (c : ℕ) (after : World) (on : WentOn w before c after) → open_call after c ≡ Some (further on.0)
+still_open : (w : Setting) (before : World) (c : ℕ) (after : World) (on : WentOn w before c after)
+    → open_call after c ≡ Some (further on.0)
 still_open w before c after on = ap (λ (v : World). open_call v c) on.3 ∙ set_numbered before.calls c on.0 (further on.0) on.1
 
 one_open : (slot : Option OpenCall) (o p : OpenCall) → slot ≡ Some o → slot ≡ Some p → p ≡ o
@@ -82,7 +86,8 @@ one_open slot o p e f = cc
 abbrev HasRun : World → ℕ → ℕ → Type 0
 HasRun world c k = (o : OpenCall) → open_call world c ≡ Some o → k ≤ o.turns
 
-has_run_more : (w : Setting) (before : World) (c : ℕ) (after : World) (k : ℕ) → WentOn w before c after → HasRun before c k → HasRun after c (suc k)
+has_run_more : (w : Setting) (before : World) (c : ℕ) (after : World) (k : ℕ)
+    → WentOn w before c after → HasRun before c k → HasRun after c (suc k)
 has_run_more w before c after k on has o e =
     let same = one_open (open_call after c) (further on.0) o (still_open w before c after on) e in
     let turns : o.turns ≡ on.0.turns + 1 = ap (λ (p : OpenCall). p.turns) same in
@@ -105,8 +110,8 @@ within_path w log o sound more = elim sound.so_far [
   | inr ended ↦ let at = ended.2 in absurd (omega arith)
 ]
 
-fewer_than_slots : (w : Setting) → TurnLaws w → (before : World) (c : ℕ) (after : World) → IsWorld w after → (on : WentOn w before c after)
-    → on.0.turns + 1 < max_slots
+fewer_than_slots : (w : Setting) → TurnLaws w → (before : World) (c : ℕ) (after : World)
+    → IsWorld w after → (on : WentOn w before c after) → on.0.turns + 1 < max_slots
 fewer_than_slots w laws before c after is on =
     let log : before.log ≡ after.log = sym (ap (λ (v : World). v.log) on.3) in
     let sound = laws.sound after c (further on.0) is (still_open w before c after on) in
@@ -151,27 +156,37 @@ went_on : (w : Setting) → TurnLaws w → (before : World) (c : ℕ) (outcome :
 went_on w laws before c outcome after goes step =
     laws.more before c after (subst (λ (o : Outcome). IsStep w before (Turn c) o after) (more_is outcome goes) step)
 
--- as many instructions as a program has slots are left and were run
-turns_end : (w : Setting) → TurnLaws w → (c left k : ℕ) (before after : World) (lines : List (List ℕ)) → IsWorld w before → HasRun before c k
-    → suc left + k ≡ max_slots → Repeats w (Turn c) is_more (suc left) before lines after → Ends w c after lines
+-- what follows an outcome after which so many turns are left
+abbrev Follows : Setting → ℕ → ℕ → Bool → List (List ℕ) → World → World → Type 0
+Follows w c left goes rest between after = Later goes (Repeats w (Turn c) is_more left between rest after) rest between after
+
+-- so many turns are left and so many were taken, together as many as a program has slots
+turns_end : (w : Setting) → TurnLaws w → (c left k : ℕ) (before after : World) (lines : List (List ℕ))
+    → IsWorld w before → HasRun before c k → suc left + k ≡ max_slots
+    → Repeats w (Turn c) is_more (suc left) before lines after → Ends w c after lines
 unfolding Repeats
 turns_end w laws c zero k before after lines is has count r =
-    elim (is_more r.0) as (λ b. is_more r.0 ≡ b → Later b (Repeats w (Turn c) is_more zero r.2 r.1 after) r.1 r.2 after → Ends w c after lines) [
+    elim (is_more r.0) as (λ b. is_more r.0 ≡ b → Follows w c zero b r.1 r.2 after → Ends w c after lines) [
       | false ↦ λ ends last. ends_here w c r.0 r.2 after lines r.1 ends r.3 last
       | true ↦ λ goes more.
           let on = went_on w laws before c r.0 r.2 goes r.4 in
-          let fewer = fewer_than_slots w laws before c r.2 (laws.keeps before (Turn c) r.0 r.2 tt r.4 is) on in
+          let between = laws.keeps before (Turn c) r.0 r.2 tt r.4 is in
+          let fewer = fewer_than_slots w laws before c r.2 between on in
           let least = has on.0 on.1 in
           absurd (omega arith)
     ] refl r.5
 turns_end w laws c (suc left) k before after lines is has count r =
-    elim (is_more r.0) as (λ b. is_more r.0 ≡ b → Later b (Repeats w (Turn c) is_more (suc left) r.2 r.1 after) r.1 r.2 after → Ends w c after lines) [
+    elim (is_more r.0) as (λ b. is_more r.0 ≡ b → Follows w c (suc left) b r.1 r.2 after → Ends w c after lines) [
       | false ↦ λ ends last. ends_here w c r.0 r.2 after lines r.1 ends r.3 last
       | true ↦ λ goes more.
           let on = went_on w laws before c r.0 r.2 goes r.4 in
-          let count_on : suc left + suc k ≡ max_slots = omega arith in
-          ends_later w c after (step_text w r.2.log (Turn c) r.0) (step_text w more.2.log (Turn c) more.0) lines r.1 more.1 r.3 more.3
-          (turns_end w laws c left (suc k) r.2 after r.1 (laws.keeps before (Turn c) r.0 r.2 tt r.4 is) (has_run_more w before c r.2 k on has) count_on more)
+          let between = laws.keeps before (Turn c) r.0 r.2 tt r.4 is in
+          let run = has_run_more w before c r.2 k on has in
+          let taken : suc left + suc k ≡ max_slots = omega arith in
+          let line = step_text w r.2.log (Turn c) r.0 in
+          let next = step_text w more.2.log (Turn c) more.0 in
+          ends_later w c after line next lines r.1 more.1 r.3 more.3
+          (turns_end w laws c left (suc k) r.2 after r.1 between run taken more)
     ] refl r.5
 
 -- ---- an execution
