@@ -67,8 +67,9 @@ const INDEX_PAST_LINE: &str = "proc index 1 256 \
     0000009500000000000000";
 
 /// What is shown of the first of two increments.
-pub(crate) const ADD_ENTRY: &str = "entry 1 010000000100100005000000000000000a00000000000000000000000a00000000000000\
-         010001050000000000000005000000000000000100010500000000000000010a00000000000000";
+pub(crate) const ADD_ENTRY: &str =
+    "entry 1 010000000100100005000000000000000a00000000000000000000000a00000000000000\
+    010001050000000000000005000000000000000100010500000000000000010a00000000000000";
 
 /// One increment, of which each line that acts prints a line.
 pub(crate) const INCREMENT: Story = Story {
@@ -525,8 +526,7 @@ pub(crate) const EMPTY_INTERVAL: Story = Story {
         "replica 1 number 1 commit reply 0",
         "replica 1 number 2 commit reply 0",
         "entry 2 020000000400180014000000000000000a0000000000000064000000000000000000000000000000\
-         00000000000001000164000000000000000100000000000000\
-         00",
+         0000000000000100016400000000000000010000000000000000",
     ],
     fault: "",
 };
@@ -634,26 +634,26 @@ pub(crate) const REFUSED_STEPS: Story = Story {
 /// A replica that finds no memory for its second entry: it is stopped until it is made anew.
 pub(crate) const STOPS: Story = Story {
     lines: &[
-    "window 4",
-    "replicas 2",
-    "table 1 8",
-    ADD_LINE,
-    PUT_LINE,
-    "begin 1 add 05000000000000000a00000000000000",
-    "begin 2 put 06000000000000000100000000000000",
-    "exec 1",
-    "exec 2",
-    "order 1",
-    "order 2",
-    "deliver 1 2",
-    "deliver 2 2",
-    "rows 2",
-    "deliver 2 1",
-    "rebuild 2",
-    "begin 2 add 05000000000000000700000000000000",
-    "exec 3",
-    "order 3",
-    "deliver 2 1",
+        "window 4",
+        "replicas 2",
+        "table 1 8",
+        ADD_LINE,
+        PUT_LINE,
+        "begin 1 add 05000000000000000a00000000000000",
+        "begin 2 put 06000000000000000100000000000000",
+        "exec 1",
+        "exec 2",
+        "order 1",
+        "order 2",
+        "deliver 1 2",
+        "deliver 2 2",
+        "rows 2",
+        "deliver 2 1",
+        "rebuild 2",
+        "begin 2 add 05000000000000000700000000000000",
+        "exec 3",
+        "order 3",
+        "deliver 2 1",
     ],
     prints: &[
         "call 1 replica 1 snapshot 0",

@@ -169,6 +169,7 @@ const SETTINGS: usize = 4;
 
 /// How many lines of it show an entry, and what each of them says and prints.
 const ENTRIES: usize = 28;
+
 const ENTRY_LINE: &[u8] = b"entry 1\n";
 
 /// How many bytes are printed before the line for which the page of 4,096 bytes has no room: three short ones, and 25 of
