@@ -105,18 +105,24 @@ fn begun<A: Allocator>(command: &Command<Bytes<A>>) -> Option<(&[u8], &[u8])> {
 #[test]
 fn growths_are_refused_in_turn(rt: HostRuntime) {
     let scarce = Scarce::new(rt.alloc());
-    let failed = scarce.refuse_each(|| match command(&scarce, b"begin 1 add 05FF") {
-        Ok(said) => {
-            let expected: (&[u8], &[u8]) = (b"add", &[5, 255]);
-            assert_eq!(rt; said.as_ref().and_then(|said| begun(said)), Some(expected));
-            true
+    let mut failed = 0;
+    for growth in 1..100 {
+        scarce.refuse_nth(growth);
+        match command(&scarce, b"begin 1 add 05FF") {
+            Ok(said) => {
+                let expected: (&[u8], &[u8]) = (b"add", &[5, 255]);
+                assert_eq!(rt; said.as_ref().and_then(|said| begun(said)), Some(expected));
+            }
+            Err(fault) => {
+                assert_eq!(rt; fault, LineFault::OutOfMemory);
+                failed = growth;
+            }
         }
-        Err(fault) => {
-            assert_eq!(rt; fault, LineFault::OutOfMemory);
-            false
+        if scarce.refused() < growth {
+            break;
         }
-    });
-    assert!(rt; failed.is_some_and(|count| count > 0));
+    }
+    assert!(rt; failed > 0 && failed < 99, "{failed}");
 }
 
 /// Shows so many bytes at a time, interrupts each look once, and fails where it is at its end.

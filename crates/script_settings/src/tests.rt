@@ -86,25 +86,41 @@ const LINES: [&str; 5] = [
     ONE,
 ];
 
-/// What the lines set is there, and each growth that is refused is want of memory.
+/// What the lines set.
+fn settings_of(scarce: &Scarce) -> Result<Settings<&Scarce>, FaultCause> {
+    let Ok(mut settings) = Settings::new(scarce) else {
+        return Err(FaultCause::OutOfMemory);
+    };
+    match set_all(&mut settings, scarce, &LINES) {
+        Ok(()) => Ok(settings),
+        Err(fault) => Err(fault.cause),
+    }
+}
+
+/// What the lines set is there, and each growth that is refused is want of memory, unless it can be done without.
 #[test]
 fn growths_are_refused_in_turn(rt: HostRuntime) {
     let scarce = Scarce::new(rt.alloc());
-    let failed = scarce.refuse_each(|| {
-        let Ok(mut settings) = Settings::new(&scarce) else {
-            return false;
-        };
-        if let Err(fault) = set_all(&mut settings, &scarce, &LINES) {
-            assert!(rt; matches!(fault.cause, FaultCause::OutOfMemory));
-            return false;
+    let mut failed = 0;
+    for growth in 1..500 {
+        scarce.refuse_nth(growth);
+        match settings_of(&scarce) {
+            Ok(settings) => {
+                assert_eq!(rt; settings.window(), Some(4096));
+                assert_eq!(rt; settings.replicas(), Some(8));
+                let catalogue = settings.into_catalogue();
+                assert_eq!(rt; catalogue.by_name(b"one"), Some(9));
+                assert_eq!(rt; catalogue.schema().width(64), Some(128));
+                assert_eq!(rt; catalogue.schema().width(1), Some(8));
+            }
+            Err(cause) => {
+                assert!(rt; matches!(cause, FaultCause::OutOfMemory));
+                failed = growth;
+            }
         }
-        assert_eq!(rt; settings.window(), Some(4096));
-        assert_eq!(rt; settings.replicas(), Some(8));
-        let catalogue = settings.into_catalogue();
-        assert_eq!(rt; catalogue.by_name(b"one"), Some(9));
-        assert_eq!(rt; catalogue.schema().width(64), Some(128));
-        assert_eq!(rt; catalogue.schema().width(1), Some(8));
-        true
-    });
-    assert!(rt; failed.is_some_and(|count| count > 0));
+        if scarce.refused() < growth {
+            break;
+        }
+    }
+    assert!(rt; failed > 0 && failed < 499, "{failed}");
 }
