@@ -36,8 +36,8 @@ pub record IsTogether {A : Type 0} (s : SystemWorld) (slots : List (Option (Open
 -- ---- in code
 
 -- the open calls, out of their boxes
-abbrev pub slots_of : {A : Type 0} → Holdings A → List (Option (OpenCallState A))
-slots_of h = map (λ slot. option_map (λ b. b.value) slot) h.calls.items
+abbrev pub call_slots : {A : Type 0} → Holdings A → List (Option (OpenCallState A))
+call_slots h = map (λ slot. option_map (λ b. b.value) slot) h.calls.items
 
 abbrev pub system_of : {A : Type 0} → Holdings A → SystemWorld
 system_of h = record {
@@ -45,11 +45,11 @@ system_of h = record {
   window = h.window;
   entries = h.entries.items;
   replicas = h.replicas.items;
-  calls = open_calls_of (slots_of h);
+  calls = open_calls_of (call_slots h);
 }
 
-abbrev pub IsConsistent : {A : Type 0} → Holdings A → Type 0
-IsConsistent h = IsTogether (system_of h) (slots_of h)
+abbrev pub AreConsistentHoldings : {A : Type 0} → Holdings A → Type 0
+AreConsistentHoldings h = IsTogether (system_of h) (call_slots h)
 
 -- ---- what one replica does
 

@@ -3,7 +3,7 @@
 ghost use Rattle.std.specs.Prelude.{◌≡◌, ◌<◌, All};
 ghost use Rattle.dsm_model.specs.World.{Begin, IsStep};
 ghost use Rattle.dsm_world.specs.System.{setting_of, world_of};
-ghost use Rattle.dsm_world.specs.Holdings.{system_of, IsConsistent};
+ghost use Rattle.dsm_world.specs.Holdings.{system_of, AreConsistentHoldings};
 
 use crate::calls::enter;
 use crate::holdings::Holdings;
@@ -22,11 +22,11 @@ pub(crate) fn begin<A: Allocator + Copy>(
     procedure: u16,
     args: &[u8],
 ) -> Outcome
-    requires { IsConsistent world.old }
+    requires { AreConsistentHoldings world.old }
     ensures step { IsStep (setting_of (system_of world.old)) (world_of (system_of world.old)) (Begin replica procedure args.now)
         result (world_of (system_of world.new)) }
     ensures setting { setting_of (system_of world.new) ≡ setting_of (system_of world.old) }
-    ensures consistent { IsConsistent world.new }
+    ensures consistent { AreConsistentHoldings world.new }
     ensures bytes { All (λ b. b < 256) args.now }
 {
     rows_fit_the_schema();

@@ -3,7 +3,7 @@
 ghost use Rattle.std.specs.Prelude.{◌≡◌};
 ghost use Rattle.dsm_model.specs.World.{Deliver, IsStep};
 ghost use Rattle.dsm_world.specs.System.{setting_of, world_of};
-ghost use Rattle.dsm_world.specs.Holdings.{system_of, IsConsistent};
+ghost use Rattle.dsm_world.specs.Holdings.{system_of, AreConsistentHoldings};
 
 use crate::holdings::Holdings;
 use crate::numbers::index_of;
@@ -15,11 +15,11 @@ use std::alloc::Allocator;
 
 /// Delivers the next entry to a replica.
 pub(crate) fn deliver<A: Allocator + Copy>(world: &mut Holdings<A>, replica: u32) -> Outcome
-    requires { IsConsistent world.old }
+    requires { AreConsistentHoldings world.old }
     ensures step { IsStep (setting_of (system_of world.old)) (world_of (system_of world.old)) (Deliver replica)
         result (world_of (system_of world.new)) }
     ensures setting { setting_of (system_of world.new) ≡ setting_of (system_of world.old) }
-    ensures consistent { IsConsistent world.new }
+    ensures consistent { AreConsistentHoldings world.new }
 {
     a_log_only_grows();
     each_call_has_a_verdict();

@@ -3,7 +3,7 @@
 ghost use Rattle.std.specs.Prelude.{◌≡◌};
 ghost use Rattle.dsm_model.specs.World.{Order, IsStep};
 ghost use Rattle.dsm_world.specs.System.{setting_of, world_of};
-ghost use Rattle.dsm_world.specs.Holdings.{system_of, IsConsistent};
+ghost use Rattle.dsm_world.specs.Holdings.{system_of, AreConsistentHoldings};
 ghost use Rattle.dsm_world.specs.Turned.{IsAppended};
 
 use crate::begin::MAX_CALLS;
@@ -18,11 +18,11 @@ use world_calls::Completion;
 
 /// Orders a call that is at its end.
 pub(crate) fn order<A: Allocator + Copy>(world: &mut Holdings<A>, call: u32) -> Outcome
-    requires { IsConsistent world.old }
+    requires { AreConsistentHoldings world.old }
     ensures step { IsStep (setting_of (system_of world.old)) (world_of (system_of world.old)) (Order call)
         result (world_of (system_of world.new)) }
     ensures setting { setting_of (system_of world.new) ≡ setting_of (system_of world.old) }
-    ensures consistent { IsConsistent world.new }
+    ensures consistent { AreConsistentHoldings world.new }
 {
     a_log_only_grows();
     one_more_entry_carries_its_run();

@@ -3,7 +3,7 @@
 ghost use Rattle.std.specs.Prelude.{◌≡◌};
 ghost use Rattle.dsm_model.specs.World.{Rebuild, IsStep};
 ghost use Rattle.dsm_world.specs.System.{setting_of, world_of};
-ghost use Rattle.dsm_world.specs.Holdings.{system_of, IsConsistent};
+ghost use Rattle.dsm_world.specs.Holdings.{system_of, AreConsistentHoldings};
 
 use crate::holdings::Holdings;
 use crate::numbers::index_of;
@@ -12,11 +12,11 @@ use std::alloc::Allocator;
 
 /// Makes a replica anew from all entries.
 pub(crate) fn rebuild<A: Allocator + Copy>(world: &mut Holdings<A>, replica: u32) -> Outcome
-    requires { IsConsistent world.old }
+    requires { AreConsistentHoldings world.old }
     ensures step { IsStep (setting_of (system_of world.old)) (world_of (system_of world.old)) (Rebuild replica)
         result (world_of (system_of world.new)) }
     ensures setting { setting_of (system_of world.new) ≡ setting_of (system_of world.old) }
-    ensures consistent { IsConsistent world.new }
+    ensures consistent { AreConsistentHoldings world.new }
 {
     steps_keep_a_world();
     let Some(at) = index_of(replica, world.replicas.len()) else {

@@ -3,7 +3,7 @@
 ghost use Rattle.std.specs.Prelude.{◌≡◌};
 ghost use Rattle.dsm_model.specs.World.{Turn as TurnStep, IsStep};
 ghost use Rattle.dsm_world.specs.System.{setting_of, world_of};
-ghost use Rattle.dsm_world.specs.Holdings.{system_of, IsConsistent};
+ghost use Rattle.dsm_world.specs.Holdings.{system_of, AreConsistentHoldings};
 ghost use Rattle.dsm_world.specs.Turned.{outcome_of};
 
 use crate::calls::{put_call, take_call};
@@ -15,11 +15,11 @@ use world_calls::stays_open;
 
 /// Runs a call one instruction further.
 pub(crate) fn turn<A: Allocator + Copy>(world: &mut Holdings<A>, call: u32) -> Outcome
-    requires { IsConsistent world.old }
+    requires { AreConsistentHoldings world.old }
     ensures step { IsStep (setting_of (system_of world.old)) (world_of (system_of world.old)) (TurnStep call)
         result (world_of (system_of world.new)) }
     ensures setting { setting_of (system_of world.new) ≡ setting_of (system_of world.old) }
-    ensures consistent { IsConsistent world.new }
+    ensures consistent { AreConsistentHoldings world.new }
 {
     a_log_only_grows();
     entries_suffice();

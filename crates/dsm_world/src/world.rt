@@ -13,7 +13,7 @@ ghost use Rattle.dsm_model.specs.Sound.{HasByteArguments, IsSound, IsSerialReply
 ghost use Rattle.replica.specs.Replica.{Replica as ReplicaState, AreEntriesOf};
 ghost use Rattle.catalogue.specs.Catalogue.{IsCatalogue, by_name};
 ghost use Rattle.dsm_world.specs.System.{setting_of, world_of, step_of, progress_of, KeepsDelivered};
-ghost use Rattle.dsm_world.specs.Holdings.{system_of, IsConsistent, IsReplicaOf};
+ghost use Rattle.dsm_world.specs.Holdings.{system_of, AreConsistentHoldings, IsReplicaOf};
 
 use crate::begin::begin;
 use crate::deliver::deliver;
@@ -41,7 +41,7 @@ pub struct World<A: Allocator + Copy = Global> {
 
 impl<A: Allocator + Copy> Model for World<A> {
     ghost use Rattle.dsm_world.specs.System.{SystemWorld};
-    ghost use Rattle.dsm_world.specs.Holdings.{system_of, IsConsistent};
+    ghost use Rattle.dsm_world.specs.Holdings.{system_of, AreConsistentHoldings};
     ghost use Rattle.dsm_world.specs.Codes.{world_code};
 
     ghost Value = { SystemWorld };
@@ -50,16 +50,16 @@ impl<A: Allocator + Copy> Model for World<A> {
 
     ghost view = { λ w. system_of w.holdings };
 
-    ghost invariant = { λ w. IsConsistent w.holdings };
+    ghost invariant = { λ w. AreConsistentHoldings w.holdings };
 }
 
 /// One step.
 fn take_step<A: Allocator + Copy>(world: &mut Holdings<A>, step: Step<'_>) -> Outcome
-    requires { IsConsistent world.old }
+    requires { AreConsistentHoldings world.old }
     ensures step { IsStep (setting_of (system_of world.old)) (world_of (system_of world.old)) (step_of step.entry) result
         (world_of (system_of world.new)) }
     ensures setting { setting_of (system_of world.new) ≡ setting_of (system_of world.old) }
-    ensures consistent { IsConsistent world.new }
+    ensures consistent { AreConsistentHoldings world.new }
     ensures bytes { HasByteArguments (step_of step.entry) }
 {
     match step {

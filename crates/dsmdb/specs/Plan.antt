@@ -3,7 +3,7 @@ use Rattle.std.specs.Prelude.{◌≡◌, true, List, [], codes, map, Option, Som
 use Rattle.std.specs.Option.{option_and_then, unwrap_or}
 use Rattle.clap.specs.Words.{App, Rule, Row, Text, all_of, first_of, new_app, new_rule, with_rule, with_subcommand}
 use Rattle.clap.specs.declared.builder.ArgAction.TheVariants.{Set, Append}
-use Rattle.engines.specs.Number.{number_in, table_of}
+use Rattle.engines.specs.Number.{number_in, table_word}
 use Rattle.dsmdb.specs.declared.request.Plan.{Plan}
 use Rattle.dsmdb.specs.declared.request.Plan.TheVariants as plan
 
@@ -51,7 +51,7 @@ abbrev pub IsCheckOf : List Row → Plan → Type 0
 IsCheckOf rows (plan.Check file args_len tables) =
     (first_of (codes "FILE") rows ≡ Some file.now)
     × (option_and_then (number_in 0 256) (first_of (codes "ARGS") rows) ≡ Some args_len)
-    × (map table_of (unwrap_or (all_of (codes "T:W") rows) []) ≡ map (λ t. Some t) tables.items)
+    × (map table_word (unwrap_or (all_of (codes "T:W") rows) []) ≡ map (λ t. Some t) tables.items)
 IsCheckOf rows _ = ⊥
 
 abbrev pub IsReplayOf : List Row → Plan → Type 0

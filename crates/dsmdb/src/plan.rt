@@ -3,7 +3,7 @@
 ghost use Rattle.std.specs.Prelude.{◌≡◌, [], codes, Some, IfOk, map};
 ghost use Rattle.std.specs.Option.{unwrap_or};
 ghost use Rattle.clap.specs.Words.{all_of, app_of, found_of, rows_of, rule_of, subcommand_of, subcommand_rows_of};
-ghost use Rattle.engines.specs.Number.{table_of};
+ghost use Rattle.engines.specs.Number.{table_word};
 ghost use Rattle.dsmdb.specs.Plan.{args_rule, check_line, command_line, file_rule, list_line, replay_line, script_rule, table_rule};
 ghost use Rattle.dsmdb.specs.Plan.{IsPlanOf, IsListOf, IsCheckOf, IsReplayOf};
 
@@ -63,7 +63,7 @@ fn check_plan<'a>(alloc: Global, values: &ArgMatches<'a>) -> Result<Plan<'a>, Pl
 
 /// The tables of `check`.
 fn tables<'a>(alloc: Global, values: &ArgMatches<'a>) -> Result<Vec<(u8, u16)>, PlanFault<'a>>
-    ensures { IfOk result (λ tables. map table_of (unwrap_or (all_of (codes "T:W") (rows_of (found_of values.now))) [])
+    ensures { IfOk result (λ tables. map table_word (unwrap_or (all_of (codes "T:W") (rows_of (found_of values.now))) [])
         ≡ map (λ t. Some t) tables.items) }
 {
     match values.get_raw("T:W") {
@@ -74,7 +74,7 @@ fn tables<'a>(alloc: Global, values: &ArgMatches<'a>) -> Result<Vec<(u8, u16)>, 
 
 /// The tables that the words give.
 fn read_tables<'a>(alloc: Global, words: &[&'a str]) -> Result<Vec<(u8, u16)>, PlanFault<'a>>
-    ensures { IfOk result (λ tables. map (λ w. table_of w.now) words.now ≡ map (λ t. Some t) tables.items) }
+    ensures { IfOk result (λ tables. map (λ w. table_word w.now) words.now ≡ map (λ t. Some t) tables.items) }
 {
     let mut tables = Vec::new(alloc);
     for &word in words {

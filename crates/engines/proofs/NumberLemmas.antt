@@ -5,7 +5,7 @@ use Rattle.std.specs.Prelude.{nat_le, slice_index}
 use Rattle.std.specs.List.{list_all}
 use Rattle.std.specs.Char.{digit_value}
 use Rattle.std.specs.Str.Parse.{AllDigits, digits_value, without_leading_plus}
-use Rattle.engines.specs.Number.{is_numeral, has_leading_zero, number_of, number_in}
+use Rattle.engines.specs.Number.{is_numeral, has_leading_zero, numeral_value, number_in}
 
 digits_pass : (ds : List ℕ) → AllDigits 10 ds → list_all (λ d. nat_lt (digit_value d) 10) ds ≡ true
 digits_pass [] h = refl
@@ -33,7 +33,7 @@ abbrev IsRead : List ℕ → Type 0
 IsRead ds = ((0 < length ds) × AllDigits 10 ds) × (digits_value 10 ds < 2 ^ 16)
 
 pub read_is_number : (text : List ℕ) (n : ℕ) → (slice_index text 0 == 43) ≡ false → has_leading_zero text ≡ false
-    → IsRead (without_leading_plus text) × (n ≡ digits_value 10 (without_leading_plus text)) → Some n ≡ number_of text
+    → IsRead (without_leading_plus text) × (n ≡ digits_value 10 (without_leading_plus text)) → Some n ≡ numeral_value text
 read_is_number text n plus zero h =
     let is = whole text plus in
     let g = subst IsRead is h.0 in

@@ -9,10 +9,10 @@ use Rattle.bpf_list.specs.Listing.{listing_of}
 abbrev pub refused_text : DecodeFault → List ℕ
 refused_text fault = codes "refused " ++ fault_text fault ++ codes "\n"
 
-abbrev pub text_of : Result Program DecodeFault → List ℕ
-text_of (Ok p) = listing_of p
-text_of (Err fault) = refused_text fault
+abbrev pub listing_text : Result Program DecodeFault → List ℕ
+listing_text (Ok p) = listing_of p
+listing_text (Err fault) = refused_text fault
 
-abbrev pub status_of : Result Program DecodeFault → ℕ
-status_of (Ok p) = 0
-status_of (Err fault) = 1
+abbrev pub listing_status : Result Program DecodeFault → ℕ
+listing_status (Ok p) = 0
+listing_status (Err fault) = 1

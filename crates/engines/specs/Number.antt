@@ -14,8 +14,8 @@ abbrev pub has_leading_zero : List ℕ → Bool
 has_leading_zero text = nat_lt 1 (length text) && (slice_index text 0 == 48)
 
 -- the number that decimal digits write, without sign and without leading zero
-abbrev pub number_of : List ℕ → Option ℕ
-number_of text = if is_numeral text && not (has_leading_zero text) then Some (digits_value 10 text) else None
+abbrev pub numeral_value : List ℕ → Option ℕ
+numeral_value text = if is_numeral text && not (has_leading_zero text) then Some (digits_value 10 text) else None
 
 abbrev pub within : ℕ → ℕ → Option ℕ → Option ℕ
 within lo hi None = None
@@ -23,12 +23,12 @@ within lo hi (Some n) = if nat_le lo n && nat_le n hi then Some n else None
 
 -- the same, where it is from lo to hi
 abbrev pub number_in : ℕ → ℕ → List ℕ → Option ℕ
-number_in lo hi text = within lo hi (number_of text)
+number_in lo hi text = within lo hi (numeral_value text)
 
 abbrev pub is_colon : ℕ → Bool
 is_colon c = c == 58
 
 -- `T:W`: a table's number, 1 to 64, and the width of its rows, 1 to 128, round the first colon
-abbrev pub table_of : List ℕ → Option (ℕ × ℕ)
-table_of text = option_and_then (λ table. option_map (λ width. (table, width)) (number_in 1 128 (after_first is_colon text)))
+abbrev pub table_word : List ℕ → Option (ℕ × ℕ)
+table_word text = option_and_then (λ table. option_map (λ width. (table, width)) (number_in 1 128 (after_first is_colon text)))
     (number_in 1 64 (before_first is_colon text))

@@ -10,7 +10,7 @@ ghost use Rattle.engines.specs.declared.status.TheConstants.{FAILED};
 
 use crate::source::read_program;
 use crate::status::FAILED;
-use crate::verdict::Verdict;
+use crate::verdict::CheckVerdict;
 use bpf_verify::{Refusal, verify};
 use byte_output::put;
 use schema::{Schema, SchemaFault};
@@ -64,7 +64,7 @@ fn check<A: Allocator + Copy, R: Read, W: Write>(
     output: &mut W,
     args_len: u16,
     tables: &[(u8, u16)],
-) -> io::Result<Verdict>
+) -> io::Result<CheckVerdict>
     requires { args_len ≤ 256 }
     ensures verdict { IfOk result (λ verdict. IfSome (R.remaining input.old) (λ bytes.
         IsVerdictOf args_len (schema_of tables.now) (program_of bytes) verdict)) }
@@ -93,7 +93,7 @@ fn verdict<A: Allocator + Copy, R: Read>(
     input: &mut R,
     args_len: u16,
     tables: &[(u8, u16)],
-) -> io::Result<Verdict>
+) -> io::Result<CheckVerdict>
     requires { args_len ≤ 256 }
     ensures { IfOk result (λ verdict. IfSome (R.remaining input.old) (λ bytes.
         IsVerdictOf args_len (schema_of tables.now) (program_of bytes) verdict)) }
@@ -101,19 +101,19 @@ fn verdict<A: Allocator + Copy, R: Read>(
     let schema = match Schema::new(alloc, tables) {
         Ok(schema) => schema,
         Err(SchemaFault::OutOfMemory) => return Err(io::Error::from(AllocError)),
-        Err(fault) => return Ok(Verdict::NoSchema(fault)),
+        Err(fault) => return Ok(CheckVerdict::NoSchema(fault)),
     };
     let code = match read_program(alloc, input)? {
         Ok(code) => code,
-        Err(fault) => return Ok(Verdict::NoProgram(fault)),
+        Err(fault) => return Ok(CheckVerdict::NoProgram(fault)),
     };
     let slots = code.slots();
     match verify(alloc, code, &schema, args_len) {
-        Ok(accepted) => Ok(Verdict::Accepted {
+        Ok(accepted) => Ok(CheckVerdict::Accepted {
             slots,
             bound: accepted.bound(),
         }),
-        Err(Refusal::At { slot, cause }) => Ok(Verdict::Refused { slot, cause }),
+        Err(Refusal::At { slot, cause }) => Ok(CheckVerdict::Refused { slot, cause }),
         Err(Refusal::OutOfMemory) => Err(io::Error::from(AllocError)),
     }
 }

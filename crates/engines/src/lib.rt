@@ -5,7 +5,7 @@ pub use check::check_over;
 pub use list::list_over;
 pub use number::{number_in, table};
 pub use status::FAILED;
-pub use verdict::Verdict;
+pub use verdict::CheckVerdict;
 
 mod check;
 mod list;

@@ -5,7 +5,7 @@ ghost use Rattle.std.specs.Io.KnownBytes.{Appends};
 ghost use Rattle.byte_output.specs.Writes.{AppendsBeginning};
 ghost use Rattle.byte_output.specs.Pending.{output_of, Takes};
 ghost use Rattle.bpf_code.specs.Decoding.{program_of};
-ghost use Rattle.engines.specs.Listing.{refused_text, text_of, status_of};
+ghost use Rattle.engines.specs.Listing.{refused_text, listing_text, listing_status};
 ghost use Rattle.engines.specs.declared.status.TheConstants.{FAILED};
 
 use crate::source::read_program;
@@ -29,13 +29,13 @@ pub fn list_over<A: Allocator + Copy, R: Read, W: Write, E: Write>(
     // The status is that of the bytes, or something failed.
     ensures range { ((result ≡ 0) ⊎ (result ≡ 1)) ⊎ (result ≡ FAILED) }
     ensures status { IfSome (R.remaining input.old) (λ bytes.
-        (result ≡ FAILED) ⊎ (result ≡ status_of (program_of bytes))) }
+        (result ≡ FAILED) ⊎ (result ≡ listing_status (program_of bytes))) }
 
     // Where nothing failed, the whole text was written, and else a beginning of it.
     ensures whole { IfSome (R.remaining input.old) (λ bytes.
-        result ≢ FAILED → Appends (W.contents output.old) (W.contents output.new) (text_of (program_of bytes))) }
+        result ≢ FAILED → Appends (W.contents output.old) (W.contents output.new) (listing_text (program_of bytes))) }
     ensures beginning { IfSome (R.remaining input.old) (λ bytes.
-        AppendsBeginning (W.contents output.old) (W.contents output.new) (text_of (program_of bytes))) }
+        AppendsBeginning (W.contents output.old) (W.contents output.new) (listing_text (program_of bytes))) }
 
     // Nothing is said where nothing failed.
     ensures silent { result ≢ FAILED → faults.new ≡ faults.old }
@@ -56,11 +56,11 @@ fn list<A: Allocator + Copy, R: Read, W: Write>(
     output: &mut W,
 ) -> io::Result<u8>
     ensures ok { IfOk result (λ status. IfSome (R.remaining input.old) (λ bytes.
-        Appends (W.contents output.old) (W.contents output.new) (text_of (program_of bytes))
-        × (status ≡ status_of (program_of bytes)))) }
+        Appends (W.contents output.old) (W.contents output.new) (listing_text (program_of bytes))
+        × (status ≡ listing_status (program_of bytes)))) }
     ensures range { IfOk result (λ status. (status ≡ 0) ⊎ (status ≡ 1)) }
     ensures err { OnErr result (IfSome (R.remaining input.old) (λ bytes.
-        AppendsBeginning (W.contents output.old) (W.contents output.new) (text_of (program_of bytes)))) }
+        AppendsBeginning (W.contents output.old) (W.contents output.new) (listing_text (program_of bytes)))) }
 {
     let decoded = read_program(alloc, input)?;
     let mut pages = PagedOutput::new(output);
@@ -78,7 +78,7 @@ fn print<A: Allocator, W: Write>(
     output: &mut PagedOutput<'_, W>,
 ) -> io::Result<()>
     ensures same_output { (output_of output.new).ghost_name ≡ (output_of output.old).ghost_name }
-    ensures bytes { Takes W.contents output.old output.new result (text_of decoded.now) }
+    ensures bytes { Takes W.contents output.old output.new result (listing_text decoded.now) }
 {
     match decoded {
         Ok(code) => put_listing(code, output),

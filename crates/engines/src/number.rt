@@ -1,7 +1,7 @@
 //! Numbers and tables as the words of a command line give them.
 
 ghost use Rattle.std.specs.Prelude.{◌≡◌, ◌==◌, ◌≤◌, slice_index, Some, IfSome};
-ghost use Rattle.engines.specs.Number.{has_leading_zero, within, number_in, table_of};
+ghost use Rattle.engines.specs.Number.{has_leading_zero, within, number_in, table_word};
 
 /// The number that a word gives in decimal digits, without sign and without leading zero, where it
 /// is from `lo` to `hi`.
@@ -20,7 +20,7 @@ pub fn number_in(text: &str, lo: u16, hi: u16) -> Option<u16>
 
 /// The table's number, 1 to 64, and the width of its rows, 1 to 128, that a word gives as `T:W`.
 pub fn table(text: &str) -> Option<(u8, u16)>
-    ensures { result ≡ table_of text.now }
+    ensures { result ≡ table_word text.now }
 {
     let (table, width) = text.split_once(':')?;
     let table = number_in(table, 1, 64)?;

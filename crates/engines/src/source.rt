@@ -3,7 +3,7 @@
 ghost use Rattle.std.specs.Prelude.{◌≡◌, ◌≤◌, ◌++◌, ℕ, List, [], IfOk, OnOk, IfSome, length};
 ghost use Rattle.std.specs.Io.KnownBytes.{ReadConsumes};
 ghost use Rattle.bpf_code.specs.Decoding.{program_of};
-ghost use Rattle.engines.specs.Source.{IsReadOf};
+ghost use Rattle.engines.specs.Source.{IsSourceOf};
 
 use bpf_code::{Code, DecodeCause, DecodeFault, MAX_SLOTS, decode};
 use std::alloc::{AllocError, Allocator};
@@ -12,7 +12,7 @@ use std::io::{ErrorKind, Read};
 
 /// What an input held.
 #[derive(Drop)]
-pub enum Source<A: Allocator> {
+pub enum ProgramSource<A: Allocator> {
     /// Its bytes, no more than a program may have.
     Whole(Vec<u8, A>),
     /// More bytes than a program may have; whether they are whole slots.
@@ -30,7 +30,7 @@ pub struct Front<A: Allocator> {
 }
 
 impl<A: Allocator> Front<A> {
-    ghost use Rattle.engines.specs.Source.{IsFrontOf, IsReadOf};
+    ghost use Rattle.engines.specs.Source.{IsFrontOf, IsSourceOf};
 
     fn new(alloc: A) -> Result<Front<A>, AllocError>
         ensures { IfOk result (λ front. IsFrontOf front []) }
@@ -42,13 +42,13 @@ impl<A: Allocator> Front<A> {
         })
     }
 
-    fn source(self) -> Source<A>
-        ensures { (bytes : List ℕ) → IsFrontOf self bytes → IsReadOf result bytes }
+    fn source(self) -> ProgramSource<A>
+        ensures { (bytes : List ℕ) → IsFrontOf self bytes → IsSourceOf result bytes }
     {
         if self.is_long {
-            Source::TooLong(self.remainder == 0)
+            ProgramSource::TooLong(self.remainder == 0)
         } else {
-            Source::Whole(self.bytes)
+            ProgramSource::Whole(self.bytes)
         }
     }
 
@@ -85,8 +85,8 @@ fn read_some<R: Read>(input: &mut R, chunk: &mut [u8]) -> io::Result<usize>
 }
 
 /// Reads an input to its end. An error is the input's, or want of memory.
-fn read_source<A: Allocator, R: Read>(alloc: A, input: &mut R) -> io::Result<Source<A>>
-    ensures { IfOk result (λ source. IfSome (R.remaining input.old) (IsReadOf source)) }
+fn read_source<A: Allocator, R: Read>(alloc: A, input: &mut R) -> io::Result<ProgramSource<A>>
+    ensures { IfOk result (λ source. IfSome (R.remaining input.old) (IsSourceOf source)) }
 {
     let mut front = Front::new(alloc)?;
     let mut chunk = [0u8; 4096];
@@ -105,20 +105,20 @@ fn read_source<A: Allocator, R: Read>(alloc: A, input: &mut R) -> io::Result<Sou
 #[tactic(auto, unfolding(bpf_code::specs::Decoding::program_of))]
 fn decode_source<A: Allocator>(
     alloc: A,
-    source: &Source<A>,
+    source: &ProgramSource<A>,
 ) -> io::Result<Result<Code<A>, DecodeFault>>
-    ensures { IfOk result (λ decoded. (bytes : List ℕ) → IsReadOf source.now bytes → program_of bytes ≡ decoded) }
+    ensures { IfOk result (λ decoded. (bytes : List ℕ) → IsSourceOf source.now bytes → program_of bytes ≡ decoded) }
 {
     let fault = |cause: DecodeCause| DecodeFault { cause, slot: 0 };
     match source {
-        Source::Whole(bytes) => match decode(alloc, bytes) {
+        ProgramSource::Whole(bytes) => match decode(alloc, bytes) {
             Err(fault) if matches!(fault.cause, DecodeCause::OutOfMemory) => {
                 Err(io::Error::from(AllocError))
             }
             decoded => Ok(decoded),
         },
-        Source::TooLong(true) => Ok(Err(fault(DecodeCause::TooManySlots))),
-        Source::TooLong(false) => Ok(Err(fault(DecodeCause::Length))),
+        ProgramSource::TooLong(true) => Ok(Err(fault(DecodeCause::TooManySlots))),
+        ProgramSource::TooLong(false) => Ok(Err(fault(DecodeCause::Length))),
     }
 }
 

@@ -11,7 +11,7 @@ use schema::SchemaFault;
 
 /// What is said of a program's bytes, with the tables and the length of its arguments.
 #[derive(Clone, Copy, Debug, PartialEq, Eq)]
-pub enum Verdict {
+pub enum CheckVerdict {
     /// It is accepted; how many slots it has, and the most instructions that it may run.
     Accepted { slots: usize, bound: u32 },
     /// The tables are no schema.
@@ -22,13 +22,13 @@ pub enum Verdict {
     Refused { slot: u16, cause: Cause },
 }
 
-impl Verdict {
+impl CheckVerdict {
     /// The exit status: 0 where the program is accepted, and else 1.
     pub fn status(self) -> u8
         ensures { result ≡ verdict_status self }
     {
         match self {
-            Verdict::Accepted { .. } => 0,
+            CheckVerdict::Accepted { .. } => 0,
             _ => 1,
         }
     }
@@ -38,17 +38,17 @@ impl Verdict {
         ensures { result.items ≡ verdict_text self }
     {
         match self {
-            Verdict::Accepted { slots, bound } => accepted_line(slots, bound),
-            Verdict::NoSchema(fault) => schema_line(fault),
-            Verdict::NoProgram(fault) => refused_line(fault),
-            Verdict::Refused { slot, cause } => cause_line(slot, cause),
+            CheckVerdict::Accepted { slots, bound } => accepted_line(slots, bound),
+            CheckVerdict::NoSchema(fault) => schema_line(fault),
+            CheckVerdict::NoProgram(fault) => refused_line(fault),
+            CheckVerdict::Refused { slot, cause } => cause_line(slot, cause),
         }
     }
 }
 
 /// As `accepted slots 17 bound 17`.
 fn accepted_line(slots: usize, bound: u32) -> Line
-    ensures { result.items ≡ verdict_text (Verdict.Accepted slots bound) }
+    ensures { result.items ≡ verdict_text (CheckVerdict.Accepted slots bound) }
 {
     let mut line = Line::new();
     push_unsigned(&mut line, "accepted slots ", slots as u64);
@@ -59,7 +59,7 @@ fn accepted_line(slots: usize, bound: u32) -> Line
 
 /// As `refused S3`.
 fn schema_line(fault: SchemaFault) -> Line
-    ensures { result.items ≡ verdict_text (Verdict.NoSchema fault) }
+    ensures { result.items ≡ verdict_text (CheckVerdict.NoSchema fault) }
 {
     let mut line = Line::new();
     push_unsigned(&mut line, "refused S", u64::from(fault.number()));
@@ -69,7 +69,7 @@ fn schema_line(fault: SchemaFault) -> Line
 
 /// As `refused V4 slot 1`.
 fn cause_line(slot: u16, cause: Cause) -> Line
-    ensures { result.items ≡ verdict_text (Verdict.Refused slot cause) }
+    ensures { result.items ≡ verdict_text (CheckVerdict.Refused slot cause) }
 {
     let mut line = Line::new();
     push_unsigned(&mut line, "refused V", u64::from(cause.number()));

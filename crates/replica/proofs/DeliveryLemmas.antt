@@ -16,7 +16,7 @@ use Rattle.dsm_model.specs.Entries.{Entry, certified_calls_of}
 use Rattle.certify.specs.Kept as certifier
 use Rattle.replica.specs.declared.certification.Certification.{Certification}
 use Rattle.replica.specs.Replica.{rows_kept, KeepsRows, certification_after, AreCertificationsOf, Replica, StandsFor}
-use Rattle.replica.specs.Delivery.{HasSameVersions, IsDelivered, IsRefused}
+use Rattle.replica.specs.Delivery.{HasSameVersions, IsDelivered, IsRefusedDelivery}
 use Rattle.replica.proofs.KeepsLemmas.{LaysOn, certified_more, rows_later, rows_before}
 
 -- the laws of one more install
@@ -133,7 +133,7 @@ delivered lays law old new e c installed entries is stands =
           (subst (AreCertificationsOf old.window all) (sym is.certifications) (certifications_more old.window entries e old.certifications c stands.certifications certified));
     }
 
-pub refused : (old new : Replica) (entries : List Entry) → IsRefused old new → StandsFor old entries → StandsFor new entries
+pub refused : (old new : Replica) (entries : List Entry) → IsRefusedDelivery old new → StandsFor old entries → StandsFor new entries
 refused old new entries is stands =
     let position = is.position in
     let window = is.window in

@@ -31,7 +31,7 @@ pub record IsDelivered (old new : Replica) (e : Entry) (c : Certification) (inst
   pub horizon : new.versions.horizon ≤ new.position - new.window
 
 -- what a delivery leaves for which there is no memory
-pub record IsRefused (old new : Replica) : Type 0 where
+pub record IsRefusedDelivery (old new : Replica) : Type 0 where
   pub window : new.window ≡ old.window
   pub position : new.position ≡ old.position
   pub certifications : new.certifications ≡ old.certifications

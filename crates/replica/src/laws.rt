@@ -10,7 +10,7 @@ ghost use Rattle.dsm_model.specs.Entries.{Entry, calls_of, certified_calls_of};
 ghost use Rattle.key_table.specs.Table.{Table};
 ghost use Rattle.replica.specs.declared.certification.Certification.{Certification};
 ghost use Rattle.replica.specs.Replica.{AreEntriesOf, FitTables, Replica, StandsFor, rows_kept};
-ghost use Rattle.replica.specs.Delivery.{IsDelivered, IsRefused};
+ghost use Rattle.replica.specs.Delivery.{IsDelivered, IsRefusedDelivery};
 
 use dsm_model::entries_suffice;
 use row_model::map_after_each_write_set;
@@ -41,7 +41,7 @@ pub(crate) fn deliveries_are_kept()
     ensures delivered { (old new : Replica) (e : Entry) (c : Certification) (installed : List Table) (entries : List Entry)
         → IsDelivered old new e c installed → StandsFor old entries → StandsFor new (entries ++ e ∷ []) }
     ensures refused { (old new : Replica) (entries : List Entry)
-        → IsRefused old new → StandsFor old entries → StandsFor new entries }
+        → IsRefusedDelivery old new → StandsFor old entries → StandsFor new entries }
 {
     map_after_each_write_set();
     answers_after_an_install();

@@ -20,18 +20,18 @@ use Rattle.script_replay.specs.declared.stop.Stop.TheVariants.{Fault, Input, Out
 use Rattle.script_replay.specs.declared.stage.Stage.TheVariants.{SettingUp as SettingUpCode, Acting as ActingCode}
 use Rattle.script_replay.specs.Stage.{Stage, Acting, Action, Fails, Goes, Acts, first_action, action_of}
 use Rattle.script_replay.specs.Replay.{Ending, Faulty, Prints}
-use Rattle.script_replay.specs.Doing.{stage_of, PrintsFrom, IsFaultOf, Begun, Stopped, ActionDone}
+use Rattle.script_replay.specs.Doing.{stage_of, PrintsFrom, IsFaultOf, GivesBeginning, GivesUpTo, GivesAction}
 use Rattle.script_replay.proofs.PassesLemmas.{Passes-nothing, PassesBeginning-front, PassesBeginning-more}
 use Rattle.script_replay.proofs.ReplayLemmas.{can_print, action_can, acting_acts, setting_up_acts}
 
 -- nothing was printed, and it goes on at a stage
-pub goes : {A W : Type 0} (contents : W → Option (List ℕ)) (n : ℕ) (a : Action) (page : PagedOutput W) (next : code.Stage A) → a ≡ Goes (stage_of next) → ActionDone contents n a page page (Ok next)
+pub goes : {A W : Type 0} (contents : W → Option (List ℕ)) (n : ℕ) (a : Action) (page : PagedOutput W) (next : code.Stage A) → a ≡ Goes (stage_of next) → GivesAction contents n a page page (Ok next)
 goes contents n a page next e =
     ([], Passes-nothing contents page, λ more text ending p. subst (λ (b : Action). PrintsFrom n b more text ending) (sym e) p)
 
 -- nothing was printed, and it stops
 pub stops : {W : Type 0} (contents : W → Option (List ℕ)) (n : ℕ) (stage : Stage) (said : Result (Option ScriptCommand) LineFault) (page : PagedOutput W) (stop : Stop) → IsFaultOf n (action_of stage said) stop
-    → (more : List (List ℕ)) → Stopped contents page page (PrintsFrom n (action_of stage said) more) stop
+    → (more : List (List ℕ)) → GivesUpTo contents page page (PrintsFrom n (action_of stage said) more) stop
 stops contents n stage said page (Fault fault) (same, inl memory) more =
     let way = action_can stage said n more in inl (memory, (way.0, way.1, way.2, PassesBeginning-front contents page page [] way.0 (Passes-nothing contents page)))
 stops contents n stage said page (Fault fault) (same, inr e) more =
@@ -41,19 +41,19 @@ stops contents n stage said page (Output error) h more = absurd h
 
 -- it stops with what a `?` returns
 pub stops_by : {A W : Type 0} (contents : W → Option (List ℕ)) (n : ℕ) (stage : Stage) (said : Result (Option ScriptCommand) LineFault) (page : PagedOutput W) (result : Result (code.Stage A) Stop) (passed stop : Stop)
-    → result ≡ Err passed → passed ≡ stop → IsFaultOf n (action_of stage said) stop → ActionDone contents n (action_of stage said) page page result
+    → result ≡ Err passed → passed ≡ stop → IsFaultOf n (action_of stage said) stop → GivesAction contents n (action_of stage said) page page result
 stops_by contents n stage said page (Ok next) passed stop e same h = absurd cc
 stops_by contents n stage said page (Err given) passed stop e same h =
-    let is : stop ≡ given = cc in subst (λ (s : Stop). (more : List (List ℕ)) → Stopped contents page page (PrintsFrom n (action_of stage said) more) s) is (stops contents n stage said page stop h)
+    let is : stop ≡ given = cc in subst (λ (s : Stop). (more : List (List ℕ)) → GivesUpTo contents page page (PrintsFrom n (action_of stage said) more) s) is (stops contents n stage said page stop h)
 
 -- the same action
-pub by_action : {A W : Type 0} (contents : W → Option (List ℕ)) (n : ℕ) (a b : Action) (old new : PagedOutput W) (result : Result (code.Stage A) Stop) → a ≡ b → ActionDone contents n b old new result
-    → ActionDone contents n a old new result
-by_action contents n a b old new result e h = subst (λ (x : Action). ActionDone contents n x old new result) (sym e) h
+pub by_action : {A W : Type 0} (contents : W → Option (List ℕ)) (n : ℕ) (a b : Action) (old new : PagedOutput W) (result : Result (code.Stage A) Stop) → a ≡ b → GivesAction contents n b old new result
+    → GivesAction contents n a old new result
+by_action contents n a b old new result e h = subst (λ (x : Action). GivesAction contents n x old new result) (sym e) h
 
 -- a line that sets something, or is at fault
 pub sets_or_stops : {A W : Type 0} (contents : W → Option (List ℕ)) (n : ℕ) (stage : Stage) (said : Result (Option ScriptCommand) LineFault) (page : PagedOutput W) (result : Result (code.Stage A) Stop)
-    → IfOk result (λ next. action_of stage said ≡ Goes (stage_of next)) → IfErr result (IsFaultOf n (action_of stage said)) → ActionDone contents n (action_of stage said) page page result
+    → IfOk result (λ next. action_of stage said ≡ Goes (stage_of next)) → IfErr result (IsFaultOf n (action_of stage said)) → GivesAction contents n (action_of stage said) page page result
 sets_or_stops contents n stage said page (Ok next) ok err = goes contents n (action_of stage said) page next ok
 sets_or_stops contents n stage said page (Err stop) ok err = stops contents n stage said page stop err
 
@@ -67,15 +67,15 @@ acted contents n w v before after c old new same (here, does, passes) =
 
 -- it was begun
 pub broke : {W : Type 0} (contents : W → Option (List ℕ)) (n : ℕ) (w : Setting) (before now : World) (c : ScriptCommand) (old new : PagedOutput W) → HasDone {T = ℕ} {E = ℕ} contents w before c old new (Err 0) now
-    → (more : List (List ℕ)) → Begun contents old new (PrintsFrom n (Acts w before c) more)
+    → (more : List (List ℕ)) → GivesBeginning contents old new (PrintsFrom n (Acts w before c) more)
 broke contents n w before now c old new (here, after, does, passes) more =
     let rest = can_print (Acting w after) (n + 1) more in
     (here ++ rest.0, rest.1, (here, rest.0, after, does, refl, rest.2), PassesBeginning-more contents old new here rest.0 passes)
 
 -- memory was wanting
-pub wanting : {W : Type 0} (contents : W → Option (List ℕ)) (n : ℕ) (old new : PagedOutput W) (P : List ℕ → Ending → Type 0) (stop : Stop) → stop ≡ Fault (record { line = n; cause = OutOfMemory }) → Begun contents old new P
-    → Stopped contents old new P stop
-wanting contents n old new P stop e h = subst (Stopped contents old new P) (sym e) (inl (refl, h))
+pub wanting : {W : Type 0} (contents : W → Option (List ℕ)) (n : ℕ) (old new : PagedOutput W) (P : List ℕ → Ending → Type 0) (stop : Stop) → stop ≡ Fault (record { line = n; cause = OutOfMemory }) → GivesBeginning contents old new P
+    → GivesUpTo contents old new P stop
+wanting contents n old new P stop e h = subst (GivesUpTo contents old new P) (sym e) (inl (refl, h))
 
 -- ---- which stops are faults of an action
 

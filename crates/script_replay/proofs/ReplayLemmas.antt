@@ -12,7 +12,7 @@ use Rattle.script_settings.specs.Settings.{ScriptSettings, setting_after, is_set
 use Rattle.script_actions.specs.Printed.{step_text, rows_text, log_text, entry_text}
 use Rattle.script_actions.specs.Actions.{is_more, is_delivery, last_line, longest_run, number_of_name, Turns, Deliveries, OneStep, Begins, Does}
 use Rattle.script_actions.proofs.RepeatLemmas.{repeats_can}
-use Rattle.script_replay.specs.Stage.{Stage, Setting_up, Acting, Action, Fails, Goes, Acts, setting_action, first_action, action_of}
+use Rattle.script_replay.specs.Stage.{Stage, Setup, Acting, Action, Fails, Goes, Acts, setting_action, first_action, action_of}
 use Rattle.script_replay.specs.Replay.{Ending, Finished, Faulty, Prints}
 use Rattle.script_replay.specs.Doing.{PrintsFrom}
 
@@ -61,10 +61,10 @@ acting_setting w world c e = rw e
 pub acting_acts : (w : Setting) (world : World) (c : ScriptCommand) → is_setting c ≡ false → action_of (Acting w world) (Ok (Some c)) ≡ Acts w world c
 acting_acts w world c e = rw e
 
-pub setting_up_sets : (s : ScriptSettings) (c : ScriptCommand) → is_setting c ≡ true → action_of (Setting_up s) (Ok (Some c)) ≡ setting_action (setting_after s c)
+pub setting_up_sets : (s : ScriptSettings) (c : ScriptCommand) → is_setting c ≡ true → action_of (Setup s) (Ok (Some c)) ≡ setting_action (setting_after s c)
 setting_up_sets s c e = rw e
 
-pub setting_up_acts : (s : ScriptSettings) (c : ScriptCommand) → is_setting c ≡ false → action_of (Setting_up s) (Ok (Some c)) ≡ first_action s s.window s.replicas c
+pub setting_up_acts : (s : ScriptSettings) (c : ScriptCommand) → is_setting c ≡ false → action_of (Setup s) (Ok (Some c)) ≡ first_action s s.window s.replicas c
 setting_up_acts s c e = rw e
 
 no_acts : (made : Result ScriptSettings FaultCause) (w : Setting) (world : World) (c : ScriptCommand) → setting_action made ≡ Acts w world c → ⊥
@@ -81,7 +81,7 @@ same_first s None None d w world c e = absurd cc
 acts_alone : (stage : Stage) (said : Result (Option ScriptCommand) LineFault) (w : Setting) (world : World) (c : ScriptCommand) → action_of stage said ≡ Acts w world c → is_setting c ≡ false
 acts_alone stage (Err fault) w world c e = absurd cc
 acts_alone stage (Ok None) w world c e = absurd cc
-acts_alone (Setting_up s) (Ok (Some d)) w world c e = by_cases (is_setting d) refl
+acts_alone (Setup s) (Ok (Some d)) w world c e = by_cases (is_setting d) refl
   where
     by_cases : (b : Bool) → is_setting d ≡ b → is_setting c ≡ false
     by_cases true t = absurd (no_acts (setting_after s d) w world c (sym (setting_up_sets s d t) ∙ e))

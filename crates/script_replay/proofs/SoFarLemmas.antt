@@ -13,7 +13,7 @@ use Rattle.script_replay.specs.declared.stop.Stop.{Stop}
 use Rattle.script_replay.specs.declared.stop.Stop.TheVariants.{Fault, Input, Output}
 use Rattle.script_replay.specs.Stage.{Stage, first_stage, action_of}
 use Rattle.script_replay.specs.Replay.{Ending, Finished, Faulty, Prints}
-use Rattle.script_replay.specs.Doing.{stage_of, PrintsFrom, Begun, Stopped, ActionDone, Replayed}
+use Rattle.script_replay.specs.Doing.{stage_of, PrintsFrom, GivesBeginning, GivesUpTo, GivesAction, GivesReplay}
 use Rattle.script_replay.proofs.PassesLemmas.{Passes-nothing, PassesBeginning-front, PassesBeginning-then}
 use Rattle.script_replay.proofs.ReplayLemmas.{can_print, nothing_left, prints_line}
 
@@ -29,12 +29,12 @@ from_start contents lines page = record { done = []; passed = Passes-nothing con
 
 -- a beginning of the whole, in front of a beginning of what is left
 begun : {W : Type 0} (contents : W → Option (List ℕ)) (now : Stage) (number : ℕ) (lines left : List (List ℕ)) (old mid new : PagedOutput W) → SoFar W contents now number lines left old mid
-    → Begun contents mid new (Prints now number left) → Begun contents old new (Prints first_stage 1 lines)
+    → GivesBeginning contents mid new (Prints now number left) → GivesBeginning contents old new (Prints first_stage 1 lines)
 begun contents now number lines left old mid new so_far (text, ending, prints, passes) =
     (so_far.done ++ text, ending, so_far.back text ending prints, PassesBeginning-then contents old mid new so_far.done text so_far.passed passes)
 
 stopped : {W : Type 0} (contents : W → Option (List ℕ)) (now : Stage) (number : ℕ) (lines left : List (List ℕ)) (old mid new : PagedOutput W) (stop : Stop) → SoFar W contents now number lines left old mid
-    → Stopped contents mid new (Prints now number left) stop → Stopped contents old new (Prints first_stage 1 lines) stop
+    → GivesUpTo contents mid new (Prints now number left) stop → GivesUpTo contents old new (Prints first_stage 1 lines) stop
 stopped contents now number lines left old mid new (Fault fault) so_far (inl (memory, h)) = inl (memory, begun contents now number lines left old mid new so_far h)
 stopped contents now number lines left old mid new (Fault fault) so_far (inr (text, prints, passes)) =
     inr (so_far.done ++ text, so_far.back text (Faulty fault) prints, Passes-then contents old mid new so_far.done text so_far.passed passes)
@@ -43,7 +43,7 @@ stopped contents now number lines left old mid new (Output error) so_far h = beg
 
 -- it stops here, with no more given
 pub stops_here : {W : Type 0} (contents : W → Option (List ℕ)) (now : Stage) (number : ℕ) (lines left : List (List ℕ)) (old new : PagedOutput W) → SoFar W contents now number lines left old new
-    → Begun contents old new (Prints first_stage 1 lines)
+    → GivesBeginning contents old new (Prints first_stage 1 lines)
 stops_here contents now number lines left old new so_far =
     let rest = can_print now number left in
     begun contents now number lines left old new new so_far (rest.0, rest.1, rest.2, PassesBeginning-front contents new new [] rest.0 (Passes-nothing contents new))
@@ -59,18 +59,18 @@ ends_here contents now number lines left old new so_far e = (
 
 -- the next line is at fault for its bytes
 pub ends_at_bytes : {W : Type 0} (contents : W → Option (List ℕ)) (now : Stage) (number : ℕ) (lines left more : List (List ℕ)) (line : List ℕ) (old new : PagedOutput W) (stop : Stop) → SoFar W contents now number lines left old new
-    → left ≡ line ∷ more → line_says line ≡ Err Bytes → stop ≡ Fault (record { line = number; cause = Line Bytes }) → Stopped contents old new (Prints first_stage 1 lines) stop
+    → left ≡ line ∷ more → line_says line ≡ Err Bytes → stop ≡ Fault (record { line = number; cause = Line Bytes }) → GivesUpTo contents old new (Prints first_stage 1 lines) stop
 ends_at_bytes contents now number lines left more line old new stop so_far e says is =
     let fault : ScriptFault = record { line = number; cause = Line Bytes } in
     let p : Prints now number (line ∷ more) [] (Faulty fault) = prints_line now number line more [] (Faulty fault)
     (subst (λ said. PrintsFrom number (action_of now said) more [] (Faulty fault)) (sym says) (refl, refl)) in
-    subst (Stopped contents old new (Prints first_stage 1 lines)) (sym is)
+    subst (GivesUpTo contents old new (Prints first_stage 1 lines)) (sym is)
     (stopped contents now number lines left old new new (Fault fault) so_far
     (inr ([], subst (λ (ls : List (List ℕ)). Prints now number ls [] (Faulty fault)) (sym e) p, Passes-nothing contents new)))
 
 -- the next line was done
 pub line_goes_on : {A W : Type 0} (contents : W → Option (List ℕ)) (now : Stage) (next : code.Stage A) (number : ℕ) (lines left more : List (List ℕ)) (line : List ℕ) (old mid new : PagedOutput W)
-    → SoFar W contents now number lines left old mid → left ≡ line ∷ more → ActionDone contents number (action_of now (line_says line)) mid new (Ok next)
+    → SoFar W contents now number lines left old mid → left ≡ line ∷ more → GivesAction contents number (action_of now (line_says line)) mid new (Ok next)
     → SoFar W contents (stage_of next) (number + 1) lines more old new
 line_goes_on contents now next number lines left more line old mid new so_far e (here, passes, on) = record {
   done = so_far.done ++ here;
@@ -83,11 +83,11 @@ line_goes_on contents now next number lines left more line old mid new so_far e 
 
 -- what may be printed from a line on is what its action and then the lines behind it may print
 stopped_at_line : {W : Type 0} (contents : W → Option (List ℕ)) (now : Stage) (number : ℕ) (line : List ℕ) (left more : List (List ℕ)) (old new : PagedOutput W) (stop : Stop) → left ≡ line ∷ more
-    → Stopped contents old new (PrintsFrom number (action_of now (line_says line)) more) stop → Stopped contents old new (Prints now number left) stop
+    → GivesUpTo contents old new (PrintsFrom number (action_of now (line_says line)) more) stop → GivesUpTo contents old new (Prints now number left) stop
 stopped_at_line contents now number line left more old new stop e h =
-    subst (λ (ls : List (List ℕ)). Stopped contents old new (Prints now number ls) stop) (sym e) (by_cases stop h)
+    subst (λ (ls : List (List ℕ)). GivesUpTo contents old new (Prints now number ls) stop) (sym e) (by_cases stop h)
   where
-    by_cases : (s : Stop) → Stopped contents old new (PrintsFrom number (action_of now (line_says line)) more) s → Stopped contents old new (Prints now number (line ∷ more)) s
+    by_cases : (s : Stop) → GivesUpTo contents old new (PrintsFrom number (action_of now (line_says line)) more) s → GivesUpTo contents old new (Prints now number (line ∷ more)) s
     by_cases (Fault fault) (inl (memory, (text, ending, prints, passes))) = inl (memory, (text, ending, prints_line now number line more text ending prints, passes))
     by_cases (Fault fault) (inr (text, prints, passes)) = inr (text, prints_line now number line more text (Faulty fault) prints, passes)
     by_cases (Input error) (text, ending, prints, passes) = (text, ending, prints_line now number line more text ending prints, passes)
@@ -95,16 +95,16 @@ stopped_at_line contents now number line left more old new stop e h =
 
 -- the next line stopped the script
 pub line_stops : {W : Type 0} (contents : W → Option (List ℕ)) (now : Stage) (number : ℕ) (lines left more : List (List ℕ)) (line : List ℕ) (old mid new : PagedOutput W) (stop : Stop)
-    → SoFar W contents now number lines left old mid → left ≡ line ∷ more → ActionDone {A = ℕ} contents number (action_of now (line_says line)) mid new (Err stop)
-    → Stopped contents old new (Prints first_stage 1 lines) stop
+    → SoFar W contents now number lines left old mid → left ≡ line ∷ more → GivesAction {A = ℕ} contents number (action_of now (line_says line)) mid new (Err stop)
+    → GivesUpTo contents old new (Prints first_stage 1 lines) stop
 line_stops contents now number lines left more line old mid new stop so_far e done =
     stopped contents now number lines left old mid new stop so_far (stopped_at_line contents now number line left more mid new stop e (done more))
 
 -- it stopped with what a `?` returns
 pub replayed_by : {T W : Type 0} (contents : W → Option (List ℕ)) (old new : PagedOutput W) (P : List ℕ → Ending → Type 0) (result : Result T Stop) (passed stop : Stop) → result ≡ Err passed → passed ≡ stop
-    → Stopped contents old new P stop → Replayed contents old new P result
+    → GivesUpTo contents old new P stop → GivesReplay contents old new P result
 replayed_by contents old new P (Ok t) passed stop e same h = absurd cc
-replayed_by contents old new P (Err given) passed stop e same h = let is : stop ≡ given = cc in subst (Stopped contents old new P) is h
+replayed_by contents old new P (Err given) passed stop e same h = let is : stop ≡ given = cc in subst (GivesUpTo contents old new P) is h
 
 -- the first of the lines is the one that was read
 pub first_line : (bytes rest read line : List ℕ) → lines_of bytes ≡ read ∷ lines_of rest → line ≡ read → lines_of bytes ≡ line ∷ lines_of rest

@@ -13,8 +13,8 @@ use Rattle.script_actions.specs.Doing.{PassesBeginning}
 use Rattle.script_replay.specs.declared.stop.Stop.{Stop}
 use Rattle.script_replay.specs.declared.stop.Stop.TheVariants.{Fault, Input, Output}
 use Rattle.script_replay.specs.Replay.{Ending, Finished, Faulty}
-use Rattle.script_replay.specs.Told.{Told}
-use Rattle.script_replay.specs.Doing.{Begun, Replayed, has_output_failed, WrittenBeginning, Written, status_of_cause, IsSaid}
+use Rattle.script_replay.specs.Leaving.{Leaves}
+use Rattle.script_replay.specs.Doing.{GivesBeginning, GivesReplay, has_output_failed, WritesBeginning, WritesReplay, status_of_cause, SaysEnd}
 use Rattle.script_replay.proofs.PassesLemmas.{Appends-nothing, PassesBeginning-front, PassesBeginning-finished, PassesBeginning-lost}
 
 -- ---- what was given is written
@@ -24,7 +24,7 @@ module _ {W : Type 0} (contents : W → Option (List ℕ)) (a b : PagedOutput W)
   whole new text passes q = Writes-finished {T = ℕ} {E = ℕ} contents a b old new new text (Ok 0) refl same none passes q
 
   -- whatever was given, it is a beginning
-  begun_of : {T : Type 0} (ended : Result T Stop) → Replayed contents a b P ended → Begun contents a b P
+  begun_of : {T : Type 0} (ended : Result T Stop) → GivesReplay contents a b P ended → GivesBeginning contents a b P
   begun_of (Ok t) (text, prints, passes) = (text, Finished, prints, subst (PassesBeginning contents a b) (append-nil text) (PassesBeginning-front contents a b text [] passes))
   begun_of (Err (Fault fault)) (inl (memory, h)) = h
   begun_of (Err (Fault fault)) (inr (text, prints, passes)) = (text, Faulty fault, prints, subst (PassesBeginning contents a b) (append-nil text) (PassesBeginning-front contents a b text [] passes))
@@ -32,20 +32,20 @@ module _ {W : Type 0} (contents : W → Option (List ℕ)) (a b : PagedOutput W)
   begun_of (Err (Output error)) h = h
 
   -- the output failed: what was pending is lost
-  pub lost : {T : Type 0} (ended : Result T Stop) (new : Option (List ℕ)) → new ≡ contents (output_of b).now → has_output_failed ended ≡ true → Replayed contents a b P ended → Written (contents old) new P ended
+  pub lost : {T : Type 0} (ended : Result T Stop) (new : Option (List ℕ)) → new ≡ contents (output_of b).now → has_output_failed ended ≡ true → GivesReplay contents a b P ended → WritesReplay (contents old) new P ended
   lost (Ok t) new is e h = absurd cc
   lost (Err (Fault fault)) new is e h = absurd cc
   lost (Err (Input error)) new is e h = absurd cc
   lost (Err (Output error)) new is e (text, ending, prints, passes) =
       (text, ending, prints, subst (λ (t : Option (List ℕ)). AppendsBeginning (contents old) t text) (sym is) (PassesBeginning-lost contents a b old text same none passes))
 
-  finished_begun : (new : Option (List ℕ)) → AppendsBeginning (contents (output_of b).now) new (pending_of b) → Begun contents a b P → WrittenBeginning (contents old) new P
+  finished_begun : (new : Option (List ℕ)) → AppendsBeginning (contents (output_of b).now) new (pending_of b) → GivesBeginning contents a b P → WritesBeginning (contents old) new P
   finished_begun new q (text, ending, prints, passes) = (text, ending, prints, PassesBeginning-finished contents a b old new text same none passes q)
 
   beginning : (new : Option (List ℕ)) → Appends (contents (output_of b).now) new (pending_of b) → AppendsBeginning (contents (output_of b).now) new (pending_of b)
   beginning new q = (pending_of b, [], sym (append-nil (pending_of b)), q)
 
-  put_out : {T : Type 0} (ended : Result T Stop) (new : Option (List ℕ)) → Appends (contents (output_of b).now) new (pending_of b) → Replayed contents a b P ended → Written (contents old) new P ended
+  put_out : {T : Type 0} (ended : Result T Stop) (new : Option (List ℕ)) → Appends (contents (output_of b).now) new (pending_of b) → GivesReplay contents a b P ended → WritesReplay (contents old) new P ended
   put_out (Ok t) new q (text, prints, passes) = (text, prints, whole new text passes q)
   put_out (Err (Fault fault)) new q (inl (memory, h)) = inl (memory, finished_begun new (beginning new q) h)
   put_out (Err (Fault fault)) new q (inr (text, prints, passes)) = inr (text, prints, whole new text passes q)
@@ -53,13 +53,13 @@ module _ {W : Type 0} (contents : W → Option (List ℕ)) (a b : PagedOutput W)
   put_out (Err (Output error)) new q h = finished_begun new (beginning new q) h
 
   -- what was pending was put out
-  pub finished : {T : Type 0} (ended : Result T Stop) (new left : Option (List ℕ)) → new ≡ left → Appends (contents (output_of b).now) left (pending_of b) → Replayed contents a b P ended → Written (contents old) new P ended
-  finished ended new left is q h = subst (λ (t : Option (List ℕ)). Written (contents old) t P ended) (sym is) (put_out ended left q h)
+  pub finished : {T : Type 0} (ended : Result T Stop) (new left : Option (List ℕ)) → new ≡ left → Appends (contents (output_of b).now) left (pending_of b) → GivesReplay contents a b P ended → WritesReplay (contents old) new P ended
+  finished ended new left is q h = subst (λ (t : Option (List ℕ)). WritesReplay (contents old) t P ended) (sym is) (put_out ended left q h)
 
   -- or that failed
-  pub unfinished : {T : Type 0} (ended : Result T Stop) (new left : Option (List ℕ)) → new ≡ left → AppendsBeginning (contents (output_of b).now) left (pending_of b) → Replayed contents a b P ended
-      → WrittenBeginning (contents old) new P
-  unfinished ended new left is q h = subst (λ (t : Option (List ℕ)). WrittenBeginning (contents old) t P) (sym is) (finished_begun left q (begun_of ended h))
+  pub unfinished : {T : Type 0} (ended : Result T Stop) (new left : Option (List ℕ)) → new ≡ left → AppendsBeginning (contents (output_of b).now) left (pending_of b) → GivesReplay contents a b P ended
+      → WritesBeginning (contents old) new P
+  unfinished ended new left is q h = subst (λ (t : Option (List ℕ)). WritesBeginning (contents old) t P) (sym is) (finished_begun left q (begun_of ended h))
 
 -- ---- what is said of it
 
@@ -68,9 +68,9 @@ AppendsBeginning-all a b text p = (text, [], sym (append-nil text), p)
 
 -- a text and an ending of which it is told
 abbrev pub SomeTold : Option (List ℕ) → Option (List ℕ) → Option (List ℕ) → Option (List ℕ) → ℕ → (List ℕ → Ending → Type 0) → Type 0
-SomeTold old new old_faults new_faults status P = (text : List ℕ) × (ending : Ending) × P text ending × Told old new old_faults new_faults status text ending
+SomeTold old new old_faults new_faults status P = (text : List ℕ) × (ending : Ending) × P text ending × Leaves old new old_faults new_faults status text ending
 
-failed : (old new old_faults new_faults : Option (List ℕ)) (status : ℕ) (P : List ℕ → Ending → Type 0) → status ≡ FAILED → WrittenBeginning old new P → SomeTold old new old_faults new_faults status P
+failed : (old new old_faults new_faults : Option (List ℕ)) (status : ℕ) (P : List ℕ → Ending → Type 0) → status ≡ FAILED → WritesBeginning old new P → SomeTold old new old_faults new_faults status P
 failed old new old_faults new_faults status P e (text, ending, prints, q) = (text, ending, prints, inl (e, q))
 
 -- nothing is said at the end
@@ -87,7 +87,7 @@ memory_or_not (Refused refusal) status e = inr e
 memory_or_not (Procedure fault) status e = inr e
 memory_or_not OutOfMemory status e = inl e
 
-pub told_stopped : (old new old_faults new_faults : Option (List ℕ)) (P : List ℕ → Ending → Type 0) (stop : Stop) (status : ℕ) → Written {T = ℕ} old new P (Err stop) → IsSaid old_faults new_faults stop status
+pub told_stopped : (old new old_faults new_faults : Option (List ℕ)) (P : List ℕ → Ending → Type 0) (stop : Stop) (status : ℕ) → WritesReplay {T = ℕ} old new P (Err stop) → SaysEnd old_faults new_faults stop status
     → SomeTold old new old_faults new_faults status P
 told_stopped old new old_faults new_faults P (Fault fault) status (inl (memory, h)) (e, said) =
     failed old new old_faults new_faults status P (e ∙ ap status_of_cause memory) h

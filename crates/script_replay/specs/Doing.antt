@@ -14,13 +14,13 @@ use Rattle.script_replay.specs.declared.stage.Stage as code
 use Rattle.script_replay.specs.declared.stage.Stage.TheVariants.{SettingUp as SettingUpCode, Acting as ActingCode}
 use Rattle.script_replay.specs.declared.stop.Stop.{Stop}
 use Rattle.script_replay.specs.declared.stop.Stop.TheVariants.{Fault, Output}
-use Rattle.script_replay.specs.Stage.{Stage, Setting_up, Acting, Action, Fails}
+use Rattle.script_replay.specs.Stage.{Stage, Setup, Acting, Action, Fails}
 use Rattle.script_replay.specs.Replay.{Ending, Finished, Faulty, Prints, PrintsAction}
-use Rattle.script_replay.specs.Told.{fault_line}
+use Rattle.script_replay.specs.Leaving.{fault_line}
 
 -- what a stage of the code stands for
 abbrev pub stage_of : {A : Type 0} → code.Stage A → Stage
-stage_of (SettingUpCode settings) = Setting_up settings
+stage_of (SettingUpCode settings) = Setup settings
 stage_of (ActingCode world) = Acting (setting_of world) (world_of world)
 
 -- texts that may be printed, each with an ending
@@ -40,45 +40,45 @@ IsFaultOf number action (Fault fault) = (fault.line ≡ number) × ((fault.cause
 IsFaultOf number action _ = ⊥
 
 -- a beginning of what may be printed was given
-abbrev pub Begun : {W : Type 0} → (W → Option (List ℕ)) → PagedOutput W → PagedOutput W → Printable → Type 0
-Begun contents old new P = (text : List ℕ) × (ending : Ending) × P text ending × PassesBeginning contents old new text
+abbrev pub GivesBeginning : {W : Type 0} → (W → Option (List ℕ)) → PagedOutput W → PagedOutput W → Printable → Type 0
+GivesBeginning contents old new P = (text : List ℕ) × (ending : Ending) × P text ending × PassesBeginning contents old new text
 
 -- it was given to a fault that is no want of memory, or up to where something failed
-abbrev pub Stopped : {W : Type 0} → (W → Option (List ℕ)) → PagedOutput W → PagedOutput W → Printable → Stop → Type 0
-Stopped contents old new P (Fault fault) =
-    ((fault.cause ≡ OutOfMemory) × Begun contents old new P) ⊎ ((text : List ℕ) × P text (Faulty fault) × Passes contents old new text)
-Stopped contents old new P _ = Begun contents old new P
+abbrev pub GivesUpTo : {W : Type 0} → (W → Option (List ℕ)) → PagedOutput W → PagedOutput W → Printable → Stop → Type 0
+GivesUpTo contents old new P (Fault fault) =
+    ((fault.cause ≡ OutOfMemory) × GivesBeginning contents old new P) ⊎ ((text : List ℕ) × P text (Faulty fault) × Passes contents old new text)
+GivesUpTo contents old new P _ = GivesBeginning contents old new P
 
 -- an action was done, and the lines behind it go on from a stage; or it stopped there
-abbrev pub ActionDone : {A W : Type 0} → (W → Option (List ℕ)) → ℕ → Action → PagedOutput W → PagedOutput W
+abbrev pub GivesAction : {A W : Type 0} → (W → Option (List ℕ)) → ℕ → Action → PagedOutput W → PagedOutput W
     → Result (code.Stage A) Stop → Type 0
-ActionDone contents number action old new (Ok next) =
+GivesAction contents number action old new (Ok next) =
     (here : List ℕ) × Passes contents old new here
     × ((more : List (List ℕ)) (text : List ℕ) (ending : Ending) → Prints (stage_of next) (number + 1) more text ending
     → PrintsFrom number action more (here ++ text) ending)
-ActionDone contents number action old new (Err stop) =
-    (more : List (List ℕ)) → Stopped contents old new (PrintsFrom number action more) stop
+GivesAction contents number action old new (Err stop) =
+    (more : List (List ℕ)) → GivesUpTo contents old new (PrintsFrom number action more) stop
 
 -- ---- a whole script
 
-abbrev pub Replayed : {T W : Type 0} → (W → Option (List ℕ)) → PagedOutput W → PagedOutput W → Printable → Result T Stop → Type 0
-Replayed contents old new P (Ok _) = (text : List ℕ) × P text Finished × Passes contents old new text
-Replayed contents old new P (Err stop) = Stopped contents old new P stop
+abbrev pub GivesReplay : {T W : Type 0} → (W → Option (List ℕ)) → PagedOutput W → PagedOutput W → Printable → Result T Stop → Type 0
+GivesReplay contents old new P (Ok _) = (text : List ℕ) × P text Finished × Passes contents old new text
+GivesReplay contents old new P (Err stop) = GivesUpTo contents old new P stop
 
 abbrev pub has_output_failed : {T : Type 0} → Result T Stop → Bool
 has_output_failed (Err (Output error)) = true
 has_output_failed _ = false
 
 -- a beginning of what may be printed was written
-abbrev pub WrittenBeginning : Option (List ℕ) → Option (List ℕ) → Printable → Type 0
-WrittenBeginning old new P = (text : List ℕ) × (ending : Ending) × P text ending × AppendsBeginning old new text
+abbrev pub WritesBeginning : Option (List ℕ) → Option (List ℕ) → Printable → Type 0
+WritesBeginning old new P = (text : List ℕ) × (ending : Ending) × P text ending × AppendsBeginning old new text
 
 -- all that is printed was written, or a beginning of it where something failed
-abbrev pub Written : {T : Type 0} → Option (List ℕ) → Option (List ℕ) → Printable → Result T Stop → Type 0
-Written old new P (Ok _) = (text : List ℕ) × P text Finished × Appends old new text
-Written old new P (Err (Fault fault)) =
-    ((fault.cause ≡ OutOfMemory) × WrittenBeginning old new P) ⊎ ((text : List ℕ) × P text (Faulty fault) × Appends old new text)
-Written old new P (Err _) = WrittenBeginning old new P
+abbrev pub WritesReplay : {T : Type 0} → Option (List ℕ) → Option (List ℕ) → Printable → Result T Stop → Type 0
+WritesReplay old new P (Ok _) = (text : List ℕ) × P text Finished × Appends old new text
+WritesReplay old new P (Err (Fault fault)) =
+    ((fault.cause ≡ OutOfMemory) × WritesBeginning old new P) ⊎ ((text : List ℕ) × P text (Faulty fault) × Appends old new text)
+WritesReplay old new P (Err _) = WritesBeginning old new P
 
 -- ---- what is said of it
 
@@ -87,6 +87,6 @@ status_of_cause OutOfMemory = FAILED
 status_of_cause _ = 1
 
 -- the exit status of a script that stopped, and its line of faults, or a beginning of that
-abbrev pub IsSaid : Option (List ℕ) → Option (List ℕ) → Stop → ℕ → Type 0
-IsSaid old new (Fault fault) status = (status ≡ status_of_cause fault.cause) × AppendsBeginning old new (fault_line fault)
-IsSaid old new _ status = status ≡ FAILED
+abbrev pub SaysEnd : Option (List ℕ) → Option (List ℕ) → Stop → ℕ → Type 0
+SaysEnd old new (Fault fault) status = (status ≡ status_of_cause fault.cause) × AppendsBeginning old new (fault_line fault)
+SaysEnd old new _ status = status ≡ FAILED

@@ -1,4 +1,4 @@
 pub mod Stage
 pub mod Replay
-pub mod Told
+pub mod Leaving
 pub mod Doing

@@ -10,11 +10,11 @@ use Rattle.script_settings.specs.Fault.{cause_of_line_fault}
 use Rattle.script_settings.specs.Settings.{ScriptSettings, no_settings, setting_after, is_setting}
 
 pub data Stage : Type 0 where
-  Setting_up : ScriptSettings → Stage
+  Setup : ScriptSettings → Stage
   Acting : Setting → World → Stage
 
 abbrev pub first_stage : Stage
-first_stage = Setting_up no_settings
+first_stage = Setup no_settings
 
 -- what the settings come to, with a window
 abbrev pub setting_with : ScriptSettings → ℕ → Setting
@@ -28,7 +28,7 @@ pub data Action : Type 0 where
   Acts : Setting → World → ScriptCommand → Action
 
 abbrev pub setting_action : Result ScriptSettings FaultCause → Action
-setting_action (Ok s) = Goes (Setting_up s)
+setting_action (Ok s) = Goes (Setup s)
 setting_action (Err cause) = Fails cause
 
 -- the first line that acts makes the world, of which window and replicas have to be set
@@ -40,5 +40,5 @@ first_action s _ _ c = Fails cause.Place
 abbrev pub action_of : Stage → Result (Option ScriptCommand) LineFault → Action
 action_of stage (Err fault) = Fails (cause_of_line_fault fault)
 action_of stage (Ok None) = Goes stage
-action_of (Setting_up s) (Ok (Some c)) = if is_setting c then setting_action (setting_after s c) else first_action s s.window s.replicas c
+action_of (Setup s) (Ok (Some c)) = if is_setting c then setting_action (setting_after s c) else first_action s s.window s.replicas c
 action_of (Acting w world) (Ok (Some c)) = if is_setting c then Fails cause.Place else Acts w world c

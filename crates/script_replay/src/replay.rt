@@ -6,8 +6,8 @@ ghost use Rattle.engines.specs.declared.status.TheConstants.{FAILED};
 ghost use Rattle.script.specs.Text.{lines_of};
 ghost use Rattle.script_replay.specs.Stage.{first_stage};
 ghost use Rattle.script_replay.specs.Replay.{Ending, Prints, ScriptPrints};
-ghost use Rattle.script_replay.specs.Told.{Told};
-ghost use Rattle.script_replay.specs.Doing.{Replayed, Written, has_output_failed};
+ghost use Rattle.script_replay.specs.Leaving.{Leaves};
+ghost use Rattle.script_replay.specs.Doing.{GivesReplay, WritesReplay, has_output_failed};
 
 use crate::line::do_line;
 use crate::stage::Stage;
@@ -32,7 +32,7 @@ pub fn replay_over<A: Allocator + Copy, R: BufRead, W: Write, E: Write>(
     ensures range { ((result ≡ 0) ⊎ (result ≡ 1)) ⊎ (result ≡ FAILED) }
     // What was written is what the script prints; where something failed, a beginning of it.
     ensures told { IfSome (R.remaining input.old) (λ bytes. (text : List ℕ) × (ending : Ending) × ScriptPrints bytes text ending
-        × Told (W.contents output.old) (W.contents output.new) (E.contents faults.old) (E.contents faults.new) result text ending) }
+        × Leaves (W.contents output.old) (W.contents output.new) (E.contents faults.old) (E.contents faults.new) result text ending) }
     // Nothing is said where nothing failed and no line is at fault.
     ensures silent { result ≡ 0 → faults.new ≡ faults.old }
 {
@@ -49,7 +49,7 @@ fn replay_whole<A: Allocator + Copy, R: BufRead, W: Write>(
     output: &mut W,
 ) -> Result<(), Stop>
     ensures { (bytes : List ℕ) → R.remaining input.old ≡ Some bytes
-        → Written (W.contents output.old) (W.contents output.new) (ScriptPrints bytes) result }
+        → WritesReplay (W.contents output.old) (W.contents output.new) (ScriptPrints bytes) result }
 {
     let mut pages = PagedOutput::new(output);
     let ended = replay(alloc, input, &mut pages);
@@ -76,7 +76,7 @@ fn replay<A: Allocator + Copy, R: BufRead, W: Write>(
 ) -> Result<(), Stop>
     ensures same_output { (output_of output.new).ghost_name ≡ (output_of output.old).ghost_name }
     ensures replayed { (bytes : List ℕ) → R.remaining input.old ≡ Some bytes
-        → Replayed W.contents output.old output.new (ScriptPrints bytes) result }
+        → GivesReplay W.contents output.old output.new (ScriptPrints bytes) result }
 {
     lines_that_are_too_long_are_at_fault();
     let Ok(mut line) = Vec::with_capacity(alloc, MAX_LINE) else {

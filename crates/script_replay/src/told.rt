@@ -3,8 +3,8 @@
 ghost use Rattle.std.specs.Prelude.{◌≡◌, ◌⊎◌};
 ghost use Rattle.byte_output.specs.Writes.{WritesText};
 ghost use Rattle.engines.specs.declared.status.TheConstants.{FAILED};
-ghost use Rattle.script_replay.specs.Told.{fault_line};
-ghost use Rattle.script_replay.specs.Doing.{status_of_cause, IsSaid};
+ghost use Rattle.script_replay.specs.Leaving.{fault_line};
+ghost use Rattle.script_replay.specs.Doing.{status_of_cause, SaysEnd};
 
 use crate::stop::Stop;
 use byte_output::line::Line;
@@ -17,7 +17,7 @@ use std::io::Write;
 /// Says why a script ended before its end, as far as the writer takes it: the exit status.
 pub(crate) fn tell<E: Write>(faults: &mut E, stop: Stop) -> u8
     ensures range { (result ≡ 1) ⊎ (result ≡ FAILED) }
-    ensures said { IsSaid (E.contents faults.old) (E.contents faults.new) stop result }
+    ensures said { SaysEnd (E.contents faults.old) (E.contents faults.new) stop result }
 {
     match stop {
         Stop::Fault(fault) => {

@@ -21,6 +21,34 @@ const ADD_TEN: [u8; 16] = [5, 0, 0, 0, 0, 0, 0, 0, 10, 0, 0, 0, 0, 0, 0, 0];
 /// Arguments by which 7 is added to it.
 const ADD_SEVEN: [u8; 16] = [5, 0, 0, 0, 0, 0, 0, 0, 7, 0, 0, 0, 0, 0, 0, 0];
 
+/// Replies the row at a key, and writes nothing.
+const READ: &str = "7916000000000000 b701000001000000 bf62000000000000 bfa3000000000000 \
+    07030000f8ffffff 8500000001000000 79a0f8ff00000000 9500000000000000";
+
+/// Puts a value at a key, and cancels with `CANCEL_CODE`.
+const CANCEL: &str = "7912000000000000 7914080000000000 7b4af8ff00000000 bfa3000000000000 \
+    07030000f8ffffff b701000001000000 8500000002000000 b701000009000000 \
+    8500000006000000 9500000000000000";
+
+const CANCEL_CODE: u64 = 9;
+
+const READ_NUMBER: u16 = 8;
+
+const CANCEL_NUMBER: u16 = 9;
+
+/// Procedures that are never ordered: their numbers, each with how many words it takes.
+static UNORDERED: [(u16, &str, usize); 2] = [(READ_NUMBER, READ, 1), (CANCEL_NUMBER, CANCEL, 2)];
+
+const PROCEDURE_COUNT: usize = 8;
+
+/// A procedure: the sample procedures come first, and then those that are never ordered.
+fn procedure_at(place: usize) -> Option<&'static (u16, &'static str, usize)> {
+    match PROCEDURES.get(place) {
+        Some(found) => Some(found),
+        None => UNORDERED.get(place.wrapping_sub(PROCEDURES.len())),
+    }
+}
+
 fn accepted_of<A: Allocator + Copy>(
     alloc: A,
     global: Global,
@@ -33,10 +61,13 @@ fn accepted_of<A: Allocator + Copy>(
     Ok(verify(alloc, code, &schema, args_len.min(256))?)
 }
 
-/// The sample procedures under their numbers, each with its digit as its name.
+/// All procedures under their numbers, each with its digit as its name.
 fn catalogue_of<A: Allocator + Copy>(alloc: A, global: Global) -> Result<Catalogue<A>, Fail> {
     let mut catalogue = Catalogue::new(alloc, Schema::new(alloc, &TABLES)?);
-    for (number, hex, words) in &PROCEDURES {
+    for place in 0..PROCEDURE_COUNT {
+        let Some((number, hex, words)) = procedure_at(place) else {
+            break;
+        };
         let accepted = accepted_of(alloc, global, hex, *words)?;
         let digit = u8::try_from(*number).unwrap_or(0).wrapping_add(b'0');
         catalogue.add(&[digit], *number, accepted)?;

@@ -1,17 +1,16 @@
 //! Worlds that are drawn from a seed: what was done to one, and what it answered.
 
-use super::catalogue_of;
+use super::{CANCEL_CODE, CANCEL_NUMBER, PROCEDURE_COUNT, READ_NUMBER, catalogue_of, procedure_at};
 use dsm_model::{Outcome, Verdict};
 use dsm_world::{Step, World};
 use rand_core::utils::NextWord;
 use rand_pcg::Pcg32;
-use sample_procedures::PROCEDURES;
 use scarce::Scarce;
 use std::alloc::Global;
 use std::test::Fail;
 
-/// How many kinds of outcomes there are, but for two that need other procedures.
-pub(super) const KINDS: usize = 20;
+/// How many kinds of outcomes there are.
+pub(super) const KINDS: usize = 22;
 
 /// Where an outcome is counted.
 fn kind_of(outcome: Outcome) -> usize {
@@ -28,8 +27,9 @@ fn kind_of(outcome: Outcome) -> usize {
             Verdict::Stale => 8,
         },
         Outcome::Rebuilt { .. } => 9,
-        Outcome::Refused(refusal) => (refusal as usize).wrapping_add(10),
-        Outcome::Read { .. } | Outcome::Cancelled { .. } => KINDS,
+        Outcome::Read { .. } => 10,
+        Outcome::Cancelled { .. } => 11,
+        Outcome::Refused(refusal) => (refusal as usize).wrapping_add(12),
     }
 }
 
@@ -54,6 +54,8 @@ pub(super) struct History {
     ended: Vec<u32>,
     /// The numbers of those that were ordered, in the order of the log.
     pub(super) ordered: Vec<u32>,
+    /// The numbers of those that only read, and so weren't ordered.
+    pub(super) read: Vec<u32>,
     /// The positions and verdicts that were told of deliveries.
     pub(super) delivered: Vec<(u32, Verdict)>,
     /// Whether some outcome had another number or position than the next one.
@@ -68,6 +70,7 @@ impl History {
             calls: Vec::new(alloc),
             ended: Vec::new(alloc),
             ordered: Vec::new(alloc),
+            read: Vec::new(alloc),
             delivered: Vec::new(alloc),
             odd: false,
         }
@@ -76,6 +79,19 @@ impl History {
     /// The call of a number.
     pub(super) fn call(&self, number: u32) -> Option<&Call> {
         self.calls.get((number as usize).checked_sub(1)?)
+    }
+
+    /// Whether a call was begun with a procedure at a snapshot.
+    fn is_of(&self, number: u32, procedure: u16, snapshot: u32) -> bool {
+        match self.call(number) {
+            Some(call) => call.procedure == procedure && call.snapshot == snapshot,
+            None => false,
+        }
+    }
+
+    /// The reply of a call at its end.
+    pub(super) fn reply_of(&self, number: u32) -> Option<u64> {
+        self.call(number).and_then(|call| call.reply)
     }
 
     /// Counts an outcome.
@@ -114,8 +130,8 @@ fn draw(generator: &mut Pcg32, end: u32) -> u32 {
 
 /// A procedure's number and arguments of words from 1 to 12; at times no procedure's, or a word too many.
 fn draw_call(alloc: Global, generator: &mut Pcg32) -> Result<(u16, Vec<u8>), Fail> {
-    let place = draw(generator, 6) as usize;
-    let (number, words) = match PROCEDURES.get(place) {
+    let place = draw(generator, PROCEDURE_COUNT as u32) as usize;
+    let (number, words) = match procedure_at(place) {
         Some((number, _program, words)) => (*number, *words),
         None => (0, 0),
     };
@@ -246,12 +262,24 @@ impl<'s> DrawnWorld<'s> {
             0 => self.draw_recent(),
             _ => self.history.ended.pop().unwrap_or(0),
         };
-        let outcome = self.take(Step::Order { call });
-        if let Outcome::Ordered { position } = outcome {
-            self.history.ordered.push(call)?;
-            let is_next = position as usize == self.history.ordered.len();
-            let is_last = position == self.world.log_len();
-            self.history.expect(is_next && is_last);
+        match self.take(Step::Order { call }) {
+            Outcome::Ordered { position } => {
+                self.history.ordered.push(call)?;
+                let is_next = position as usize == self.history.ordered.len();
+                let is_last = position == self.world.log_len();
+                self.history.expect(is_next && is_last);
+            }
+            Outcome::Read { snapshot, reply } => {
+                self.history.read.push(call)?;
+                let is_read = self.history.is_of(call, READ_NUMBER, snapshot);
+                let is_told = self.history.reply_of(call) == Some(reply);
+                self.history.expect(is_read && is_told);
+            }
+            Outcome::Cancelled { snapshot, code } => {
+                let is_cancelled = self.history.is_of(call, CANCEL_NUMBER, snapshot);
+                self.history.expect(is_cancelled && code == CANCEL_CODE);
+            }
+            _ => {}
         }
         Ok(())
     }

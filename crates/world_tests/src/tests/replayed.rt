@@ -21,6 +21,8 @@ enum Difference {
     /// An outcome has another number or position than the next one.
     Numbers,
     Replies,
+    /// What a call replied that only read.
+    Reads,
     Verdicts,
     /// What a replica says of the calls that were delivered to it.
     Certifications,
@@ -54,13 +56,37 @@ fn has_replies(world: &World<&Scarce>, history: &History, reports: &[CallReport]
     let mut position = 0u32;
     for (number, report) in history.ordered.iter().zip(reports) {
         position = position.wrapping_add(1);
-        let reply = history.call(*number).and_then(|call| call.reply);
+        let reply = history.reply_of(*number);
         let logged = world.entry(position).map(|entry| entry.reply);
         if reply != Some(report.reply()) || logged != reply {
             return false;
         }
     }
     history.ordered.len() == reports.len() && world.log_len() == position
+}
+
+/// Whether the row at a key is this word, each in bytes with the least first; where there is none, whether the word is 0.
+fn is_value_at(rows: &[Row], key: &[u8], word: u64) -> bool {
+    for row in rows {
+        if row.key().to_le_bytes().as_slice() == key {
+            return row.bytes() == word.to_le_bytes().as_slice();
+        }
+    }
+    word == 0
+}
+
+/// Whether each call that only read replied what stands in the replay at its snapshot.
+fn has_reads(history: &History, replay: &CompletedReplay) -> bool {
+    for number in &history.read {
+        let (Some(call), Some(reply)) = (history.call(*number), history.reply_of(*number)) else {
+            return false;
+        };
+        let rows = replay.rows(call.snapshot as usize).unwrap_or(&[]);
+        if !is_value_at(rows, &call.args, reply) {
+            return false;
+        }
+    }
+    true
 }
 
 /// Whether each delivery told the verdict of the replay.
@@ -119,7 +145,8 @@ fn have_rows(
 }
 
 /// Where the answers of a world, and its replicas at the end of the log, aren't what the replay says.
-fn difference_of_answers(drawn: &DrawnWorld<'_>, reports: &[CallReport]) -> Difference {
+fn difference_of_answers(drawn: &DrawnWorld<'_>, replay: &CompletedReplay) -> Difference {
+    let reports = replay.reports();
     for replica in drawn.world.replicas() {
         if !says_the_same(replica, reports) {
             return Difference::Certifications;
@@ -129,6 +156,8 @@ fn difference_of_answers(drawn: &DrawnWorld<'_>, reports: &[CallReport]) -> Diff
         Difference::Numbers
     } else if !has_replies(&drawn.world, &drawn.history, reports) {
         Difference::Replies
+    } else if !has_reads(&drawn.history, replay) {
+        Difference::Reads
     } else if !has_verdicts(&drawn.history, reports) {
         Difference::Verdicts
     } else {
@@ -153,7 +182,7 @@ fn find_difference(alloc: Global, drawn: &mut DrawnWorld<'_>) -> Result<Differen
     if !have_rows(alloc, drawn.world.replicas(), &replay)? {
         return Ok(Difference::LastRows);
     }
-    Ok(difference_of_answers(drawn, replay.reports()))
+    Ok(difference_of_answers(drawn, &replay))
 }
 
 /// Takes the steps of a drawn world, and compares it.

@@ -8,7 +8,7 @@ use Rattle.dsm_model.specs.World.{Begin, IsStep}
 use Rattle.catalogue.specs.Catalogue.{accepted_of}
 use Rattle.world_calls.specs.OpenCall.{open_call_of}
 use Rattle.dsm_world.specs.System.{setting_of, progress_of, world_of}
-use Rattle.dsm_world.specs.Holdings.{system_of, slots_of, IsTogether}
+use Rattle.dsm_world.specs.Holdings.{system_of, call_slots, IsTogether}
 use Rattle.dsm_model.specs.Sound.{IsWorld}
 use Rattle.world_calls.proofs.CallLemmas.{each_byte}
 use Rattle.dsm_world.proofs.Numbered.{get_within}
@@ -58,7 +58,7 @@ returns-then-len-ge-MAX_CALLS-clause-step g c =
     let many = c.if-len-ge-MAX_CALLS.true in
     let calls = c.len-2.ensures in
     let slots = map_count (λ slot. option_map (λ b. b.value) slot) c.args.world.now.calls.items in
-    let all = calls_are s (slots_of c.args.world.now) c.requires in
+    let all = calls_are s (call_slots c.args.world.now) c.requires in
     begin_too_many (setting_of s) (world_of s) c.args.replica c.args.procedure c.args.args.now (progress_of old.0) p.0 (replica_at s c.args.replica at old.0 place.0 old.1) p.1
     (c.if-args-from.false ∙ c.from.ensures ∙ c.args_len.ensures.length ∙ ap (λ (q : Procedure). q.args_len) p.2) (omega arith)
 
@@ -74,14 +74,14 @@ returns-in_default-begun-clause-step g c =
     let few = c.if-len-ge-MAX_CALLS.false in
     let calls = c.len-2.ensures in
     let slots = map_count (λ slot. option_map (λ b. b.value) slot) c.args.world.now.calls.items in
-    let all = calls_are s (slots_of c.args.world.now) c.requires in
+    let all = calls_are s (call_slots c.args.world.now) c.requires in
     begin_without_memory (setting_of s) (world_of s) c.args.replica c.args.procedure c.args.args.now (progress_of old.0) p.0 (replica_at s c.args.replica at old.0 place.0 old.1) p.1
     (c.if-args-from.false ∙ c.from.ensures ∙ c.args_len.ensures.length ∙ ap (λ (q : Procedure). q.args_len) p.2) (omega arith)
 
 pub returns-in-Ok-enter-clause-step : goal.returns-in-Ok-enter-clause-step
 returns-in-Ok-enter-clause-step g c =
     let s = system_of c.args.world.now in
-    let slots = slots_of c.args.world.now in
+    let slots = call_slots c.args.world.now in
     let place = c.in-Some.ensures.there in
     let count = c.len.ensures in
     let at = c.in-Some.at in
@@ -104,7 +104,7 @@ returns-in-Ok-enter-clause-step g c =
 pub returns-in-Ok-enter-clause-consistent : goal.returns-in-Ok-enter-clause-consistent
 returns-in-Ok-enter-clause-consistent g c =
     let s = system_of c.args.world.now in
-    let slots = slots_of c.args.world.now in
+    let slots = call_slots c.args.world.now in
     let place = c.in-Some.ensures.there in
     let count = c.len.ensures in
     let at = c.in-Some.at in
@@ -132,7 +132,7 @@ returns-in-Err-clause-step g c =
     let few = c.if-len-ge-MAX_CALLS.false in
     let calls = c.len-2.ensures in
     let slots = map_count (λ slot. option_map (λ b. b.value) slot) c.args.world.now.calls.items in
-    let all = calls_are s (slots_of c.args.world.now) c.requires in
+    let all = calls_are s (call_slots c.args.world.now) c.requires in
     subst (λ xs. IsStep (setting_of s) (world_of s) (Begin c.args.replica c.args.procedure c.args.args.now) (Refused OutOfMemory) (world_of (with_slots s (map (λ slot. option_map (λ b. b.value) slot) xs)))) (sym c.in-Err.ensures.unchanged)
     (begin_without_memory (setting_of s) (world_of s) c.args.replica c.args.procedure c.args.args.now (progress_of old.0) p.0 (replica_at s c.args.replica at old.0 place.0 old.1) p.1
     (c.if-args-from.false ∙ c.from.ensures ∙ c.args_len.ensures.length ∙ ap (λ (q : Procedure). q.args_len) p.2) (omega arith))

@@ -4,7 +4,7 @@ use Rattle.dsm_model.specs.Entries.{Entry}
 use Rattle.dsm_model.specs.World.{Deliver, IsStep}
 use Rattle.replica.specs.Replica.{Replica}
 use Rattle.dsm_world.specs.System.{setting_of, world_of}
-use Rattle.dsm_world.specs.Holdings.{system_of, slots_of, HasDelivered, HasStopped}
+use Rattle.dsm_world.specs.Holdings.{system_of, call_slots, HasDelivered, HasStopped}
 use Rattle.dsm_world.proofs.StepLemmas.{deliver_no_replica}
 use Rattle.dsm_world.proofs.ReplicaLemmas.{with_one, one_changed, none_to_deliver, stopped_before, delivered, delivered_replica, stops, stopped_replica, next_entry_fits, get_is, no_replica, entry_at, same_item, no_further}
 use Rattle.dsm_world.proofs.deliver.deliver.Goals as goal
@@ -36,7 +36,7 @@ returns-then-stopped-clause-step g c =
     let lookup = c.in-Some-get.ensures.lookup in
     let at = get_is s.replicas c.in-Some.at old (omega arith) c.index.ensures in
     let at_2 = get_is s.replicas c.in-Some.at c.index-2.result.now (omega arith) c.index-2.ensures in
-    stopped_before s (slots_of c.args.world.now) c.args.replica c.in-Some.at old c.in-Some-get.entry.now c.each_call_has_a_verdict.ensures.within c.requires place.0 at
+    stopped_before s (call_slots c.args.world.now) c.args.replica c.in-Some.at old c.in-Some-get.entry.now c.each_call_has_a_verdict.ensures.within c.requires place.0 at
     (entry_at s.entries c.deref.result.now c.position-position.result old.position c.in-Some-get.entry.now c.deref.ensures.value c.position-position.ensures lookup.3.0 lookup.1)
     (ap (λ (r : Replica). r.stopped) (same_item s.replicas c.in-Some.at old c.index-2.result.now at at_2) ∙ sym c.stopped.ensures ∙ c.if-stopped.true)
 
@@ -52,7 +52,7 @@ deliver-requires-clause-snapshot g c =
     let at_1 = get_is s.replicas c.in-Some.at c.index.result.now (omega arith) c.index.ensures in
     let same = same_item s.replicas c.in-Some.at c.index.result.now old at_1 at in
     let next = entry_at s.entries c.deref.result.now c.position-position.result old.position c.in-Some-get.entry.now c.deref.ensures.value (c.position-position.ensures ∙ ap (λ (r : Replica). r.position) same) lookup.3.0 lookup.1 in
-    (next_entry_fits s (slots_of c.args.world.now) c.in-Some.at old c.in-Some-get.entry.now c.requires at next).0
+    (next_entry_fits s (call_slots c.args.world.now) c.in-Some.at old c.in-Some-get.entry.now c.requires at next).0
 
 pub deliver-requires-clause-fit : goal.deliver-requires-clause-fit
 deliver-requires-clause-fit g c =
@@ -66,7 +66,7 @@ deliver-requires-clause-fit g c =
     let at_1 = get_is s.replicas c.in-Some.at c.index.result.now (omega arith) c.index.ensures in
     let same = same_item s.replicas c.in-Some.at c.index.result.now old at_1 at in
     let next = entry_at s.entries c.deref.result.now c.position-position.result old.position c.in-Some-get.entry.now c.deref.ensures.value (c.position-position.ensures ∙ ap (λ (r : Replica). r.position) same) lookup.3.0 lookup.1 in
-    let facts = next_entry_fits s (slots_of c.args.world.now) c.in-Some.at old c.in-Some-get.entry.now c.requires at next in
+    let facts = next_entry_fits s (call_slots c.args.world.now) c.in-Some.at old c.in-Some-get.entry.now c.requires at next in
     c.tables_take_the_schemas_writes.ensures.fit s.catalogue.tables old.versions c.in-Some-get.entry.now.writes facts.2 facts.1
 
 pub returns-in-Ok-clause-step : goal.returns-in-Ok-clause-step
@@ -93,7 +93,7 @@ returns-in-Ok-clause-step g c =
       tables = record { window = c.in-Ok.ensures.window; widths = c.in-Ok.ensures.widths; count = c.in-Ok.ensures.tables };
     } in
     subst (λ n. IsStep (setting_of s) (world_of s) (Deliver c.args.replica) (Delivered (n + 1) c.in-Ok.verdict) (world_of (with_one s c.in-Some.at new))) (sym position)
-    (delivered s (slots_of c.args.world.now) c.args.replica c.in-Some.at old new e c.in-Ok.verdict c.a_log_only_grows.ensures.rows c.a_log_only_grows.ensures.verdicts c.requires place.0 at next
+    (delivered s (call_slots c.args.world.now) c.args.replica c.in-Some.at old new e c.in-Ok.verdict c.a_log_only_grows.ensures.rows c.a_log_only_grows.ensures.verdicts c.requires place.0 at next
     (ap (λ (r : Replica). r.stopped) (same_item s.replicas c.in-Some.at old c.index-2.result.now at at_2) ∙ sym c.stopped.ensures ∙ c.if-stopped.false) d)
 
 pub returns-in-Ok-clause-consistent : goal.returns-in-Ok-clause-consistent
@@ -117,8 +117,8 @@ returns-in-Ok-clause-consistent g c =
       running = c.in-Ok.ensures.stopped;
       tables = record { window = c.in-Ok.ensures.window; widths = c.in-Ok.ensures.widths; count = c.in-Ok.ensures.tables };
     } in
-    one_changed s (slots_of c.args.world.now) c.in-Some.at new c.requires
-    (delivered_replica s (slots_of c.args.world.now) c.in-Some.at old new e c.in-Ok.verdict c.tables_take_the_schemas_writes.ensures.kept c.requires at next d)
+    one_changed s (call_slots c.args.world.now) c.in-Some.at new c.requires
+    (delivered_replica s (call_slots c.args.world.now) c.in-Some.at old new e c.in-Ok.verdict c.tables_take_the_schemas_writes.ensures.kept c.requires at next d)
     (c.steps_keep_a_world.ensures.step (setting_of s) (world_of s) (Deliver c.args.replica) _ (world_of (with_one s c.in-Some.at new)) tt (returns-in-Ok-clause-step g c) c.requires.world)
 
 pub returns-in-Err-clause-step : goal.returns-in-Err-clause-step
@@ -142,7 +142,7 @@ returns-in-Err-clause-step g c =
       stopped = c.in-Err.ensures.stopped;
       tables = record { window = c.in-Err.ensures.window; widths = c.in-Err.ensures.widths; count = c.in-Err.ensures.tables };
     } in
-    stops s (slots_of c.args.world.now) c.args.replica c.in-Some.at old new e c.each_call_has_a_verdict.ensures.within c.requires place.0 at next
+    stops s (call_slots c.args.world.now) c.args.replica c.in-Some.at old new e c.each_call_has_a_verdict.ensures.within c.requires place.0 at next
     (ap (λ (r : Replica). r.stopped) (same_item s.replicas c.in-Some.at old c.index-2.result.now at at_2) ∙ sym c.stopped.ensures ∙ c.if-stopped.false) d
 
 pub returns-in-Err-clause-consistent : goal.returns-in-Err-clause-consistent
@@ -160,6 +160,6 @@ returns-in-Err-clause-consistent g c =
       stopped = c.in-Err.ensures.stopped;
       tables = record { window = c.in-Err.ensures.window; widths = c.in-Err.ensures.widths; count = c.in-Err.ensures.tables };
     } in
-    one_changed s (slots_of c.args.world.now) c.in-Some.at new c.requires
-    (stopped_replica s (slots_of c.args.world.now) c.in-Some.at old new c.tables_take_the_schemas_writes.ensures.kept c.requires at d)
+    one_changed s (call_slots c.args.world.now) c.in-Some.at new c.requires
+    (stopped_replica s (call_slots c.args.world.now) c.in-Some.at old new c.tables_take_the_schemas_writes.ensures.kept c.requires at d)
     (c.steps_keep_a_world.ensures.step (setting_of s) (world_of s) (Deliver c.args.replica) _ (world_of (with_one s c.in-Some.at new)) tt (returns-in-Err-clause-step g c) c.requires.world)

@@ -9,7 +9,7 @@ use Rattle.world_calls.specs.OpenCall.{call_of, open_call_of, Follows, IsReplyOf
 use Rattle.world_calls.specs.declared.completion.Completion.TheVariants as completion
 use Rattle.world_calls.specs.declared.open_call.OpenCall.{OpenCall as OpenCallState}
 use Rattle.dsm_world.specs.System.{setting_of, world_of}
-use Rattle.dsm_world.specs.Holdings.{system_of, slots_of, IsTogether}
+use Rattle.dsm_world.specs.Holdings.{system_of, call_slots, IsTogether}
 use Rattle.dsm_world.proofs.Numbered.{get_lt}
 use Rattle.dsm_world.proofs.StepLemmas.{order_no_call}
 use Rattle.dsm_world.proofs.CallLemmas.{with_slots, no_call, slot_changed, open_facts, call_replica, map_count, set_count, put_back, early, cancelled, read, IsToAppend, with_entries, append_steps, appended_together}
@@ -19,11 +19,11 @@ pub returns-in_default-clause-step : goal.returns-in_default-clause-step
 returns-in_default-clause-step g c =
     let s = system_of c.args.world.now in
     subst (λ xs. IsStep (setting_of s) (world_of s) (Order c.args.call) _ (world_of (with_slots s (map (λ slot. option_map (λ b. b.value) slot) xs)))) (sym (c.in_default.ensures.unchanged refl))
-    (order_no_call (setting_of s) (world_of s) c.args.call (no_call s (slots_of c.args.world.now) c.args.call refl (c.in_default.ensures.none refl)))
+    (order_no_call (setting_of s) (world_of s) c.args.call (no_call s (call_slots c.args.world.now) c.args.call refl (c.in_default.ensures.none refl)))
 
 pub put_call-requires : goal.put_call-requires
 put_call-requires g c =
-    let old = slots_of c.args.world.now in
+    let old = call_slots c.args.world.now in
     let lt = get_lt old c.in-Some.at (Some c.in-Some.open_call.value) c.in-Some.ensures.stood in
     let taken = ap (λ (xs : List (Option (OpenCallState _))). length xs) c.in-Some.ensures.taken in
     let new = map_count (λ slot. option_map (λ b. b.value) slot) c.take_call.new.calls.items in
@@ -33,7 +33,7 @@ put_call-requires g c =
 pub returns-in_default-reply-clause-step : goal.returns-in_default-reply-clause-step
 returns-in_default-reply-clause-step g c =
     let s = system_of c.args.world.now in
-    let slots = slots_of c.args.world.now in
+    let slots = call_slots c.args.world.now in
     let o = c.in-Some.open_call.value in
     let f = open_facts s slots c.args.call c.in-Some.at o c.requires c.in-Some.ensures.place c.in-Some.ensures.stood in
     let put = c.put_call.ensures ∙ ap (λ xs. slice_set xs c.in-Some.at (Some o)) c.in-Some.ensures.taken ∙ put_back slots c.in-Some.at o c.in-Some.ensures.stood in
@@ -46,7 +46,7 @@ returns-in_default-reply-clause-step g c =
 pub returns-in_default-reply-clause-consistent : goal.returns-in_default-reply-clause-consistent
 returns-in_default-reply-clause-consistent g c =
     let s = system_of c.args.world.now in
-    let slots = slots_of c.args.world.now in
+    let slots = call_slots c.args.world.now in
     let o = c.in-Some.open_call.value in
     let put = c.put_call.ensures ∙ ap (λ xs. slice_set xs c.in-Some.at (Some o)) c.in-Some.ensures.taken ∙ put_back slots c.in-Some.at o c.in-Some.ensures.stood in
     subst (λ xs. IsTogether (with_slots s xs) xs) (sym put) c.requires
@@ -54,14 +54,14 @@ returns-in_default-reply-clause-consistent g c =
 pub overflow_sub-open_call : goal.overflow_sub-open_call
 overflow_sub-open_call g c =
     let s = system_of c.args.world.now in
-    let f = open_facts s (slots_of c.args.world.now) c.args.call c.in-Some.at c.in-Some.open_call.value c.requires c.in-Some.ensures.place c.in-Some.ensures.stood in
+    let f = open_facts s (call_slots c.args.world.now) c.args.call c.in-Some.at c.in-Some.open_call.value c.requires c.in-Some.ensures.place c.in-Some.ensures.stood in
     let place = ap (λ (x : OpenCallState _). x.replica) c.into_inner-open_call.ensures ∙ f.place in
     omega arith
 
 pub index-requires : goal.index-requires
 index-requires g c =
     let s = system_of c.args.world.now in
-    let f = open_facts s (slots_of c.args.world.now) c.args.call c.in-Some.at c.in-Some.open_call.value c.requires c.in-Some.ensures.place c.in-Some.ensures.stood in
+    let f = open_facts s (call_slots c.args.world.now) c.args.call c.in-Some.at c.in-Some.open_call.value c.requires c.in-Some.ensures.place c.in-Some.ensures.stood in
     let place = ap (λ (x : OpenCallState _). x.replica) c.into_inner-open_call.ensures ∙ f.place in
     let lt = get_lt s.replicas f.j f.r f.stands in
     omega arith
@@ -70,7 +70,7 @@ pub at-store-requires : goal.at-store-requires
 at-store-requires g c =
     let s = system_of c.args.world.now in
     let o = c.in-Some.open_call.value in
-    let f = open_facts s (slots_of c.args.world.now) c.args.call c.in-Some.at o c.requires c.in-Some.ensures.place c.in-Some.ensures.stood in
+    let f = open_facts s (call_slots c.args.world.now) c.args.call c.in-Some.at o c.requires c.in-Some.ensures.place c.in-Some.ensures.stood in
     let at = ap (λ (x : OpenCallState _). x.replica) c.into_inner-open_call.ensures in
     let place = f.place in
     let lt = get_lt s.replicas f.j f.r f.stands in
@@ -86,7 +86,7 @@ complete-requires g c = (c.in-Some-reply._reply, ap (λ (x : OpenCallState _). x
 pub returns-in-Cancelled-clause-step : goal.returns-in-Cancelled-clause-step
 returns-in-Cancelled-clause-step g c =
     let s = system_of c.args.world.now in
-    let slots = slots_of c.args.world.now in
+    let slots = call_slots c.args.world.now in
     let o = c.in-Some.open_call.value in
     let f = open_facts s slots c.args.call c.in-Some.at o c.requires c.in-Some.ensures.place c.in-Some.ensures.stood in
     let end = subst (λ (x : OpenCallState _). IsReplyOf (setting_of s) (calls_of s.entries) (open_call_of x) (Some c.in-Some-reply._reply)) c.deref.ensures
@@ -99,7 +99,7 @@ returns-in-Cancelled-clause-step g c =
 pub returns-in-Cancelled-clause-consistent : goal.returns-in-Cancelled-clause-consistent
 returns-in-Cancelled-clause-consistent g c =
     let s = system_of c.args.world.now in
-    let slots = slots_of c.args.world.now in
+    let slots = call_slots c.args.world.now in
     let world = c.steps_keep_a_world.ensures.step (setting_of s) (world_of s) (Order c.args.call) _ _ tt (returns-in-Cancelled-clause-step g c) c.requires.world in
     subst (λ xs. IsTogether (with_slots s xs) xs) (sym c.in-Some.ensures.taken)
     (slot_changed s slots c.in-Some.at None c.requires (λ d bad. absurd cc) (subst (λ xs. IsWorld (setting_of s) (world_of (with_slots s xs))) c.in-Some.ensures.taken world))
@@ -107,7 +107,7 @@ returns-in-Cancelled-clause-consistent g c =
 pub returns-in-Read-clause-step : goal.returns-in-Read-clause-step
 returns-in-Read-clause-step g c =
     let s = system_of c.args.world.now in
-    let slots = slots_of c.args.world.now in
+    let slots = call_slots c.args.world.now in
     let o = c.in-Some.open_call.value in
     let f = open_facts s slots c.args.call c.in-Some.at o c.requires c.in-Some.ensures.place c.in-Some.ensures.stood in
     let end = subst (λ (x : OpenCallState _). IsReplyOf (setting_of s) (calls_of s.entries) (open_call_of x) (Some c.in-Some-reply._reply)) c.deref.ensures
@@ -120,7 +120,7 @@ returns-in-Read-clause-step g c =
 pub returns-in-Read-clause-consistent : goal.returns-in-Read-clause-consistent
 returns-in-Read-clause-consistent g c =
     let s = system_of c.args.world.now in
-    let slots = slots_of c.args.world.now in
+    let slots = call_slots c.args.world.now in
     let world = c.steps_keep_a_world.ensures.step (setting_of s) (world_of s) (Order c.args.call) _ _ tt (returns-in-Read-clause-step g c) c.requires.world in
     subst (λ xs. IsTogether (with_slots s xs) xs) (sym c.in-Some.ensures.taken)
     (slot_changed s slots c.in-Some.at None c.requires (λ d bad. absurd cc) (subst (λ xs. IsWorld (setting_of s) (world_of (with_slots s xs))) c.in-Some.ensures.taken world))
@@ -128,7 +128,7 @@ returns-in-Read-clause-consistent g c =
 pub returns-in-Wrote-clause-step : goal.returns-in-Wrote-clause-step
 returns-in-Wrote-clause-step g c =
     let s = system_of c.args.world.now in
-    let slots = slots_of c.args.world.now in
+    let slots = call_slots c.args.world.now in
     let o = c.in-Some.open_call.value in
     let f = open_facts s slots c.args.call c.in-Some.at o c.requires c.in-Some.ensures.place c.in-Some.ensures.stood in
     let end = subst (λ (x : OpenCallState _). IsReplyOf (setting_of s) (calls_of s.entries) (open_call_of x) (Some c.in-Some-reply._reply)) c.deref.ensures
@@ -142,7 +142,7 @@ returns-in-Wrote-clause-step g c =
 pub returns-in-Wrote-clause-consistent : goal.returns-in-Wrote-clause-consistent
 returns-in-Wrote-clause-consistent g c =
     let s = system_of c.args.world.now in
-    let slots = slots_of c.args.world.now in
+    let slots = call_slots c.args.world.now in
     let o = c.in-Some.open_call.value in
     let f = open_facts s slots c.args.call c.in-Some.at o c.requires c.in-Some.ensures.place c.in-Some.ensures.stood in
     let end = subst (λ (x : OpenCallState _). IsReplyOf (setting_of s) (calls_of s.entries) (open_call_of x) (Some c.in-Some-reply._reply)) c.deref.ensures

@@ -7,7 +7,7 @@ use Rattle.dsm_model.specs.Entries.{Entry}
 use Rattle.dsm_model.specs.World.{Rebuild, IsStep}
 use Rattle.replica.specs.Replica.{Replica, StandsFor}
 use Rattle.dsm_world.specs.System.{setting_of, progress_of, world_of}
-use Rattle.dsm_world.specs.Holdings.{system_of, slots_of}
+use Rattle.dsm_world.specs.Holdings.{system_of, call_slots}
 use Rattle.dsm_world.proofs.Numbered.{set_same}
 use Rattle.dsm_world.proofs.StepLemmas.{rebuild_no_replica, rebuild_without_memory}
 use Rattle.dsm_world.proofs.ReplicaLemmas.{with_one, one_changed, rebuilt, rebuilt_replica, replica_at, get_is, no_replica}
@@ -45,8 +45,8 @@ returns-in-Ok-clause-consistent g c =
     let count = c.len.ensures in
     let lt = place.1 in
     let at = get_is s.replicas c.in-Some.at old (omega arith) c.index_mut.ensures.value in
-    one_changed s (slots_of c.args.world.now) c.in-Some.at new c.requires
-    (rebuilt_replica s (slots_of c.args.world.now) c.in-Some.at old new c.requires at (subst (λ (xs : List Entry). StandsFor new xs) c.deref.ensures.value c.in-Ok.ensures.stands) c.in-Ok.ensures.window c.in-Ok.ensures.tables)
+    one_changed s (call_slots c.args.world.now) c.in-Some.at new c.requires
+    (rebuilt_replica s (call_slots c.args.world.now) c.in-Some.at old new c.requires at (subst (λ (xs : List Entry). StandsFor new xs) c.deref.ensures.value c.in-Ok.ensures.stands) c.in-Ok.ensures.window c.in-Ok.ensures.tables)
     (c.steps_keep_a_world.ensures.step (setting_of s) (world_of s) (Rebuild c.args.replica) _ (world_of (with_one s c.in-Some.at new)) tt (returns-in-Ok-clause-step g c) c.requires.world)
 
 pub returns-in-Err-clause-step : goal.returns-in-Err-clause-step

@@ -11,7 +11,7 @@ use Rattle.world_calls.specs.OpenCall.{open_call_of, Follows, stays_open}
 use Rattle.world_calls.specs.declared.open_call.OpenCall.{OpenCall as OpenCallState}
 use Rattle.dsm_world.specs.System.{setting_of, world_of}
 use Rattle.dsm_world.specs.Turned.{outcome_of}
-use Rattle.dsm_world.specs.Holdings.{system_of, slots_of, IsTogether}
+use Rattle.dsm_world.specs.Holdings.{system_of, call_slots, IsTogether}
 use Rattle.dsm_world.proofs.Numbered.{get_lt, set_twice}
 use Rattle.dsm_world.proofs.StepLemmas.{turn_no_call}
 use Rattle.dsm_world.proofs.ReplicaLemmas.{unknown}
@@ -22,12 +22,12 @@ pub returns-in_default-clause-step : goal.returns-in_default-clause-step
 returns-in_default-clause-step g c =
     let s = system_of c.args.world.now in
     subst (λ xs. IsStep (setting_of s) (world_of s) (TurnStep c.args.call) _ (world_of (with_slots s (map (λ slot. option_map (λ b. b.value) slot) xs)))) (sym (c.in_default.ensures.unchanged refl))
-    (turn_no_call (setting_of s) (world_of s) c.args.call (no_call s (slots_of c.args.world.now) c.args.call refl (c.in_default.ensures.none refl)))
+    (turn_no_call (setting_of s) (world_of s) c.args.call (no_call s (call_slots c.args.world.now) c.args.call refl (c.in_default.ensures.none refl)))
 
 pub unreachable-requires : goal.unreachable-requires
 unreachable-requires g c =
     let s = system_of c.args.world.now in
-    let f = open_facts s (slots_of c.args.world.now) c.args.call c.in-Some.at c.in-Some.open_call.value c.requires c.in-Some.ensures.place c.in-Some.ensures.stood in
+    let f = open_facts s (call_slots c.args.world.now) c.args.call c.in-Some.at c.in-Some.open_call.value c.requires c.in-Some.ensures.place c.in-Some.ensures.stood in
     let none = unknown (accepted_of s.catalogue.tables) (by_number s.catalogue.procedures c.deref.result.now.procedure) c.in_default-by_number.ensures in
     let some = ap (λ (o : OpenCallState _). by_number s.catalogue.procedures o.procedure) c.deref.ensures ∙ f.follows.is_call.known in
     let bad = sym none ∙ some in
@@ -36,14 +36,14 @@ unreachable-requires g c =
 pub overflow_sub-deref : goal.overflow_sub-deref
 overflow_sub-deref g c =
     let s = system_of c.args.world.now in
-    let f = open_facts s (slots_of c.args.world.now) c.args.call c.in-Some.at c.in-Some.open_call.value c.requires c.in-Some.ensures.place c.in-Some.ensures.stood in
+    let f = open_facts s (call_slots c.args.world.now) c.args.call c.in-Some.at c.in-Some.open_call.value c.requires c.in-Some.ensures.place c.in-Some.ensures.stood in
     let place = ap (λ (o : OpenCallState _). o.replica) c.deref-2.ensures ∙ f.place in
     omega arith
 
 pub index-requires : goal.index-requires
 index-requires g c =
     let s = system_of c.args.world.now in
-    let f = open_facts s (slots_of c.args.world.now) c.args.call c.in-Some.at c.in-Some.open_call.value c.requires c.in-Some.ensures.place c.in-Some.ensures.stood in
+    let f = open_facts s (call_slots c.args.world.now) c.args.call c.in-Some.at c.in-Some.open_call.value c.requires c.in-Some.ensures.place c.in-Some.ensures.stood in
     let place = ap (λ (o : OpenCallState _). o.replica) c.deref-2.ensures ∙ f.place in
     let lt = get_lt s.replicas f.j f.r f.stands in
     omega arith
@@ -51,7 +51,7 @@ index-requires g c =
 pub at-store-requires : goal.at-store-requires
 at-store-requires g c =
     let s = system_of c.args.world.now in
-    let f = open_facts s (slots_of c.args.world.now) c.args.call c.in-Some.at c.in-Some.open_call.value c.requires c.in-Some.ensures.place c.in-Some.ensures.stood in
+    let f = open_facts s (call_slots c.args.world.now) c.args.call c.in-Some.at c.in-Some.open_call.value c.requires c.in-Some.ensures.place c.in-Some.ensures.stood in
     let at = ap (λ (o : OpenCallState _). o.replica) c.deref-2.ensures in
     let place = f.place in
     let lt = get_lt s.replicas f.j f.r f.stands in
@@ -64,7 +64,7 @@ at-store-requires g c =
 pub turn-answer-requires : goal.turn-answer-requires
 turn-answer-requires g c =
     let s = system_of c.args.world.now in
-    let slots = slots_of c.args.world.now in
+    let slots = call_slots c.args.world.now in
     let o = c.in-Some.open_call.value in
     let f = open_facts s slots c.args.call c.in-Some.at o c.requires c.in-Some.ensures.place c.in-Some.ensures.stood in
     let at = ap (λ (x : OpenCallState _). x.replica) c.deref-2.ensures in
@@ -82,7 +82,7 @@ turn-answer-requires g c =
 pub returns-then-not-stays_open-clause-step : goal.returns-then-not-stays_open-clause-step
 returns-then-not-stays_open-clause-step g c =
     let s = system_of c.args.world.now in
-    let slots = slots_of c.args.world.now in
+    let slots = call_slots c.args.world.now in
     let o = c.in-Some.open_call.value in
     let f = open_facts s slots c.args.call c.in-Some.at o c.requires c.in-Some.ensures.place c.in-Some.ensures.stood in
     let at = ap (λ (x : OpenCallState _). x.replica) c.deref-2.ensures in
@@ -104,7 +104,7 @@ returns-then-not-stays_open-clause-step g c =
 pub returns-then-not-stays_open-clause-consistent : goal.returns-then-not-stays_open-clause-consistent
 returns-then-not-stays_open-clause-consistent g c =
     let s = system_of c.args.world.now in
-    let slots = slots_of c.args.world.now in
+    let slots = call_slots c.args.world.now in
     let world = c.steps_keep_a_world.ensures.step (setting_of s) (world_of s) (TurnStep c.args.call) _ _ tt (returns-then-not-stays_open-clause-step g c) c.requires.world in
     subst (λ xs. IsTogether (with_slots s xs) xs) (sym c.in-Some.ensures.taken)
     (slot_changed s slots c.in-Some.at None c.requires (λ d bad. absurd cc) (subst (λ xs. IsWorld (setting_of s) (world_of (with_slots s xs))) c.in-Some.ensures.taken world))
@@ -112,7 +112,7 @@ returns-then-not-stays_open-clause-consistent g c =
 pub put_call-requires : goal.put_call-requires
 put_call-requires g c =
     let s = system_of c.args.world.now in
-    let old = slots_of c.args.world.now in
+    let old = call_slots c.args.world.now in
     let lt = get_lt old c.in-Some.at (Some c.in-Some.open_call.value) c.in-Some.ensures.stood in
     let taken = ap (λ (xs : List (Option (OpenCallState _))). length xs) c.in-Some.ensures.taken in
     let new = map_count (λ slot. option_map (λ b. b.value) slot) c.take_call.new.calls.items in
@@ -122,7 +122,7 @@ put_call-requires g c =
 pub returns-clause-step : goal.returns-clause-step
 returns-clause-step g c =
     let s = system_of c.args.world.now in
-    let slots = slots_of c.args.world.now in
+    let slots = call_slots c.args.world.now in
     let o = c.in-Some.open_call.value in
     let f = open_facts s slots c.args.call c.in-Some.at o c.requires c.in-Some.ensures.place c.in-Some.ensures.stood in
     let at = ap (λ (x : OpenCallState _). x.replica) c.deref-2.ensures in
@@ -145,7 +145,7 @@ returns-clause-step g c =
 pub returns-clause-consistent : goal.returns-clause-consistent
 returns-clause-consistent g c =
     let s = system_of c.args.world.now in
-    let slots = slots_of c.args.world.now in
+    let slots = call_slots c.args.world.now in
     let o = c.in-Some.open_call.value in
     let f = open_facts s slots c.args.call c.in-Some.at o c.requires c.in-Some.ensures.place c.in-Some.ensures.stood in
     let at = ap (λ (x : OpenCallState _). x.replica) c.deref-2.ensures in

@@ -1,7 +1,7 @@
 use Rattle.std.proofs.Common.{◌≡◌, map, take, Some}
-use Rattle.engines.specs.Number.{table_of}
+use Rattle.engines.specs.Number.{table_word}
 use Rattle.dsmdb.proofs.plan.read_tables.Given as goal
 
 -- the words so far are the tables so far
 abbrev pub invariant-loop-word : goal.invariant-loop-word
-invariant-loop-word l = map (λ w. table_of w.now) (take l.word-index l.words) ≡ map (λ t. Some t) l.tables.items
+invariant-loop-word l = map (λ w. table_word w.now) (take l.word-index l.words) ≡ map (λ t. Some t) l.tables.items

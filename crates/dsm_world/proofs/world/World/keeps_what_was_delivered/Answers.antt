@@ -5,7 +5,7 @@ use Rattle.dsm_model.specs.World.{numbered}
 use Rattle.replica.specs.Replica.{AreEntriesOf}
 use Rattle.catalogue.specs.Catalogue.{IsCatalogue}
 use Rattle.dsm_world.specs.System.{SystemWorld, setting_of, world_of, KeepsDelivered}
-use Rattle.dsm_world.specs.Holdings.{system_of, slots_of}
+use Rattle.dsm_world.specs.Holdings.{system_of, call_slots}
 use Rattle.dsm_world.proofs.RunLemmas.{keeps_delivered}
 use Rattle.dsm_world.proofs.world.World.keeps_what_was_delivered.Goals as goal
 
@@ -24,4 +24,4 @@ returns-clause-entries g c = subst (λ (s : SystemWorld). AreEntriesOf (setting_
 pub returns-clause-replicas : goal.returns-clause-replicas
 returns-clause-replicas g c n r =
     subst (λ (s : SystemWorld). numbered s.replicas n ≡ Some r → KeepsDelivered s r) c.self.view_is
-    (keeps_delivered (system_of c.self.inside.holdings) (slots_of c.self.inside.holdings) n r c.a_log_only_grows.ensures.rows c.replicas_follow_the_log.ensures.rows c.self.invariant)
+    (keeps_delivered (system_of c.self.inside.holdings) (call_slots c.self.inside.holdings) n r c.a_log_only_grows.ensures.rows c.replicas_follow_the_log.ensures.rows c.self.invariant)

@@ -22,7 +22,7 @@ faults_of (Faulty fault) = fault_line fault
 
 -- what is written to an output and to a writer for faults: something failed, and a beginning of the text was written; or
 -- the whole text was, with the ending's status, and for faults no more than the ending's line
-abbrev pub Told : Option (List ℕ) → Option (List ℕ) → Option (List ℕ) → Option (List ℕ) → ℕ → List ℕ → Ending → Type 0
-Told old new old_faults new_faults status text ending =
+abbrev pub Leaves : Option (List ℕ) → Option (List ℕ) → Option (List ℕ) → Option (List ℕ) → ℕ → List ℕ → Ending → Type 0
+Leaves old new old_faults new_faults status text ending =
     ((status ≡ FAILED) × AppendsBeginning old new text)
     ⊎ ((status ≡ status_of ending) × Appends old new text × AppendsBeginning old_faults new_faults (faults_of ending))
