@@ -4,8 +4,8 @@ ghost use Rattle.std.specs.Prelude.{◌≡◌, ℕ, Some};
 ghost use Rattle.bpf_code.specs.Program.{IsProgram};
 ghost use Rattle.schema.specs.Schema.{Tables, AreTables};
 ghost use Rattle.bpf_verify.specs.Flow.{IsAccepted};
-ghost use Rattle.dsm_model.specs.Log.{StoredProcedure, Setting, by_number};
-ghost use Rattle.dsm_model.specs.Fit.{IsSafe, HasSafeProcedures};
+ghost use Rattle.log_model.specs.Log.{StoredProcedure, Setting, by_number};
+ghost use Rattle.log_model.specs.Fit.{IsSafe, HasSafeProcedures};
 
 use acceptance::accepted_programs_never_go_wrong;
 

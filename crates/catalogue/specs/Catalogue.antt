@@ -5,7 +5,7 @@ use Rattle.std.specs.Str.{bytes_eq}
 use Rattle.bpf_code.specs.Program.{IsProgram}
 use Rattle.schema.specs.Schema.{Tables, AreTables}
 use Rattle.bpf_verify.specs.Flow.{Procedure, IsAccepted}
-use Rattle.dsm_model.specs.Log.{StoredProcedure, Catalogue}
+use Rattle.log_model.specs.Log.{StoredProcedure, Catalogue}
 use Rattle.catalogue.specs.Name.{is_name}
 
 pub record SystemCatalogue : Type 0 where

@@ -6,8 +6,8 @@ use Rattle.std.proofs.lemmas.List.{length-append, get_or-set_same, get_or-set_ot
 use Rattle.std.proofs.Math.Nat.{mod-lt}
 use Rattle.schema.specs.Rows.{Writes}
 use Rattle.sig_lanes.specs.Bits.{has_bit, signature_at}
-use Rattle.dsm_model.specs.declared.verdict.Verdict.{Verdict}
-use Rattle.dsm_model.specs.Log.{CertifiedCall, is_commit}
+use Rattle.log_model.specs.declared.verdict.Verdict.{Verdict}
+use Rattle.log_model.specs.Log.{CertifiedCall, is_commit}
 use Rattle.certify.specs.Kept.{PreparedCall, IsPreparedOf, ShareAlike, Ring, IsKept, Keeps}
 use Rattle.certify.proofs.ListLemmas.{get_one_more}
 use Rattle.certify.proofs.PlaceLemmas.{places_apart}

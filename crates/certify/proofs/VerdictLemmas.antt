@@ -8,9 +8,9 @@ use Rattle.std.proofs.lemmas.Bool.Decides.{nat_tests}
 use Rattle.schema.specs.declared.look.Look.{Look}
 use Rattle.schema.specs.Rows.{Key, Writes, shares_key}
 use Rattle.row_model.specs.Signature.{bit_of, looks_set_bit, writes_set_bit, shares_bit}
-use Rattle.dsm_model.specs.declared.verdict.Verdict.TheVariants.{Stale}
-use Rattle.dsm_model.specs.Log.{Call, CertifiedCall, is_commit, conflicts, first_conflict, unless_conflict, verdict_after}
-use Rattle.dsm_model.specs.Comparisons.{comparisons_from, comparisons_after}
+use Rattle.log_model.specs.declared.verdict.Verdict.TheVariants.{Stale}
+use Rattle.log_model.specs.Log.{Call, CertifiedCall, is_commit, conflicts, first_conflict, unless_conflict, verdict_after}
+use Rattle.log_model.specs.Comparisons.{comparisons_from, comparisons_after}
 use Rattle.certify.proofs.ListLemmas.{get_drop}
 use Rattle.certify.specs.declared.search.SearchResult.{SearchResult}
 use Rattle.certify.specs.Kept.{Ring, IsKept, Keeps, Memory, StandsFor}

@@ -5,7 +5,7 @@ use Rattle.schema.specs.declared.look.Look.{Look}
 use Rattle.schema.specs.Rows.{Writes, shares_key}
 use Rattle.row_model.specs.Signature.{writes_set_bit}
 use Rattle.sig_lanes.specs.Bits.{has_bit, signature_at}
-use Rattle.dsm_model.specs.Log.{CertifiedCall, is_commit}
+use Rattle.log_model.specs.Log.{CertifiedCall, is_commit}
 
 -- of one call, ready to be kept: its signature, and writes of its keys
 pub record PreparedCall : Type 0 where

@@ -1,15 +1,15 @@
 //! Verdicts on calls in the order of their delivery.
 
 ghost use Rattle.std.specs.Prelude.{◌≡◌, ◌+◌, ◌<◌, ◌≤◌, ◌^◌, ◌++◌, [], ◌∷◌, List, length, IfOk, IfSome};
-ghost use Rattle.dsm_model.specs.Log.{CertifiedCall, verdict_after};
-ghost use Rattle.dsm_model.specs.Comparisons.{comparisons_after};
+ghost use Rattle.log_model.specs.Log.{CertifiedCall, verdict_after};
+ghost use Rattle.log_model.specs.Comparisons.{comparisons_after};
 ghost use Rattle.certify.specs.Kept.{IsPreparedOf, StandsFor};
 
 use crate::prepared::{Prepared, prepared_of};
 use crate::ring::{empty_blocks, empty_writes, keep_in};
 use crate::search::find_verdict;
-use dsm_model::Verdict;
 use log_entry::Entry;
+use log_model::Verdict;
 use row_sets::WriteSet;
 use sig_lanes::Block;
 use std::alloc::{AllocError, Allocator, Global};

@@ -3,10 +3,10 @@
 ghost use Rattle.std.specs.Prelude.{◌≡◌, ◌≢◌, ◌/◌, ◌%◌, ◌<◌, ◌&&◌, ℕ, [], length, slice_index_or, slice_set, IfOk};
 ghost use Rattle.std.specs.Prelude.{List, ◌∷◌, ◌++◌};
 ghost use Rattle.sig_lanes.specs.Bits.{has_bit, signature_at};
-ghost use Rattle.dsm_model.specs.Log.{CertifiedCall, is_commit};
+ghost use Rattle.log_model.specs.Log.{CertifiedCall, is_commit};
 ghost use Rattle.certify.specs.Kept.{HasPlaces, IsPreparedOf, Keeps};
 
-use dsm_model::Verdict;
+use log_model::Verdict;
 use row_sets::WriteSet;
 use sig_lanes::{Block, Sig};
 use std::alloc::{AllocError, Allocator};

@@ -4,12 +4,12 @@ ghost use Rattle.std.specs.Prelude.{◌≡◌, ◌==◌, ◌↔◌, Bool, List, 
 ghost use Rattle.std.specs.Int.{bit_at};
 ghost use Rattle.row_model.specs.Signature.{looks_set_bit};
 ghost use Rattle.sig_lanes.specs.Bits.{has_bit};
-ghost use Rattle.dsm_model.specs.Log.{Call, CertifiedCall, verdict_after};
-ghost use Rattle.dsm_model.specs.Comparisons.{comparisons_after};
+ghost use Rattle.log_model.specs.Log.{Call, CertifiedCall, verdict_after};
+ghost use Rattle.log_model.specs.Comparisons.{comparisons_after};
 ghost use Rattle.certify.specs.Kept.{HasPlaces, StandsFor};
 ghost use Rattle.certify.specs.Search.{search, lane_met, kept_shares, Meets};
 
-use dsm_model::Verdict;
+use log_model::Verdict;
 use row_model::{sets_that_share_a_key_share_a_bit, shared_bits_are_of_both};
 use row_sets::{ReadSet, WriteSet, shares_key};
 use sig_lanes::{Block, Sig};

@@ -6,8 +6,8 @@ use Rattle.std.specs.FinMap.{find}
 use Rattle.schema.specs.Schema.{Tables}
 use Rattle.schema.specs.Rows.{Key, key_cmp, IsWrite}
 use Rattle.schema.proofs.RowsLemmas.{is_key, one_key}
-use Rattle.dsm_model.specs.Log.{IsLogFrom}
-use Rattle.dsm_model.specs.Entries.{Entry, calls_of}
+use Rattle.log_model.specs.Log.{IsLogFrom}
+use Rattle.log_model.specs.Entries.{Entry, calls_of}
 
 abbrev pub Write : Type 0
 Write = Key × Option (List ℕ)

@@ -4,8 +4,8 @@ ghost use Rattle.std.specs.Prelude.{◌≡◌};
 
 use crate::fit::{entries_fit, writes_fit};
 use catalogue::Catalogue;
-use dsm_model::Verdict;
 use log_entry::Entry;
+use log_model::Verdict;
 use replica::{Replica, Stopped, tables_take_the_schemas_writes};
 use std::alloc::{AllocError, Allocator, Global};
 use std::marker::Model;

@@ -2,8 +2,8 @@
 
 ghost use Rattle.std.specs.Prelude.{All, IsTrue};
 ghost use Rattle.schema.specs.Rows.{AreWrites, IsWrite};
-ghost use Rattle.dsm_model.specs.Log.{IsLog};
-ghost use Rattle.dsm_model.specs.Entries.{calls_of};
+ghost use Rattle.log_model.specs.Log.{IsLog};
+ghost use Rattle.log_model.specs.Entries.{calls_of};
 
 use log_entry::Entry;
 use row_sets::WriteSet;

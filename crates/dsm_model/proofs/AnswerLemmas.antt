@@ -2,13 +2,13 @@
 use Rattle.std.proofs.Common.{◌≡◌, inl, inr, ℕ, ◌+◌, Bool, true, false, not, List, length, nat_eq, nat_le, nat_lt, Option, Some, None, IsTrue, refl, sym, ap, ◌∙◌}
 use Rattle.std.specs.FinMap.{len}
 use Rattle.bpf_semantics.specs.Run.{Run}
-use Rattle.dsm_model.specs.declared.verdict.Verdict.{Verdict}
+use Rattle.log_model.specs.declared.verdict.Verdict.{Verdict}
 use Rattle.dsm_model.specs.declared.outcome.StepRefusal.TheVariants.{NoReplica, NoProcedure, ArgumentsLength, NoCall, NotAtExit, NothingToDeliver, ReplicaStopped, LogFull, OutOfMemory, TooManyCalls}
 use Rattle.dsm_model.specs.declared.outcome.Outcome.{Outcome}
 use Rattle.dsm_model.specs.declared.outcome.Outcome.TheVariants.{Begun, More, Exit, Stale, NoMemory, Ordered, Read, Cancelled, Delivered, Rebuilt, Refused}
-use Rattle.dsm_model.specs.Log.{StoredProcedure, Setting, Call, by_number, run_in, verdict_of}
+use Rattle.log_model.specs.Log.{StoredProcedure, Setting, Call, by_number, run_in, verdict_of}
 use Rattle.dsm_model.specs.World.{World, Replica, OpenCall, Step, Begin, Turn, Order, Deliver, Rebuild, max_calls, numbered, open_call, without_call, with_replica, with_begun, new_call, after_begin, is_stale, with_turns, after_turn, with_ordered, after_order_by_run, after_order, after_deliver_next, after_deliver, after_rebuild, after_step, with_stopped, after_refused_memory, after_step_without_memory, IsStep, is_answer}
-use Rattle.dsm_model.proofs.RunLemmas.{just}
+use Rattle.log_model.proofs.RunLemmas.{just}
 use Rattle.dsm_model.proofs.Cases.{Done, done, fst, either_if, begin_refused, order_refused, deliver_refused, rebuild_refused}
 use Rattle.dsm_model.proofs.StepLemmas.{turn_without}
 

@@ -1,12 +1,12 @@
 -- Each step lets the log grow, and leaves each open call's call, or ends it for good.
 use Rattle.std.proofs.Common.{◌≡◌, ℕ, zero, suc, ◌+◌, List, [], ◌∷◌, ◌++◌, slice_get, Option, Some, None, refl, sym, ap, subst, ◌∙◌, inl, inr, append_assoc, append-nil}
-use Rattle.dsm_model.specs.declared.verdict.Verdict.{Verdict}
+use Rattle.log_model.specs.declared.verdict.Verdict.{Verdict}
 use Rattle.dsm_model.specs.declared.outcome.Outcome.{Outcome}
 use Rattle.dsm_model.specs.declared.outcome.Outcome.TheVariants.{Delivered}
-use Rattle.dsm_model.specs.Log.{Setting, Call, Log, verdict_of}
+use Rattle.log_model.specs.Log.{Setting, Call, Log, verdict_of}
 use Rattle.dsm_model.specs.World.{World, Replica, OpenCall, Step, numbered, open_call, without_call, with_replica, with_begun, with_turns, with_ordered, IsStep, AreSteps}
-use Rattle.dsm_model.proofs.RunLemmas.{just}
-use Rattle.dsm_model.proofs.GrowthLemmas.{verdict_grown, verdict_within}
+use Rattle.log_model.proofs.RunLemmas.{just}
+use Rattle.log_model.proofs.GrowthLemmas.{verdict_grown, verdict_within}
 use Rattle.dsm_model.proofs.Numbered.{some_is, numbered_there, numbered_first, flat_is}
 use Rattle.dsm_model.proofs.Cases.{Case, Same, New, Over, Turned, Appended, Verdicted, Stop, Anew, step_case}
 

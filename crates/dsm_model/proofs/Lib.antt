@@ -1,25 +1,9 @@
-mod Laid
-mod LaidLemmas
-mod RunLemmas
-mod VerdictLemmas
-mod HistoryLemmas
-mod CallLemmas
-mod GrowthLemmas
-mod MeaningLemmas
-mod SerialLemmas
-mod ComparisonLemmas
-mod EntryLemmas
-mod Numbered
-mod Cases
-mod StepLemmas
-mod AnswerLemmas
-mod PartLemmas
+pub mod Numbered
+pub mod Cases
+pub mod StepLemmas
+pub mod AnswerLemmas
 mod NextLemmas
-mod TurnLemmas
-mod WorldLemmas
-mod SoundLemmas
-mod LeadLemmas
-mod RefusalLemmas
+pub mod WorldLemmas
+pub mod SoundLemmas
+pub mod LeadLemmas
 mod ReplyLemmas
-mod AgreeLemmas
-mod ContentsLemmas

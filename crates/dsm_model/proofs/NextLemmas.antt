@@ -15,11 +15,11 @@ use Rattle.bpf_semantics.specs.Run.{moment, next_moment}
 use Rattle.bpf_semantics.specs.Agree.{looks_of}
 use Rattle.bpf_semantics.proofs.RunLemmas.{exit_is, step_runs, going_runs, ended_runs}
 use Rattle.bpf_semantics.proofs.LookLemmas.{execute_looks}
-use Rattle.dsm_model.specs.Log.{StoredProcedure, Setting, Call, Log, by_number}
-use Rattle.dsm_model.specs.Fit.{HasSafeProcedures}
-use Rattle.dsm_model.specs.World.{World, OpenCall, open_call, moment_at, makes_look, is_row_helper, calls_row_helper, at_row_helper}
+use Rattle.log_model.specs.Log.{StoredProcedure, Setting, Call, Log, by_number, moment_at}
+use Rattle.log_model.specs.Fit.{HasSafeProcedures}
+use Rattle.dsm_model.specs.World.{World, OpenCall, open_call, makes_look, is_row_helper, calls_row_helper, at_row_helper}
 use Rattle.dsm_model.specs.Sound.{IsWorld, IsSound}
-use Rattle.dsm_model.proofs.RunLemmas.{just}
+use Rattle.log_model.proofs.RunLemmas.{just}
 use Rattle.dsm_model.proofs.SoundLemmas.{at_procedure, open_sound}
 
 -- ---- looks

@@ -2,19 +2,19 @@
 use Rattle.std.proofs.Common.{◌≡◌, inl, inr, ℕ, zero, suc, ◌+◌, ◌≤◌, ◌<◌, List, [], ◌∷◌, ◌++◌, length, slice_get, Option, Some, None, refl, sym, ap, subst, ◌∙◌, arith}
 use Rattle.std.specs.List.{AllByRecursion}
 use Rattle.bpf_semantics.specs.Run.{Run}
-use Rattle.dsm_model.specs.declared.verdict.Verdict.TheVariants.{Commit}
+use Rattle.log_model.specs.declared.verdict.Verdict.TheVariants.{Commit}
 use Rattle.dsm_model.specs.declared.outcome.Outcome.{Outcome}
 use Rattle.dsm_model.specs.declared.outcome.Outcome.TheVariants.{Exit, Ordered}
-use Rattle.dsm_model.specs.Log.{Setting, Call, Log, run_in, verdict_of}
-use Rattle.dsm_model.specs.Fit.{HasSafeProcedures}
+use Rattle.log_model.specs.Log.{Setting, Call, Log, run_in, verdict_of}
+use Rattle.log_model.specs.Fit.{HasSafeProcedures}
 use Rattle.dsm_model.specs.World.{World, OpenCall, Step, Turn, Order, numbered, flatten, open_call, IsStep, AreSteps}
 use Rattle.dsm_model.specs.Sound.{HasByteArguments, IsWorld, IsSerialReply}
-use Rattle.dsm_model.proofs.RunLemmas.{just}
-use Rattle.dsm_model.proofs.CallLemmas.{serial_run}
-use Rattle.dsm_model.proofs.GrowthLemmas.{get_before}
+use Rattle.log_model.proofs.GrowthLemmas.{run_grown, get_before}
+use Rattle.log_model.proofs.RunLemmas.{just}
+use Rattle.log_model.proofs.CallLemmas.{serial_run}
 use Rattle.dsm_model.proofs.Numbered.{some_is, flat_is, get_last}
 use Rattle.dsm_model.proofs.Cases.{Case, Same, New, Over, Turned, Appended, Verdicted, Stop, Anew, step_case}
-use Rattle.dsm_model.proofs.WorldLemmas.{begun_within, run_grown, step_keeps, steps_keep}
+use Rattle.dsm_model.proofs.WorldLemmas.{begun_within, step_keeps, steps_keep}
 use Rattle.dsm_model.proofs.LeadLemmas.{Follows, Leads, step_leads, log_grows}
 
 -- it is over, or goes on, with this as its run's reply

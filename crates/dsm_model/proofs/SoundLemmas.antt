@@ -6,12 +6,12 @@ use Rattle.bpf_semantics.specs.Step.{Going, Ended, Stuck}
 use Rattle.bpf_semantics.specs.Run.{moment}
 use Rattle.bpf_semantics.specs.Path.{longest_path}
 use Rattle.bpf_semantics.proofs.MomentLemmas.{before_its_length, from_its_length_on}
-use Rattle.dsm_model.specs.Log.{StoredProcedure, Setting, Call, Log, by_number, rows_after, run_in}
-use Rattle.dsm_model.specs.Fit.{HasSafeProcedures, IsCall}
-use Rattle.dsm_model.specs.World.{World, OpenCall, open_call, moment_of, moment_at}
+use Rattle.log_model.specs.Log.{StoredProcedure, Setting, Call, Log, by_number, rows_after, run_in, moment_of, moment_at}
+use Rattle.log_model.specs.Fit.{HasSafeProcedures, IsCall}
+use Rattle.dsm_model.specs.World.{World, OpenCall, open_call}
 use Rattle.dsm_model.specs.Sound.{IsOpenCall, IsWorld, IsSound}
-use Rattle.dsm_model.proofs.RunLemmas.{just, HasRun, has_run}
-use Rattle.dsm_model.proofs.GrowthLemmas.{rows_fit}
+use Rattle.log_model.proofs.RunLemmas.{just, HasRun, has_run}
+use Rattle.log_model.proofs.GrowthLemmas.{rows_fit}
 use Rattle.dsm_model.proofs.WorldLemmas.{begun_within}
 
 pub at_procedure : (w : Setting) (log : Log) (call : Call) (p : StoredProcedure) (k : ℕ) → by_number w.catalogue call.procedure ≡ just p → moment_at w log call k ≡ moment p.program w.tables k (entry_state call.args (rows_after w log call.snapshot))

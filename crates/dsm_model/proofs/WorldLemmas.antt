@@ -2,14 +2,13 @@
 use Rattle.std.proofs.Common.{◌≡◌, inl, inr, ℕ, zero, suc, ◌+◌, ◌≤◌, ◌<◌, List, [], ◌∷◌, ◌++◌, length, true, false, Option, None, All, refl, sym, ap, subst, ◌∙◌, arith}
 use Rattle.std.specs.List.{AllByRecursion}
 use Rattle.std.proofs.lemmas.List.{length-append}
-use Rattle.schema.specs.Rows.{Rows}
 use Rattle.bpf_semantics.specs.Run.{Run}
 use Rattle.dsm_model.specs.declared.outcome.Outcome.{Outcome}
-use Rattle.dsm_model.specs.Log.{Setting, Call, Log, run_of_call, run_in, verdict_of}
+use Rattle.log_model.specs.Log.{Setting, Call, run_in, verdict_of}
 use Rattle.dsm_model.specs.World.{World, Replica, OpenCall, Step, Begin, max_calls, numbered, with_numbered, flatten, open_call, without_call, with_replica, with_begun, new_call, with_turns, with_ordered, first_world, IsStep, AreSteps}
 use Rattle.dsm_model.specs.Sound.{HasByteArguments, IsOpenCall, open_count, IsWorld}
-use Rattle.dsm_model.proofs.RunLemmas.{just}
-use Rattle.dsm_model.proofs.GrowthLemmas.{rows_grown, is_log_snoc, are_calls_snoc, verdict_within}
+use Rattle.log_model.proofs.GrowthLemmas.{run_grown, is_log_snoc, are_calls_snoc, verdict_within}
+use Rattle.log_model.proofs.RunLemmas.{just}
 use Rattle.dsm_model.proofs.Numbered.{some_is, numbered_set, numbered_there, numbered_one_more, flat_is, numbered_replicate, length_numbered, numbered_count, numbered_none, count_one_more}
 use Rattle.dsm_model.proofs.Cases.{Case, Same, New, Over, Turned, Appended, Verdicted, Stop, Anew, step_case}
 
@@ -83,10 +82,6 @@ begun_keeps w world r call number now fewer is =
           let same = some_is (record { replica = r; call = call; turns = 0 }) q new.0 in
           (subst (IsOpenCall w world) same now, ap (λ (x : OpenCall). x.call.number) (sym same) ∙ number ∙ sym new.1)
     ])
-
--- the run of a call stays as the log grows
-pub run_grown : (w : Setting) (log more : Log) (call : Call) → call.snapshot ≤ length log → run_in w (log ++ more) call ≡ run_in w log call
-run_grown w log more call le = ap (λ (rows : Rows). run_of_call w call rows) (rows_grown w log more call.snapshot le)
 
 -- one more ordered, in place of one that was open
 ordered_keeps : (w : Setting) (world : World) (c : ℕ) (o : OpenCall) → open_call world c ≡ just o → IsWorld w world → IsWorld w (with_ordered world c o.call)

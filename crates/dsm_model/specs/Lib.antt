@@ -1,8 +1,2 @@
-pub mod Log
-pub mod Verdicts
-pub mod Comparisons
-pub mod Fit
-pub mod Entries
-pub mod Contents
 pub mod World
 pub mod Sound

@@ -1,11 +1,11 @@
 -- What is known of every world that steps lead to.
-use Rattle.std.specs.Prelude.{◌≡◌, ◌≢◌, ◌⊎◌, ℕ, suc, ◌+◌, ◌<◌, ◌≤◌, List, [], ◌∷◌, ◌++◌, length, take, slice_get, All, Option, Some, None, ◌==◌, if◌then◌else◌}
+use Rattle.std.specs.Prelude.{◌≡◌, ◌≢◌, ◌⊎◌, ℕ, suc, ◌+◌, ◌<◌, ◌≤◌, List, [], ◌∷◌, length, slice_get, All, Option, Some, None}
 use Rattle.bpf_semantics.specs.State.{State}
 use Rattle.bpf_semantics.specs.Step.{Going, Ended, Stuck}
 use Rattle.bpf_semantics.specs.Path.{longest_path}
-use Rattle.dsm_model.specs.Log.{Setting, Call, Log, IsLog, rows_after, run_of_call, run_in}
-use Rattle.dsm_model.specs.Fit.{IsCall, AreCalls}
-use Rattle.dsm_model.specs.World.{World, Replica, OpenCall, Step, Begin, Turn, max_calls, numbered, open_call, moment_at}
+use Rattle.log_model.specs.Log.{Setting, Call, Log, IsLog, rows_after, run_of_call, run_in, moment_at}
+use Rattle.log_model.specs.Fit.{IsCall, AreCalls}
+use Rattle.dsm_model.specs.World.{World, Replica, OpenCall, Step, Begin, max_calls, numbered, open_call}
 
 -- arguments are bytes
 abbrev pub HasByteArguments : Step → Type 0
@@ -46,14 +46,6 @@ pub record IsSound (w : Setting) (log : Log) (o : OpenCall) : Type 0 where
   pub end : State
   pub ends : moment_at w log o.call (longest_path is_call.procedure.program) ≡ Ended (run_in w log o.call).reply end
 
--- how many turns of a call there are among steps
-abbrev pub turns_of : ℕ → List Step → ℕ
-turns_of c [] = 0
-turns_of c (Turn d ∷ steps) = (if d == c then 1 else 0) + turns_of c steps
-turns_of c (_ ∷ steps) = turns_of c steps
-
--- ---- replies and agreement
-
 -- the call at this position has this reply where it runs on the rows just before it
 pub record IsSerialReply (w : Setting) (log : Log) (position reply : ℕ) : Type 0 where
   pub before : ℕ
@@ -61,11 +53,3 @@ pub record IsSerialReply (w : Setting) (log : Log) (position reply : ℕ) : Type
   pub call : Call
   pub stands : slice_get log before ≡ Some call
   pub serial : (run_of_call w call (rows_after w log before)).reply ≡ reply
-
--- what a replica has delivered
-abbrev pub delivered_calls : Log → Replica → Log
-delivered_calls log replica = take replica.position log
-
--- the second list begins with the first
-abbrev pub IsPrefix : Log → Log → Type 0
-IsPrefix first all = (more : Log) × (all ≡ first ++ more)

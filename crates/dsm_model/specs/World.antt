@@ -5,18 +5,16 @@ use Rattle.bpf_code.specs.declared.instruction.Instruction.{Instruction}
 use Rattle.bpf_code.specs.declared.instruction.Instruction.TheVariants.{Call as CallInstruction}
 use Rattle.bpf_code.specs.Program.{instruction_at}
 use Rattle.schema.specs.Helper.{helper_of}
-use Rattle.schema.specs.Rows.{Rows}
 use Rattle.schema.specs.declared.helper.Helper.{Helper}
 use Rattle.schema.specs.declared.helper.Helper.TheVariants.{Cancel}
-use Rattle.bpf_semantics.specs.State.{entry_state}
-use Rattle.bpf_semantics.specs.Step.{Moment, Going, Stuck}
-use Rattle.bpf_semantics.specs.Run.{Run, moment}
+use Rattle.bpf_semantics.specs.Step.{Moment, Going}
+use Rattle.bpf_semantics.specs.Run.{Run}
 use Rattle.bpf_semantics.specs.Agree.{looks_of}
-use Rattle.dsm_model.specs.declared.verdict.Verdict.{Verdict}
+use Rattle.log_model.specs.declared.verdict.Verdict.{Verdict}
 use Rattle.dsm_model.specs.declared.outcome.StepRefusal.TheVariants.{NoReplica, NoProcedure, ArgumentsLength, NoCall, NotAtExit, NothingToDeliver, ReplicaStopped, LogFull, OutOfMemory, TooManyCalls}
 use Rattle.dsm_model.specs.declared.outcome.Outcome.{Outcome}
 use Rattle.dsm_model.specs.declared.outcome.Outcome.TheVariants.{Begun, More, Exit, Stale, NoMemory, Ordered, Read, Cancelled, Delivered, Rebuilt, Refused}
-use Rattle.dsm_model.specs.Log.{StoredProcedure, Setting, Call, Log, by_number, rows_after, run_in, verdict_of}
+use Rattle.log_model.specs.Log.{StoredProcedure, Setting, Call, Log, by_number, moment_at, run_in, verdict_of}
 
 -- how far it has delivered the log, and whether it goes on delivering
 pub record Replica : Type 0 where
@@ -96,14 +94,6 @@ after_begin world r procedure args (Some replica) (Some p) =
     else (Begun (length world.calls + 1) replica.position, with_begun world r (new_call world procedure args replica.position))
 
 -- ---- Turn
-
-abbrev pub moment_of : Setting → Option StoredProcedure → List ℕ → Rows → ℕ → Moment
-moment_of w None args rows k = Stuck
-moment_of w (Some p) args rows k = moment p.program w.tables k (entry_state args rows)
-
--- where a call is after so many instructions, on the rows of its snapshot
-unfoldable pub moment_at : Setting → Log → Call → ℕ → Moment
-moment_at w log call k = moment_of w (by_number w.catalogue call.procedure) call.args (rows_after w log call.snapshot) k
 
 -- whether the next instruction looks at rows
 abbrev pub makes_look : Setting → Log → OpenCall → Bool

@@ -1,5 +1,5 @@
 //! What a step of the world answers.
-use crate::verdict::Verdict;
+use log_model::Verdict;
 
 /// Why a step was refused, in the order of their printed numbers.
 #[derive(Clone, Copy, Debug, PartialEq, Eq)]

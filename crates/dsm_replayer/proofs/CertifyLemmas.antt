@@ -4,9 +4,9 @@ use Rattle.std.proofs.lemmas.List.{drop_all}
 use Rattle.std.proofs.Math.Seq.{drop-cons}
 use Rattle.std.proofs.lemmas.Bool.{cases_lt}
 use Rattle.schema.specs.declared.look.Look.{Look}
-use Rattle.dsm_model.specs.declared.verdict.Verdict.TheVariants.{Stale}
-use Rattle.dsm_model.specs.Log.{CertifiedCall, Call, conflicts, first_conflict, unless_conflict, verdict_after}
-use Rattle.dsm_model.specs.Comparisons.{comparisons_from, comparisons_after}
+use Rattle.log_model.specs.declared.verdict.Verdict.TheVariants.{Stale}
+use Rattle.log_model.specs.Log.{CertifiedCall, Call, conflicts, first_conflict, unless_conflict, verdict_after}
+use Rattle.log_model.specs.Comparisons.{comparisons_from, comparisons_after}
 use Rattle.plain_log.specs.Report.{Report}
 use Rattle.dsm_replayer.specs.Replay.{certified_call, comparison_at}
 

@@ -9,9 +9,9 @@ use Rattle.std.proofs.Math.Seq.{take-length, take-suc}
 use Rattle.schema.specs.declared.look.Look.{Look}
 use Rattle.schema.specs.Rows.{Rows}
 use Rattle.bpf_semantics.specs.Run.{Run}
-use Rattle.dsm_model.specs.declared.verdict.Verdict.{Verdict}
-use Rattle.dsm_model.specs.Log.{Setting, Call, Log, IsLogFrom, IsLog, by_number, or_idle, run_of_procedure, run_of_call, CertifiedCall, verdict_after, History, start, if_commits, with_call, history}
-use Rattle.dsm_model.specs.Comparisons.{comparisons_after}
+use Rattle.log_model.specs.declared.verdict.Verdict.{Verdict}
+use Rattle.log_model.specs.Log.{Setting, Call, Log, IsLogFrom, IsLog, by_number, or_idle, run_of_procedure, run_of_call, CertifiedCall, verdict_after, History, start, if_commits, with_call, history}
+use Rattle.log_model.specs.Comparisons.{comparisons_after}
 use Rattle.plain_log.specs.Report.{Report, report_by_run}
 use Rattle.dsm_replayer.specs.Replay.{IsReportOf, certified_call, report_of_run, report_after, rows_after_next}
 use Rattle.dsm_replayer.proofs.CertifyLemmas.{length_map}

@@ -5,10 +5,10 @@ use Rattle.schema.specs.declared.look.Look.{Look}
 use Rattle.schema.specs.Rows.{Rows, Writes}
 use Rattle.bpf_semantics.specs.Run.{Run}
 use Rattle.row_model.specs.Signature.{shares_bit}
-use Rattle.dsm_model.specs.declared.verdict.Verdict.{Verdict}
+use Rattle.log_model.specs.declared.verdict.Verdict.{Verdict}
 use Rattle.plain_log.specs.Report.{Report, report_by_run}
-use Rattle.dsm_model.specs.Log.{Setting, Call, Log, or_idle, run_of_call, CertifiedCall, is_commit, verdict_after, if_commits, verdict_of, run_in}
-use Rattle.dsm_model.specs.Comparisons.{comparisons_after, comparisons_of}
+use Rattle.log_model.specs.Log.{Setting, Call, Log, or_idle, run_of_call, CertifiedCall, is_commit, verdict_after, if_commits, verdict_of, run_in}
+use Rattle.log_model.specs.Comparisons.{comparisons_after, comparisons_of}
 
 -- of each call, and the rows before the first and after each
 pub record Replay : Type 0 where

@@ -1,12 +1,12 @@
 //! Verdicts and comparisons, by what became of the calls before.
 
 ghost use Rattle.std.specs.Prelude.{◌≡◌, ◌+◌, ◌-◌, ◌<◌, ◌≤◌, ◌^◌, length, map, drop, nat_le, ◌++◌, IfOk, OnOk};
-ghost use Rattle.dsm_model.specs.Log.{is_commit, conflicts, first_conflict, unless_conflict, verdict_after};
-ghost use Rattle.dsm_model.specs.Comparisons.{comparisons_from, comparisons_after};
+ghost use Rattle.log_model.specs.Log.{is_commit, conflicts, first_conflict, unless_conflict, verdict_after};
+ghost use Rattle.log_model.specs.Comparisons.{comparisons_from, comparisons_after};
 ghost use Rattle.dsm_replayer.specs.Replay.{certified_call, comparison_at};
 
 use crate::bits::{shares_bit, shares_key};
-use dsm_model::Verdict;
+use log_model::Verdict;
 use plain_log::{CallReport, PlainCall};
 use schema::Look;
 use std::alloc::{AllocError, Allocator};

@@ -1,4 +1,4 @@
-//! A plain replayer of logs: it computes what `dsm_model` defines, slow and plain on purpose.
+//! A plain replayer of logs: it computes what `log_model` defines, slow and plain on purpose.
 //!
 //! Begin with `replay_log` in `replay.rt`. The functions below it have each a definition of the log as their
 //! contract.

@@ -3,12 +3,12 @@
 ghost use Rattle.std.specs.Prelude.{◌≡◌, ◌<◌, ◌^◌, ℕ, length, map, slice_get, slice_index_or, option_map, Some, [], ◌∷◌, ◌++◌, IfOk, OnOk};
 ghost use Rattle.std.specs.FinMap.{empty, entries};
 ghost use Rattle.plain_rows.specs.Listed.{rows_of};
-ghost use Rattle.dsm_model.specs.Log.{Call, IsLog, by_number, or_idle, run_of_procedure, run_of_call, if_commits, history};
+ghost use Rattle.log_model.specs.Log.{Call, IsLog, by_number, or_idle, run_of_procedure, run_of_call, if_commits, history};
 ghost use Rattle.plain_log.specs.Report.{Report};
 ghost use Rattle.dsm_replayer.specs.Replay.{IsReportOf, certified_call, report_after, rows_after_next};
 
 use crate::certify::{comparisons_after, verdict_after};
-use dsm_model::Verdict;
+use log_model::Verdict;
 use plain_log::{CallReport, PlainCall, PlainSetting, RowList, looks_of, rows_at};
 use plain_rows::Row;
 use plain_runner::{CompletedRun, run_program};
@@ -135,7 +135,7 @@ fn report_after<A: Allocator + Copy, B: Allocator, C: Allocator>(
 }
 
 /// The rows after a call, by its verdict: where it commits it runs once more, on the rows now.
-#[tactic(auto, unfolding(dsm_model::specs::Log::run_of_call))]
+#[tactic(auto, unfolding(log_model::specs::Log::run_of_call))]
 fn rows_after<A: Allocator + Copy, B: Allocator, C: Allocator>(
     alloc: A,
     setting: &PlainSetting<B>,

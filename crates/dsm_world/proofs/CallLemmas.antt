@@ -8,9 +8,9 @@ use Rattle.bpf_vm.specs.declared.turn.Turn.{Turn as TurnAnswer}
 use Rattle.dsm_model.specs.declared.outcome.StepRefusal.TheVariants.{NoReplica, NoProcedure, ArgumentsLength, NoCall, NotAtExit, NothingToDeliver, ReplicaStopped, LogFull, OutOfMemory, TooManyCalls}
 use Rattle.dsm_model.specs.declared.outcome.Outcome.{Outcome}
 use Rattle.dsm_model.specs.declared.outcome.Outcome.TheVariants.{Begun, More, Exit, Stale, NoMemory, Ordered, Read, Cancelled, Delivered, Rebuilt, Refused}
-use Rattle.dsm_model.specs.Log.{StoredProcedure, Setting, Call, Log, IsLog, by_number, rows_after, run_in}
-use Rattle.dsm_model.specs.Fit.{HasSafeProcedures, AreCalls, IsCall}
-use Rattle.dsm_model.specs.Entries.{Entry, calls_of, CarryRuns, CarriesRun, certified_calls_of, installed_from}
+use Rattle.log_model.specs.Log.{StoredProcedure, Setting, Call, Log, IsLog, by_number, rows_after, run_in}
+use Rattle.log_model.specs.Fit.{HasSafeProcedures, AreCalls, IsCall}
+use Rattle.log_model.specs.Entries.{Entry, calls_of, CarryRuns, CarriesRun, certified_calls_of, installed_from}
 use Rattle.dsm_model.specs.World as model
 use Rattle.dsm_model.specs.World.{World, OpenCall, Step, Begin, Turn, Order, numbered, with_numbered, flatten, open_call, with_open_call, without_call, with_ordered, with_begun, new_call, position_of, max_calls, IsStep}
 use Rattle.dsm_model.specs.Sound.{IsWorld}

@@ -2,9 +2,9 @@
 use Rattle.std.proofs.Common.{◌≡◌, ℕ, zero, suc, ◌+◌, ◌≤◌, List, [], ◌∷◌, ◌++◌, length, take, drop, slice_get, Some, refl, sym, ap, subst, ◌∙◌, arith}
 use Rattle.std.specs.List.{AllByRecursion}
 use Rattle.schema.specs.Rows.{Rows, AreRows}
-use Rattle.dsm_model.specs.Log.{Setting, Call, Log, IsLog, IsLogFrom, rows_after, run_in, run_of_call}
-use Rattle.dsm_model.specs.Fit.{IsCall, AreCalls}
-use Rattle.dsm_model.specs.Entries.{Entry, calls_of, CarriesRun, CarryRuns}
+use Rattle.log_model.specs.Log.{Setting, Call, Log, IsLog, IsLogFrom, rows_after, run_in, run_of_call}
+use Rattle.log_model.specs.Fit.{IsCall, AreCalls}
+use Rattle.log_model.specs.Entries.{Entry, calls_of, CarriesRun, CarryRuns}
 use Rattle.replica.specs.Replica.{AreEntriesOf}
 use Rattle.bpf_vm.specs.Run.{own_effects}
 use Rattle.catalogue.specs.Catalogue.{accepted_of}

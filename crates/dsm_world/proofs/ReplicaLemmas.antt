@@ -6,12 +6,12 @@ use Rattle.schema.specs.Rows.{AreWrites}
 use Rattle.key_table.specs.Table.{Table}
 use Rattle.rows_mv.specs.Versions.{HaveTables, width_of}
 use Rattle.replica.specs.Replica.{Replica, StandsFor, AreEntriesOf}
-use Rattle.dsm_model.specs.declared.verdict.Verdict.{Verdict}
+use Rattle.log_model.specs.declared.verdict.Verdict.{Verdict}
 use Rattle.dsm_model.specs.declared.outcome.StepRefusal.TheVariants.{NothingToDeliver, ReplicaStopped, OutOfMemory}
 use Rattle.dsm_model.specs.declared.outcome.Outcome.{Outcome}
 use Rattle.dsm_model.specs.declared.outcome.Outcome.TheVariants.{Delivered, Rebuilt, Refused}
-use Rattle.dsm_model.specs.Log.{Setting, Log, verdict_of}
-use Rattle.dsm_model.specs.Entries.{Entry, calls_of}
+use Rattle.log_model.specs.Log.{Setting, Log, verdict_of}
+use Rattle.log_model.specs.Entries.{Entry, calls_of}
 use Rattle.dsm_model.specs.World as model
 use Rattle.dsm_model.specs.World.{World, Step, Deliver, Rebuild, numbered, with_replica, max_calls, IsStep}
 use Rattle.dsm_model.specs.Sound.{HasByteArguments, IsWorld}

@@ -4,10 +4,10 @@ use Rattle.schema.specs.Schema.{Tables}
 use Rattle.rows_mv.specs.Versions.{AnswersFrom, HaveTables}
 use Rattle.replica.specs.Replica.{Replica, StandsFor, AreEntriesOf}
 use Rattle.dsm_model.specs.declared.outcome.Outcome.{Outcome}
-use Rattle.dsm_model.specs.Log.{Setting, Log, rows_after}
-use Rattle.dsm_model.specs.Entries.{Entry, calls_of}
+use Rattle.log_model.specs.Log.{Setting, Log, rows_after}
+use Rattle.log_model.specs.Entries.{Entry, calls_of}
 use Rattle.catalogue.specs.Catalogue.{SystemCatalogue}
-use Rattle.dsm_model.specs.Fit.{HasSafeProcedures}
+use Rattle.log_model.specs.Fit.{HasSafeProcedures}
 use Rattle.dsm_model.specs.World.{World, Replica as ModelReplica, Step, first_world, numbered, IsStep, AreSteps}
 use Rattle.world_calls.specs.declared.open_call.OpenCall.{OpenCall as OpenCallState}
 use Rattle.std.specs.List.{AllByRecursion}

@@ -6,8 +6,8 @@ use Rattle.catalogue.specs.Held.{catalogue_code}
 use Rattle.log_entry.specs.Codes.{entry_code}
 use Rattle.replica.specs.Codes.{replica_code}
 use Rattle.replica.specs.Replica.{Replica}
-use Rattle.dsm_model.specs.Log.{Call}
-use Rattle.dsm_model.specs.Entries.{Entry}
+use Rattle.log_model.specs.Log.{Call}
+use Rattle.log_model.specs.Entries.{Entry}
 use Rattle.dsm_model.specs.World.{OpenCall}
 use Rattle.dsm_world.specs.System.{SystemWorld}
 

@@ -5,9 +5,9 @@ use Rattle.schema.specs.Schema.{Tables}
 use Rattle.schema.specs.Rows.{AreWrites}
 use Rattle.rows_mv.specs.Versions.{HaveTables, width_of}
 use Rattle.replica.specs.Replica.{Replica, StandsFor, AreEntriesOf}
-use Rattle.dsm_model.specs.declared.verdict.Verdict.{Verdict}
-use Rattle.dsm_model.specs.Log.{Setting, verdict_of}
-use Rattle.dsm_model.specs.Entries.{Entry, calls_of}
+use Rattle.log_model.specs.declared.verdict.Verdict.{Verdict}
+use Rattle.log_model.specs.Log.{Setting, verdict_of}
+use Rattle.log_model.specs.Entries.{Entry, calls_of}
 use Rattle.dsm_model.specs.World.{OpenCall}
 use Rattle.dsm_model.specs.Sound.{IsWorld}
 use Rattle.world_calls.specs.OpenCall.{open_call_of, Follows}

@@ -3,8 +3,8 @@ use Rattle.std.specs.Prelude.{◌≡◌, ℕ, ◌-◌, ◌≤◌, not, List, map
 use Rattle.catalogue.specs.Catalogue.{SystemCatalogue}
 use Rattle.rows_mv.specs.Versions.{AnswersFrom}
 use Rattle.replica.specs.Replica.{Replica, StandsFor, AreEntriesOf}
-use Rattle.dsm_model.specs.Log.{Setting, rows_after}
-use Rattle.dsm_model.specs.Entries.{Entry, calls_of}
+use Rattle.log_model.specs.Log.{Setting, rows_after}
+use Rattle.log_model.specs.Entries.{Entry, calls_of}
 use Rattle.dsm_model.specs.World as model
 use Rattle.dsm_model.specs.World.{World, OpenCall}
 use Rattle.dsm_world.specs.declared.step.Step.{Step}

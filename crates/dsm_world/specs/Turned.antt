@@ -5,7 +5,7 @@ use Rattle.bpf_vm.specs.declared.turn.Turn.TheVariants as answer
 use Rattle.dsm_model.specs.declared.outcome.StepRefusal.TheVariants.{LogFull, OutOfMemory}
 use Rattle.dsm_model.specs.declared.outcome.Outcome.{Outcome}
 use Rattle.dsm_model.specs.declared.outcome.Outcome.TheVariants.{More, Exit, Stale, NoMemory, Ordered, Refused}
-use Rattle.dsm_model.specs.Entries.{Entry}
+use Rattle.log_model.specs.Entries.{Entry}
 use Rattle.dsm_model.specs.World.{max_calls}
 
 abbrev pub outcome_of : Turn → Outcome

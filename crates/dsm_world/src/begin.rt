@@ -8,7 +8,8 @@ ghost use Rattle.dsm_world.specs.Holdings.{system_of, AreConsistentHoldings};
 use crate::calls::enter;
 use crate::holdings::Holdings;
 use crate::numbers::index_of;
-use dsm_model::{Outcome, StepRefusal, rows_fit_the_schema, steps_keep_a_world};
+use dsm_model::{Outcome, StepRefusal, steps_keep_a_world};
+use log_model::rows_fit_the_schema;
 use std::alloc::Allocator;
 use world_calls::OpenCall;
 

@@ -7,9 +7,8 @@ ghost use Rattle.dsm_world.specs.Holdings.{system_of, AreConsistentHoldings};
 
 use crate::holdings::Holdings;
 use crate::numbers::index_of;
-use dsm_model::{
-    Outcome, StepRefusal, a_log_only_grows, each_call_has_a_verdict, steps_keep_a_world,
-};
+use dsm_model::{Outcome, StepRefusal, steps_keep_a_world};
+use log_model::{a_log_only_grows, each_call_has_a_verdict};
 use replica::tables_take_the_schemas_writes;
 use std::alloc::Allocator;
 

@@ -9,10 +9,9 @@ ghost use Rattle.dsm_world.specs.Turned.{IsAppended};
 use crate::begin::MAX_CALLS;
 use crate::calls::{put_call, take_call};
 use crate::holdings::Holdings;
-use dsm_model::{
-    Outcome, StepRefusal, a_log_only_grows, one_more_entry_carries_its_run, steps_keep_a_world,
-};
+use dsm_model::{Outcome, StepRefusal, steps_keep_a_world};
 use log_entry::Entry;
+use log_model::{a_log_only_grows, one_more_entry_carries_its_run};
 use std::alloc::Allocator;
 use world_calls::Completion;
 

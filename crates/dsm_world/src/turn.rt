@@ -9,7 +9,8 @@ ghost use Rattle.dsm_world.specs.Turned.{outcome_of};
 use crate::calls::{put_call, take_call};
 use crate::holdings::Holdings;
 use bpf_vm::Turn;
-use dsm_model::{Outcome, StepRefusal, a_log_only_grows, entries_suffice, steps_keep_a_world};
+use dsm_model::{Outcome, StepRefusal, steps_keep_a_world};
+use log_model::{a_log_only_grows, entries_suffice};
 use std::alloc::Allocator;
 use world_calls::stays_open;
 

@@ -2,11 +2,11 @@
 
 ghost use Rattle.std.specs.Prelude.{◌≡◌, ℕ, ◌+◌, ◌<◌, ◌≤◌, ◌++◌, [], ◌∷◌, length, map};
 ghost use Rattle.std.specs.Prelude.{option_map, slice_get, Some, None, IsSome, true, IfOk, OnErr, vec_len, vec_capacity};
-ghost use Rattle.dsm_model.specs.declared.verdict.Verdict.{Verdict as ModelVerdict};
-ghost use Rattle.dsm_model.specs.declared.verdict.Verdict.TheVariants.{Commit};
+ghost use Rattle.log_model.specs.declared.verdict.Verdict.{Verdict as ModelVerdict};
+ghost use Rattle.log_model.specs.declared.verdict.Verdict.TheVariants.{Commit};
 ghost use Rattle.dsm_model.specs.declared.outcome.Outcome.TheVariants.{Exit, Ordered, Delivered};
-ghost use Rattle.dsm_model.specs.Log.{verdict_of};
-ghost use Rattle.dsm_model.specs.Fit.{HasSafeProcedures};
+ghost use Rattle.log_model.specs.Log.{verdict_of};
+ghost use Rattle.log_model.specs.Fit.{HasSafeProcedures};
 ghost use Rattle.dsm_model.specs.World.{OpenCall as ModelCall, Turn as TurnStep, Order as OrderStep};
 ghost use Rattle.dsm_model.specs.World.{IsStep, AreSteps, first_world, numbered, open_call};
 ghost use Rattle.dsm_model.specs.Sound.{HasByteArguments, IsSound, IsSerialReply, IsWorld};
@@ -24,10 +24,11 @@ use crate::step::Step;
 use crate::turn::turn;
 use catalogue::{Catalogue, catalogues_are_safe, each_catalogue_is_consistent};
 use dsm_model::{
-    Outcome, a_log_only_grows, delivered_verdicts_are_the_logs, open_calls_are_sound,
-    replies_are_serial, steps_keep_a_world,
+    Outcome, delivered_verdicts_are_the_logs, open_calls_are_sound, replies_are_serial,
+    steps_keep_a_world,
 };
 use log_entry::Entry;
+use log_model::a_log_only_grows;
 use replica::{Replica, replicas_follow_the_log};
 use std::alloc::{AllocError, Allocator, Global};
 use std::marker::Model;

@@ -6,7 +6,7 @@ use Rattle.std.specs.FinMap.{entries, len}
 use Rattle.byteorder.specs.Endian.{little_bytes}
 use Rattle.schema.specs.declared.look.Look.{Look}
 use Rattle.schema.specs.Rows.{Key, Writes}
-use Rattle.dsm_model.specs.Entries.{Entry}
+use Rattle.log_model.specs.Entries.{Entry}
 
 abbrev pub count_bytes : ℕ → List ℕ
 count_bytes n = little_bytes 2 (n % 2 ^ 16)

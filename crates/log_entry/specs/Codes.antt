@@ -5,8 +5,8 @@ use Rattle.std.specs.FinMap.{code}
 use Rattle.schema.specs.declared.look.Look.{Look}
 use Rattle.schema.specs.Rows.{Writes}
 use Rattle.row_sets.specs.Codes.{looks_code}
-use Rattle.dsm_model.specs.Log.{Call}
-use Rattle.dsm_model.specs.Entries.{Entry}
+use Rattle.log_model.specs.Log.{Call}
+use Rattle.log_model.specs.Entries.{Entry}
 
 abbrev call_code : Coded Call
 call_code = code_by (ℕ × (ℕ × (List ℕ × ℕ))) (coded× coded_ℕ (coded× coded_ℕ (coded× (coded_list coded_ℕ) coded_ℕ)))

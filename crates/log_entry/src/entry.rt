@@ -22,7 +22,7 @@ pub struct Entry<A: Allocator + Copy = Global> {
 }
 
 impl<A: Allocator + Copy> Model for Entry<A> {
-    ghost use Rattle.dsm_model.specs.Entries.{Entry};
+    ghost use Rattle.log_model.specs.Entries.{Entry};
     ghost use Rattle.log_entry.specs.Codes.{entry_code};
 
     ghost Value = { Entry };

@@ -7,9 +7,9 @@ use Rattle.schema.specs.Rows.{Rows, Writes, Key}
 use Rattle.schema.specs.declared.look.Look.{Look}
 use Rattle.bpf_code.specs.Program.{Program}
 use Rattle.bpf_code.specs.contracts.instruction.Instruction as instruction
-use Rattle.dsm_model.specs.declared.verdict.Verdict.{Verdict}
-use Rattle.dsm_model.specs.contracts.verdict.Verdict as verdict
-use Rattle.dsm_model.specs.Log.{StoredProcedure, Catalogue, Setting}
+use Rattle.log_model.specs.declared.verdict.Verdict.{Verdict}
+use Rattle.log_model.specs.contracts.verdict.Verdict as verdict
+use Rattle.log_model.specs.Log.{StoredProcedure, Catalogue, Setting}
 use Rattle.plain_log.specs.Report.{Report}
 
 abbrev procedure_code : Coded StoredProcedure

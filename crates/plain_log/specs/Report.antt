@@ -4,8 +4,8 @@ use Rattle.std.specs.FinMap.{empty}
 use Rattle.schema.specs.declared.look.Look.{Look}
 use Rattle.schema.specs.Rows.{Writes}
 use Rattle.bpf_semantics.specs.Run.{Run}
-use Rattle.dsm_model.specs.declared.verdict.Verdict.{Verdict}
-use Rattle.dsm_model.specs.Log.{or_idle}
+use Rattle.log_model.specs.declared.verdict.Verdict.{Verdict}
+use Rattle.log_model.specs.Log.{or_idle}
 
 pub record Report : Type 0 where
   pub reply : ℕ

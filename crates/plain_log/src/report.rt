@@ -2,10 +2,10 @@
 
 ghost use Rattle.std.specs.Prelude.{◌≡◌};
 ghost use Rattle.std.specs.FinMap.{empty, entries};
-ghost use Rattle.dsm_model.specs.Log.{or_idle};
+ghost use Rattle.log_model.specs.Log.{or_idle};
 ghost use Rattle.plain_log.specs.Report.{report_by_run};
 
-use dsm_model::Verdict;
+use log_model::Verdict;
 use plain_rows::Write;
 use plain_runner::CompletedRun;
 use schema::Look;

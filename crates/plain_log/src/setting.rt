@@ -1,7 +1,7 @@
 //! What is replayed: a setting and calls, as the definitions have them.
 
 ghost use Rattle.std.specs.Prelude.{◌≡◌, ◌<◌, ◌^◌, option_map};
-ghost use Rattle.dsm_model.specs.Log.{by_number};
+ghost use Rattle.log_model.specs.Log.{by_number};
 
 use bpf_code::Code;
 use schema::Schema;
@@ -18,7 +18,7 @@ pub struct PlainProcedure<A: Allocator = Global> {
 }
 
 impl<A: Allocator> Model for PlainProcedure<A> {
-    ghost use Rattle.dsm_model.specs.Log.{StoredProcedure};
+    ghost use Rattle.log_model.specs.Log.{StoredProcedure};
 
     ghost Value = { StoredProcedure };
 
@@ -65,7 +65,7 @@ pub struct PlainSetting<A: Allocator = Global> {
 }
 
 impl<A: Allocator> Model for PlainSetting<A> {
-    ghost use Rattle.dsm_model.specs.Log.{Setting};
+    ghost use Rattle.log_model.specs.Log.{Setting};
     ghost use Rattle.plain_log.specs.Codes.{setting_code};
 
     ghost Value = { Setting };
@@ -133,7 +133,7 @@ pub struct PlainCall<A: Allocator = Global> {
 }
 
 impl<A: Allocator> Model for PlainCall<A> {
-    ghost use Rattle.dsm_model.specs.Log.{Call};
+    ghost use Rattle.log_model.specs.Log.{Call};
 
     ghost Value = { Call };
 

@@ -1,7 +1,7 @@
 ghost use Rattle.std.specs.Prelude.{◌<◌, ◌^◌, length};
 
-use dsm_model::Verdict;
 use dsm_replayer::{CallReport, CompletedReplay, PlainCall, replay_log};
+use log_model::Verdict;
 use plain_runner::{Row, Write};
 use sample_procedures::{args_of, setting_of};
 use scarce::Scarce;

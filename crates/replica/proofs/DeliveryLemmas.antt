@@ -9,10 +9,10 @@ use Rattle.row_chain.specs.Version.{row_up_to}
 use Rattle.key_table.specs.Table.{Table}
 use Rattle.std.specs.FinMap.{empty}
 use Rattle.rows_mv.specs.Versions.{AnswersFrom, AreEmpty, IsInstalled}
-use Rattle.dsm_model.specs.declared.verdict.Verdict.{Verdict}
-use Rattle.dsm_model.specs.declared.verdict.Verdict.TheVariants.{Commit, Conflict, Stale}
-use Rattle.dsm_model.specs.Log.{is_commit, if_commits, verdict_after}
-use Rattle.dsm_model.specs.Entries.{Entry, certified_calls_of}
+use Rattle.log_model.specs.declared.verdict.Verdict.{Verdict}
+use Rattle.log_model.specs.declared.verdict.Verdict.TheVariants.{Commit, Conflict, Stale}
+use Rattle.log_model.specs.Log.{is_commit, if_commits, verdict_after}
+use Rattle.log_model.specs.Entries.{Entry, certified_calls_of}
 use Rattle.certify.specs.Kept as certifier
 use Rattle.replica.specs.declared.certification.Certification.{Certification}
 use Rattle.replica.specs.Replica.{rows_kept, KeepsRows, certification_after, AreCertificationsOf, Replica, StandsFor}

@@ -5,8 +5,8 @@ use Rattle.std.proofs.lemmas.Bool.{false≢true}
 use Rattle.std.specs.FinMap.{get}
 use Rattle.schema.specs.Schema.{Tables}
 use Rattle.schema.specs.Rows.{Key, Writes, AreWrites, IsKey, IsWrite}
-use Rattle.dsm_model.specs.Log.{IsLogFrom}
-use Rattle.dsm_model.specs.Entries.{Entry, calls_of}
+use Rattle.log_model.specs.Log.{IsLogFrom}
+use Rattle.log_model.specs.Entries.{Entry, calls_of}
 use Rattle.key_table.specs.Table.{Table}
 use Rattle.rows_mv.specs.Versions.{Versions, HaveTables, width_of}
 use Rattle.replica.specs.Replica.{FitTables}

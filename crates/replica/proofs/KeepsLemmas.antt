@@ -7,10 +7,10 @@ use Rattle.std.proofs.lemmas.List.Sums.{fold-append}
 use Rattle.std.specs.FinMap.{empty}
 use Rattle.schema.specs.Rows.{Rows, Writes, after_writes}
 use Rattle.row_model.specs.InstalledWrites.{InstalledWrites, map_after}
-use Rattle.dsm_model.specs.declared.verdict.Verdict.{Verdict}
-use Rattle.dsm_model.specs.declared.verdict.Verdict.TheVariants.{Commit, Conflict, Stale}
-use Rattle.dsm_model.specs.Log.{CertifiedCall, is_commit, if_commits, verdict_after, certified_call_after}
-use Rattle.dsm_model.specs.Entries.{Entry, with_entry, certified_calls_of, installed_from}
+use Rattle.log_model.specs.declared.verdict.Verdict.{Verdict}
+use Rattle.log_model.specs.declared.verdict.Verdict.TheVariants.{Commit, Conflict, Stale}
+use Rattle.log_model.specs.Log.{CertifiedCall, is_commit, if_commits, verdict_after, certified_call_after}
+use Rattle.log_model.specs.Entries.{Entry, with_entry, certified_calls_of, installed_from}
 use Rattle.replica.specs.Replica.{rows_kept}
 
 -- ---- the certified calls of one entry more

@@ -6,9 +6,9 @@ use Rattle.std.specs.List.{fold}
 use Rattle.std.proofs.lemmas.List.{take-append-le, take_all, length-append}
 use Rattle.std.proofs.lemmas.Option.{slice_get_within}
 use Rattle.row_model.specs.InstalledWrites.{map_after}
-use Rattle.dsm_model.specs.Log.{Setting, CertifiedCall, IsLog, certified_call_after, verdict_after, verdict_of, history, rows_after}
-use Rattle.dsm_model.specs.Fit.{HasSafeProcedures, AreCalls}
-use Rattle.dsm_model.specs.Entries.{Entry, calls_of, CarryRuns, with_entry, certified_calls_of, installed_from}
+use Rattle.log_model.specs.Log.{Setting, CertifiedCall, IsLog, certified_call_after, verdict_after, verdict_of, history, rows_after}
+use Rattle.log_model.specs.Fit.{HasSafeProcedures, AreCalls}
+use Rattle.log_model.specs.Entries.{Entry, calls_of, CarryRuns, with_entry, certified_calls_of, installed_from}
 use Rattle.rows_mv.specs.Versions.{AnswersFrom}
 use Rattle.certify.specs.Kept as certifier
 use Rattle.replica.specs.declared.certification.Certification.{Certification}

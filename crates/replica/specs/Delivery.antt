@@ -1,8 +1,8 @@
 -- What one delivery leaves, step by step. No public clause speaks of it.
 use Rattle.std.specs.Prelude.{◌≡◌, ℕ, ◌+◌, ◌-◌, ◌≤◌, true, false, List, [], ◌∷◌, ◌++◌}
 use Rattle.schema.specs.Rows.{Key, Rows}
-use Rattle.dsm_model.specs.Log.{CertifiedCall, is_commit}
-use Rattle.dsm_model.specs.Entries.{Entry}
+use Rattle.log_model.specs.Log.{CertifiedCall, is_commit}
+use Rattle.log_model.specs.Entries.{Entry}
 use Rattle.key_table.specs.Table.{Table, versions_at}
 use Rattle.rows_mv.specs.Versions.{slots_of, AnswersFrom, IsInstalled}
 use Rattle.certify.specs.Kept as certifier

@@ -3,10 +3,10 @@ use Rattle.std.specs.Prelude.{◌≡◌, ℕ, ◌-◌, ◌≤◌, Bool, List, le
 use Rattle.schema.specs.Rows.{Rows, Writes}
 use Rattle.schema.specs.declared.look.Look.{Look}
 use Rattle.row_model.specs.InstalledWrites.{map_after}
-use Rattle.dsm_model.specs.Log.{Setting, Call, CertifiedCall, IsLog, verdict_after}
-use Rattle.dsm_model.specs.Comparisons.{comparisons_after}
-use Rattle.dsm_model.specs.Entries.{Entry, calls_of, CarryRuns, certified_calls_of, installed_from}
-use Rattle.dsm_model.specs.Fit.{HasSafeProcedures, AreCalls}
+use Rattle.log_model.specs.Log.{Setting, Call, CertifiedCall, IsLog, verdict_after}
+use Rattle.log_model.specs.Comparisons.{comparisons_after}
+use Rattle.log_model.specs.Entries.{Entry, calls_of, CarryRuns, certified_calls_of, installed_from}
+use Rattle.log_model.specs.Fit.{HasSafeProcedures, AreCalls}
 use Rattle.rows_mv.specs.Versions.{Versions, AnswersFrom, AreOfTables, HaveWidths}
 use Rattle.certify.specs.Kept as certifier
 use Rattle.replica.specs.declared.certification.Certification.{Certification}

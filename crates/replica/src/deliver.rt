@@ -3,15 +3,15 @@
 ghost use Rattle.std.specs.Prelude.{◌≡◌, ℕ, ◌+◌, ◌-◌, ◌<◌, ◌≤◌, List, [], ◌∷◌, ◌++◌, length, true, false, IfOk, OnOk, OnErr};
 ghost use Rattle.schema.specs.Rows.{Rows};
 ghost use Rattle.rows_mv.specs.Versions.{AnswersFrom, IsInstalled, width_of};
-ghost use Rattle.dsm_model.specs.Log.{CertifiedCall, is_commit};
+ghost use Rattle.log_model.specs.Log.{CertifiedCall, is_commit};
 ghost use Rattle.certify.specs.Kept.{StandsFor};
 ghost use Rattle.replica.specs.Replica.{FitTables, certification_after};
 ghost use Rattle.replica.specs.Delivery.{HasSameVersions};
 
 use crate::certification::Certification;
 use certify::Certifier;
-use dsm_model::Verdict;
 use log_entry::Entry;
+use log_model::Verdict;
 use row_sets::WriteSet;
 use rows_mv::{Versions, answers_after_pruning};
 use std::alloc::{AllocError, Allocator};

@@ -5,14 +5,14 @@ ghost use Rattle.std.specs.FinMap.{empty};
 ghost use Rattle.schema.specs.Schema.{Tables};
 ghost use Rattle.schema.specs.Rows.{Rows, Writes, AreWrites, after_writes};
 ghost use Rattle.rows_mv.specs.Versions.{Versions, AnswersFrom, HaveTables, width_of};
-ghost use Rattle.dsm_model.specs.Log.{Setting, is_commit, verdict_after, verdict_of, if_commits, rows_after};
-ghost use Rattle.dsm_model.specs.Entries.{Entry, calls_of, certified_calls_of};
+ghost use Rattle.log_model.specs.Log.{Setting, is_commit, verdict_after, verdict_of, if_commits, rows_after};
+ghost use Rattle.log_model.specs.Entries.{Entry, calls_of, certified_calls_of};
 ghost use Rattle.key_table.specs.Table.{Table};
 ghost use Rattle.replica.specs.declared.certification.Certification.{Certification};
 ghost use Rattle.replica.specs.Replica.{AreEntriesOf, FitTables, Replica, StandsFor, rows_kept};
 ghost use Rattle.replica.specs.Delivery.{IsDelivered, IsRefusedDelivery};
 
-use dsm_model::entries_suffice;
+use log_model::entries_suffice;
 use row_model::map_after_each_write_set;
 use rows_mv::answers_after_an_install;
 

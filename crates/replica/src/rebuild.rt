@@ -3,8 +3,8 @@
 ghost use Rattle.std.specs.Prelude.{◌≡◌, ◌<◌, ◌^◌, All, length, false, IfOk};
 ghost use Rattle.schema.specs.Rows.{AreWrites};
 ghost use Rattle.rows_mv.specs.Versions.{HaveTables};
-ghost use Rattle.dsm_model.specs.Log.{IsLog};
-ghost use Rattle.dsm_model.specs.Entries.{calls_of};
+ghost use Rattle.log_model.specs.Log.{IsLog};
+ghost use Rattle.log_model.specs.Entries.{calls_of};
 ghost use Rattle.replica.specs.Replica.{StandsFor};
 
 use crate::laws::tables_take_the_schemas_writes;

@@ -4,8 +4,8 @@ ghost use Rattle.std.specs.Prelude.{◌≡◌, IfOk};
 
 use crate::delivering::{key_of, put_of};
 use certify::Certifier;
-use dsm_model::Verdict;
 use log_entry::Entry;
+use log_model::Verdict;
 use std::alloc::{AllocError, Global};
 
 /// How many calls are kept.

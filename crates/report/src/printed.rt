@@ -1,6 +1,7 @@
 //! What a line says.
 
-use dsm_model::{StepRefusal, Verdict};
+use dsm_model::StepRefusal;
+use log_model::Verdict;
 
 /// A printed line, by its values.
 #[derive(Clone, Copy)]

@@ -8,7 +8,8 @@ ghost use Rattle.report.specs.declared.printed.Line.TheVariants as line;
 use crate::printed::{CallReport, LoggedEntry, ReplicaReport};
 use crate::refusal::step_refusal_number;
 use byte_output::line::{Line as Words, push, push_column, push_right, push_unsigned};
-use dsm_model::{StepRefusal, Verdict};
+use dsm_model::StepRefusal;
+use log_model::Verdict;
 
 pub(crate) fn push_refused(words: &mut Words, refusal: StepRefusal)
     requires { array_vec_len words.old ≤ 100 }

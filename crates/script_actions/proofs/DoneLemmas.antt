@@ -5,7 +5,7 @@ use Rattle.byte_output.specs.declared.paged.PagedOutput.{PagedOutput}
 use Rattle.dsm_model.specs.declared.outcome.Outcome.{Outcome}
 use Rattle.dsm_model.specs.declared.outcome.Outcome.TheVariants.{Refused}
 use Rattle.dsm_model.specs.declared.outcome.StepRefusal.TheVariants.{NoReplica, NoProcedure}
-use Rattle.dsm_model.specs.Log.{Setting, by_number}
+use Rattle.log_model.specs.Log.{Setting, by_number}
 use Rattle.dsm_model.specs.World.{World, Replica, Begin, Turn, Order, Deliver, Rebuild, IsStep, after_begin, after_step, numbered}
 use Rattle.script.specs.declared.commands.Command.TheVariants as command
 use Rattle.script_actions.specs.Printed.{step_text, rows_text, log_text, entry_text}

@@ -3,10 +3,10 @@ use Rattle.std.proofs.Common.{◌≡◌, ℕ, suc, ◌+◌, ◌<◌, ◌≤◌, 
 use Rattle.std.specs.List.{list_any}
 use Rattle.std.specs.FinMap.{len}
 use Rattle.schema.specs.Rows.{Writes}
-use Rattle.dsm_model.specs.declared.verdict.Verdict.{Verdict}
-use Rattle.dsm_model.specs.Log.{Call, run_in, verdict_of}
-use Rattle.dsm_model.specs.Comparisons.{comparisons_of}
-use Rattle.dsm_model.specs.Entries.{Entry, calls_of}
+use Rattle.log_model.specs.declared.verdict.Verdict.{Verdict}
+use Rattle.log_model.specs.Log.{Call, run_in, verdict_of}
+use Rattle.log_model.specs.Comparisons.{comparisons_of}
+use Rattle.log_model.specs.Entries.{Entry, calls_of}
 use Rattle.dsm_model.specs.World.{Replica as Progress}
 use Rattle.replica.specs.Replica.{Replica, certification_of}
 use Rattle.dsm_world.specs.System.{SystemWorld, setting_of, world_of, progress_of, KeepsDelivered}

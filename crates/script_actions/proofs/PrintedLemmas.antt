@@ -4,10 +4,10 @@ use Rattle.std.proofs.lemmas.List.{append-nil}
 use Rattle.schema.specs.declared.look.Look.{Look}
 use Rattle.schema.specs.Rows.{Writes}
 use Rattle.row_model.specs.InstalledWrites.{map_after}
-use Rattle.dsm_model.specs.Log.{Setting, Call, Log, CertifiedCall, IsLog, rows_after, run_in, verdict_of, history, certified_call_after}
-use Rattle.dsm_model.specs.Comparisons.{comparisons_of, comparisons_after}
-use Rattle.dsm_model.specs.Entries.{Entry, calls_of, CarriesRun, CarryRuns, certified_calls_of, installed_from}
-use Rattle.dsm_model.specs.Fit.{HasSafeProcedures, AreCalls}
+use Rattle.log_model.specs.Log.{Setting, Call, Log, CertifiedCall, IsLog, rows_after, run_in, verdict_of, history, certified_call_after}
+use Rattle.log_model.specs.Comparisons.{comparisons_of, comparisons_after}
+use Rattle.log_model.specs.Entries.{Entry, calls_of, CarriesRun, CarryRuns, certified_calls_of, installed_from}
+use Rattle.log_model.specs.Fit.{HasSafeProcedures, AreCalls}
 use Rattle.dsm_model.specs.World.{numbered}
 use Rattle.replica.specs.declared.certification.Certification.{Certification}
 use Rattle.replica.specs.Replica.{Replica, AreEntriesOf, StandsFor, rows_kept, certification_of}

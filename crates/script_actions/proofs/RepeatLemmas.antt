@@ -7,7 +7,7 @@ use Rattle.byte_output.specs.declared.paged.PagedOutput.{PagedOutput}
 use Rattle.byte_output.specs.Pending.{Passes}
 use Rattle.byte_output.proofs.PendingLemmas.{Passes-then}
 use Rattle.dsm_model.specs.declared.outcome.Outcome.{Outcome}
-use Rattle.dsm_model.specs.Log.{Setting}
+use Rattle.log_model.specs.Log.{Setting}
 use Rattle.dsm_model.specs.World.{World, Step, IsStep, after_step}
 use Rattle.script_actions.specs.Printed.{step_text}
 use Rattle.script_actions.specs.Actions.{Later, Repeats, last_line}

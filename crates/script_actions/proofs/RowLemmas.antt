@@ -9,9 +9,9 @@ use Rattle.byte_output.specs.Pending.{Passes}
 use Rattle.byte_output.proofs.PendingLemmas.{Passes-then}
 use Rattle.schema.specs.Rows.{Key, Rows, AreRows}
 use Rattle.schema.specs.Schema.{Tables}
-use Rattle.dsm_model.specs.Log.{Setting, Log, IsLog, rows_after}
-use Rattle.dsm_model.specs.Fit.{HasSafeProcedures, AreCalls}
-use Rattle.dsm_model.specs.Entries.{Entry, calls_of}
+use Rattle.log_model.specs.Log.{Setting, Log, IsLog, rows_after}
+use Rattle.log_model.specs.Fit.{HasSafeProcedures, AreCalls}
+use Rattle.log_model.specs.Entries.{Entry, calls_of}
 use Rattle.dsm_model.specs.World.{numbered}
 use Rattle.replica.specs.Replica.{Replica, StandsFor, rows_kept}
 use Rattle.dsm_world.specs.System.{SystemWorld, setting_of, world_of, progress_of, KeepsDelivered}

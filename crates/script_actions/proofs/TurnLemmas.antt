@@ -7,9 +7,8 @@ use Rattle.bpf_code.specs.Program.{Program, max_slots}
 use Rattle.bpf_semantics.specs.Path.{longest_path, instructions}
 use Rattle.dsm_model.specs.declared.outcome.Outcome.{Outcome}
 use Rattle.dsm_model.specs.declared.outcome.Outcome.TheVariants.{More}
-use Rattle.dsm_model.specs.Log.{StoredProcedure, Catalogue, Setting, Log, by_number, run_in}
-use Rattle.dsm_model.specs.World.{World, OpenCall, Step, Turn, IsStep, flatten, moment_at, numbered, open_call}
-use Rattle.dsm_model.specs.World.{with_numbered, with_open_call}
+use Rattle.log_model.specs.Log.{StoredProcedure, Catalogue, Setting, Log, by_number, run_in, moment_at}
+use Rattle.dsm_model.specs.World.{World, OpenCall, Step, Turn, IsStep, flatten, numbered, open_call, with_numbered, with_open_call}
 use Rattle.dsm_model.specs.Sound.{HasByteArguments, IsSound, IsWorld}
 use Rattle.catalogue.specs.Catalogue.{SystemCatalogue, IsAcceptedFor, IsCatalogue, accepted_of}
 use Rattle.script.specs.declared.commands.Command.TheVariants as command

@@ -5,11 +5,13 @@ use Rattle.bpf_code.specs.Program.{max_slots}
 use Rattle.catalogue.specs.Catalogue.{by_name}
 use Rattle.dsm_model.specs.declared.outcome.Outcome.{Outcome}
 use Rattle.dsm_model.specs.declared.outcome.Outcome.TheVariants.{More, Delivered}
-use Rattle.dsm_model.specs.Log.{Setting}
+use Rattle.log_model.specs.Log.{Setting}
 use Rattle.dsm_model.specs.World.{World, Step, Begin, Turn, Order, Deliver, Rebuild, IsStep, after_begin, numbered}
 use Rattle.script.specs.Script.{ScriptCommand}
 use Rattle.script.specs.declared.commands.Command.TheVariants as command
 use Rattle.script_actions.specs.Printed.{step_text, rows_text, log_text, entry_text}
+-- a world as its engine sees it
+pub use Rattle.dsm_world.specs.System.{SystemWorld, setting_of, world_of}
 
 -- ---- steps that are taken again
 

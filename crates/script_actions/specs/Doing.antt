@@ -3,7 +3,7 @@ use Rattle.std.specs.Prelude.{◌≡◌, ℕ, List, ◌++◌, Option, Result, Ok
 use Rattle.std.specs.Io.KnownBytes.{Appends}
 use Rattle.byte_output.specs.declared.paged.PagedOutput.{PagedOutput}
 use Rattle.byte_output.specs.Pending.{output_of, pending_of, Passes}
-use Rattle.dsm_model.specs.Log.{Setting}
+use Rattle.log_model.specs.Log.{Setting}
 use Rattle.dsm_model.specs.World.{World}
 use Rattle.script.specs.Script.{ScriptCommand}
 use Rattle.script_actions.specs.Actions.{Does}

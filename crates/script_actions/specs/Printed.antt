@@ -7,10 +7,10 @@ use Rattle.schema.specs.Rows.{Key}
 use Rattle.dsm_model.specs.declared.outcome.Outcome.{Outcome}
 use Rattle.dsm_model.specs.declared.outcome.Outcome.TheVariants.{Delivered}
 use Rattle.dsm_model.specs.declared.outcome.StepRefusal.TheVariants.{NoReplica}
-use Rattle.dsm_model.specs.declared.verdict.Verdict.{Verdict}
-use Rattle.dsm_model.specs.Log.{Setting, Call, Log, rows_after, run_in, verdict_of}
-use Rattle.dsm_model.specs.Comparisons.{comparisons_of}
-use Rattle.dsm_model.specs.Entries.{Entry}
+use Rattle.log_model.specs.declared.verdict.Verdict.{Verdict}
+use Rattle.log_model.specs.Log.{Setting, Call, Log, rows_after, run_in, verdict_of}
+use Rattle.log_model.specs.Comparisons.{comparisons_of}
+use Rattle.log_model.specs.Entries.{Entry}
 use Rattle.dsm_model.specs.World.{World, Replica, Step, numbered}
 use Rattle.log_entry.specs.Bytes.{entry_bytes}
 use Rattle.report.specs.declared.printed.LoggedEntry.{LoggedEntry}

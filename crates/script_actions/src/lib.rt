@@ -2,6 +2,7 @@
 #![tactic(auto)]
 
 pub use actions::act;
+pub use dsm_world::World;
 pub use failure::Failure;
 pub use laws::executions_end;
 

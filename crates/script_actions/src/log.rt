@@ -2,7 +2,7 @@
 
 ghost use Rattle.std.specs.Prelude.{◌≡◌, ◌<◌, find, length, nat_lt, option_map, slice_get, Some};
 ghost use Rattle.byte_output.specs.Pending.{output_of};
-ghost use Rattle.dsm_model.specs.Log.{Call};
+ghost use Rattle.log_model.specs.Log.{Call};
 ghost use Rattle.dsm_world.specs.System.{setting_of, world_of};
 ghost use Rattle.report.specs.Lines.{line_text};
 ghost use Rattle.script_actions.specs.Printed.{logged_text, log_text, entry_text};
@@ -11,9 +11,9 @@ ghost use Rattle.script_actions.specs.Doing.{Gives};
 use crate::failure::Failure;
 use crate::output::put_line;
 use byte_output::paged::PagedOutput;
-use dsm_model::{a_log_only_grows, entries_suffice};
 use dsm_world::World;
 use log_entry::to_bytes;
+use log_model::{a_log_only_grows, entries_suffice};
 use replica::{Replica, replicas_follow_the_log};
 use report::{Line, LoggedEntry};
 use std::alloc::Allocator;

@@ -2,10 +2,10 @@
 use Rattle.std.proofs.Common.{◌≡◌, ◌⊎◌, inl, inr, false, ℕ, ◌+◌, List, [], ◌++◌, Option, Some, Result, Ok, Err, IfOk, IfErr, refl, sym, ap, subst, ◌∙◌}
 use Rattle.byte_output.specs.declared.paged.PagedOutput.{PagedOutput}
 use Rattle.byte_output.specs.Pending.{Passes}
-use Rattle.catalogue.specs.Catalogue.{SystemCatalogue}
-use Rattle.dsm_model.specs.Log.{Setting}
+use Rattle.script_settings.specs.Settings.{SystemCatalogue}
+use Rattle.log_model.specs.Log.{Setting}
 use Rattle.dsm_model.specs.World.{World, first_world}
-use Rattle.dsm_world.specs.System.{SystemWorld, setting_of, world_of}
+use Rattle.script_actions.specs.Actions.{SystemWorld, setting_of, world_of}
 use Rattle.script.specs.declared.fault.LineFault.{LineFault}
 use Rattle.script.specs.declared.fault.LineFault.TheVariants as line
 use Rattle.script.specs.Script.{ScriptCommand, line_says}

@@ -5,7 +5,7 @@ use Rattle.std.specs.Io.KnownBytes.{Appends}
 use Rattle.byte_output.specs.declared.paged.PagedOutput.{PagedOutput}
 use Rattle.byte_output.specs.Pending.{Passes}
 use Rattle.byte_output.specs.Writes.{AppendsBeginning}
-use Rattle.dsm_world.specs.System.{setting_of, world_of}
+use Rattle.script_actions.specs.Actions.{setting_of, world_of}
 use Rattle.engines.specs.declared.status.TheConstants.{FAILED}
 use Rattle.script_settings.specs.declared.cause.FaultCause.{FaultCause}
 use Rattle.script_settings.specs.declared.cause.FaultCause.TheVariants.{OutOfMemory}

@@ -1,6 +1,6 @@
 -- How far a script has come: it sets things, or its world acts.
 use Rattle.std.specs.Prelude.{ℕ, if◌then◌else◌, Option, Some, None, Result, Ok, Err}
-use Rattle.dsm_model.specs.Log.{Setting}
+use Rattle.log_model.specs.Log.{Setting}
 use Rattle.dsm_model.specs.World.{World, first_world}
 use Rattle.script.specs.declared.fault.LineFault.{LineFault}
 use Rattle.script.specs.Script.{ScriptCommand}

@@ -2,7 +2,7 @@
 
 ghost use Rattle.std.specs.Prelude.{◌≡◌, true, false, Some, Ok, IfOk, IfErr};
 ghost use Rattle.byte_output.specs.Pending.{output_of};
-ghost use Rattle.dsm_world.specs.System.{setting_of, world_of};
+ghost use Rattle.script_actions.specs.Actions.{setting_of, world_of};
 ghost use Rattle.script.specs.Script.{ScriptCommand, IsWithinLimits, line_says};
 ghost use Rattle.script_settings.specs.Settings.{is_setting};
 ghost use Rattle.script_replay.specs.Stage.{Goes, Acts, first_action, action_of};
@@ -11,10 +11,9 @@ ghost use Rattle.script_replay.specs.Doing.{stage_of, IsFaultOf, GivesAction};
 use crate::stage::Stage;
 use crate::stop::{Stop, fault_at, out_of_memory};
 use byte_output::paged::PagedOutput;
-use dsm_world::World;
 use row_values::Bytes;
 use script::{Command, command};
-use script_actions::{Failure, act};
+use script_actions::{Failure, World, act};
 use script_settings::{FaultCause, Settings, is_setting};
 use std::alloc::Allocator;
 use std::io::Write;

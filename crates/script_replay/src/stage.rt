@@ -1,6 +1,6 @@
 //! How far a script has come.
 
-use dsm_world::World;
+use script_actions::World;
 use script_settings::Settings;
 use std::alloc::Allocator;
 

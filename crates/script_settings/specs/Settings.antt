@@ -8,7 +8,8 @@ use Rattle.schema.specs.Schema.{Tables, with_pairs}
 use Rattle.bpf_verify.specs.declared.refusal.Refusal.{Refusal}
 use Rattle.bpf_verify.specs.Flow.{Procedure}
 use Rattle.catalogue.specs.declared.fault.CatalogueFault.{CatalogueFault}
-use Rattle.catalogue.specs.Catalogue.{SystemCatalogue, stored_of}
+use Rattle.catalogue.specs.Catalogue.{stored_of}
+pub use Rattle.catalogue.specs.Catalogue.{SystemCatalogue}
 use Rattle.catalogue.specs.Held.{catalogue_code}
 use Rattle.catalogue.specs.Fault.{fault_of}
 use Rattle.script.specs.declared.commands.Command.TheVariants as command

@@ -3,8 +3,9 @@
 use bpf_code::decode;
 use bpf_verify::verify;
 use catalogue::Catalogue;
-use dsm_model::{Outcome, Verdict};
+use dsm_model::Outcome;
 use dsm_world::World;
+use log_model::Verdict;
 use sample_procedures::{ADD, TABLES};
 use schema::Schema;
 use std::alloc::Global;

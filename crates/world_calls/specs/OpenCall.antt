@@ -7,10 +7,10 @@ use Rattle.bpf_vm.specs.declared.turn.Turn.{Turn}
 use Rattle.bpf_vm.specs.declared.turn.Turn.TheVariants.{More, Exit, Stale, NoMemory}
 use Rattle.bpf_vm.specs.Turns.{MachineState}
 use Rattle.bpf_vm.specs.Run.{Effects, IsAcceptedProcedure, HasRun, HasEnded, own_effects}
-use Rattle.dsm_model.specs.Log.{Setting, Call, Log, by_number, rows_after, run_in}
-use Rattle.dsm_model.specs.Entries.{CarriesRun}
-use Rattle.dsm_model.specs.Fit.{IsCall}
-use Rattle.dsm_model.specs.World.{OpenCall, moment_at, makes_look, at_row_helper}
+use Rattle.log_model.specs.Log.{Setting, Call, Log, by_number, rows_after, run_in, moment_at}
+use Rattle.log_model.specs.Entries.{CarriesRun}
+use Rattle.log_model.specs.Fit.{IsCall}
+use Rattle.dsm_model.specs.World.{OpenCall, makes_look, at_row_helper}
 use Rattle.catalogue.specs.Catalogue.{accepted_of}
 use Rattle.world_calls.specs.declared.open_call.OpenCall.{OpenCall as OpenCallState}
 use Rattle.world_calls.specs.declared.completion.Completion.{Completion}

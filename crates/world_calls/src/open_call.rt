@@ -2,7 +2,7 @@
 
 ghost use Rattle.std.specs.Prelude.{◌≡◌, ℕ, true, length, Some, IfOk, IfSome};
 ghost use Rattle.schema.specs.Rows.{AreRows};
-ghost use Rattle.dsm_model.specs.Log.{Setting, Log, StoredProcedure, by_number, rows_after};
+ghost use Rattle.log_model.specs.Log.{Setting, Log, StoredProcedure, by_number, rows_after};
 ghost use Rattle.catalogue.specs.Catalogue.{accepted_of};
 ghost use Rattle.bpf_vm.specs.declared.turn.Turn.TheVariants.{More, Exit};
 ghost use Rattle.world_calls.specs.OpenCall.{open_call_of, Follows, CanGoOn, IsTurn, stays_open, call_of, IsReplyOf, IsCompletion};

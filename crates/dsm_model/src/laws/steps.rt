@@ -12,18 +12,19 @@ ghost use Rattle.schema.specs.declared.helper.Helper.TheVariants.{Cancel};
 ghost use Rattle.schema.specs.Helper.{helper_of};
 ghost use Rattle.bpf_semantics.specs.State.{State};
 ghost use Rattle.bpf_semantics.specs.Step.{Going, Ended};
-ghost use Rattle.dsm_model.specs.declared.verdict.Verdict.{Verdict};
+ghost use Rattle.log_model.specs.declared.verdict.Verdict.{Verdict};
 ghost use Rattle.dsm_model.specs.declared.outcome.StepRefusal.TheVariants.{NoReplica, NoProcedure, ArgumentsLength, NoCall};
 ghost use Rattle.dsm_model.specs.declared.outcome.StepRefusal.TheVariants.{NotAtExit, NothingToDeliver, ReplicaStopped, LogFull, OutOfMemory, TooManyCalls};
 ghost use Rattle.dsm_model.specs.declared.outcome.Outcome.{Outcome};
 ghost use Rattle.dsm_model.specs.declared.outcome.Outcome.TheVariants.{Begun, More, Exit, Stale, NoMemory, Ordered, Read};
 ghost use Rattle.dsm_model.specs.declared.outcome.Outcome.TheVariants.{Cancelled, Delivered, Rebuilt, Refused};
-ghost use Rattle.dsm_model.specs.Log.{StoredProcedure, Setting, by_number, run_in, verdict_of};
-ghost use Rattle.dsm_model.specs.Fit.{HasSafeProcedures};
+ghost use Rattle.log_model.specs.Log.{StoredProcedure, Setting, by_number, run_in, verdict_of};
+ghost use Rattle.log_model.specs.Fit.{HasSafeProcedures};
 ghost use Rattle.dsm_model.specs.Sound.{IsWorld};
 ghost use Rattle.dsm_model.specs.World.{World, Replica, OpenCall, Step, Begin, Turn, Order, Deliver, Rebuild, max_calls};
 ghost use Rattle.dsm_model.specs.World.{is_answer, numbered, position_of, open_call, with_open_call, with_replica};
-ghost use Rattle.dsm_model.specs.World.{moment_at, makes_look, at_row_helper, IsStep};
+ghost use Rattle.log_model.specs.Log.{moment_at};
+ghost use Rattle.dsm_model.specs.World.{makes_look, at_row_helper, IsStep};
 
 /// A call begins as the next of the world's, at the position of its replica, with no instruction run. It doesn't where
 /// there is no such replica; else, where there is no such procedure; else, where the arguments have another length than

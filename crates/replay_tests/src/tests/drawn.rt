@@ -2,8 +2,8 @@
 
 use super::{rows_text, run_text, short};
 use bpf_code::decode;
-use dsm_model::Verdict;
 use dsm_replayer::{CallReport, CompletedReplay, PlainCall, replay_log};
+use log_model::Verdict;
 use plain_runner::{Row, run_program};
 use rand_core::utils::NextWord;
 use rand_pcg::Pcg32;

@@ -2,8 +2,8 @@
 
 use super::{catalogue_of, certification_at, put_of};
 use checked_replica::{CheckedReplica, CheckedVersions};
-use dsm_model::Verdict;
 use log_entry::Entry;
+use log_model::Verdict;
 use replica::Replica;
 use row_sets::WriteSet;
 use rows_mv::{Gone, Versions};

@@ -1,8 +1,9 @@
 //! Worlds that are drawn from a seed: what was done to one, and what it answered.
 
 use super::{CANCEL_CODE, CANCEL_NUMBER, PROCEDURE_COUNT, READ_NUMBER, catalogue_of, procedure_at};
-use dsm_model::{Outcome, Verdict};
+use dsm_model::Outcome;
 use dsm_world::{Step, World};
+use log_model::Verdict;
 use rand_core::utils::NextWord;
 use rand_pcg::Pcg32;
 use scarce::Scarce;

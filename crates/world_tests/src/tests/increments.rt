@@ -1,8 +1,9 @@
 //! Two increments of one row, of which the second conflicts and is begun anew.
 
 use super::{ADD_SEVEN, ADD_TEN, described, run_script, steps_of, two_replicas};
-use dsm_model::{Outcome, Verdict};
+use dsm_model::Outcome;
 use dsm_world::{Step, World};
+use log_model::Verdict;
 use scarce::Scarce;
 use std::alloc::Global;
 use std::test::Fail;

@@ -3,8 +3,9 @@
 use super::{
     ADD_SEVEN, ADD_TEN, Script, catalogue_of, described, run_script, steps_of, two_replicas,
 };
-use dsm_model::{Outcome, StepRefusal, Verdict};
+use dsm_model::{Outcome, StepRefusal};
 use dsm_world::{Step, World};
+use log_model::Verdict;
 use scarce::Scarce;
 use std::alloc::Global;
 use std::test::Fail;

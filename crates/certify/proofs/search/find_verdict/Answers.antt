@@ -1,5 +1,5 @@
 use Rattle.std.proofs.Common.{◌≡◌, ◌-◌, ◌≤◌, List, drop, sym, ap, ◌∙◌, arith}
-use Rattle.dsm_model.specs.Log.{CertifiedCall, unless_conflict}
+use Rattle.log_model.specs.Log.{CertifiedCall, unless_conflict}
 use Rattle.certify.specs.declared.search.SearchResult.{SearchResult}
 use Rattle.certify.specs.Kept.{StandsFor}
 use Rattle.certify.proofs.VerdictLemmas.{stale, none_compared, verdict_of_search, compared_of_search, result_of, result_is}

@@ -1,7 +1,7 @@
 use Rattle.std.proofs.Common.{◌≤◌, subst, arith}
 use Rattle.std.proofs.lemmas.List.Elements.{AllWithin-more, at_read}
 use Rattle.schema.specs.Rows.{AreWrites}
-use Rattle.dsm_model.specs.Entries.{Entry}
+use Rattle.log_model.specs.Entries.{Entry}
 use Rattle.checked_replica.proofs.FitLemmas.{log_more}
 use Rattle.checked_replica.proofs.fit.entries_fit.Goals as goal
 

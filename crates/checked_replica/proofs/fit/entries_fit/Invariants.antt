@@ -1,8 +1,8 @@
 use Rattle.std.proofs.Common.{drop}
 use Rattle.std.specs.List.{AllWithin}
 use Rattle.schema.specs.Rows.{AreWrites}
-use Rattle.dsm_model.specs.Log.{IsLog, IsLogFrom}
-use Rattle.dsm_model.specs.Entries.{calls_of}
+use Rattle.log_model.specs.Log.{IsLog, IsLogFrom}
+use Rattle.log_model.specs.Entries.{calls_of}
 use Rattle.checked_replica.proofs.fit.entries_fit.Given as goal
 
 abbrev pub invariant-loop-before : goal.invariant-loop-before

@@ -1,6 +1,6 @@
 use Rattle.std.proofs.Common.{◌∙◌, ◌+◌, sym, ap, map}
 use Rattle.std.proofs.lemmas.Result.{IfOk-weaker}
-use Rattle.dsm_model.specs.Comparisons.{comparisons_from}
+use Rattle.log_model.specs.Comparisons.{comparisons_from}
 use Rattle.dsm_replayer.specs.Replay.{certified_call}
 use Rattle.dsm_replayer.proofs.CertifyLemmas.{stale_comparisons, recent_comparisons}
 use Rattle.dsm_replayer.proofs.certify.comparisons_after.Goals as goal

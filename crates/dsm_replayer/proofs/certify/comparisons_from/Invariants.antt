@@ -1,5 +1,5 @@
 use Rattle.std.proofs.Common.{◌≡◌, ◌+◌, ◌++◌, map, drop}
-use Rattle.dsm_model.specs.Comparisons.{comparisons_from}
+use Rattle.log_model.specs.Comparisons.{comparisons_from}
 use Rattle.dsm_replayer.specs.Replay.{certified_call}
 use Rattle.dsm_replayer.proofs.certify.comparisons_from.Given as goal
 

@@ -1,5 +1,5 @@
 use Rattle.std.proofs.Common.{◌≡◌, ◌+◌, map, drop}
-use Rattle.dsm_model.specs.Log.{first_conflict}
+use Rattle.log_model.specs.Log.{first_conflict}
 use Rattle.dsm_replayer.specs.Replay.{certified_call}
 use Rattle.dsm_replayer.proofs.certify.first_conflict.Given as goal
 

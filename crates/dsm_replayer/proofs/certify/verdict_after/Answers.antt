@@ -1,5 +1,5 @@
 use Rattle.std.proofs.Common.{◌∙◌, ◌+◌, sym, ap, map}
-use Rattle.dsm_model.specs.Log.{first_conflict, unless_conflict}
+use Rattle.log_model.specs.Log.{first_conflict, unless_conflict}
 use Rattle.dsm_replayer.specs.Replay.{certified_call}
 use Rattle.dsm_replayer.proofs.CertifyLemmas.{stale_verdict, recent_verdict}
 use Rattle.dsm_replayer.proofs.certify.verdict_after.Goals as goal

@@ -1,8 +1,8 @@
 use Rattle.std.proofs.Common.{◌∙◌, ◌≡◌, ℕ, ap, map, get_or}
 use Rattle.std.specs.FinMap.{empty}
 use Rattle.plain_rows.specs.Listed.{rows_of}
-use Rattle.dsm_model.specs.Log.{by_number, run_of_procedure, verdict_after}
-use Rattle.dsm_model.specs.Comparisons.{comparisons_after}
+use Rattle.log_model.specs.Log.{by_number, run_of_procedure, verdict_after}
+use Rattle.log_model.specs.Comparisons.{comparisons_after}
 use Rattle.dsm_replayer.specs.Replay.{certified_call}
 use Rattle.dsm_replayer.proofs.LogLemmas.{said_of_run}
 use Rattle.dsm_replayer.proofs.replay.report_after.Goals as goal

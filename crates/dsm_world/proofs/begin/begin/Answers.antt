@@ -2,8 +2,8 @@ use Rattle.std.proofs.Common.{◌≡◌, ◌+◌, map, option_map, refl, sym, ap
 use Rattle.bpf_verify.specs.Flow.{Procedure}
 use Rattle.dsm_model.specs.declared.outcome.StepRefusal.TheVariants.{OutOfMemory}
 use Rattle.dsm_model.specs.declared.outcome.Outcome.TheVariants.{Begun, Refused}
-use Rattle.dsm_model.specs.Log.{by_number}
-use Rattle.dsm_model.specs.Entries.{calls_of}
+use Rattle.log_model.specs.Log.{by_number}
+use Rattle.log_model.specs.Entries.{calls_of}
 use Rattle.dsm_model.specs.World.{Begin, IsStep}
 use Rattle.catalogue.specs.Catalogue.{accepted_of}
 use Rattle.world_calls.specs.OpenCall.{open_call_of}

@@ -1,6 +1,6 @@
 use Rattle.std.proofs.Common.{◌+◌, ◌≤◌, List, length, refl, sym, ap, subst, ◌∙◌, arith}
 use Rattle.dsm_model.specs.declared.outcome.Outcome.TheVariants.{Delivered}
-use Rattle.dsm_model.specs.Entries.{Entry}
+use Rattle.log_model.specs.Entries.{Entry}
 use Rattle.dsm_model.specs.World.{Deliver, IsStep}
 use Rattle.replica.specs.Replica.{Replica}
 use Rattle.dsm_world.specs.System.{setting_of, world_of}

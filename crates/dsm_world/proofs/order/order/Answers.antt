@@ -1,7 +1,7 @@
 use Rattle.std.proofs.Common.{◌-◌, List, length, map, option_map, slice_set, Option, Some, None, refl, sym, ap, subst, ◌∙◌, arith}
 use Rattle.dsm_model.specs.declared.outcome.StepRefusal.TheVariants.{NotAtExit}
 use Rattle.dsm_model.specs.declared.outcome.Outcome.TheVariants.{Cancelled, Read, Refused}
-use Rattle.dsm_model.specs.Entries.{calls_of}
+use Rattle.log_model.specs.Entries.{calls_of}
 use Rattle.dsm_model.specs.World.{Order, IsStep}
 use Rattle.dsm_model.specs.Sound.{IsWorld}
 use Rattle.replica.specs.Replica.{Replica}

@@ -3,7 +3,7 @@ use Rattle.std.proofs.lemmas.List.Elements.{All-from_recursion}
 use Rattle.schema.specs.Rows.{AreWrites}
 use Rattle.dsm_model.specs.declared.outcome.StepRefusal.TheVariants.{OutOfMemory}
 use Rattle.dsm_model.specs.declared.outcome.Outcome.TheVariants.{Rebuilt, Refused}
-use Rattle.dsm_model.specs.Entries.{Entry}
+use Rattle.log_model.specs.Entries.{Entry}
 use Rattle.dsm_model.specs.World.{Rebuild, IsStep}
 use Rattle.replica.specs.Replica.{Replica, StandsFor}
 use Rattle.dsm_world.specs.System.{setting_of, progress_of, world_of}

@@ -1,7 +1,7 @@
 use Rattle.std.proofs.Common.{◌≡◌, ◌-◌, cond, true, false, List, length, map, option_map, slice_set, Option, Some, None, refl, sym, ap, subst, ◌∙◌, arith}
 use Rattle.dsm_model.specs.declared.outcome.Outcome.{Outcome}
-use Rattle.dsm_model.specs.Log.{by_number}
-use Rattle.dsm_model.specs.Entries.{calls_of}
+use Rattle.log_model.specs.Log.{by_number}
+use Rattle.log_model.specs.Entries.{calls_of}
 use Rattle.dsm_model.specs.World.{Turn as TurnStep, IsStep}
 use Rattle.dsm_model.specs.Sound.{IsWorld}
 use Rattle.catalogue.specs.Catalogue.{accepted_of}

@@ -2,7 +2,7 @@ use Rattle.std.proofs.Common.{◌≡◌, ℕ, ◌+◌, [], ◌∷◌, ◌++◌, 
 use Rattle.std.specs.Prelude.{slice_index_or}
 use Rattle.std.proofs.lemmas.List.{take_more}
 use Rattle.schema.specs.Rows.{AreWrites}
-use Rattle.dsm_model.specs.Entries.{Entry}
+use Rattle.log_model.specs.Entries.{Entry}
 use Rattle.replica.specs.Replica.{StandsFor}
 use Rattle.replica.proofs.FitLemmas.{snapshot_below}
 use Rattle.replica.proofs.rebuild.replica_of.Goals as goal

@@ -1,7 +1,7 @@
 use Rattle.std.proofs.Common.{◌≡◌, suc, ◌+◌, ◌-◌, zero, subst, arith, rules, refl, ◌∙◌}
 use Rattle.std.proofs.lemmas.Result.{err_from_is_err_and}
 use Rattle.std.specs.List.{concat}
-use Rattle.dsm_model.specs.Log.{Setting}
+use Rattle.log_model.specs.Log.{Setting}
 use Rattle.dsm_model.specs.World.{Deliver, IsStep}
 use Rattle.byte_output.specs.Pending.{Passes}
 use Rattle.dsm_world.specs.System.{setting_of, world_of}

@@ -1,5 +1,5 @@
 use Rattle.std.proofs.Common.{◌≡◌, suc, ◌+◌, ◌-◌, zero, subst, arith, rules, refl, ◌∙◌}
-use Rattle.dsm_model.specs.Log.{Setting}
+use Rattle.log_model.specs.Log.{Setting}
 use Rattle.dsm_model.specs.World.{Turn as TurnStep, IsStep}
 use Rattle.dsm_world.specs.System.{setting_of, world_of}
 use Rattle.script_actions.specs.Actions.{is_more}

@@ -1,7 +1,7 @@
 use Rattle.std.proofs.Common.{◌≡◌, ◌++◌, List, ℕ, codes, Option, Some, None, subst, sym, ap, ◌∙◌}
 use Rattle.std.specs.Prelude.{option_map}
 use Rattle.std.proofs.lemmas.Result.{err_from_is_err_and}
-use Rattle.dsm_model.specs.Log.{Call}
+use Rattle.log_model.specs.Log.{Call}
 use Rattle.dsm_model.specs.World.{numbered}
 use Rattle.dsm_world.specs.System.{setting_of, world_of}
 use Rattle.log_entry.specs.Bytes.{entry_bytes}

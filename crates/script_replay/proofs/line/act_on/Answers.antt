@@ -1,4 +1,4 @@
-use Rattle.dsm_world.specs.System.{setting_of, world_of}
+use Rattle.script_actions.specs.Actions.{setting_of, world_of}
 use Rattle.script_replay.specs.Stage.{Acts}
 use Rattle.script_replay.specs.Doing.{PrintsFrom}
 use Rattle.script_replay.proofs.DoneLemmas.{acted, broke, wanting}

@@ -1,6 +1,6 @@
 use Rattle.std.proofs.Common.{Some, Ok, sym, ◌∙◌}
 use Rattle.std.proofs.lemmas.Result.{err_from_is_err_and}
-use Rattle.dsm_world.specs.System.{setting_of, world_of}
+use Rattle.script_actions.specs.Actions.{setting_of, world_of}
 use Rattle.script_replay.specs.Stage.{Acts, action_of}
 use Rattle.script_replay.specs.Doing.{stage_of}
 use Rattle.script_replay.proofs.DoneLemmas.{by_action, stops_by, sets_or_stops}

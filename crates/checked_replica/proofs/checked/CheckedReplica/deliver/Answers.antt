@@ -1,7 +1,7 @@
 use Rattle.std.proofs.Common.{subst}
 use Rattle.schema.specs.Schema.{Tables}
 use Rattle.schema.specs.Rows.{AreWrites}
-use Rattle.dsm_model.specs.Entries.{Entry}
+use Rattle.log_model.specs.Entries.{Entry}
 use Rattle.checked_replica.proofs.checked.CheckedReplica.deliver.Goals as goal
 
 pub deliver-requires-clause-fit : goal.deliver-requires-clause-fit

@@ -1,5 +1,5 @@
 use Rattle.std.proofs.Common.{◌≡◌, Some, subst}
-use Rattle.dsm_model.specs.Fit.{HasSafeProcedures}
+use Rattle.log_model.specs.Fit.{HasSafeProcedures}
 use Rattle.dsm_model.specs.Sound.{IsWorld}
 use Rattle.dsm_model.specs.World.{numbered}
 use Rattle.replica.specs.Replica.{AreEntriesOf}

@@ -1,5 +1,5 @@
 use Rattle.std.proofs.Common.{List, [], map, option_map, sym, ap, subst, ◌∙◌}
-use Rattle.dsm_model.specs.Entries.{Entry, calls_of}
+use Rattle.log_model.specs.Entries.{Entry, calls_of}
 use Rattle.dsm_world.specs.System.{progress_of}
 use Rattle.dsm_world.specs.Holdings.{IsTogether, open_calls_of}
 use Rattle.dsm_world.proofs.RunLemmas.{first_of, first_together}

@@ -2,9 +2,9 @@ use Rattle.std.proofs.Common.{◌≡◌, ◌<◌, Some, slice_get, List, [], map
 use Rattle.std.proofs.lemmas.List.{take_more}
 use Rattle.std.specs.List.{AllByRecursion}
 use Rattle.dsm_model.specs.declared.outcome.Outcome.{Outcome}
-use Rattle.dsm_model.specs.declared.verdict.Verdict.TheVariants.{Commit}
+use Rattle.log_model.specs.declared.verdict.Verdict.TheVariants.{Commit}
 use Rattle.dsm_model.specs.declared.outcome.Outcome.TheVariants.{Exit, Ordered}
-use Rattle.dsm_model.specs.Log.{Setting, verdict_of}
+use Rattle.log_model.specs.Log.{Setting, verdict_of}
 use Rattle.dsm_model.specs.World.{Turn as TurnStep, Order as OrderStep, IsStep, AreSteps}
 use Rattle.dsm_model.specs.Sound.{HasByteArguments, IsSerialReply}
 use Rattle.dsm_world.specs.System.{setting_of, world_of, step_of}

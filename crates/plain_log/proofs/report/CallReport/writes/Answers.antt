@@ -2,7 +2,7 @@ use Rattle.std.proofs.Common.{◌∙◌, sym, ap, List, ℕ}
 use Rattle.std.specs.Prelude.{Option}
 use Rattle.std.specs.FinMap.{empty, entries}
 use Rattle.bpf_semantics.specs.Run.{Run}
-use Rattle.dsm_model.specs.Log.{or_idle}
+use Rattle.log_model.specs.Log.{or_idle}
 use Rattle.plain_log.specs.Report.{Report}
 use Rattle.plain_log.proofs.RowLemmas.{no_entries}
 use Rattle.plain_log.proofs.report.CallReport.writes.Goals as goal

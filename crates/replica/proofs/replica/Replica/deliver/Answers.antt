@@ -1,7 +1,7 @@
 use Rattle.std.proofs.Common.{◌≡◌, ◌+◌, List, [], ◌∷◌, ◌++◌, refl, sym, ap, subst, ◌∙◌, arith}
 use Rattle.std.specs.Prelude.{Some}
-use Rattle.dsm_model.specs.Log.{verdict_of}
-use Rattle.dsm_model.specs.Entries.{Entry, calls_of}
+use Rattle.log_model.specs.Log.{verdict_of}
+use Rattle.log_model.specs.Entries.{Entry, calls_of}
 use Rattle.replica.specs.Replica.{Replica, StandsFor, AreEntriesOf}
 use Rattle.replica.proofs.LogLemmas.{delivered_verdict}
 use Rattle.replica.proofs.replica.Replica.deliver.Goals as goal

@@ -1,9 +1,0 @@
-use Rattle.dsm_model.proofs.CallLemmas.{certified_by_entries}
-use Rattle.dsm_model.proofs.EntryLemmas.{rows_installed}
-use Rattle.dsm_model.proofs.laws.log.entries_suffice.Goals as goal
-
-pub returns-clause-verdicts : goal.returns-clause-verdicts
-returns-clause-verdicts c = certified_by_entries
-
-pub returns-clause-rows : goal.returns-clause-rows
-returns-clause-rows c = rows_installed

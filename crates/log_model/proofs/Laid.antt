@@ -1,0 +1,13 @@
+-- The rows after each position by the write sets of those that committed.
+use Rattle.std.specs.Prelude.{ℕ, List, [], ◌∷◌, if◌then◌else◌, take}
+use Rattle.std.specs.FinMap.{empty}
+use Rattle.schema.specs.Rows.{Rows, Writes}
+use Rattle.bpf_semantics.specs.Agree.{after_each}
+use Rattle.log_model.specs.Log.{CertifiedCall, is_commit}
+
+abbrev pub installed_writes : List CertifiedCall → List Writes
+installed_writes [] = []
+installed_writes (c ∷ later) = if is_commit c.verdict then c.writes ∷ installed_writes later else installed_writes later
+
+abbrev pub rows_laid_on : List CertifiedCall → ℕ → Rows
+rows_laid_on certified_calls position = after_each (installed_writes (take position certified_calls)) empty

@@ -1,0 +1,11 @@
+mod Laid
+mod LaidLemmas
+pub mod RunLemmas
+mod VerdictLemmas
+mod HistoryLemmas
+pub mod CallLemmas
+pub mod GrowthLemmas
+mod MeaningLemmas
+mod ComparisonLemmas
+pub mod EntryLemmas
+mod CarryLemmas

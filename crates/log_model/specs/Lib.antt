@@ -1,0 +1,5 @@
+pub mod Log
+pub mod Verdicts
+pub mod Comparisons
+pub mod Fit
+pub mod Entries

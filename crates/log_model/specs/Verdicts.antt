@@ -1,0 +1,29 @@
+-- What a verdict means, in words of the log alone.
+use Rattle.std.specs.Prelude.{◌≡◌, ℕ, suc, ◌<◌, ◌≤◌, List, slice_get, Some, IsTrue, IsSome}
+use Rattle.std.specs.FinMap.{get}
+use Rattle.schema.specs.declared.look.Look.{Look}
+use Rattle.schema.specs.Rows.{Key, any_covers}
+use Rattle.log_model.specs.declared.verdict.Verdict.TheVariants.{Commit}
+use Rattle.log_model.specs.Log.{Setting, Call, Log, verdict_of, run_in}
+
+-- the call at this position committed, and its run wrote a key in one of the looks
+pub record WroteWhatWasRead (w : Setting) (log : Log) (looks : List Look) (position : ℕ) : Type 0 where
+  pub before : ℕ
+  pub place : position ≡ suc before
+  pub call : Call
+  pub stands : slice_get log before ≡ Some call
+  pub committed : verdict_of w log position ≡ Some Commit
+  pub key : Key
+  pub looked_at : IsTrue (any_covers looks key)
+  pub written : IsSome (get (run_in w log call).writes key)
+
+-- it did so since the snapshot of a call that stands at a later position
+pub record IsConflict (w : Setting) (log : Log) (call : Call) (position later : ℕ) : Type 0 where
+  pub since : call.snapshot < position
+  pub earlier : position < later
+  pub wrote : WroteWhatWasRead w log (run_in w log call).looks position
+
+-- and is the first that did
+pub record IsLeastConflict (w : Setting) (log : Log) (call : Call) (position later : ℕ) : Type 0 where
+  pub is : IsConflict w log call position later
+  pub least : (other : ℕ) → IsConflict w log call other later → position ≤ other

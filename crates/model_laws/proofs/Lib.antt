@@ -1,0 +1,6 @@
+mod SerialLemmas
+mod ContentsLemmas
+mod PartLemmas
+mod TurnLemmas
+mod RefusalLemmas
+mod AgreeLemmas

@@ -1,0 +1,8 @@
+use Rattle.log_model.proofs.CallLemmas.{rows_first, rows_next}
+use Rattle.model_laws.proofs.log.rows_after_each_call.Goals as goal
+
+pub returns-clause-first : goal.returns-clause-first
+returns-clause-first c = rows_first
+
+pub returns-clause-next : goal.returns-clause-next
+returns-clause-next c = rows_next

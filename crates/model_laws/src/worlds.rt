@@ -1,0 +1,108 @@
+//! Laws of worlds: what there is at first, that a change of one call or replica is one of that alone, what refused steps
+//! leave, where calls end, and that replicas agree.
+
+ghost use Rattle.std.specs.Prelude.{◌≡◌, ◌≢◌, ◌+◌, ◌<◌, ◌≤◌, ℕ, true, List, [], Some, None, IsSome, Option, ◌⊎◌, false, length};
+ghost use Rattle.dsm_model.specs.declared.outcome.Outcome.{Outcome};
+ghost use Rattle.dsm_model.specs.declared.outcome.Outcome.TheVariants.{Begun, Exit, Stale, NoMemory, Refused};
+ghost use Rattle.log_model.specs.Log.{Setting, StoredProcedure, Log, by_number, run_in};
+ghost use Rattle.dsm_model.specs.World.{World, Replica, OpenCall, Step, Begin, first_world, numbered, open_call, with_open_call, with_replica, IsStep, AreSteps, Turn, Order, Deliver, Rebuild, max_calls};
+ghost use Rattle.std.specs.List.{AllByRecursion};
+ghost use Rattle.dsm_model.specs.declared.outcome.StepRefusal.{StepRefusal};
+ghost use Rattle.dsm_model.specs.declared.outcome.StepRefusal.TheVariants.{NotAtExit, LogFull, OutOfMemory};
+ghost use Rattle.bpf_semantics.specs.Path.{longest_path};
+ghost use Rattle.log_model.specs.Fit.{HasSafeProcedures};
+ghost use Rattle.dsm_model.specs.Sound.{HasByteArguments, IsWorld};
+ghost use Rattle.model_laws.specs.Worlds.{delivered_calls, IsPrefix, turns_of};
+
+/// A change of one call or replica is made there, and leaves the others and the rest; a call that begins is open under
+/// its number.
+pub fn each_change_is_of_one()
+    ensures call { (world : World) (c : ℕ) (o : Option OpenCall)
+        → IsSome (numbered world.calls c) → numbered (with_open_call world c o).calls c ≡ Some o }
+    ensures other_calls { (world : World) (c d : ℕ) (o : Option OpenCall)
+        → d ≢ c → numbered (with_open_call world c o).calls d ≡ numbered world.calls d }
+    ensures replica { (world : World) (r : ℕ) (replica : Replica)
+        → IsSome (numbered world.replicas r) → numbered (with_replica world r replica).replicas r ≡ Some replica }
+    ensures other_replicas { (world : World) (r q : ℕ) (replica : Replica)
+        → q ≢ r → numbered (with_replica world r replica).replicas q ≡ numbered world.replicas q }
+    ensures rest { (world : World) (c r : ℕ) (o : Option OpenCall) (replica : Replica)
+        → ((with_open_call world c o).log ≡ world.log) × ((with_open_call world c o).replicas ≡ world.replicas)
+        × ((with_replica world r replica).log ≡ world.log) × ((with_replica world r replica).calls ≡ world.calls) }
+    ensures begun { (w : Setting) (before : World) (r procedure : ℕ) (args : List ℕ) (c snapshot : ℕ) (after : World)
+        → IsStep w before (Begin r procedure args) (Begun c snapshot) after
+        → open_call after c ≡ Some (record {
+          replica = r;
+          call = record { number = c; procedure = procedure; args = args; snapshot = snapshot };
+          turns = 0;
+        }) }
+{}
+
+/// In the first world so many replicas run at position 0, and there is neither a log nor a call; and each list of steps
+/// leads on.
+pub fn there_are_worlds()
+    ensures replicas { (n k : ℕ) → k < n
+        → numbered (first_world n).replicas (k + 1) ≡ Some (record { position = 0; running = true }) }
+    ensures no_more { (n k : ℕ) → n ≤ k → numbered (first_world n).replicas (k + 1) ≡ None }
+    ensures nothing { (n : ℕ) → ((first_world n).log ≡ []) × ((first_world n).calls ≡ []) }
+    ensures steps { (w : Setting) (before : World) (steps : List Step)
+        → (outcomes : List Outcome) × (after : World) × AreSteps w before steps outcomes after }
+{}
+
+/// After as many turns as the longest path of its procedure has instructions a call that is still open has come to its
+/// end: one of them has answered Exit.
+pub fn enough_turns_reach_exit()
+    ensures { (w : Setting) (before : World) (steps : List Step) (outcomes : List Outcome)
+        (after : World) (c : ℕ) (o : OpenCall) (p : StoredProcedure)
+        → HasSafeProcedures w → AllByRecursion HasByteArguments steps → IsWorld w before
+        → AreSteps w before steps outcomes after
+        → IsSome (open_call before c) → open_call after c ≡ Some o
+        → by_number w.catalogue o.call.procedure ≡ Some p → longest_path p.program ≤ turns_of c steps
+        → o.turns ≡ (run_in w after.log o.call).steps }
+{}
+
+/// Of what two replicas of one log have delivered, one begins with the other.
+pub fn replicas_agree()
+    ensures { (log : Log) (a b : Replica)
+        → IsPrefix (delivered_calls log a) (delivered_calls log b)
+        ⊎ IsPrefix (delivered_calls log b) (delivered_calls log a) }
+{}
+
+/// A refused step changes nothing, but where memory is wanted or the log is full: then a call that was to be ordered is
+/// over, and a replica that was to deliver is stopped at its position.
+pub fn refused_steps_change_nothing()
+    ensures nothing { (w : Setting) (before : World) (step : Step) (refusal : StepRefusal) (after : World)
+        → IsStep w before step (Refused refusal) after → refusal ≢ OutOfMemory → refusal ≢ LogFull
+        → after ≡ before }
+    ensures begin { (w : Setting) (before : World) (r procedure : ℕ) (args : List ℕ) (after : World)
+        → IsStep w before (Begin r procedure args) (Refused OutOfMemory) after → after ≡ before }
+    ensures order { (w : Setting) (before : World) (c : ℕ) (after : World)
+        → IsStep w before (Order c) (Refused OutOfMemory) after → after ≡ with_open_call before c None }
+    ensures deliver { (w : Setting) (before : World) (r : ℕ) (after : World)
+        → IsStep w before (Deliver r) (Refused OutOfMemory) after
+        → (replica : Replica) × (numbered before.replicas r ≡ Some replica)
+        × (after ≡ with_replica before r (record { position = replica.position; running = false })) }
+    ensures rebuild { (w : Setting) (before : World) (r : ℕ) (after : World)
+        → IsStep w before (Rebuild r) (Refused OutOfMemory) after → after ≡ before }
+{}
+
+/// A call is over after any answer of its order but that it isn't at EXIT, and after a turn that is stale or finds
+/// no memory; and it stays over.
+pub fn calls_end()
+    ensures order { (w : Setting) (before : World) (c : ℕ) (outcome : Outcome) (after : World)
+        → IsStep w before (Order c) outcome after
+        → (outcome ≡ Refused NotAtExit) ⊎ (open_call after c ≡ None) }
+    ensures stale { (w : Setting) (before : World) (c : ℕ) (after : World)
+        → IsStep w before (Turn c) Stale after → open_call after c ≡ None }
+    ensures memory { (w : Setting) (before : World) (c : ℕ) (after : World)
+        → IsStep w before (Turn c) NoMemory after → open_call after c ≡ None }
+    ensures stays { (w : Setting) (before : World) (step : Step) (outcome : Outcome) (after : World) (c : ℕ)
+        → IsStep w before step outcome after → numbered before.calls c ≡ Some None
+        → numbered after.calls c ≡ Some None }
+{}
+
+/// The log never outgrows its limit, and no step finds it full.
+pub fn the_log_is_never_full()
+    ensures few { (w : Setting) (world : World) → IsWorld w world → length world.log ≤ max_calls }
+    ensures never { (w : Setting) (before : World) (step : Step) (after : World)
+        → IsWorld w before → IsStep w before step (Refused LogFull) after → ⊥ }
+{}
