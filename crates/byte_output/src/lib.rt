@@ -41,6 +41,3 @@ pub fn put<W: Write>(output: &mut W, bytes: &[u8]) -> io::Result<()>
     }
     Err(io::Error::from(ErrorKind::Interrupted))
 }
-
-#[cfg(test)]
-mod tests;

@@ -2,5 +2,6 @@
 //! they decode to, `listings.rt` a line for each opcode.
 
 mod listings;
+mod outputs;
 mod programs;
 mod words;

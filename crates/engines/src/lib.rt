@@ -12,6 +12,4 @@ mod list;
 mod number;
 mod source;
 mod status;
-#[cfg(test)]
-mod tests;
 mod verdict;

@@ -14,6 +14,4 @@ mod laws;
 mod range;
 mod shift;
 mod table;
-#[cfg(test)]
-mod tests;
 mod width;

@@ -6,5 +6,3 @@ pub use entry::Entry;
 
 mod bytes;
 mod entry;
-#[cfg(test)]
-mod tests;

@@ -11,5 +11,3 @@ pub use refinement::{refine32, refine64};
 mod laws;
 mod refinement;
 mod table;
-#[cfg(test)]
-mod tests;

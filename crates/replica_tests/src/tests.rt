@@ -12,6 +12,7 @@ use std::test::Fail;
 mod drawn;
 mod pages;
 mod refused;
+mod refused_growths;
 mod replayed;
 mod stores;
 

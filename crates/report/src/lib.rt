@@ -11,7 +11,5 @@ mod answers;
 mod laws;
 mod printed;
 mod refusal;
-#[cfg(test)]
-mod tests;
 mod text;
 mod words;

@@ -27,9 +27,6 @@ ghost use Rattle.std.specs.Prelude.{◌<◌, true, IfSome};
 use std::alloc::{AllocError, Allocator, Global};
 use std::sync::atomic::{AtomicBool, AtomicU64, Ordering};
 
-#[cfg(test)]
-mod tests;
-
 /// The most calls that `refuse_each` makes.
 const MOST_CALLS: u64 = 1000;
 

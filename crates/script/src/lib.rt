@@ -15,6 +15,4 @@ mod input;
 mod laws;
 mod number;
 mod saying;
-#[cfg(test)]
-mod tests;
 mod word;

@@ -8,5 +8,3 @@ mod cause;
 mod procedure;
 mod settings;
 mod table;
-#[cfg(test)]
-mod tests;

@@ -9,5 +9,3 @@ mod block;
 mod lanes;
 mod laws;
 mod sig;
-#[cfg(test)]
-mod tests;

@@ -131,7 +131,7 @@ impl Sig {
 
     /// The 16 words.
     #[inline(always)]
-    pub(crate) fn words(&self) -> [u64; 16]
+    pub fn words(&self) -> [u64; 16]
         ensures words { result ≡ self.now }
         ensures sixteen { length result ≡ 16 }
     {

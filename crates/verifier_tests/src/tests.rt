@@ -7,6 +7,8 @@ use std::alloc::Global;
 use std::test::Fail;
 
 mod programs;
+mod ranges;
+mod refinements;
 
 use programs::{CAUSES, PROGRAMS};
 

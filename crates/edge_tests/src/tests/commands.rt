@@ -1,6 +1,4 @@
-use crate::check::check_over;
-use crate::list::list_over;
-use crate::number::{number_in, table};
+use engines::{check_over, list_over, number_in, table};
 use scarce::Scarce;
 use std::alloc::Global;
 use std::io;

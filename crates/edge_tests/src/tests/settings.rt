@@ -1,6 +1,6 @@
-use crate::{FaultCause, ScriptFault, Settings};
 use scarce::Scarce;
 use script::command;
+use script_settings::{FaultCause, ScriptFault, Settings};
 use std::alloc::Allocator;
 use std::test::Fail;
 

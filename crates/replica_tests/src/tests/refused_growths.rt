@@ -2,11 +2,10 @@ ghost use Rattle.std.specs.Prelude.{◌≡◌, IfOk};
 ghost use Rattle.schema.specs.Rows.{AreWrites};
 ghost use Rattle.rows_mv.specs.Versions.{HaveTables};
 
-use crate::laws::tables_take_the_schemas_writes;
-use crate::{Replica, Stopped};
 use catalogue::Catalogue;
 use log_entry::Entry;
 use log_model::Verdict;
+use replica::{Replica, Stopped, tables_take_the_schemas_writes};
 use row_sets::{ReadSet, WriteSet};
 use row_values::Bytes;
 use scarce::Scarce;

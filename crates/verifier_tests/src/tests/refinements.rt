@@ -1,7 +1,7 @@
-use crate::{refine32, refine64};
 use bpf_words::Condition;
 use bpf_words::Condition::{Eq, Ge, Gt, Le, Lt, Ne, Set, Sge, Sgt, Sle, Slt};
 use interval::Range;
+use range_refine::{refine32, refine64};
 
 #[test]
 fn edges_on_64_bits(rt: HostRuntime) {

@@ -1,5 +1,5 @@
 // What no clause says: which growth is refused, what the counters show, and that a collection can use it.
-use crate::Scarce;
+use scarce::Scarce;
 use std::alloc::AllocError;
 use std::collections::BTreeMap;
 use std::process::Abort;

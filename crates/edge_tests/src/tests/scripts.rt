@@ -1,6 +1,6 @@
-use crate::{Command, LineFault, MAX_LINE, Next, command, next_line};
 use row_values::Bytes;
 use scarce::Scarce;
+use script::{Command, LineFault, MAX_LINE, Next, command, next_line};
 use std::alloc::Allocator;
 use std::io;
 use std::io::{BufRead, ErrorKind, Read};

@@ -1,5 +1,7 @@
-use super::*;
-use paged::{PAGE_BYTES, PagedOutput};
+use byte_output::paged::{PAGE_BYTES, PagedOutput};
+use byte_output::{line, put};
+use std::io;
+use std::io::{ErrorKind, Write};
 use std::test::Fail;
 
 /// What a write answers in turn: so many bytes, an interruption or a failure.

@@ -1,6 +1,6 @@
-use crate::{CallReport, Line, LoggedEntry, ReplicaReport, call_line, line};
 use dsm_model::{Outcome, StepRefusal};
 use log_model::Verdict;
+use report::{CallReport, Line, LoggedEntry, ReplicaReport, call_line, line};
 use scarce::Scarce;
 use std::test::Fail;
 

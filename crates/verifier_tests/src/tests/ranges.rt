@@ -1,5 +1,4 @@
 //! Ranges of results, by rows that a Python program computed, and joins.
-use crate::{Range, alu32_range, alu64_range, end_range};
 use bpf_words::BinaryOperation::{
     Add, And, Arsh, Div, Lsh, Mod, Mov, Mul, Or, Rsh, Sdiv, Smod, Sub, Xor,
 };
@@ -8,6 +7,7 @@ use bpf_words::EndWidth::{Low16, Low32, Low64};
 use bpf_words::Operation::{Binary, Movsx, Neg};
 use bpf_words::SignExtension::{From8, From16, From32};
 use bpf_words::{ByteOrder, Operation};
+use interval::{Range, alu32_range, alu64_range, end_range};
 use std::process::Abort;
 
 #[test]

@@ -1,0 +1,5 @@
+//! Tests of the edge: the engines of `list` and `check`, printed lines, lines of scripts, settings.
+#![tactic(auto)]
+
+#[cfg(test)]
+mod tests;

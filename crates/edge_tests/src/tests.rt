@@ -1,0 +1,4 @@
+mod commands;
+mod lines;
+mod scripts;
+mod settings;

@@ -1,0 +1,5 @@
+//! Tests of what a replica stands on: signatures, the bytes of entries, catalogues.
+#![tactic(auto)]
+
+#[cfg(test)]
+mod tests;

@@ -1,0 +1,3 @@
+mod catalogues;
+mod entries;
+mod signatures;
