@@ -3,18 +3,13 @@
 
 ghost use Rattle.std.specs.Prelude.{◌≤◌};
 
+use command_line::{Plan, PlanFault, plan};
 use engines::{FAILED, check_over, list_over};
-use plan::plan;
-use request::{Plan, PlanFault};
 use script_replay::replay_over;
 use std::fs::File;
 use std::io::{BufReader, Write};
 use std::process::ExitCode;
 use std::{env, io};
-
-mod help;
-mod plan;
-mod request;
 
 /// The exit status of a command line that can't be read.
 const BAD_COMMAND_LINE: u8 = 2;
@@ -116,6 +111,3 @@ fn main(rt: HostRuntime) -> ExitCode {
         }
     }
 }
-
-#[cfg(test)]
-mod tests;

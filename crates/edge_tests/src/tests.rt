@@ -1,3 +1,4 @@
+mod command_lines;
 mod commands;
 mod lines;
 mod scripts;

@@ -1,6 +1,6 @@
 use Rattle.std.proofs.Common.{◌≡◌, map, take, Some}
 use Rattle.engines.specs.Number.{table_word}
-use Rattle.dsmdb.proofs.plan.read_tables.Given as goal
+use Rattle.command_line.proofs.words.read_tables.Given as goal
 
 -- the words so far are the tables so far
 abbrev pub invariant-loop-word : goal.invariant-loop-word

@@ -4,8 +4,8 @@ ghost use Rattle.std.specs.Prelude.{◌≡◌, [], codes, Some, IfOk, map};
 ghost use Rattle.std.specs.Option.{unwrap_or};
 ghost use Rattle.clap.specs.Words.{all_of, app_of, found_of, rows_of, rule_of, subcommand_of, subcommand_rows_of};
 ghost use Rattle.engines.specs.Number.{table_word};
-ghost use Rattle.dsmdb.specs.Plan.{args_rule, check_line, command_line, file_rule, list_line, replay_line, script_rule, table_rule};
-ghost use Rattle.dsmdb.specs.Plan.{IsPlanOf, IsListOf, IsCheckOf, IsReplayOf};
+ghost use Rattle.command_line.specs.Plan.{args_rule, check_line, command_line, file_rule, list_line, replay_line, script_rule, table_rule};
+ghost use Rattle.command_line.specs.Plan.{IsPlanOf, IsListOf, IsCheckOf, IsReplayOf};
 
 use crate::help::SCRIPT_HELP;
 use crate::request::{Plan, PlanFault};

@@ -1,7 +1,7 @@
 use Rattle.std.proofs.Common.{◌∙◌, sym, codes}
 use Rattle.clap.specs.Words.{found_of}
 use Rattle.clap.proofs.WalkLemmas.{first_value-rows}
-use Rattle.dsmdb.proofs.plan.list_plan.Goals as goal
+use Rattle.command_line.proofs.words.list_plan.Goals as goal
 
 pub returns-in-Some : goal.returns-in-Some
 returns-in-Some c = sym (first_value-rows (found_of c.args.values.now) (codes "FILE")) ∙ sym c.in-Some.ensures

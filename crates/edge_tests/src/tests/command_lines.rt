@@ -1,5 +1,4 @@
-use crate::plan::plan;
-use crate::request::{Plan, PlanFault};
+use command_line::{Plan, PlanFault, plan};
 use std::test::Fail;
 
 #[test]

@@ -1,8 +1,8 @@
 use Rattle.std.proofs.Common.{◌≡◌, ◌∙◌, ap, ap₂, codes, false}
 use Rattle.clap.specs.Words.{Rule, app_of, new_app, with_rule}
 use Rattle.clap.specs.Simple.{app_of_fields}
-use Rattle.dsmdb.proofs.LocalLemmas.{arg_is_local, ok_gives}
-use Rattle.dsmdb.proofs.plan.check_command.Goals as goal
+use Rattle.command_line.proofs.LocalLemmas.{arg_is_local, ok_gives}
+use Rattle.command_line.proofs.words.check_command.Goals as goal
 
 pub returns : goal.returns
 returns c =

@@ -4,8 +4,8 @@ use Rattle.std.specs.Borrow.{Bor}
 use Rattle.clap.specs.Words.{found_of}
 use Rattle.clap.proofs.WalkLemmas.{raw_values-rows}
 use Rattle.engines.specs.Number.{table_word}
-use Rattle.dsmdb.proofs.LocalLemmas.{ok_gives}
-use Rattle.dsmdb.proofs.plan.tables.Goals as goal
+use Rattle.command_line.proofs.LocalLemmas.{ok_gives}
+use Rattle.command_line.proofs.words.tables.Goals as goal
 
 texts_read : (words : List (Bor (List ℕ))) → map table_word (map (λ w. w.now) words) ≡ map (λ w. table_word w.now) words
 texts_read [] = refl

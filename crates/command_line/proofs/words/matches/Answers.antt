@@ -1,9 +1,9 @@
 use Rattle.std.proofs.Common.{◌≡◌, ◌∙◌, ap, ap₂, true, map}
 use Rattle.clap.specs.Words.{App, app_of, is_simple, subcommand_of, with_subcommand}
 use Rattle.clap.specs.Simple.{app_of_fields}
-use Rattle.dsmdb.specs.Plan.{named_command, command_line}
-use Rattle.dsmdb.proofs.LocalLemmas.{third_is_off}
-use Rattle.dsmdb.proofs.plan.matches.Goals as goal
+use Rattle.command_line.specs.Plan.{named_command, command_line}
+use Rattle.command_line.proofs.LocalLemmas.{third_is_off}
+use Rattle.command_line.proofs.words.matches.Goals as goal
 
 abbrev having_version : App → App
 having_version a = record a { top = record a.top { has_version = true } }
