@@ -1,0 +1,57 @@
+"""A source of C as a database: compiles it, and tells its tables and procedures by their sections."""
+import os
+import re
+import subprocess
+import sys
+from collections import namedtuple
+
+from objects import Object
+
+HERE = os.path.dirname(os.path.realpath(__file__))
+VERSION = 19
+FLAGS = (
+    "--target=bpfel -mcpu=v4 -O2 -g -ffreestanding -fwrapv -fno-jump-tables -mllvm -unroll-runtime -Wall -Wextra "
+    "-Wno-pass-failed -Werror=padded -Werror=return-type -Werror=incompatible-pointer-types -Werror=int-conversion "
+    "-Werror=deprecated-non-prototype -Werror=unused-result"
+).split()
+# what clang says of BPF in words of its own, and what is meant
+MESSAGES = [
+    (r"Looks like the BPF stack limit.*", "rows, arguments and what the compiler puts aside take more than the stack's 512 bytes: keep fewer of them at once"),
+    (r"A call to built-in function '__\w*[sd]f.*", "there are no numbers with a fraction: count in the least unit, as cents"),
+    (r"A call to built-in function '__mul.*", "there is no product of 128 bits: bound both factors before"),
+]
+
+Table = namedtuple("Table", "number width")
+Procedure = namedtuple("Procedure", "number name section args_len")
+
+
+def compiler():
+    """Returns clang's command: that of the version that the committed programs were made with, where it is there."""
+    return os.environ.get("CLANG", f"clang-{VERSION}")
+
+
+def compile_source(source, to):
+    """Compiles a source, and ends with what clang says where it can't be."""
+    try:
+        ran = subprocess.run([compiler(), *FLAGS, f"-I{HERE}", "-c", source, "-o", to], stderr=subprocess.PIPE, text=True)
+    except OSError:
+        sys.exit(f"{compiler()} isn't here: apt-get install clang-{VERSION}")
+    said = ran.stderr
+    for theirs, ours in MESSAGES:
+        said = re.sub(theirs, ours, said)
+    sys.stderr.write(said)
+    if ran.returncode:
+        sys.exit(1)
+    return Object(to)
+
+
+def tables(found):
+    prefix = "dsmdb/table/"
+    return sorted(Table(int(it.removeprefix(prefix)), len(row)) for it, row in found.sections.items() if it.startswith(prefix))
+
+
+def procedures(found):
+    """Returns the procedures by their numbers."""
+    sections = [it for it in found.sections if it.startswith("dsmdb/proc/")]
+    parts = [(int(it.split("/")[2]), it.split("/")[3], it) for it in sections]
+    return [Procedure(*it, len(found.sections.get(f"dsmdb/args/{it[1]}", b""))) for it in sorted(parts)]
