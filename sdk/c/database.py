@@ -30,10 +30,10 @@ def compiler():
     return os.environ.get("CLANG", f"clang-{VERSION}")
 
 
-def compile_source(source, to):
-    """Compiles a source, and ends with what clang says where it can't be."""
+def compile_source(source, to, *more):
+    """Compiles a source, with further flags, and ends with what clang says where it can't be."""
     try:
-        ran = subprocess.run([compiler(), *FLAGS, f"-I{HERE}", "-c", source, "-o", to], stderr=subprocess.PIPE, text=True)
+        ran = subprocess.run([compiler(), *FLAGS, *more, f"-I{HERE}", "-c", source, "-o", to], stderr=subprocess.PIPE, text=True)
     except OSError:
         sys.exit(f"{compiler()} isn't here: apt-get install clang-{VERSION}")
     said = ran.stderr

@@ -1,5 +1,5 @@
 """Lays a program's blocks out so that every jump goes forward, which the verifier asks for. clang leaves them in an
-order of its own, with some jumps backwards that are no loops. A true loop stays, and is told."""
+order of its own, with some jumps backwards that are no loops. A true loop is told."""
 from struct import pack
 
 SLOT = 8
@@ -7,12 +7,15 @@ WIDE, JUMP, JUMP_FAR, CALL, EXIT = 0x18, 0x05, 0x06, 0x85, 0x95
 JUMP_CLASSES = (5, 6)
 
 
-class Loop(Exception):
-    """No order of the blocks has only forward jumps. `slot` is where one jumps back."""
+class NoLayout(Exception):
+    """There is no such order: `cause` says why, `slot` where."""
 
-    def __init__(self, slot):
-        super().__init__(slot)
-        self.slot = slot
+    def __init__(self, cause, slot):
+        super().__init__(cause, slot)
+        self.cause, self.slot = cause, slot
+
+
+LOOP, NO_END = "a loop", "no end"
 
 
 class Program:
@@ -92,17 +95,19 @@ def forward_order(blocks):
             done.add(start)
             order.append(start)
             stack.pop()
+        elif to not in blocks:
+            raise NoLayout(NO_END, blocks[start].end)
         elif to not in entered:
             entered.add(to)
             stack.append((to, iter(blocks[to].nexts)))
         elif to not in done:
-            raise Loop(blocks[start].end)
+            raise NoLayout(LOOP, blocks[start].end)
     return order[::-1]
 
 
 def forward(code):
     """Returns a program of the same meaning whose jumps all go forward, and for each of its slots the one of `code`
-    that it came from; or raises `Loop`."""
+    that it came from; or raises `NoLayout`."""
     program = Program(code)
     blocks = blocks_of(program)
     order = forward_order(blocks)
