@@ -10,15 +10,21 @@ from objects import Object
 HERE = os.path.dirname(os.path.realpath(__file__))
 VERSION = 19
 FLAGS = (
-    "--target=bpfel -mcpu=v4 -O2 -g -ffreestanding -fwrapv -fno-jump-tables -mllvm -unroll-runtime -Wall -Wextra "
-    "-Wno-pass-failed -Werror=padded -Werror=return-type -Werror=incompatible-pointer-types -Werror=int-conversion "
+    "--target=bpfel -mcpu=v4 -O2 -g -ffreestanding -fwrapv -fno-finite-loops -fno-jump-tables -mllvm -unroll-runtime "
+    "-Wall -Wextra -Wno-pass-failed -Werror=padded -Werror=return-type -Werror=incompatible-pointer-types -Werror=int-conversion "
     "-Werror=deprecated-non-prototype -Werror=unused-result"
 ).split()
-# what clang says of BPF in words of its own, and what is meant
+# what clang says in words of its own, and what is meant
 MESSAGES = [
     (r"Looks like the BPF stack limit.*", "rows, arguments and what the compiler puts aside take more than the stack's 512 bytes: keep fewer of them at once"),
     (r"A call to built-in function '__\w*[sd]f.*", "there are no numbers with a fraction: count in the least unit, as cents"),
     (r"A call to built-in function '__mul.*", "there is no product of 128 bits: bound both factors before"),
+    (r"passing arguments to a function without a prototype.*", "a helper without its arguments' types: take those of dsmdb.h, which have them"),
+    (r"padding (struct '.*?') with (\d+ bytes?) to align '(.*?)'.*", r"\2 of \1 lie unused before '\3': put a field there, since a row is compared and kept as bytes"),
+    (r"padding size of '(.*?)' with (\d+ bytes?) to alignment.*", r"\2 lie unused at the end of '\1': put a field there, since a row is compared and kept as bytes"),
+    (r"ignoring return value of function.*", "this doesn't end the call by itself: return cancel(CODE);"),
+    (r"redefinition of enumerator 'procedure_(\d+)'", r"two procedures have number \1"),
+    (r"redefinition of enumerator 'table_(\d+)'", r"two tables have number \1"),
 ]
 
 Table = namedtuple("Table", "number width")
@@ -30,16 +36,24 @@ def compiler():
     return os.environ.get("CLANG", f"clang-{VERSION}")
 
 
+def in_words(said):
+    """Returns what clang said, in the words of MESSAGES, each message once, by its first line."""
+    for theirs, ours in MESSAGES:
+        said = re.sub(theirs, ours, said)
+    messages = re.split(r"^(?=\S+?:\d+:\d+: (?:error|warning|fatal error): )", said, flags=re.M)
+    by_line = {}
+    for it in messages:
+        by_line.setdefault(it.partition("\n")[0], it)
+    return "".join(by_line.values())
+
+
 def compile_source(source, to, *more):
     """Compiles a source, with further flags, and ends with what clang says where it can't be."""
     try:
         ran = subprocess.run([compiler(), *FLAGS, *more, f"-I{HERE}", "-c", source, "-o", to], stderr=subprocess.PIPE, text=True)
     except OSError:
         sys.exit(f"{compiler()} isn't here: apt-get install clang-{VERSION}")
-    said = ran.stderr
-    for theirs, ours in MESSAGES:
-        said = re.sub(theirs, ours, said)
-    sys.stderr.write(said)
+    sys.stderr.write(in_words(ran.stderr))
     if ran.returncode:
         sys.exit(1)
     return Object(to)
