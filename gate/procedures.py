@@ -2,6 +2,7 @@
 programs and pictures that are committed, and, where clang is there, that they come out of their sources again."""
 import glob
 import os
+import re
 import shutil
 import subprocess
 import sys
@@ -11,6 +12,7 @@ import workspace
 
 KIT = f"{workspace.ROOT}/sdk"
 VERSION = 19  # of clang, with which the committed programs were made
+OLDEST = 18  # that makes programs as the kit asks
 
 
 def ran(words, program, **how):
@@ -45,8 +47,22 @@ def draws(program, picture):
     return drawn.returncode == 0 and drawn.stdout == text_of(picture)
 
 
-def compiles(program, folder, room):
-    """Whether a source compiles to the programs and the script that are committed, and passes its test on the host."""
+def version_of(command):
+    """Returns the version of a clang that makes programs for BPF as the kit asks, or 0."""
+    if not shutil.which(command):
+        return 0
+    found = re.search(r"version (\d+)", subprocess.run([command, "--version"], capture_output=True, text=True).stdout)
+    return int(found[1]) if found and int(found[1]) >= OLDEST else 0
+
+
+def same_file(path, other):
+    with open(path, "rb") as one, open(other, "rb") as two:
+        return one.read() == two.read()
+
+
+def compiles(program, folder, room, clang, of_bytes):
+    """Whether a source compiles, passes its test on the host, and its stories print what is committed; of the version
+    that made the committed programs and scripts, also whether these come out again, byte for byte."""
     name = os.path.basename(folder)
     anew = shutil.copytree(folder, f"{room}/{name}", ignore=shutil.ignore_patterns("*.bpf", "*.dsm", "*.o", "*.set"))
     built = ran([f"{KIT}/c/build", f"{anew}/{name}.c"], program)
@@ -54,13 +70,14 @@ def compiles(program, folder, room):
         print(built.stdout + built.stderr)
         return False
     for story in glob.glob(f"{anew}/*.story"):
-        ran([f"{KIT}/c/story", f"{anew}/{name}.o", story], program)
-    words = [f"clang-{VERSION}", "-fsanitize=undefined", f"-I{KIT}/c", f"{anew}/{name}_test.c", f"{KIT}/c/host.c", "-o", f"{anew}/test"]
-    tested = ran(words, program).returncode == 0 and ran([f"{anew}/test"], program).returncode == 0
-    made = glob.glob(f"{anew}/*.bpf") + glob.glob(f"{anew}/*.dsm")
-    same = lambda it: open(it, "rb").read() == open(f"{folder}/{os.path.basename(it)}", "rb").read()
+        told = ran([f"{KIT}/c/story", "--expected", f"{anew}/{name}.o", story], program)
+        if told.stdout != text_of(story.removesuffix(".story") + ".out"):
+            return False
+    words = [clang, "-fsanitize=undefined", f"-I{KIT}/c", f"{anew}/{name}_test.c", f"{KIT}/c/host.c", "-o", f"{anew}/test"]
+    if ran(words, program).returncode or ran([f"{anew}/test"], program).returncode:
+        return False
     committed = glob.glob(f"{folder}/*.bpf") + glob.glob(f"{folder}/*.dsm")
-    return tested and len(made) == len(committed) and all(map(same, made))
+    return not of_bytes or all(same_file(it, f"{anew}/{os.path.basename(it)}") for it in committed)
 
 
 def run(program):
@@ -72,11 +89,13 @@ def run(program):
     for folder in folders:
         scripts = glob.glob(f"{folder}/*.dsm")
         results.append(told(f"programs of {named(folder)}", scripts and all(accepts(program, it) for it in scripts)))
-    if not shutil.which(f"clang-{VERSION}"):
+    clang = next((it for it in (f"clang-{VERSION}", "clang") if version_of(it)), None)
+    if clang is None:
         print(f"procedures in C were not compiled anew: clang-{VERSION} isn't here (apt-get install clang-{VERSION})", flush=True)
     else:
+        os.environ["CLANG"] = clang
         with tempfile.TemporaryDirectory(prefix="procedures-") as room:
-            results += [told(f"source of {named(it)}", compiles(program, it, room)) for it in folders]
+            results += [told(f"source of {named(it)}", compiles(program, it, room, clang, version_of(clang) == VERSION)) for it in folders]
         compared = ran([f"{KIT}/c/tests/compare_layouts"], program)
         results.append(told("layouts of procedures", compared.returncode == 0, compared.stderr[-300:]))
     return sum(map(bool, results)), sum(not it for it in results)
