@@ -92,13 +92,19 @@ pub(super) fn run(
     args: &[u8],
     rows: &[(u8, u64, u64)],
 ) -> Result<Option<CompletedRun>, Fail> {
+    let list = rows_of(alloc, rows)?;
     let code = decode(alloc, program)?;
     let schema = Schema::new(alloc, &TABLES)?;
+    Ok(run_program(alloc, &code, &schema, args, &list)?)
+}
+
+/// Rows of table, key and value: 2 bytes of it in table 2, and 8 in the others.
+fn rows_of(alloc: Global, rows: &[(u8, u64, u64)]) -> Result<Vec<Row>, Fail> {
     let mut list = Vec::new(alloc);
     for &(table, key, value) in rows {
         let width = if table == 2 { 2 } else { 8 };
         let bytes = Vec::from_slice(alloc, &value.to_le_bytes()[..width])?;
         list.push(Row::new(table, key, bytes))?;
     }
-    Ok(run_program(alloc, &code, &schema, args, &list)?)
+    Ok(list)
 }

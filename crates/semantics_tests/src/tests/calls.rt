@@ -22,13 +22,9 @@ fn changed(
     at: usize,
     others: &[[u8; 8]],
 ) -> Result<Vec<[u8; 8]>, Fail> {
-    let mut list = Vec::new(alloc);
-    for (index, slot) in slots.iter().enumerate() {
-        let other = match index.checked_sub(at) {
-            Some(behind) => others.get(behind),
-            None => None,
-        };
-        list.push(*other.unwrap_or(slot))?;
+    let mut list = Vec::from_slice(alloc, slots)?;
+    for (slot, other) in list.iter_mut().skip(at).zip(others) {
+        *slot = *other;
     }
     Ok(list)
 }

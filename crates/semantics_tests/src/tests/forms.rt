@@ -111,12 +111,21 @@ const ARITHMETIC: [(u8, i16, u64); 14] = [
 /// The two arithmetic classes.
 const CLASSES: [u8; 2] = [0x04, 0x07];
 
+/// An operation on a register and 5.
+fn with_five(opcode: u8, offset: i16, dst: u8) -> [u8; 8] {
+    slot(opcode, dst, 0, offset, 5)
+}
+
+/// The same operation on two registers.
+fn with_register(opcode: u8, offset: i16, dst: u8, src: u8) -> [u8; 8] {
+    slot(opcode | 0x08, dst, src, offset, 0)
+}
+
 #[test]
 fn arithmetic_of_kinds(rt: HostRuntime) -> Result<(), Fail> {
     for (high, offset, result) in ARITHMETIC {
         for class in CLASSES {
-            let immediate = |dst: u8| slot(high | class, dst, 0, offset, 5);
-            let register = |dst: u8, src: u8| slot(high | 0x08 | class, dst, src, offset, 0);
+            let opcode = high | class;
             let (one, five, twelve) = (set(0, 1), set(3, 5), set(0, 12));
             // A move doesn't read its destination, and at 64 bits copies a place. Such an addition or
             // subtraction moves one.
@@ -138,27 +147,51 @@ fn arithmetic_of_kinds(rt: HostRuntime) -> Result<(), Fail> {
                 &rt,
                 rt.alloc(),
                 &[
-                    (&[twelve, immediate(0)], Some(result)),
-                    (&[twelve, five, register(0, 3)], Some(result)),
+                    (&[twelve, with_five(opcode, offset, 0)], Some(result)),
+                    (
+                        &[twelve, five, with_register(opcode, offset, 0, 3)],
+                        Some(result),
+                    ),
                     // With nothing.
-                    (&[twelve, register(0, 3), one], None),
-                    (&[immediate(2), copy(0, 2)], moved),
-                    (&[five, register(2, 3), copy(0, 2)], moved),
-                    (&[args, register(4, 3), one], None),
-                    (&[stack, register(4, 3), one], None),
+                    (&[twelve, with_register(opcode, offset, 0, 3), one], None),
+                    (&[with_five(opcode, offset, 2), copy(0, 2)], moved),
+                    (
+                        &[five, with_register(opcode, offset, 2, 3), copy(0, 2)],
+                        moved,
+                    ),
+                    (&[args, with_register(opcode, offset, 4, 3), one], None),
+                    (&[stack, with_register(opcode, offset, 4, 3), one], None),
                     // With places.
-                    (&[args, immediate(4), one], on_place),
-                    (&[stack, immediate(4), one], on_place),
-                    (&[args, five, register(4, 3), one], on_place),
-                    (&[stack, five, register(4, 3), one], on_place),
-                    (&[args, five, register(3, 4), one], copied),
-                    (&[stack, five, register(3, 4), one], copied),
-                    (&[args, copy(3, 4), register(3, 4), one], copied),
-                    (&[stack, copy(3, 4), register(3, 4), one], copied),
+                    (&[args, with_five(opcode, offset, 4), one], on_place),
+                    (&[stack, with_five(opcode, offset, 4), one], on_place),
+                    (
+                        &[args, five, with_register(opcode, offset, 4, 3), one],
+                        on_place,
+                    ),
+                    (
+                        &[stack, five, with_register(opcode, offset, 4, 3), one],
+                        on_place,
+                    ),
+                    (
+                        &[args, five, with_register(opcode, offset, 3, 4), one],
+                        copied,
+                    ),
+                    (
+                        &[stack, five, with_register(opcode, offset, 3, 4), one],
+                        copied,
+                    ),
+                    (
+                        &[args, copy(3, 4), with_register(opcode, offset, 3, 4), one],
+                        copied,
+                    ),
+                    (
+                        &[stack, copy(3, 4), with_register(opcode, offset, 3, 4), one],
+                        copied,
+                    ),
                     // r10 is read only: a move alone, and at 64 bits an addition and a subtraction, would
                     // have a step.
-                    (&[immediate(10), one], None),
-                    (&[five, register(10, 3), one], None),
+                    (&[with_five(opcode, offset, 10), one], None),
+                    (&[five, with_register(opcode, offset, 10, 3), one], None),
                 ],
             )?;
         }
