@@ -72,6 +72,15 @@ def own_sum(crate):
     return sum_of(part for path in files(crate) for part in (path.encode(), read(path)))
 
 
+def stated_sum(crate):
+    """Returns a sum over what of a crate its users most likely see: code and definitions, without lines of comment."""
+    parts = []
+    for path in files(crate):
+        if path.startswith((f"crates/{crate}/src/", f"crates/{crate}/specs/")):
+            parts += [path.encode(), re.sub(rb"(?m)^\s*(//|--).*\n", b"", read(path))]
+    return sum_of(parts)
+
+
 def seen_sum(kit, crate, sums):
     """Returns a sum over the kit, HANDLES, a crate's line, and what is given of each crate below it."""
     return sum_of([kit, read("HANDLES"), lines()[crate].encode(), *(sums[it].encode() for it in below(crate))])
