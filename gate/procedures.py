@@ -33,13 +33,14 @@ def accepts(program, script):
     """Whether the programs beside a script are those of its `proc` lines, and are accepted for its tables."""
     lines = [it.split() for it in text_of(script).splitlines()]
     tables = [f"{it[1]}:{it[2]}" for it in lines if it[:1] == ["table"]]
-    for _, name, _, args_len, code in (it for it in lines if it[:1] == ["proc"]):
+    stored = [it for it in lines if it[:1] == ["proc"]]
+    for _, name, _, args_len, code in stored:
         path = f"{os.path.dirname(script)}/{name}.bpf"
         with open(path, "rb") as file:
             same = file.read().hex() == code
         if not same or not ran([program, "check", path, args_len, *tables], program).stdout.startswith("accepted"):
             return False
-    return True
+    return bool(stored)
 
 
 def draws(program, picture):
@@ -69,22 +70,29 @@ def compiles(program, folder, room, clang, of_bytes):
     if built.returncode:
         print(built.stdout + built.stderr)
         return False
-    for story in glob.glob(f"{anew}/*.story"):
-        told = ran([f"{KIT}/c/story", "--expected", f"{anew}/{name}.o", story], program)
-        if told.stdout != text_of(story.removesuffix(".story") + ".out"):
+    stories = glob.glob(f"{anew}/*.story")
+    for story in stories:
+        answered = ran([f"{KIT}/c/story", f"{anew}/{name}.o", story, "--expected"], program)
+        if answered.stdout != text_of(story.removesuffix(".story") + ".out"):
+            print(f"{story} prints otherwise: {answered.stderr}")
             return False
-    words = [clang, "-fsanitize=undefined", f"-I{KIT}/c", f"{anew}/{name}_test.c", f"{KIT}/c/host.c", "-o", f"{anew}/test"]
-    if ran(words, program).returncode or ran([f"{anew}/test"], program).returncode:
-        return False
+    words = [clang, "-fsanitize=undefined", "-fno-sanitize-recover=all", "-fwrapv", f"-I{KIT}/c", f"{anew}/{name}_test.c", f"{KIT}/c/host.c", "-o", f"{anew}/test"]
+    for it in (ran(words, program), ran([f"{anew}/test"], program)):
+        if it.returncode:
+            print(it.stdout + it.stderr)
+            return False
     committed = glob.glob(f"{folder}/*.bpf") + glob.glob(f"{folder}/*.dsm")
-    return not of_bytes or all(same_file(it, f"{anew}/{os.path.basename(it)}") for it in committed)
+    return bool(stories) and (not of_bytes or all(same_file(it, f"{anew}/{os.path.basename(it)}") for it in committed))
+
+
+def named(path):
+    return os.path.relpath(path, workspace.ROOT)
 
 
 def run(program):
     """Runs the tests with a program. Returns how many passed, and how many did not."""
     sys.stdout.flush()
     folders = sorted(os.path.dirname(it) for it in glob.glob(f"{workspace.ROOT}/examples/*/README.md"))
-    named = lambda path: os.path.relpath(path, workspace.ROOT)
     results = [told(f"picture {named(it)}", draws(program, it)) for it in sorted(glob.glob(f"{workspace.ROOT}/examples/**/*.svg", recursive=True))]
     for folder in folders:
         scripts = glob.glob(f"{folder}/*.dsm")

@@ -1,7 +1,7 @@
 /* A stock of items in lots, kept at several sites: the oldest lot goes first. The caller gives the days. */
 #include "dsmdb.h"
 
-enum refusal { BAD_COUNT = 1, NO_STOCK, NUMBER_TAKEN, NO_RESERVATION, STILL_HELD };
+enum refusal { BAD_COUNT = 1, NO_STOCK, NUMBER_TAKEN, NO_RESERVATION, STILL_HELD, BAD_ITEM };
 CODES(refusal)
 
 /* key: the item's number, below 2^32, and the day on which the lot came, as lot_key has them */
@@ -21,9 +21,9 @@ TABLE(2, reservation)
 
 enum { MOST_PIECES = 1000000, MOST_LOTS = 4 };
 
-INLINE u64 lot_key(u64 item, u64 day)
+INLINE u64 lot_key(u64 item, u32 day)
 {
-    return item << 32 | (day & 0xffffffff);
+    return item << 32 | day;
 }
 
 INLINE int is_count(u32 pieces)
@@ -39,6 +39,7 @@ struct receive {
 PROCEDURE(1, receive)
 {
     struct lot lot;
+    if (args->item >> 32) return cancel(BAD_ITEM);
     u64 key = lot_key(args->item, args->day);
     lot_get(key, &lot); /* all zeros where none came on that day yet */
     if (!is_count(args->pieces) || !is_count(lot.pieces + args->pieces)) return cancel(BAD_COUNT);
@@ -57,6 +58,7 @@ struct reserve {
 PROCEDURE(2, reserve)
 {
     struct reservation reservation;
+    if (args->item >> 32) return cancel(BAD_ITEM);
     if (!is_count(args->pieces)) return cancel(BAD_COUNT);
     if (reservation_get(args->number, &reservation)) return cancel(NUMBER_TAKEN);
     u64 from = lot_key(args->item, 0);

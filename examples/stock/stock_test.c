@@ -9,6 +9,8 @@ int main(void)
     assert(CALL(receive, .item = 5, .day = 11, .pieces = 5) == 5);
     CALL(receive, .item = 5, .day = 11, .pieces = 0);
     assert(host_code == BAD_COUNT);
+    CALL(receive, .item = 1ull << 32, .day = 11, .pieces = 1);
+    assert(host_code == BAD_ITEM);
 
     assert(CALL(reserve, .number = 1, .item = 5, .pieces = 2, .until = 20) == 10);
     CALL(reserve, .number = 1, .item = 5, .pieces = 1, .until = 20);

@@ -15,16 +15,27 @@ FLAGS = (
     "-Werror=deprecated-non-prototype -Werror=unused-result"
 ).split()
 # what clang says in words of its own, and what is meant
+UNUSED = "put a field there, since a row is compared and kept as bytes"
 MESSAGES = [
-    (r"Looks like the BPF stack limit.*", "rows, arguments and what the compiler puts aside take more than the stack's 512 bytes: keep fewer of them at once"),
-    (r"A call to built-in function '__\w*[sd]f.*", "there are no numbers with a fraction: count in the least unit, as cents"),
+    (
+        r"Looks like the BPF stack limit.*",
+        "rows, arguments and what the compiler puts aside take more than the stack's 512 bytes: keep fewer of them at once",
+    ),
+    (
+        r"A call to built-in function '__\w*[sd]f.*",
+        "there are no numbers with a fraction: count in the least unit, as cents",
+    ),
     (r"A call to built-in function '__mul.*", "there is no product of 128 bits: bound both factors before"),
-    (r"passing arguments to a function without a prototype.*", "a helper without its arguments' types: take those of dsmdb.h, which have them"),
-    (r"padding (struct '.*?') with (\d+ bytes?) to align '(.*?)'.*", r"\2 of \1 lie unused before '\3': put a field there, since a row is compared and kept as bytes"),
-    (r"padding size of '(.*?)' with (\d+ bytes?) to alignment.*", r"\2 lie unused at the end of '\1': put a field there, since a row is compared and kept as bytes"),
+    (
+        r"passing arguments to a function without a prototype.*",
+        "a helper without its arguments' types: take those of dsmdb.h, which have them",
+    ),
+    (r"padding (struct '.*?') with (\d+ bytes?) to align '(.*?)'.*", rf"\2 of \1 lie unused before '\3': {UNUSED}"),
+    (r"padding size of '(.*?)' with (\d+ bytes?) to alignment.*", rf"\2 lie unused at the end of '\1': {UNUSED}"),
     (r"ignoring return value of function.*", "this doesn't end the call by itself: return cancel(CODE);"),
     (r"redefinition of enumerator 'procedure_(\d+)'", r"two procedures have number \1"),
     (r"redefinition of enumerator 'table_(\d+)'", r"two tables have number \1"),
+    (r"conflicting types for '(row|range)_\w+'", r"a table can't be named \1: the helpers are"),
 ]
 
 Table = namedtuple("Table", "number width")
@@ -59,13 +70,20 @@ def compile_source(source, to, *more):
     return Object(to)
 
 
+def number_of(word):
+    if not re.fullmatch("0|[1-9][0-9]*", word):
+        raise ValueError(f"a table or procedure has number {word}: write it in decimal digits")
+    return int(word)
+
+
 def tables(found):
-    prefix = "dsmdb/table/"
-    return sorted(Table(int(it.removeprefix(prefix)), len(row)) for it, row in found.sections.items() if it.startswith(prefix))
+    """Returns the tables by their numbers."""
+    rows = {it.removeprefix("dsmdb/table/"): row for it, row in found.sections.items() if it.startswith("dsmdb/table/")}
+    return sorted(Table(number_of(it), len(row)) for it, row in rows.items())
 
 
 def procedures(found):
     """Returns the procedures by their numbers."""
     sections = [it for it in found.sections if it.startswith("dsmdb/proc/")]
-    parts = [(int(it.split("/")[2]), it.split("/")[3], it) for it in sections]
+    parts = [(number_of(it.split("/")[2]), it.split("/")[3], it) for it in sections]
     return [Procedure(*it, len(found.sections.get(f"dsmdb/args/{it[1]}", b""))) for it in sorted(parts)]

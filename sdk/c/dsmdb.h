@@ -39,10 +39,10 @@ typedef int64_t i64;
 #define DSMDB_PART INLINE
 
 extern u64 host_widths[65]; /* of each table, the bytes of a row */
-extern u64 host_code;       /* of the last call: its code, 0 where it didn't cancel */
+extern u64 host_code;       /* of the last call: its code, 0 where it didn't cancel (so codes are 1 and up) */
 u64 host_call(u64 (*procedure)(const void *), const void *args);
 /* calls a procedure as a replica would: CALL(deposit, .account = 1, .amount = 100) */
-#define CALL(name, ...) host_call((u64 (*)(const void *))name##_call, &(const struct name){ __VA_ARGS__ })
+#define CALL(name, ...) host_call(name##_call, &(const struct name){ __VA_ARGS__ })
 
 #endif
 
@@ -92,7 +92,7 @@ DSMDB_PART __attribute__((warn_unused_result)) u64 cancel(u64 code)
     }
 
 /* enum refusal { NO_MONEY = 1, .. }; CODES(refusal) lets tools print the codes by name. */
-#define CODES(name) DSMDB_ON_BPF(DSMDB_IN("dsmdb/codes") const enum name name##_codes = 0;)
+#define CODES(name) DSMDB_ON_BPF(DSMDB_IN("dsmdb/codes/" #name) const enum name name##_codes = 0;)
 
 /* struct deposit { .. }; PROCEDURE(2, deposit) { .. } makes procedure 2. `args` points to its arguments, such a struct.
    They are copied before the first helper is called, so the copy may be put as a row. */
@@ -103,9 +103,9 @@ DSMDB_PART __attribute__((warn_unused_result)) u64 cancel(u64 code)
     enum { procedure_##number = number }; /* a number is given once */ \
     DSMDB_ON_BPF(DSMDB_IN("dsmdb/args/" #name) const struct name name##_args = {};) \
     INLINE u64 name##_body(const struct name *args); \
-    DSMDB_IN("dsmdb/proc/" #number "/" #name) u64 name##_call(const struct name *block) \
+    DSMDB_IN("dsmdb/proc/" #number "/" #name) u64 name##_call(const void *block) \
     { \
-        const struct name args = *block; \
+        const struct name args = *(const struct name *)block; \
         return name##_body(&args); \
     } \
     INLINE u64 name##_body(const struct name *args __attribute__((unused)))

@@ -1,4 +1,5 @@
 /* The helpers over a plain map, for tests of procedures on the host. Link it with the test. */
+#include <stdio.h>
 #include <stdlib.h>
 #include <string.h>
 
@@ -48,8 +49,10 @@ u64 row_put(u64 table, u64 key, const void *row)
 {
     u64 at = place(table, key);
     if (!is_in(at, table, key)) {
-        if (count == MOST_ROWS)
+        if (count == MOST_ROWS) {
+            fprintf(stderr, "host.c: more than %d rows\n", MOST_ROWS);
             abort();
+        }
         memmove(&rows[at + 1], &rows[at], (count - at) * sizeof rows[0]);
         count++;
     }

@@ -4,10 +4,11 @@ from collections import namedtuple
 from struct import iter_unpack, unpack_from
 
 NOTHING_HELD, RELOCATIONS = 8, 9  # types of ELF sections
-INTEGER, ARRAY, STRUCT, TYPEDEF, VOLATILE, CONST, VARIABLE = 1, 3, 4, 8, 9, 10, 14  # kinds of BTF types
+INTEGER, ARRAY, STRUCT, UNION, TYPEDEF, VOLATILE, CONST, VARIABLE = 1, 3, 4, 5, 8, 9, 10, 14  # kinds of BTF types
+SECTION, ENUM64 = 15, 19
 # what stands behind a BTF type: so many bytes, and so many for each of its parts
 TAILS = {INTEGER: 4, ARRAY: 12, VARIABLE: 4, 17: 4}
-PARTS = {STRUCT: 12, 5: 12, 6: 8, 13: 8, 15: 12, 19: 12}
+PARTS = {STRUCT: 12, UNION: 12, 6: 8, 13: 8, SECTION: 12, ENUM64: 12}
 
 Section = namedtuple("Section", "name kind at size link info")
 Type = namedtuple("Type", "kind name size tail")  # size: in bytes, or the number of the type that it is made of
@@ -53,7 +54,8 @@ class Object:
     def read_types(self):
         btf = self.sections.get(".BTF")
         if btf is None:
-            raise ValueError("the object has no types: compile with -g")
+            self.types, self.strings = [None], b"\0"
+            return
         head, at, length, strings = unpack_from("<IIII", btf, 4)
         self.strings, self.types, at = btf[head + strings :], [None], head + at
         end = at + length
@@ -71,7 +73,7 @@ class Object:
         """Returns the type of the variable in each section of this prefix, by the rest of the section's name."""
         found = {}
         for it in self.types[1:]:
-            if it.kind == 15 and it.name.startswith(prefix):
+            if it.kind == SECTION and it.name.startswith(prefix):
                 (variable,) = unpack_from("<I", it.tail)
                 found[it.name.removeprefix(prefix)] = self.plain(self.types[variable].size)
         return found
@@ -89,10 +91,14 @@ class Object:
             found = []
             for part, of, bits in iter_unpack("<III", it.tail):
                 inner = self.string(part)
+                if bits >> 24:
+                    raise ValueError(f"{inner} is a part of a number: take a whole u8, u16, u32 or u64")
                 found += self.fields(of, f"{name}.{inner}" if name else inner, at + bits // 8)
             return found
         if it.kind == ARRAY:
             return self.array_fields(it, name, at)
+        if it.kind == UNION:
+            raise ValueError(f"{name} is a union: take a field for each of its parts")
         if it.name == "char":
             return [Field(name, at, it.size, "text")]
         signed = it.kind == INTEGER and it.tail[3] & 1
@@ -103,16 +109,19 @@ class Object:
         part = self.fields(of)
         if len(part) == 1 and part[0].size == 1:
             return [Field(name, at, count, "text" if part[0].form == "text" else "bytes")]
-        width = max(field.at + field.size for field in part)
+        width = max((field.at + field.size for field in part), default=0)
         return [field for i in range(count) for field in self.fields(of, f"{name}.{i}", at + i * width)]
 
     def codes(self):
-        """Returns the names of the codes by their numbers, of the enums that CODES names."""
-        return {
-            value: self.string(name)
-            for number in self.types_in("dsmdb/codes").values()
-            for name, value in iter_unpack("<II", self.types[number].tail)
-        }
+        """Returns the names of the codes, as 64 bits, of the enums that CODES names."""
+        found = {}
+        for number in self.types_in("dsmdb/codes/").values():
+            it = self.types[number]
+            if it.kind == ENUM64:
+                found |= {low | high << 32: self.string(name) for name, low, high in iter_unpack("<III", it.tail)}
+            else:
+                found |= {value % 2**64: self.string(name) for name, value in iter_unpack("<Ii", it.tail)}
+        return found
 
     # ---- lines
 

@@ -2,10 +2,11 @@
 
 
 def packed(fields, words):
-    """Returns the bytes of fields that are given as words FIELD=VALUE, all of them and no others."""
-    given = dict(word.split("=", 1) for word in words)
-    if set(given) != {it.name for it in fields}:
+    """Returns the bytes of fields that are given as words FIELD=VALUE, all of them, once each, and no others."""
+    pairs = [word.partition("=")[::2] for word in words]
+    if sorted(name for name, _ in pairs) != sorted(it.name for it in fields):
         raise ValueError("takes " + " ".join(f"{it.name}=" for it in fields))
+    given = dict(pairs)
     block = bytearray(max((it.at + it.size for it in fields), default=0))
     for it in fields:
         raw = raw_value(it, given[it.name])
@@ -14,18 +15,29 @@ def packed(fields, words):
 
 
 def raw_value(field, word):
+    """Returns a field's bytes; text and bytes that are shorter than it are filled up with zeros."""
     if field.form == "text":
         raw = word.encode()
     elif field.form == "bytes":
+        if len(word) % 2 or any(it not in "0123456789abcdefABCDEF" for it in word):
+            raise ValueError(f"{field.name}={word}: an even number of hex digits")
         raw = bytes.fromhex(word)
     else:
-        try:
-            raw = int(word, 0).to_bytes(field.size, "little", signed=field.form == "signed")
-        except OverflowError:
-            raise ValueError(f"{field.name}={word} doesn't fit its {field.size} bytes") from None
+        return raw_number(field, word)
     if len(raw) > field.size:
         raise ValueError(f"{field.name} has {field.size} bytes, and {word} takes {len(raw)}")
     return raw
+
+
+def raw_number(field, word):
+    try:
+        number = int(word, 0)
+    except ValueError:
+        raise ValueError(f"{field.name}={word} is no number: decimal without leading zeros, or 0x..") from None
+    try:
+        return number.to_bytes(field.size, "little", signed=field.form == "signed")
+    except OverflowError:
+        raise ValueError(f"{field.name}={word} doesn't fit its {field.size} bytes") from None
 
 
 def shown(field, block):
