@@ -76,7 +76,8 @@ def compiles(program, folder, room, clang, of_bytes):
         if answered.stdout != text_of(story.removesuffix(".story") + ".out"):
             print(f"{story} prints otherwise: {answered.stderr}")
             return False
-    words = [clang, "-fsanitize=undefined", "-fno-sanitize-recover=all", "-fwrapv", f"-I{KIT}/c", f"{anew}/{name}_test.c", f"{KIT}/c/host.c", "-o", f"{anew}/test"]
+    flags = ["-fsanitize=undefined", "-fno-sanitize-recover=all", "-fwrapv", f"-I{KIT}/c"]
+    words = [clang, *flags, f"{anew}/{name}_test.c", f"{KIT}/c/host.c", "-o", f"{anew}/test"]
     for it in (ran(words, program), ran([f"{anew}/test"], program)):
         if it.returncode:
             print(it.stdout + it.stderr)
@@ -93,7 +94,8 @@ def run(program):
     """Runs the tests with a program. Returns how many passed, and how many did not."""
     sys.stdout.flush()
     folders = sorted(os.path.dirname(it) for it in glob.glob(f"{workspace.ROOT}/examples/*/README.md"))
-    results = [told(f"picture {named(it)}", draws(program, it)) for it in sorted(glob.glob(f"{workspace.ROOT}/examples/**/*.svg", recursive=True))]
+    pictures = sorted(glob.glob(f"{workspace.ROOT}/examples/**/*.svg", recursive=True))
+    results = [told(f"picture {named(it)}", draws(program, it)) for it in pictures]
     for folder in folders:
         scripts = glob.glob(f"{folder}/*.dsm")
         results.append(told(f"programs of {named(folder)}", scripts and all(accepts(program, it) for it in scripts)))

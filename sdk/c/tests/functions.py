@@ -92,7 +92,8 @@ class Maker:
         self.line(f"UNROLL for (u64 {name} = 0; {name} < {turns}; {name}++) {{")
         self.depth += 1
         if self.random.random() < 0.6:
-            self.line(f"if ({self.random.choice([f'{name} >= (args->n & 3)', self.condition()])}) {self.random.choice(['break', 'continue'])};")
+            where = self.random.choice([f"{name} >= (args->n & 3)", self.condition()])
+            self.line(f"if ({where}) {self.random.choice(['break', 'continue'])};")
         self.depth -= 1
         self.block(self.random.randint(1, 2))
         self.line("}")
