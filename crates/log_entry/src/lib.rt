@@ -6,3 +6,5 @@ pub use entry::Entry;
 
 mod bytes;
 mod entry;
+#[cfg(test)]
+mod tests;

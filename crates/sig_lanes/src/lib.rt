@@ -9,3 +9,5 @@ mod block;
 mod lanes;
 mod laws;
 mod sig;
+#[cfg(test)]
+mod tests;

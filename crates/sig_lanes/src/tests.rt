@@ -1,6 +1,6 @@
+use crate::{Block, Sig, first_meet};
 use row_sets::{ReadSet, WriteSet};
 use schema::Look;
-use sig_lanes::{Block, Sig, first_meet};
 use std::alloc::Global;
 use std::test::Fail;
 

@@ -1,4 +1,4 @@
-use log_entry::{Entry, to_bytes};
+use crate::{Entry, to_bytes};
 use row_sets::{ReadSet, WriteSet};
 use row_values::Bytes;
 use scarce::Scarce;

@@ -1,3 +1,0 @@
-mod catalogues;
-mod entries;
-mod signatures;
