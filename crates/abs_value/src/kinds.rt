@@ -14,6 +14,7 @@ use interval::{Range, alu32_range, alu64_range};
 use schema::Schema;
 use std::alloc::Allocator;
 
+/// Whether nothing is known to be there.
 pub fn is_nothing(kind: Kind) -> bool
     ensures { result ≡ is_nothing kind }
 {
@@ -23,6 +24,7 @@ pub fn is_nothing(kind: Kind) -> bool
     }
 }
 
+/// Whether it is a number.
 pub fn is_number(kind: Kind) -> bool
     ensures { result ≡ is_number kind }
 {
@@ -32,6 +34,7 @@ pub fn is_number(kind: Kind) -> bool
     }
 }
 
+/// Whether it is a place in the stack or in the arguments.
 pub fn is_pointer(kind: Kind) -> bool
     ensures { result ≡ is_pointer kind }
 {
@@ -187,6 +190,7 @@ fn binary_kind(width: Width, op: BinaryOperation, a: Kind, b: Kind) -> Kind
     }
 }
 
+/// Whether an operation is a move.
 pub fn is_move(op: BinaryOperation) -> bool
     ensures { result ≡ is_move_operation op }
 {

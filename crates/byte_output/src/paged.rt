@@ -25,6 +25,7 @@ pub struct PagedOutput<'a, W: Write> {
 impl<'a, W: Write> PagedOutput<'a, W> {
     ghost use Rattle.byte_output.specs.Pending.{output_of, pending_of, Takes};
 
+    /// One in front of an output, with nothing pending. The output is as it was.
     pub fn new(output: &'a mut W) -> PagedOutput<'a, W>
         ensures same_output { (output_of result).ghost_name ≡ output.entry.ghost_name }
         ensures untouched { (output_of result).now ≡ output.old }

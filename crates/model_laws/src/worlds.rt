@@ -5,7 +5,9 @@ ghost use Rattle.std.specs.Prelude.{◌≡◌, ◌≢◌, ◌+◌, ◌<◌, ◌�
 ghost use Rattle.dsm_model.specs.declared.outcome.Outcome.{Outcome};
 ghost use Rattle.dsm_model.specs.declared.outcome.Outcome.TheVariants.{Begun, Exit, Stale, NoMemory, Refused};
 ghost use Rattle.log_model.specs.Log.{Setting, StoredProcedure, Log, by_number, run_in};
-ghost use Rattle.dsm_model.specs.World.{World, Replica, OpenCall, Step, Begin, first_world, numbered, open_call, with_open_call, with_replica, IsStep, AreSteps, Turn, Order, Deliver, Rebuild, max_calls};
+ghost use Rattle.dsm_model.specs.World.{World, Replica, OpenCall, Step, Begin, Turn, Order, Deliver, Rebuild};
+ghost use Rattle.dsm_model.specs.World.{max_calls, first_world, numbered, open_call, with_open_call, with_replica};
+ghost use Rattle.dsm_model.specs.World.{IsStep, AreSteps};
 ghost use Rattle.std.specs.List.{AllByRecursion};
 ghost use Rattle.dsm_model.specs.declared.outcome.StepRefusal.{StepRefusal};
 ghost use Rattle.dsm_model.specs.declared.outcome.StepRefusal.TheVariants.{NotAtExit, LogFull, OutOfMemory};

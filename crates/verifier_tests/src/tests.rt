@@ -6,6 +6,7 @@ use schema::Schema;
 use std::alloc::Global;
 use std::test::Fail;
 
+mod bounds;
 mod programs;
 mod ranges;
 mod refinements;

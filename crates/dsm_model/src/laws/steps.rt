@@ -2,7 +2,8 @@
 //! suffices, the conditions of a step's answers exclude each other, so that each is given exactly there; want of memory
 //! comes only in place of an answer that takes some.
 
-ghost use Rattle.std.specs.Prelude.{◌≡◌, ◌≢◌, ◌↔◌, ◌+◌, ◌<◌, ◌≤◌, ℕ, ℤ, true, false, List, [], ◌∷◌, ◌++◌, length, Option, Some, None, IsSome, IsTrue};
+ghost use Rattle.std.specs.Prelude.{◌≡◌, ◌≢◌, ◌↔◌, ◌+◌, ◌<◌, ◌≤◌, ℕ, ℤ, true, false};
+ghost use Rattle.std.specs.Prelude.{List, [], ◌∷◌, ◌++◌, length, Option, Some, None, IsSome, IsTrue};
 ghost use Rattle.std.specs.FinMap.{len};
 ghost use Rattle.bpf_code.specs.declared.instruction.Instruction.TheVariants.{Call as CallInstruction};
 ghost use Rattle.bpf_code.specs.Program.{instruction_at};
@@ -14,7 +15,8 @@ ghost use Rattle.bpf_semantics.specs.State.{State};
 ghost use Rattle.bpf_semantics.specs.Step.{Going, Ended};
 ghost use Rattle.log_model.specs.declared.verdict.Verdict.{Verdict};
 ghost use Rattle.dsm_model.specs.declared.outcome.StepRefusal.TheVariants.{NoReplica, NoProcedure, ArgumentsLength, NoCall};
-ghost use Rattle.dsm_model.specs.declared.outcome.StepRefusal.TheVariants.{NotAtExit, NothingToDeliver, ReplicaStopped, LogFull, OutOfMemory, TooManyCalls};
+ghost use Rattle.dsm_model.specs.declared.outcome.StepRefusal.TheVariants.{NotAtExit, NothingToDeliver, ReplicaStopped};
+ghost use Rattle.dsm_model.specs.declared.outcome.StepRefusal.TheVariants.{LogFull, OutOfMemory, TooManyCalls};
 ghost use Rattle.dsm_model.specs.declared.outcome.Outcome.{Outcome};
 ghost use Rattle.dsm_model.specs.declared.outcome.Outcome.TheVariants.{Begun, More, Exit, Stale, NoMemory, Ordered, Read};
 ghost use Rattle.dsm_model.specs.declared.outcome.Outcome.TheVariants.{Cancelled, Delivered, Rebuilt, Refused};

@@ -1,4 +1,5 @@
 //! Ranges of results, by rows that a Python program computed, and joins.
+use super::bounds::{ALL, BELOW_MIDDLE, BELOW_TOP, LOW, MIDDLE, TOP, WIDE, range};
 use bpf_words::BinaryOperation::{
     Add, And, Arsh, Div, Lsh, Mod, Mov, Mul, Or, Rsh, Sdiv, Smod, Sub, Xor,
 };
@@ -87,24 +88,6 @@ fn swaps(rt: &impl Abort, order: ByteOrder, rows: &[[[u64; 2]; 4]]) {
         );
     }
 }
-
-fn range([lo, hi]: [u64; 2]) -> Range {
-    Range::single(lo).join(Range::single(hi))
-}
-
-const ALL: u64 = 0xffff_ffff_ffff_ffff;
-
-const TOP: u64 = 0x8000_0000_0000_0000;
-
-const BELOW_TOP: u64 = 0x7fff_ffff_ffff_ffff;
-
-const WIDE: u64 = 0x1_0000_0000;
-
-const LOW: u64 = 0xffff_ffff;
-
-const MIDDLE: u64 = 0x8000_0000;
-
-const BELOW_MIDDLE: u64 = 0x7fff_ffff;
 
 const BYTES: u64 = 0x1122_3344_5566_7788;
 

@@ -1,6 +1,6 @@
+use super::bounds::{ALL, BELOW_MIDDLE, BELOW_TOP, LOW, MIDDLE, TOP, WIDE, range};
 use bpf_words::Condition;
 use bpf_words::Condition::{Eq, Ge, Gt, Le, Lt, Ne, Set, Sge, Sgt, Sle, Slt};
-use interval::Range;
 use range_refine::{refine32, refine64};
 
 #[test]
@@ -24,24 +24,6 @@ fn edges_on_32_bits(rt: HostRuntime) {
         );
     }
 }
-
-fn range([lo, hi]: [u64; 2]) -> Range {
-    Range::single(lo).join(Range::single(hi))
-}
-
-const ALL: u64 = 0xffff_ffff_ffff_ffff;
-
-const TOP: u64 = 0x8000_0000_0000_0000;
-
-const BELOW_TOP: u64 = 0x7fff_ffff_ffff_ffff;
-
-const WIDE: u64 = 0x1_0000_0000;
-
-const LOW: u64 = 0xffff_ffff;
-
-const MIDDLE: u64 = 0x8000_0000;
-
-const BELOW_MIDDLE: u64 = 0x7fff_ffff;
 
 /// A condition, whether its jump is taken, the ranges of its operands, and those along the edge.
 type Row = (Condition, bool, [u64; 2], [u64; 2], Option<[[u64; 2]; 2]>);
