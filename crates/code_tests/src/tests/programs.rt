@@ -5,7 +5,7 @@ use bpf_code::{
 };
 use bpf_words::{BinaryOperation, ByteOrder, Condition, EndWidth};
 use scarce::Scarce;
-use std::alloc::Allocator;
+use std::alloc::{Allocator, Global};
 use std::test::Fail;
 
 // A row has opcodes in hex, what they are, with `_` for each one's name, the names, the fields that they use, and the
@@ -257,11 +257,11 @@ const OUT_OF_MEMORY: DecodeFault = DecodeFault {
 
 // The bytes of words in hex.
 fn bytes_of<A: Allocator + Copy>(alloc: A, text: &str) -> Result<Vec<u8, A>, Fail> {
-    let mut bytes = Vec::new(alloc);
+    let mut digits = String::new(alloc);
     for word in text.split_whitespace() {
-        bytes.extend_from_slice(hex::decode(alloc, word)?.as_slice())?;
+        digits.push_str(word)?;
     }
-    Ok(bytes)
+    Ok(hex::decode(alloc, digits.as_str())?)
 }
 
 #[test]
@@ -284,12 +284,23 @@ fn faults(rt: HostRuntime) -> Result<(), Fail> {
     }
     assert_eq!(rt; decode(rt.alloc(), bytes.as_slice())?.slots(), 4096);
     bytes.extend_from_slice(exit.as_slice())?;
-    let fault = decode(rt.alloc(), bytes.as_slice()).err();
-    assert_eq!(rt;
-        fault.map(|fault| (fault.cause.number(), fault.slot)),
-        Some((2, 0))
-    );
+    let Err(fault) = decode(rt.alloc(), bytes.as_slice()) else {
+        panic!(rt; "no fault");
+    };
+    assert_eq!(rt; (fault.cause.number(), fault.slot), (2, 0));
     Ok(())
+}
+
+fn is_printed_so(alloc: Global, opcode: Opcode, text: &str) -> Result<bool, Fail> {
+    Ok(format!(in alloc; "{opcode:?}")?.as_str() == text)
+}
+
+// Whether a slot of this opcode is refused since there is no such.
+fn is_unknown(alloc: Global, opcode: u8) -> bool {
+    match decode(alloc, &[opcode, 0, 0, 0, 0, 0, 0, 0]) {
+        Ok(_) => false,
+        Err(fault) => fault.cause == DecodeCause::UnknownOpcode,
+    }
 }
 
 #[test]
@@ -308,21 +319,18 @@ fn opcodes(rt: HostRuntime) -> Result<(), Fail> {
         for (byte, name) in bytes.iter().zip(names.split_whitespace()) {
             let opcode = Opcode::from_byte(*byte).ok_or("unknown")?;
             let expected = format!(in rt.alloc(); "{before}{name}{after}")?;
-            assert_eq!(rt;
-                format!(in rt.alloc(); "{opcode:?}")?.as_str(),
-                expected.as_str()
-            );
-            assert_eq!(rt; opcode.byte(), *byte);
-            assert_eq!(rt; opcode.uses(), uses, "{expected}");
+            assert!(rt; is_printed_so(rt.alloc(), opcode, expected.as_str())?);
+            assert_eq!(rt; (opcode.byte(), opcode.uses()), (*byte, uses), "{name}");
         }
         known.extend_from_slice(bytes.as_slice())?;
     }
     assert_eq!(rt; known.len(), 117);
     for byte in 0..=255 {
-        let unknown = !known.contains(&byte);
-        let fault = decode(rt.alloc(), &[byte, 0, 0, 0, 0, 0, 0, 0]).err();
-        let answer = fault.map(|fault| fault.cause) == Some(DecodeCause::UnknownOpcode);
-        assert_eq!(rt; answer, unknown, "{byte}");
+        assert_eq!(rt;
+            is_unknown(rt.alloc(), byte),
+            !known.contains(&byte),
+            "{byte}"
+        );
     }
     Ok(())
 }

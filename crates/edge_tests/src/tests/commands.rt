@@ -283,27 +283,37 @@ const CHECKS: [Check; 12] = [
     (&[], 0, &[(1, 129), (1, 8)], 1, "refused S2\n"),
 ];
 
+/// Whether a check over an output answers this status, and leaves this there.
+fn leaves(
+    rt: &impl Abort,
+    alloc: Global,
+    bytes: &[u8],
+    check: &Check,
+    output: Output,
+    expected: (u8, &[u8]),
+) -> bool {
+    let (got, text) = checked(rt, alloc, whole(bytes), output, check.1, check.2);
+    got == expected.0 && text.as_slice() == expected.1
+}
+
 /// In one write or in many; and wherever the output fails, it holds the line as far as it had room.
 fn try_check(rt: &impl Abort, alloc: Global, bytes: &[u8], check: &Check) {
-    let (_, args_len, tables, status, line) = *check;
-    for at_once in [usize::MAX, 1] {
+    let (status, line) = (check.3, check.4.as_bytes());
+    for (at_once, flushes, status) in [
+        (usize::MAX, true, status),
+        (1, true, status),
+        (usize::MAX, false, 3),
+    ] {
         let mut output = Output::new(alloc, usize::MAX);
         output.at_once = at_once;
-        let (got, text) = checked(rt, alloc, whole(bytes), output, args_len, tables);
-        assert_eq!(rt; got, status);
-        assert_eq!(rt; text.as_slice(), line.as_bytes());
+        output.flushes = flushes;
+        assert!(rt; leaves(rt, alloc, bytes, check, output, (status, line)));
     }
     for room in 0..line.len() {
         let output = Output::new(alloc, room);
-        let (got, text) = checked(rt, alloc, whole(bytes), output, args_len, tables);
-        assert_eq!(rt; got, 3);
-        assert_eq!(rt; Some(text.as_slice()), line.as_bytes().get(..room));
+        let (beginning, _) = line.split_at(room);
+        assert!(rt; leaves(rt, alloc, bytes, check, output, (3, beginning)));
     }
-    let mut output = Output::new(alloc, usize::MAX);
-    output.flushes = false;
-    let (got, text) = checked(rt, alloc, whole(bytes), output, args_len, tables);
-    assert_eq!(rt; got, 3);
-    assert_eq!(rt; text.as_slice(), line.as_bytes());
 }
 
 #[test]
@@ -352,47 +362,55 @@ fn a_check_that_fails_answers_3(rt: HostRuntime) -> Result<(), Fail> {
     Ok(())
 }
 
+/// Words, and the number up to 256 that they are.
+const NUMBERS: [(&str, Option<u16>); 15] = [
+    ("0", Some(0)),
+    ("16", Some(16)),
+    ("256", Some(256)),
+    ("257", None),
+    ("65552", None),
+    ("18446744073709551632", None),
+    ("00", None),
+    ("01", None),
+    ("-1", None),
+    ("+1", None),
+    (" 1", None),
+    ("1 ", None),
+    ("0x1", None),
+    ("x", None),
+    ("", None),
+];
+
 #[test]
-fn numbers_and_tables_are_words(rt: HostRuntime) {
-    let numbers = [
-        ("0", Some(0)),
-        ("16", Some(16)),
-        ("256", Some(256)),
-        ("257", None),
-        ("65552", None),
-        ("18446744073709551632", None),
-        ("00", None),
-        ("01", None),
-        ("-1", None),
-        ("+1", None),
-        (" 1", None),
-        ("1 ", None),
-        ("0x1", None),
-        ("x", None),
-        ("", None),
-    ];
-    for (word, number) in numbers {
+fn numbers_are_words(rt: HostRuntime) {
+    for (word, number) in NUMBERS {
         assert_eq!(rt; number_in(word, 0, 256), number, "{word}");
     }
-    let tables = [
-        ("1:8", Some((1, 8))),
-        ("64:128", Some((64, 128))),
-        ("1:1", Some((1, 1))),
-        ("1:0", None),
-        ("0:8", None),
-        ("65:8", None),
-        ("1:129", None),
-        ("1", None),
-        ("1:", None),
-        (":8", None),
-        ("1:8:9", None),
-        ("01:8", None),
-        ("1:08", None),
-        ("x:8", None),
-        (":", None),
-        ("", None),
-    ];
-    for (word, pair) in tables {
+}
+
+/// Words, and the table with its width that they are.
+const PAIRS: [(&str, Option<(u8, u16)>); 16] = [
+    ("1:8", Some((1, 8))),
+    ("64:128", Some((64, 128))),
+    ("1:1", Some((1, 1))),
+    ("1:0", None),
+    ("0:8", None),
+    ("65:8", None),
+    ("1:129", None),
+    ("1", None),
+    ("1:", None),
+    (":8", None),
+    ("1:8:9", None),
+    ("01:8", None),
+    ("1:08", None),
+    ("x:8", None),
+    (":", None),
+    ("", None),
+];
+
+#[test]
+fn tables_are_words(rt: HostRuntime) {
+    for (word, pair) in PAIRS {
         assert_eq!(rt; table(word), pair, "{word}");
     }
 }

@@ -4,19 +4,29 @@ use script_settings::{FaultCause, ScriptFault, Settings};
 use std::alloc::Allocator;
 use std::test::Fail;
 
+/// Sets what a line says.
+fn set<A: Allocator + Copy>(
+    settings: &mut Settings<A>,
+    alloc: A,
+    text: &str,
+) -> Result<(), FaultCause> {
+    match command(alloc, text.as_bytes())? {
+        Some(said) => settings.set(said),
+        None => Ok(()),
+    }
+}
+
 /// Sets what the lines say, up to the first fault.
 fn set_all<A: Allocator + Copy>(
     settings: &mut Settings<A>,
     alloc: A,
     lines: &[&str],
 ) -> Result<(), ScriptFault> {
-    for (index, text) in lines.iter().enumerate() {
-        let line = index as u64 + 1;
-        let fault = |cause: FaultCause| ScriptFault { line, cause };
-        match command(alloc, text.as_bytes()) {
-            Ok(Some(said)) => settings.set(said).map_err(fault)?,
-            Ok(None) => {}
-            Err(other) => return Err(fault(FaultCause::from(other))),
+    let mut line = 0u64;
+    for text in lines {
+        line = line.wrapping_add(1);
+        if let Err(cause) = set(settings, alloc, text) {
+            return Err(ScriptFault { line, cause });
         }
     }
     Ok(())
@@ -87,14 +97,14 @@ const LINES: [&str; 5] = [
 ];
 
 /// What the lines set.
-fn settings_of(scarce: &Scarce) -> Result<Settings<&Scarce>, FaultCause> {
-    let Ok(mut settings) = Settings::new(scarce) else {
+fn settings_of<A: Allocator + Copy>(alloc: A) -> Result<Settings<A>, FaultCause> {
+    let Ok(mut settings) = Settings::new(alloc) else {
         return Err(FaultCause::OutOfMemory);
     };
-    match set_all(&mut settings, scarce, &LINES) {
-        Ok(()) => Ok(settings),
-        Err(fault) => Err(fault.cause),
+    for text in LINES {
+        set(&mut settings, alloc, text)?;
     }
+    Ok(settings)
 }
 
 /// What the lines set is there, and each growth that is refused is want of memory, unless it can be done without.

@@ -98,13 +98,18 @@ pub(super) fn run(
     Ok(run_program(alloc, &code, &schema, args, &list)?)
 }
 
-/// Rows of table, key and value: 2 bytes of it in table 2, and 8 in the others.
+/// A row of table, key and value: 2 bytes of it in table 2, and 8 in the others.
+fn row_of(alloc: Global, table: u8, key: u64, value: u64) -> Result<Row, Fail> {
+    let width = if table == 2 { 2 } else { 8 };
+    let bytes = value.to_le_bytes();
+    let (front, _) = bytes.split_at(width);
+    Ok(Row::new(table, key, Vec::from_slice(alloc, front)?))
+}
+
 fn rows_of(alloc: Global, rows: &[(u8, u64, u64)]) -> Result<Vec<Row>, Fail> {
     let mut list = Vec::new(alloc);
     for &(table, key, value) in rows {
-        let width = if table == 2 { 2 } else { 8 };
-        let bytes = Vec::from_slice(alloc, &value.to_le_bytes()[..width])?;
-        list.push(Row::new(table, key, bytes))?;
+        list.push(row_of(alloc, table, key, value)?)?;
     }
     Ok(list)
 }

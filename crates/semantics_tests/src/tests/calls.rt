@@ -23,8 +23,10 @@ fn changed(
     others: &[[u8; 8]],
 ) -> Result<Vec<[u8; 8]>, Fail> {
     let mut list = Vec::from_slice(alloc, slots)?;
-    for (slot, other) in list.iter_mut().skip(at).zip(others) {
-        *slot = *other;
+    for (index, other) in others.iter().enumerate() {
+        if let Some(slot) = list.get_mut(at.wrapping_add(index)) {
+            *slot = *other;
+        }
     }
     Ok(list)
 }

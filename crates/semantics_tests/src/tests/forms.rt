@@ -1,7 +1,9 @@
 //! Each form of instruction: states where it steps, and for each reason one where it is stuck. A wide
 //! load and both jumps have no reason to be stuck that a decoded program can reach, but for a write to r10.
 
-use super::assembly::{add, copy, pull, push, replies, set, slot, wide};
+use super::assembly::{Case, add, copy, pull, push, replies, set, slot, wide};
+use std::alloc::Global;
+use std::process::Abort;
 use std::test::Fail;
 
 /// Loads by opcode: how many bytes, and what the first and the last such bytes of the arguments give.
@@ -554,39 +556,56 @@ const WIDTHS: [(u64, i32, &[u8], &[u8]); 6] = [
     ),
 ];
 
+/// A jump over one slot, by a number or by a register.
+fn by_number(opcode: u8, dst: u8, number: i32) -> [u8; 8] {
+    slot(opcode, dst, 0, 1, number)
+}
+
+fn by_register(opcode: u8, dst: u8, src: u8) -> [u8; 8] {
+    slot(opcode, dst, src, 1, 0)
+}
+
+/// A condition that holds of the first numbers and not of the others, and never of nothing or of places.
+fn try_branches(
+    rt: &impl Abort,
+    alloc: Global,
+    number: u8,
+    register: u8,
+    numbers: [i32; 4],
+) -> Result<(), Fail> {
+    let [a, b, c, d] = numbers;
+    let (one, two, five) = (set(0, 1), set(0, 2), set(3, 5));
+    let cases: [Case<'_>; 13] = [
+        (&[one, set(2, a), by_number(number, 2, b), two], Some(1)),
+        (
+            &[one, set(2, a), set(3, b), by_register(register, 2, 3), two],
+            Some(1),
+        ),
+        (&[one, set(2, c), by_number(number, 2, d), two], Some(2)),
+        (
+            &[one, set(2, c), set(3, d), by_register(register, 2, 3), two],
+            Some(2),
+        ),
+        // Of nothing, and of places.
+        (&[by_number(number, 2, 5), one, one], None),
+        (&[by_number(number, 1, 5), one, one], None),
+        (&[by_number(number, 10, 5), one, one], None),
+        (&[five, by_register(register, 2, 3), one, one], None),
+        (&[five, by_register(register, 1, 3), one, one], None),
+        (&[five, by_register(register, 10, 3), one, one], None),
+        (&[five, by_register(register, 3, 2), one, one], None),
+        (&[five, by_register(register, 3, 1), one, one], None),
+        (&[five, by_register(register, 3, 10), one, one], None),
+    ];
+    replies(rt, alloc, &cases)
+}
+
 #[test]
 fn branches(rt: HostRuntime) -> Result<(), Fail> {
     for (high, [a, b], [c, d]) in CONDITIONS {
         for class in [0x05, 0x06] {
-            let by_number = |dst: u8, number: i32| slot(high | class, dst, 0, 1, number);
-            let by_register = |dst: u8, src: u8| slot(high | 0x08 | class, dst, src, 1, 0);
-            let (one, two, five) = (set(0, 1), set(0, 2), set(3, 5));
-            replies(
-                &rt,
-                rt.alloc(),
-                &[
-                    (&[one, set(2, a), by_number(2, b), two], Some(1)),
-                    (
-                        &[one, set(2, a), set(3, b), by_register(2, 3), two],
-                        Some(1),
-                    ),
-                    (&[one, set(2, c), by_number(2, d), two], Some(2)),
-                    (
-                        &[one, set(2, c), set(3, d), by_register(2, 3), two],
-                        Some(2),
-                    ),
-                    // Of nothing, and of places.
-                    (&[by_number(2, 5), one, one], None),
-                    (&[by_number(1, 5), one, one], None),
-                    (&[by_number(10, 5), one, one], None),
-                    (&[five, by_register(2, 3), one, one], None),
-                    (&[five, by_register(1, 3), one, one], None),
-                    (&[five, by_register(10, 3), one, one], None),
-                    (&[five, by_register(3, 2), one, one], None),
-                    (&[five, by_register(3, 1), one, one], None),
-                    (&[five, by_register(3, 10), one, one], None),
-                ],
-            )?;
+            let (number, register) = (high | class, high | 0x08 | class);
+            try_branches(&rt, rt.alloc(), number, register, [a, b, c, d])?;
         }
     }
     Ok(())

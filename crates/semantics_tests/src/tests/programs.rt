@@ -2,7 +2,7 @@
 
 use super::assembly::{TABLES, run};
 use bpf_code::decode;
-use plain_runner::{CompletedRun, Row, run_program};
+use plain_runner::{CompletedRun, Row, Write, run_program};
 use scarce::Scarce;
 use schema::Schema;
 use std::alloc::{AllocError, Allocator, Global};
@@ -510,11 +510,11 @@ static CASES: [Case; 57] = [
 
 /// The bytes of a program in hex.
 fn bytes_of(alloc: Global, hex: &str) -> Result<Vec<u8>, Fail> {
-    let mut bytes = Vec::new(alloc);
+    let mut digits = String::new(alloc);
     for slot in hex.split_whitespace() {
-        bytes.extend_from_slice(&hex::decode(alloc, slot)?)?;
+        digits.push_str(slot)?;
     }
-    Ok(bytes)
+    Ok(hex::decode(alloc, digits.as_str())?)
 }
 
 /// What came of a run, in a line.
@@ -527,34 +527,57 @@ fn described(alloc: Global, run: Option<&CompletedRun>) -> Result<String, Fail> 
         write!(text, " look {}:{}-{}", look.table, look.lo, look.hi)?;
     }
     for write in run.writes() {
-        match write.bytes() {
-            Some(bytes) => {
-                let bytes = hex::encode(alloc, bytes)?;
-                write!(text, " put {}:{}={bytes}", write.table(), write.key())?;
-            }
-            None => write!(text, " remove {}:{}", write.table(), write.key())?,
-        }
+        describe_write(alloc, &mut text, write)?;
     }
     if let Some(code) = run.cancel_code() {
         write!(text, " cancelled {code}")?;
     }
     for row in run.rows() {
-        let bytes = hex::encode(alloc, row.bytes())?;
-        write!(text, " row {}:{}={bytes}", row.table(), row.key())?;
+        describe_row(alloc, &mut text, row)?;
     }
     Ok(text)
+}
+
+fn describe_write(alloc: Global, text: &mut String, write: &Write) -> Result<(), Fail> {
+    let Some(bytes) = write.bytes() else {
+        return Ok(write!(text, " remove {}:{}", write.table(), write.key())?);
+    };
+    let bytes = hex::encode(alloc, bytes)?;
+    Ok(write!(text, " put {}:{}={bytes}", write.table(), write.key())?)
+}
+
+fn describe_row(alloc: Global, text: &mut String, row: &Row) -> Result<(), Fail> {
+    let bytes = hex::encode(alloc, row.bytes())?;
+    Ok(write!(text, " row {}:{}={bytes}", row.table(), row.key())?)
+}
+
+/// The bytes of arguments.
+fn args_of(alloc: Global, words: &[u64]) -> Result<Vec<u8>, Fail> {
+    let mut args = Vec::new(alloc);
+    for word in words {
+        args.extend_from_slice(&word.to_le_bytes())?;
+    }
+    Ok(args)
+}
+
+/// What comes of a program in hex, in a line.
+fn outcome_of(
+    alloc: Global,
+    program: &str,
+    args: &[u8],
+    rows: &[(u8, u64, u64)],
+) -> Result<String, Fail> {
+    let program = bytes_of(alloc, program)?;
+    let found = run(alloc, &program, args, rows)?;
+    described(alloc, found.as_ref())
 }
 
 #[test]
 fn programs_do_what_they_are_to_do(rt: HostRuntime) -> Result<(), Fail> {
     let alloc = rt.alloc();
     for case in &CASES {
-        let mut args = Vec::new(alloc);
-        for word in case.args {
-            args.extend_from_slice(&word.to_le_bytes())?;
-        }
-        let found = run(alloc, &bytes_of(alloc, case.program)?, &args, case.rows)?;
-        let text = described(alloc, found.as_ref())?;
+        let args = args_of(alloc, case.args)?;
+        let text = outcome_of(alloc, case.program, &args, case.rows)?;
         assert_eq!(rt; text.as_str(), case.outcome, "{}", case.program);
     }
     Ok(())
@@ -575,8 +598,7 @@ fn arguments_end_at_their_last_byte(rt: HostRuntime) -> Result<(), Fail> {
         for word in 1..32u64 {
             args.extend_from_slice(&word.to_le_bytes())?;
         }
-        let found = run(alloc, &bytes_of(alloc, program)?, &args, &[])?;
-        let text = described(alloc, found.as_ref())?;
+        let text = outcome_of(alloc, program, &args, &[])?;
         assert_eq!(rt; text.as_str(), outcome, "{program} {first}");
     }
     Ok(())
