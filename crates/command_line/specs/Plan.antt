@@ -1,5 +1,6 @@
--- The command lines `dsmdb list FILE`, `dsmdb check FILE ARGS [T:W ...]` and `dsmdb replay SCRIPT`, and what they ask for.
-use Rattle.std.specs.Prelude.{◌≡◌, true, List, [], codes, map, Option, Some, None}
+-- The command lines `dsmdb list FILE`, `dsmdb check FILE ARGS [T:W ...]`, `dsmdb replay SCRIPT` and
+-- `dsmdb explain NUMBER`, and what they ask for.
+use Rattle.std.specs.Prelude.{◌≡◌, ◌≤◌, true, List, [], codes, map, Option, Some, None}
 use Rattle.std.specs.Option.{option_and_then, unwrap_or}
 use Rattle.clap.specs.Words.{App, Rule, Row, Text, all_of, first_of, new_app, new_rule, with_rule, with_subcommand}
 use Rattle.clap.specs.declared.builder.ArgAction.TheVariants.{Set, Append}
@@ -22,6 +23,9 @@ args_rule = record (new_rule (codes "ARGS")) { required = true; action = Some Se
 abbrev pub table_rule : Rule
 table_rule = record (new_rule (codes "T:W")) { action = Some Append }
 
+abbrev pub number_rule : Rule
+number_rule = record (new_rule (codes "NUMBER")) { required = true; action = Some Set }
+
 abbrev pub list_line : App
 list_line = with_rule (new_app (codes "list")) file_rule
 
@@ -31,14 +35,17 @@ check_line = with_rule (with_rule (with_rule (new_app (codes "check")) file_rule
 abbrev pub replay_line : App
 replay_line = with_rule (new_app (codes "replay")) script_rule
 
+abbrev pub explain_line : App
+explain_line = with_rule (new_app (codes "explain")) number_rule
+
 abbrev pub named_command : App
 named_command = new_app (codes "dsmdb")
 
 -- a command is required, but for the flags `--help` and `--version`
 abbrev pub command_line : App
-command_line = with_subcommand
-    (with_subcommand (with_subcommand (record named_command { top = record named_command.top { has_version = true; subcommand_required = true } }) list_line.top) check_line.top)
-    replay_line.top
+command_line =
+    let required = record named_command { top = record named_command.top { has_version = true; subcommand_required = true } } in
+    with_subcommand (with_subcommand (with_subcommand (with_subcommand required list_line.top) check_line.top) replay_line.top) explain_line.top
 
 -- ---- what it asks for
 
@@ -54,9 +61,19 @@ IsCheckOf rows (plan.Check file args_len tables) =
     × (map table_word (unwrap_or (all_of (codes "T:W") rows) []) ≡ map (λ t. Some t) tables.items)
 IsCheckOf rows _ = ⊥
 
+-- arguments have at most 256 bytes
+abbrev pub HasLength : Plan → Type 0
+HasLength (plan.Check file args_len tables) = args_len ≤ 256
+HasLength _ = Unit
+
 abbrev pub IsReplayOf : List Row → Plan → Type 0
 IsReplayOf rows (plan.Replay script) = first_of (codes "SCRIPT") rows ≡ Some script.now
 IsReplayOf rows _ = ⊥
+
+-- what is explained has the number that was asked for
+abbrev pub IsExplainOf : List Row → Plan → Type 0
+IsExplainOf rows (plan.Explain explanation) = first_of (codes "NUMBER") rows ≡ Some explanation.number.now
+IsExplainOf rows _ = ⊥
 
 -- the plan is the command that was met, with the values that were read for it
 abbrev pub IsPlanOf : Option (Text × List Row) → Plan → Type 0
@@ -64,3 +81,4 @@ IsPlanOf None _ = ⊥
 IsPlanOf (Some command) (plan.List file) = (command.0 ≡ codes "list") × IsListOf command.1 (plan.List file)
 IsPlanOf (Some command) (plan.Check file args_len tables) = (command.0 ≡ codes "check") × IsCheckOf command.1 (plan.Check file args_len tables)
 IsPlanOf (Some command) (plan.Replay script) = (command.0 ≡ codes "replay") × IsReplayOf command.1 (plan.Replay script)
+IsPlanOf (Some command) (plan.Explain explanation) = (command.0 ≡ codes "explain") × IsExplainOf command.1 (plan.Explain explanation)

@@ -1,5 +1,6 @@
 //! The commands, and why words are none.
 
+use explanations::Explanation;
 use std::alloc::{AllocError, AllocFailed};
 use thiserror::Error;
 
@@ -21,6 +22,10 @@ pub enum Plan<'a> {
     Replay {
         script: &'a str,
     },
+    /// Say what is known of a refusal.
+    Explain {
+        explanation: Explanation,
+    },
 }
 
 /// Why the words are no plan.
@@ -33,6 +38,8 @@ pub enum PlanFault<'a> {
     Arguments { word: &'a str },
     #[error("T:W must be a table from 1 to 64 and its row width from 1 to 128: '{word}'")]
     Table { word: &'a str },
+    #[error("NUMBER must be a refusal's, as V5; docs/REFUSALS.md has them all: '{word}'")]
+    Number { word: &'a str },
     #[error("no command was given")]
     NoCommand,
     #[error("out of memory")]

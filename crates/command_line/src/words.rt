@@ -4,13 +4,14 @@ ghost use Rattle.std.specs.Prelude.{◌≡◌, [], codes, Some, IfOk, map};
 ghost use Rattle.std.specs.Option.{unwrap_or};
 ghost use Rattle.clap.specs.Words.{all_of, app_of, found_of, rows_of, rule_of, subcommand_of, subcommand_rows_of};
 ghost use Rattle.engines.specs.Number.{table_word};
-ghost use Rattle.command_line.specs.Plan.{args_rule, check_line, command_line, file_rule, list_line, replay_line, script_rule, table_rule};
-ghost use Rattle.command_line.specs.Plan.{IsPlanOf, IsListOf, IsCheckOf, IsReplayOf};
+ghost use Rattle.command_line.specs.Plan.{args_rule, check_line, command_line, explain_line, file_rule, list_line, number_rule, replay_line, script_rule, table_rule};
+ghost use Rattle.command_line.specs.Plan.{IsPlanOf, IsListOf, IsCheckOf, IsReplayOf, IsExplainOf, HasLength};
 
 use crate::help::SCRIPT_HELP;
 use crate::request::{Plan, PlanFault};
 use clap::{Arg, ArgAction, ArgMatches, Command};
 use engines::{number_in, table};
+use explanations::explain;
 use std::alloc::{AllocError, Global};
 use std::convert::AsStr;
 
@@ -19,13 +20,15 @@ const VERSION: &str = "0.1.0";
 
 /// The words after the program's name, which is the first, as a plan.
 pub fn plan<'a, S: AsStr>(alloc: Global, words: &'a [S]) -> Result<Plan<'a>, PlanFault<'a>>
-    ensures { IfOk result (λ plan. IsPlanOf (subcommand_of command_line (map S.text words.entry.now)) plan) }
+    ensures words { IfOk result (λ plan. IsPlanOf (subcommand_of command_line (map S.text words.entry.now)) plan) }
+    ensures length { IfOk result HasLength }
 {
     let matches = matches(alloc, words)?;
     match matches.subcommand() {
         Some(("list", values)) => list_plan(values),
         Some(("check", values)) => check_plan(alloc, values),
         Some(("replay", values)) => replay_plan(values),
+        Some(("explain", values)) => explain_plan(values),
         _ => Err(PlanFault::NoCommand),
     }
 }
@@ -42,7 +45,8 @@ fn list_plan<'a>(values: &ArgMatches<'a>) -> Result<Plan<'a>, PlanFault<'a>>
 
 /// The values of `check`.
 fn check_plan<'a>(alloc: Global, values: &ArgMatches<'a>) -> Result<Plan<'a>, PlanFault<'a>>
-    ensures { IfOk result (IsCheckOf (rows_of (found_of values.now))) }
+    ensures values { IfOk result (IsCheckOf (rows_of (found_of values.now))) }
+    ensures length { IfOk result HasLength }
 {
     let Some(file) = values.get_str("FILE") else {
         return Err(PlanFault::NoCommand);
@@ -96,6 +100,19 @@ fn replay_plan<'a>(values: &ArgMatches<'a>) -> Result<Plan<'a>, PlanFault<'a>>
     }
 }
 
+/// The values of `explain`.
+fn explain_plan<'a>(values: &ArgMatches<'a>) -> Result<Plan<'a>, PlanFault<'a>>
+    ensures { IfOk result (IsExplainOf (rows_of (found_of values.now))) }
+{
+    let Some(word) = values.get_str("NUMBER") else {
+        return Err(PlanFault::NoCommand);
+    };
+    match explain(word) {
+        Some(explanation) => Ok(Plan::Explain { explanation }),
+        None => Err(PlanFault::Number { word }),
+    }
+}
+
 /// What clap reads of the words.
 fn matches<'a, S: AsStr>(alloc: Global, words: &'a [S]) -> Result<ArgMatches<'a>, PlanFault<'a>>
     ensures { IfOk result (λ m. subcommand_rows_of m ≡ subcommand_of command_line (map S.text words.entry.now)) }
@@ -103,6 +120,7 @@ fn matches<'a, S: AsStr>(alloc: Global, words: &'a [S]) -> Result<ArgMatches<'a>
     let list = list_command(alloc)?;
     let check = check_command(alloc)?;
     let replay = replay_command(alloc)?;
+    let explain = explain_command(alloc)?;
     let dsmdb = Command::new(alloc, "dsmdb")
         .about("A multi-master row database with verified BPF procedures")
         .version(VERSION)
@@ -110,6 +128,7 @@ fn matches<'a, S: AsStr>(alloc: Global, words: &'a [S]) -> Result<ArgMatches<'a>
         .subcommand(list)?;
     let dsmdb = dsmdb.subcommand(check)?;
     let dsmdb = dsmdb.subcommand(replay)?;
+    let dsmdb = dsmdb.subcommand(explain)?;
     Ok(dsmdb.try_get_matches_from(words)?)
 }
 
@@ -138,6 +157,23 @@ fn replay_command<'a>(alloc: Global) -> Result<Command<'a>, AllocError>
         .about("Runs a script on a world of replicas, and prints what each line answers")
         .after_help(SCRIPT_HELP)
         .arg(script(alloc))
+}
+
+fn explain_command<'a>(alloc: Global) -> Result<Command<'a>, AllocError>
+    ensures { IfOk result (λ c. app_of c ≡ explain_line) }
+{
+    Command::new(alloc, "explain")
+        .about("Says what a refusal's number means, and what to do")
+        .arg(number(alloc))
+}
+
+fn number<'a>(alloc: Global) -> Arg<'a>
+    ensures { rule_of result ≡ number_rule }
+{
+    Arg::new(alloc, "NUMBER")
+        .help("The letter and number of a refusal, as V5")
+        .required(true)
+        .action(ArgAction::Set)
 }
 
 fn script<'a>(alloc: Global) -> Arg<'a>

@@ -5,6 +5,7 @@ ghost use Rattle.std.specs.Prelude.{◌≤◌};
 
 use command_line::{Plan, PlanFault, plan};
 use engines::{FAILED, check_over, list_over};
+use explanations::Explanation;
 use script_replay::replay_over;
 use std::fs::File;
 use std::io::{BufReader, Write};
@@ -69,13 +70,22 @@ fn replay_file(rt: &HostRuntime, path: &str) -> io::Result<u8> {
     }
 }
 
+/// Prints what is known of a refusal.
+fn print_explanation(rt: &HostRuntime, explanation: &Explanation) -> io::Result<u8> {
+    writeln!(rt.stdout(), "{explanation}")?;
+    Ok(0)
+}
+
 fn refused(rt: &HostRuntime, fault: &PlanFault<'_>) -> io::Result<u8> {
     match fault {
         PlanFault::CommandLine(error) => {
             error.print(rt)?;
             Ok(u8::try_from(error.exit_code()).unwrap_or(BAD_COMMAND_LINE))
         }
-        PlanFault::Arguments { .. } | PlanFault::Table { .. } | PlanFault::NoCommand => {
+        PlanFault::Arguments { .. }
+        | PlanFault::Table { .. }
+        | PlanFault::Number { .. }
+        | PlanFault::NoCommand => {
             writeln!(rt.stderr(), "dsmdb: {fault}")?;
             Ok(BAD_COMMAND_LINE)
         }
@@ -98,6 +108,7 @@ fn run(rt: &HostRuntime) -> io::Result<u8> {
             },
         ) => check_file(rt, file, args_len, &tables),
         Ok(Plan::Replay { script }) => replay_file(rt, script),
+        Ok(Plan::Explain { explanation }) => print_explanation(rt, &explanation),
         Err(fault) => refused(rt, &fault),
     }
 }

@@ -1,5 +1,6 @@
 mod command_lines;
 mod commands;
+mod explained;
 mod lines;
 mod scripts;
 mod settings;

@@ -1,4 +1,6 @@
 use command_line::{Plan, PlanFault, plan};
+use explanations::explain;
+use std::alloc::Global;
 use std::test::Fail;
 
 #[test]
@@ -7,6 +9,11 @@ fn a_plan_is_read_off_the_words(rt: HostRuntime) -> Result<(), Fail> {
     assert!(rt; plan(rt.alloc(), &words)? == Plan::List { file: "add.bpf" });
     let words = ["dsmdb", "replay", "a.dsm"];
     assert!(rt; plan(rt.alloc(), &words)? == Plan::Replay { script: "a.dsm" });
+    let Some(explanation) = explain("V5") else {
+        panic!(rt; "no row");
+    };
+    let words = ["dsmdb", "explain", "V5"];
+    assert!(rt; plan(rt.alloc(), &words)? == Plan::Explain { explanation });
     let rows: [(&[&str], u16, &[(u8, u16)]); 3] = [
         (&["dsmdb", "check", "add.bpf", "0"], 0, &[]),
         (&["dsmdb", "check", "add.bpf", "16", "1:8"], 16, &[(1, 8)]),
@@ -29,29 +36,47 @@ fn a_plan_is_read_off_the_words(rt: HostRuntime) -> Result<(), Fail> {
     Ok(())
 }
 
-/// Words of `check` that can't be read, and how the fault is printed.
+/// How the fault of words is printed; empty where they are a plan.
+fn fault_of(alloc: Global, words: &[&str]) -> Result<String, Fail> {
+    match plan(alloc, words) {
+        Ok(_) => Ok(String::new(alloc)),
+        Err(fault) => Ok(fault.to_string(alloc)?),
+    }
+}
+
+const NO_LENGTHS: [&str; 6] = ["257", "01", "+1", "x", "1:8", ""];
+
+const NO_TABLES: [&str; 9] = [
+    "1:0", "0:8", "65:8", "1:129", "1", "1:8:9", "x:8", "01:8", "",
+];
+
+const NO_REFUSALS: [&str; 6] = ["V13", "v5", "V05", "5", "explain", ""];
+
+/// Whether a command with words before and behind is refused for a word, with a text that ends in it.
+fn is_refused(alloc: Global, words: &[&str], text: &str, word: &str) -> Result<bool, Fail> {
+    let fault = fault_of(alloc, words)?;
+    let expected = format!(in alloc; "{text}: '{word}'")?;
+    Ok(fault.as_str() == expected.as_str())
+}
+
+/// Words that can't be read, and how the fault is printed.
 #[test]
 fn other_numbers_are_refused(rt: HostRuntime) -> Result<(), Fail> {
     let alloc = rt.alloc();
-    for word in ["257", "01", "+1", "x", "1:8", ""] {
+    let text = "ARGS must be a number from 0 to 256";
+    for word in NO_LENGTHS {
         let words = ["dsmdb", "check", "a", word, "1:8"];
-        let Err(fault) = plan(alloc, &words) else {
-            panic!(rt; "a plan");
-        };
-        let text = format!(in alloc; "ARGS must be a number from 0 to 256: '{word}'")?;
-        assert_eq!(rt; fault.to_string(alloc)?.as_str(), text.as_str());
+        assert!(rt; is_refused(alloc, &words, text, word)?, "{word}");
     }
-    for word in [
-        "1:0", "0:8", "65:8", "1:129", "1", "1:8:9", "x:8", "01:8", "",
-    ] {
+    let text = "T:W must be a table from 1 to 64 and its row width from 1 to 128";
+    for word in NO_TABLES {
         let words = ["dsmdb", "check", "a", "16", "2:8", word];
-        let Err(fault) = plan(alloc, &words) else {
-            panic!(rt; "a plan");
-        };
-        let text = format!(in alloc;
-            "T:W must be a table from 1 to 64 and its row width from 1 to 128: '{word}'"
-        )?;
-        assert_eq!(rt; fault.to_string(alloc)?.as_str(), text.as_str());
+        assert!(rt; is_refused(alloc, &words, text, word)?, "{word}");
+    }
+    let text = "NUMBER must be a refusal's, as V5; docs/REFUSALS.md has them all";
+    for word in NO_REFUSALS {
+        let words = ["dsmdb", "explain", word];
+        assert!(rt; is_refused(alloc, &words, text, word)?, "{word}");
     }
     Ok(())
 }
@@ -59,7 +84,7 @@ fn other_numbers_are_refused(rt: HostRuntime) -> Result<(), Fail> {
 /// The exit status for words that are no plan, and how the text begins.
 #[test]
 fn other_words_are_refused(rt: HostRuntime) -> Result<(), Fail> {
-    let rows: [(&[&str], i32, &str); 12] = [
+    let rows: [(&[&str], i32, &str); 14] = [
         (&["dsmdb"], 2, ""),
         (&["dsmdb", "list"], 2, "error: "),
         (&["dsmdb", "list", "a", "b"], 2, "error: "),
@@ -69,6 +94,8 @@ fn other_words_are_refused(rt: HostRuntime) -> Result<(), Fail> {
         (&["dsmdb", "replay"], 2, "error: "),
         (&["dsmdb", "replay", "a", "b"], 2, "error: "),
         (&["dsmdb", "replay", "--help"], 0, "Runs a script"),
+        (&["dsmdb", "explain"], 2, "error: "),
+        (&["dsmdb", "explain", "V5", "V6"], 2, "error: "),
         (&["dsmdb", "jump", "a"], 2, "error: "),
         (&["dsmdb", "--help"], 0, ""),
         (&["dsmdb", "--version"], 0, "dsmdb 0.1.0\n"),

@@ -5,8 +5,8 @@ use Rattle.clap.proofs.WalkLemmas.{first_value-rows}
 use Rattle.engines.specs.Number.{number_in}
 use Rattle.command_line.proofs.words.check_plan.Goals as goal
 
-pub returns : goal.returns
-returns c =
+pub returns-clause-values : goal.returns-clause-values
+returns-clause-values c =
     let found = found_of c.args.values.now in
     let file = sym (first_value-rows found (codes "FILE")) ∙ sym c.in-Some.ensures in
     let word : first_of (codes "ARGS") (rows_of found) ≡ Some c.in-Some-get_str.word.now = sym (first_value-rows found (codes "ARGS")) ∙ sym c.in-Some-get_str.ensures in

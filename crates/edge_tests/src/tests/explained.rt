@@ -1,0 +1,54 @@
+use explanations::explain;
+use std::test::Fail;
+
+/// The letters of refusals, and how many numbers each has from 1 on.
+const LETTERS: [(&str, u32); 6] = [
+    ("B", 12),
+    ("S", 4),
+    ("V", 12),
+    ("C", 5),
+    ("P", 10),
+    ("L", 9),
+];
+
+#[test]
+fn every_refusal_is_explained(rt: HostRuntime) -> Result<(), Fail> {
+    for (letter, count) in LETTERS {
+        for number in 1..=count {
+            let word = format!(in rt.alloc(); "{letter}{number}")?;
+            assert!(rt; explain(word.as_str()).is_some(), "{letter}{number}");
+        }
+        let word = format!(in rt.alloc(); "{letter}{}", count.wrapping_add(1))?;
+        assert!(rt; explain(word.as_str()).is_none(), "{letter}");
+    }
+    for word in ["", "V", "v5", "V05", "V0", "5", "V5 "] {
+        assert!(rt; explain(word).is_none(), "{word}");
+    }
+    Ok(())
+}
+
+/// Refusals, and what is printed of them.
+const PRINTED: [(&str, &str); 2] = [
+    (
+        "V5",
+        "V5: a byte of the stack is read, or put as a row, that wasn't written on each path\n\
+         what to do: write the whole buffer before\n\
+         in C: a row that some path doesn't write wholly: `struct NAME row = {};`",
+    ),
+    (
+        "S3",
+        "S3: the table was there before\n\
+         what to do: name each table once",
+    ),
+];
+
+#[test]
+fn an_explanation_is_printed(rt: HostRuntime) -> Result<(), Fail> {
+    for (word, text) in PRINTED {
+        let Some(explanation) = explain(word) else {
+            panic!(rt; "no row");
+        };
+        assert_eq!(rt; explanation.to_string(rt.alloc())?.as_str(), text);
+    }
+    Ok(())
+}

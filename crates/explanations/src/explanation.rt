@@ -1,0 +1,43 @@
+//! The row of a number, and how it is printed.
+
+ghost use Rattle.std.specs.Prelude.{◌≡◌, IfSome};
+
+use crate::rows::EXPLANATIONS;
+use std::fmt;
+
+/// What is said of a refusal's number.
+#[derive(Clone, Copy, Debug, PartialEq, Eq)]
+pub struct Explanation {
+    /// A letter and a number, as `V5`.
+    pub number: &'static str,
+    /// When it is refused so.
+    pub cause: &'static str,
+    /// What to do.
+    pub cure: &'static str,
+    /// What to do in a source in C; empty where there is nothing to say.
+    pub in_c: &'static str,
+}
+
+impl fmt::Display for Explanation {
+    fn fmt<W: fmt::Write>(&self, f: &mut fmt::Formatter<W>) -> fmt::Result {
+        write!(
+            f,
+            "{}: {}\nwhat to do: {}",
+            self.number, self.cause, self.cure
+        )?;
+        if self.in_c.is_empty() {
+            return Ok(());
+        }
+        write!(f, "\nin C: {}", self.in_c)
+    }
+}
+
+/// The row of a number, as `V5`; none where no refusal has it.
+pub fn explain(number: &str) -> Option<Explanation>
+    ensures { IfSome result (λ row. row.number.now ≡ number.now) }
+{
+    EXPLANATIONS
+        .iter()
+        .copied()
+        .find(|row| row.number == number)
+}

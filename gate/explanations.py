@@ -1,0 +1,53 @@
+"""The rows that `dsmdb explain` prints: those of the tables in docs/REFUSALS.md.
+
+`python3 gate/explanations.py` writes them into the crate `explanations`.
+"""
+import re
+import sys
+
+import workspace
+
+PAGE = "docs/REFUSALS.md"
+ROWS = "crates/explanations/src/rows.rt"
+ROW = re.compile(r"\| [A-Z]\d+ \|")
+HEAD = """\
+//! The rows of docs/REFUSALS.md, as gate/explanations.py copies them.
+
+use crate::explanation::Explanation;
+
+"""
+
+
+def tables():
+    """Yields each row of a refusal, as its cells by the heads of their columns."""
+    heads = []
+    for line in workspace.read(PAGE).decode().splitlines():
+        cells = [it.strip() for it in line.strip("|").split("|")] if line.startswith("|") else []
+        if cells and cells[0] == "Number":
+            heads = cells
+        elif ROW.match(line):
+            yield dict(zip(heads, cells))
+
+
+def text(words):
+    return '"' + words.replace("\\", "\\\\").replace('"', '\\"') + '"'
+
+
+def row(cells):
+    cause = cells.get("Cause") or cells["When"]
+    fields = {"number": cells["Number"], "cause": cause, "cure": cells["What to do"], "in_c": cells.get("In C", "")}
+    return "    Explanation {\n" + "".join(f"        {name}: {text(it)},\n" for name, it in fields.items()) + "    },\n"
+
+
+def source():
+    rows = [row(it) for it in tables()]
+    return f"{HEAD}/// Each refusal once.\npub const EXPLANATIONS: [Explanation; {len(rows)}] = [\n{''.join(rows)}];\n"
+
+
+def is_today():
+    return workspace.read(ROWS).decode() == source()
+
+
+if __name__ == "__main__":
+    with open(f"{workspace.ROOT}/{ROWS}", "w") as file:
+        print(f"{ROWS}: {file.write(source())} characters", file=sys.stderr)
