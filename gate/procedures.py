@@ -108,4 +108,7 @@ def run(program):
             results += [told(f"source of {named(it)}", compiles(program, it, room, clang, version_of(clang) == VERSION)) for it in folders]
         compared = ran([f"{KIT}/c/tests/compare_layouts"], program)
         results.append(told("layouts of procedures", compared.returncode == 0, compared.stderr[-300:]))
+        if version_of(clang) == VERSION:  # whose words the kit has in words of its own
+            answered = ran([f"{KIT}/c/tests/refused"], program)
+            results.append(told("answers to mistakes in C", answered.returncode == 0, answered.stderr[-300:]))
     return sum(map(bool, results)), sum(not it for it in results)

@@ -36,6 +36,7 @@ MESSAGES = [
     (r"redefinition of enumerator 'procedure_(\d+)'", r"two procedures have number \1"),
     (r"redefinition of enumerator 'table_(\d+)'", r"two tables have number \1"),
     (r"conflicting types for '(row|range)_\w+'", r"a table can't be named \1: the helpers are"),
+    (r"redefinition of '(row|range)_\w+' as different kind of symbol", r"a table can't be named \1: the helpers are"),
 ]
 
 Table = namedtuple("Table", "number width")
@@ -48,9 +49,10 @@ def compiler():
 
 
 def in_words(said):
-    """Returns what clang said, in the words of MESSAGES, each message once, by its first line."""
+    """Returns what clang said, in the words of MESSAGES, each message once, by its first line, without notes on macros."""
     for theirs, ours in MESSAGES:
         said = re.sub(theirs, ours, said)
+    said = re.sub(r"^(?:(?:\S*dsmdb\.h|<scratch space>)\S* note: |\S+ note: could not determine).*\n(?: .*\n)*", "", said, flags=re.M)
     messages = re.split(r"^(?=\S+?:\d+:\d+: (?:error|warning|fatal error): )", said, flags=re.M)
     by_line = {}
     for it in messages:
