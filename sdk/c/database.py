@@ -9,17 +9,19 @@ from objects import Object
 
 HERE = os.path.dirname(os.path.realpath(__file__))
 VERSION = 19
+LONGEST = 60  # seconds that the compiler may take
 FLAGS = (
     "--target=bpfel -mcpu=v4 -O2 -g -ffreestanding -fwrapv -fno-finite-loops -fno-jump-tables -mllvm -unroll-runtime "
     "-Wall -Wextra -Wno-pass-failed -Werror=padded -Werror=return-type -Werror=incompatible-pointer-types -Werror=int-conversion "
-    "-Werror=deprecated-non-prototype -Werror=unused-result"
+    "-Werror=deprecated-non-prototype -Werror=unused-result -Werror=uninitialized -Werror=sometimes-uninitialized"
 ).split()
 # what clang says in words of its own, and what is meant
 UNUSED = "put a field there, since a row is compared and kept as bytes"
 MESSAGES = [
     (
         r"Looks like the BPF stack limit.*",
-        "rows, arguments and what the compiler puts aside take more than the stack's 512 bytes: keep fewer of them at once",
+        "rows, arguments and what the compiler puts aside take more than the stack's 512 bytes: keep fewer "
+        "of them at once, or write fewer turns of a loop, since a sum over rows is put aside row by row",
     ),
     (
         r"A call to built-in function '__\w*[sd]f.*",
@@ -63,7 +65,10 @@ def in_words(said):
 def compile_source(source, to, *more):
     """Compiles a source, with further flags, and ends with what clang says where it can't be."""
     try:
-        ran = subprocess.run([compiler(), *FLAGS, *more, f"-I{HERE}", "-c", source, "-o", to], stderr=subprocess.PIPE, text=True)
+        words = [compiler(), *FLAGS, *more, f"-I{HERE}", "-c", source, "-o", to]
+        ran = subprocess.run(words, stderr=subprocess.PIPE, text=True, timeout=LONGEST)
+    except subprocess.TimeoutExpired:
+        sys.exit(f"{source}: {compiler()} took more than {LONGEST} s: write fewer turns of a loop")
     except OSError:
         sys.exit(f"{compiler()} isn't here: apt-get install clang-{VERSION}")
     sys.stderr.write(in_words(ran.stderr))

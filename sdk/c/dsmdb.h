@@ -24,9 +24,10 @@ typedef int64_t i64;
 /* before each function of your own */
 #define INLINE static inline __attribute__((always_inline, unused))
 /* before a loop, whose head has a constant as a bound: for (u64 i = 0; i < 8; i++) */
-#define UNROLL _Pragma("clang loop unroll(full)")
+#define UNROLL _Pragma("clang loop unroll_count(4096)")
 /* a function whose instructions count to the line that calls it */
 #define DSMDB_PART INLINE __attribute__((nodebug))
+#define DSMDB_WORDS(length) __attribute__((diagnose_if((length) % 8, "a text's length is a multiple of 8", "error")))
 
 #else
 
@@ -37,6 +38,7 @@ typedef int64_t i64;
 #define INLINE static inline __attribute__((unused))
 #define UNROLL
 #define DSMDB_PART INLINE
+#define DSMDB_WORDS(length)
 
 extern u64 host_widths[65]; /* of each table, the bytes of a row */
 extern u64 host_code;       /* of the last call: its code, 0 where it didn't cancel (so codes are 1 and up) */
@@ -118,7 +120,7 @@ DSMDB_PART u64 word_at(const void *text, u64 at)
     return word;
 }
 
-INLINE u64 same_text(const void *a, const void *b, u64 length)
+INLINE u64 same_text(const void *a, const void *b, u64 length) DSMDB_WORDS(length)
 {
     u64 differ = 0;
     UNROLL for (u64 at = 0; at < length; at += 8) differ |= word_at(a, at) ^ word_at(b, at);
@@ -126,7 +128,7 @@ INLINE u64 same_text(const void *a, const void *b, u64 length)
 }
 
 /* A key for a text. Two texts may have one: keep the text in the row, and compare. */
-INLINE u64 hash_text(const void *text, u64 length)
+INLINE u64 hash_text(const void *text, u64 length) DSMDB_WORDS(length)
 {
     u64 hash = length;
     UNROLL for (u64 at = 0; at < length; at += 8)

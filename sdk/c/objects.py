@@ -1,7 +1,7 @@
 """What an object file of clang says (ELF of 64 bits, least byte first): its sections, its types (BTF), and the line of
 C of a slot (BTF.ext)."""
 from collections import namedtuple
-from struct import iter_unpack, unpack_from
+from struct import error, iter_unpack, unpack_from
 
 NOTHING_HELD, RELOCATIONS = 8, 9  # types of ELF sections
 INTEGER, ARRAY, STRUCT, UNION, TYPEDEF, VOLATILE, CONST, VARIABLE = 1, 3, 4, 5, 8, 9, 10, 14  # kinds of BTF types
@@ -17,14 +17,20 @@ Field = namedtuple("Field", "name at size form")  # form: unsigned, signed, text
 
 class Object:
     def __init__(self, path):
-        with open(path, "rb") as file:
-            self.data = file.read()
+        try:
+            with open(path, "rb") as file:
+                self.data = file.read()
+        except FileNotFoundError:
+            raise ValueError(f"{path} isn't there: sdk/c/build makes it") from None
         if self.data[:5] != b"\x7fELF\x02":
             raise ValueError(f"{path} is no object of clang")
-        heads = self.read_heads()
-        self.sections = {it.name: self.data[it.at : it.at + it.size] for it in heads if it.kind != NOTHING_HELD}
-        self.outside = self.read_outside(heads)
-        self.read_types()
+        try:
+            heads = self.read_heads()
+            self.sections = {it.name: self.data[it.at : it.at + it.size] for it in heads if it.kind != NOTHING_HELD}
+            self.outside = self.read_outside(heads)
+            self.read_types()
+        except (error, IndexError, ValueError):
+            raise ValueError(f"{path} is no whole object of clang: sdk/c/build makes it anew") from None
 
     # ---- sections
 

@@ -1,11 +1,13 @@
 """Values of a procedure's arguments and of rows, as people write them: FIELD=VALUE."""
+import re
 
 
 def packed(fields, words):
     """Returns the bytes of fields that are given as words FIELD=VALUE, all of them, once each, and no others."""
-    pairs = [word.partition("=")[::2] for word in words]
-    if sorted(name for name, _ in pairs) != sorted(it.name for it in fields):
-        raise ValueError("takes " + " ".join(f"{it.name}=" for it in fields))
+    pairs, names = [word.partition("=")[::2] for word in words], [it.name for it in fields]
+    if sorted(name for name, _ in pairs) != sorted(names):
+        unknown = "".join(f"no field {name}: " for name, _ in pairs if name not in names)
+        raise ValueError(f"{unknown}takes " + " ".join(f"{it}=" for it in names))
     given = dict(pairs)
     block = bytearray(max((it.at + it.size for it in fields), default=0))
     for it in fields:
@@ -30,10 +32,9 @@ def raw_value(field, word):
 
 
 def raw_number(field, word):
-    try:
-        number = int(word, 0)
-    except ValueError:
-        raise ValueError(f"{field.name}={word} is no number: decimal without leading zeros, or 0x..") from None
+    if not re.fullmatch("-?(0|[1-9][0-9]*|0x[0-9a-fA-F]+)", word):
+        raise ValueError(f"{field.name}={word} is no number: decimal without leading zeros, or 0x..")
+    number = int(word, 0)
     try:
         return number.to_bytes(field.size, "little", signed=field.form == "signed")
     except OverflowError:

@@ -116,7 +116,7 @@ pub const EXPLANATIONS: [Explanation; 52] = [
         number: "V3",
         cause: "a pointer stands where only a number may (a comparison, a value that is stored, arithmetic other than a 64-bit move or adding a number to it or subtracting one in 64 bits), or it is moved too far",
         cure: "keep pointers in registers; bound the number that is added",
-        in_c: "a number that may be below zero as an index (take `u64`), or a pointer that is compared, stored or kept over a call",
+        in_c: "an index that wasn't tested just before (`if (i >= 8) return cancel(CODE);`) or may be below zero (take `u64`), or a pointer that is compared, stored or kept over a call",
     },
     Explanation {
         number: "V4",
@@ -152,7 +152,7 @@ pub const EXPLANATIONS: [Explanation; 52] = [
         number: "V9",
         cause: "a buffer isn't at one place of the stack, or isn't whole inside: it has the table's width, or 8 bytes for a key",
         cure: "point to the buffer's lowest byte, with as much room above it as the width",
-        in_c: "a row that is one or the other: call once for each, not by `condition ? &a : &b`",
+        in_c: "a row that is one or the other (call once for each, not by `condition ? &a : &b`), or no row at all",
     },
     Explanation {
         number: "V10",
