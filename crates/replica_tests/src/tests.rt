@@ -5,7 +5,7 @@ use replica::{Certification, Replica};
 use row_sets::{ReadSet, WriteSet};
 use row_values::Bytes;
 use sample_procedures::TABLES;
-use schema::Schema;
+use schema::{Look, Schema};
 use std::alloc::{Allocator, Global};
 use std::test::Fail;
 
@@ -21,8 +21,21 @@ fn catalogue_of<A: Allocator + Copy>(alloc: A) -> Result<Catalogue<A>, Fail> {
     Ok(Catalogue::new(alloc, Schema::new(alloc, &TABLES)?))
 }
 
-/// A put of a value at a key of table 1, by a call that looked at nothing.
-fn put_of(alloc: Global, key: u64, value: u64, snapshot: u32) -> Result<Entry, Fail> {
+/// One look.
+fn reads_of(alloc: Global, look: Look) -> Result<ReadSet, Fail> {
+    let mut reads = ReadSet::new(alloc);
+    reads.add_range(look)?;
+    Ok(reads)
+}
+
+/// A put of a value at a key of table 1, by a call that looked at this.
+fn put_of(
+    alloc: Global,
+    reads: ReadSet,
+    key: u64,
+    value: u64,
+    snapshot: u32,
+) -> Result<Entry, Fail> {
     let mut writes = WriteSet::new(alloc);
     writes.put(1, key, &value.to_le_bytes())?;
     Ok(Entry {
@@ -30,7 +43,7 @@ fn put_of(alloc: Global, key: u64, value: u64, snapshot: u32) -> Result<Entry, F
         procedure: 3,
         args: Bytes::new(Vec::new(alloc)),
         snapshot,
-        reads: ReadSet::new(alloc),
+        reads,
         writes,
         reply: 0,
     })

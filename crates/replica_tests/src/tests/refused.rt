@@ -1,6 +1,6 @@
 //! What stands where a growth is refused: each growth of a call in turn.
 
-use super::{catalogue_of, certification_at, put_of};
+use super::{catalogue_of, certification_at, put_of, reads_of};
 use checked_replica::{CheckedReplica, CheckedVersions};
 use log_entry::Entry;
 use log_model::Verdict;
@@ -9,7 +9,7 @@ use row_sets::WriteSet;
 use rows_mv::{Gone, Versions};
 use sample_procedures::TABLES;
 use scarce::Scarce;
-use schema::Schema;
+use schema::{Look, Schema};
 use std::alloc::{AllocError, Allocator, Global};
 use std::test::Fail;
 use txn_view::Store;
@@ -126,9 +126,13 @@ const DELIVERIES: [(u64, u8, u32, u64); 4] = [
 fn entries_of(alloc: Global) -> Result<Vec<Entry>, Fail> {
     let mut entries = Vec::new(alloc);
     for (key, value, snapshot, looked) in DELIVERIES {
-        let mut entry = put_of(alloc, key, u64::from(value), snapshot)?;
-        entry.reads.add_point(1, looked)?;
-        entries.push(entry)?;
+        let looked = Look {
+            table: 1,
+            lo: looked,
+            hi: looked,
+        };
+        let reads = reads_of(alloc, looked)?;
+        entries.push(put_of(alloc, reads, key, u64::from(value), snapshot)?)?;
     }
     Ok(entries)
 }

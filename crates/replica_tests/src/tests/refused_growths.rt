@@ -1,83 +1,44 @@
-ghost use Rattle.std.specs.Prelude.{◌≡◌, IfOk};
-ghost use Rattle.schema.specs.Rows.{AreWrites};
-ghost use Rattle.rows_mv.specs.Versions.{HaveTables};
+//! Steps with the verdicts and rows that a program of another language told, and a replica that stops.
 
+use super::{certification_at, reads_of};
 use catalogue::Catalogue;
+use checked_replica::CheckedReplica;
 use log_entry::Entry;
 use log_model::Verdict;
-use replica::{Replica, Stopped, tables_take_the_schemas_writes};
-use row_sets::{ReadSet, WriteSet};
+use replica::{Replica, Stopped};
+use row_sets::WriteSet;
 use row_values::Bytes;
 use scarce::Scarce;
-use schema::{Look, Schema, writes_stay_the_schemas};
-use std::alloc::{AllocError, Allocator, Global};
+use schema::{Look, Schema};
+use std::alloc::{Allocator, Global};
 use std::test::Fail;
 use txn_view::Store;
 
 /// A call: its snapshot, from which key of table 1 to which it looked, and a key at which it puts one byte or removes it.
 type Step = (u32, u64, u64, u64, Option<u8>);
 
-fn writes_of<A: Allocator + Copy>(
-    alloc: A,
-    schema: &Schema<A>,
-    key: u64,
-    row: Option<u8>,
-) -> Result<WriteSet<A>, AllocError>
-    ensures { IfOk result (λ writes. AreWrites schema.now writes) }
-{
-    writes_stay_the_schemas();
+fn writes_of(alloc: Global, key: u64, row: Option<u8>) -> Result<WriteSet, Fail> {
     let mut writes = WriteSet::new(alloc);
-    let bytes = [row.unwrap_or(0)];
-    if !schema.fits(1, key, &bytes) {
-        return Err(AllocError);
+    match row {
+        Some(byte) => writes.put(1, key, &[byte])?,
+        None => writes.remove(1, key)?,
     }
-    if row.is_none() {
-        writes.remove(1, key)?;
-        return Ok(writes);
-    }
-    writes.put(1, key, &bytes)?;
     Ok(writes)
 }
 
-fn entry_of<A: Allocator + Copy>(
-    alloc: A,
-    schema: &Schema<A>,
-    step: Step,
-) -> Result<Entry<A>, AllocError>
-    ensures writes { IfOk result (λ e. AreWrites schema.now e.writes) }
-    ensures snapshot { IfOk result (λ e. e.call.snapshot ≡ step.0) }
-{
+fn entry_of(alloc: Global, step: Step) -> Result<Entry, Fail> {
     let (snapshot, lo, hi, key, row) = step;
-    let mut reads = ReadSet::new(alloc);
-    reads.add_range(Look { table: 1, lo, hi })?;
+    let writes = writes_of(alloc, key, row)?;
+    let reads = reads_of(alloc, Look { table: 1, lo, hi })?;
     Ok(Entry {
         call: 0,
         procedure: 1,
         args: Bytes::new(Vec::new(alloc)),
         snapshot,
         reads,
-        writes: writes_of(alloc, schema, key, row)?,
+        writes,
         reply: 0,
     })
-}
-
-/// Tells no verdict where there was no memory for the entry itself, or the snapshot isn't reached.
-fn deliver_step<A: Allocator + Copy, B: Allocator + Copy>(
-    replica: &mut Replica<A>,
-    alloc: B,
-    catalogue: &Catalogue<B>,
-    step: Step,
-) -> Result<Result<Verdict, Stopped>, AllocError>
-    requires { HaveTables catalogue.now.tables replica.old.versions.tables }
-    ensures { HaveTables catalogue.now.tables replica.new.versions.tables }
-{
-    tables_take_the_schemas_writes();
-    let position = replica.position();
-    if position == u32::MAX || step.0 > position {
-        return Err(AllocError);
-    }
-    let entry = entry_of(alloc, catalogue.schema(), step)?;
-    Ok(replica.deliver(&entry))
 }
 
 /// The byte at a key, where the position is reached and kept.
@@ -90,7 +51,8 @@ fn byte_at<A: Allocator + Copy>(
         return None;
     }
     match replica.at(position).get(1, key) {
-        Ok(row) => Some(row.and_then(|row| row.first().copied())),
+        Ok(Some(row)) => Some(row.first().copied()),
+        Ok(None) => Some(None),
         Err(_) => None,
     }
 }
@@ -118,24 +80,24 @@ const ROWS: [(u32, u64, Option<Option<u8>>); 7] = [
     (8, 9, Some(None)),
 ];
 
-/// The position of the first step with another verdict or count.
-fn first_wrong<A: Allocator + Copy, B: Allocator + Copy>(
-    replica: &mut Replica<A>,
-    alloc: B,
-    catalogue: &Catalogue<B>,
-) -> Result<Option<u32>, AllocError>
-    requires { HaveTables catalogue.now.tables replica.old.versions.tables }
-    ensures { HaveTables catalogue.now.tables replica.new.versions.tables }
-{
-    for (step, verdict, compared) in STEPS {
-        let told = deliver_step(replica, alloc, catalogue, step)?;
-        let position = replica.position();
-        if told != Ok(verdict) || position == 0 {
-            return Ok(Some(position));
+/// Whether an entry is delivered with this verdict, by so many comparisons.
+fn comes_to(checked: &mut CheckedReplica, entry: &Entry, verdict: Verdict, compared: u64) -> bool {
+    let told = checked.deliver(entry);
+    let replica = checked.replica();
+    match certification_at(replica, replica.position()) {
+        Some(said) => {
+            told == Some(Ok(verdict)) && said.verdict == verdict && said.compared == compared
         }
-        let certification = replica.verdict_at(position);
-        if certification.verdict != verdict || certification.compared != compared {
-            return Ok(Some(position));
+        None => false,
+    }
+}
+
+/// The position of the first step with another verdict or count.
+fn first_wrong(alloc: Global, checked: &mut CheckedReplica) -> Result<Option<u32>, Fail> {
+    for (step, verdict, compared) in STEPS {
+        let entry = entry_of(alloc, step)?;
+        if !comes_to(checked, &entry, verdict, compared) {
+            return Ok(Some(checked.replica().position()));
         }
     }
     Ok(None)
@@ -145,12 +107,11 @@ fn first_wrong<A: Allocator + Copy, B: Allocator + Copy>(
 fn deliveries_have_verdicts_and_rows(rt: HostRuntime) -> Result<(), Fail> {
     let alloc = rt.alloc();
     let catalogue = Catalogue::new(alloc, Schema::new(alloc, &[(1, 1)])?);
-    let mut replica = Replica::new(alloc, 2, &catalogue)?;
-    let wrong = first_wrong(&mut replica, alloc, &catalogue)?;
-    assert_eq!(rt; wrong, None);
+    let mut checked = CheckedReplica::new(alloc, 2, &catalogue)?;
+    assert_eq!(rt; first_wrong(alloc, &mut checked)?, None);
     for (position, key, expected) in ROWS {
         assert_eq!(rt;
-            byte_at(&replica, position, key),
+            byte_at(checked.replica(), position, key),
             expected,
             "{position} {key}"
         );
@@ -158,28 +119,68 @@ fn deliveries_have_verdicts_and_rows(rt: HostRuntime) -> Result<(), Fail> {
     Ok(())
 }
 
+#[test]
+fn a_refused_growth_makes_no_replica(rt: HostRuntime) -> Result<(), Fail> {
+    let scarce = Scarce::new(rt.alloc());
+    let catalogue = Catalogue::new(&scarce, Schema::new(&scarce, &[(1, 1)])?);
+    let failed = scarce.refuse_each(|| Replica::new(&scarce, 2, &catalogue).is_ok());
+    assert!(rt; matches!(failed, Some(count) if count > 0));
+    Ok(())
+}
+
+/// What a delivery comes to, and what the replica says of itself then.
+#[derive(Clone, Copy, Debug, PartialEq, Eq)]
+struct Attempt {
+    told: Option<Result<Verdict, Stopped>>,
+    stopped: bool,
+    position: u32,
+    row: Option<Option<u8>>,
+}
+
+const STOPPED: Attempt = Attempt {
+    told: Some(Err(Stopped)),
+    stopped: true,
+    position: 0,
+    row: Some(None),
+};
+
+/// Delivers an entry with the growth of this number refused; none where it is 0.
+fn deliver_with<A: Allocator + Copy>(
+    scarce: &Scarce,
+    checked: &mut CheckedReplica<A>,
+    entry: &Entry,
+    refused: u64,
+) -> Attempt {
+    scarce.refuse_nth(refused);
+    let told = checked.deliver(entry);
+    scarce.refuse_nth(0);
+    let replica = checked.replica();
+    Attempt {
+        told,
+        stopped: replica.stopped(),
+        position: replica.position(),
+        row: byte_at(replica, 0, 5),
+    }
+}
+
+/// Whether a replica goes on once it is made anew.
+fn goes_on<A: Allocator + Copy>(checked: &mut CheckedReplica<A>) -> bool {
+    checked.rebuild::<Global>(&[]) == Some(Ok(0)) && !checked.replica().stopped()
+}
+
 /// A replica that stops has what it had, delivers no more, and goes on once it is made anew.
 #[test]
 fn a_refused_growth_stops_the_replica(rt: HostRuntime) -> Result<(), Fail> {
-    let alloc = rt.alloc();
-    let catalogue = Catalogue::new(alloc, Schema::new(alloc, &[(1, 1)])?);
-    let scarce = Scarce::new(alloc);
-    let failed = scarce.refuse_each(|| Replica::new(&scarce, 2, &catalogue).is_ok());
-    assert!(rt; failed.is_some_and(|count| count > 0));
-    for nth in 1..=3 {
-        let mut replica = Replica::new(&scarce, 2, &catalogue)?;
-        scarce.refuse_nth(nth);
-        let refused = deliver_step(&mut replica, alloc, &catalogue, (0, 5, 5, 5, Some(1)))?;
-        scarce.refuse_nth(0);
-        assert_eq!(rt; refused, Err(Stopped), "{nth}");
-        assert!(rt; replica.stopped());
-        assert_eq!(rt; replica.position(), 0);
-        assert_eq!(rt; byte_at(&replica, 0, 5), Some(None));
-        let stopped = deliver_step(&mut replica, alloc, &catalogue, (0, 5, 5, 5, Some(1)))?;
-        assert_eq!(rt; stopped, Err(Stopped));
-        let rebuilt = replica.rebuild::<Global, Global>(&catalogue, &[]);
-        assert_eq!(rt; rebuilt, Ok(0));
-        assert!(rt; !replica.stopped());
+    let scarce = Scarce::new(rt.alloc());
+    let catalogue = Catalogue::new(&scarce, Schema::new(&scarce, &[(1, 1)])?);
+    let entry = entry_of(rt.alloc(), (0, 5, 5, 5, Some(1)))?;
+    for growth in 1..=3 {
+        let mut checked = CheckedReplica::new(&scarce, 2, &catalogue)?;
+        for refused in [growth, 0] {
+            let came = deliver_with(&scarce, &mut checked, &entry, refused);
+            assert_eq!(rt; came, STOPPED, "{growth}");
+        }
+        assert!(rt; goes_on(&mut checked), "{growth}");
     }
     Ok(())
 }

@@ -3,6 +3,7 @@
 use super::{catalogue_of, put_of};
 use checked_replica::CheckedReplica;
 use replica::Replica;
+use row_sets::ReadSet;
 use std::test::Fail;
 use txn_view::{Gone, Store};
 
@@ -12,8 +13,10 @@ fn value_at(replica: &Replica, position: u32) -> Result<Option<u8>, Gone> {
         return Err(Gone);
     }
     let store = replica.at(position);
-    let row = store.get(1, 1)?;
-    Ok(row.and_then(|bytes| bytes.first().copied()))
+    match store.get(1, 1)? {
+        Some(bytes) => Ok(bytes.first().copied()),
+        None => Ok(None),
+    }
 }
 
 /// What stands there after a position, when so many calls were delivered of which each puts its position: nothing at
@@ -35,7 +38,8 @@ fn a_position_reads_alike_until_it_is_gone(rt: HostRuntime) -> Result<(), Fail> 
     for window in [1, 4, 8] {
         let mut checked = CheckedReplica::new(alloc, window, &catalogue)?;
         for delivered in 1..=30u32 {
-            let entry = put_of(alloc, 1, u64::from(delivered), delivered.saturating_sub(1))?;
+            let (value, snapshot) = (u64::from(delivered), delivered.saturating_sub(1));
+            let entry = put_of(alloc, ReadSet::new(alloc), 1, value, snapshot)?;
             assert!(rt; matches!(checked.deliver(&entry), Some(Ok(_))));
             assert_eq!(rt; checked.replica().begin(), delivered);
             for position in 0..=delivered {
