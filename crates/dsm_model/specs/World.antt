@@ -163,9 +163,12 @@ after_step w world (Order c) = after_order w world c (open_call world c)
 after_step w world (Deliver r) = after_deliver w world r (numbered world.replicas r)
 after_step w world (Rebuild r) = after_rebuild world r (numbered world.replicas r)
 
+abbrev pub stopped : Replica → Replica
+stopped replica = record replica { running = false }
+
 abbrev pub with_stopped : World → ℕ → Option Replica → World
 with_stopped world r None = world
-with_stopped world r (Some replica) = with_replica world r (record replica { running = false })
+with_stopped world r (Some replica) = with_replica world r (stopped replica)
 
 -- what a step leaves that is refused for want of memory: a call that was to be ordered is over, and a replica that was to
 -- deliver is stopped
