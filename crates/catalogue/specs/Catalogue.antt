@@ -6,15 +6,12 @@ use Rattle.bpf_code.specs.Program.{IsProgram}
 use Rattle.schema.specs.Schema.{Tables, AreTables}
 use Rattle.bpf_verify.specs.Flow.{Procedure, IsAccepted}
 use Rattle.log_model.specs.Log.{StoredProcedure, Catalogue}
+pub use Rattle.log_model.specs.Log.{by_name}
 use Rattle.catalogue.specs.Name.{is_name}
 
 pub record SystemCatalogue : Type 0 where
   pub tables : Tables
   pub procedures : Catalogue
-
--- the procedure of a name
-abbrev pub by_name : Catalogue → List ℕ → Option StoredProcedure
-by_name procedures name = find (λ p. bytes_eq p.name name) procedures
 
 -- an accepted program, stored under a name and a number
 abbrev pub stored_of : List ℕ → ℕ → Procedure → StoredProcedure

@@ -3,15 +3,15 @@
 ghost use Rattle.std.specs.Prelude.{◌≡◌, ℕ, ◌+◌, ◌-◌, ◌<◌, ◌≤◌, List, [], ◌∷◌, ◌++◌, length, true, false, IfOk, OnOk, OnErr};
 ghost use Rattle.schema.specs.Rows.{Rows};
 ghost use Rattle.rows_mv.specs.Versions.{AnswersFrom, IsInstalled, width_of};
-ghost use Rattle.log_model.specs.Log.{CertifiedCall, is_commit};
+ghost use Rattle.log_model.specs.Log.{CertifiedItem, certified_call_after, is_commit};
 ghost use Rattle.certify.specs.Kept.{StandsFor};
 ghost use Rattle.replica.specs.Replica.{FitTables, certification_after};
 ghost use Rattle.replica.specs.Delivery.{HasSameVersions};
 
 use crate::certification::Certification;
 use certify::Certifier;
-use log_entry::Entry;
 use log_model::Verdict;
+use log_entry::ExecutedCall;
 use row_sets::WriteSet;
 use rows_mv::{Versions, answers_after_pruning};
 use std::alloc::{AllocError, Allocator};
@@ -54,15 +54,15 @@ pub(crate) fn take_entry<A: Allocator + Copy, B: Allocator + Copy>(
     versions: &mut Versions<A>,
     certifications: &mut Vec<Certification, A>,
     position: u32,
-    entry: &Entry<B>,
+    entry: &ExecutedCall<B>,
 ) -> Result<Certification, AllocError>
     requires next { position ≡ certifier.old.memory.count + 1 }
     requires snapshot { entry.now.call.snapshot < position }
     requires fit { FitTables versions.old entry.now.writes }
-    ensures certified { IfOk result (λ c. (past : List CertifiedCall) → StandsFor certifier.old.memory past
+    ensures certified { IfOk result (λ c. (past : List CertifiedItem) → StandsFor certifier.old.memory past
         → c ≡ certification_after certifier.old.memory.window past entry.now.call entry.now.looks) }
-    ensures memory { IfOk result (λ c. (past : List CertifiedCall) → StandsFor certifier.old.memory past
-        → StandsFor certifier.new.memory (past ++ record { writes = entry.now.writes; verdict = c.verdict } ∷ [])) }
+    ensures memory { OnOk result ((past : List CertifiedItem) → StandsFor certifier.old.memory past
+        → StandsFor certifier.new.memory (past ++ certified_call_after certifier.old.memory.window past entry.now.call entry.now.looks entry.now.writes ∷ [])) }
     ensures window { certifier.new.memory.window ≡ certifier.old.memory.window }
     ensures taken { OnOk result (certifier.new.memory.count ≡ position) }
     ensures same_memory { OnErr result (certifier.new.memory ≡ certifier.old.memory) }

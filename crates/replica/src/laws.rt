@@ -5,8 +5,8 @@ ghost use Rattle.std.specs.FinMap.{empty};
 ghost use Rattle.schema.specs.Schema.{Tables};
 ghost use Rattle.schema.specs.Rows.{Rows, Writes, AreWrites, after_writes};
 ghost use Rattle.rows_mv.specs.Versions.{Versions, AnswersFrom, HaveTables, width_of};
-ghost use Rattle.log_model.specs.Log.{Setting, is_commit, verdict_after, verdict_of, if_commits, rows_after};
-ghost use Rattle.log_model.specs.Entries.{Entry, calls_of, certified_calls_of};
+ghost use Rattle.log_model.specs.Log.{Catalogue, Setting, is_commit, verdict_of, if_commits, rows_after};
+ghost use Rattle.log_model.specs.Entries.{Entry, items_of, certified_entry, certified_entries_of};
 ghost use Rattle.key_table.specs.Table.{Table};
 ghost use Rattle.replica.specs.declared.certification.Certification.{Certification};
 ghost use Rattle.replica.specs.Replica.{AreEntriesOf, FitTables, Replica, StandsFor, rows_kept};
@@ -26,22 +26,24 @@ pub fn tables_take_the_schemas_writes()
 
 /// No rows at first; one more entry lays its writes on where it commits, from its own position on.
 pub fn rows_of_each_delivery()
-    ensures later { (window s : ℕ) (entries : List Entry) (e : Entry) → suc (length entries) ≤ s
-        → rows_kept window (entries ++ e ∷ []) s
-        ≡ if_commits (verdict_after window (certified_calls_of window entries) e.call e.looks)
-        (after_writes e.writes (rows_kept window entries s)) (rows_kept window entries s) }
-    ensures before { (window s : ℕ) (entries : List Entry) (e : Entry) → s ≤ length entries
-        → rows_kept window (entries ++ e ∷ []) s ≡ rows_kept window entries s }
+    ensures later { (window s : ℕ) (base : Catalogue) (entries : List Entry) (e : Entry) → suc (length entries) ≤ s
+        → rows_kept window base (entries ++ e ∷ []) s
+        ≡ if_commits (certified_entry window (certified_entries_of window base entries) e).verdict
+        (after_writes (certified_entry window (certified_entries_of window base entries) e).writes
+        (rows_kept window base entries s)) (rows_kept window base entries s) }
+    ensures before { (window s : ℕ) (base : Catalogue) (entries : List Entry) (e : Entry) → s ≤ length entries
+        → rows_kept window base (entries ++ e ∷ []) s ≡ rows_kept window base entries s }
 {
     map_after_each_write_set();
 }
 
 /// A replica goes on standing for what it delivered, and where a delivery is refused it stands for the same.
 pub(crate) fn deliveries_are_kept()
-    ensures delivered { (old new : Replica) (e : Entry) (c : Certification) (installed : List Table) (entries : List Entry)
-        → IsDelivered old new e c installed → StandsFor old entries → StandsFor new (entries ++ e ∷ []) }
-    ensures refused { (old new : Replica) (entries : List Entry)
-        → IsRefusedDelivery old new → StandsFor old entries → StandsFor new entries }
+    ensures delivered { (base : Catalogue) (old new : Replica) (e : Entry) (c : Certification) (installed : List Table)
+        (entries : List Entry)
+        → IsDelivered old new e c installed → StandsFor base old entries → StandsFor base new (entries ++ e ∷ []) }
+    ensures refused { (base : Catalogue) (old new : Replica) (entries : List Entry)
+        → IsRefusedDelivery old new → StandsFor base old entries → StandsFor base new entries }
 {
     map_after_each_write_set();
     answers_after_an_install();
@@ -49,7 +51,7 @@ pub(crate) fn deliveries_are_kept()
 
 /// At first there are no rows at any position.
 pub(crate) fn no_rows_at_first()
-    ensures { (window s : ℕ) → rows_kept window [] s ≡ empty }
+    ensures { (window s : ℕ) (base : Catalogue) → rows_kept window base [] s ≡ empty }
 {
     map_after_each_write_set();
 }
@@ -58,14 +60,14 @@ pub(crate) fn no_rows_at_first()
 /// the positions within its window are the log's.
 pub fn replicas_follow_the_log()
     ensures verdicts { (w : Setting) (r : Replica) (entries : List Entry) (before : ℕ) (c : Certification)
-        → w.window ≡ r.window → StandsFor r entries → AreEntriesOf w entries
-        → slice_get r.certifications before ≡ Some c → verdict_of w (calls_of entries) (before + 1) ≡ Some c.verdict }
+        → w.window ≡ r.window → StandsFor w.catalogue r entries → AreEntriesOf w entries
+        → slice_get r.certifications before ≡ Some c → verdict_of w (items_of entries) (before + 1) ≡ Some c.verdict }
     ensures rows { (w : Setting) (r : Replica) (entries : List Entry) (s : ℕ)
-        → w.window ≡ r.window → StandsFor r entries → AreEntriesOf w entries → s ≤ r.position → r.position - s ≤ r.window
-        → AnswersFrom r.versions.tables s (rows_after w (calls_of entries) s) }
+        → w.window ≡ r.window → StandsFor w.catalogue r entries → AreEntriesOf w entries → s ≤ r.position → r.position - s ≤ r.window
+        → AnswersFrom r.versions.tables s (rows_after w (items_of entries) s) }
     ensures next { (w : Setting) (entries : List Entry) (e : Entry) → AreEntriesOf w (entries ++ e ∷ [])
-        → verdict_of w (calls_of (entries ++ e ∷ [])) (length entries + 1)
-        ≡ Some (verdict_after w.window (certified_calls_of w.window entries) e.call e.looks) }
+        → verdict_of w (items_of (entries ++ e ∷ [])) (length entries + 1)
+        ≡ Some (certified_entry w.window (certified_entries_of w.window w.catalogue entries) e).verdict }
 {
     entries_suffice();
 }

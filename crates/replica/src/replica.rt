@@ -7,9 +7,10 @@ ghost use Rattle.std.specs.Prelude.{All, IfOk, OnOk, OnErr};
 ghost use Rattle.std.specs.Prelude.{IsSome};
 ghost use Rattle.std.specs.FinMap as map;
 ghost use Rattle.schema.specs.Rows.{Key};
-ghost use Rattle.log_model.specs.Log.{IsLog, Setting, rows_after, verdict_after, verdict_of};
-ghost use Rattle.log_model.specs.Entries.{Entry as Delivered, calls_of, certified_calls_of};
+ghost use Rattle.log_model.specs.Log.{Catalogue as Procedures, IsLog, Setting, rows_after, verdict_after, verdict_of};
+ghost use Rattle.log_model.specs.Entries.{Entry as Delivered, CallEntry, IsCallEntry, items_of, certified_entries_of};
 ghost use Rattle.rows_mv.specs.Versions.{AnswersFrom, HaveTables, width_of};
+ghost use Rattle.replica.specs.Delivery.{writes_in};
 ghost use Rattle.replica.specs.Replica.{AreEntriesOf, FitTables, StandsFor, certification_of, rows_kept};
 
 use crate::at::At;
@@ -20,7 +21,7 @@ use crate::rebuild::replica_of;
 use crate::stopped::Stopped;
 use catalogue::Catalogue;
 use certify::Certifier;
-use log_entry::Entry;
+use log_entry::{Entry, ExecutedCall};
 use log_model::Verdict;
 use row_values::Row;
 use rows_mv::{Versions, empty_versions_answer_from_no_rows};
@@ -78,7 +79,7 @@ impl<A: Allocator + Copy> Replica<A> {
         window: u32,
         catalogue: &Catalogue<B>,
     ) -> Result<Replica<A>, AllocError>
-        ensures stands { IfOk result (λ r. StandsFor r []) }
+        ensures stands { IfOk result (λ r. (base : Procedures) → StandsFor base r []) }
         ensures window { IfOk result (λ r. r.window ≡ window) }
         ensures running { IfOk result (λ r. r.stopped ≡ false) }
         ensures tables { IfOk result (λ r. HaveTables catalogue.now.tables r.versions.tables) }
@@ -130,8 +131,8 @@ impl<A: Allocator + Copy> Replica<A> {
     /// The rows at a position that was reached. They are gone where it is out of the window.
     pub fn at<'a>(&'a self, position: u32) -> At<'a, A>
         requires { position ≤ self.now.position }
-        ensures answers { (entries : List Delivered) → StandsFor self.now entries
-            → ⟦<At<'a, A> as Store>⟧.answers_from result (rows_kept self.now.window entries position) }
+        ensures answers { (base : Procedures) (entries : List Delivered) → StandsFor base self.now entries
+            → ⟦<At<'a, A> as Store>⟧.answers_from result (rows_kept self.now.window base entries position) }
         ensures gone { ⟦<At<'a, A> as Store>⟧.is_gone result ≡ nat_lt self.now.window (self.now.position - position) }
     {
         At {
@@ -143,31 +144,36 @@ impl<A: Allocator + Copy> Replica<A> {
 
     /// The rows after the last position, in the order of tables and keys.
     pub fn rows<B: Allocator + Copy>(&self, alloc: B) -> Result<Vec<Row<B>, B>, AllocError>
-        ensures { IfOk result (λ list. (entries : List Delivered) → StandsFor self.now entries
-            → ((k : Key) → IsSome (map.get (rows_kept self.now.window entries self.now.position) k) → k.1 < 2 ^ 64)
-            → list.items ≡ map.entries (rows_kept self.now.window entries self.now.position)) }
+        ensures { IfOk result (λ list. (base : Procedures) (entries : List Delivered) → StandsFor base self.now entries
+            → ((k : Key) → IsSome (map.get (rows_kept self.now.window base entries self.now.position) k) → k.1 < 2 ^ 64)
+            → list.items ≡ map.entries (rows_kept self.now.window base entries self.now.position)) }
     {
         self.versions.rows_at(alloc, self.position)
     }
 
     /// Takes the next call in and tells its verdict. Where there is no memory the replica stops, and the rows at each
     /// position stay as they were.
-    pub fn deliver<B: Allocator + Copy>(&mut self, entry: &Entry<B>) -> Result<Verdict, Stopped>
+    pub fn deliver<B: Allocator + Copy>(
+        &mut self,
+        entry: &ExecutedCall<B>,
+    ) -> Result<Verdict, Stopped>
         requires snapshot { entry.now.call.snapshot ≤ self.old.position }
         requires room { self.old.position + 1 < 2 ^ 32 }
         requires fit { FitTables self.old.versions entry.now.writes }
-        ensures verdict { IfOk result (λ v. (entries : List Delivered) → StandsFor self.old entries
-            → v ≡ verdict_after self.old.window (certified_calls_of self.old.window entries) entry.now.call entry.now.looks) }
-        ensures stands { OnOk result ((entries : List Delivered) → StandsFor self.old entries
-            → StandsFor self.new (entries ++ entry.now ∷ [])) }
+        ensures verdict { IfOk result (λ v. (base : Procedures) (entries : List Delivered) → StandsFor base self.old entries
+            → v ≡ verdict_after self.old.window (certified_entries_of self.old.window base entries).certified entry.now.call
+            entry.now.looks) }
+        ensures stands { OnOk result ((base : Procedures) (entries : List Delivered) → StandsFor base self.old entries
+            → StandsFor base self.new (entries ++ CallEntry entry.now ∷ [])) }
         ensures log_verdict { IfOk result (λ v. (w : Setting) (entries : List Delivered) → w.window ≡ self.old.window
-            → StandsFor self.old entries → AreEntriesOf w (entries ++ entry.now ∷ [])
-            → verdict_of w (calls_of (entries ++ entry.now ∷ [])) self.new.position ≡ Some v) }
+            → StandsFor w.catalogue self.old entries → AreEntriesOf w (entries ++ CallEntry entry.now ∷ [])
+            → verdict_of w (items_of (entries ++ CallEntry entry.now ∷ [])) self.new.position ≡ Some v) }
         ensures log_rows { OnOk result ((w : Setting) (entries : List Delivered) → w.window ≡ self.old.window
-            → StandsFor self.old entries → AreEntriesOf w (entries ++ entry.now ∷ [])
+            → StandsFor w.catalogue self.old entries → AreEntriesOf w (entries ++ CallEntry entry.now ∷ [])
             → AnswersFrom self.new.versions.tables self.new.position
-            (rows_after w (calls_of (entries ++ entry.now ∷ [])) self.new.position)) }
-        ensures still { OnErr result ((entries : List Delivered) → StandsFor self.old entries → StandsFor self.new entries) }
+            (rows_after w (items_of (entries ++ CallEntry entry.now ∷ [])) self.new.position)) }
+        ensures still { OnErr result ((base : Procedures) (entries : List Delivered)
+            → StandsFor base self.old entries → StandsFor base self.new entries) }
         ensures next { OnOk result (self.new.position ≡ self.old.position + 1) }
         ensures same_position { OnErr result (self.new.position ≡ self.old.position) }
         ensures stopped { self.new.stopped ≡ is_err result }
@@ -205,9 +211,10 @@ impl<A: Allocator + Copy> Replica<A> {
         entries: &[Entry<C>],
     ) -> Result<u32, AllocError>
         requires few { length entries.now < 2 ^ 32 }
-        requires log { IsLog (calls_of entries.now) }
-        requires fit { All (λ e. AreWrites catalogue.now.tables e.writes) entries.now }
-        ensures stands { OnOk result (StandsFor self.new entries.now) }
+        requires log { IsLog (items_of entries.now) }
+        requires calls { All IsCallEntry entries.now }
+        requires fit { All (λ e. AreWrites catalogue.now.tables (writes_in e)) entries.now }
+        ensures stands { OnOk result ((base : Procedures) → StandsFor base self.new entries.now) }
         ensures position { IfOk result (λ p. p ≡ length entries.now) }
         ensures running { OnOk result (self.new.stopped ≡ false) }
         ensures window { self.new.window ≡ self.old.window }
@@ -224,9 +231,9 @@ impl<A: Allocator + Copy> Replica<A> {
     pub fn verdict_at(&self, position: u32) -> Certification
         requires from { 1 ≤ position }
         requires to { position ≤ self.now.position }
-        ensures { (entries : List Delivered) (e : Delivered) → StandsFor self.now entries
+        ensures { (base : Procedures) (entries : List Delivered) (e : Delivered) → StandsFor base self.now entries
             → slice_get entries (position - 1) ≡ Some e
-            → result ≡ certification_of self.now.window entries (position - 1) e }
+            → result ≡ certification_of self.now.window base entries (position - 1) e }
     {
         self.certifications[position as usize - 1]
     }

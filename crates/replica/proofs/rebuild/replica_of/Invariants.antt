@@ -1,11 +1,12 @@
 use Rattle.std.proofs.Common.{◌≡◌, false, take}
 use Rattle.rows_mv.specs.Versions.{HaveTables}
+use Rattle.log_model.specs.Log.{Catalogue}
 use Rattle.replica.specs.Replica.{StandsFor}
 use Rattle.replica.proofs.rebuild.replica_of.Given as goal
 
 abbrev pub invariant-loop-entry : goal.invariant-loop-entry
 invariant-loop-entry g l = record {
-  stands : StandsFor l.replica (take l.entry-index l.entries);
+  stands : (base : Catalogue) → StandsFor base l.replica (take l.entry-index l.entries);
   position : l.replica.position ≡ l.entry-index;
   window : l.replica.window ≡ l.window;
   running : l.replica.stopped ≡ false;
