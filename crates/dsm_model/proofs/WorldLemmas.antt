@@ -9,7 +9,7 @@ use Rattle.dsm_model.specs.declared.outcome.Outcome.{Outcome}
 use Rattle.log_model.specs.Log.{Setting, Call, run_in, verdict_of, StoredProcedure, CallItem, AdditionItem, Database, Log, run_of_call}
 use Rattle.dsm_model.specs.World.{World, Replica, OpenCall, Step, Begin, max_calls, numbered, with_numbered, flatten, open_call, without_call, with_replica, with_begun, new_call, with_turns, with_ordered, first_world, IsStep, AreSteps, Add, Passed, addition_count, call_count, with_added}
 use Rattle.dsm_model.specs.Sound.{IsOpenCall, open_count, IsWorld, IsGiven, AreGiven}
-use Rattle.log_model.proofs.GrowthLemmas.{run_grown, is_log_snoc, are_calls_snoc, verdict_within}
+use Rattle.log_model.proofs.GrowthLemmas.{run_grown, is_log_snoc, verdict_within}
 use Rattle.dsm_model.specs.declared.outcome.Outcome.TheVariants.{Added}
 use Rattle.log_model.specs.Fit.{IsSafe}
 use Rattle.log_model.proofs.RunLemmas.{just}
