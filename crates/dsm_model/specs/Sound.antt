@@ -3,7 +3,9 @@ use Rattle.std.specs.Prelude.{◌≡◌, ◌≢◌, ◌⊎◌, ℕ, suc, ◌+◌
 use Rattle.bpf_semantics.specs.State.{State}
 use Rattle.bpf_semantics.specs.Step.{Going, Ended, Stuck}
 use Rattle.bpf_semantics.specs.Path.{longest_path}
-use Rattle.log_model.specs.Log.{Setting, Call, Log, IsLog, rows_after, run_in, moment_at, CallItem, run_on}
+use Rattle.log_model.specs.declared.verdict.Verdict.{Verdict}
+use Rattle.log_model.specs.declared.verdict.Verdict.TheVariants.{Commit, Repeated}
+use Rattle.log_model.specs.Log.{Setting, Call, Item, CallItem, Log, IsLog, rows_after, verdict_of, run_on, run_in, moment_at}
 use Rattle.log_model.specs.Fit.{IsCall, IsSafe, AreItems}
 use Rattle.dsm_model.specs.World.{World, Replica, OpenCall, Step, Begin, max_calls, numbered, open_call, Add, Passed, call_count, Turn}
 use Rattle.dsm_model.specs.declared.outcome.Outcome.{Outcome}
@@ -62,3 +64,18 @@ pub record IsSerialReply (w : Setting) (log : Log) (position reply : ℕ) : Type
   pub call : Call
   pub stands : slice_get log before ≡ Some (CallItem call)
   pub serial : (run_on w log call (rows_after w log before)).reply ≡ reply
+
+-- the reply of the call at a position, by its run on the rows of its snapshot
+abbrev pub reply_of : Setting → Log → Option Item → Option ℕ
+reply_of w log (Some (CallItem call)) = Some (run_in w log call).reply
+reply_of w log _ = None
+
+abbrev pub told_by : Setting → Log → ℕ → Option Verdict → Option ℕ
+told_by w log position (Some Commit) = reply_of w log (numbered log position)
+told_by w log position (Some (Repeated earlier)) = reply_of w log (numbered log earlier)
+told_by w log position _ = None
+
+-- the reply that a delivery of this position tells: its call's own where that commits, and where it is repeated that of the
+-- call that it repeats
+abbrev pub told_reply : Setting → Log → ℕ → Option ℕ
+told_reply w log position = told_by w log position (verdict_of w log position)

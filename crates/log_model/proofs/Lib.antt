@@ -6,7 +6,7 @@ mod HistoryLemmas
 pub mod CallLemmas
 pub mod GrowthLemmas
 mod MeaningLemmas
-mod RepetitionLemmas
+pub mod RepetitionLemmas
 mod AdditionLemmas
 mod ComparisonLemmas
 pub mod EntryLemmas

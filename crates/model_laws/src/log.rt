@@ -1,13 +1,14 @@
 //! Laws of the log: what a call that commits does, and what its rows are.
 
-ghost use Rattle.std.specs.Prelude.{◌≡◌, ℕ, suc, slice_get, Some};
+ghost use Rattle.std.specs.Prelude.{◌≡◌, ◌≢◌, ℕ, suc, slice_get, Some, None};
 ghost use Rattle.std.specs.FinMap.{empty};
 ghost use Rattle.schema.specs.Rows.{after_writes};
 ghost use Rattle.bpf_semantics.specs.Agree.{same_on};
 ghost use Rattle.log_model.specs.declared.verdict.Verdict.{Verdict};
-ghost use Rattle.log_model.specs.declared.verdict.Verdict.TheVariants.{Commit};
+ghost use Rattle.log_model.specs.declared.verdict.Verdict.TheVariants.{Commit, Repeated};
 ghost use Rattle.log_model.specs.Log.{StoredProcedure, Setting, Call, CallItem, AdditionItem, Log, IsLog};
 ghost use Rattle.log_model.specs.Log.{if_commits, rows_after, verdict_of, run_on, run_in};
+ghost use Rattle.dsm_model.specs.Sound.{IsSerialReply, told_reply};
 ghost use Rattle.log_model.specs.Fit.{HasSafeProcedures, AreItems};
 
 /// The rows after each position: none at first; then the effect of the call's run on the rows before it, where
@@ -33,4 +34,20 @@ pub fn what_commits_is_serial()
         → HasSafeProcedures w → IsLog log → AreItems w log → slice_get log d ≡ Some (CallItem call)
         → verdict_of w log (suc d) ≡ Some Commit
         → rows_after w log (suc d) ≡ after_writes (run_in w log call).writes (rows_after w log d) }
+{}
+
+/// What is told of a call that commits is its reply where it runs in its turn; of one that is repeated, that of the call
+/// that it repeats.
+pub fn what_is_told_is_serial()
+    ensures committed { (w : Setting) (log : Log) (d : ℕ) (call : Call)
+        → HasSafeProcedures w → IsLog log → AreItems w log → slice_get log d ≡ Some (CallItem call)
+        → verdict_of w log (suc d) ≡ Some Commit
+        → (reply : ℕ) × (told_reply w log (suc d) ≡ Some reply) × IsSerialReply w log (suc d) reply }
+    ensures repeated { (w : Setting) (log : Log) (d : ℕ) (call : Call) (earlier : ℕ)
+        → HasSafeProcedures w → IsLog log → AreItems w log → slice_get log d ≡ Some (CallItem call)
+        → verdict_of w log (suc d) ≡ Some (Repeated earlier)
+        → (reply : ℕ) × (told_reply w log (suc d) ≡ Some reply) × IsSerialReply w log earlier reply }
+    ensures untold { (w : Setting) (log : Log) (position : ℕ)
+        → verdict_of w log position ≢ Some Commit → ((earlier : ℕ) → verdict_of w log position ≢ Some (Repeated earlier))
+        → told_reply w log position ≡ None }
 {}
