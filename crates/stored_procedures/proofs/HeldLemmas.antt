@@ -143,7 +143,7 @@ fresh_behind (q ∷ before) later l distinct =
     differs (x ∷ xs) all = differs xs all.1
 
 -- what holds of each procedure holds of one that is found
-found_among : (P : StoredProcedure → Type 0) (test : StoredProcedure → Bool) (procedures : Catalogue) (p : StoredProcedure)
+pub found_among : (P : StoredProcedure → Type 0) (test : StoredProcedure → Bool) (procedures : Catalogue) (p : StoredProcedure)
     → AllByRecursion P procedures → find test procedures ≡ Some p → P p
 found_among P test [] p all found = absurd cc
 found_among P test (q ∷ procedures) p all found = by (test q) found (found_among P test procedures p all.1)

@@ -1,6 +1,6 @@
 //! Stored procedures.
 
-ghost use Rattle.std.specs.Prelude.{◌≡◌, ℕ, List, [], ◌∷◌, ◌++◌, true, None, IfOk, OnOk, OnErr, option_map};
+ghost use Rattle.std.specs.Prelude.{◌≡◌, ◌<◌, ◌^◌, length, ℕ, List, [], ◌∷◌, ◌++◌, true, None, IfOk, OnOk, OnErr, option_map};
 ghost use Rattle.std.specs.Option.{option_copied};
 ghost use Rattle.std.specs.Arc.{arc_value};
 ghost use Rattle.bpf_code.specs.Program.{Program};
@@ -100,7 +100,9 @@ impl<A: Allocator + Copy, P: Allocator> StoredProcedures<A, P> {
 
     /// The procedures in order of entry.
     pub fn list(&self) -> ListedProcedures<'_, A, P>
-        ensures { result ≡ self.now }
+        ensures list { result ≡ self.now }
+        // So that they can be counted.
+        ensures few { length result < 2 ^ 63 }
     {
         ListedProcedures::new(self.table.iter())
     }
