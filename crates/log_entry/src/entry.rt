@@ -1,11 +1,12 @@
 //! Entries of the log.
 
-use bpf_code::Code;
+use bpf_verify::Accepted;
 use log_model::RequestId;
 use row_sets::{ReadSet, WriteSet};
 use row_values::Bytes;
 use std::alloc::{Allocator, Global};
 use std::marker::Model;
+use std::sync::Arc;
 
 /// A call as it is ordered, with what its run on the rows of its snapshot looked at, wrote and replied. Contracts
 /// see the model's executed call.
@@ -40,49 +41,30 @@ impl<A: Allocator + Copy> Model for ExecutedCall<A> {
     } };
 }
 
-/// A procedure that is to be added. Contracts see the model's stored procedure.
+/// A procedure that is to be added, with its program as it was accepted, which is shared with whoever takes it in.
+/// Contracts see name, number and program.
 #[derive(Drop)]
 pub struct AddedProcedure<A: Allocator + Copy = Global> {
     /// 1 to 32 letters, digits or `_`.
     pub name: Bytes<A>,
     pub number: u16,
-    /// How many bytes its arguments have, at most 256.
-    pub args_len: u16,
-    pub code: Code<A>,
+    pub accepted: Arc<Accepted<A, A>, A>,
 }
 
 impl<A: Allocator + Copy> Model for AddedProcedure<A> {
-    ghost use Rattle.log_model.specs.Log.{StoredProcedure};
-    ghost use Rattle.log_entry.specs.Codes.{procedure_code};
+    ghost use Rattle.std.specs.Arc.{arc_value};
+    ghost use Rattle.stored_procedures.specs.Held.{ListedProcedure, listed_one_code};
 
-    ghost Value = { StoredProcedure };
+    ghost Value = { ListedProcedure };
 
-    ghost coded = { procedure_code };
+    ghost coded = { listed_one_code };
 
-    ghost view = { λ p. record { name = p.name; number = p.number; program = p.code; args_len = p.args_len } };
+    ghost view = { λ p. record { name = p.name; number = p.number; accepted = arc_value p.accepted } };
 }
 
-/// What an entry is.
+/// An entry of the log: a call, or a procedure that is added.
 #[derive(Drop)]
-pub enum EntryKind<A: Allocator + Copy = Global> {
+pub enum Entry<A: Allocator + Copy = Global> {
     Call(ExecutedCall<A>),
     Addition(AddedProcedure<A>),
-}
-
-/// An entry of the log: a call or an added procedure. Contracts see the model's entry.
-#[derive(Drop)]
-pub struct Entry<A: Allocator + Copy = Global> {
-    pub kind: EntryKind<A>,
-}
-
-impl<A: Allocator + Copy> Model for Entry<A> {
-    ghost use Rattle.log_model.specs.Entries.{Entry};
-    ghost use Rattle.log_entry.specs.Codes.{entry_code};
-    ghost use Rattle.log_entry.specs.Kind.{entry_of};
-
-    ghost Value = { Entry };
-
-    ghost coded = { entry_code };
-
-    ghost view = { λ e. entry_of e.kind };
 }

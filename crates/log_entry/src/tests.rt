@@ -1,30 +1,24 @@
-use crate::{AddedProcedure, Entry, EntryKind, ExecutedCall, to_bytes};
+use crate::{AddedProcedure, Entry, ExecutedCall, to_bytes};
 use bpf_code::decode;
+use bpf_verify::verify;
 use log_model::RequestId;
 use row_sets::{ReadSet, WriteSet};
 use row_values::Bytes;
 use scarce::Scarce;
-use schema::Look;
+use schema::{Look, Schema};
 use std::alloc::Global;
+use std::sync::Arc;
 use std::test::Fail;
-
-fn call_entry(call: ExecutedCall) -> Entry {
-    Entry {
-        kind: EntryKind::Call(call),
-    }
-}
 
 /// A procedure that replies 1.
 fn addition(alloc: Global) -> Result<Entry, Fail> {
     let code = decode(alloc, &[0xb7, 0, 0, 0, 1, 0, 0, 0, 0x95, 0, 0, 0, 0, 0, 0, 0])?;
-    Ok(Entry {
-        kind: EntryKind::Addition(AddedProcedure {
-            name: Bytes::new(Vec::from_slice(alloc, b"one")?),
-            number: 9,
-            args_len: 0,
-            code,
-        }),
-    })
+    let accepted = verify(alloc, code, &Schema::new(alloc, &[(1, 8)])?, 0)?;
+    Ok(Entry::Addition(AddedProcedure {
+        name: Bytes::new(Vec::from_slice(alloc, b"one")?),
+        number: 9,
+        accepted: Arc::new(alloc, accepted)?,
+    }))
 }
 
 /// An increment of key 5 of table 1 by 10 at snapshot 0, which found no row there.
@@ -35,7 +29,7 @@ fn increment(alloc: Global) -> Result<Entry, Fail> {
     reads.add_point(1, 5)?;
     let mut writes = WriteSet::new(alloc);
     writes.put(1, 5, &10u64.to_le_bytes())?;
-    Ok(call_entry(ExecutedCall {
+    Ok(Entry::Call(ExecutedCall {
         call: 1,
         procedure: 1,
         args: Bytes::new(args),
@@ -61,7 +55,7 @@ fn several(alloc: Global) -> Result<Entry, Fail> {
     let mut writes = WriteSet::new(alloc);
     writes.put(2, 7, &[1, 2])?;
     writes.remove(1, 513)?;
-    Ok(call_entry(ExecutedCall {
+    Ok(Entry::Call(ExecutedCall {
         call: 0,
         procedure: 258,
         args: Bytes::new(Vec::new(alloc)),

@@ -62,7 +62,7 @@ named_code = code_by (List ℕ × Procedure) (coded× (coded_list coded_ℕ) pro
     (λ c. record { name = c.0; accepted = c.1 })
     (λ _. refl)
 
-abbrev listed_one_code : Coded ListedProcedure
+abbrev pub listed_one_code : Coded ListedProcedure
 listed_one_code = code_by (List ℕ × (ℕ × Procedure)) (coded× (coded_list coded_ℕ) (coded× coded_ℕ procedure_code))
     (λ e. (e.name, (e.number, e.accepted)))
     (λ c. record { name = c.0; number = c.1.0; accepted = c.1.1 })
