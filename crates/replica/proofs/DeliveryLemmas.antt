@@ -11,12 +11,13 @@ use Rattle.std.specs.FinMap.{empty}
 use Rattle.rows_mv.specs.Versions.{AnswersFrom, AreEmpty, IsInstalled}
 use Rattle.log_model.specs.declared.verdict.Verdict.{Verdict}
 use Rattle.log_model.specs.declared.verdict.Verdict.TheVariants.{Commit, Conflict, Stale, Repeated, Taken}
-use Rattle.log_model.specs.Log.{Catalogue, CertifiedItem, is_commit, if_commits}
-use Rattle.log_model.specs.Entries.{Entry, CallEntry, AdditionEntry, CertifiedEntries, certified_entry, certified_entries_of}
+use Rattle.log_model.specs.Log.{Catalogue, is_commit, if_commits}
+use Rattle.log_model.specs.Entries.{Entry, CallEntry, AdditionEntry, CertifiedEntries, certified_entry, with_entry, certified_entries_of}
+use Rattle.stored_procedures.specs.Held.{stored_procedures}
 use Rattle.certify.specs.Kept as certifier
 use Rattle.replica.specs.declared.certification.Certification.{Certification}
-use Rattle.replica.specs.Replica.{rows_kept, KeepsRows, certification_next, certification_of, AreCertificationsOf, Replica, StandsFor}
-use Rattle.replica.specs.Delivery.{HasSameVersions, writes_in, IsDelivered, IsRefusedDelivery}
+use Rattle.replica.specs.Replica.{rows_kept, KeepsRows, certification_next, AreCertificationsOf, Replica, StandsFor, writes_in}
+use Rattle.replica.specs.Delivery.{HasSameVersions, KeepsCertified, IsDelivered, IsRefusedDelivery}
 use Rattle.replica.proofs.KeepsLemmas.{LaysOn, certified_more, next_item, rows_later, rows_before}
 
 -- the laws of one more install
@@ -122,8 +123,9 @@ delivered lays law base old new e c installed entries is stands =
     let next = is.position in
     let more : length (entries ++ e ∷ []) ≡ length entries + 1 = length-append entries (e ∷ []) in
     let past = certified_entries_of old.window base entries in
+    let before : KeepsCertified old.memory old.procedures past = record { memory = stands.memory; procedures = stands.procedures } in
     let certified : c ≡ certification_next old.window past e =
-    is.certified past stands.memory ∙ ap (λ (w : ℕ). certification_next w past e) stands.window in
+    is.certified past before ∙ ap (λ (w : ℕ). certification_next w past e) stands.window in
     let verdict : c.verdict ≡ (next_item old.window base entries e).verdict = ap (λ (x : Certification). x.verdict) certified ∙ same_verdict old.window past e in
     let writes : writes_in e ≡ (next_item old.window base entries e).writes = sym (same_writes old.window past e) in
     let window = is.window in
@@ -134,16 +136,17 @@ delivered lays law base old new e c installed entries is stands =
     (next_answers lays law old.versions.tables installed old.window old.position s base entries e at
     (λ commits. subst (λ (w : Writes). IsInstalled (old.position + 1) w old.versions.tables installed) writes (is.installs (ap is_commit verdict ∙ commits))) (λ refuses. is.refuses (ap is_commit verdict ∙ refuses))
     (stands.rows s (omega arith)))) in
-    let memory : certifier.StandsFor new.memory (certified_entries_of old.window base all).certified =
-    subst (certifier.StandsFor new.memory) (ap (λ (w : ℕ). past.certified ++ certified_entry w past e ∷ []) stands.window ∙ ap (λ (x : CertifiedEntries). x.certified) (sym (certified_more old.window base entries e))) (is.memory past stands.memory) in
+    let kept : KeepsCertified new.memory new.procedures (certified_entries_of old.window base all) =
+    subst (KeepsCertified new.memory new.procedures) (ap (λ (w : ℕ). with_entry w past e) stands.window ∙ sym (certified_more old.window base entries e)) (is.kept past before) in
     record {
       position = omega arith;
       window = is.same_window ∙ stands.window ∙ same;
-      memory = subst (λ (w : ℕ). certifier.StandsFor new.memory (certified_entries_of w base all).certified) same memory;
+      memory = subst (λ (w : ℕ). certifier.StandsFor new.memory (certified_entries_of w base all).certified) same kept.memory;
       horizon = is.horizon;
       rows = subst (λ (w : ℕ). KeepsRows w base new.versions all new.position) same keeps;
       certifications = subst (λ (w : ℕ). AreCertificationsOf w base all new.certifications) same
           (subst (AreCertificationsOf old.window base all) (sym is.certifications) (certifications_more old.window base entries e old.certifications c stands.certifications certified));
+      procedures = subst (λ (w : ℕ). stored_procedures new.procedures ≡ (certified_entries_of w base all).procedures) same kept.procedures;
     }
 
 pub refused : (base : Catalogue) (old new : Replica) (entries : List Entry) → IsRefusedDelivery old new → StandsFor base old entries → StandsFor base new entries
@@ -162,14 +165,15 @@ refused base old new entries is stands =
       horizon = omega arith;
       rows = subst (λ (w : ℕ). KeepsRows w base new.versions entries new.position) same keeps;
       certifications = subst (λ (w : ℕ). AreCertificationsOf w base entries new.certifications) same (subst (AreCertificationsOf old.window base entries) (sym is.certifications) stands.certifications);
+      procedures = subst (λ (w : ℕ). stored_procedures new.procedures ≡ (certified_entries_of w base entries).procedures) same (ap stored_procedures is.procedures ∙ stands.procedures);
     }
 
 -- at first, with no versions
 pub stands_at_first : (base : Catalogue) (r : Replica) → ((s : ℕ) (tables : List Table) → AreEmpty tables → AnswersFrom tables s empty) → ((window s : ℕ) (base : Catalogue) → rows_kept window base [] s ≡ empty)
-    → r.position ≡ 0 → r.memory.window ≡ r.window → certifier.StandsFor r.memory [] → r.versions.horizon ≡ 0 → AreEmpty r.versions.tables → r.certifications ≡ []
+    → r.position ≡ 0 → r.memory.window ≡ r.window → certifier.StandsFor r.memory [] → r.versions.horizon ≡ 0 → AreEmpty r.versions.tables → r.certifications ≡ [] → stored_procedures r.procedures ≡ base
     → StandsFor base r []
 unfolding certified_entries_of
-stands_at_first base r answers rows position window memory horizon none certifications = record {
+stands_at_first base r answers rows position window memory horizon none certifications procedures = record {
   position = position;
   window = window;
   memory = memory;
@@ -179,4 +183,5 @@ stands_at_first base r answers rows position window memory horizon none certific
     count = ap (λ (l : List Certification). length l) certifications;
     each = λ before e at. let bad : None ≡ Some e = at in cc;
   };
+  procedures = procedures;
 }

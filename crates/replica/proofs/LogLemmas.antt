@@ -7,11 +7,12 @@ use Rattle.std.proofs.lemmas.List.{take-append-le, take_all, length-append}
 use Rattle.std.proofs.lemmas.Option.{slice_get_within}
 use Rattle.row_model.specs.InstalledWrites.{map_after}
 use Rattle.log_model.specs.declared.verdict.Verdict.{Verdict}
-use Rattle.log_model.specs.Log.{Catalogue, Setting, CertifiedItem, IsLog, verdict_of, history, rows_after}
+use Rattle.log_model.specs.Log.{Catalogue, Setting, CertifiedItem, IsLog, verdict_of, history, rows_after, procedures_after}
 use Rattle.log_model.specs.Fit.{HasSafeProcedures, AreItems}
 use Rattle.log_model.specs.Entries.{Entry, CallEntry, AdditionEntry, items_of, CarryRuns, CertifiedEntries, certified_entry, with_entry, certified_entries_of, installed_from}
 use Rattle.rows_mv.specs.Versions.{AnswersFrom}
-use Rattle.certify.specs.Kept as certifier
+use Rattle.stored_procedures.specs.Held.{stored_procedures}
+use Rattle.replica.specs.Delivery.{KeepsCertified}
 use Rattle.replica.specs.declared.certification.Certification.{Certification}
 use Rattle.replica.specs.Replica.{rows_kept, certification_next, certification_of, Replica, StandsFor, AreEntriesOf}
 use Rattle.replica.proofs.DeliveryLemmas.{get_left, get_end, same_some}
@@ -96,10 +97,16 @@ next_follows law w entries e are =
     verdict_there law w (entries ++ e ∷ []) (length entries) e are (get_end entries e (length entries) refl)
     ∙ ap (λ (l : List Entry). Some (certified_entry w.window (certified_entries_of w.window w.catalogue l) e).verdict) all
 
+pub procedures_follow : ((w : Setting) (entries : List Entry) → IsLog (items_of entries) → CarryRuns w entries → (certified_entries_of w.window w.catalogue entries).procedures ≡ procedures_after w (items_of entries) (length entries))
+    → (w : Setting) (r : Replica) (entries : List Entry) → w.window ≡ r.window → StandsFor w.catalogue r entries → AreEntriesOf w entries → stored_procedures r.procedures ≡ procedures_after w (items_of entries) r.position
+procedures_follow law w r entries window stands are =
+    stands.procedures ∙ ap (λ (n : ℕ). (certified_entries_of n w.catalogue entries).procedures) (sym window)
+    ∙ law w entries are.log are.runs ∙ ap (procedures_after w (items_of entries)) (sym stands.position)
+
 -- ---- one delivery
 
 pub delivered_verdict : ((w : Setting) (entries : List Entry) (e : Entry) → AreEntriesOf w (entries ++ e ∷ []) → verdict_of w (items_of (entries ++ e ∷ [])) (length entries + 1) ≡ Some (certified_entry w.window (certified_entries_of w.window w.catalogue entries) e).verdict)
-    → (w : Setting) (old : Replica) (entries : List Entry) (e : Entry) (c : Certification) → ((past : CertifiedEntries) → certifier.StandsFor old.memory past.certified → c ≡ certification_next old.memory.window past e)
+    → (w : Setting) (old : Replica) (entries : List Entry) (e : Entry) (c : Certification) → ((past : CertifiedEntries) → KeepsCertified old.memory old.procedures past → c ≡ certification_next old.memory.window past e)
     → w.window ≡ old.window → StandsFor w.catalogue old entries → AreEntriesOf w (entries ++ e ∷ []) → verdict_of w (items_of (entries ++ e ∷ [])) (old.position + 1) ≡ Some c.verdict
 delivered_verdict law w old entries e c certified window stands are =
     ap (λ (n : ℕ). verdict_of w (items_of (entries ++ e ∷ [])) (n + 1)) stands.position
@@ -107,4 +114,4 @@ delivered_verdict law w old entries e c certified window stands are =
     ∙ ap (λ (v : Verdict). Some v) (same_verdict w.window (certified_entries_of w.window w.catalogue entries) e)
     ∙ ap (λ (n : ℕ). Some (certification_next n (certified_entries_of n w.catalogue entries) e).verdict) window
     ∙ ap (λ (n : ℕ). Some (certification_next n (certified_entries_of old.window w.catalogue entries) e).verdict) (sym stands.window)
-    ∙ ap (λ (x : Certification). Some x.verdict) (sym (certified (certified_entries_of old.window w.catalogue entries) stands.memory))
+    ∙ ap (λ (x : Certification). Some x.verdict) (sym (certified (certified_entries_of old.window w.catalogue entries) (record { memory = stands.memory; procedures = stands.procedures })))

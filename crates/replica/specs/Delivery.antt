@@ -1,34 +1,34 @@
 -- What one delivery leaves, step by step. No public clause speaks of it.
 use Rattle.std.specs.Prelude.{◌≡◌, ℕ, ◌+◌, ◌-◌, ◌≤◌, true, false, List, [], ◌∷◌, ◌++◌}
-use Rattle.std.specs.FinMap.{empty}
-use Rattle.schema.specs.Rows.{Key, Rows, Writes}
-use Rattle.log_model.specs.Log.{CertifiedItem, is_commit}
-use Rattle.log_model.specs.Entries.{Entry, CallEntry, AdditionEntry, CertifiedEntries, certified_entry}
+use Rattle.schema.specs.Rows.{Key, Rows}
+use Rattle.log_model.specs.Log.{is_commit}
+use Rattle.log_model.specs.Entries.{Entry, CertifiedEntries, with_entry}
 use Rattle.key_table.specs.Table.{Table, versions_at}
 use Rattle.rows_mv.specs.Versions.{slots_of, AnswersFrom, IsInstalled}
 use Rattle.certify.specs.Kept as certifier
 use Rattle.replica.specs.declared.certification.Certification.{Certification}
-use Rattle.replica.specs.Replica.{Replica, certification_next}
+use Rattle.stored_procedures.specs.Held.{ListedProcedure, stored_procedures}
+use Rattle.replica.specs.Replica.{Replica, certification_next, writes_in}
 
 -- each key has the versions that it had
 abbrev pub HasSameVersions : List Table → List Table → Type 0
 HasSameVersions old new = (k : Key) → versions_at (slots_of new k.0) k.1 ≡ versions_at (slots_of old k.0) k.1
 
--- what an entry writes: an addition nothing
-abbrev pub writes_in : Entry → Writes
-writes_in (CallEntry e) = e.writes
-writes_in (AdditionEntry p) = empty
+-- what a replica keeps for verdicts is of these
+pub record KeepsCertified (m : certifier.Memory) (held : List ListedProcedure) (past : CertifiedEntries) : Type 0 where
+  pub memory : certifier.StandsFor m past.certified
+  pub procedures : stored_procedures held ≡ past.procedures
 
--- what one delivery leaves: the certifier has taken the entry in, the writes of one that commits are installed, and then
+-- what one delivery leaves: the certifier and the procedures have taken the entry in, the writes of one that commits are installed, and then
 -- what no position within the window sees may be dropped
 pub record IsDelivered (old new : Replica) (e : Entry) (c : Certification) (installed : List Table) : Type 0 where
   pub window : new.window ≡ old.window
   pub position : new.position ≡ old.position + 1
-  pub certified : (past : CertifiedEntries) → certifier.StandsFor old.memory past.certified
+  pub certified : (past : CertifiedEntries) → KeepsCertified old.memory old.procedures past
       → c ≡ certification_next old.memory.window past e
   pub certifications : new.certifications ≡ old.certifications ++ c ∷ []
-  pub memory : (past : CertifiedEntries) → certifier.StandsFor old.memory past.certified
-      → certifier.StandsFor new.memory (past.certified ++ certified_entry old.memory.window past e ∷ [])
+  pub kept : (past : CertifiedEntries) → KeepsCertified old.memory old.procedures past
+      → KeepsCertified new.memory new.procedures (with_entry old.memory.window past e)
   pub same_window : new.memory.window ≡ old.memory.window
   pub installs : is_commit c.verdict ≡ true → IsInstalled (old.position + 1) (writes_in e) old.versions.tables installed
   pub refuses : is_commit c.verdict ≡ false → HasSameVersions old.versions.tables installed
@@ -42,5 +42,6 @@ pub record IsRefusedDelivery (old new : Replica) : Type 0 where
   pub position : new.position ≡ old.position
   pub certifications : new.certifications ≡ old.certifications
   pub memory : new.memory ≡ old.memory
+  pub procedures : new.procedures ≡ old.procedures
   pub versions : HasSameVersions old.versions.tables new.versions.tables
   pub horizon : new.versions.horizon ≡ old.versions.horizon

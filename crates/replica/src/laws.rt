@@ -5,12 +5,18 @@ ghost use Rattle.std.specs.FinMap.{empty};
 ghost use Rattle.schema.specs.Schema.{Tables};
 ghost use Rattle.schema.specs.Rows.{Rows, Writes, AreWrites, after_writes};
 ghost use Rattle.rows_mv.specs.Versions.{Versions, AnswersFrom, HaveTables, width_of};
-ghost use Rattle.log_model.specs.Log.{Catalogue, Setting, is_commit, verdict_of, if_commits, rows_after};
-ghost use Rattle.log_model.specs.Entries.{Entry, items_of, certified_entry, certified_entries_of};
+ghost use Rattle.log_model.specs.declared.verdict.Verdict.{Verdict};
+ghost use Rattle.log_model.specs.Log.{Catalogue, CertifiedItem, Setting, is_commit, verdict_of, if_commits, rows_after, procedures_after};
+ghost use Rattle.log_model.specs.Log.{certified_addition, verdict_on_addition};
+ghost use Rattle.certify.specs.Kept as certifier;
+ghost use Rattle.certify.specs.Kept.{Memory};
+ghost use Rattle.rows_mv.specs.Versions.{IsInstalled};
+ghost use Rattle.stored_procedures.specs.Held.{ListedProcedure, AreForTables, stored, stored_procedures};
+ghost use Rattle.log_model.specs.Entries.{Entry, AdditionEntry, CertifiedEntries, items_of, certified_entry, with_entry, certified_entries_of};
 ghost use Rattle.key_table.specs.Table.{Table};
 ghost use Rattle.replica.specs.declared.certification.Certification.{Certification};
 ghost use Rattle.replica.specs.Replica.{AreEntriesOf, FitTables, Replica, StandsFor, rows_kept};
-ghost use Rattle.replica.specs.Delivery.{IsDelivered, IsRefusedDelivery};
+ghost use Rattle.replica.specs.Delivery.{IsDelivered, IsRefusedDelivery, KeepsCertified};
 
 use log_model::entries_suffice;
 use row_model::map_after_each_write_set;
@@ -49,6 +55,20 @@ pub(crate) fn deliveries_are_kept()
     answers_after_an_install();
 }
 
+/// What an addition that is taken in leaves, in words of the entries: it installs nothing.
+pub(crate) fn additions_are_taken_in()
+    ensures kept { (window : ℕ) (old new : Memory) (before after : List ListedProcedure) (l : ListedProcedure)
+        → ((past : List CertifiedItem) → certifier.StandsFor old past
+        → certifier.StandsFor new (past ++ certified_addition (stored_procedures before) (stored l) ∷ []))
+        → after ≡ if_commits (verdict_on_addition (stored_procedures before) (stored l)) (before ++ l ∷ []) before
+        → (past : CertifiedEntries) → KeepsCertified old before past
+        → KeepsCertified new after (with_entry window past (AdditionEntry (stored l))) }
+    ensures for_tables { (tables : Tables) (v : Verdict) (before : List ListedProcedure) (l : ListedProcedure)
+        → AreForTables tables before → l.accepted.tables ≡ tables
+        → AreForTables tables (if_commits v (before ++ l ∷ []) before) }
+    ensures installs { (position : ℕ) (tables : List Table) → IsInstalled position empty tables tables }
+{}
+
 /// At first there are no rows at any position.
 pub(crate) fn no_rows_at_first()
     ensures { (window s : ℕ) (base : Catalogue) → rows_kept window base [] s ≡ empty }
@@ -57,7 +77,7 @@ pub(crate) fn no_rows_at_first()
 }
 
 /// Where the delivered entries are a log's and carry their runs, a replica's verdicts are those of the log, and the rows of
-/// the positions within its window are the log's.
+/// the positions within its window and its procedures are the log's.
 pub fn replicas_follow_the_log()
     ensures verdicts { (w : Setting) (r : Replica) (entries : List Entry) (before : ℕ) (c : Certification)
         → w.window ≡ r.window → StandsFor w.catalogue r entries → AreEntriesOf w entries
@@ -65,6 +85,9 @@ pub fn replicas_follow_the_log()
     ensures rows { (w : Setting) (r : Replica) (entries : List Entry) (s : ℕ)
         → w.window ≡ r.window → StandsFor w.catalogue r entries → AreEntriesOf w entries → s ≤ r.position → r.position - s ≤ r.window
         → AnswersFrom r.versions.tables s (rows_after w (items_of entries) s) }
+    ensures procedures { (w : Setting) (r : Replica) (entries : List Entry)
+        → w.window ≡ r.window → StandsFor w.catalogue r entries → AreEntriesOf w entries
+        → stored_procedures r.procedures ≡ procedures_after w (items_of entries) r.position }
     ensures next { (w : Setting) (entries : List Entry) (e : Entry) → AreEntriesOf w (entries ++ e ∷ [])
         → verdict_of w (items_of (entries ++ e ∷ [])) (length entries + 1)
         ≡ Some (certified_entry w.window (certified_entries_of w.window w.catalogue entries) e).verdict }

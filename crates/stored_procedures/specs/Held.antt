@@ -4,6 +4,7 @@ use Rattle.std.specs.Coded.{Coded, code_by, coded×, coded_ℕ, coded_list}
 use Rattle.std.specs.List.{AllByRecursion, IsDistinct}
 use Rattle.std.specs.Str.{bytes_eq}
 use Rattle.bpf_code.specs.Program.{IsProgram}
+use Rattle.schema.specs.Schema.{Tables}
 use Rattle.bpf_verify.specs.Flow.{Procedure, IsAccepted}
 use Rattle.bpf_verify.specs.Procedure.{procedure_code}
 use Rattle.log_model.specs.Log.{StoredProcedure, Catalogue}
@@ -37,6 +38,10 @@ pub record AreStored (procedures : List ListedProcedure) : Type 0 where
   pub numbers : IsDistinct nat_eq (map (λ l. l.number) procedures)
   pub names : IsDistinct bytes_eq (map (λ l. l.name) procedures)
   pub shapes : AllByRecursion (λ l. is_name l.name ≡ true) procedures
+
+-- each was accepted for these tables
+abbrev pub AreForTables : Tables → List ListedProcedure → Type 0
+AreForTables tables procedures = AllByRecursion (λ l. l.accepted.tables ≡ tables) procedures
 
 -- that of a number
 abbrev pub listed_by_number : List ListedProcedure → ℕ → Option ListedProcedure
