@@ -1,7 +1,7 @@
 use Rattle.std.proofs.Common.{◌≡◌, ◌-◌, cond, true, false, List, length, map, option_map, slice_set, Option, Some, None, refl, sym, ap, subst, ◌∙◌, arith}
 use Rattle.dsm_model.specs.declared.outcome.Outcome.{Outcome}
 use Rattle.log_model.specs.Log.{by_number}
-use Rattle.log_model.specs.Entries.{calls_of}
+use Rattle.log_model.specs.Entries.{items_of}
 use Rattle.dsm_model.specs.World.{Turn as TurnStep, IsStep}
 use Rattle.dsm_model.specs.Sound.{IsWorld}
 use Rattle.catalogue.specs.Catalogue.{accepted_of}
@@ -27,7 +27,7 @@ returns-in_default-clause-step g c =
 pub unreachable-requires : goal.unreachable-requires
 unreachable-requires g c =
     let s = system_of c.args.world.now in
-    let f = open_facts s (call_slots c.args.world.now) c.args.call c.in-Some.at c.in-Some.open_call.value c.requires c.in-Some.ensures.place c.in-Some.ensures.stood in
+    let f = open_facts s (call_slots c.args.world.now) c.args.call c.in-Some.at c.in-Some.open_call.value c.requires.together c.in-Some.ensures.place c.in-Some.ensures.stood in
     let none = unknown (accepted_of s.catalogue.tables) (by_number s.catalogue.procedures c.deref.result.now.procedure) c.in_default-by_number.ensures in
     let some = ap (λ (o : OpenCallState _). by_number s.catalogue.procedures o.procedure) c.deref.ensures ∙ f.follows.is_call.known in
     let bad = sym none ∙ some in
@@ -36,14 +36,14 @@ unreachable-requires g c =
 pub overflow_sub-deref : goal.overflow_sub-deref
 overflow_sub-deref g c =
     let s = system_of c.args.world.now in
-    let f = open_facts s (call_slots c.args.world.now) c.args.call c.in-Some.at c.in-Some.open_call.value c.requires c.in-Some.ensures.place c.in-Some.ensures.stood in
+    let f = open_facts s (call_slots c.args.world.now) c.args.call c.in-Some.at c.in-Some.open_call.value c.requires.together c.in-Some.ensures.place c.in-Some.ensures.stood in
     let place = ap (λ (o : OpenCallState _). o.replica) c.deref-2.ensures ∙ f.place in
     omega arith
 
 pub index-requires : goal.index-requires
 index-requires g c =
     let s = system_of c.args.world.now in
-    let f = open_facts s (call_slots c.args.world.now) c.args.call c.in-Some.at c.in-Some.open_call.value c.requires c.in-Some.ensures.place c.in-Some.ensures.stood in
+    let f = open_facts s (call_slots c.args.world.now) c.args.call c.in-Some.at c.in-Some.open_call.value c.requires.together c.in-Some.ensures.place c.in-Some.ensures.stood in
     let place = ap (λ (o : OpenCallState _). o.replica) c.deref-2.ensures ∙ f.place in
     let lt = get_lt s.replicas f.j f.r f.stands in
     omega arith
@@ -51,7 +51,7 @@ index-requires g c =
 pub at-store-requires : goal.at-store-requires
 at-store-requires g c =
     let s = system_of c.args.world.now in
-    let f = open_facts s (call_slots c.args.world.now) c.args.call c.in-Some.at c.in-Some.open_call.value c.requires c.in-Some.ensures.place c.in-Some.ensures.stood in
+    let f = open_facts s (call_slots c.args.world.now) c.args.call c.in-Some.at c.in-Some.open_call.value c.requires.together c.in-Some.ensures.place c.in-Some.ensures.stood in
     let at = ap (λ (o : OpenCallState _). o.replica) c.deref-2.ensures in
     let place = f.place in
     let lt = get_lt s.replicas f.j f.r f.stands in
@@ -66,16 +66,16 @@ turn-answer-requires g c =
     let s = system_of c.args.world.now in
     let slots = call_slots c.args.world.now in
     let o = c.in-Some.open_call.value in
-    let f = open_facts s slots c.args.call c.in-Some.at o c.requires c.in-Some.ensures.place c.in-Some.ensures.stood in
+    let f = open_facts s slots c.args.call c.in-Some.at o c.requires.together c.in-Some.ensures.place c.in-Some.ensures.stood in
     let at = ap (λ (x : OpenCallState _). x.replica) c.deref-2.ensures in
     let place = f.place in
     let lt = get_lt s.replicas f.j f.r f.stands in
     let same = call_replica s c.args.call o f (c.deref-2.result.now.replica - 1) c.index.result.now (omega arith) (omega arith) c.index.ensures in (
       setting_of s,
-      calls_of s.entries,
+      items_of s.entries,
       can_turn s slots c.args.call o f c.in-Some-by_number.accepted.now
           (λ rows. c.at-store.result.gone ≡ false → AnswersFrom c.at-store.result.versions.now.tables c.at-store.result.position rows)
-          c.index.result.now c.deref-3.result.now.snapshot c.deref_mut.result.now c.deref.result.now c.a_log_only_grows.ensures.rows c.entries_suffice.ensures.rows c.requires
+          c.index.result.now c.deref-3.result.now.snapshot c.deref_mut.result.now c.deref.result.now c.entries_suffice.ensures.rows c.replicas_follow_the_log.ensures.procedures c.requires.together
           same (ap (λ (x : OpenCallState _). x.snapshot) c.deref-3.ensures) c.deref_mut.ensures.value c.deref.ensures c.in-Some-by_number.ensures c.at-store.ensures.answers,
     )
 
@@ -84,7 +84,7 @@ returns-then-not-stays_open-clause-step g c =
     let s = system_of c.args.world.now in
     let slots = call_slots c.args.world.now in
     let o = c.in-Some.open_call.value in
-    let f = open_facts s slots c.args.call c.in-Some.at o c.requires c.in-Some.ensures.place c.in-Some.ensures.stood in
+    let f = open_facts s slots c.args.call c.in-Some.at o c.requires.together c.in-Some.ensures.place c.in-Some.ensures.stood in
     let at = ap (λ (x : OpenCallState _). x.replica) c.deref-2.ensures in
     let place = f.place in
     let lt = get_lt s.replicas f.j f.r f.stands in
@@ -92,22 +92,22 @@ returns-then-not-stays_open-clause-step g c =
     let snapshot = ap (λ (x : OpenCallState _). x.snapshot) c.deref-3.ensures in
     let can = can_turn s slots c.args.call o f c.in-Some-by_number.accepted.now
     (λ rows. c.at-store.result.gone ≡ false → AnswersFrom c.at-store.result.versions.now.tables c.at-store.result.position rows)
-    c.index.result.now c.deref-3.result.now.snapshot c.deref_mut.result.now c.deref.result.now c.a_log_only_grows.ensures.rows c.entries_suffice.ensures.rows c.requires
+    c.index.result.now c.deref-3.result.now.snapshot c.deref_mut.result.now c.deref.result.now c.entries_suffice.ensures.rows c.replicas_follow_the_log.ensures.procedures c.requires.together
     same snapshot c.deref_mut.ensures.value c.deref.ensures c.in-Some-by_number.ensures c.at-store.ensures.answers in
     let over : stays_open c.turn-answer.result ≡ false = sym c.stays_open.ensures ∙ c.if-not-stays_open.true in
     subst (λ (x : Outcome). IsStep (setting_of s) (world_of s) (TurnStep c.args.call) x (world_of (with_slots s (map (λ slot. option_map (λ b. b.value) slot) c.take_call.new.calls.items)))) (sym c.outcome_of.ensures)
     (subst (λ xs. IsStep (setting_of s) (world_of s) (TurnStep c.args.call) (outcome_of c.turn-answer.result) (world_of (with_slots s xs))) (sym c.in-Some.ensures.taken)
-    (turn_steps s slots c.args.call c.in-Some.at o c.turn-answer.new.self f c.turn-answer.result None c.at-store.result.gone c.index.result.now c.deref-3.result.now.snapshot c.deref_mut.result.now c.requires c.in-Some.ensures.place
-    same snapshot c.deref_mut.ensures.value c.at-store.ensures.gone (c.turn-answer.ensures.turn (setting_of s) (calls_of s.entries) can)
+    (turn_steps s slots c.args.call c.in-Some.at o c.turn-answer.new.self f c.turn-answer.result None c.at-store.result.gone c.index.result.now c.deref-3.result.now.snapshot c.deref_mut.result.now c.requires.together c.in-Some.ensures.place
+    same snapshot c.deref_mut.ensures.value c.at-store.ensures.gone (c.turn-answer.ensures.turn (setting_of s) (items_of s.entries) can)
     (ap (λ b. cond b (Some (open_call_of c.turn-answer.new.self)) None) (sym over))))
 
 pub returns-then-not-stays_open-clause-consistent : goal.returns-then-not-stays_open-clause-consistent
 returns-then-not-stays_open-clause-consistent g c =
     let s = system_of c.args.world.now in
     let slots = call_slots c.args.world.now in
-    let world = c.steps_keep_a_world.ensures.step (setting_of s) (world_of s) (TurnStep c.args.call) _ _ tt (returns-then-not-stays_open-clause-step g c) c.requires.world in
+    let world = c.steps_keep_a_world.ensures.step (setting_of s) (world_of s) (TurnStep c.args.call) _ _ tt (returns-then-not-stays_open-clause-step g c) c.requires.together.world in
     subst (λ xs. IsTogether (with_slots s xs) xs) (sym c.in-Some.ensures.taken)
-    (slot_changed s slots c.in-Some.at None c.requires (λ d bad. absurd cc) (subst (λ xs. IsWorld (setting_of s) (world_of (with_slots s xs))) c.in-Some.ensures.taken world))
+    (slot_changed s slots c.in-Some.at None c.requires.together (λ d bad. absurd cc) (subst (λ xs. IsWorld (setting_of s) (world_of (with_slots s xs))) c.in-Some.ensures.taken world))
 
 pub put_call-requires : goal.put_call-requires
 put_call-requires g c =
@@ -124,7 +124,7 @@ returns-clause-step g c =
     let s = system_of c.args.world.now in
     let slots = call_slots c.args.world.now in
     let o = c.in-Some.open_call.value in
-    let f = open_facts s slots c.args.call c.in-Some.at o c.requires c.in-Some.ensures.place c.in-Some.ensures.stood in
+    let f = open_facts s slots c.args.call c.in-Some.at o c.requires.together c.in-Some.ensures.place c.in-Some.ensures.stood in
     let at = ap (λ (x : OpenCallState _). x.replica) c.deref-2.ensures in
     let place = f.place in
     let lt = get_lt s.replicas f.j f.r f.stands in
@@ -132,14 +132,14 @@ returns-clause-step g c =
     let snapshot = ap (λ (x : OpenCallState _). x.snapshot) c.deref-3.ensures in
     let can = can_turn s slots c.args.call o f c.in-Some-by_number.accepted.now
     (λ rows. c.at-store.result.gone ≡ false → AnswersFrom c.at-store.result.versions.now.tables c.at-store.result.position rows)
-    c.index.result.now c.deref-3.result.now.snapshot c.deref_mut.result.now c.deref.result.now c.a_log_only_grows.ensures.rows c.entries_suffice.ensures.rows c.requires
+    c.index.result.now c.deref-3.result.now.snapshot c.deref_mut.result.now c.deref.result.now c.entries_suffice.ensures.rows c.replicas_follow_the_log.ensures.procedures c.requires.together
     same snapshot c.deref_mut.ensures.value c.deref.ensures c.in-Some-by_number.ensures c.at-store.ensures.answers in
     let stays : stays_open c.turn-answer.result ≡ true = sym c.stays_open.ensures ∙ c.if-not-stays_open.false in
     let put = c.put_call.ensures ∙ ap (λ xs. slice_set xs c.in-Some.at (Some c.turn-answer.new.self)) c.in-Some.ensures.taken ∙ set_twice slots c.in-Some.at None (Some c.turn-answer.new.self) in
     subst (λ (x : Outcome). IsStep (setting_of s) (world_of s) (TurnStep c.args.call) x (world_of (with_slots s (map (λ slot. option_map (λ b. b.value) slot) c.put_call.new.calls.items)))) (sym c.outcome_of-2.ensures)
     (subst (λ xs. IsStep (setting_of s) (world_of s) (TurnStep c.args.call) (outcome_of c.turn-answer.result) (world_of (with_slots s xs))) (sym put)
-    (turn_steps s slots c.args.call c.in-Some.at o c.turn-answer.new.self f c.turn-answer.result (Some c.turn-answer.new.self) c.at-store.result.gone c.index.result.now c.deref-3.result.now.snapshot c.deref_mut.result.now c.requires c.in-Some.ensures.place
-    same snapshot c.deref_mut.ensures.value c.at-store.ensures.gone (c.turn-answer.ensures.turn (setting_of s) (calls_of s.entries) can)
+    (turn_steps s slots c.args.call c.in-Some.at o c.turn-answer.new.self f c.turn-answer.result (Some c.turn-answer.new.self) c.at-store.result.gone c.index.result.now c.deref-3.result.now.snapshot c.deref_mut.result.now c.requires.together c.in-Some.ensures.place
+    same snapshot c.deref_mut.ensures.value c.at-store.ensures.gone (c.turn-answer.ensures.turn (setting_of s) (items_of s.entries) can)
     (ap (λ b. cond b (Some (open_call_of c.turn-answer.new.self)) None) (sym stays))))
 
 pub returns-clause-consistent : goal.returns-clause-consistent
@@ -147,7 +147,7 @@ returns-clause-consistent g c =
     let s = system_of c.args.world.now in
     let slots = call_slots c.args.world.now in
     let o = c.in-Some.open_call.value in
-    let f = open_facts s slots c.args.call c.in-Some.at o c.requires c.in-Some.ensures.place c.in-Some.ensures.stood in
+    let f = open_facts s slots c.args.call c.in-Some.at o c.requires.together c.in-Some.ensures.place c.in-Some.ensures.stood in
     let at = ap (λ (x : OpenCallState _). x.replica) c.deref-2.ensures in
     let place = f.place in
     let lt = get_lt s.replicas f.j f.r f.stands in
@@ -155,11 +155,11 @@ returns-clause-consistent g c =
     let snapshot = ap (λ (x : OpenCallState _). x.snapshot) c.deref-3.ensures in
     let can = can_turn s slots c.args.call o f c.in-Some-by_number.accepted.now
     (λ rows. c.at-store.result.gone ≡ false → AnswersFrom c.at-store.result.versions.now.tables c.at-store.result.position rows)
-    c.index.result.now c.deref-3.result.now.snapshot c.deref_mut.result.now c.deref.result.now c.a_log_only_grows.ensures.rows c.entries_suffice.ensures.rows c.requires
+    c.index.result.now c.deref-3.result.now.snapshot c.deref_mut.result.now c.deref.result.now c.entries_suffice.ensures.rows c.replicas_follow_the_log.ensures.procedures c.requires.together
     same snapshot c.deref_mut.ensures.value c.deref.ensures c.in-Some-by_number.ensures c.at-store.ensures.answers in
     let stays : stays_open c.turn-answer.result ≡ true = sym c.stays_open.ensures ∙ c.if-not-stays_open.false in
     let put = c.put_call.ensures ∙ ap (λ xs. slice_set xs c.in-Some.at (Some c.turn-answer.new.self)) c.in-Some.ensures.taken ∙ set_twice slots c.in-Some.at None (Some c.turn-answer.new.self) in
-    let follows = c.turn-answer.ensures.follows (setting_of s) (calls_of s.entries) can stays in
-    let world = c.steps_keep_a_world.ensures.step (setting_of s) (world_of s) (TurnStep c.args.call) _ _ tt (returns-clause-step g c) c.requires.world in
+    let follows = c.turn-answer.ensures.follows (setting_of s) (items_of s.entries) can stays in
+    let world = c.steps_keep_a_world.ensures.step (setting_of s) (world_of s) (TurnStep c.args.call) _ _ tt (returns-clause-step g c) c.requires.together.world in
     subst (λ xs. IsTogether (with_slots s xs) xs) (sym put)
-    (slot_changed s slots c.in-Some.at (Some c.turn-answer.new.self) c.requires (λ d e. subst (λ x. Follows (setting_of s) (calls_of s.entries) x) (some_is c.turn-answer.new.self d e) follows) (subst (λ xs. IsWorld (setting_of s) (world_of (with_slots s xs))) put world))
+    (slot_changed s slots c.in-Some.at (Some c.turn-answer.new.self) c.requires.together (λ d e. subst (λ x. Follows (setting_of s) (items_of s.entries) x) (some_is c.turn-answer.new.self d e) follows) (subst (λ xs. IsWorld (setting_of s) (world_of (with_slots s xs))) put world))
