@@ -3,7 +3,7 @@ use Rattle.std.proofs.Common.{◌≡◌, ◌≢◌, ◌⊎◌, get_or, ℕ, zero
 use Rattle.std.specs.FinMap.{len}
 use Rattle.schema.specs.Rows.{Rows, AreWrites}
 use Rattle.row_model.specs.InstalledWrites.{map_after}
-use Rattle.replica.specs.Replica.{Replica, StandsFor, IsNamed, rows_kept, writes_in}
+use Rattle.replica.specs.Replica.{Replica, StandsFor, IsForTables, IsNamed, entries_of, rows_kept, writes_in}
 use Rattle.bpf_vm.specs.declared.turn.Turn.{Turn as TurnAnswer}
 use Rattle.dsm_model.specs.declared.outcome.StepRefusal.TheVariants.{NoReplica, NoProcedure, ArgumentsLength, NoCall, NotAtExit, NothingToDeliver, ReplicaStopped, LogFull, OutOfMemory, TooManyCalls, ArgumentsLimit, ProgramRefused, NameShape, ZeroInRequest}
 use Rattle.dsm_model.specs.declared.outcome.Outcome.{Outcome}
@@ -12,9 +12,13 @@ use Rattle.log_model.specs.Log.{StoredProcedure, Catalogue, Setting, Call, CallI
 use Rattle.log_model.specs.Fit.{HasSafeProcedures, AreItems, IsCall}
 use Rattle.log_model.specs.Entries.{ExecutedCall, Entry, CallEntry, items_of, CarryRuns, CarriesRun, certified_entries_of, installed_from}
 use Rattle.log_model.proofs.GrowthLemmas.{rows_grown, procedure_stays}
-use Rattle.stored_procedures.specs.Held.{listed_by_number}
+use Rattle.stored_procedures.specs.Held.{ListedProcedure, listed_by_number}
+use Rattle.std.specs.List.{AllByRecursion}
+use Rattle.schema.specs.Schema.{Tables}
+use Rattle.log_entry.specs.declared.entry.Entry.{Entry as LogEntry}
+use Rattle.log_entry.specs.declared.entry.Entry.TheVariants.{Call as LogCall, Addition as LogAddition}
 use Rattle.dsm_model.specs.World as model
-use Rattle.dsm_model.specs.World.{World, OpenCall, Step, Begin, Turn, Order, numbered, with_numbered, flatten, open_call, with_open_call, without_call, with_ordered, with_begun, new_call, position_of, max_calls, call_count, IsStep}
+use Rattle.dsm_model.specs.World.{World, OpenCall, Step, Begin, Turn, Order, numbered, with_numbered, flatten, open_call, with_open_call, without_call, with_ordered, with_begun, new_call, position_of, max_calls, addition_count, call_count, IsStep}
 use Rattle.dsm_model.specs.Sound.{IsWorld}
 use Rattle.bpf_verify.specs.Flow.{Procedure}
 use Rattle.catalogue.specs.Catalogue.{accepted_of}
@@ -26,7 +30,7 @@ use Rattle.dsm_world.specs.Holdings.{IsReplicaOf, IsTogether, open_calls_of}
 use Rattle.dsm_world.proofs.Numbered.{get_map, set_map, set_same, set_twice, get_set, get_snoc, numbered_map, numbered_at, with_numbered_at}
 use Rattle.dsm_world.proofs.StepLemmas.{is_gone, turn_on, order_early, order_cancelled, order_read, order_full, order_new, order_without_memory, begin_new}
 use Rattle.dsm_world.proofs.EntryLemmas.{OneMore, take_first, take_drop, take_count, items_append, items_count, all_snoc, entries_taken, entries_snoc, follows_grown}
-use Rattle.dsm_world.proofs.ReplicaLemmas.{ProceduresFollow, log_count, get_is, same_item, known, found_at}
+use Rattle.dsm_world.proofs.ReplicaLemmas.{ProceduresFollow, log_count, get_is, same_item, known, found_at, in_procedures}
 
 -- what the law of entries says of rows
 abbrev pub EntriesGiveRows : Type 0
@@ -421,3 +425,28 @@ turn_steps s slots n k c new f turn left gone r snapshot d h place same at is e 
     turned s slots n k c new turn left h place f
     (subst (λ (b : Bool). IsTurn (setting_of s) (items_of s.entries) b (open_call_of c) turn (open_call_of new)) now
     (subst (λ (x : OpenCallState _). IsTurn (setting_of s) (items_of s.entries) gone (open_call_of x) turn (open_call_of new)) is t)) leaves
+
+-- what is found for it at its replica
+pub found_here : {A : Type 0} (s : SystemWorld) (slots : List (Option (OpenCallState A))) (n : ℕ) (c : OpenCallState A) (f : OpenFacts s n c) (r : Replica) (held : List ListedProcedure) (number : ℕ) → ProceduresFollow → IsTogether s slots → r ≡ f.r → held ≡ r.procedures → number ≡ c.procedure
+    → option_map (λ l. l.accepted) (listed_by_number held number) ≡ Some (accepted_of s.catalogue.tables f.follows.is_call.procedure)
+found_here s slots n c f r held number follow h same is at =
+    in_procedures number held r.procedures is
+    ∙ ap (λ (x : Replica). option_map (λ l. l.accepted) (listed_by_number x.procedures number)) same
+    ∙ ap (λ (m : ℕ). option_map (λ l. l.accepted) (listed_by_number f.r.procedures m)) at
+    ∙ found_at s slots f.j c.procedure f.r follow h f.stands
+    ∙ ap (option_map (accepted_of s.catalogue.tables)) (procedure_there s n c f h)
+
+-- ---- one call more among the entries in code
+
+pub one_more_for : {A : Type 0} (tables : Tables) (xs ys : List (LogEntry A)) (e : ExecutedCall) → (ys ≡ xs) ⊎ (ys ≡ xs ++ LogCall e ∷ []) → AllByRecursion (IsForTables tables) xs → AllByRecursion (IsForTables tables) ys
+one_more_for tables xs ys e (inl same) all = subst (AllByRecursion (IsForTables tables)) (sym same) all
+one_more_for tables xs ys e (inr more) all = subst (AllByRecursion (IsForTables tables)) (sym more) (all_snoc (IsForTables tables) xs (LogCall e) all tt)
+
+count_call : {A : Type 0} (xs : List (LogEntry A)) (e : ExecutedCall) → addition_count (items_of (entries_of (xs ++ LogCall e ∷ []))) ≡ addition_count (items_of (entries_of xs))
+count_call [] e = refl
+count_call (LogCall x ∷ xs) e = count_call xs e
+count_call (LogAddition p ∷ xs) e = ap (λ (n : ℕ). 1 + n) (count_call xs e)
+
+pub same_additions : {A : Type 0} (xs ys : List (LogEntry A)) (e : ExecutedCall) → (ys ≡ xs) ⊎ (ys ≡ xs ++ LogCall e ∷ []) → addition_count (items_of (entries_of ys)) ≡ addition_count (items_of (entries_of xs))
+same_additions xs ys e (inl same) = ap (λ zs. addition_count (items_of (entries_of zs))) same
+same_additions xs ys e (inr more) = ap (λ zs. addition_count (items_of (entries_of zs))) more ∙ count_call xs e

@@ -135,14 +135,14 @@ entries_snoc one w entries e are is placed carries =
     let there = subst (λ (n : ℕ). IsPlaced n (item_of e)) (sym (items_count entries)) placed in
     record {
       procedures = are.procedures;
-      log = subst IsLog items (is_log_snoc 0 (items_of entries) (item_of e) are.log there);
+      log = subst IsLog items (is_log_snoc 0 (items_of entries) (item_of e) are.log (subst (λ (n : ℕ). IsPlaced n (item_of e)) (let same : length (items_of entries) ≡ 0 + length (items_of entries) = omega arith in same) there));
       items = subst (λ (l : Log). AreItems w l) items (are_items_snoc w (items_of entries) (item_of e) are.log are.items there is);
       runs = one w entries e are.log are.runs placed carries;
     }
 
 -- ---- open calls
 
-call_grown : (w : Setting) (log more : Log) (call : Call) → call.snapshot ≤ length log → IsCall w log call → IsCall w (log ++ more) call
+abbrev call_grown : (w : Setting) (log more : Log) (call : Call) → call.snapshot ≤ length log → IsCall w log call → IsCall w (log ++ more) call
 call_grown w log more call le is = record {
   procedure = is.procedure;
   known = ap (λ (ps : Catalogue). by_number ps call.procedure) (procedures_grown w log more call.snapshot le) ∙ is.known;

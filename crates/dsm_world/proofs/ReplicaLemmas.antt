@@ -6,7 +6,10 @@ use Rattle.schema.specs.Rows.{AreWrites}
 use Rattle.key_table.specs.Table.{Table}
 use Rattle.rows_mv.specs.Versions.{HaveTables, width_of}
 use Rattle.stored_procedures.specs.Held.{ListedProcedure, AreForTables, listed_by_number, stored_procedures}
-use Rattle.replica.specs.Replica.{Replica, StandsFor, AreEntriesOf, IsNamed, writes_in}
+use Rattle.std.specs.List.{AllByRecursion}
+use Rattle.log_entry.specs.declared.entry.Entry.{Entry as LogEntry}
+use Rattle.log_entry.specs.Kind.{entry_of}
+use Rattle.replica.specs.Replica.{Replica, StandsFor, AreEntriesOf, IsNamed, entries_of, writes_in}
 use Rattle.log_model.specs.declared.verdict.Verdict.{Verdict}
 use Rattle.dsm_model.specs.declared.outcome.StepRefusal.TheVariants.{NothingToDeliver, ReplicaStopped, OutOfMemory}
 use Rattle.dsm_model.specs.declared.outcome.Outcome.{Outcome}
@@ -102,7 +105,7 @@ stopped_before s slots r k old e have h is at next stopped =
     deliver_stopped (setting_of s) (world_of s) r (progress_of old) v.0 (replica_at s r k old is at) v.1 (ap not stopped)
 
 -- the verdict of a delivery is that of the log
-verdict_is : {A : Type 0} (s : SystemWorld) (slots : List (Option (OpenCallState A))) (k : ℕ) (old new : Replica) (e : Entry) (v : Verdict) → VerdictsGrow → IsTogether s slots → slice_get s.replicas k ≡ Some old → slice_get s.entries old.position ≡ Some e → HasDelivered old new e v
+verdict_is : {A : Type 0} (s : SystemWorld) (slots : List (Option (OpenCallState A))) (k : ℕ) (old new : Replica) (e : Entry) (v : Verdict) → VerdictsGrow → IsTogether s slots → slice_get s.replicas k ≡ Some old → slice_get s.entries old.position ≡ Some e → HasDelivered s.catalogue.tables old new e v
     → verdict_of (setting_of s) (world_of s).log (old.position + 1) ≡ Some v
 verdict_is s slots k old new e v verdicts h at next d =
     let w = setting_of s in
@@ -120,7 +123,7 @@ verdict_is s slots k old new e v verdicts h at next d =
     (ap (λ (l : Log). verdict_of w l (suc p)) log ∙ verdicts w (items_of (take (suc p) s.entries)) (items_of (drop (suc p) s.entries)) p (omega arith)
     ∙ ap (λ (xs : List Entry). verdict_of w (items_of xs) (suc p)) (sym first) ∙ ap (verdict_of w (items_of (take p s.entries ++ e ∷ []))) (sym at_next) ∙ there)
 
-pub delivered : {A : Type 0} (s : SystemWorld) (slots : List (Option (OpenCallState A))) (r k : ℕ) (old new : Replica) (e : Entry) (v : Verdict) → VerdictsGrow → IsTogether s slots → r ≡ k + 1 → slice_get s.replicas k ≡ Some old → slice_get s.entries old.position ≡ Some e → old.stopped ≡ false → HasDelivered old new e v
+pub delivered : {A : Type 0} (s : SystemWorld) (slots : List (Option (OpenCallState A))) (r k : ℕ) (old new : Replica) (e : Entry) (v : Verdict) → VerdictsGrow → IsTogether s slots → r ≡ k + 1 → slice_get s.replicas k ≡ Some old → slice_get s.entries old.position ≡ Some e → old.stopped ≡ false → HasDelivered s.catalogue.tables old new e v
     → IsStep (setting_of s) (world_of s) (Deliver r) (Delivered (old.position + 1) v) (world_of (with_one s k new))
 delivered s slots r k old new e v verdicts h is at next going d =
     let progress : record { position = old.position + 1; running = not old.stopped } ≡ progress_of new = ap (λ n. record { position = n; running = not old.stopped }) (sym d.position) ∙ ap (λ b. record { position = new.position; running = not b }) (going ∙ sym d.running) in
@@ -130,16 +133,16 @@ delivered s slots r k old new e v verdicts h is at next going d =
 same_tables : (tables : Tables) (old new : Replica) → TablesKept → HasSameTables old new → HaveTables tables old.versions.tables → HaveTables tables new.versions.tables
 same_tables tables old new kept same have = kept tables old.versions.tables new.versions.tables same.widths same.count have
 
-pub delivered_replica : {A : Type 0} (s : SystemWorld) (slots : List (Option (OpenCallState A))) (k : ℕ) (old new : Replica) (e : Entry) (v : Verdict) → TablesKept → IsTogether s slots → slice_get s.replicas k ≡ Some old → slice_get s.entries old.position ≡ Some e → HasDelivered old new e v
+pub delivered_replica : {A : Type 0} (s : SystemWorld) (slots : List (Option (OpenCallState A))) (k : ℕ) (old new : Replica) (e : Entry) (v : Verdict) → TablesKept → IsTogether s slots → slice_get s.replicas k ≡ Some old → slice_get s.entries old.position ≡ Some e → HasDelivered s.catalogue.tables old new e v
     → IsReplicaOf s.catalogue s.window s.entries new
 delivered_replica s slots k old new e v kept h at next d =
     let is = h.replicas k old at in
     let position : suc old.position ≡ new.position = (let p = d.position in omega arith) in
     record {
       stands = subst (StandsFor s.catalogue.procedures new) (take_next s.entries old.position e next ∙ ap (λ n. take n s.entries) position) (d.stands s.catalogue.procedures (take old.position s.entries) is.stands);
-      same_window = d.tables.window ∙ is.same_window;
-      have = same_tables s.catalogue.tables old new kept d.tables is.have;
-      for_tables = d.for_tables s.catalogue.tables is.for_tables;
+      same_window = d.same_tables.window ∙ is.same_window;
+      have = same_tables s.catalogue.tables old new kept d.same_tables is.have;
+      for_tables = d.for_tables is.for_tables;
     }
 
 pub stops : {A : Type 0} (s : SystemWorld) (slots : List (Option (OpenCallState A))) (r k : ℕ) (old new : Replica) (e : Entry) → HaveVerdicts → IsTogether s slots → r ≡ k + 1 → slice_get s.replicas k ≡ Some old → slice_get s.entries old.position ≡ Some e → old.stopped ≡ false → HasStopped old new
@@ -209,9 +212,6 @@ get_is (y ∷ xs) (suc k) x lt e = get_is xs k x (omega arith) e
 pub no_replica : (s : SystemWorld) (r n : ℕ) → n ≡ length s.replicas → (r ≡ 0) ⊎ (n < r) → numbered (world_of s).replicas r ≡ None
 no_replica s r n e out = numbered_map progress_of s.replicas r ∙ ap (option_map progress_of) (numbered_none s.replicas r (subst (λ (m : ℕ). (r ≡ 0) ⊎ (m < r)) e out))
 
-pub entry_at : (entries items : List Entry) (n position : ℕ) (e : Entry) → items ≡ entries → n ≡ position → n < length items → e ≡ get_or items n e → slice_get entries position ≡ Some e
-entry_at entries items n position e same at lt is = ap (λ (xs : List Entry). slice_get xs position) (sym same) ∙ ap (slice_get items) (sym at) ∙ get_is items n e lt is
-
 pub same_item : {X : Type 0} (xs : List X) (k : ℕ) (a b : X) → slice_get xs k ≡ Some a → slice_get xs k ≡ Some b → a ≡ b
 same_item xs k a b e f = some_is a b (sym e ∙ f)
   where
@@ -266,3 +266,15 @@ found_at s slots k number r law h at =
 
 pub in_procedures : (number : ℕ) (a b : List ListedProcedure) → a ≡ b → option_map (λ l. l.accepted) (listed_by_number a number) ≡ option_map (λ l. l.accepted) (listed_by_number b number)
 in_procedures number a b e = ap (λ (ls : List ListedProcedure). option_map (λ l. l.accepted) (listed_by_number ls number)) e
+
+-- ---- entries in code
+
+pub all_in_code : {A : Type 0} (P : Entry → Type 0) (xs : List (LogEntry A)) → AllByRecursion P (entries_of xs) → AllByRecursion (λ e. P (entry_of e)) xs
+all_in_code P [] all = tt
+all_in_code P (x ∷ xs) all = (all.0, all_in_code P xs all.1)
+
+pub get_in_code : {A : Type 0} (xs : List (LogEntry A)) (k : ℕ) (e : LogEntry A) → slice_get xs k ≡ Some e → slice_get (entries_of xs) k ≡ Some (entry_of e)
+get_in_code xs k e at = get_map entry_of xs k ∙ ap (λ o. option_map entry_of o) at
+
+pub at_in_code : {X : Type 0} (xs items : List X) (n position : ℕ) (e : X) → items ≡ xs → n ≡ position → n < length items → e ≡ get_or items n e → slice_get xs position ≡ Some e
+at_in_code xs items n position e same at lt is = ap (λ (ys : List _). slice_get ys position) (sym same) ∙ ap (slice_get items) (sym at) ∙ get_is items n e lt is

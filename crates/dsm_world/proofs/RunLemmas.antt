@@ -1,6 +1,6 @@
 -- Steps, one after another.
 use Rattle.std.proofs.Common.{◌≡◌, ◌≤◌, ◌+◌, ◌-◌, ℕ, zero, suc, true, false, not, List, [], ◌∷◌, ◌++◌, length, replicate, map, take, drop, slice_get, Some, Option, refl, sym, ap, subst, ◌∙◌, arith, inl, inr}
-use Rattle.schema.specs.Schema.{Tables}
+use Rattle.std.proofs.lemmas.List.{length-append}
 use Rattle.rows_mv.specs.Versions.{AnswersFrom, HaveTables}
 use Rattle.stored_procedures.specs.Held.{AreForTables}
 use Rattle.log_model.proofs.GrowthLemmas.{rows_grown}
@@ -84,6 +84,11 @@ one_more_given w steps n item outcomes more outcome taken answered count done is
     let all = ap (λ (xs : List GivenStep). map step_of xs) taken ∙ append_map step_of (take n steps) item in
     subst (λ (os : List Outcome). AreGiven w (map step_of (take (n + 1) steps)) os) (sym answered)
     (subst (λ (xs : List Step). AreGiven w xs (outcomes ++ outcome ∷ [])) (sym all) (given_snoc w (map step_of (take n steps)) outcomes (step_of item) outcome count done is))
+
+pub one_more_answer : (steps : List GivenStep) (n : ℕ) (item : GivenStep) (outcomes more : List Outcome) (outcome : Outcome) → take (n + 1) steps ≡ take n steps ++ item ∷ [] → more ≡ outcomes ++ outcome ∷ [] → length (map step_of (take n steps)) ≡ length outcomes → length (map step_of (take (n + 1) steps)) ≡ length more
+one_more_answer steps n item outcomes more outcome taken answered count =
+    ap (λ (xs : List GivenStep). length (map step_of xs)) taken ∙ ap (λ (xs : List Step). length xs) (append_map step_of (take n steps) item) ∙ length-append (map step_of (take n steps)) (step_of item ∷ [])
+    ∙ ap (λ (m : ℕ). m + 1) count ∙ sym (length-append outcomes (outcome ∷ [])) ∙ ap (λ (xs : List Outcome). length xs) (sym answered)
 
 -- ---- at first
 

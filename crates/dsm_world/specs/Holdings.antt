@@ -66,14 +66,14 @@ pub record HasSameTables (old new : Replica) : Type 0 where
   pub count : length new.versions.tables ≡ length old.versions.tables
 
 -- it has taken an entry in, with this verdict
-pub record HasDelivered (old new : Replica) (e : Entry) (v : Verdict) : Type 0 where
+pub record HasDelivered (tables : Tables) (old new : Replica) (e : Entry) (v : Verdict) : Type 0 where
   pub stands : (base : Catalogue) (past : List Entry) → StandsFor base old past → StandsFor base new (past ++ e ∷ [])
   pub verdict : (w : Setting) (past : List Entry) → w.window ≡ old.window → StandsFor w.catalogue old past → AreEntriesOf w (past ++ e ∷ [])
       → verdict_of w (items_of (past ++ e ∷ [])) new.position ≡ Some v
   pub position : new.position ≡ old.position + 1
   pub running : new.stopped ≡ false
-  pub tables : HasSameTables old new
-  pub for_tables : (tables : Tables) → AreForTables tables old.procedures → AreForTables tables new.procedures
+  pub same_tables : HasSameTables old new
+  pub for_tables : AreForTables tables old.procedures → AreForTables tables new.procedures
 
 -- it found no memory
 pub record HasStopped (old new : Replica) : Type 0 where

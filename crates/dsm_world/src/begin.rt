@@ -44,7 +44,8 @@ pub(crate) fn begin<A: Allocator + Copy>(
     let Some(at) = index_of(replica, world.replicas.len()) else {
         return Outcome::Refused(StepRefusal::NoReplica);
     };
-    let Some(accepted) = world.replicas[at].procedures().by_number(procedure) else {
+    let held = &world.replicas[at];
+    let Some(accepted) = held.procedures().by_number(procedure) else {
         return Outcome::Refused(StepRefusal::NoProcedure);
     };
     if args.len() != usize::from(accepted.args_len()) {
@@ -55,7 +56,7 @@ pub(crate) fn begin<A: Allocator + Copy>(
     }
     let alloc = world.alloc;
     let call = world.calls.len() as u32 + 1;
-    let snapshot = world.replicas[at].begin();
+    let snapshot = held.begin();
     let begun = OpenCall::begin(
         alloc, replica, call, procedure, accepted, args, snapshot, NO_REQUEST,
     );

@@ -30,8 +30,8 @@ returns-in_default-by_number-clause-step g c =
     let count = c.len.ensures in
     let at = c.in-Some.at in
     let lt = place.1 in
-    let old = c.index.result.now in
-    let there = get_is s.replicas at old (omega arith) c.index.ensures in
+    let old = c.index-held.result.now in
+    let there = get_is s.replicas at old (omega arith) c.index-held.ensures in
     let found = in_procedures c.args.procedure c.procedures.result.now old.procedures c.procedures.ensures ∙ found_at s (call_slots c.args.world.now) at c.args.procedure old c.replicas_follow_the_log.ensures.procedures c.requires.together there in
     begin_no_procedure (setting_of s) (world_of s) c.args.replica c.args.procedure c.args.args.now (progress_of old) (replica_at s c.args.replica at old place.0 there)
     (unknown (accepted_of s.catalogue.tables) (by_number (procedures_after (setting_of s) (world_of s).log old.position) c.args.procedure) (c.in_default-by_number.ensures ∙ found))
@@ -43,25 +43,25 @@ returns-then-args-from-clause-step g c =
     let count = c.len.ensures in
     let at = c.in-Some.at in
     let lt = place.1 in
-    let old = c.index.result.now in
-    let there = get_is s.replicas at old (omega arith) c.index.ensures in
+    let old = c.index-held.result.now in
+    let there = get_is s.replicas at old (omega arith) c.index-held.ensures in
     let found = in_procedures c.args.procedure c.procedures.result.now old.procedures c.procedures.ensures ∙ found_at s (call_slots c.args.world.now) at c.args.procedure old c.replicas_follow_the_log.ensures.procedures c.requires.together there in
     let p = known (accepted_of s.catalogue.tables) (by_number (procedures_after (setting_of s) (world_of s).log old.position) c.args.procedure) c.in-Some-by_number.accepted.now (c.in-Some-by_number.ensures ∙ found) in
     begin_other_length (setting_of s) (world_of s) c.args.replica c.args.procedure c.args.args.now (progress_of old) p.0 (replica_at s c.args.replica at old place.0 there) p.1
     (λ same. c.if-args-from.true (same ∙ sym (ap (λ (q : Procedure). q.args_len) p.2) ∙ sym c.args_len.ensures.length ∙ sym c.from.ensures))
 
-pub returns-then-len-ge-MAX_CALLS-clause-step : goal.returns-then-len-ge-MAX_CALLS-clause-step
-returns-then-len-ge-MAX_CALLS-clause-step g c =
+pub returns-then-len-world-ge-MAX_CALLS-clause-step : goal.returns-then-len-world-ge-MAX_CALLS-clause-step
+returns-then-len-world-ge-MAX_CALLS-clause-step g c =
     let s = system_of c.args.world.now in
     let place = c.in-Some.ensures.there in
     let count = c.len.ensures in
     let at = c.in-Some.at in
     let lt = place.1 in
-    let old = c.index.result.now in
-    let there = get_is s.replicas at old (omega arith) c.index.ensures in
+    let old = c.index-held.result.now in
+    let there = get_is s.replicas at old (omega arith) c.index-held.ensures in
     let found = in_procedures c.args.procedure c.procedures.result.now old.procedures c.procedures.ensures ∙ found_at s (call_slots c.args.world.now) at c.args.procedure old c.replicas_follow_the_log.ensures.procedures c.requires.together there in
     let p = known (accepted_of s.catalogue.tables) (by_number (procedures_after (setting_of s) (world_of s).log old.position) c.args.procedure) c.in-Some-by_number.accepted.now (c.in-Some-by_number.ensures ∙ found) in
-    let many = c.if-len-ge-MAX_CALLS.true in
+    let many = c.if-len-world-ge-MAX_CALLS.true in
     let calls = c.len-2.ensures in
     let slots = map_count (λ slot. option_map (λ b. b.value) slot) c.args.world.now.calls.items in
     let all = calls_are s (call_slots c.args.world.now) c.requires.together in
@@ -76,11 +76,11 @@ returns-in_default-begun-clause-step g c =
     let count = c.len.ensures in
     let at = c.in-Some.at in
     let lt = place.1 in
-    let old = c.index.result.now in
-    let there = get_is s.replicas at old (omega arith) c.index.ensures in
+    let old = c.index-held.result.now in
+    let there = get_is s.replicas at old (omega arith) c.index-held.ensures in
     let found = in_procedures c.args.procedure c.procedures.result.now old.procedures c.procedures.ensures ∙ found_at s (call_slots c.args.world.now) at c.args.procedure old c.replicas_follow_the_log.ensures.procedures c.requires.together there in
     let p = known (accepted_of s.catalogue.tables) (by_number (procedures_after (setting_of s) (world_of s).log old.position) c.args.procedure) c.in-Some-by_number.accepted.now (c.in-Some-by_number.ensures ∙ found) in
-    let few = c.if-len-ge-MAX_CALLS.false in
+    let few = c.if-len-world-ge-MAX_CALLS.false in
     let calls = c.len-2.ensures in
     let slots = map_count (λ slot. option_map (λ b. b.value) slot) c.args.world.now.calls.items in
     let all = calls_are s (call_slots c.args.world.now) c.requires.together in
@@ -96,11 +96,11 @@ returns-in-Ok-enter-clause-step g c =
     let count = c.len.ensures in
     let at = c.in-Some.at in
     let lt = place.1 in
-    let old = c.index.result.now in
-    let there = get_is s.replicas at old (omega arith) c.index.ensures in
+    let old = c.index-held.result.now in
+    let there = get_is s.replicas at old (omega arith) c.index-held.ensures in
     let found = in_procedures c.args.procedure c.procedures.result.now old.procedures c.procedures.ensures ∙ found_at s slots at c.args.procedure old c.replicas_follow_the_log.ensures.procedures c.requires.together there in
     let p = known (accepted_of s.catalogue.tables) (by_number (procedures_after (setting_of s) (world_of s).log old.position) c.args.procedure) c.in-Some-by_number.accepted.now (c.in-Some-by_number.ensures ∙ found) in
-    let few = c.if-len-ge-MAX_CALLS.false in
+    let few = c.if-len-world-ge-MAX_CALLS.false in
     let calls = c.len-2.ensures in
     let calls_3 = c.len-3.ensures in
     let all = map_count (λ slot. option_map (λ b. b.value) slot) c.args.world.now.calls.items in
@@ -120,8 +120,8 @@ returns-in-Ok-enter-clause-consistent g c =
     let count = c.len.ensures in
     let at = c.in-Some.at in
     let lt = place.1 in
-    let old = c.index.result.now in
-    let there = get_is s.replicas at old (omega arith) c.index.ensures in
+    let old = c.index-held.result.now in
+    let there = get_is s.replicas at old (omega arith) c.index-held.ensures in
     let found = in_procedures c.args.procedure c.procedures.result.now old.procedures c.procedures.ensures ∙ found_at s slots at c.args.procedure old c.replicas_follow_the_log.ensures.procedures c.requires.together there in
     let p = known (accepted_of s.catalogue.tables) (by_number (procedures_after (setting_of s) (world_of s).log old.position) c.args.procedure) c.in-Some-by_number.accepted.now (c.in-Some-by_number.ensures ∙ found) in
     let reached = has_reached s slots at old c.requires.together there in
@@ -131,7 +131,7 @@ returns-in-Ok-enter-clause-consistent g c =
     let world = c.steps_keep_a_world.ensures.step (setting_of s) (world_of s) (Begin c.args.replica c.args.procedure c.args.args.now None) _ _ (each_byte c.args.args.now (λ i. let f = c.type_inv.args i in omega (arith, f))) (returns-in-Ok-enter-clause-step g c) c.requires.together.world in
     record {
       together = subst (λ xs. IsTogether (with_slots s xs) xs) (sym c.in-Ok-enter.ensures.entered)
-    (call_entered s slots c.in-Ok.open_call c.requires.together (c.in-Ok.ensures.follows (setting_of s) (items_of s.entries) p.0 p.1 p.2 rows) (subst (λ xs. IsWorld (setting_of s) (world_of (with_slots s xs))) c.in-Ok-enter.ensures.entered world));
+    (call_entered s slots c.in-Ok.open_call c.requires.together (c.in-Ok.ensures.follows (setting_of s) (items_of s.entries) p.0 (ap (λ n. by_number (procedures_after (setting_of s) (items_of s.entries) n) c.args.procedure) snapshot ∙ p.1) p.2 rows) (subst (λ xs. IsWorld (setting_of s) (world_of (with_slots s xs))) c.in-Ok-enter.ensures.entered world));
       for_tables = c.requires.for_tables;
       additions = c.requires.additions;
     }
@@ -143,11 +143,11 @@ returns-in-Err-clause-step g c =
     let count = c.len.ensures in
     let at = c.in-Some.at in
     let lt = place.1 in
-    let old = c.index.result.now in
-    let there = get_is s.replicas at old (omega arith) c.index.ensures in
+    let old = c.index-held.result.now in
+    let there = get_is s.replicas at old (omega arith) c.index-held.ensures in
     let found = in_procedures c.args.procedure c.procedures.result.now old.procedures c.procedures.ensures ∙ found_at s (call_slots c.args.world.now) at c.args.procedure old c.replicas_follow_the_log.ensures.procedures c.requires.together there in
     let p = known (accepted_of s.catalogue.tables) (by_number (procedures_after (setting_of s) (world_of s).log old.position) c.args.procedure) c.in-Some-by_number.accepted.now (c.in-Some-by_number.ensures ∙ found) in
-    let few = c.if-len-ge-MAX_CALLS.false in
+    let few = c.if-len-world-ge-MAX_CALLS.false in
     let calls = c.len-2.ensures in
     let slots = map_count (λ slot. option_map (λ b. b.value) slot) c.args.world.now.calls.items in
     let all = calls_are s (call_slots c.args.world.now) c.requires.together in

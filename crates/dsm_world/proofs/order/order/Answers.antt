@@ -4,7 +4,7 @@ use Rattle.dsm_model.specs.declared.outcome.Outcome.TheVariants.{Cancelled, Read
 use Rattle.log_model.specs.Entries.{items_of}
 use Rattle.dsm_model.specs.World.{Order, IsStep}
 use Rattle.dsm_model.specs.Sound.{IsWorld}
-use Rattle.replica.specs.Replica.{Replica}
+use Rattle.replica.specs.Replica.{Replica, entries_of}
 use Rattle.world_calls.specs.OpenCall.{call_of, open_call_of, Follows, IsReplyOf, IsCompletion}
 use Rattle.world_calls.specs.declared.completion.Completion.TheVariants as completion
 use Rattle.world_calls.specs.declared.open_call.OpenCall.{OpenCall as OpenCallState}
@@ -12,7 +12,7 @@ use Rattle.dsm_world.specs.System.{setting_of, world_of}
 use Rattle.dsm_world.specs.Holdings.{system_of, call_slots, IsTogether}
 use Rattle.dsm_world.proofs.Numbered.{get_lt}
 use Rattle.dsm_world.proofs.StepLemmas.{order_no_call}
-use Rattle.dsm_world.proofs.CallLemmas.{with_slots, no_call, slot_changed, open_facts, call_replica, map_count, set_count, put_back, early, cancelled, read, IsToAppend, with_entries, append_steps, appended_together}
+use Rattle.dsm_world.proofs.CallLemmas.{with_slots, no_call, slot_changed, open_facts, call_replica, map_count, set_count, put_back, early, cancelled, read, IsToAppend, with_entries, append_steps, appended_together, one_more_for, same_additions}
 use Rattle.dsm_world.proofs.order.order.Goals as goal
 
 pub returns-in_default-clause-step : goal.returns-in_default-clause-step
@@ -49,7 +49,11 @@ returns-in_default-reply-clause-consistent g c =
     let slots = call_slots c.args.world.now in
     let o = c.in-Some.open_call.value in
     let put = c.put_call.ensures ∙ ap (λ xs. slice_set xs c.in-Some.at (Some o)) c.in-Some.ensures.taken ∙ put_back slots c.in-Some.at o c.in-Some.ensures.stood in
-    subst (λ xs. IsTogether (with_slots s xs) xs) (sym put) c.requires
+    record {
+      together = subst (λ xs. IsTogether (with_slots s xs) xs) (sym put) c.requires.together;
+      for_tables = c.requires.for_tables;
+      additions = c.requires.additions;
+    }
 
 pub overflow_sub-open_call : goal.overflow_sub-open_call
 overflow_sub-open_call g c =
@@ -101,8 +105,12 @@ returns-in-Cancelled-clause-consistent g c =
     let s = system_of c.args.world.now in
     let slots = call_slots c.args.world.now in
     let world = c.steps_keep_a_world.ensures.step (setting_of s) (world_of s) (Order c.args.call) _ _ tt (returns-in-Cancelled-clause-step g c) c.requires.together.world in
-    subst (λ xs. IsTogether (with_slots s xs) xs) (sym c.in-Some.ensures.taken)
-    (slot_changed s slots c.in-Some.at None c.requires.together (λ d bad. absurd cc) (subst (λ xs. IsWorld (setting_of s) (world_of (with_slots s xs))) c.in-Some.ensures.taken world))
+    record {
+      together = subst (λ xs. IsTogether (with_slots s xs) xs) (sym c.in-Some.ensures.taken)
+          (slot_changed s slots c.in-Some.at None c.requires.together (λ d bad. absurd cc) (subst (λ xs. IsWorld (setting_of s) (world_of (with_slots s xs))) c.in-Some.ensures.taken world));
+      for_tables = c.requires.for_tables;
+      additions = c.requires.additions;
+    }
 
 pub returns-in-Read-clause-step : goal.returns-in-Read-clause-step
 returns-in-Read-clause-step g c =
@@ -122,8 +130,12 @@ returns-in-Read-clause-consistent g c =
     let s = system_of c.args.world.now in
     let slots = call_slots c.args.world.now in
     let world = c.steps_keep_a_world.ensures.step (setting_of s) (world_of s) (Order c.args.call) _ _ tt (returns-in-Read-clause-step g c) c.requires.together.world in
-    subst (λ xs. IsTogether (with_slots s xs) xs) (sym c.in-Some.ensures.taken)
-    (slot_changed s slots c.in-Some.at None c.requires.together (λ d bad. absurd cc) (subst (λ xs. IsWorld (setting_of s) (world_of (with_slots s xs))) c.in-Some.ensures.taken world))
+    record {
+      together = subst (λ xs. IsTogether (with_slots s xs) xs) (sym c.in-Some.ensures.taken)
+          (slot_changed s slots c.in-Some.at None c.requires.together (λ d bad. absurd cc) (subst (λ xs. IsWorld (setting_of s) (world_of (with_slots s xs))) c.in-Some.ensures.taken world));
+      for_tables = c.requires.for_tables;
+      additions = c.requires.additions;
+    }
 
 pub returns-in-Wrote-clause-step : goal.returns-in-Wrote-clause-step
 returns-in-Wrote-clause-step g c =
@@ -151,6 +163,10 @@ returns-in-Wrote-clause-consistent g c =
     (c.in-Wrote.ensures (setting_of s) (items_of s.entries) (subst (λ (x : OpenCallState _). Follows (setting_of s) (items_of s.entries) x) (sym c.into_inner-open_call.ensures) f.follows)) in
     let a : IsToAppend s o c.in-Wrote.call = record { end = end.0; kept = done.0; some = done.1; call = done.2; carries = done.3; fits = done.4 } in
     let world = c.steps_keep_a_world.ensures.step (setting_of s) (world_of s) (Order c.args.call) _ _ tt (returns-in-Wrote-clause-step g c) c.requires.together.world in
-    subst (λ xs. IsTogether (with_entries (with_slots s xs) (entries_of c.append.new.entries.items)) xs) (sym c.in-Some.ensures.taken)
+    record {
+      together = subst (λ xs. IsTogether (with_entries (with_slots s xs) (entries_of c.append.new.entries.items)) xs) (sym c.in-Some.ensures.taken)
     (appended_together s slots c.args.call c.in-Some.at o c.in-Wrote.call c.append.result (entries_of c.append.new.entries.items) c.one_more_entry_carries_its_run.ensures c.requires.together c.in-Some.ensures.place f a c.append.ensures.appended
-    (subst (λ xs. IsWorld (setting_of s) (world_of (with_entries (with_slots s xs) (entries_of c.append.new.entries.items)))) c.in-Some.ensures.taken world))
+    (subst (λ xs. IsWorld (setting_of s) (world_of (with_entries (with_slots s xs) (entries_of c.append.new.entries.items)))) c.in-Some.ensures.taken world));
+      for_tables = one_more_for s.catalogue.tables c.args.world.now.entries.items c.append.new.entries.items c.in-Wrote.call c.append.ensures.left c.requires.for_tables;
+      additions = c.requires.additions ∙ sym (same_additions c.args.world.now.entries.items c.append.new.entries.items c.in-Wrote.call c.append.ensures.left);
+    }
