@@ -98,8 +98,8 @@ fn add_item<A: Allocator + Copy, B: Allocator>(
         ++ report_after setting.now log.now reports.old.items rows.old.items item.now ∷ []) }
     ensures rows { OnOk result (rows.new.items ≡ rows.old.items
         ++ rows_after_next setting.now log.now reports.old.items
-            (slice_index_or rows.old.items (length reports.old.items) empty) item.now
-            (report_after setting.now log.now reports.old.items rows.old.items item.now).verdict ∷ []) }
+        (slice_index_or rows.old.items (length reports.old.items) empty) item.now
+        (report_after setting.now log.now reports.old.items rows.old.items item.now).verdict ∷ []) }
 {
     let report = report_after(alloc, setting, log, reports, rows, item)?;
     let now = rows_at(rows, reports.len());
@@ -165,7 +165,14 @@ fn report_of_call<A: Allocator + Copy, B: Allocator>(
     ensures { IfOk result (λ report. report
         ≡ report_after setting.now log.now past.now rows.now (CallItem call.now)) }
 {
-    let run = run_of_call(alloc, setting, log, past, call, rows_at(rows, call.snapshot()))?;
+    let run = run_of_call(
+        alloc,
+        setting,
+        log,
+        past,
+        call,
+        rows_at(rows, call.snapshot()),
+    )?;
     let looks = looks_of(&run);
     let window = setting.window();
     let verdict = verdict_after(window, past, call, looks);
