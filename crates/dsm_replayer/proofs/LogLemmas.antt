@@ -7,20 +7,20 @@ use Rattle.std.proofs.lemmas.List.{append-nil, length-append, length-take-le, ta
 use Rattle.std.proofs.lemmas.List.Sums.{fold-append}
 use Rattle.std.proofs.lemmas.Option.{slice_get-get_or, slice_get_within}
 use Rattle.std.proofs.Math.ListN.{get_or-append, get_or-map}
-use Rattle.std.proofs.Math.Seq.{take-length, take-suc}
+use Rattle.std.proofs.Math.Seq.{take-suc}
 use Rattle.schema.specs.declared.look.Look.{Look}
 use Rattle.schema.specs.Rows.{Rows}
 use Rattle.bpf_semantics.specs.Run.{Run}
 use Rattle.log_model.specs.declared.request.RequestId.{RequestId}
 use Rattle.log_model.specs.declared.verdict.Verdict.{Verdict}
 use Rattle.log_model.specs.declared.verdict.Verdict.TheVariants.{Commit, Conflict, Stale, Repeated, Taken}
-use Rattle.log_model.specs.Log.{StoredProcedure, Catalogue, Setting, is_commit, Call, Item, CallItem, AdditionItem, Log, IsPlaced, IsLogFrom, IsLog, by_number, or_idle, run_of_procedure, run_of_call, CertifiedItem, verdict_after, verdict_on_addition, certified_call_after, certified_addition, certified_item, Database, first_database, database_at, database_now, database_after_item, History, start, with_item, if_commits, history, rows_after, procedures_after, run_in, verdict_of}
+use Rattle.log_model.specs.Log.{Setting, is_commit, Call, Item, CallItem, AdditionItem, Log, IsPlaced, IsLogFrom, IsLog, by_number, or_idle, run_of_procedure, run_of_call, CertifiedItem, verdict_after, verdict_on_addition, certified_call_after, certified_addition, certified_item, Database, first_database, database_at, database_now, database_after_item, History, start, with_item, if_commits, history, procedures_after, run_in, verdict_of}
 use Rattle.log_model.specs.Verdicts.{IsRepetition}
-use Rattle.log_model.specs.Comparisons.{comparisons_after, comparisons_of}
+use Rattle.log_model.specs.Comparisons.{comparisons_after}
 use Rattle.plain_log.specs.declared.item.PlainItemKind.{PlainItemKind}
 use Rattle.plain_log.specs.Kind.{item_of}
 use Rattle.plain_log.specs.Report.{Report, report_by_run, report_of_addition}
-use Rattle.dsm_replayer.specs.Replay.{IsReportOf, IsReportOfCall, IsReportOfAddition, reply_of_item, told_reply, added_by, added_from, procedures_of, procedures_at, certified_of, told_by, report_of_run, run_by, report_after, rows_after_next}
+use Rattle.dsm_replayer.specs.Replay.{IsReportOf, IsReportOfCall, reply_of_item, told_reply, added_by, added_from, procedures_of, procedures_at, certified_of, told_by, report_of_run, run_by, report_after, rows_after_next}
 use Rattle.dsm_replayer.proofs.CertifyLemmas.{length_map}
 use Rattle.dsm_replayer.proofs.ProcedureLemmas.{at_within, at_beyond, at_last, at_shorter, added_to, procedures_next}
 

@@ -1,4 +1,4 @@
-use Rattle.std.proofs.Common.{◌≡◌, ◌+◌, drop}
+use Rattle.std.proofs.Common.{◌≡◌, drop}
 use Rattle.log_model.specs.Log.{by_number}
 use Rattle.dsm_replayer.specs.Replay.{added_from}
 use Rattle.dsm_replayer.proofs.procedures.added_by_number.Given as goal
