@@ -5,7 +5,7 @@ use Rattle.bpf_semantics.specs.Run.{Run}
 use Rattle.log_model.specs.Log.{or_idle}
 use Rattle.plain_log.specs.Report.{Report}
 use Rattle.plain_log.proofs.RowLemmas.{no_entries}
-use Rattle.plain_log.proofs.report.CallReport.writes.Goals as goal
+use Rattle.plain_log.proofs.report.ItemReport.writes.Goals as goal
 
 pub returns-in-None : goal.returns-in-None
 returns-in-None g c =
