@@ -14,7 +14,7 @@ use Rattle.log_model.specs.declared.verdict.Verdict.{Verdict}
 use Rattle.dsm_model.specs.declared.outcome.StepRefusal.TheVariants.{NothingToDeliver, ReplicaStopped, OutOfMemory}
 use Rattle.dsm_model.specs.declared.outcome.Outcome.{Outcome}
 use Rattle.dsm_model.specs.declared.outcome.Outcome.TheVariants.{Delivered, Rebuilt, Refused}
-use Rattle.log_model.specs.Log.{Catalogue, Setting, Log, IsLog, IsPlaced, by_number, procedures_after, verdict_of}
+use Rattle.log_model.specs.Log.{Catalogue, Setting, Log, IsPlaced, by_number, procedures_after, verdict_of}
 use Rattle.log_model.specs.Entries.{Entry, item_of, items_of}
 use Rattle.dsm_model.specs.World as model
 use Rattle.dsm_model.specs.World.{World, Step, Deliver, Rebuild, numbered, with_replica, max_calls, IsStep}

@@ -12,13 +12,12 @@ use Rattle.catalogue.specs.Catalogue.{SystemCatalogue}
 use Rattle.log_model.specs.Fit.{HasSafeProcedures}
 use Rattle.dsm_model.specs.World.{World, Replica as ModelReplica, Step, first_world, numbered, IsStep, AreSteps}
 use Rattle.world_calls.specs.declared.open_call.OpenCall.{OpenCall as OpenCallState}
-use Rattle.std.specs.List.{AllByRecursion}
 use Rattle.dsm_model.specs.Sound.{IsGiven, AreGiven, IsWorld}
 use Rattle.dsm_world.specs.declared.step.Step.{Step as GivenStep}
 use Rattle.dsm_world.specs.System.{SystemWorld, setting_of, world_of, step_of, progress_of, KeepsDelivered}
 use Rattle.dsm_world.specs.Holdings.{IsReplicaOf, IsTogether}
 use Rattle.dsm_world.proofs.Numbered.{get_snoc}
-use Rattle.dsm_world.proofs.EntryLemmas.{take_drop, take_count, items_append, items_count, all_snoc, entries_taken}
+use Rattle.dsm_world.proofs.EntryLemmas.{take_drop, take_count, items_append, items_count, entries_taken}
 use Rattle.dsm_world.proofs.CallLemmas.{append_map}
 use Rattle.dsm_world.proofs.ReplicaLemmas.{has_reached, ProceduresFollow, procedures_held}
 

@@ -19,6 +19,7 @@ ghost use Rattle.dsm_world.specs.Holdings.{system_of, AreConsistentHoldings, IsR
 use crate::begin::begin;
 use crate::deliver::deliver;
 use crate::holdings::Holdings;
+use crate::numbers::index_of;
 use crate::order::order;
 use crate::rebuild::rebuild;
 use crate::step::Step;
@@ -216,18 +217,16 @@ impl<A: Allocator + Copy> World<A> {
     pub fn entry(&self, position: u32) -> Option<&Entry<A>>
         ensures { option_map (λ e. entry_of e.now) result ≡ numbered self.now.entries position }
     {
-        self.holdings
-            .entries
-            .get((position as usize).checked_sub(1)?)
+        let at = index_of(position, self.holdings.entries.len())?;
+        Some(&self.holdings.entries[at])
     }
 
     /// A replica, by its number from 1 on.
     pub fn replica(&self, number: u32) -> Option<&Replica<A>>
         ensures { option_map (λ r. r.now) result ≡ numbered self.now.replicas number }
     {
-        self.holdings
-            .replicas
-            .get((number as usize).checked_sub(1)?)
+        let at = index_of(number, self.holdings.replicas.len())?;
+        Some(&self.holdings.replicas[at])
     }
 
     /// The replicas, in the order of their numbers.

@@ -3,7 +3,6 @@ use Rattle.bpf_verify.specs.Flow.{Procedure}
 use Rattle.dsm_model.specs.declared.outcome.StepRefusal.TheVariants.{OutOfMemory}
 use Rattle.dsm_model.specs.declared.outcome.Outcome.TheVariants.{Begun, Refused}
 use Rattle.log_model.specs.Log.{by_number, no_request, procedures_after}
-use Rattle.stored_procedures.specs.Held.{ListedProcedure, listed_by_number}
 use Rattle.log_model.specs.Entries.{items_of}
 use Rattle.dsm_model.specs.World.{Begin, IsStep}
 use Rattle.catalogue.specs.Catalogue.{accepted_of}
@@ -131,7 +130,7 @@ returns-in-Ok-enter-clause-consistent g c =
     let world = c.steps_keep_a_world.ensures.step (setting_of s) (world_of s) (Begin c.args.replica c.args.procedure c.args.args.now None) _ _ (each_byte c.args.args.now (λ i. let f = c.type_inv.args i in omega (arith, f))) (returns-in-Ok-enter-clause-step g c) c.requires.together.world in
     record {
       together = subst (λ xs. IsTogether (with_slots s xs) xs) (sym c.in-Ok-enter.ensures.entered)
-    (call_entered s slots c.in-Ok.open_call c.requires.together (c.in-Ok.ensures.follows (setting_of s) (items_of s.entries) p.0 (ap (λ n. by_number (procedures_after (setting_of s) (items_of s.entries) n) c.args.procedure) snapshot ∙ p.1) p.2 rows) (subst (λ xs. IsWorld (setting_of s) (world_of (with_slots s xs))) c.in-Ok-enter.ensures.entered world));
+          (call_entered s slots c.in-Ok.open_call c.requires.together (c.in-Ok.ensures.follows (setting_of s) (items_of s.entries) p.0 (ap (λ n. by_number (procedures_after (setting_of s) (items_of s.entries) n) c.args.procedure) snapshot ∙ p.1) p.2 rows) (subst (λ xs. IsWorld (setting_of s) (world_of (with_slots s xs))) c.in-Ok-enter.ensures.entered world));
       for_tables = c.requires.for_tables;
       additions = c.requires.additions;
     }

@@ -1,4 +1,4 @@
-use Rattle.std.proofs.Common.{◌+◌, ◌≤◌, List, length, refl, sym, ap, subst, ◌∙◌, arith}
+use Rattle.std.proofs.Common.{◌+◌, length, refl, sym, ap, subst, ◌∙◌, arith}
 use Rattle.dsm_model.specs.declared.outcome.Outcome.TheVariants.{Delivered}
 use Rattle.log_entry.specs.Kind.{entry_of}
 use Rattle.std.proofs.lemmas.List.{length-map}
@@ -170,8 +170,8 @@ returns-in-Ok-clause-consistent g c =
     } in
     record {
       together = one_changed s (call_slots c.args.world.now) c.in-Some.at new c.requires.together
-    (delivered_replica s (call_slots c.args.world.now) c.in-Some.at old new e c.in-Ok.verdict c.tables_take_the_schemas_writes.ensures.kept c.requires.together at next d)
-    (c.steps_keep_a_world.ensures.step (setting_of s) (world_of s) (Deliver c.args.replica) _ (world_of (with_one s c.in-Some.at new)) tt (returns-in-Ok-clause-step g c) c.requires.together.world);
+          (delivered_replica s (call_slots c.args.world.now) c.in-Some.at old new e c.in-Ok.verdict c.tables_take_the_schemas_writes.ensures.kept c.requires.together at next d)
+          (c.steps_keep_a_world.ensures.step (setting_of s) (world_of s) (Deliver c.args.replica) _ (world_of (with_one s c.in-Some.at new)) tt (returns-in-Ok-clause-step g c) c.requires.together.world);
       for_tables = c.requires.for_tables;
       additions = c.requires.additions;
     }
@@ -219,8 +219,8 @@ returns-in-Err-clause-consistent g c =
     } in
     record {
       together = one_changed s (call_slots c.args.world.now) c.in-Some.at new c.requires.together
-    (stopped_replica s (call_slots c.args.world.now) c.in-Some.at old new c.tables_take_the_schemas_writes.ensures.kept c.requires.together at d)
-    (c.steps_keep_a_world.ensures.step (setting_of s) (world_of s) (Deliver c.args.replica) _ (world_of (with_one s c.in-Some.at new)) tt (returns-in-Err-clause-step g c) c.requires.together.world);
+          (stopped_replica s (call_slots c.args.world.now) c.in-Some.at old new c.tables_take_the_schemas_writes.ensures.kept c.requires.together at d)
+          (c.steps_keep_a_world.ensures.step (setting_of s) (world_of s) (Deliver c.args.replica) _ (world_of (with_one s c.in-Some.at new)) tt (returns-in-Err-clause-step g c) c.requires.together.world);
       for_tables = c.requires.for_tables;
       additions = c.requires.additions;
     }

@@ -165,8 +165,8 @@ returns-in-Wrote-clause-consistent g c =
     let world = c.steps_keep_a_world.ensures.step (setting_of s) (world_of s) (Order c.args.call) _ _ tt (returns-in-Wrote-clause-step g c) c.requires.together.world in
     record {
       together = subst (λ xs. IsTogether (with_entries (with_slots s xs) (entries_of c.append.new.entries.items)) xs) (sym c.in-Some.ensures.taken)
-    (appended_together s slots c.args.call c.in-Some.at o c.in-Wrote.call c.append.result (entries_of c.append.new.entries.items) c.one_more_entry_carries_its_run.ensures c.requires.together c.in-Some.ensures.place f a c.append.ensures.appended
-    (subst (λ xs. IsWorld (setting_of s) (world_of (with_entries (with_slots s xs) (entries_of c.append.new.entries.items)))) c.in-Some.ensures.taken world));
+          (appended_together s slots c.args.call c.in-Some.at o c.in-Wrote.call c.append.result (entries_of c.append.new.entries.items) c.one_more_entry_carries_its_run.ensures c.requires.together c.in-Some.ensures.place f a c.append.ensures.appended
+          (subst (λ xs. IsWorld (setting_of s) (world_of (with_entries (with_slots s xs) (entries_of c.append.new.entries.items)))) c.in-Some.ensures.taken world));
       for_tables = one_more_for s.catalogue.tables c.args.world.now.entries.items c.append.new.entries.items c.in-Wrote.call c.append.ensures.left c.requires.for_tables;
       additions = c.requires.additions ∙ sym (same_additions c.args.world.now.entries.items c.append.new.entries.items c.in-Wrote.call c.append.ensures.left);
     }

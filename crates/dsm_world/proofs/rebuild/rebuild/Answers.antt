@@ -73,8 +73,8 @@ returns-in-Ok-clause-consistent g c =
     let at = get_is s.replicas c.in-Some.at old (omega arith) c.index_mut.ensures.value in
     record {
       together = one_changed s (call_slots c.args.world.now) c.in-Some.at new c.requires.together
-    (rebuilt_replica s (call_slots c.args.world.now) c.in-Some.at old new c.requires.together at (subst (λ xs. StandsFor s.catalogue.procedures new (entries_of xs)) c.deref.ensures.value c.in-Ok.ensures.stands) c.in-Ok.ensures.window c.in-Ok.ensures.tables c.in-Ok.ensures.procedures)
-    (c.steps_keep_a_world.ensures.step (setting_of s) (world_of s) (Rebuild c.args.replica) _ (world_of (with_one s c.in-Some.at new)) tt (returns-in-Ok-clause-step g c) c.requires.together.world);
+          (rebuilt_replica s (call_slots c.args.world.now) c.in-Some.at old new c.requires.together at (subst (λ xs. StandsFor s.catalogue.procedures new (entries_of xs)) c.deref.ensures.value c.in-Ok.ensures.stands) c.in-Ok.ensures.window c.in-Ok.ensures.tables c.in-Ok.ensures.procedures)
+          (c.steps_keep_a_world.ensures.step (setting_of s) (world_of s) (Rebuild c.args.replica) _ (world_of (with_one s c.in-Some.at new)) tt (returns-in-Ok-clause-step g c) c.requires.together.world);
       for_tables = c.requires.for_tables;
       additions = c.requires.additions;
     }

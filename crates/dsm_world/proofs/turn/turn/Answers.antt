@@ -170,7 +170,7 @@ returns-clause-consistent g c =
     let world = c.steps_keep_a_world.ensures.step (setting_of s) (world_of s) (TurnStep c.args.call) _ _ tt (returns-clause-step g c) c.requires.together.world in
     record {
       together = subst (λ xs. IsTogether (with_slots s xs) xs) (sym put)
-    (slot_changed s slots c.in-Some.at (Some c.turn-answer.new.self) c.requires.together (λ d e. subst (λ x. Follows (setting_of s) (items_of s.entries) x) (some_is c.turn-answer.new.self d e) follows) (subst (λ xs. IsWorld (setting_of s) (world_of (with_slots s xs))) put world));
+          (slot_changed s slots c.in-Some.at (Some c.turn-answer.new.self) c.requires.together (λ d e. subst (λ x. Follows (setting_of s) (items_of s.entries) x) (some_is c.turn-answer.new.self d e) follows) (subst (λ xs. IsWorld (setting_of s) (world_of (with_slots s xs))) put world));
       for_tables = c.requires.for_tables;
       additions = c.requires.additions;
     }
