@@ -65,6 +65,10 @@ pub record StandsForLatest (m : Latest) (past : List CertifiedItem) : Type 0 whe
 abbrev pub key_of : RequestId → ℕ
 key_of request = request.session * 2 ^ 32 + request.sequence
 
+-- session and sequence number aren't both 0
+abbrev pub IsGivenRequest : RequestId → Type 0
+IsGivenRequest request = not (request.session == 0 && request.sequence == 0) ≡ true
+
 pub record IsRequest (request : RequestId) : Type 0 where
   pub session : request.session < 2 ^ 32
   pub sequence : request.sequence < 2 ^ 32

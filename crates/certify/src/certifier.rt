@@ -5,10 +5,10 @@ ghost use Rattle.log_model.specs.Log.{CertifiedItem, verdict_after};
 ghost use Rattle.log_model.specs.Comparisons.{comparisons_after};
 ghost use Rattle.std.specs.FinMap.{empty};
 ghost use Rattle.log_model.specs.Log.{no_request};
-ghost use Rattle.certify.specs.Kept.{IsPreparedOf, StandsFor};
+ghost use Rattle.certify.specs.Kept.{IsGivenRequest, IsPreparedOf, StandsFor};
 
 use crate::prepared::{Prepared, prepared_of};
-use crate::requests::{Requests, keep_request, repeated_in};
+use crate::requests::{Requests, is_none, keep_request, repeated_in};
 use crate::ring::{empty_blocks, empty_writes, keep_in};
 use crate::search::find_verdict;
 use log_model::{Verdict, RequestId};
@@ -114,30 +114,28 @@ impl<A: Allocator + Copy> Certifier<A> {
         self.compared
     }
 
-    /// What will be kept of a call, and room for its request.
+    /// What will be kept of a call, and room for its request where it has one.
     pub fn prepare<B: Allocator + Copy>(
         &mut self,
         entry: &ExecutedCall<B>,
     ) -> Result<Prepared<A>, AllocError>
         ensures keys { IfOk result (λ p. IsPreparedOf p entry.now.writes) }
         ensures request { IfOk result (λ p. p.request ≡ entry.now.call.request) }
-        ensures room { OnOk result (0 < self.new.room) }
+        ensures room { OnOk result (IsGivenRequest entry.now.call.request → 0 < self.new.room) }
         ensures memory { self.new.memory ≡ self.old.memory }
         ensures compared { self.new.compared ≡ self.old.compared }
     {
-        self.requests.reserve(1)?;
+        if !is_none(entry.request) {
+            self.requests.reserve(1)?;
+        }
         prepared_of(self.alloc, entry.request, &entry.writes)
     }
 
-    /// What will be kept of an addition: nothing, and room.
-    pub fn prepare_addition(&mut self) -> Result<Prepared<A>, AllocError>
+    /// What will be kept of an addition: nothing.
+    pub fn prepare_addition(&self) -> Result<Prepared<A>, AllocError>
         ensures keys { IfOk result (λ p. IsPreparedOf p empty) }
         ensures request { IfOk result (λ p. p.request ≡ no_request) }
-        ensures room { OnOk result (0 < self.new.room) }
-        ensures memory { self.new.memory ≡ self.old.memory }
-        ensures compared { self.new.compared ≡ self.old.compared }
     {
-        self.requests.reserve(1)?;
         let none = RequestId {
             session: 0,
             sequence: 0,
@@ -148,7 +146,7 @@ impl<A: Allocator + Copy> Certifier<A> {
     /// Keeps an item of this verdict, which stands at the next position. Takes no memory.
     pub fn keep(&mut self, position: u32, verdict: Verdict, prepared: Prepared<A>)
         requires next { position ≡ self.old.memory.count + 1 }
-        requires room { 0 < self.old.room }
+        requires room { IsGivenRequest prepared.request → 0 < self.old.room }
         ensures stands { (past : List CertifiedItem) (c : CertifiedItem) → StandsFor self.old.memory past
             → c.verdict ≡ verdict → c.request ≡ prepared.request → IsPreparedOf prepared c.writes → StandsFor self.new.memory (past ++ c ∷ []) }
         ensures window { self.new.memory.window ≡ self.old.memory.window }

@@ -3,7 +3,7 @@
 ghost use Rattle.std.specs.Prelude.{◌≡◌, ◌+◌, ◌<◌, ◌^◌, ◌==◌, ◌&&◌, [], ◌∷◌, ◌++◌, List, length};
 ghost use Rattle.indexmap.specs.IndexMap.{spare};
 ghost use Rattle.log_model.specs.Log.{CertifiedItem, is_commit, repeats, first_position};
-ghost use Rattle.certify.specs.Kept.{key_of, KeepsRequests};
+ghost use Rattle.certify.specs.Kept.{key_of, IsGivenRequest, KeepsRequests};
 
 use crate::ring::is_commit;
 use log_model::{RequestId, Verdict};
@@ -22,7 +22,7 @@ fn key_of(request: RequestId) -> u64
 }
 
 /// Whether there is no request.
-fn is_none(request: RequestId) -> bool
+pub(crate) fn is_none(request: RequestId) -> bool
     ensures none { result ≡ (request.session == 0 && request.sequence == 0) }
     // What their type says of the numbers.
     ensures session { request.session < 2 ^ 32 }
@@ -52,7 +52,7 @@ pub(crate) fn keep_request<A: Allocator>(
     verdict: Verdict,
     position: u32,
 )
-    requires room { 0 < spare requests.old }
+    requires room { IsGivenRequest request → 0 < spare requests.old }
     ensures { (past : List CertifiedItem) (c : CertifiedItem) → length past + 1 ≡ position
         → c.verdict ≡ verdict → c.request ≡ request → KeepsRequests requests.old.entries past
         → KeepsRequests requests.new.entries (past ++ c ∷ []) }
