@@ -1,35 +1,25 @@
 -- The catalogue of a database: its tables, and its stored procedures in order of entry.
-use Rattle.std.specs.Prelude.{◌≡◌, ℕ, List, Option, find, All, map, nat_eq, true}
+use Rattle.std.specs.Prelude.{◌≡◌, All, map, nat_eq, true}
 use Rattle.std.specs.List.{IsDistinct}
 use Rattle.std.specs.Str.{bytes_eq}
 use Rattle.bpf_code.specs.Program.{IsProgram}
 use Rattle.schema.specs.Schema.{Tables, AreTables}
 use Rattle.bpf_verify.specs.Flow.{Procedure, IsAccepted}
 use Rattle.log_model.specs.Log.{StoredProcedure, Catalogue}
-use Rattle.catalogue.specs.Name.{is_name}
+use Rattle.log_model.specs.Name.{is_name}
+use Rattle.stored_procedures.specs.Held.{ListedProcedure}
+pub use Rattle.log_model.specs.Log.{by_name}
+pub use Rattle.stored_procedures.specs.Held.{stored_of}
 
 pub record SystemCatalogue : Type 0 where
   pub tables : Tables
   pub procedures : Catalogue
-
--- the procedure of a name
-abbrev pub by_name : Catalogue → List ℕ → Option StoredProcedure
-by_name procedures name = find (λ p. bytes_eq p.name name) procedures
-
--- an accepted program, stored under a name and a number
-abbrev pub stored_of : List ℕ → ℕ → Procedure → StoredProcedure
-stored_of name number accepted = record { name = name; number = number; program = accepted.program; args_len = accepted.args_len }
 
 -- the program of a stored procedure, as it is accepted for some tables
 abbrev pub accepted_of : Tables → StoredProcedure → Procedure
 accepted_of tables p = record { program = p.program; tables = tables; args_len = p.args_len }
 
 -- a stored procedure as it is listed
-pub record ListedProcedure : Type 0 where
-  pub name : List ℕ
-  pub number : ℕ
-  pub accepted : Procedure
-
 abbrev pub listed_of : Tables → StoredProcedure → ListedProcedure
 listed_of tables p = record { name = p.name; number = p.number; accepted = accepted_of tables p }
 

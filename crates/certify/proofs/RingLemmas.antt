@@ -7,7 +7,7 @@ use Rattle.std.proofs.Math.Nat.{mod-lt}
 use Rattle.schema.specs.Rows.{Writes}
 use Rattle.sig_lanes.specs.Bits.{has_bit, signature_at}
 use Rattle.log_model.specs.declared.verdict.Verdict.{Verdict}
-use Rattle.log_model.specs.Log.{CertifiedCall, is_commit}
+use Rattle.log_model.specs.Log.{CertifiedItem, is_commit}
 use Rattle.certify.specs.Kept.{PreparedCall, IsPreparedOf, ShareAlike, Ring, IsKept, Keeps}
 use Rattle.certify.proofs.ListLemmas.{get_one_more}
 use Rattle.certify.proofs.PlaceLemmas.{places_apart}
@@ -21,7 +21,7 @@ pub record IsPut (old new : Ring) (before : ℕ) (verdict : Verdict) (p : Prepar
   pub others : (other : ℕ) → other ≢ before % length old.writes
       → signature_at (slice_index_or new.blocks (other / 8) []) (other % 8) ≡ signature_at (slice_index_or old.blocks (other / 8) []) (other % 8)
 
-kept_new : (old new : Ring) (before : ℕ) (p : PreparedCall) (c : CertifiedCall) → 0 < length old.writes → IsPut old new before c.verdict p → IsPreparedOf p c.writes → IsKept new before c
+kept_new : (old new : Ring) (before : ℕ) (p : PreparedCall) (c : CertifiedItem) → 0 < length old.writes → IsPut old new before c.verdict p → IsPreparedOf p c.writes → IsKept new before c
 kept_new old new before p c some put is =
     let place : before % length new.writes ≡ before % length old.writes = ap (λ (n : ℕ). before % n) put.count in
     record {
@@ -35,7 +35,7 @@ kept_new old new before p c some put is =
           ∙ get_or-set_same old.writes (before % length old.writes) p.writes empty (mod-lt before some))) is.keys;
     }
 
-kept_old : (old new : Ring) (before other : ℕ) (verdict : Verdict) (p : PreparedCall) (c : CertifiedCall) → other % length old.writes ≢ before % length old.writes → IsPut old new before verdict p → IsKept old other c → IsKept new other c
+kept_old : (old new : Ring) (before other : ℕ) (verdict : Verdict) (p : PreparedCall) (c : CertifiedItem) → other % length old.writes ≢ before % length old.writes → IsPut old new before verdict p → IsKept old other c → IsKept new other c
 kept_old old new before other verdict p c apart put is =
     let place : other % length new.writes ≡ other % length old.writes = ap (λ (n : ℕ). other % n) put.count in
     record {
@@ -49,7 +49,7 @@ kept_old old new before other verdict p c apart put is =
           ∙ get_or-set_other old.writes (before % length old.writes) (other % length old.writes) p.writes empty apart)) is.keys;
     }
 
-pub keeps_one_more : (old new : Ring) (past : List CertifiedCall) (before : ℕ) (verdict : Verdict) (p : PreparedCall) (c : CertifiedCall) → 0 < length old.writes → length past ≡ before → c.verdict ≡ verdict
+pub keeps_one_more : (old new : Ring) (past : List CertifiedItem) (before : ℕ) (verdict : Verdict) (p : PreparedCall) (c : CertifiedItem) → 0 < length old.writes → length past ≡ before → c.verdict ≡ verdict
     → IsPut old new before verdict p → IsPreparedOf p c.writes → Keeps old past → Keeps new (past ++ c ∷ [])
 keeps_one_more old new past before verdict p c some count same put is keeps other x stands near =
     let more : length (past ++ c ∷ []) ≡ length past + 1 = length-append past (c ∷ []) in

@@ -1,14 +1,17 @@
 -- What a certifier keeps, and the delivered calls for which it stands.
-use Rattle.std.specs.Prelude.{◌≡◌, ℕ, ◌+◌, ◌*◌, ◌/◌, ◌%◌, ◌<◌, ◌≤◌, ◌&&◌, List, [], length, slice_get, slice_index_or, Some}
+use Rattle.std.specs.Prelude.{◌≡◌, ℕ, ◌+◌, ◌*◌, ◌/◌, ◌%◌, ◌<◌, ◌≤◌, ◌^◌, ◌==◌, ◌&&◌, not, true, List, [], length, slice_get, slice_index_or, Some, nat_eq}
+use Rattle.std.specs.Map.{lookup}
 use Rattle.std.specs.FinMap.{empty}
 use Rattle.schema.specs.declared.look.Look.{Look}
 use Rattle.schema.specs.Rows.{Writes, shares_key}
 use Rattle.row_model.specs.Signature.{writes_set_bit}
 use Rattle.sig_lanes.specs.Bits.{has_bit, signature_at}
-use Rattle.log_model.specs.Log.{CertifiedCall, is_commit}
+use Rattle.log_model.specs.declared.request.RequestId.{RequestId}
+use Rattle.log_model.specs.Log.{CertifiedItem, is_commit, repeats, first_position}
 
--- of one call, ready to be kept: its signature, and writes of its keys
+-- of one item, ready to be kept: its request, its signature, and writes of its keys
 pub record PreparedCall : Type 0 where
+  pub request : RequestId
   pub signature : List ℕ
   pub writes : Writes
 
@@ -40,25 +43,55 @@ abbrev pub writes_of : Ring → ℕ → Writes
 writes_of ring before = slice_index_or ring.writes (place_of ring before) empty
 
 -- the signature is the call's, where it committed, and else has no bits
-pub record IsKept (ring : Ring) (before : ℕ) (c : CertifiedCall) : Type 0 where
+pub record IsKept (ring : Ring) (before : ℕ) (c : CertifiedItem) : Type 0 where
   pub signature : (bit : ℕ) → bit < 1024 → has_bit (signature_of ring before) bit ≡ (is_commit c.verdict && writes_set_bit c.writes bit)
   pub keys : ShareAlike (writes_of ring before) c.writes
 
 -- as many of the latest calls as there are places
-abbrev pub Keeps : Ring → List CertifiedCall → Type 0
-Keeps ring past = (before : ℕ) (c : CertifiedCall) → slice_get past before ≡ Some c → length past ≤ before + length ring.writes → IsKept ring before c
+abbrev pub Keeps : Ring → List CertifiedItem → Type 0
+Keeps ring past = (before : ℕ) (c : CertifiedItem) → slice_get past before ≡ Some c → length past ≤ before + length ring.writes → IsKept ring before c
 
--- the window, how many calls were delivered, and what is kept of the latest
-pub record Memory : Type 0 where
+-- the window, how many items were delivered, and what is kept of the latest
+pub record Latest : Type 0 where
   pub window : ℕ
   pub count : ℕ
   pub ring : Ring
 
-pub record StandsFor (m : Memory) (past : List CertifiedCall) : Type 0 where
+pub record StandsForLatest (m : Latest) (past : List CertifiedItem) : Type 0 where
   pub count : m.count ≡ length past
   pub kept : Keeps m.ring past
 
--- what is kept, and how many exact comparisons the last verdict made
+-- a request, as one number
+abbrev pub key_of : RequestId → ℕ
+key_of request = request.session * 2 ^ 32 + request.sequence
+
+-- session and sequence number aren't both 0
+abbrev pub IsGivenRequest : RequestId → Type 0
+IsGivenRequest request = not (request.session == 0 && request.sequence == 0) ≡ true
+
+pub record IsRequest (request : RequestId) : Type 0 where
+  pub session : request.session < 2 ^ 32
+  pub sequence : request.sequence < 2 ^ 32
+  pub one : not (request.session == 0 && request.sequence == 0) ≡ true
+
+-- under each request the position of the first committed call that carries it, for good
+abbrev pub KeepsRequests : List (ℕ × ℕ) → List CertifiedItem → Type 0
+KeepsRequests entries past = (request : RequestId) → IsRequest request → lookup (nat_eq (key_of request)) entries ≡ first_position (repeats request) 1 past
+
+-- with the requests of all that committed
+pub record Memory : Type 0 where
+  pub window : ℕ
+  pub count : ℕ
+  pub ring : Ring
+  pub requests : List (ℕ × ℕ)
+
+pub record StandsFor (m : Memory) (past : List CertifiedItem) : Type 0 where
+  pub count : m.count ≡ length past
+  pub kept : Keeps m.ring past
+  pub requests : KeepsRequests m.requests past
+
+-- what is kept, how many exact comparisons the last verdict made, and for how many requests more there is room
 pub record CertifierState : Type 0 where
   pub memory : Memory
   pub compared : ℕ
+  pub room : ℕ

@@ -1,22 +1,26 @@
 //! Verdicts on calls in the order of their delivery.
 
-ghost use Rattle.std.specs.Prelude.{◌≡◌, ◌+◌, ◌<◌, ◌≤◌, ◌^◌, ◌++◌, [], ◌∷◌, List, length, IfOk, IfSome};
-ghost use Rattle.log_model.specs.Log.{CertifiedCall, verdict_after};
+ghost use Rattle.std.specs.Prelude.{◌≡◌, ◌+◌, ◌<◌, ◌≤◌, ◌^◌, ◌++◌, [], ◌∷◌, List, length, IfOk, OnOk, IfSome};
+ghost use Rattle.log_model.specs.Log.{CertifiedItem, verdict_after};
 ghost use Rattle.log_model.specs.Comparisons.{comparisons_after};
-ghost use Rattle.certify.specs.Kept.{IsPreparedOf, StandsFor};
+ghost use Rattle.std.specs.FinMap.{empty};
+ghost use Rattle.log_model.specs.Log.{no_request};
+ghost use Rattle.certify.specs.Kept.{IsGivenRequest, IsPreparedOf, StandsFor};
 
 use crate::prepared::{Prepared, prepared_of};
+use crate::requests::{Requests, is_none, keep_request, repeated_in};
 use crate::ring::{empty_blocks, empty_writes, keep_in};
 use crate::search::find_verdict;
-use log_entry::Entry;
-use log_model::Verdict;
+use log_model::{Verdict, RequestId};
+use indexmap::IndexMap;
+use log_entry::ExecutedCall;
 use row_sets::WriteSet;
 use sig_lanes::Block;
 use std::alloc::{AllocError, Allocator, Global};
 use std::marker::Model;
 
 /// Verdicts on calls in the order of their delivery, by what was kept of the latest. Contracts see that, and how many
-/// exact comparisons the last verdict made.
+/// exact comparisons the last verdict made and for how many requests more there is room.
 #[derive(Drop)]
 pub struct Certifier<A: Allocator + Copy = Global> {
     alloc: A,
@@ -25,10 +29,12 @@ pub struct Certifier<A: Allocator + Copy = Global> {
     compared: u64,
     blocks: Vec<Block, A>,
     writes: Vec<WriteSet<A>, A>,
+    requests: Requests<A>,
 }
 
 impl<A: Allocator + Copy> Model for Certifier<A> {
     ghost use Rattle.std.specs.Prelude.{◌≤◌, ◌<◌, ◌^◌, length};
+    ghost use Rattle.indexmap.specs.IndexMap.{spare};
     ghost use Rattle.certify.specs.Kept.{CertifierState, HasPlaces};
     ghost use Rattle.certify.specs.Codes.{state_code};
 
@@ -37,8 +43,14 @@ impl<A: Allocator + Copy> Model for Certifier<A> {
     ghost coded = { state_code };
 
     ghost view = { λ c. record {
-      memory = record { window = c.window; count = c.count; ring = record { blocks = c.blocks.items; writes = c.writes.items } };
+      memory = record {
+        window = c.window;
+        count = c.count;
+        ring = record { blocks = c.blocks.items; writes = c.writes.items };
+        requests = c.requests.entries;
+      };
       compared = c.compared;
+      room = spare c.requests;
     } };
 
     ghost invariant = { λ c. HasPlaces (record { blocks = c.blocks.items; writes = c.writes.items }) × (c.window ≤ length c.writes.items) };
@@ -61,19 +73,28 @@ impl<A: Allocator + Copy> Certifier<A> {
             compared: 0,
             blocks,
             writes,
+            requests: IndexMap::new(alloc),
         })
     }
 
     /// The verdict on a call at the next position. Takes no memory.
-    pub fn verdict<B: Allocator + Copy>(&mut self, entry: &Entry<B>, position: u32) -> Verdict
+    pub fn verdict<B: Allocator + Copy>(
+        &mut self,
+        entry: &ExecutedCall<B>,
+        position: u32,
+    ) -> Verdict
         requires next { position ≡ self.old.memory.count + 1 }
         requires snapshot { entry.now.call.snapshot < position }
-        ensures verdict { (past : List CertifiedCall) → StandsFor self.old.memory past
+        ensures verdict { (past : List CertifiedItem) → StandsFor self.old.memory past
             → result ≡ verdict_after self.old.memory.window past entry.now.call entry.now.looks }
-        ensures compared { (past : List CertifiedCall) → StandsFor self.old.memory past
+        ensures compared { (past : List CertifiedItem) → StandsFor self.old.memory past
             → self.new.compared ≡ length (comparisons_after self.old.memory.window past entry.now.call entry.now.looks) }
         ensures memory { self.new.memory ≡ self.old.memory }
     {
+        if let Some(repeated) = repeated_in(&self.requests, entry.request) {
+            self.compared = 0;
+            return Verdict::Repeated(repeated);
+        }
         let (verdict, compared) = find_verdict(
             self.window,
             self.count,
@@ -93,23 +114,50 @@ impl<A: Allocator + Copy> Certifier<A> {
         self.compared
     }
 
-    /// What will be kept of a call.
-    pub fn prepare<B: Allocator + Copy>(&self, entry: &Entry<B>) -> Result<Prepared<A>, AllocError>
-        ensures { IfOk result (λ p. IsPreparedOf p entry.now.writes) }
+    /// What will be kept of a call, and room for its request where it has one.
+    pub fn prepare<B: Allocator + Copy>(
+        &mut self,
+        entry: &ExecutedCall<B>,
+    ) -> Result<Prepared<A>, AllocError>
+        ensures keys { IfOk result (λ p. IsPreparedOf p entry.now.writes) }
+        ensures request { IfOk result (λ p. p.request ≡ entry.now.call.request) }
+        ensures room { OnOk result (IsGivenRequest entry.now.call.request → 0 < self.new.room) }
+        ensures memory { self.new.memory ≡ self.old.memory }
+        ensures compared { self.new.compared ≡ self.old.compared }
     {
-        prepared_of(self.alloc, &entry.writes)
+        if !is_none(entry.request) {
+            self.requests.reserve(1)?;
+        }
+        prepared_of(self.alloc, entry.request, &entry.writes)
     }
 
-    /// Keeps a call of this verdict, which stands at the next position. Takes no memory.
+    /// What will be kept of an addition: nothing.
+    pub fn prepare_addition(&self) -> Result<Prepared<A>, AllocError>
+        ensures keys { IfOk result (λ p. IsPreparedOf p empty) }
+        ensures request { IfOk result (λ p. p.request ≡ no_request) }
+    {
+        let none = RequestId {
+            session: 0,
+            sequence: 0,
+        };
+        prepared_of(self.alloc, none, &WriteSet::new(self.alloc))
+    }
+
+    /// Keeps an item of this verdict, which stands at the next position. Takes no memory.
     pub fn keep(&mut self, position: u32, verdict: Verdict, prepared: Prepared<A>)
-        requires { position ≡ self.old.memory.count + 1 }
-        ensures stands { (past : List CertifiedCall) (c : CertifiedCall) → StandsFor self.old.memory past
-            → c.verdict ≡ verdict → IsPreparedOf prepared c.writes → StandsFor self.new.memory (past ++ c ∷ []) }
+        requires next { position ≡ self.old.memory.count + 1 }
+        requires room { IsGivenRequest prepared.request → 0 < self.old.room }
+        ensures stands { (past : List CertifiedItem) (c : CertifiedItem) → StandsFor self.old.memory past
+            → c.verdict ≡ verdict → c.request ≡ prepared.request → IsPreparedOf prepared c.writes → StandsFor self.new.memory (past ++ c ∷ []) }
         ensures window { self.new.memory.window ≡ self.old.memory.window }
         ensures count { self.new.memory.count ≡ position }
         ensures compared { self.new.compared ≡ self.old.compared }
     {
-        let Prepared { signature, writes } = prepared;
+        let Prepared {
+            request,
+            signature,
+            writes,
+        } = prepared;
         let before = self.count as usize;
         keep_in(
             &mut self.blocks,
@@ -119,6 +167,7 @@ impl<A: Allocator + Copy> Certifier<A> {
             &signature,
             writes,
         );
+        keep_request(&mut self.requests, request, verdict, position);
         self.count = position;
     }
 }

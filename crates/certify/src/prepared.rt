@@ -5,15 +5,17 @@ ghost use Rattle.std.specs.FinMap.{get};
 ghost use Rattle.schema.specs.Rows.{Key};
 ghost use Rattle.certify.specs.Kept.{IsPreparedOf};
 
+use log_model::RequestId;
 use row_sets::WriteSet;
 use schema::writes_share_a_key_with_looks;
 use sig_lanes::Sig;
 use std::alloc::{AllocError, Allocator, Global};
 use std::marker::Model;
 
-/// What will be kept of a call, in memory of its own. Contracts see its signature and writes of its keys.
+/// What will be kept of an item, in memory of its own. Contracts see its request, its signature and writes of its keys.
 #[derive(Drop)]
 pub struct Prepared<A: Allocator + Copy = Global> {
+    pub(crate) request: RequestId,
     pub(crate) signature: Sig,
     pub(crate) writes: WriteSet<A>,
 }
@@ -26,7 +28,7 @@ impl<A: Allocator + Copy> Model for Prepared<A> {
 
     ghost coded = { prepared_code };
 
-    ghost view = { λ p. record { signature = p.signature; writes = p.writes } };
+    ghost view = { λ p. record { request = p.request; signature = p.signature; writes = p.writes } };
 }
 
 /// A removal of each written key: with looks it shares a key where the writes do.
@@ -43,15 +45,21 @@ fn removals<A: Allocator + Copy, B: Allocator + Copy>(
     Ok(copy)
 }
 
-/// What will be kept of a call that wrote this.
+/// What will be kept of a call that carried this request and wrote this.
 pub(crate) fn prepared_of<A: Allocator + Copy, B: Allocator + Copy>(
     alloc: A,
+    request: RequestId,
     writes: &WriteSet<B>,
 ) -> Result<Prepared<A>, AllocError>
-    ensures { IfOk result (λ p. IsPreparedOf p writes.now) }
+    ensures keys { IfOk result (λ p. IsPreparedOf p writes.now) }
+    ensures request { IfOk result (λ p. p.request ≡ request) }
 {
     writes_share_a_key_with_looks();
     let signature = Sig::of_writes(writes);
     let writes = removals(alloc, writes)?;
-    Ok(Prepared { signature, writes })
+    Ok(Prepared {
+        request,
+        signature,
+        writes,
+    })
 }

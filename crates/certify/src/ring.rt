@@ -3,7 +3,7 @@
 ghost use Rattle.std.specs.Prelude.{◌≡◌, ◌≢◌, ◌/◌, ◌%◌, ◌<◌, ◌&&◌, ℕ, [], length, slice_index_or, slice_set, IfOk};
 ghost use Rattle.std.specs.Prelude.{List, ◌∷◌, ◌++◌};
 ghost use Rattle.sig_lanes.specs.Bits.{has_bit, signature_at};
-ghost use Rattle.log_model.specs.Log.{CertifiedCall, is_commit};
+ghost use Rattle.log_model.specs.Log.{CertifiedItem, is_commit};
 ghost use Rattle.certify.specs.Kept.{HasPlaces, IsPreparedOf, Keeps};
 
 use log_model::Verdict;
@@ -65,7 +65,7 @@ fn put_writes<A: Allocator + Copy>(all: &mut Vec<WriteSet<A>, A>, place: usize, 
     all[place] = writes;
 }
 
-fn is_commit(verdict: Verdict) -> bool
+pub(crate) fn is_commit(verdict: Verdict) -> bool
     ensures { result ≡ is_commit verdict }
 {
     matches!(verdict, Verdict::Commit)
@@ -83,8 +83,8 @@ pub fn keep_in<A: Allocator + Copy>(
     requires { HasPlaces (record { blocks = blocks.old.items; writes = kept.old.items }) }
     ensures blocks { length blocks.new.items ≡ length blocks.old.items }
     ensures writes { length kept.new.items ≡ length kept.old.items }
-    ensures kept { (past : List CertifiedCall) (c : CertifiedCall) → length past ≡ before → c.verdict ≡ verdict
-        → IsPreparedOf (record { signature = signature.now; writes = writes }) c.writes
+    ensures kept { (past : List CertifiedItem) (c : CertifiedItem) → length past ≡ before → c.verdict ≡ verdict
+        → IsPreparedOf (record { request = c.request; signature = signature.now; writes = writes }) c.writes
         → Keeps (record { blocks = blocks.old.items; writes = kept.old.items }) past
         → Keeps (record { blocks = blocks.new.items; writes = kept.new.items }) (past ++ c ∷ []) }
 {

@@ -4,9 +4,10 @@ ghost use Rattle.std.specs.Prelude.{◌≡◌, ◌==◌, ◌↔◌, Bool, List, 
 ghost use Rattle.std.specs.Int.{bit_at};
 ghost use Rattle.row_model.specs.Signature.{looks_set_bit};
 ghost use Rattle.sig_lanes.specs.Bits.{has_bit};
-ghost use Rattle.log_model.specs.Log.{Call, CertifiedCall, verdict_after};
+ghost use Rattle.std.specs.Prelude.{None};
+ghost use Rattle.log_model.specs.Log.{Call, CertifiedItem, first_repeated, verdict_after};
 ghost use Rattle.log_model.specs.Comparisons.{comparisons_after};
-ghost use Rattle.certify.specs.Kept.{HasPlaces, StandsFor};
+ghost use Rattle.certify.specs.Kept.{HasPlaces, StandsForLatest};
 ghost use Rattle.certify.specs.Search.{search, lane_met, kept_shares, Meets};
 
 use log_model::Verdict;
@@ -120,7 +121,8 @@ pub fn search_since<A: Allocator + Copy, B: Allocator>(
     }
 }
 
-/// The verdict on a call of this snapshot and these looks that has so many before it, and how many exact comparisons it takes.
+/// The verdict on a call of this snapshot and these looks that has so many before it and repeats none of them, and how many
+/// exact comparisons it takes.
 pub fn find_verdict<A: Allocator + Copy, B: Allocator>(
     window: u32,
     count: u32,
@@ -132,11 +134,11 @@ pub fn find_verdict<A: Allocator + Copy, B: Allocator>(
     requires places { HasPlaces (record { blocks = blocks.now; writes = kept.now }) }
     requires enough { window ≤ length kept.now }
     requires snapshot { snapshot ≤ count }
-    ensures verdict { (past : List CertifiedCall) (call : Call) → call.snapshot ≡ snapshot
-        → StandsFor (record { window = window; count = count; ring = record { blocks = blocks.now; writes = kept.now } }) past
+    ensures verdict { (past : List CertifiedItem) (call : Call) → call.snapshot ≡ snapshot → first_repeated past call ≡ None
+        → StandsForLatest (record { window = window; count = count; ring = record { blocks = blocks.now; writes = kept.now } }) past
         → result.0 ≡ verdict_after window past call reads.now }
-    ensures compared { (past : List CertifiedCall) (call : Call) → call.snapshot ≡ snapshot
-        → StandsFor (record { window = window; count = count; ring = record { blocks = blocks.now; writes = kept.now } }) past
+    ensures compared { (past : List CertifiedItem) (call : Call) → call.snapshot ≡ snapshot → first_repeated past call ≡ None
+        → StandsForLatest (record { window = window; count = count; ring = record { blocks = blocks.now; writes = kept.now } }) past
         → result.1 ≡ length (comparisons_after window past call reads.now) }
 {
     shared_bits_are_of_both();

@@ -2,12 +2,15 @@
 use Rattle.std.proofs.Common.{◌≡◌, ◌⊎◌, inl, inr, ℕ, suc, ◌+◌, ◌≤◌, ◌<◌, true, false, cond, List, [], ◌∷◌, length, drop, refl, sym, ap, subst, ◌∙◌, arith}
 use Rattle.std.specs.Prelude.{Option, Some, None, Result, Ok, Err, OnOk, OnErr, slice_index_or}
 use Rattle.std.proofs.lemmas.List.{drop_more}
-use Rattle.std.specs.FinMap.{find}
+use Rattle.std.specs.FinMap.{find, empty, get-empty}
 use Rattle.schema.specs.Schema.{Tables}
-use Rattle.schema.specs.Rows.{Key, key_cmp, IsWrite}
+use Rattle.schema.specs.Rows.{Key, key_cmp, IsWrite, AreWrites}
 use Rattle.schema.proofs.RowsLemmas.{is_key, one_key}
-use Rattle.log_model.specs.Log.{IsLogFrom}
-use Rattle.log_model.specs.Entries.{Entry, calls_of}
+use Rattle.log_model.specs.Log.{IsPlaced, IsLogFrom}
+use Rattle.log_model.specs.Entries.{item_of, items_of}
+use Rattle.log_entry.specs.declared.entry.Entry.{Entry as LogEntry}
+use Rattle.log_entry.specs.Kind.{entry_of}
+use Rattle.replica.specs.Replica.{entries_of}
 
 abbrev pub Write : Type 0
 Write = Key × Option (List ℕ)
@@ -27,13 +30,17 @@ none_later rest k write is h = let bad : None ≡ Some write = ap (λ (l : List 
 
 -- ---- entries from one on
 
-pub log_more : (entries : List Entry) (i : ℕ) (e : Entry) → i < length entries → e ≡ slice_index_or entries i e → e.call.snapshot ≤ i
-    → IsLogFrom (i + 1) (calls_of (drop (i + 1) entries)) → IsLogFrom i (calls_of (drop i entries))
-log_more entries i e lt is below later =
+pub log_more : {A : Type 0} (entries : List (LogEntry A)) (i : ℕ) (e : LogEntry A) → i < length entries → e ≡ slice_index_or entries i e → IsPlaced i (item_of (entry_of e))
+    → IsLogFrom (i + 1) (items_of (entries_of (drop (i + 1) entries))) → IsLogFrom i (items_of (entries_of (drop i entries)))
+log_more entries i e lt is placed later =
     let next : i + 1 ≡ suc i = omega arith in
-    let first = subst (λ (x : Entry). x.call.snapshot ≤ i) is below in
-    subst (λ (l : List Entry). IsLogFrom i (calls_of l)) (sym (drop_more entries i e lt))
-    (first, subst (λ (n : ℕ). IsLogFrom n (calls_of (drop (i + 1) entries))) next later)
+    let first = subst (λ (x : LogEntry _). IsPlaced i (item_of (entry_of x))) is placed in
+    subst (λ (l : List (LogEntry _)). IsLogFrom i (items_of (entries_of l))) (sym (drop_more entries i e lt))
+    (first, subst (λ (n : ℕ). IsLogFrom n (items_of (entries_of (drop (i + 1) entries)))) next later)
+
+-- nothing that is written is of any schema
+pub nothing_fits : (tables : Tables) → AreWrites tables empty
+nothing_fits tables k write is = let bad : None ≡ Some write = sym (get-empty key_cmp k) ∙ is in cc
 
 -- ---- what a call leaves
 

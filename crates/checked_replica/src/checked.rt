@@ -2,7 +2,7 @@
 
 ghost use Rattle.std.specs.Prelude.{◌≡◌};
 
-use crate::fit::{entries_fit, writes_fit};
+use crate::fit::{entries_fit, entry_fits};
 use catalogue::Catalogue;
 use log_entry::Entry;
 use log_model::Verdict;
@@ -12,12 +12,12 @@ use std::marker::Model;
 
 /// A replica with the catalogue of its tables.
 #[derive(Drop)]
-pub struct CheckedReplica<'a, A: Allocator + Copy = Global> {
-    catalogue: &'a Catalogue<A>,
-    replica: Replica<A>,
+pub struct CheckedReplica<'a, A: Allocator + Copy = Global, P: Allocator + Copy = A> {
+    catalogue: &'a Catalogue<P>,
+    replica: Replica<A, P>,
 }
 
-impl<'a, A: Allocator + Copy> Model for CheckedReplica<'a, A> {
+impl<'a, A: Allocator + Copy, P: Allocator + Copy> Model for CheckedReplica<'a, A, P> {
     ghost use Rattle.rows_mv.specs.Versions.{HaveTables};
     ghost use Rattle.replica.specs.Replica.{Replica};
     ghost use Rattle.replica.specs.Codes.{replica_code};
@@ -31,36 +31,29 @@ impl<'a, A: Allocator + Copy> Model for CheckedReplica<'a, A> {
     ghost invariant = { λ c. HaveTables c.catalogue.now.tables c.replica.versions.tables };
 }
 
-impl<'a, A: Allocator + Copy> CheckedReplica<'a, A> {
+impl<'a, A: Allocator + Copy, P: Allocator + Copy> CheckedReplica<'a, A, P> {
     /// One to which nothing was delivered.
     pub fn new(
         alloc: A,
         window: u32,
-        catalogue: &'a Catalogue<A>,
-    ) -> Result<CheckedReplica<'a, A>, AllocError> {
+        catalogue: &'a Catalogue<P>,
+    ) -> Result<CheckedReplica<'a, A, P>, AllocError> {
         let replica = Replica::new(alloc, window, catalogue)?;
         Ok(CheckedReplica { catalogue, replica })
     }
 
-    /// Delivers an entry, where its snapshot was reached and its writes are of the catalogue's tables.
-    pub fn deliver<B: Allocator + Copy>(
-        &mut self,
-        entry: &Entry<B>,
-    ) -> Option<Result<Verdict, Stopped>> {
+    /// Delivers an entry, where it may be delivered next to a replica of the catalogue.
+    pub fn deliver(&mut self, entry: &Entry<P>) -> Option<Result<Verdict, Stopped>> {
         tables_take_the_schemas_writes();
         let position = self.replica.position();
-        let fits = writes_fit(self.catalogue.schema(), &entry.writes);
-        if !fits || entry.snapshot > position || position == u32::MAX {
+        if position == u32::MAX || !entry_fits(self.catalogue.schema(), entry, position) {
             return None;
         }
         Some(self.replica.deliver(entry))
     }
 
-    /// Takes all entries in anew, where they are a log whose writes are of the catalogue's tables.
-    pub fn rebuild<B: Allocator + Copy>(
-        &mut self,
-        entries: &[Entry<B>],
-    ) -> Option<Result<u32, AllocError>> {
+    /// Takes all entries in anew, where they may be delivered one after the other to a replica of the catalogue.
+    pub fn rebuild(&mut self, entries: &[Entry<P>]) -> Option<Result<u32, AllocError>> {
         if entries.len() > u32::MAX as usize || !entries_fit(self.catalogue.schema(), entries) {
             return None;
         }
@@ -68,7 +61,7 @@ impl<'a, A: Allocator + Copy> CheckedReplica<'a, A> {
     }
 
     /// The replica itself.
-    pub fn replica(&self) -> &Replica<A>
+    pub fn replica(&self) -> &Replica<A, P>
         ensures { result.now ≡ self.now }
     {
         &self.replica

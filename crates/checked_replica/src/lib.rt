@@ -2,7 +2,7 @@
 #![tactic(auto)]
 
 pub use checked::CheckedReplica;
-pub use fit::{entries_fit, writes_fit};
+pub use fit::{entries_fit, entry_fits, writes_fit};
 pub use versions::CheckedVersions;
 
 mod checked;

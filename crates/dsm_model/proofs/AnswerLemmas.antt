@@ -1,29 +1,34 @@
 -- Which answers a step may give, and where memory is wanted.
-use Rattle.std.proofs.Common.{◌≡◌, inl, inr, ℕ, ◌+◌, Bool, true, false, not, List, length, nat_eq, nat_le, nat_lt, Option, Some, None, IsTrue, refl, sym, ap, ◌∙◌}
+use Rattle.std.proofs.Common.{◌≡◌, inl, inr, ℕ, ◌+◌, ◌<◌, ◌≤◌, Bool, true, false, not, List, length, nat_eq, nat_le, nat_lt, Option, Some, None, IsTrue, refl, sym, ap, ◌∙◌}
 use Rattle.std.specs.FinMap.{len}
 use Rattle.bpf_semantics.specs.Run.{Run}
 use Rattle.log_model.specs.declared.verdict.Verdict.{Verdict}
-use Rattle.dsm_model.specs.declared.outcome.StepRefusal.TheVariants.{NoReplica, NoProcedure, ArgumentsLength, NoCall, NotAtExit, NothingToDeliver, ReplicaStopped, LogFull, OutOfMemory, TooManyCalls}
+use Rattle.dsm_model.specs.declared.outcome.StepRefusal.TheVariants.{NoReplica, NoProcedure, ArgumentsLength, NoCall, NotAtExit, NothingToDeliver, ReplicaStopped, LogFull, OutOfMemory, TooManyCalls, ArgumentsLimit, ProgramRefused, NameShape, ZeroInRequest}
+use Rattle.log_model.specs.declared.request.RequestId.{RequestId}
 use Rattle.dsm_model.specs.declared.outcome.Outcome.{Outcome}
-use Rattle.dsm_model.specs.declared.outcome.Outcome.TheVariants.{Begun, More, Exit, Stale, NoMemory, Ordered, Read, Cancelled, Delivered, Rebuilt, Refused}
-use Rattle.log_model.specs.Log.{StoredProcedure, Setting, Call, by_number, run_in, verdict_of}
-use Rattle.dsm_model.specs.World.{World, Replica, OpenCall, Step, Begin, Turn, Order, Deliver, Rebuild, max_calls, numbered, open_call, without_call, with_replica, with_begun, new_call, after_begin, is_stale, with_turns, after_turn, with_ordered, after_order_by_run, after_order, after_deliver_next, after_deliver, after_rebuild, after_step, with_stopped, after_refused_memory, after_step_without_memory, IsStep, is_answer}
+use Rattle.dsm_model.specs.declared.outcome.Outcome.TheVariants.{Begun, More, Exit, Stale, NoMemory, Ordered, Read, Cancelled, Delivered, Rebuilt, Added, Refused}
+use Rattle.log_model.specs.Log.{StoredProcedure, Setting, Call, by_number, procedures_after, run_in, verdict_of}
+use Rattle.log_model.specs.Name.{is_name}
+use Rattle.dsm_model.specs.World.{World, Replica, OpenCall, Checked, Passed, Failed, Step, Begin, Turn, Order, Deliver, Rebuild, Add, max_calls, call_count, position_of, has_zero, numbered, open_call, without_call, with_replica, with_begun, new_call, after_begin, is_stale, with_turns, after_turn, with_ordered, after_order_by_run, after_order, after_deliver_next, after_deliver, after_rebuild, with_added, after_add_checked, after_add, after_step, with_stopped, after_refused_memory, after_step_without_memory, IsStep, is_answer}
 use Rattle.log_model.proofs.RunLemmas.{just}
-use Rattle.dsm_model.proofs.Cases.{Done, done, fst, either_if, begin_refused, order_refused, deliver_refused, rebuild_refused}
-use Rattle.dsm_model.proofs.StepLemmas.{turn_without}
+use Rattle.dsm_model.proofs.Cases.{Done, done, fst, either_if, begin_refused, order_refused, deliver_refused, rebuild_refused, add_refused}
+use Rattle.dsm_model.proofs.StepLemmas.{turn_without, wants_by, add_way}
 
 -- what an answer is that is given
 is_given : (step : Step) (given outcome : Outcome) (leaves after : World) → is_answer step given ≡ true → done given leaves ≡ done outcome after → is_answer step outcome ≡ true
 is_given step given outcome leaves after is e = ap (is_answer step) (sym (fst (given, leaves) (outcome, after) e)) ∙ is
 
-begin_given : (before after : World) (r procedure : ℕ) (args : List ℕ) (outcome : Outcome) (o : Option Replica) (p : Option StoredProcedure) → after_begin before r procedure args o p ≡ done outcome after → is_answer (Begin r procedure args) outcome ≡ true
-begin_given before after r procedure args outcome None p e = is_given (Begin r procedure args) (Refused NoReplica) outcome before after refl e
-begin_given before after r procedure args outcome (Some replica) None e = is_given (Begin r procedure args) (Refused NoProcedure) outcome before after refl e
-begin_given before after r procedure args outcome (Some replica) (Some p) e = elim (either_if (not (nat_eq (length args) p.args_len)) _ _ (outcome, after) e) [
-  | inl (t, d) ↦ is_given (Begin r procedure args) (Refused ArgumentsLength) outcome before after refl d
-  | inr (t, d) ↦ elim (either_if (nat_le max_calls (length before.calls)) _ _ (outcome, after) d) [
-    | inl (t, h) ↦ is_given (Begin r procedure args) (Refused TooManyCalls) outcome before after refl h
-    | inr (t, h) ↦ is_given (Begin r procedure args) (Begun (length before.calls + 1) replica.position) outcome (with_begun before r (new_call before procedure args replica.position)) after refl h
+begin_given : (before after : World) (r procedure : ℕ) (args : List ℕ) (request : Option RequestId) (outcome : Outcome) (o : Option Replica) (p : Option StoredProcedure) → after_begin before r procedure args request o p ≡ done outcome after → is_answer (Begin r procedure args request) outcome ≡ true
+begin_given before after r procedure args request outcome None p e = is_given (Begin r procedure args request) (Refused NoReplica) outcome before after refl e
+begin_given before after r procedure args request outcome (Some replica) None e = is_given (Begin r procedure args request) (Refused NoProcedure) outcome before after refl e
+begin_given before after r procedure args request outcome (Some replica) (Some p) e = elim (either_if (not (nat_eq (length args) p.args_len)) _ _ (outcome, after) e) [
+  | inl (t, d) ↦ is_given (Begin r procedure args request) (Refused ArgumentsLength) outcome before after refl d
+  | inr (t, d) ↦ elim (either_if (has_zero request) _ _ (outcome, after) d) [
+    | inl (t, h) ↦ is_given (Begin r procedure args request) (Refused ZeroInRequest) outcome before after refl h
+    | inr (t, h) ↦ elim (either_if (nat_le max_calls (call_count before)) _ _ (outcome, after) h) [
+      | inl (t, k) ↦ is_given (Begin r procedure args request) (Refused TooManyCalls) outcome before after refl k
+      | inr (t, k) ↦ is_given (Begin r procedure args request) (Begun (length before.calls + 1) replica.position) outcome (with_begun before r (new_call before procedure args request replica.position)) after refl k
+    ]
   ]
 ]
 
@@ -69,21 +74,39 @@ rebuild_given : (before after : World) (r : ℕ) (outcome : Outcome) (found : Op
 rebuild_given before after r outcome None e = is_given (Rebuild r) (Refused NoReplica) outcome before after refl e
 rebuild_given before after r outcome (Some replica) e = is_given (Rebuild r) (Rebuilt (length before.log)) outcome (with_replica before r (record { position = length before.log; running = true })) after refl e
 
+checked_given : (before after : World) (name : List ℕ) (number args_len : ℕ) (checked : Checked) (outcome : Outcome) → after_add_checked before name number args_len checked ≡ done outcome after → is_answer (Add name number args_len checked) outcome ≡ true
+checked_given before after name number args_len (Failed fault) outcome e = is_given (Add name number args_len (Failed fault)) (Refused (ProgramRefused fault)) outcome before after refl e
+checked_given before after name number args_len (Passed program) outcome e = elim (either_if (not (is_name name)) _ _ (outcome, after) e) [
+  | inl (t, d) ↦ is_given (Add name number args_len (Passed program)) (Refused NameShape) outcome before after refl d
+  | inr (t, d) ↦ is_given (Add name number args_len (Passed program)) (Added (length before.log + 1)) outcome (with_added before (record { name = name; number = number; program = program; args_len = args_len })) after refl d
+]
+
+add_given : (before after : World) (name : List ℕ) (number args_len : ℕ) (checked : Checked) (outcome : Outcome) → after_add before name number args_len checked ≡ done outcome after → is_answer (Add name number args_len checked) outcome ≡ true
+add_given before after name number args_len checked outcome e = elim (either_if (nat_le max_calls (call_count before)) _ _ (outcome, after) e) [
+  | inl (t, d) ↦ is_given (Add name number args_len checked) (Refused TooManyCalls) outcome before after refl d
+  | inr (t, d) ↦ elim (either_if (nat_lt 256 args_len) _ _ (outcome, after) d) [
+    | inl (t, h) ↦ is_given (Add name number args_len checked) (Refused ArgumentsLimit) outcome before after refl h
+    | inr (t, h) ↦ checked_given before after name number args_len checked outcome h
+  ]
+]
+
 given : (w : Setting) (before after : World) (step : Step) (outcome : Outcome) → after_step w before step ≡ done outcome after → is_answer step outcome ≡ true
 unfolding after_step
-given w before after (Begin r procedure args) outcome e = begin_given before after r procedure args outcome (numbered before.replicas r) (by_number w.catalogue procedure) e
+given w before after (Begin r procedure args request) outcome e = begin_given before after r procedure args request outcome (numbered before.replicas r) (by_number (procedures_after w before.log (position_of (numbered before.replicas r))) procedure) e
 given w before after (Turn c) outcome e = turn_given w before after c outcome (open_call before c) e
 given w before after (Order c) outcome e = order_given w before after c outcome (open_call before c) e
 given w before after (Deliver r) outcome e = deliver_given w before after r outcome (numbered before.replicas r) e
 given w before after (Rebuild r) outcome e = rebuild_given before after r outcome (numbered before.replicas r) e
+given w before after (Add name number args_len checked) outcome e = add_given before after name number args_len checked outcome e
 
 refused_given : (w : Setting) (before after : World) (step : Step) (outcome : Outcome) → after_step_without_memory w before step ≡ just (done outcome after) → is_answer step outcome ≡ true
 unfolding after_step_without_memory
-refused_given w before after (Begin r procedure args) outcome e = is_given (Begin r procedure args) (Refused OutOfMemory) outcome before after refl (begin_refused before after r procedure args (after_step w before (Begin r procedure args)).0 outcome e)
+refused_given w before after (Begin r procedure args request) outcome e = is_given (Begin r procedure args request) (Refused OutOfMemory) outcome before after refl (begin_refused before after r procedure args request (after_step w before (Begin r procedure args request)).0 outcome e)
 refused_given w before after (Turn c) outcome e = ap (is_answer (Turn c)) (turn_without w before after c outcome (open_call before c) e).answer
 refused_given w before after (Order c) outcome e = is_given (Order c) (Refused OutOfMemory) outcome (without_call before c) after refl (order_refused before after c (after_step w before (Order c)).0 outcome e)
 refused_given w before after (Deliver r) outcome e = is_given (Deliver r) (Refused OutOfMemory) outcome (with_stopped before r (numbered before.replicas r)) after refl (deliver_refused before after r (after_step w before (Deliver r)) outcome e).1
 refused_given w before after (Rebuild r) outcome e = is_given (Rebuild r) (Refused OutOfMemory) outcome before after refl (rebuild_refused before after r (after_step w before (Rebuild r)).0 outcome e)
+refused_given w before after (Add name number args_len checked) outcome e = is_given (Add name number args_len checked) (Refused OutOfMemory) outcome before after refl (add_refused before after name number args_len checked (after_step w before (Add name number args_len checked)).0 outcome e)
 
 pub own_answers : (w : Setting) (before : World) (step : Step) (outcome : Outcome) (after : World) → IsStep w before step outcome after → IsTrue (is_answer step outcome)
 own_answers w before step outcome after (inl e) = given w before after step outcome e
@@ -99,14 +122,17 @@ is_met _ = true
 is_other : (given outcome : Outcome) (leaves after : World) → is_met given ≡ true → done given leaves ≡ done outcome after → is_met outcome ≡ true
 is_other given outcome leaves after is e = ap is_met (sym (fst (given, leaves) (outcome, after) e)) ∙ is
 
-begin_other : (before after : World) (r procedure : ℕ) (args : List ℕ) (outcome : Outcome) (o : Option Replica) (p : Option StoredProcedure) → after_begin before r procedure args o p ≡ done outcome after → is_met outcome ≡ true
-begin_other before after r procedure args outcome None p e = is_other (Refused NoReplica) outcome before after refl e
-begin_other before after r procedure args outcome (Some replica) None e = is_other (Refused NoProcedure) outcome before after refl e
-begin_other before after r procedure args outcome (Some replica) (Some p) e = elim (either_if (not (nat_eq (length args) p.args_len)) _ _ (outcome, after) e) [
+begin_other : (before after : World) (r procedure : ℕ) (args : List ℕ) (request : Option RequestId) (outcome : Outcome) (o : Option Replica) (p : Option StoredProcedure) → after_begin before r procedure args request o p ≡ done outcome after → is_met outcome ≡ true
+begin_other before after r procedure args request outcome None p e = is_other (Refused NoReplica) outcome before after refl e
+begin_other before after r procedure args request outcome (Some replica) None e = is_other (Refused NoProcedure) outcome before after refl e
+begin_other before after r procedure args request outcome (Some replica) (Some p) e = elim (either_if (not (nat_eq (length args) p.args_len)) _ _ (outcome, after) e) [
   | inl (t, d) ↦ is_other (Refused ArgumentsLength) outcome before after refl d
-  | inr (t, d) ↦ elim (either_if (nat_le max_calls (length before.calls)) _ _ (outcome, after) d) [
-    | inl (t, h) ↦ is_other (Refused TooManyCalls) outcome before after refl h
-    | inr (t, h) ↦ is_other (Begun (length before.calls + 1) replica.position) outcome (with_begun before r (new_call before procedure args replica.position)) after refl h
+  | inr (t, d) ↦ elim (either_if (has_zero request) _ _ (outcome, after) d) [
+    | inl (t, h) ↦ is_other (Refused ZeroInRequest) outcome before after refl h
+    | inr (t, h) ↦ elim (either_if (nat_le max_calls (call_count before)) _ _ (outcome, after) h) [
+      | inl (t, k) ↦ is_other (Refused TooManyCalls) outcome before after refl k
+      | inr (t, k) ↦ is_other (Begun (length before.calls + 1) replica.position) outcome (with_begun before r (new_call before procedure args request replica.position)) after refl k
+    ]
   ]
 ]
 
@@ -142,22 +168,39 @@ rebuild_other : (before after : World) (r : ℕ) (outcome : Outcome) (found : Op
 rebuild_other before after r outcome None e = is_other (Refused NoReplica) outcome before after refl e
 rebuild_other before after r outcome (Some replica) e = is_other (Rebuilt (length before.log)) outcome (with_replica before r (record { position = length before.log; running = true })) after refl e
 
+checked_other : (before after : World) (name : List ℕ) (number args_len : ℕ) (checked : Checked) (outcome : Outcome) → after_add_checked before name number args_len checked ≡ done outcome after → is_met outcome ≡ true
+checked_other before after name number args_len (Failed fault) outcome e = is_other (Refused (ProgramRefused fault)) outcome before after refl e
+checked_other before after name number args_len (Passed program) outcome e = elim (either_if (not (is_name name)) _ _ (outcome, after) e) [
+  | inl (t, d) ↦ is_other (Refused NameShape) outcome before after refl d
+  | inr (t, d) ↦ is_other (Added (length before.log + 1)) outcome (with_added before (record { name = name; number = number; program = program; args_len = args_len })) after refl d
+]
+
+add_other : (before after : World) (name : List ℕ) (number args_len : ℕ) (checked : Checked) (outcome : Outcome) → after_add before name number args_len checked ≡ done outcome after → is_met outcome ≡ true
+add_other before after name number args_len checked outcome e = elim (either_if (nat_le max_calls (call_count before)) _ _ (outcome, after) e) [
+  | inl (t, d) ↦ is_other (Refused TooManyCalls) outcome before after refl d
+  | inr (t, d) ↦ elim (either_if (nat_lt 256 args_len) _ _ (outcome, after) d) [
+    | inl (t, h) ↦ is_other (Refused ArgumentsLimit) outcome before after refl h
+    | inr (t, h) ↦ checked_other before after name number args_len checked outcome h
+  ]
+]
+
 -- what is done where memory suffices, by its answer
 as_done : (d : Done) (outcome : Outcome) → d.0 ≡ outcome → d ≡ done outcome d.1
 as_done d outcome e = ap (λ (o : Outcome). done o d.1) e
 
-begin_some : (before after : World) (r procedure : ℕ) (args : List ℕ) (o outcome : Outcome) → after_refused_memory before (Begin r procedure args) o ≡ just (outcome, after) → (c : ℕ) × (snapshot : ℕ) × (o ≡ Begun c snapshot)
-begin_some before after r procedure args (Begun c s) outcome e = (c, s, refl)
-begin_some before after r procedure args More outcome e = absurd cc
-begin_some before after r procedure args (Exit n) outcome e = absurd cc
-begin_some before after r procedure args Stale outcome e = absurd cc
-begin_some before after r procedure args NoMemory outcome e = absurd cc
-begin_some before after r procedure args (Ordered d) outcome e = absurd cc
-begin_some before after r procedure args (Read s n) outcome e = absurd cc
-begin_some before after r procedure args (Cancelled s n) outcome e = absurd cc
-begin_some before after r procedure args (Delivered d v) outcome e = absurd cc
-begin_some before after r procedure args (Rebuilt p) outcome e = absurd cc
-begin_some before after r procedure args (Refused x) outcome e = absurd cc
+begin_some : (before after : World) (r procedure : ℕ) (args : List ℕ) (request : Option RequestId) (o outcome : Outcome) → after_refused_memory before (Begin r procedure args request) o ≡ just (outcome, after) → (c : ℕ) × (snapshot : ℕ) × (o ≡ Begun c snapshot)
+begin_some before after r procedure args request (Begun c s) outcome e = (c, s, refl)
+begin_some before after r procedure args request More outcome e = absurd cc
+begin_some before after r procedure args request (Exit n) outcome e = absurd cc
+begin_some before after r procedure args request Stale outcome e = absurd cc
+begin_some before after r procedure args request NoMemory outcome e = absurd cc
+begin_some before after r procedure args request (Ordered d) outcome e = absurd cc
+begin_some before after r procedure args request (Read s n) outcome e = absurd cc
+begin_some before after r procedure args request (Cancelled s n) outcome e = absurd cc
+begin_some before after r procedure args request (Delivered d v) outcome e = absurd cc
+begin_some before after r procedure args request (Rebuilt p) outcome e = absurd cc
+begin_some before after r procedure args request (Added p) outcome e = absurd cc
+begin_some before after r procedure args request (Refused x) outcome e = absurd cc
 
 order_some : (before after : World) (c : ℕ) (o outcome : Outcome) → after_refused_memory before (Order c) o ≡ just (outcome, after) → (position : ℕ) × (o ≡ Ordered position)
 order_some before after c (Ordered d) outcome e = (d, refl)
@@ -170,10 +213,12 @@ order_some before after c (Read s n) outcome e = absurd cc
 order_some before after c (Cancelled s n) outcome e = absurd cc
 order_some before after c (Delivered d v) outcome e = absurd cc
 order_some before after c (Rebuilt p) outcome e = absurd cc
+order_some before after c (Added p) outcome e = absurd cc
 order_some before after c (Refused x) outcome e = absurd cc
 
 rebuild_some : (before after : World) (r : ℕ) (o outcome : Outcome) → after_refused_memory before (Rebuild r) o ≡ just (outcome, after) → (position : ℕ) × (o ≡ Rebuilt position)
 rebuild_some before after r (Rebuilt p) outcome e = (p, refl)
+rebuild_some before after r (Added p) outcome e = absurd cc
 rebuild_some before after r (Begun a s) outcome e = absurd cc
 rebuild_some before after r More outcome e = absurd cc
 rebuild_some before after r (Exit n) outcome e = absurd cc
@@ -185,13 +230,13 @@ rebuild_some before after r (Cancelled s n) outcome e = absurd cc
 rebuild_some before after r (Delivered d v) outcome e = absurd cc
 rebuild_some before after r (Refused x) outcome e = absurd cc
 
-pub begin_wants : (w : Setting) (before : World) (r procedure : ℕ) (args : List ℕ) (after : World) → IsStep w before (Begin r procedure args) (Refused OutOfMemory) after
-    → (c : ℕ) × (snapshot : ℕ) × (other : World) × IsStep w before (Begin r procedure args) (Begun c snapshot) other
+pub begin_wants : (w : Setting) (before : World) (r procedure : ℕ) (args : List ℕ) (request : Option RequestId) (after : World) → IsStep w before (Begin r procedure args request) (Refused OutOfMemory) after
+    → (c : ℕ) × (snapshot : ℕ) × (other : World) × IsStep w before (Begin r procedure args request) (Begun c snapshot) other
 unfolding after_step after_step_without_memory
-begin_wants w before r procedure args after (inl e) = absurd (let x = begin_other before after r procedure args (Refused OutOfMemory) (numbered before.replicas r) (by_number w.catalogue procedure) e in cc)
-begin_wants w before r procedure args after (inr e) =
-    let x = begin_some before after r procedure args (after_step w before (Begin r procedure args)).0 (Refused OutOfMemory) e in
-    (x.0, x.1, (after_step w before (Begin r procedure args)).1, inl (as_done (after_step w before (Begin r procedure args)) (Begun x.0 x.1) x.2))
+begin_wants w before r procedure args request after (inl e) = absurd (let x = begin_other before after r procedure args request (Refused OutOfMemory) (numbered before.replicas r) (by_number (procedures_after w before.log (position_of (numbered before.replicas r))) procedure) e in cc)
+begin_wants w before r procedure args request after (inr e) =
+    let x = begin_some before after r procedure args request (after_step w before (Begin r procedure args request)).0 (Refused OutOfMemory) e in
+    (x.0, x.1, (after_step w before (Begin r procedure args request)).1, inl (as_done (after_step w before (Begin r procedure args request)) (Begun x.0 x.1) x.2))
 
 pub order_wants : (w : Setting) (before : World) (c : ℕ) (after : World) → IsStep w before (Order c) (Refused OutOfMemory) after → (position : ℕ) × (other : World) × IsStep w before (Order c) (Ordered position) other
 unfolding after_step after_step_without_memory
@@ -213,3 +258,10 @@ rebuild_wants w before r after (inl e) = absurd (let x = rebuild_other before af
 rebuild_wants w before r after (inr e) =
     let x = rebuild_some before after r (after_step w before (Rebuild r)).0 (Refused OutOfMemory) e in
     (x.0, (after_step w before (Rebuild r)).1, inl (as_done (after_step w before (Rebuild r)) (Rebuilt x.0) x.1))
+
+pub add_wants : (w : Setting) (before : World) (name : List ℕ) (number args_len : ℕ) (checked : Checked) (after : World) → IsStep w before (Add name number args_len checked) (Refused OutOfMemory) after → (call_count before < max_calls) × (args_len ≤ 256)
+unfolding after_step after_step_without_memory
+add_wants w before name number args_len checked after (inl e) = absurd (let x = add_other before after name number args_len checked (Refused OutOfMemory) e in cc)
+add_wants w before name number args_len checked after (inr e) =
+    wants_by before name number args_len checked (after_step w before (Add name number args_len checked)).0 (Refused OutOfMemory) after (after_step w before (Add name number args_len checked)).1 e
+    (add_way before name number args_len checked (after_step w before (Add name number args_len checked)).0 (after_step w before (Add name number args_len checked)).1 refl)

@@ -2,14 +2,17 @@
 use Rattle.std.proofs.Common.{◌≡◌, ◌⊎◌, inl, inr, ℕ, ◌+◌, ◌≤◌, ◌<◌, Bool, true, false, not, cond, List, length, nat_eq, nat_le, nat_lt, Option, Some, None, refl, sym, ap, ◌∙◌, arith}
 use Rattle.std.specs.FinMap.{len}
 use Rattle.std.proofs.lemmas.Bool.Decides.{nat_tests}
+use Rattle.bpf_code.specs.Program.{Program}
 use Rattle.bpf_semantics.specs.Run.{Run}
 use Rattle.log_model.specs.declared.verdict.Verdict.{Verdict}
 use Rattle.dsm_model.specs.declared.outcome.StepRefusal.{StepRefusal}
-use Rattle.dsm_model.specs.declared.outcome.StepRefusal.TheVariants.{NoReplica, NoProcedure, ArgumentsLength, NoCall, NotAtExit, NothingToDeliver, ReplicaStopped, LogFull, OutOfMemory, TooManyCalls}
+use Rattle.dsm_model.specs.declared.outcome.StepRefusal.TheVariants.{NoReplica, NoProcedure, ArgumentsLength, NoCall, NotAtExit, NothingToDeliver, ReplicaStopped, LogFull, OutOfMemory, TooManyCalls, ArgumentsLimit, ProgramRefused, NameShape, ZeroInRequest}
+use Rattle.log_model.specs.declared.request.RequestId.{RequestId}
 use Rattle.dsm_model.specs.declared.outcome.Outcome.{Outcome}
-use Rattle.dsm_model.specs.declared.outcome.Outcome.TheVariants.{Begun, More, Exit, Stale, NoMemory, Ordered, Read, Cancelled, Delivered, Rebuilt, Refused}
-use Rattle.log_model.specs.Log.{StoredProcedure, Setting, by_number, run_in, verdict_of, moment_at}
-use Rattle.dsm_model.specs.World.{World, Replica, OpenCall, Step, Begin, Turn, Order, Deliver, Rebuild, max_calls, numbered, open_call, without_call, with_replica, with_begun, new_call, after_begin, is_stale, with_turns, after_turn, with_ordered, after_order_by_run, after_order, after_deliver_next, after_deliver, after_rebuild, after_refused, after_step, with_stopped, at_row_helper, after_turn_without_memory, after_refused_memory, after_step_without_memory, IsStep}
+use Rattle.dsm_model.specs.declared.outcome.Outcome.TheVariants.{Begun, More, Exit, Stale, NoMemory, Ordered, Read, Cancelled, Delivered, Rebuilt, Refused, Added}
+use Rattle.log_model.specs.Log.{StoredProcedure, Setting, by_number, run_in, verdict_of, moment_at, procedures_after, procedure_of}
+use Rattle.dsm_model.specs.World.{World, Replica, OpenCall, Step, Begin, Turn, Order, Deliver, Rebuild, max_calls, numbered, open_call, without_call, with_replica, with_begun, new_call, after_begin, is_stale, with_turns, after_turn, with_ordered, after_order_by_run, after_order, after_deliver_next, after_deliver, after_rebuild, after_refused, after_step, with_stopped, at_row_helper, after_turn_without_memory, after_refused_memory, after_step_without_memory, IsStep, Checked, Passed, Failed, Add, call_count, position_of, has_zero, with_added, after_add_checked, after_add}
+use Rattle.log_model.specs.Name.{is_name}
 use Rattle.log_model.proofs.RunLemmas.{just}
 
 abbrev pub Done : Type 0
@@ -32,15 +35,16 @@ pub record BeginCase (w : Setting) (before : World) (step : Step) (outcome : Out
   pub r : ℕ
   pub procedure : ℕ
   pub args : List ℕ
-  pub is : step ≡ Begin r procedure args
+  pub request : Option RequestId
+  pub is : step ≡ Begin r procedure args request
   pub replica : Replica
   pub stands : numbered before.replicas r ≡ just replica
   pub stored : StoredProcedure
-  pub known : by_number w.catalogue procedure ≡ just stored
+  pub known : by_number (procedures_after w before.log replica.position) procedure ≡ just stored
   pub count : length args ≡ stored.args_len
-  pub few : length before.calls < max_calls
+  pub few : call_count before < max_calls
   pub answer : outcome ≡ Begun (length before.calls + 1) replica.position
-  pub leaves : after ≡ with_begun before r (new_call before procedure args replica.position)
+  pub leaves : after ≡ with_begun before r (new_call before procedure args request replica.position)
 
 -- a call is over: its turn was stale or found no memory, or it wasn't to be ordered, or couldn't
 pub record OverCase (w : Setting) (before : World) (step : Step) (outcome : Outcome) (after : World) : Type 0 where
@@ -96,6 +100,18 @@ pub record RebuildCase (before : World) (step : Step) (outcome : Outcome) (after
   pub answer : outcome ≡ Rebuilt (length before.log)
   pub leaves : after ≡ with_replica before r (record { position = length before.log; running = true })
 
+pub record AddCase (before : World) (step : Step) (outcome : Outcome) (after : World) : Type 0 where
+  pub name : List ℕ
+  pub number : ℕ
+  pub args_len : ℕ
+  pub program : Program
+  pub is : step ≡ Add name number args_len (Passed program)
+  pub few : call_count before < max_calls
+  pub short : args_len ≤ 256
+  pub shape : is_name name ≡ true
+  pub answer : outcome ≡ Added (length before.log + 1)
+  pub leaves : after ≡ with_added before (record { name = name; number = number; program = program; args_len = args_len })
+
 pub data Case (w : Setting) (before : World) (step : Step) (outcome : Outcome) (after : World) : Type 0 where
   Same : SameCase before step outcome after → Case w before step outcome after
   New : BeginCase w before step outcome after → Case w before step outcome after
@@ -105,6 +121,7 @@ pub data Case (w : Setting) (before : World) (step : Step) (outcome : Outcome) (
   Verdicted : DeliverCase w before step outcome after → Case w before step outcome after
   Stop : StopCase before step outcome after → Case w before step outcome after
   Anew : RebuildCase before step outcome after → Case w before step outcome after
+  Put : AddCase before step outcome after → Case w before step outcome after
 
 -- ---- pieces
 
@@ -133,28 +150,32 @@ same_case before after step outcome refusal not_full order memory deliver e = re
 
 -- ---- Begin
 
-begin_case : (w : Setting) (before after : World) (r procedure : ℕ) (args : List ℕ) (outcome : Outcome) (o : Option Replica) (p : Option StoredProcedure) → numbered before.replicas r ≡ o → by_number w.catalogue procedure ≡ p
-    → after_begin before r procedure args o p ≡ (outcome, after) → Case w before (Begin r procedure args) outcome after
-begin_case w before after r procedure args outcome None p f g e = Same (same_case before after (Begin r procedure args) outcome NoReplica (λ x. cc) (λ c x. absurd cc) (λ x. absurd cc) (λ r x y. cc) e)
-begin_case w before after r procedure args outcome (Some replica) None f g e = Same (same_case before after (Begin r procedure args) outcome NoProcedure (λ x. cc) (λ c x. absurd cc) (λ x. absurd cc) (λ r x y. cc) e)
-begin_case w before after r procedure args outcome (Some replica) (Some p) f g e = elim (either_if (not (nat_eq (length args) p.args_len)) _ _ (outcome, after) e) [
-  | inl (t, d) ↦ Same (same_case before after (Begin r procedure args) outcome ArgumentsLength (λ x. cc) (λ c x. absurd cc) (λ x. absurd cc) (λ r x y. cc) d)
-  | inr (fits, d) ↦ elim (either_if (nat_le max_calls (length before.calls)) _ _ (outcome, after) d) [
-    | inl (t, h) ↦ Same (same_case before after (Begin r procedure args) outcome TooManyCalls (λ x. cc) (λ c x. absurd cc) (λ x. absurd cc) (λ r x y. cc) h)
-    | inr (few, h) ↦ New (record {
-      r = r;
-      procedure = procedure;
-      args = args;
-      is = refl;
-      replica = replica;
-      stands = f;
-      stored = p;
-      known = g;
-      count = same_length (length args) p.args_len fits;
-      few = less max_calls (length before.calls) few;
-      answer = sym (fst (Begun (length before.calls + 1) replica.position, with_begun before r (new_call before procedure args replica.position)) (outcome, after) h);
-      leaves = sym (snd (Begun (length before.calls + 1) replica.position, with_begun before r (new_call before procedure args replica.position)) (outcome, after) h);
-    })
+begin_case : (w : Setting) (before after : World) (r procedure : ℕ) (args : List ℕ) (request : Option RequestId) (outcome : Outcome) (o : Option Replica) (p : Option StoredProcedure) → numbered before.replicas r ≡ o → by_number (procedures_after w before.log (position_of (numbered before.replicas r))) procedure ≡ p
+    → after_begin before r procedure args request o p ≡ (outcome, after) → Case w before (Begin r procedure args request) outcome after
+begin_case w before after r procedure args request outcome None p f g e = Same (same_case before after (Begin r procedure args request) outcome NoReplica (λ x. cc) (λ c x. absurd cc) (λ x. absurd cc) (λ r x y. cc) e)
+begin_case w before after r procedure args request outcome (Some replica) None f g e = Same (same_case before after (Begin r procedure args request) outcome NoProcedure (λ x. cc) (λ c x. absurd cc) (λ x. absurd cc) (λ r x y. cc) e)
+begin_case w before after r procedure args request outcome (Some replica) (Some p) f g e = elim (either_if (not (nat_eq (length args) p.args_len)) _ _ (outcome, after) e) [
+  | inl (t, d) ↦ Same (same_case before after (Begin r procedure args request) outcome ArgumentsLength (λ x. cc) (λ c x. absurd cc) (λ x. absurd cc) (λ r x y. cc) d)
+  | inr (fits, d) ↦ elim (either_if (has_zero request) _ _ (outcome, after) d) [
+    | inl (t, h) ↦ Same (same_case before after (Begin r procedure args request) outcome ZeroInRequest (λ x. cc) (λ c x. absurd cc) (λ x. absurd cc) (λ r x y. cc) h)
+    | inr (one, h) ↦ elim (either_if (nat_le max_calls (call_count before)) _ _ (outcome, after) h) [
+      | inl (t, k) ↦ Same (same_case before after (Begin r procedure args request) outcome TooManyCalls (λ x. cc) (λ c x. absurd cc) (λ x. absurd cc) (λ r x y. cc) k)
+      | inr (few, k) ↦ New (record {
+        r = r;
+        procedure = procedure;
+        args = args;
+        request = request;
+        is = refl;
+        replica = replica;
+        stands = f;
+        stored = p;
+        known = ap (λ (o : Option Replica). by_number (procedures_after w before.log (position_of o)) procedure) (sym f) ∙ g;
+        count = same_length (length args) p.args_len fits;
+        few = less max_calls (call_count before) few;
+        answer = sym (fst (Begun (length before.calls + 1) replica.position, with_begun before r (new_call before procedure args request replica.position)) (outcome, after) k);
+        leaves = sym (snd (Begun (length before.calls + 1) replica.position, with_begun before r (new_call before procedure args request replica.position)) (outcome, after) k);
+      })
+    ]
   ]
 ]
   where
@@ -292,31 +313,72 @@ rebuild_case w before after r outcome (Some replica) f e = Anew (record {
   leaves = sym (snd (Rebuilt (length before.log), with_replica before r (record { position = length before.log; running = true })) (outcome, after) e);
 })
 
+-- ---- Add
+
+shaped : (b : Bool) → not b ≡ false → b ≡ true
+shaped true e = refl
+shaped false e = absurd cc
+
+checked_case : (w : Setting) (before after : World) (name : List ℕ) (number args_len : ℕ) (checked : Checked) (outcome : Outcome) → call_count before < max_calls → args_len ≤ 256 → after_add_checked before name number args_len checked ≡ (outcome, after) → Case w before (Add name number args_len checked) outcome after
+checked_case w before after name number args_len (Failed fault) outcome few short e = Same (same_case before after (Add name number args_len (Failed fault)) outcome (ProgramRefused fault) (λ x. cc) (λ c x. absurd cc) (λ x. absurd cc) (λ r x y. cc) e)
+checked_case w before after name number args_len (Passed program) outcome few short e = elim (either_if (not (is_name name)) _ _ (outcome, after) e) [
+  | inl (t, d) ↦ Same (same_case before after (Add name number args_len (Passed program)) outcome NameShape (λ x. cc) (λ c x. absurd cc) (λ x. absurd cc) (λ r x y. cc) d)
+  | inr (t, d) ↦ Put (record {
+    name = name;
+    number = number;
+    args_len = args_len;
+    program = program;
+    is = refl;
+    few = few;
+    short = short;
+    shape = shaped (is_name name) t;
+    answer = sym (fst (Added (length before.log + 1), with_added before (record { name = name; number = number; program = program; args_len = args_len })) (outcome, after) d);
+    leaves = sym (snd (Added (length before.log + 1), with_added before (record { name = name; number = number; program = program; args_len = args_len })) (outcome, after) d);
+  })
+]
+
+add_case : (w : Setting) (before after : World) (name : List ℕ) (number args_len : ℕ) (checked : Checked) (outcome : Outcome) → after_add before name number args_len checked ≡ (outcome, after) → Case w before (Add name number args_len checked) outcome after
+add_case w before after name number args_len checked outcome e = elim (either_if (nat_le max_calls (call_count before)) _ _ (outcome, after) e) [
+  | inl (t, d) ↦ Same (same_case before after (Add name number args_len checked) outcome TooManyCalls (λ x. cc) (λ c x. absurd cc) (λ x. absurd cc) (λ r x y. cc) d)
+  | inr (few, d) ↦ elim (either_if (nat_lt 256 args_len) _ _ (outcome, after) d) [
+    | inl (t, h) ↦ Same (same_case before after (Add name number args_len checked) outcome ArgumentsLimit (λ x. cc) (λ c x. absurd cc) (λ x. absurd cc) (λ r x y. cc) h)
+    | inr (short, h) ↦ checked_case w before after name number args_len checked outcome (less max_calls (call_count before) few) (no_more 256 args_len short) h
+  ]
+]
+  where
+    less : (m n : ℕ) → nat_le m n ≡ false → n < m
+    less m n e = grind (arith, nat_tests)
+
+    no_more : (m n : ℕ) → nat_lt m n ≡ false → n ≤ m
+    no_more m n e = grind (arith, nat_tests)
+
 with_memory_case : (w : Setting) (before after : World) (step : Step) (outcome : Outcome) → after_step w before step ≡ (outcome, after) → Case w before step outcome after
 unfolding after_step
-with_memory_case w before after (Begin r procedure args) outcome e = begin_case w before after r procedure args outcome (numbered before.replicas r) (by_number w.catalogue procedure) refl refl e
+with_memory_case w before after (Begin r procedure args request) outcome e = begin_case w before after r procedure args request outcome (numbered before.replicas r) (by_number (procedures_after w before.log (position_of (numbered before.replicas r))) procedure) refl refl e
 with_memory_case w before after (Turn c) outcome e = turn_case w before after c outcome (open_call before c) refl e
 with_memory_case w before after (Order c) outcome e = order_case w before after c outcome (open_call before c) refl e
 with_memory_case w before after (Deliver r) outcome e = deliver_case w before after r outcome (numbered before.replicas r) refl e
 with_memory_case w before after (Rebuild r) outcome e = rebuild_case w before after r outcome (numbered before.replicas r) refl e
+with_memory_case w before after (Add name number args_len checked) outcome e = add_case w before after name number args_len checked outcome e
 
 -- ---- where memory is refused
 
 some_done : (a b : Done) → just a ≡ just b → a ≡ b
 some_done a b e = cc
 
-pub begin_refused : (before after : World) (r procedure : ℕ) (args : List ℕ) (o outcome : Outcome) → after_refused_memory before (Begin r procedure args) o ≡ just (outcome, after) → done (Refused OutOfMemory) before ≡ done outcome after
-begin_refused before after r procedure args (Begun c s) outcome e = some_done _ _ e
-begin_refused before after r procedure args More outcome e = absurd cc
-begin_refused before after r procedure args (Exit n) outcome e = absurd cc
-begin_refused before after r procedure args Stale outcome e = absurd cc
-begin_refused before after r procedure args NoMemory outcome e = absurd cc
-begin_refused before after r procedure args (Ordered d) outcome e = absurd cc
-begin_refused before after r procedure args (Read s n) outcome e = absurd cc
-begin_refused before after r procedure args (Cancelled s n) outcome e = absurd cc
-begin_refused before after r procedure args (Delivered d v) outcome e = absurd cc
-begin_refused before after r procedure args (Rebuilt p) outcome e = absurd cc
-begin_refused before after r procedure args (Refused x) outcome e = absurd cc
+pub begin_refused : (before after : World) (r procedure : ℕ) (args : List ℕ) (request : Option RequestId) (o outcome : Outcome) → after_refused_memory before (Begin r procedure args request) o ≡ just (outcome, after) → done (Refused OutOfMemory) before ≡ done outcome after
+begin_refused before after r procedure args request (Begun c s) outcome e = some_done _ _ e
+begin_refused before after r procedure args request More outcome e = absurd cc
+begin_refused before after r procedure args request (Exit n) outcome e = absurd cc
+begin_refused before after r procedure args request Stale outcome e = absurd cc
+begin_refused before after r procedure args request NoMemory outcome e = absurd cc
+begin_refused before after r procedure args request (Ordered d) outcome e = absurd cc
+begin_refused before after r procedure args request (Read s n) outcome e = absurd cc
+begin_refused before after r procedure args request (Cancelled s n) outcome e = absurd cc
+begin_refused before after r procedure args request (Delivered d v) outcome e = absurd cc
+begin_refused before after r procedure args request (Rebuilt p) outcome e = absurd cc
+begin_refused before after r procedure args request (Added p) outcome e = absurd cc
+begin_refused before after r procedure args request (Refused x) outcome e = absurd cc
 
 pub order_refused : (before after : World) (c : ℕ) (o outcome : Outcome) → after_refused_memory before (Order c) o ≡ just (outcome, after) → done (Refused OutOfMemory) (without_call before c) ≡ done outcome after
 order_refused before after c (Ordered d) outcome e = some_done _ _ e
@@ -329,10 +391,12 @@ order_refused before after c (Read s n) outcome e = absurd cc
 order_refused before after c (Cancelled s n) outcome e = absurd cc
 order_refused before after c (Delivered d v) outcome e = absurd cc
 order_refused before after c (Rebuilt p) outcome e = absurd cc
+order_refused before after c (Added p) outcome e = absurd cc
 order_refused before after c (Refused x) outcome e = absurd cc
 
 pub rebuild_refused : (before after : World) (r : ℕ) (o outcome : Outcome) → after_refused_memory before (Rebuild r) o ≡ just (outcome, after) → done (Refused OutOfMemory) before ≡ done outcome after
 rebuild_refused before after r (Rebuilt p) outcome e = some_done _ _ e
+rebuild_refused before after r (Added p) outcome e = absurd cc
 rebuild_refused before after r (Begun a s) outcome e = absurd cc
 rebuild_refused before after r More outcome e = absurd cc
 rebuild_refused before after r (Exit n) outcome e = absurd cc
@@ -343,6 +407,33 @@ rebuild_refused before after r (Read s n) outcome e = absurd cc
 rebuild_refused before after r (Cancelled s n) outcome e = absurd cc
 rebuild_refused before after r (Delivered d v) outcome e = absurd cc
 rebuild_refused before after r (Refused x) outcome e = absurd cc
+
+pub add_refused : (before after : World) (name : List ℕ) (number args_len : ℕ) (checked : Checked) (o outcome : Outcome) → after_refused_memory before (Add name number args_len checked) o ≡ just (outcome, after) → done (Refused OutOfMemory) before ≡ done outcome after
+add_refused before after name number args_len checked (Added p) outcome e = some_done _ _ e
+add_refused before after name number args_len checked (Rebuilt p) outcome e = absurd cc
+add_refused before after name number args_len checked (Begun a s) outcome e = absurd cc
+add_refused before after name number args_len checked More outcome e = absurd cc
+add_refused before after name number args_len checked (Exit n) outcome e = absurd cc
+add_refused before after name number args_len checked Stale outcome e = absurd cc
+add_refused before after name number args_len checked NoMemory outcome e = absurd cc
+add_refused before after name number args_len checked (Ordered d) outcome e = absurd cc
+add_refused before after name number args_len checked (Read s n) outcome e = absurd cc
+add_refused before after name number args_len checked (Cancelled s n) outcome e = absurd cc
+add_refused before after name number args_len checked (Delivered d v) outcome e = absurd cc
+add_refused before after name number args_len checked (Refused NoReplica) outcome e = absurd cc
+add_refused before after name number args_len checked (Refused NoProcedure) outcome e = absurd cc
+add_refused before after name number args_len checked (Refused ArgumentsLength) outcome e = absurd cc
+add_refused before after name number args_len checked (Refused NoCall) outcome e = absurd cc
+add_refused before after name number args_len checked (Refused NotAtExit) outcome e = absurd cc
+add_refused before after name number args_len checked (Refused NothingToDeliver) outcome e = absurd cc
+add_refused before after name number args_len checked (Refused ReplicaStopped) outcome e = absurd cc
+add_refused before after name number args_len checked (Refused LogFull) outcome e = absurd cc
+add_refused before after name number args_len checked (Refused OutOfMemory) outcome e = absurd cc
+add_refused before after name number args_len checked (Refused TooManyCalls) outcome e = absurd cc
+add_refused before after name number args_len checked (Refused ArgumentsLimit) outcome e = absurd cc
+add_refused before after name number args_len checked (Refused ZeroInRequest) outcome e = absurd cc
+add_refused before after name number args_len checked (Refused (ProgramRefused fault)) outcome e = some_done _ _ e
+add_refused before after name number args_len checked (Refused NameShape) outcome e = some_done _ _ e
 
 -- only a delivery that answers a verdict, so of a replica that there is
 pub deliver_refused : (before after : World) (r : ℕ) (o : Done) (outcome : Outcome) → after_refused_memory before (Deliver r) o.0 ≡ just (outcome, after) → ((d : ℕ) × (v : Verdict) × (o.0 ≡ Delivered d v)) × (done (Refused OutOfMemory) (with_stopped before r (numbered before.replicas r)) ≡ done outcome after)
@@ -356,6 +447,7 @@ deliver_refused before after r (Ordered d, x) outcome e = absurd cc
 deliver_refused before after r (Read s n, x) outcome e = absurd cc
 deliver_refused before after r (Cancelled s n, x) outcome e = absurd cc
 deliver_refused before after r (Rebuilt p, x) outcome e = absurd cc
+deliver_refused before after r (Added p, x) outcome e = absurd cc
 deliver_refused before after r (Refused y, x) outcome e = absurd cc
 
 stop_case : (w : Setting) (before after : World) (r : ℕ) (outcome : Outcome) (o : Option Replica) (d : ℕ) (v : Verdict) → numbered before.replicas r ≡ o → (after_deliver w before r o).0 ≡ Delivered d v
@@ -374,7 +466,7 @@ turn_memory_case : (w : Setting) (before after : World) (c : ℕ) (outcome : Out
 turn_memory_case w before after c outcome None e = absurd cc
 turn_memory_case w before after c outcome (Some o) e = elim (either_if (is_stale w before o) None _ (just (outcome, after)) e) [
   | inl (t, d) ↦ absurd cc
-  | inr (t, d) ↦ elim (either_if (at_row_helper (by_number w.catalogue o.call.procedure) (moment_at w before.log o.call o.turns)) (just (NoMemory, without_call before c)) None (just (outcome, after)) d) [
+  | inr (t, d) ↦ elim (either_if (at_row_helper (procedure_of w before.log o.call) (moment_at w before.log o.call o.turns)) (just (NoMemory, without_call before c)) None (just (outcome, after)) d) [
     | inl (t, h) ↦ Over (over_case w before after c outcome NoMemory (inr refl) (some_done _ _ h))
     | inr (t, h) ↦ absurd cc
   ]
@@ -395,8 +487,8 @@ order_memory_case w before after c outcome e =
 
 without_memory_case : (w : Setting) (before after : World) (step : Step) (outcome : Outcome) → after_step_without_memory w before step ≡ just (outcome, after) → Case w before step outcome after
 unfolding after_step_without_memory after_step
-without_memory_case w before after (Begin r procedure args) outcome e =
-    Same (same_case before after (Begin r procedure args) outcome OutOfMemory (λ x. cc) (λ c x. absurd cc) (λ x. refl) (λ r x y. cc) (begin_refused before after r procedure args (after_step w before (Begin r procedure args)).0 outcome e))
+without_memory_case w before after (Begin r procedure args request) outcome e =
+    Same (same_case before after (Begin r procedure args request) outcome OutOfMemory (λ x. cc) (λ c x. absurd cc) (λ x. refl) (λ r x y. cc) (begin_refused before after r procedure args request (after_step w before (Begin r procedure args request)).0 outcome e))
 without_memory_case w before after (Turn c) outcome e = turn_memory_case w before after c outcome (open_call before c) e
 without_memory_case w before after (Order c) outcome e = Over (order_memory_case w before after c outcome (order_refused before after c (after_step w before (Order c)).0 outcome e))
 without_memory_case w before after (Deliver r) outcome e =
@@ -404,6 +496,8 @@ without_memory_case w before after (Deliver r) outcome e =
     stop_case w before after r outcome (numbered before.replicas r) known.0 known.1 refl known.2 done
 without_memory_case w before after (Rebuild r) outcome e =
     Same (same_case before after (Rebuild r) outcome OutOfMemory (λ x. cc) (λ c x. absurd cc) (λ x. refl) (λ r x y. cc) (rebuild_refused before after r (after_step w before (Rebuild r)).0 outcome e))
+without_memory_case w before after (Add name number args_len checked) outcome e =
+    Same (same_case before after (Add name number args_len checked) outcome OutOfMemory (λ x. cc) (λ c x. absurd cc) (λ x. refl) (λ r x y. cc) (add_refused before after name number args_len checked (after_step w before (Add name number args_len checked)).0 outcome e))
 
 pub step_case : (w : Setting) (before : World) (step : Step) (outcome : Outcome) (after : World) → IsStep w before step outcome after → Case w before step outcome after
 step_case w before step outcome after (inl e) = with_memory_case w before after step outcome e

@@ -3,12 +3,12 @@ use Rattle.std.proofs.Common.{◌≡◌, ℕ, zero, suc, ◌+◌, List, [], ◌�
 use Rattle.log_model.specs.declared.verdict.Verdict.{Verdict}
 use Rattle.dsm_model.specs.declared.outcome.Outcome.{Outcome}
 use Rattle.dsm_model.specs.declared.outcome.Outcome.TheVariants.{Delivered}
-use Rattle.log_model.specs.Log.{Setting, Call, Log, verdict_of}
-use Rattle.dsm_model.specs.World.{World, Replica, OpenCall, Step, numbered, open_call, without_call, with_replica, with_begun, with_turns, with_ordered, IsStep, AreSteps}
+use Rattle.log_model.specs.Log.{StoredProcedure, Setting, Call, CallItem, AdditionItem, Log, verdict_of}
+use Rattle.dsm_model.specs.World.{World, Replica, OpenCall, Step, numbered, open_call, without_call, with_replica, with_begun, with_turns, with_ordered, with_added, IsStep, AreSteps}
 use Rattle.log_model.proofs.RunLemmas.{just}
 use Rattle.log_model.proofs.GrowthLemmas.{verdict_grown, verdict_within}
 use Rattle.dsm_model.proofs.Numbered.{some_is, numbered_there, numbered_first, flat_is}
-use Rattle.dsm_model.proofs.Cases.{Case, Same, New, Over, Turned, Appended, Verdicted, Stop, Anew, step_case}
+use Rattle.dsm_model.proofs.Cases.{Case, Same, New, Over, Turned, Appended, Verdicted, Stop, Anew, Put, step_case}
 
 -- what may become of a call
 abbrev pub Follows : Option OpenCall → Option OpenCall → Type 0
@@ -64,7 +64,10 @@ began world r call = record {
 }
 
 with_more : (world : World) (c : ℕ) (call : Call) → Leads world (with_ordered world c call)
-with_more world c call = record { more = call ∷ []; log = refl; calls = (ended world c).calls }
+with_more world c call = record { more = CallItem call ∷ []; log = refl; calls = (ended world c).calls }
+
+with_addition : (world : World) (p : StoredProcedure) → Leads world (with_added world p)
+with_addition world p = record { more = AdditionItem p ∷ []; log = refl; calls = λ c x e. (x, e, follows-self x) }
 
 case_leads : (w : Setting) (before : World) (step : Step) (outcome : Outcome) (after : World) → Case w before step outcome after → Leads before after
 case_leads w before step outcome after (Same c) = subst (Leads before) (sym c.same) (same before)
@@ -75,6 +78,7 @@ case_leads w before step outcome after (Appended c) = subst (Leads before) (sym 
 case_leads w before step outcome after (Verdicted c) = subst (Leads before) (sym c.leaves) (moved before c.r _)
 case_leads w before step outcome after (Stop c) = subst (Leads before) (sym c.leaves) (moved before c.r _)
 case_leads w before step outcome after (Anew c) = subst (Leads before) (sym c.leaves) (moved before c.r _)
+case_leads w before step outcome after (Put c) = subst (Leads before) (sym c.leaves) (with_addition before _)
 
 pub step_leads : (w : Setting) (before : World) (step : Step) (outcome : Outcome) (after : World) → IsStep w before step outcome after → Leads before after
 step_leads w before step outcome after e = case_leads w before step outcome after (step_case w before step outcome after e)
@@ -107,6 +111,7 @@ step_verdict w before step d v outcome after is (Verdicted c) =
     ap (λ (x : World). verdict_of w x.log d) c.leaves ∙ ap (verdict_of w before.log) (sym same_place) ∙ c.known ∙ ap just same_verdict
 step_verdict w before step d v outcome after is (Stop c) = absurd (let e = sym c.answer ∙ is in cc)
 step_verdict w before step d v outcome after is (Anew c) = absurd (let e = sym c.answer ∙ is in cc)
+step_verdict w before step d v outcome after is (Put c) = absurd (let e = sym c.answer ∙ is in cc)
 
 pub verdict_stays : (w : Setting) (log more : Log) (d : ℕ) (v : Verdict) → verdict_of w log d ≡ just v → verdict_of w (log ++ more) d ≡ just v
 verdict_stays w log more zero v e = absurd cc

@@ -15,7 +15,7 @@ use Rattle.bpf_semantics.specs.Run.{moment, next_moment}
 use Rattle.bpf_semantics.specs.Agree.{looks_of}
 use Rattle.bpf_semantics.proofs.RunLemmas.{exit_is, step_runs, going_runs, ended_runs}
 use Rattle.bpf_semantics.proofs.LookLemmas.{execute_looks}
-use Rattle.log_model.specs.Log.{StoredProcedure, Setting, Call, Log, by_number, moment_at}
+use Rattle.log_model.specs.Log.{StoredProcedure, Setting, Call, Log, moment_at, procedure_of}
 use Rattle.log_model.specs.Fit.{HasSafeProcedures}
 use Rattle.dsm_model.specs.World.{World, OpenCall, open_call, makes_look, is_row_helper, calls_row_helper, at_row_helper}
 use Rattle.dsm_model.specs.Sound.{IsWorld, IsSound}
@@ -32,7 +32,7 @@ record LooksNext (w : Setting) (log : Log) (o : OpenCall) : Type 0 where
   next : moment_at w log o.call (o.turns + 1) ≡ Going t
   one_more : t.looks ≡ s.looks ++ look ∷ []
 
-one_further : (w : Setting) (log : Log) (call : Call) (p : StoredProcedure) (k : ℕ) → by_number w.catalogue call.procedure ≡ just p → moment_at w log call (k + 1) ≡ next_moment (step p.program w.tables) (moment_at w log call k)
+one_further : (w : Setting) (log : Log) (call : Call) (p : StoredProcedure) (k : ℕ) → procedure_of w log call ≡ just p → moment_at w log call (k + 1) ≡ next_moment (step p.program w.tables) (moment_at w log call k)
 unfolding moment
 one_further w log call p k known =
     let one : k + 1 ≡ suc k = omega arith in

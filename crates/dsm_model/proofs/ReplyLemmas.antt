@@ -5,16 +5,17 @@ use Rattle.bpf_semantics.specs.Run.{Run}
 use Rattle.log_model.specs.declared.verdict.Verdict.TheVariants.{Commit}
 use Rattle.dsm_model.specs.declared.outcome.Outcome.{Outcome}
 use Rattle.dsm_model.specs.declared.outcome.Outcome.TheVariants.{Exit, Ordered}
-use Rattle.log_model.specs.Log.{Setting, Call, Log, run_in, verdict_of}
+use Rattle.log_model.specs.Log.{Setting, Call, Item, CallItem, Log, run_in, verdict_of}
 use Rattle.log_model.specs.Fit.{HasSafeProcedures}
 use Rattle.dsm_model.specs.World.{World, OpenCall, Step, Turn, Order, numbered, flatten, open_call, IsStep, AreSteps}
-use Rattle.dsm_model.specs.Sound.{HasByteArguments, IsWorld, IsSerialReply}
+use Rattle.dsm_model.specs.Sound.{IsWorld, IsSerialReply, IsGiven, AreGiven}
 use Rattle.log_model.proofs.GrowthLemmas.{run_grown, get_before}
 use Rattle.log_model.proofs.RunLemmas.{just}
 use Rattle.log_model.proofs.CallLemmas.{serial_run}
 use Rattle.dsm_model.proofs.Numbered.{some_is, flat_is, get_last}
-use Rattle.dsm_model.proofs.Cases.{Case, Same, New, Over, Turned, Appended, Verdicted, Stop, Anew, step_case}
+use Rattle.dsm_model.proofs.Cases.{Case, Same, New, Over, Turned, Appended, Verdicted, Stop, Anew, step_case, Put}
 use Rattle.dsm_model.proofs.WorldLemmas.{begun_within, step_keeps, steps_keep}
+use Rattle.log_model.proofs.GrowthLemmas.{run_grown}
 use Rattle.dsm_model.proofs.LeadLemmas.{Follows, Leads, step_leads, log_grows}
 
 -- it is over, or goes on, with this as its run's reply
@@ -60,6 +61,7 @@ case_exit w before step c reply outcome after is exit (Appended x) = absurd (let
 case_exit w before step c reply outcome after is exit (Verdicted x) = absurd (let e = sym x.answer ∙ exit in cc)
 case_exit w before step c reply outcome after is exit (Stop x) = absurd (let e = sym x.answer ∙ exit in cc)
 case_exit w before step c reply outcome after is exit (Anew x) = absurd (let e = sym x.answer ∙ exit in cc)
+case_exit w before step c reply outcome after is exit (Put x) = absurd (let e = sym x.answer ∙ exit in cc)
 
 pub exit_reply : (w : Setting) (before : World) (c reply : ℕ) (after : World) → IsStep w before (Turn c) (Exit reply) after → (o : OpenCall) × (open_call before c ≡ just o) × ((run_in w before.log o.call).reply ≡ reply)
 exit_reply w before c reply after e = case_exit w before (Turn c) c reply (Exit reply) after refl refl (step_case w before (Turn c) (Exit reply) after e)
@@ -74,7 +76,7 @@ record Placed (w : Setting) (log : Log) (d reply : ℕ) : Type 0 where
   before : ℕ
   place : d ≡ suc before
   call : Call
-  stands : slice_get log before ≡ just call
+  stands : slice_get log before ≡ just (CallItem call)
   near : call.snapshot ≤ length log
   told : (run_in w log call).reply ≡ reply
 
@@ -100,23 +102,24 @@ case_placed w before step c d reply outcome after world told is ordered (Appende
     let place = one_place (length before.log + 1) d (sym x.answer ∙ ordered) in
     let near = begun_within w before x.o world (world.open_calls x.c x.o x.stands) in
     let old = told_reply w before c reply x.o (ap (open_call before) (sym same) ∙ x.stands) told in
-    let log : after.log ≡ before.log ++ x.o.call ∷ [] = ap (λ (v : World). v.log) x.leaves in
+    let log : after.log ≡ before.log ++ CallItem x.o.call ∷ [] = ap (λ (v : World). v.log) x.leaves in
     subst (λ (l : Log). Placed w l d reply) (sym log) (record {
       before = length before.log;
       place = omega arith;
       call = x.o.call;
-      stands = get_last before.log x.o.call;
-      near = longer before.log x.o.call x.o.call.snapshot near;
-      told = ap (λ (r : Run). r.reply) (run_grown w before.log (x.o.call ∷ []) x.o.call near) ∙ old;
+      stands = get_last before.log (CallItem x.o.call);
+      near = longer before.log (CallItem x.o.call) x.o.call.snapshot near;
+      told = ap (λ (r : Run). r.reply) (run_grown w before.log (CallItem x.o.call ∷ []) x.o.call near) ∙ old;
     })
   where
-    longer : (log : Log) (call : Call) (n : ℕ) → n ≤ length log → n ≤ length (log ++ call ∷ [])
+    longer : (log : Log) (call : Item) (n : ℕ) → n ≤ length log → n ≤ length (log ++ call ∷ [])
     longer [] call n le = omega arith
     longer (x ∷ log) call zero le = omega arith
     longer (x ∷ log) call (suc n) le = let rest = longer log call n (omega arith) in omega arith
 case_placed w before step c d reply outcome after world told is ordered (Verdicted x) = absurd (let e = sym x.is ∙ is in cc)
 case_placed w before step c d reply outcome after world told is ordered (Stop x) = absurd (let e = sym x.is ∙ is in cc)
 case_placed w before step c d reply outcome after world told is ordered (Anew x) = absurd (let e = sym x.is ∙ is in cc)
+case_placed w before step c d reply outcome after world told is ordered (Put x) = absurd (let e = sym x.is ∙ is in cc)
 
 within : {X : Type 0} (xs : List X) (k : ℕ) (x : X) → slice_get xs k ≡ just x → k < length xs
 within [] k x e = absurd cc
@@ -135,14 +138,14 @@ placed_on w log more d reply p =
       before = p.before;
       place = p.place;
       call = p.call;
-      stands = get_before log more p.before (within log p.before p.call p.stands) ∙ p.stands;
+      stands = get_before log more p.before (within log p.before (CallItem p.call) p.stands) ∙ p.stands;
       near = omega arith;
       told = ap (λ (r : Run). r.reply) (run_grown w log more p.call p.near) ∙ p.told;
     }
 
 -- ---- steps
 
-ordered_later : (w : Setting) (before : World) (steps : List Step) (outcomes : List Outcome) (after : World) (c j d reply : ℕ) → AllByRecursion HasByteArguments steps → IsWorld w before → AreSteps w before steps outcomes after → Told w before c reply
+ordered_later : (w : Setting) (before : World) (steps : List Step) (outcomes : List Outcome) (after : World) (c j d reply : ℕ) → AreGiven w steps outcomes → IsWorld w before → AreSteps w before steps outcomes after → Told w before c reply
     → slice_get steps j ≡ just (Order c) → slice_get outcomes j ≡ just (Ordered d) → Placed w after.log d reply
 unfolding AreSteps
 ordered_later w before [] [] after c j d reply bytes is h told e f = absurd cc
@@ -159,7 +162,7 @@ ordered_later w before (step ∷ steps) (outcome ∷ outcomes) after c (suc j) d
 exit_is_step : (w : Setting) (before : World) (step : Step) (outcome : Outcome) (after : World) (c reply : ℕ) → step ≡ Turn c → outcome ≡ Exit reply → IsStep w before step outcome after → IsStep w before (Turn c) (Exit reply) after
 exit_is_step w before step outcome after c reply e f h = subst (λ (s : Step). IsStep w before s (Exit reply) after) e (subst (λ (o : Outcome). IsStep w before step o after) f h)
 
-placed_later : (w : Setting) (before : World) (steps : List Step) (outcomes : List Outcome) (after : World) (c i j d reply : ℕ) → AllByRecursion HasByteArguments steps → IsWorld w before → AreSteps w before steps outcomes after
+placed_later : (w : Setting) (before : World) (steps : List Step) (outcomes : List Outcome) (after : World) (c i j d reply : ℕ) → AreGiven w steps outcomes → IsWorld w before → AreSteps w before steps outcomes after
     → slice_get steps i ≡ just (Turn c) → slice_get outcomes i ≡ just (Exit reply) → slice_get steps j ≡ just (Order c) → slice_get outcomes j ≡ just (Ordered d) → i < j → Placed w after.log d reply
 unfolding AreSteps
 placed_later w before [] [] after c i j d reply bytes is h a b e f lt = absurd cc
@@ -173,12 +176,12 @@ placed_later w before (step ∷ steps) (outcome ∷ outcomes) after c zero (suc 
 placed_later w before (step ∷ steps) (outcome ∷ outcomes) after c (suc i) (suc j) d reply bytes is h a b e f lt =
     placed_later w h.0 steps outcomes after c i j d reply bytes.1 (step_keeps w before step outcome h.0 bytes.0 h.1 is) h.2 a b e f (omega arith)
 
-pub serial_reply : (w : Setting) (before : World) (steps : List Step) (outcomes : List Outcome) (after : World) (c i j d reply : ℕ) → HasSafeProcedures w → AllByRecursion HasByteArguments steps → IsWorld w before → AreSteps w before steps outcomes after
+pub serial_reply : (w : Setting) (before : World) (steps : List Step) (outcomes : List Outcome) (after : World) (c i j d reply : ℕ) → HasSafeProcedures w → AreGiven w steps outcomes → IsWorld w before → AreSteps w before steps outcomes after
     → slice_get steps i ≡ Some (Turn c) → slice_get outcomes i ≡ Some (Exit reply) → slice_get steps j ≡ Some (Order c) → slice_get outcomes j ≡ Some (Ordered d) → i < j → verdict_of w after.log d ≡ Some Commit → IsSerialReply w after.log d reply
 serial_reply w before steps outcomes after c i j d reply safe bytes is h a b e f lt commit =
     let p = placed_later w before steps outcomes after c i j d reply bytes is h a b e f lt in
     let end = steps_keep w before steps outcomes after bytes h is in
-    let serial = serial_run w after.log p.before p.call safe end.log end.calls p.stands (ap (verdict_of w after.log) (sym p.place) ∙ commit) in
+    let serial = serial_run w after.log p.before p.call safe end.log end.items p.stands (ap (verdict_of w after.log) (sym p.place) ∙ commit) in
     record {
       before = p.before;
       place = p.place;

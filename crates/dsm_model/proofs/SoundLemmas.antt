@@ -6,28 +6,28 @@ use Rattle.bpf_semantics.specs.Step.{Going, Ended, Stuck}
 use Rattle.bpf_semantics.specs.Run.{moment}
 use Rattle.bpf_semantics.specs.Path.{longest_path}
 use Rattle.bpf_semantics.proofs.MomentLemmas.{before_its_length, from_its_length_on}
-use Rattle.log_model.specs.Log.{StoredProcedure, Setting, Call, Log, by_number, rows_after, run_in, moment_of, moment_at}
+use Rattle.log_model.specs.Log.{StoredProcedure, Setting, Call, Log, rows_after, run_in, moment_of, moment_at, procedures_after, procedure_of}
 use Rattle.log_model.specs.Fit.{HasSafeProcedures, IsCall}
 use Rattle.dsm_model.specs.World.{World, OpenCall, open_call}
 use Rattle.dsm_model.specs.Sound.{IsOpenCall, IsWorld, IsSound}
 use Rattle.log_model.proofs.RunLemmas.{just, HasRun, has_run}
-use Rattle.log_model.proofs.GrowthLemmas.{rows_fit}
+use Rattle.log_model.proofs.GrowthLemmas.{rows_fit, procedures_safe}
 use Rattle.dsm_model.proofs.WorldLemmas.{begun_within}
 
-pub at_procedure : (w : Setting) (log : Log) (call : Call) (p : StoredProcedure) (k : ℕ) → by_number w.catalogue call.procedure ≡ just p → moment_at w log call k ≡ moment p.program w.tables k (entry_state call.args (rows_after w log call.snapshot))
+pub at_procedure : (w : Setting) (log : Log) (call : Call) (p : StoredProcedure) (k : ℕ) → procedure_of w log call ≡ just p → moment_at w log call k ≡ moment p.program w.tables k (entry_state call.args (rows_after w log call.snapshot))
 unfolding moment_at
-at_procedure w log call p k known = ap (λ (o : Option StoredProcedure). moment_of w o call.args (rows_after w log call.snapshot) k) known
+at_procedure w log call p k known = ap (λ (o : Option StoredProcedure). moment_of w.tables o call.args (rows_after w log call.snapshot) k) known
 
 -- what is known of the run of an open call
-pub open_run : (w : Setting) (world : World) (o : OpenCall) → HasSafeProcedures w → IsWorld w world → (one : IsOpenCall w world o) → HasRun w o.call (rows_after w world.log o.call.snapshot) one.is_call
-open_run w world o safe is one = has_run w o.call (rows_after w world.log o.call.snapshot) safe one.is_call (rows_fit w world.log o.call.snapshot safe is.log is.calls (begun_within w world o is one))
+pub open_run : (w : Setting) (world : World) (o : OpenCall) → HasSafeProcedures w → IsWorld w world → (one : IsOpenCall w world o) → HasRun w.tables (procedures_after w world.log o.call.snapshot) o.call (rows_after w world.log o.call.snapshot) one.is_call
+open_run w world o safe is one = has_run w.tables (procedures_after w world.log o.call.snapshot) o.call (rows_after w world.log o.call.snapshot) (procedures_safe w world.log o.call.snapshot safe is.log is.items (begun_within w world o is one)) one.is_call (rows_fit w world.log o.call.snapshot safe is.log is.items (begun_within w world o is one))
 
-ended : (w : Setting) (log : Log) (call : Call) (c : IsCall w call) (k : ℕ) → HasRun w call (rows_after w log call.snapshot) c → (run_in w log call).steps ≤ k → (s : State) × (moment_at w log call k ≡ Ended (run_in w log call).reply s)
+ended : (w : Setting) (log : Log) (call : Call) (c : IsCall w log call) (k : ℕ) → HasRun w.tables (procedures_after w log call.snapshot) call (rows_after w log call.snapshot) c → (run_in w log call).steps ≤ k → (s : State) × (moment_at w log call k ≡ Ended (run_in w log call).reply s)
 ended w log call c k has le =
     let end = from_its_length_on c.procedure.program w.tables call.args (rows_after w log call.snapshot) (run_in w log call) k has.run le in
     (end.0, at_procedure w log call c.procedure k c.known ∙ end.1)
 
-not_stuck : (w : Setting) (log : Log) (call : Call) (c : IsCall w call) (k : ℕ) → HasRun w call (rows_after w log call.snapshot) c → moment_at w log call k ≢ Stuck
+not_stuck : (w : Setting) (log : Log) (call : Call) (c : IsCall w log call) (k : ℕ) → HasRun w.tables (procedures_after w log call.snapshot) call (rows_after w log call.snapshot) c → moment_at w log call k ≢ Stuck
 not_stuck w log call c k has stuck = elim (cases_lt k (run_in w log call).steps) [
   | inl lt ↦
       let on = before_its_length c.procedure.program w.tables call.args (rows_after w log call.snapshot) (run_in w log call) k has.run lt in
@@ -37,7 +37,7 @@ not_stuck w log call c k has stuck = elim (cases_lt k (run_in w log call).steps)
   | inr ge ↦ let end = (ended w log call c k has ge).1 in cc
 ]
 
-so_far : (w : Setting) (log : Log) (call : Call) (c : IsCall w call) (k : ℕ) → HasRun w call (rows_after w log call.snapshot) c → k ≤ (run_in w log call).steps
+so_far : (w : Setting) (log : Log) (call : Call) (c : IsCall w log call) (k : ℕ) → HasRun w.tables (procedures_after w log call.snapshot) call (rows_after w log call.snapshot) c → k ≤ (run_in w log call).steps
     → ((s : State) × (moment_at w log call k ≡ Going s) × (s.steps ≡ k)) ⊎ ((s : State) × (moment_at w log call k ≡ Ended (run_in w log call).reply s) × (k ≡ (run_in w log call).steps))
 so_far w log call c k has le = elim (cases_lt k (run_in w log call).steps) [
   | inl lt ↦

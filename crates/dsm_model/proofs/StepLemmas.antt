@@ -2,18 +2,22 @@
 use Rattle.std.proofs.Common.{◌≡◌, ◌⊎◌, inl, inr, ℕ, zero, suc, ◌+◌, ◌-◌, ◌≤◌, ◌<◌, Bool, true, false, not, ◌&&◌, List, length, nat_eq, nat_le, nat_lt, Option, Some, None, IsSome, IsTrue, refl, sym, ap, ◌∙◌, arith}
 use Rattle.std.specs.FinMap.{len}
 use Rattle.std.proofs.lemmas.Bool.Decides.{nat_tests}
+use Rattle.bpf_code.specs.Program.{Program}
 use Rattle.bpf_semantics.specs.Run.{Run}
+use Rattle.log_model.specs.declared.request.RequestId.{RequestId}
+use Rattle.dsm_model.specs.declared.outcome.ProgramFault.{ProgramFault}
 use Rattle.log_model.specs.declared.verdict.Verdict.{Verdict}
 use Rattle.dsm_model.specs.declared.outcome.StepRefusal.{StepRefusal}
-use Rattle.dsm_model.specs.declared.outcome.StepRefusal.TheVariants.{NoReplica, NoProcedure, ArgumentsLength, NoCall, NotAtExit, NothingToDeliver, ReplicaStopped, LogFull, OutOfMemory, TooManyCalls}
+use Rattle.dsm_model.specs.declared.outcome.StepRefusal.TheVariants.{NoReplica, NoProcedure, ArgumentsLength, NoCall, NotAtExit, NothingToDeliver, ReplicaStopped, LogFull, OutOfMemory, TooManyCalls, ArgumentsLimit, ProgramRefused, NameShape, ZeroInRequest}
 use Rattle.dsm_model.specs.declared.outcome.Outcome.{Outcome}
-use Rattle.dsm_model.specs.declared.outcome.Outcome.TheVariants.{Begun, More, Exit, Stale, NoMemory, Ordered, Read, Cancelled, Delivered, Rebuilt, Refused}
-use Rattle.log_model.specs.Log.{StoredProcedure, Setting, Call, Log, by_number, run_in, verdict_of, moment_at}
-use Rattle.dsm_model.specs.World.{World, Replica, OpenCall, Step, Begin, Turn, Order, Deliver, Rebuild, max_calls, numbered, position_of, open_call, without_call, with_replica, with_begun, after_begin, makes_look, is_stale, with_turns, after_turn, with_ordered, after_order_by_run, after_order, after_deliver_next, after_deliver, after_rebuild, after_step, with_stopped, at_row_helper, after_turn_without_memory, after_step_without_memory, IsStep}
+use Rattle.dsm_model.specs.declared.outcome.Outcome.TheVariants.{Begun, More, Exit, Stale, NoMemory, Ordered, Read, Cancelled, Delivered, Rebuilt, Refused, Added}
+use Rattle.log_model.specs.Log.{StoredProcedure, Setting, Call, Log, by_number, run_in, verdict_of, moment_at, procedures_after, procedure_of}
+use Rattle.dsm_model.specs.World.{World, Replica, OpenCall, Step, Begin, Turn, Order, Deliver, Rebuild, max_calls, numbered, position_of, open_call, without_call, with_replica, with_begun, after_begin, makes_look, is_stale, with_turns, after_turn, with_ordered, after_order_by_run, after_order, after_deliver_next, after_deliver, after_rebuild, after_step, with_stopped, at_row_helper, after_turn_without_memory, after_refused_memory, after_step_without_memory, IsStep, Checked, Passed, Failed, Add, call_count, or_none, has_zero, with_added, after_add_checked, after_add}
+use Rattle.log_model.specs.Name.{is_name}
 use Rattle.log_model.proofs.RunLemmas.{just}
 use Rattle.log_model.proofs.EntryLemmas.{verdict_there}
 use Rattle.log_model.proofs.GrowthLemmas.{verdict_within}
-use Rattle.dsm_model.proofs.Cases.{Done, done, fst, snd, either_if, begin_refused, order_refused, deliver_refused, rebuild_refused}
+use Rattle.dsm_model.proofs.Cases.{Done, done, fst, snd, either_if, begin_refused, order_refused, deliver_refused, rebuild_refused, add_refused}
 
 -- ---- where memory is refused, the answer says so
 
@@ -21,7 +25,7 @@ pub record TurnWithoutMemory (w : Setting) (before : World) (c : ℕ) (found : O
   pub o : OpenCall
   pub stands : found ≡ just o
   pub kept : is_stale w before o ≡ false
-  pub at : at_row_helper (by_number w.catalogue o.call.procedure) (moment_at w before.log o.call o.turns) ≡ true
+  pub at : at_row_helper (procedure_of w before.log o.call) (moment_at w before.log o.call o.turns) ≡ true
   pub answer : outcome ≡ NoMemory
   pub leaves : after ≡ without_call before c
 
@@ -32,7 +36,7 @@ pub turn_without : (w : Setting) (before after : World) (c : ℕ) (outcome : Out
 turn_without w before after c outcome None e = absurd cc
 turn_without w before after c outcome (Some o) e = elim (either_if (is_stale w before o) None _ (just (outcome, after)) e) [
   | inl (t, d) ↦ absurd cc
-  | inr (t, d) ↦ elim (either_if (at_row_helper (by_number w.catalogue o.call.procedure) (moment_at w before.log o.call o.turns)) (just (NoMemory, without_call before c)) None (just (outcome, after)) d) [
+  | inr (t, d) ↦ elim (either_if (at_row_helper (procedure_of w before.log o.call) (moment_at w before.log o.call o.turns)) (just (NoMemory, without_call before c)) None (just (outcome, after)) d) [
     | inl (at, h) ↦ record {
       o = o;
       stands = refl;
@@ -47,11 +51,12 @@ turn_without w before after c outcome (Some o) e = elim (either_if (is_stale w b
 
 memory_answer : (w : Setting) (before after : World) (step : Step) (outcome : Outcome) → after_step_without_memory w before step ≡ just (done outcome after) → (outcome ≡ Refused OutOfMemory) ⊎ (outcome ≡ NoMemory)
 unfolding after_step_without_memory
-memory_answer w before after (Begin r procedure args) outcome e = inl (sym (fst (Refused OutOfMemory, before) (outcome, after) (begin_refused before after r procedure args (after_step w before (Begin r procedure args)).0 outcome e)))
+memory_answer w before after (Begin r procedure args request) outcome e = inl (sym (fst (Refused OutOfMemory, before) (outcome, after) (begin_refused before after r procedure args request (after_step w before (Begin r procedure args request)).0 outcome e)))
 memory_answer w before after (Turn c) outcome e = inr (turn_without w before after c outcome (open_call before c) e).answer
 memory_answer w before after (Order c) outcome e = inl (sym (fst (Refused OutOfMemory, without_call before c) (outcome, after) (order_refused before after c (after_step w before (Order c)).0 outcome e)))
 memory_answer w before after (Deliver r) outcome e = inl (sym (fst (Refused OutOfMemory, with_stopped before r (numbered before.replicas r)) (outcome, after) (deliver_refused before after r (after_step w before (Deliver r)) outcome e).1))
 memory_answer w before after (Rebuild r) outcome e = inl (sym (fst (Refused OutOfMemory, before) (outcome, after) (rebuild_refused before after r (after_step w before (Rebuild r)).0 outcome e)))
+memory_answer w before after (Add name number args_len checked) outcome e = inl (sym (fst (Refused OutOfMemory, before) (outcome, after) (add_refused before after name number args_len checked (after_step w before (Add name number args_len checked)).0 outcome e)))
 
 pub with_memory : (w : Setting) (before after : World) (step : Step) (outcome : Outcome) → (outcome ≡ Refused OutOfMemory → ⊥) → (outcome ≡ NoMemory → ⊥) → IsStep w before step outcome after → after_step w before step ≡ done outcome after
 with_memory w before after step outcome f g (inl e) = e
@@ -77,108 +82,125 @@ begun_call a b c d e = cc
 begun_snapshot : (a b c d : ℕ) → Begun a b ≡ Begun c d → b ≡ d
 begun_snapshot a b c d e = cc
 
-abbrev begun_world : World → ℕ → ℕ → List ℕ → ℕ → ℕ → World
-begun_world before r procedure args c snapshot = with_begun before r (record { number = c; procedure = procedure; args = args; snapshot = snapshot })
+abbrev begun_world : World → ℕ → ℕ → List ℕ → Option RequestId → ℕ → ℕ → World
+begun_world before r procedure args request c snapshot = with_begun before r (record { number = c; procedure = procedure; args = args; snapshot = snapshot; request = or_none request })
 
-begin_begun : (before after : World) (r procedure : ℕ) (args : List ℕ) (c snapshot : ℕ) (o : Option Replica) (p : Option StoredProcedure) → after_begin before r procedure args o p ≡ done (Begun c snapshot) after
-    → (replica : Replica) × (stored : StoredProcedure) × (o ≡ just replica) × (p ≡ just stored) × (length args ≡ stored.args_len) × (length before.calls < max_calls) × (c ≡ length before.calls + 1) × (snapshot ≡ replica.position) × (after ≡ begun_world before r procedure args c snapshot)
-begin_begun before after r procedure args c snapshot None p e = absurd (let x = fst (Refused NoReplica, before) (Begun c snapshot, after) e in cc)
-begin_begun before after r procedure args c snapshot (Some replica) None e = absurd (let x = fst (Refused NoProcedure, before) (Begun c snapshot, after) e in cc)
-begin_begun before after r procedure args c snapshot (Some replica) (Some p) e = elim (either_if (not (nat_eq (length args) p.args_len)) _ _ (Begun c snapshot, after) e) [
-  | inl (t, d) ↦ absurd (let x = fst (Refused ArgumentsLength, before) (Begun c snapshot, after) d in cc)
-  | inr (fits, d) ↦ elim (either_if (nat_le max_calls (length before.calls)) _ _ (Begun c snapshot, after) d) [
-    | inl (t, h) ↦ absurd (let x = fst (Refused TooManyCalls, before) (Begun c snapshot, after) h in cc)
-    | inr (few, h) ↦ begun few fits h
-  ]
-]
-  where
-    begun : nat_le max_calls (length before.calls) ≡ false → not (nat_eq (length args) p.args_len) ≡ false → done (Begun (length before.calls + 1) replica.position) (begun_world before r procedure args (length before.calls + 1) replica.position) ≡ done (Begun c snapshot) after
-        → (q : Replica) × (stored : StoredProcedure) × (just replica ≡ just q) × (just p ≡ just stored) × (length args ≡ stored.args_len) × (length before.calls < max_calls) × (c ≡ length before.calls + 1) × (snapshot ≡ q.position) × (after ≡ begun_world before r procedure args c snapshot)
-    begun few fits h =
-        let answer = fst (Begun (length before.calls + 1) replica.position, begun_world before r procedure args (length before.calls + 1) replica.position) (Begun c snapshot, after) h in
-        let leaves = snd (Begun (length before.calls + 1) replica.position, begun_world before r procedure args (length before.calls + 1) replica.position) (Begun c snapshot, after) h in
-        let call : length before.calls + 1 ≡ c = begun_call (length before.calls + 1) replica.position c snapshot answer in
-        let since : replica.position ≡ snapshot = begun_snapshot (length before.calls + 1) replica.position c snapshot answer in (
-          replica,
-          p,
-          refl,
-          refl,
-          same_length (length args) p.args_len fits,
-          less max_calls (length before.calls) few,
-          sym call,
-          sym since,
-          sym leaves ∙ ap (λ (n : ℕ). begun_world before r procedure args n replica.position) call ∙ ap (begun_world before r procedure args c) since,
-        )
+-- the ways in which a begin may be answered
+data BeginWay (w : Setting) (before : World) (r procedure : ℕ) (args : List ℕ) (request : Option RequestId) (outcome : Outcome) (after : World) : Type 0 where
+  Nowhere : numbered before.replicas r ≡ None → outcome ≡ Refused NoReplica → BeginWay w before r procedure args request outcome after
+  Unknown : (replica : Replica) → numbered before.replicas r ≡ just replica → by_number (procedures_after w before.log replica.position) procedure ≡ None → outcome ≡ Refused NoProcedure → BeginWay w before r procedure args request outcome after
+  Unfit : (replica : Replica) (stored : StoredProcedure) → numbered before.replicas r ≡ just replica → by_number (procedures_after w before.log replica.position) procedure ≡ just stored → (length args ≡ stored.args_len → ⊥) → outcome ≡ Refused ArgumentsLength → BeginWay w before r procedure args request outcome after
+  Zero : (replica : Replica) (stored : StoredProcedure) → numbered before.replicas r ≡ just replica → by_number (procedures_after w before.log replica.position) procedure ≡ just stored → length args ≡ stored.args_len → has_zero request ≡ true → outcome ≡ Refused ZeroInRequest → BeginWay w before r procedure args request outcome after
+  Many : (replica : Replica) (stored : StoredProcedure) → numbered before.replicas r ≡ just replica → by_number (procedures_after w before.log replica.position) procedure ≡ just stored → length args ≡ stored.args_len → has_zero request ≡ false → max_calls ≤ call_count before → outcome ≡ Refused TooManyCalls → BeginWay w before r procedure args request outcome after
+  Begins : (replica : Replica) (stored : StoredProcedure) → numbered before.replicas r ≡ just replica → by_number (procedures_after w before.log replica.position) procedure ≡ just stored → length args ≡ stored.args_len → has_zero request ≡ false → call_count before < max_calls
+      → outcome ≡ Begun (length before.calls + 1) replica.position → after ≡ begun_world before r procedure args request (length before.calls + 1) replica.position → BeginWay w before r procedure args request outcome after
 
-pub begins : (w : Setting) (before : World) (r procedure : ℕ) (args : List ℕ) (c snapshot : ℕ) (after : World) → IsStep w before (Begin r procedure args) (Begun c snapshot) after
-    → (replica : Replica) × (stored : StoredProcedure) × (numbered before.replicas r ≡ Some replica) × (by_number w.catalogue procedure ≡ Some stored) × (length args ≡ stored.args_len) × (length before.calls < max_calls) × (c ≡ length before.calls + 1) × (snapshot ≡ replica.position) × (after ≡ begun_world before r procedure args c snapshot)
+begin_way : (w : Setting) (before : World) (r procedure : ℕ) (args : List ℕ) (request : Option RequestId) (outcome : Outcome) (after : World) (o : Option Replica) (p : Option StoredProcedure) → numbered before.replicas r ≡ o → by_number (procedures_after w before.log (position_of (numbered before.replicas r))) procedure ≡ p
+    → after_begin before r procedure args request o p ≡ done outcome after → BeginWay w before r procedure args request outcome after
+begin_way w before r procedure args request outcome after None p f g e = Nowhere f (sym (fst (Refused NoReplica, before) (outcome, after) e))
+begin_way w before r procedure args request outcome after (Some replica) None f g e =
+    Unknown replica f (ap (λ (o : Option Replica). by_number (procedures_after w before.log (position_of o)) procedure) (sym f) ∙ g) (sym (fst (Refused NoProcedure, before) (outcome, after) e))
+begin_way w before r procedure args request outcome after (Some replica) (Some p) f g e =
+    let known : by_number (procedures_after w before.log replica.position) procedure ≡ just p = ap (λ (o : Option Replica). by_number (procedures_after w before.log (position_of o)) procedure) (sym f) ∙ g in
+    elim (either_if (not (nat_eq (length args) p.args_len)) _ _ (outcome, after) e) [
+      | inl (t, d) ↦ Unfit replica p f known (other_length (length args) p.args_len t) (sym (fst (Refused ArgumentsLength, before) (outcome, after) d))
+      | inr (fits, d) ↦ elim (either_if (has_zero request) _ _ (outcome, after) d) [
+        | inl (t, h) ↦ Zero replica p f known (same_length (length args) p.args_len fits) t (sym (fst (Refused ZeroInRequest, before) (outcome, after) h))
+        | inr (one, h) ↦ elim (either_if (nat_le max_calls (call_count before)) _ _ (outcome, after) h) [
+          | inl (t, k) ↦ Many replica p f known (same_length (length args) p.args_len fits) one (at_most max_calls (call_count before) t) (sym (fst (Refused TooManyCalls, before) (outcome, after) k))
+          | inr (few, k) ↦ Begins replica p f known (same_length (length args) p.args_len fits) one (less max_calls (call_count before) few)
+              (sym (fst (Begun (length before.calls + 1) replica.position, begun_world before r procedure args request (length before.calls + 1) replica.position) (outcome, after) k))
+              (sym (snd (Begun (length before.calls + 1) replica.position, begun_world before r procedure args request (length before.calls + 1) replica.position) (outcome, after) k))
+        ]
+      ]
+    ]
+
+way_of_begin : (w : Setting) (before : World) (r procedure : ℕ) (args : List ℕ) (request : Option RequestId) (outcome : Outcome) (after : World) → (outcome ≡ Refused OutOfMemory → ⊥) → (outcome ≡ NoMemory → ⊥) → IsStep w before (Begin r procedure args request) outcome after → BeginWay w before r procedure args request outcome after
 unfolding after_step
-begins w before r procedure args c snapshot after h =
-    begin_begun before after r procedure args c snapshot (numbered before.replicas r) (by_number w.catalogue procedure) (with_memory w before after (Begin r procedure args) (Begun c snapshot) (λ x. cc) (λ x. cc) h)
+way_of_begin w before r procedure args request outcome after f g h =
+    begin_way w before r procedure args request outcome after (numbered before.replicas r) (by_number (procedures_after w before.log (position_of (numbered before.replicas r))) procedure) refl refl (with_memory w before after (Begin r procedure args request) outcome f g h)
 
-begin_nowhere : (before after : World) (r procedure : ℕ) (args : List ℕ) (o : Option Replica) (p : Option StoredProcedure) → after_begin before r procedure args o p ≡ done (Refused NoReplica) after → o ≡ None
-begin_nowhere before after r procedure args None p e = refl
-begin_nowhere before after r procedure args (Some replica) None e = absurd (let x = fst (Refused NoProcedure, before) (Refused NoReplica, after) e in cc)
-begin_nowhere before after r procedure args (Some replica) (Some p) e = absurd (elim (either_if (not (nat_eq (length args) p.args_len)) _ _ (Refused NoReplica, after) e) [
-  | inl (t, d) ↦ (let x = fst (Refused ArgumentsLength, before) (Refused NoReplica, after) d in cc)
-  | inr (fits, d) ↦ elim (either_if (nat_le max_calls (length before.calls)) _ _ (Refused NoReplica, after) d) [
-    | inl (t, h) ↦ (let x = fst (Refused TooManyCalls, before) (Refused NoReplica, after) h in cc)
-    | inr (few, h) ↦ (let x = fst (Begun (length before.calls + 1) replica.position, begun_world before r procedure args (length before.calls + 1) replica.position) (Refused NoReplica, after) h in cc)
-  ]
-])
+abbrev HasBegun : Setting → World → ℕ → ℕ → List ℕ → Option RequestId → ℕ → ℕ → World → Type 0
+HasBegun w before r procedure args request c snapshot after =
+    (replica : Replica) × (stored : StoredProcedure) × (numbered before.replicas r ≡ Some replica) × (by_number (procedures_after w before.log replica.position) procedure ≡ Some stored) × (length args ≡ stored.args_len) × (has_zero request ≡ false) × (call_count before < max_calls) × (c ≡ length before.calls + 1) × (snapshot ≡ replica.position) × (after ≡ begun_world before r procedure args request c snapshot)
 
-pub begins_nowhere : (w : Setting) (before : World) (r procedure : ℕ) (args : List ℕ) (after : World) → IsStep w before (Begin r procedure args) (Refused NoReplica) after → numbered before.replicas r ≡ None
-unfolding after_step
-begins_nowhere w before r procedure args after h =
-    begin_nowhere before after r procedure args (numbered before.replicas r) (by_number w.catalogue procedure) (with_memory w before after (Begin r procedure args) (Refused NoReplica) (λ x. cc) (λ x. cc) h)
+begun_by : (w : Setting) (before : World) (r procedure : ℕ) (args : List ℕ) (request : Option RequestId) (c snapshot : ℕ) (outcome : Outcome) (after : World) → outcome ≡ Begun c snapshot → BeginWay w before r procedure args request outcome after → HasBegun w before r procedure args request c snapshot after
+begun_by w before r procedure args request c snapshot outcome after is (Nowhere a b) = absurd (let x = sym b ∙ is in cc)
+begun_by w before r procedure args request c snapshot outcome after is (Unknown q a b e) = absurd (let x = sym e ∙ is in cc)
+begun_by w before r procedure args request c snapshot outcome after is (Unfit q p a b d e) = absurd (let x = sym e ∙ is in cc)
+begun_by w before r procedure args request c snapshot outcome after is (Zero q p a b d f e) = absurd (let x = sym e ∙ is in cc)
+begun_by w before r procedure args request c snapshot outcome after is (Many q p a b d f g e) = absurd (let x = sym e ∙ is in cc)
+begun_by w before r procedure args request c snapshot outcome after is (Begins q p a b d f g e leaves) =
+    let call : length before.calls + 1 ≡ c = begun_call (length before.calls + 1) q.position c snapshot (sym e ∙ is) in
+    let since : q.position ≡ snapshot = begun_snapshot (length before.calls + 1) q.position c snapshot (sym e ∙ is) in
+    (q, p, a, b, d, f, g, sym call, sym since, leaves ∙ ap (λ (n : ℕ). begun_world before r procedure args request n q.position) call ∙ ap (begun_world before r procedure args request c) since)
 
-begin_unknown : (before after : World) (r procedure : ℕ) (args : List ℕ) (o : Option Replica) (p : Option StoredProcedure) → after_begin before r procedure args o p ≡ done (Refused NoProcedure) after → IsSome o × (p ≡ None)
-begin_unknown before after r procedure args None p e = absurd (let x = fst (Refused NoReplica, before) (Refused NoProcedure, after) e in cc)
-begin_unknown before after r procedure args (Some replica) None e = (refl, refl)
-begin_unknown before after r procedure args (Some replica) (Some p) e = absurd (elim (either_if (not (nat_eq (length args) p.args_len)) _ _ (Refused NoProcedure, after) e) [
-  | inl (t, d) ↦ (let x = fst (Refused ArgumentsLength, before) (Refused NoProcedure, after) d in cc)
-  | inr (fits, d) ↦ elim (either_if (nat_le max_calls (length before.calls)) _ _ (Refused NoProcedure, after) d) [
-    | inl (t, h) ↦ (let x = fst (Refused TooManyCalls, before) (Refused NoProcedure, after) h in cc)
-    | inr (few, h) ↦ (let x = fst (Begun (length before.calls + 1) replica.position, begun_world before r procedure args (length before.calls + 1) replica.position) (Refused NoProcedure, after) h in cc)
-  ]
-])
+pub begins : (w : Setting) (before : World) (r procedure : ℕ) (args : List ℕ) (request : Option RequestId) (c snapshot : ℕ) (after : World) → IsStep w before (Begin r procedure args request) (Begun c snapshot) after
+    → (replica : Replica) × (stored : StoredProcedure) × (numbered before.replicas r ≡ Some replica) × (by_number (procedures_after w before.log replica.position) procedure ≡ Some stored) × (length args ≡ stored.args_len) × (has_zero request ≡ false) × (call_count before < max_calls) × (c ≡ length before.calls + 1) × (snapshot ≡ replica.position) × (after ≡ begun_world before r procedure args request c snapshot)
+begins w before r procedure args request c snapshot after h = begun_by w before r procedure args request c snapshot (Begun c snapshot) after refl (way_of_begin w before r procedure args request (Begun c snapshot) after (λ x. cc) (λ x. cc) h)
 
-pub begins_unknown : (w : Setting) (before : World) (r procedure : ℕ) (args : List ℕ) (after : World) → IsStep w before (Begin r procedure args) (Refused NoProcedure) after → IsSome (numbered before.replicas r) × (by_number w.catalogue procedure ≡ None)
-unfolding after_step
-begins_unknown w before r procedure args after h =
-    begin_unknown before after r procedure args (numbered before.replicas r) (by_number w.catalogue procedure) (with_memory w before after (Begin r procedure args) (Refused NoProcedure) (λ x. cc) (λ x. cc) h)
+nowhere_by : (w : Setting) (before : World) (r procedure : ℕ) (args : List ℕ) (request : Option RequestId) (outcome : Outcome) (after : World) → outcome ≡ Refused NoReplica → BeginWay w before r procedure args request outcome after → numbered before.replicas r ≡ None
+nowhere_by w before r procedure args request outcome after is (Nowhere a b) = a
+nowhere_by w before r procedure args request outcome after is (Unknown q a b e) = absurd (let x = sym e ∙ is in cc)
+nowhere_by w before r procedure args request outcome after is (Unfit q p a b d e) = absurd (let x = sym e ∙ is in cc)
+nowhere_by w before r procedure args request outcome after is (Zero q p a b d f e) = absurd (let x = sym e ∙ is in cc)
+nowhere_by w before r procedure args request outcome after is (Many q p a b d f g e) = absurd (let x = sym e ∙ is in cc)
+nowhere_by w before r procedure args request outcome after is (Begins q p a b d f g e l) = absurd (let x = sym e ∙ is in cc)
 
-begin_length : (before after : World) (r procedure : ℕ) (args : List ℕ) (o : Option Replica) (p : Option StoredProcedure) → after_begin before r procedure args o p ≡ done (Refused ArgumentsLength) after → IsSome o × (stored : StoredProcedure) × (p ≡ just stored) × (length args ≡ stored.args_len → ⊥)
-begin_length before after r procedure args None p e = absurd (let x = fst (Refused NoReplica, before) (Refused ArgumentsLength, after) e in cc)
-begin_length before after r procedure args (Some replica) None e = absurd (let x = fst (Refused NoProcedure, before) (Refused ArgumentsLength, after) e in cc)
-begin_length before after r procedure args (Some replica) (Some p) e = elim (either_if (not (nat_eq (length args) p.args_len)) _ _ (Refused ArgumentsLength, after) e) [
-  | inl (t, d) ↦ (refl, p, refl, other_length (length args) p.args_len t)
-  | inr (fits, d) ↦ absurd (elim (either_if (nat_le max_calls (length before.calls)) _ _ (Refused ArgumentsLength, after) d) [
-    | inl (t, h) ↦ (let x = fst (Refused TooManyCalls, before) (Refused ArgumentsLength, after) h in cc)
-    | inr (few, h) ↦ (let x = fst (Begun (length before.calls + 1) replica.position, begun_world before r procedure args (length before.calls + 1) replica.position) (Refused ArgumentsLength, after) h in cc)
-  ])
-]
+pub begins_nowhere : (w : Setting) (before : World) (r procedure : ℕ) (args : List ℕ) (request : Option RequestId) (after : World) → IsStep w before (Begin r procedure args request) (Refused NoReplica) after → numbered before.replicas r ≡ None
+begins_nowhere w before r procedure args request after h = nowhere_by w before r procedure args request (Refused NoReplica) after refl (way_of_begin w before r procedure args request (Refused NoReplica) after (λ x. cc) (λ x. cc) h)
 
-pub begins_with_others : (w : Setting) (before : World) (r procedure : ℕ) (args : List ℕ) (after : World) → IsStep w before (Begin r procedure args) (Refused ArgumentsLength) after → IsSome (numbered before.replicas r) × (stored : StoredProcedure) × (by_number w.catalogue procedure ≡ Some stored) × (length args ≡ stored.args_len → ⊥)
-unfolding after_step
-begins_with_others w before r procedure args after h =
-    begin_length before after r procedure args (numbered before.replicas r) (by_number w.catalogue procedure) (with_memory w before after (Begin r procedure args) (Refused ArgumentsLength) (λ x. cc) (λ x. cc) h)
+unknown_by : (w : Setting) (before : World) (r procedure : ℕ) (args : List ℕ) (request : Option RequestId) (outcome : Outcome) (after : World) → outcome ≡ Refused NoProcedure → BeginWay w before r procedure args request outcome after
+    → (replica : Replica) × (numbered before.replicas r ≡ just replica) × (by_number (procedures_after w before.log replica.position) procedure ≡ None)
+unknown_by w before r procedure args request outcome after is (Nowhere a b) = absurd (let x = sym b ∙ is in cc)
+unknown_by w before r procedure args request outcome after is (Unknown q a b e) = (q, a, b)
+unknown_by w before r procedure args request outcome after is (Unfit q p a b d e) = absurd (let x = sym e ∙ is in cc)
+unknown_by w before r procedure args request outcome after is (Zero q p a b d f e) = absurd (let x = sym e ∙ is in cc)
+unknown_by w before r procedure args request outcome after is (Many q p a b d f g e) = absurd (let x = sym e ∙ is in cc)
+unknown_by w before r procedure args request outcome after is (Begins q p a b d f g e l) = absurd (let x = sym e ∙ is in cc)
 
-begin_many : (before after : World) (r procedure : ℕ) (args : List ℕ) (o : Option Replica) (p : Option StoredProcedure) → after_begin before r procedure args o p ≡ done (Refused TooManyCalls) after → IsSome o × (stored : StoredProcedure) × (p ≡ just stored) × (length args ≡ stored.args_len) × (max_calls ≤ length before.calls)
-begin_many before after r procedure args None p e = absurd (let x = fst (Refused NoReplica, before) (Refused TooManyCalls, after) e in cc)
-begin_many before after r procedure args (Some replica) None e = absurd (let x = fst (Refused NoProcedure, before) (Refused TooManyCalls, after) e in cc)
-begin_many before after r procedure args (Some replica) (Some p) e = elim (either_if (not (nat_eq (length args) p.args_len)) _ _ (Refused TooManyCalls, after) e) [
-  | inl (t, d) ↦ absurd (let x = fst (Refused ArgumentsLength, before) (Refused TooManyCalls, after) d in cc)
-  | inr (fits, d) ↦ elim (either_if (nat_le max_calls (length before.calls)) _ _ (Refused TooManyCalls, after) d) [
-    | inl (t, h) ↦ (refl, p, refl, same_length (length args) p.args_len fits, at_most max_calls (length before.calls) t)
-    | inr (few, h) ↦ absurd (let x = fst (Begun (length before.calls + 1) replica.position, begun_world before r procedure args (length before.calls + 1) replica.position) (Refused TooManyCalls, after) h in cc)
-  ]
-]
+pub begins_unknown : (w : Setting) (before : World) (r procedure : ℕ) (args : List ℕ) (request : Option RequestId) (after : World) → IsStep w before (Begin r procedure args request) (Refused NoProcedure) after
+    → (replica : Replica) × (numbered before.replicas r ≡ Some replica) × (by_number (procedures_after w before.log replica.position) procedure ≡ None)
+begins_unknown w before r procedure args request after h = unknown_by w before r procedure args request (Refused NoProcedure) after refl (way_of_begin w before r procedure args request (Refused NoProcedure) after (λ x. cc) (λ x. cc) h)
 
-pub begins_no_more : (w : Setting) (before : World) (r procedure : ℕ) (args : List ℕ) (after : World) → IsStep w before (Begin r procedure args) (Refused TooManyCalls) after → IsSome (numbered before.replicas r) × (stored : StoredProcedure) × (by_number w.catalogue procedure ≡ Some stored) × (length args ≡ stored.args_len) × (max_calls ≤ length before.calls)
-unfolding after_step
-begins_no_more w before r procedure args after h =
-    begin_many before after r procedure args (numbered before.replicas r) (by_number w.catalogue procedure) (with_memory w before after (Begin r procedure args) (Refused TooManyCalls) (λ x. cc) (λ x. cc) h)
+unfit_by : (w : Setting) (before : World) (r procedure : ℕ) (args : List ℕ) (request : Option RequestId) (outcome : Outcome) (after : World) → outcome ≡ Refused ArgumentsLength → BeginWay w before r procedure args request outcome after
+    → (replica : Replica) × (stored : StoredProcedure) × (numbered before.replicas r ≡ just replica) × (by_number (procedures_after w before.log replica.position) procedure ≡ just stored) × (length args ≡ stored.args_len → ⊥)
+unfit_by w before r procedure args request outcome after is (Nowhere a b) = absurd (let x = sym b ∙ is in cc)
+unfit_by w before r procedure args request outcome after is (Unknown q a b e) = absurd (let x = sym e ∙ is in cc)
+unfit_by w before r procedure args request outcome after is (Unfit q p a b d e) = (q, p, a, b, d)
+unfit_by w before r procedure args request outcome after is (Zero q p a b d f e) = absurd (let x = sym e ∙ is in cc)
+unfit_by w before r procedure args request outcome after is (Many q p a b d f g e) = absurd (let x = sym e ∙ is in cc)
+unfit_by w before r procedure args request outcome after is (Begins q p a b d f g e l) = absurd (let x = sym e ∙ is in cc)
+
+pub begins_with_others : (w : Setting) (before : World) (r procedure : ℕ) (args : List ℕ) (request : Option RequestId) (after : World) → IsStep w before (Begin r procedure args request) (Refused ArgumentsLength) after
+    → (replica : Replica) × (stored : StoredProcedure) × (numbered before.replicas r ≡ Some replica) × (by_number (procedures_after w before.log replica.position) procedure ≡ Some stored) × (length args ≡ stored.args_len → ⊥)
+begins_with_others w before r procedure args request after h = unfit_by w before r procedure args request (Refused ArgumentsLength) after refl (way_of_begin w before r procedure args request (Refused ArgumentsLength) after (λ x. cc) (λ x. cc) h)
+
+zero_by : (w : Setting) (before : World) (r procedure : ℕ) (args : List ℕ) (request : Option RequestId) (outcome : Outcome) (after : World) → outcome ≡ Refused ZeroInRequest → BeginWay w before r procedure args request outcome after
+    → (replica : Replica) × (stored : StoredProcedure) × (numbered before.replicas r ≡ just replica) × (by_number (procedures_after w before.log replica.position) procedure ≡ just stored) × (length args ≡ stored.args_len) × (has_zero request ≡ true)
+zero_by w before r procedure args request outcome after is (Nowhere a b) = absurd (let x = sym b ∙ is in cc)
+zero_by w before r procedure args request outcome after is (Unknown q a b e) = absurd (let x = sym e ∙ is in cc)
+zero_by w before r procedure args request outcome after is (Unfit q p a b d e) = absurd (let x = sym e ∙ is in cc)
+zero_by w before r procedure args request outcome after is (Zero q p a b d f e) = (q, p, a, b, d, f)
+zero_by w before r procedure args request outcome after is (Many q p a b d f g e) = absurd (let x = sym e ∙ is in cc)
+zero_by w before r procedure args request outcome after is (Begins q p a b d f g e l) = absurd (let x = sym e ∙ is in cc)
+
+pub begins_with_zero : (w : Setting) (before : World) (r procedure : ℕ) (args : List ℕ) (request : Option RequestId) (after : World) → IsStep w before (Begin r procedure args request) (Refused ZeroInRequest) after
+    → (replica : Replica) × (stored : StoredProcedure) × (numbered before.replicas r ≡ Some replica) × (by_number (procedures_after w before.log replica.position) procedure ≡ Some stored) × (length args ≡ stored.args_len) × (has_zero request ≡ true)
+begins_with_zero w before r procedure args request after h = zero_by w before r procedure args request (Refused ZeroInRequest) after refl (way_of_begin w before r procedure args request (Refused ZeroInRequest) after (λ x. cc) (λ x. cc) h)
+
+many_by : (w : Setting) (before : World) (r procedure : ℕ) (args : List ℕ) (request : Option RequestId) (outcome : Outcome) (after : World) → outcome ≡ Refused TooManyCalls → BeginWay w before r procedure args request outcome after
+    → (replica : Replica) × (stored : StoredProcedure) × (numbered before.replicas r ≡ just replica) × (by_number (procedures_after w before.log replica.position) procedure ≡ just stored) × (length args ≡ stored.args_len) × (has_zero request ≡ false) × (max_calls ≤ call_count before)
+many_by w before r procedure args request outcome after is (Nowhere a b) = absurd (let x = sym b ∙ is in cc)
+many_by w before r procedure args request outcome after is (Unknown q a b e) = absurd (let x = sym e ∙ is in cc)
+many_by w before r procedure args request outcome after is (Unfit q p a b d e) = absurd (let x = sym e ∙ is in cc)
+many_by w before r procedure args request outcome after is (Zero q p a b d f e) = absurd (let x = sym e ∙ is in cc)
+many_by w before r procedure args request outcome after is (Many q p a b d f g e) = (q, p, a, b, d, f, g)
+many_by w before r procedure args request outcome after is (Begins q p a b d f g e l) = absurd (let x = sym e ∙ is in cc)
+
+pub begins_no_more : (w : Setting) (before : World) (r procedure : ℕ) (args : List ℕ) (request : Option RequestId) (after : World) → IsStep w before (Begin r procedure args request) (Refused TooManyCalls) after
+    → (replica : Replica) × (stored : StoredProcedure) × (numbered before.replicas r ≡ Some replica) × (by_number (procedures_after w before.log replica.position) procedure ≡ Some stored) × (length args ≡ stored.args_len) × (has_zero request ≡ false) × (max_calls ≤ call_count before)
+begins_no_more w before r procedure args request after h = many_by w before r procedure args request (Refused TooManyCalls) after refl (way_of_begin w before r procedure args request (Refused TooManyCalls) after (λ x. cc) (λ x. cc) h)
 
 -- ---- Turn
 
@@ -293,7 +315,7 @@ turn_memory w before after c (Some o) e = elim (either_if (is_stale w before o) 
 ]
 
 pub turns_without_memory : (w : Setting) (before : World) (c : ℕ) (after : World) → IsStep w before (Turn c) NoMemory after
-    → (o : OpenCall) × (open_call before c ≡ Some o) × IsTrue (at_row_helper (by_number w.catalogue o.call.procedure) (moment_at w before.log o.call o.turns)) × (after ≡ without_call before c)
+    → (o : OpenCall) × (open_call before c ≡ Some o) × IsTrue (at_row_helper (procedure_of w before.log o.call) (moment_at w before.log o.call o.turns)) × (after ≡ without_call before c)
 unfolding after_step after_step_without_memory
 turns_without_memory w before c after (inl e) = absurd (turn_memory w before after c (open_call before c) e)
 turns_without_memory w before c after (inr e) = let x = turn_without w before after c NoMemory (open_call before c) e in (x.o, x.stands, x.at, x.leaves)
@@ -587,3 +609,111 @@ rebuild_nowhere before after r (Some replica) e = absurd (let x = fst (Rebuilt (
 pub rebuilds_nowhere : (w : Setting) (before : World) (r : ℕ) (after : World) → IsStep w before (Rebuild r) (Refused NoReplica) after → numbered before.replicas r ≡ None
 unfolding after_step
 rebuilds_nowhere w before r after h = rebuild_nowhere before after r (numbered before.replicas r) (with_memory w before after (Rebuild r) (Refused NoReplica) (λ x. cc) (λ x. cc) h)
+
+-- ---- Add
+
+-- the ways in which an addition may be answered
+pub data AddWay (before : World) (name : List ℕ) (number args_len : ℕ) (checked : Checked) (outcome : Outcome) (after : World) : Type 0 where
+  Full : max_calls ≤ call_count before → outcome ≡ Refused TooManyCalls → AddWay before name number args_len checked outcome after
+  Long : call_count before < max_calls → 256 < args_len → outcome ≡ Refused ArgumentsLimit → AddWay before name number args_len checked outcome after
+  Faulty : (fault : ProgramFault) → call_count before < max_calls → args_len ≤ 256 → checked ≡ Failed fault → outcome ≡ Refused (ProgramRefused fault) → AddWay before name number args_len checked outcome after
+  Misnamed : (program : Program) → call_count before < max_calls → args_len ≤ 256 → checked ≡ Passed program → is_name name ≡ false → outcome ≡ Refused NameShape → AddWay before name number args_len checked outcome after
+  Appends : (program : Program) → call_count before < max_calls → args_len ≤ 256 → checked ≡ Passed program → is_name name ≡ true → outcome ≡ Added (length before.log + 1)
+      → after ≡ with_added before (record { name = name; number = number; program = program; args_len = args_len }) → AddWay before name number args_len checked outcome after
+
+shaped : (b : Bool) → not b ≡ false → b ≡ true
+shaped true e = refl
+shaped false e = absurd cc
+
+misshaped : (b : Bool) → not b ≡ true → b ≡ false
+misshaped true e = absurd cc
+misshaped false e = refl
+
+checked_way : (before : World) (name : List ℕ) (number args_len : ℕ) (checked : Checked) (outcome : Outcome) (after : World) → call_count before < max_calls → args_len ≤ 256 → after_add_checked before name number args_len checked ≡ done outcome after → AddWay before name number args_len checked outcome after
+checked_way before name number args_len (Failed fault) outcome after few short e = Faulty fault few short refl (sym (fst (Refused (ProgramRefused fault), before) (outcome, after) e))
+checked_way before name number args_len (Passed program) outcome after few short e = elim (either_if (not (is_name name)) _ _ (outcome, after) e) [
+  | inl (t, d) ↦ Misnamed program few short refl (misshaped (is_name name) t) (sym (fst (Refused NameShape, before) (outcome, after) d))
+  | inr (t, d) ↦ Appends program few short refl (shaped (is_name name) t)
+      (sym (fst (Added (length before.log + 1), with_added before (record { name = name; number = number; program = program; args_len = args_len })) (outcome, after) d))
+      (sym (snd (Added (length before.log + 1), with_added before (record { name = name; number = number; program = program; args_len = args_len })) (outcome, after) d))
+]
+
+pub add_way : (before : World) (name : List ℕ) (number args_len : ℕ) (checked : Checked) (outcome : Outcome) (after : World) → after_add before name number args_len checked ≡ done outcome after → AddWay before name number args_len checked outcome after
+add_way before name number args_len checked outcome after e = elim (either_if (nat_le max_calls (call_count before)) _ _ (outcome, after) e) [
+  | inl (t, d) ↦ Full (at_most max_calls (call_count before) t) (sym (fst (Refused TooManyCalls, before) (outcome, after) d))
+  | inr (few, d) ↦ elim (either_if (nat_lt 256 args_len) _ _ (outcome, after) d) [
+    | inl (t, h) ↦ Long (less max_calls (call_count before) few) (fewer 256 args_len t) (sym (fst (Refused ArgumentsLimit, before) (outcome, after) h))
+    | inr (short, h) ↦ checked_way before name number args_len checked outcome after (less max_calls (call_count before) few) (no_fewer 256 args_len short) h
+  ]
+]
+
+way_of_add : (w : Setting) (before : World) (name : List ℕ) (number args_len : ℕ) (checked : Checked) (outcome : Outcome) (after : World) → (outcome ≡ Refused OutOfMemory → ⊥) → (outcome ≡ NoMemory → ⊥) → IsStep w before (Add name number args_len checked) outcome after → AddWay before name number args_len checked outcome after
+unfolding after_step
+way_of_add w before name number args_len checked outcome after f g h = add_way before name number args_len checked outcome after (with_memory w before after (Add name number args_len checked) outcome f g h)
+
+-- whatever is answered where no memory is wanted: there is room for the addition, and its arguments are in range
+pub wants_by : (before : World) (name : List ℕ) (number args_len : ℕ) (checked : Checked) (o outcome : Outcome) (after other : World) → after_refused_memory before (Add name number args_len checked) o ≡ just (outcome, after)
+    → AddWay before name number args_len checked o other → (call_count before < max_calls) × (args_len ≤ 256)
+wants_by before name number args_len checked o outcome after other e (Full a is) = absurd (let x = sym (ap (λ (y : Outcome). after_refused_memory before (Add name number args_len checked) y) is) ∙ e in cc)
+wants_by before name number args_len checked o outcome after other e (Long a b is) = absurd (let x = sym (ap (λ (y : Outcome). after_refused_memory before (Add name number args_len checked) y) is) ∙ e in cc)
+wants_by before name number args_len checked o outcome after other e (Faulty fault a b d is) = (a, b)
+wants_by before name number args_len checked o outcome after other e (Misnamed program a b d f is) = (a, b)
+wants_by before name number args_len checked o outcome after other e (Appends program a b d f is leaves) = (a, b)
+
+same_addition : (a b : ℕ) → Added a ≡ Added b → b ≡ a
+same_addition a b e = cc
+
+same_fault : (a b : ProgramFault) → Refused (ProgramRefused a) ≡ Refused (ProgramRefused b) → a ≡ b
+same_fault a b e = cc
+
+adds_by : (before : World) (name : List ℕ) (number args_len : ℕ) (checked : Checked) (position : ℕ) (outcome : Outcome) (after : World) → outcome ≡ Added position → AddWay before name number args_len checked outcome after
+    → (program : Program) × (checked ≡ Passed program) × (call_count before < max_calls) × (args_len ≤ 256) × (is_name name ≡ true) × (position ≡ length before.log + 1) × (after ≡ with_added before (record { name = name; number = number; program = program; args_len = args_len }))
+adds_by before name number args_len checked position outcome after is (Full a e) = absurd (let x = sym e ∙ is in cc)
+adds_by before name number args_len checked position outcome after is (Long a b e) = absurd (let x = sym e ∙ is in cc)
+adds_by before name number args_len checked position outcome after is (Faulty fault a b d e) = absurd (let x = sym e ∙ is in cc)
+adds_by before name number args_len checked position outcome after is (Misnamed program a b d f e) = absurd (let x = sym e ∙ is in cc)
+adds_by before name number args_len checked position outcome after is (Appends program a b d f e leaves) = (program, d, a, b, f, same_addition (length before.log + 1) position (sym e ∙ is), leaves)
+
+pub adds : (w : Setting) (before : World) (name : List ℕ) (number args_len : ℕ) (checked : Checked) (position : ℕ) (after : World) → IsStep w before (Add name number args_len checked) (Added position) after
+    → (program : Program) × (checked ≡ Passed program) × (call_count before < max_calls) × (args_len ≤ 256) × (is_name name ≡ true) × (position ≡ length before.log + 1) × (after ≡ with_added before (record { name = name; number = number; program = program; args_len = args_len }))
+adds w before name number args_len checked position after h = adds_by before name number args_len checked position (Added position) after refl (way_of_add w before name number args_len checked (Added position) after (λ x. cc) (λ x. cc) h)
+
+full_by : (before : World) (name : List ℕ) (number args_len : ℕ) (checked : Checked) (outcome : Outcome) (after : World) → outcome ≡ Refused TooManyCalls → AddWay before name number args_len checked outcome after → max_calls ≤ call_count before
+full_by before name number args_len checked outcome after is (Full a e) = a
+full_by before name number args_len checked outcome after is (Long a b e) = absurd (let x = sym e ∙ is in cc)
+full_by before name number args_len checked outcome after is (Faulty fault a b d e) = absurd (let x = sym e ∙ is in cc)
+full_by before name number args_len checked outcome after is (Misnamed program a b d f e) = absurd (let x = sym e ∙ is in cc)
+full_by before name number args_len checked outcome after is (Appends program a b d f e leaves) = absurd (let x = sym e ∙ is in cc)
+
+pub adds_no_more : (w : Setting) (before : World) (name : List ℕ) (number args_len : ℕ) (checked : Checked) (after : World) → IsStep w before (Add name number args_len checked) (Refused TooManyCalls) after → max_calls ≤ call_count before
+adds_no_more w before name number args_len checked after h = full_by before name number args_len checked (Refused TooManyCalls) after refl (way_of_add w before name number args_len checked (Refused TooManyCalls) after (λ x. cc) (λ x. cc) h)
+
+long_by : (before : World) (name : List ℕ) (number args_len : ℕ) (checked : Checked) (outcome : Outcome) (after : World) → outcome ≡ Refused ArgumentsLimit → AddWay before name number args_len checked outcome after → (call_count before < max_calls) × (256 < args_len)
+long_by before name number args_len checked outcome after is (Full a e) = absurd (let x = sym e ∙ is in cc)
+long_by before name number args_len checked outcome after is (Long a b e) = (a, b)
+long_by before name number args_len checked outcome after is (Faulty fault a b d e) = absurd (let x = sym e ∙ is in cc)
+long_by before name number args_len checked outcome after is (Misnamed program a b d f e) = absurd (let x = sym e ∙ is in cc)
+long_by before name number args_len checked outcome after is (Appends program a b d f e leaves) = absurd (let x = sym e ∙ is in cc)
+
+pub adds_too_long : (w : Setting) (before : World) (name : List ℕ) (number args_len : ℕ) (checked : Checked) (after : World) → IsStep w before (Add name number args_len checked) (Refused ArgumentsLimit) after → (call_count before < max_calls) × (256 < args_len)
+adds_too_long w before name number args_len checked after h = long_by before name number args_len checked (Refused ArgumentsLimit) after refl (way_of_add w before name number args_len checked (Refused ArgumentsLimit) after (λ x. cc) (λ x. cc) h)
+
+faulty_by : (before : World) (name : List ℕ) (number args_len : ℕ) (checked : Checked) (refused : ProgramFault) (outcome : Outcome) (after : World) → outcome ≡ Refused (ProgramRefused refused) → AddWay before name number args_len checked outcome after → (call_count before < max_calls) × (args_len ≤ 256) × (checked ≡ Failed refused)
+faulty_by before name number args_len checked refused outcome after is (Full a e) = absurd (let x = sym e ∙ is in cc)
+faulty_by before name number args_len checked refused outcome after is (Long a b e) = absurd (let x = sym e ∙ is in cc)
+faulty_by before name number args_len checked refused outcome after is (Faulty fault a b d e) = (a, b, d ∙ ap (λ (f : ProgramFault). Failed f) (same_fault fault refused (sym e ∙ is)))
+faulty_by before name number args_len checked refused outcome after is (Misnamed program a b d f e) = absurd (let x = sym e ∙ is in cc)
+faulty_by before name number args_len checked refused outcome after is (Appends program a b d f e leaves) = absurd (let x = sym e ∙ is in cc)
+
+pub adds_faulty : (w : Setting) (before : World) (name : List ℕ) (number args_len : ℕ) (checked : Checked) (fault : ProgramFault) (after : World) → IsStep w before (Add name number args_len checked) (Refused (ProgramRefused fault)) after → (call_count before < max_calls) × (args_len ≤ 256) × (checked ≡ Failed fault)
+adds_faulty w before name number args_len checked fault after h = faulty_by before name number args_len checked fault (Refused (ProgramRefused fault)) after refl (way_of_add w before name number args_len checked (Refused (ProgramRefused fault)) after (λ x. cc) (λ x. cc) h)
+
+misnamed_by : (before : World) (name : List ℕ) (number args_len : ℕ) (checked : Checked) (outcome : Outcome) (after : World) → outcome ≡ Refused NameShape → AddWay before name number args_len checked outcome after → (program : Program) × (checked ≡ Passed program) × (call_count before < max_calls) × (args_len ≤ 256) × (is_name name ≡ false)
+misnamed_by before name number args_len checked outcome after is (Full a e) = absurd (let x = sym e ∙ is in cc)
+misnamed_by before name number args_len checked outcome after is (Long a b e) = absurd (let x = sym e ∙ is in cc)
+misnamed_by before name number args_len checked outcome after is (Faulty fault a b d e) = absurd (let x = sym e ∙ is in cc)
+misnamed_by before name number args_len checked outcome after is (Misnamed program a b d f e) = (program, d, a, b, f)
+misnamed_by before name number args_len checked outcome after is (Appends program a b d f e leaves) = absurd (let x = sym e ∙ is in cc)
+
+pub adds_misnamed : (w : Setting) (before : World) (name : List ℕ) (number args_len : ℕ) (checked : Checked) (after : World) → IsStep w before (Add name number args_len checked) (Refused NameShape) after → (program : Program) × (checked ≡ Passed program) × (call_count before < max_calls) × (args_len ≤ 256) × (is_name name ≡ false)
+adds_misnamed w before name number args_len checked after h = misnamed_by before name number args_len checked (Refused NameShape) after refl (way_of_add w before name number args_len checked (Refused NameShape) after (λ x. cc) (λ x. cc) h)

@@ -2,15 +2,20 @@
 use Rattle.std.proofs.Common.{◌≡◌, inl, inr, ℕ, zero, suc, ◌+◌, ◌≤◌, ◌<◌, List, [], ◌∷◌, ◌++◌, length, true, false, Option, None, All, refl, sym, ap, subst, ◌∙◌, arith}
 use Rattle.std.specs.List.{AllByRecursion}
 use Rattle.std.proofs.lemmas.List.{length-append}
+use Rattle.bpf_code.specs.Program.{Program}
 use Rattle.bpf_semantics.specs.Run.{Run}
+use Rattle.log_model.specs.declared.request.RequestId.{RequestId}
 use Rattle.dsm_model.specs.declared.outcome.Outcome.{Outcome}
-use Rattle.log_model.specs.Log.{Setting, Call, run_in, verdict_of}
-use Rattle.dsm_model.specs.World.{World, Replica, OpenCall, Step, Begin, max_calls, numbered, with_numbered, flatten, open_call, without_call, with_replica, with_begun, new_call, with_turns, with_ordered, first_world, IsStep, AreSteps}
-use Rattle.dsm_model.specs.Sound.{HasByteArguments, IsOpenCall, open_count, IsWorld}
-use Rattle.log_model.proofs.GrowthLemmas.{run_grown, is_log_snoc, are_calls_snoc, verdict_within}
+use Rattle.log_model.specs.Log.{Setting, Call, run_in, verdict_of, StoredProcedure, CallItem, AdditionItem, Database, Log, run_of_call}
+use Rattle.dsm_model.specs.World.{World, Replica, OpenCall, Step, Begin, max_calls, numbered, with_numbered, flatten, open_call, without_call, with_replica, with_begun, new_call, with_turns, with_ordered, first_world, IsStep, AreSteps, Add, Passed, addition_count, call_count, with_added}
+use Rattle.dsm_model.specs.Sound.{IsOpenCall, open_count, IsWorld, IsGiven, AreGiven}
+use Rattle.log_model.proofs.GrowthLemmas.{run_grown, is_log_snoc, verdict_within}
+use Rattle.dsm_model.specs.declared.outcome.Outcome.TheVariants.{Added}
+use Rattle.log_model.specs.Fit.{IsSafe}
 use Rattle.log_model.proofs.RunLemmas.{just}
+use Rattle.log_model.proofs.GrowthLemmas.{database_grown, is_call_grown, are_items_snoc, is_log_snoc, verdict_within}
 use Rattle.dsm_model.proofs.Numbered.{some_is, numbered_set, numbered_there, numbered_one_more, flat_is, numbered_replicate, length_numbered, numbered_count, numbered_none, count_one_more}
-use Rattle.dsm_model.proofs.Cases.{Case, Same, New, Over, Turned, Appended, Verdicted, Stop, Anew, step_case}
+use Rattle.dsm_model.proofs.Cases.{Case, Same, New, Over, Turned, Appended, Verdicted, Stop, Anew, Put, step_case}
 
 -- ---- open calls
 
@@ -28,11 +33,11 @@ begun_within w world o is one =
     omega arith
 
 -- other open calls, each as it should be
-with_calls : (w : Setting) (world : World) (calls : List (Option OpenCall)) → IsWorld w world → length calls ≤ max_calls → length world.log + open_count calls ≤ length calls
+with_calls : (w : Setting) (world : World) (calls : List (Option OpenCall)) → IsWorld w world → length calls + addition_count world.log ≤ max_calls → length world.log + open_count calls ≤ length calls + addition_count world.log
     → ((c : ℕ) (o : OpenCall) → numbered calls c ≡ just (just o) → IsOpenCall w world o × (o.call.number ≡ c)) → IsWorld w (record world { calls = calls })
 with_calls w world calls is few ordered open_calls = record {
   log = is.log;
-  calls = is.calls;
+  items = is.items;
   positions = is.positions;
   open_calls = λ c o e.
       let old = (open_calls c o (flat_is (numbered calls c) o e)).0 in
@@ -70,7 +75,7 @@ turned_keeps w world c o turns stands within is =
           )
     ])
 
-begun_keeps : (w : Setting) (world : World) (r : ℕ) (call : Call) → call.number ≡ length world.calls + 1 → IsOpenCall w world (record { replica = r; call = call; turns = 0 }) → length world.calls < max_calls → IsWorld w world → IsWorld w (with_begun world r call)
+begun_keeps : (w : Setting) (world : World) (r : ℕ) (call : Call) → call.number ≡ length world.calls + 1 → IsOpenCall w world (record { replica = r; call = call; turns = 0 }) → call_count world < max_calls → IsWorld w world → IsWorld w (with_begun world r call)
 begun_keeps w world r call number now fewer is =
     let long = length-append world.calls (just (record { replica = r; call = call; turns = 0 }) ∷ []) in
     let count = count_one_more world.calls (record { replica = r; call = call; turns = 0 }) in
@@ -83,32 +88,68 @@ begun_keeps w world r call number now fewer is =
           (subst (IsOpenCall w world) same now, ap (λ (x : OpenCall). x.call.number) (sym same) ∙ number ∙ sym new.1)
     ])
 
+count_call : (log : Log) (call : Call) → addition_count (log ++ CallItem call ∷ []) ≡ addition_count log
+count_call [] call = refl
+count_call (CallItem x ∷ log) call = count_call log call
+count_call (AdditionItem p ∷ log) call = let rest = count_call log call in omega arith
+
+count_addition : (log : Log) (p : StoredProcedure) → addition_count (log ++ AdditionItem p ∷ []) ≡ addition_count log + 1
+count_addition [] p = refl
+count_addition (CallItem x ∷ log) p = count_addition log p
+count_addition (AdditionItem q ∷ log) p = let rest = count_addition log p in omega arith
+
+-- an open call where the log is longer
+open_grown : (w : Setting) (world : World) (more : Log) (o : OpenCall) → IsWorld w world → IsOpenCall w world o → IsOpenCall w (record world { log = world.log ++ more }) o
+open_grown w world more o is one =
+    let near = begun_within w world o is one in
+    record {
+      is_call = is_call_grown w world.log more o.call near one.is_call;
+      replica = one.replica;
+      stands = one.stands;
+      begun = one.begun;
+      turns = subst (λ (r : Run). o.turns ≤ r.steps) (sym (run_grown w world.log more o.call near)) one.turns;
+    }
+
 -- one more ordered, in place of one that was open
 ordered_keeps : (w : Setting) (world : World) (c : ℕ) (o : OpenCall) → open_call world c ≡ just o → IsWorld w world → IsWorld w (with_ordered world c o.call)
 ordered_keeps w world c o stands is =
     let one = is.open_calls c o stands in
     let without = over_keeps w world c is in
     let le = begun_within w world o is one in
-    let more : length (world.log ++ o.call ∷ []) ≡ length world.log + 1 = length-append world.log (o.call ∷ []) in
+    let more : length (world.log ++ CallItem o.call ∷ []) ≡ length world.log + 1 = length-append world.log (CallItem o.call ∷ []) in
+    let same = count_call world.log o.call in
     let long = length_numbered world.calls c None in
     let count = numbered_count world.calls c o stands None in
     let ordered = is.log_limit in
+    let few = is.calls_limit in
     record {
-      log = is_log_snoc 0 world.log o.call is.log (omega arith);
-      calls = are_calls_snoc w world.log o.call is.calls one.is_call;
+      log = is_log_snoc 0 world.log (CallItem o.call) is.log (omega arith);
+      items = are_items_snoc w world.log (CallItem o.call) is.log is.items le one.is_call;
       positions = λ r replica e. let old = is.positions r replica e in omega arith;
       open_calls = λ i q e.
-          let old = without.open_calls i q e in
-          let near = begun_within w (without_call world c) q without old in
-          record {
-            is_call = old.is_call;
-            replica = old.replica;
-            stands = old.stands;
-            begun = old.begun;
-            turns = subst (λ (r : Run). q.turns ≤ r.steps) (sym (run_grown w world.log (o.call ∷ []) q.call near)) old.turns;
-          };
+          let old = open_grown w (without_call world c) (CallItem o.call ∷ []) q without (without.open_calls i q e) in
+          record { is_call = old.is_call; replica = old.replica; stands = old.stands; begun = old.begun; turns = old.turns };
       numbers = without.numbers;
-      calls_limit = without.calls_limit;
+      calls_limit = omega arith;
+      log_limit = omega arith;
+    }
+
+-- a procedure is added
+added_keeps : (w : Setting) (world : World) (p : StoredProcedure) → IsSafe w.tables p → call_count world < max_calls → IsWorld w world → IsWorld w (with_added world p)
+added_keeps w world p safe fewer is =
+    let more : length (world.log ++ AdditionItem p ∷ []) ≡ length world.log + 1 = length-append world.log (AdditionItem p ∷ []) in
+    let count = count_addition world.log p in
+    let ordered = is.log_limit in
+    let few = is.calls_limit in
+    record {
+      log = is_log_snoc 0 world.log (AdditionItem p) is.log tt;
+      items = are_items_snoc w world.log (AdditionItem p) is.log is.items tt safe;
+      positions = λ r replica e. let old = is.positions r replica e in omega arith;
+      open_calls = λ i q e.
+          let old = open_grown w world (AdditionItem p ∷ []) q is (is.open_calls i q e) in
+          record { is_call = old.is_call; replica = old.replica; stands = old.stands; begun = old.begun; turns = old.turns };
+      numbers = is.numbers;
+      calls_limit = omega arith;
       log_limit = omega arith;
     }
 
@@ -117,7 +158,7 @@ moved_keeps : (w : Setting) (world : World) (r : ℕ) (before after : Replica) �
     → IsWorld w (with_replica world r after)
 moved_keeps w world r before after stands further within is = record {
   log = is.log;
-  calls = is.calls;
+  items = is.items;
   positions = λ i replica e. elim (numbered_set world.replicas r i after replica e) [
     | inl old ↦ is.positions i replica old
     | inr new ↦ subst (λ (x : Replica). x.position ≤ length world.log) new.1 within
@@ -139,14 +180,17 @@ moved_keeps w world r before after stands further within is = record {
 
 -- ---- each step
 
-bytes_of : (step : Step) (r procedure : ℕ) (args : List ℕ) → HasByteArguments step → step ≡ Begin r procedure args → All (λ b. b < 256) args
-bytes_of step r procedure args bytes e = subst HasByteArguments e bytes
+bytes_of : (w : Setting) (step : Step) (r procedure : ℕ) (args : List ℕ) (request : Option RequestId) (outcome : Outcome) → IsGiven w step outcome → step ≡ Begin r procedure args request → All (λ b. b < 256) args
+bytes_of w step r procedure args request outcome given e = subst (λ (s : Step). IsGiven w s outcome) e given
 
-case_keeps : (w : Setting) (before : World) (step : Step) (outcome : Outcome) (after : World) → HasByteArguments step → IsWorld w before → Case w before step outcome after → IsWorld w after
+safe_of : (w : Setting) (step : Step) (name : List ℕ) (number args_len : ℕ) (program : Program) (position : ℕ) (outcome : Outcome) → IsGiven w step outcome → step ≡ Add name number args_len (Passed program) → outcome ≡ Added position → IsSafe w.tables (record { name = name; number = number; program = program; args_len = args_len })
+safe_of w step name number args_len program position outcome given e f = subst (λ (o : Outcome). IsGiven w (Add name number args_len (Passed program)) o) f (subst (λ (s : Step). IsGiven w s outcome) e given)
+
+case_keeps : (w : Setting) (before : World) (step : Step) (outcome : Outcome) (after : World) → IsGiven w step outcome → IsWorld w before → Case w before step outcome after → IsWorld w after
 case_keeps w before step outcome after bytes is (Same c) = subst (IsWorld w) (sym c.same) is
 case_keeps w before step outcome after bytes is (New c) =
-    subst (IsWorld w) (sym c.leaves) (begun_keeps w before c.r (new_call before c.procedure c.args c.replica.position) refl (record {
-      is_call = record { procedure = c.stored; known = c.known; arguments = record { count = c.count; each_byte = bytes_of step c.r c.procedure c.args bytes c.is } };
+    subst (IsWorld w) (sym c.leaves) (begun_keeps w before c.r (new_call before c.procedure c.args c.request c.replica.position) refl (record {
+      is_call = record { procedure = c.stored; known = c.known; arguments = record { count = c.count; each_byte = bytes_of w step c.r c.procedure c.args c.request outcome bytes c.is } };
       replica = c.replica;
       stands = c.stands;
       begun = omega arith;
@@ -163,11 +207,13 @@ case_keeps w before step outcome after bytes is (Stop c) = subst (IsWorld w) (sy
 case_keeps w before step outcome after bytes is (Anew c) =
     let within = is.positions c.r c.replica c.stands in
     subst (IsWorld w) (sym c.leaves) (moved_keeps w before c.r c.replica (record { position = length before.log; running = true }) c.stands (omega arith) (omega arith) is)
+case_keeps w before step outcome after bytes is (Put c) =
+    subst (IsWorld w) (sym c.leaves) (added_keeps w before (record { name = c.name; number = c.number; program = c.program; args_len = c.args_len }) (safe_of w step c.name c.number c.args_len c.program (length before.log + 1) outcome bytes c.is c.answer) c.few is)
 
-pub step_keeps : (w : Setting) (before : World) (step : Step) (outcome : Outcome) (after : World) → HasByteArguments step → IsStep w before step outcome after → IsWorld w before → IsWorld w after
+pub step_keeps : (w : Setting) (before : World) (step : Step) (outcome : Outcome) (after : World) → IsGiven w step outcome → IsStep w before step outcome after → IsWorld w before → IsWorld w after
 step_keeps w before step outcome after bytes e is = case_keeps w before step outcome after bytes is (step_case w before step outcome after e)
 
-pub steps_keep : (w : Setting) (before : World) (steps : List Step) (outcomes : List Outcome) (after : World) → AllByRecursion HasByteArguments steps → AreSteps w before steps outcomes after → IsWorld w before → IsWorld w after
+pub steps_keep : (w : Setting) (before : World) (steps : List Step) (outcomes : List Outcome) (after : World) → AreGiven w steps outcomes → AreSteps w before steps outcomes after → IsWorld w before → IsWorld w after
 unfolding AreSteps
 steps_keep w before [] [] after bytes h is = subst (IsWorld w) h is
 steps_keep w before [] (outcome ∷ outcomes) after bytes h is = absurd h
@@ -178,7 +224,7 @@ steps_keep w before (step ∷ steps) (outcome ∷ outcomes) after bytes h is =
 pub first_is_world : (w : Setting) (replicas : ℕ) → IsWorld w (first_world replicas)
 first_is_world w replicas = record {
   log = tt;
-  calls = tt;
+  items = tt;
   positions = λ r replica e. subst (λ (x : Replica). x.position ≤ 0) (numbered_replicate replicas r (record { position = 0; running = true }) replica e) (omega arith);
   open_calls = λ c o e. absurd (none c o (flat_is (numbered [] c) o e));
   numbers = λ c o e. absurd (none c o (flat_is (numbered [] c) o e));

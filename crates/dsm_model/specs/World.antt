@@ -1,9 +1,10 @@
 -- A world of replicas that share one log: what it is made of, and what each step answers and leaves.
-use Rattle.std.specs.Prelude.{◌≡◌, ◌⊎◌, ℕ, zero, suc, ◌+◌, ◌-◌, ◌==◌, nat_le, nat_lt, Bool, true, false, not, ◌&&◌, if◌then◌else◌, List, [], ◌∷◌, ◌++◌, length, replicate, slice_get, slice_set, Option, Some, None}
+use Rattle.std.specs.Prelude.{◌≡◌, ◌⊎◌, ℕ, zero, suc, ◌+◌, ◌-◌, ◌==◌, nat_le, nat_lt, Bool, true, false, not, ◌&&◌, ◌||◌, if◌then◌else◌, List, [], ◌∷◌, ◌++◌, length, replicate, slice_get, slice_set, Option, Some, None}
 use Rattle.std.specs.FinMap.{len}
 use Rattle.bpf_code.specs.declared.instruction.Instruction.{Instruction}
 use Rattle.bpf_code.specs.declared.instruction.Instruction.TheVariants.{Call as CallInstruction}
-use Rattle.bpf_code.specs.Program.{instruction_at}
+use Rattle.bpf_code.specs.Program.{Program, instruction_at}
+use Rattle.schema.specs.Schema.{Tables}
 use Rattle.schema.specs.Helper.{helper_of}
 use Rattle.schema.specs.declared.helper.Helper.{Helper}
 use Rattle.schema.specs.declared.helper.Helper.TheVariants.{Cancel}
@@ -11,10 +12,13 @@ use Rattle.bpf_semantics.specs.Step.{Moment, Going}
 use Rattle.bpf_semantics.specs.Run.{Run}
 use Rattle.bpf_semantics.specs.Agree.{looks_of}
 use Rattle.log_model.specs.declared.verdict.Verdict.{Verdict}
-use Rattle.dsm_model.specs.declared.outcome.StepRefusal.TheVariants.{NoReplica, NoProcedure, ArgumentsLength, NoCall, NotAtExit, NothingToDeliver, ReplicaStopped, LogFull, OutOfMemory, TooManyCalls}
+use Rattle.log_model.specs.declared.request.RequestId.{RequestId}
+use Rattle.dsm_model.specs.declared.outcome.ProgramFault.{ProgramFault}
+use Rattle.dsm_model.specs.declared.outcome.StepRefusal.TheVariants.{NoReplica, NoProcedure, ArgumentsLength, NoCall, NotAtExit, NothingToDeliver, ReplicaStopped, LogFull, OutOfMemory, TooManyCalls, ArgumentsLimit, ProgramRefused, NameShape, ZeroInRequest}
 use Rattle.dsm_model.specs.declared.outcome.Outcome.{Outcome}
-use Rattle.dsm_model.specs.declared.outcome.Outcome.TheVariants.{Begun, More, Exit, Stale, NoMemory, Ordered, Read, Cancelled, Delivered, Rebuilt, Refused}
-use Rattle.log_model.specs.Log.{StoredProcedure, Setting, Call, Log, by_number, moment_at, run_in, verdict_of}
+use Rattle.dsm_model.specs.declared.outcome.Outcome.TheVariants.{Begun, More, Exit, Stale, NoMemory, Ordered, Read, Cancelled, Delivered, Rebuilt, Refused, Added}
+use Rattle.log_model.specs.Log.{StoredProcedure, Setting, Call, Log, by_number, moment_at, run_in, verdict_of, CallItem, AdditionItem, no_request, procedures_after, procedure_of, rows_after}
+use Rattle.log_model.specs.Name.{is_name}
 
 -- how far it has delivered the log, and whether it goes on delivering
 pub record Replica : Type 0 where
@@ -32,14 +36,20 @@ pub record World : Type 0 where
   pub replicas : List Replica  -- numbered from 1
   pub calls : List (Option OpenCall)  -- numbered from 1; None where the call is over
 
+-- what the check of a program came to
+pub data Checked : Type 0 where
+  Passed : Program → Checked
+  Failed : ProgramFault → Checked
+
 pub data Step : Type 0 where
-  Begin : ℕ → ℕ → List ℕ → Step  -- at a replica, of a procedure, with arguments
+  Begin : ℕ → ℕ → List ℕ → Option RequestId → Step  -- at a replica, of a procedure, with arguments, and with a request
   Turn : ℕ → Step  -- of a call: one instruction further
   Order : ℕ → Step  -- of a call
   Deliver : ℕ → Step  -- to a replica
   Rebuild : ℕ → Step  -- of a replica
+  Add : List ℕ → ℕ → ℕ → Checked → Step  -- of a procedure: its name, its number, how many bytes its arguments have, its program
 
--- the most calls of a world, and of a log
+-- the most calls and additions of a world, and items of a log
 abbrev pub max_calls : ℕ
 max_calls = 1048576
 
@@ -73,6 +83,16 @@ without_call world c = with_open_call world c None
 abbrev pub with_replica : World → ℕ → Replica → World
 with_replica world r replica = record world { replicas = with_numbered world.replicas r replica }
 
+-- how many items are additions
+abbrev pub addition_count : Log → ℕ
+addition_count [] = 0
+addition_count (CallItem call ∷ later) = addition_count later
+addition_count (AdditionItem p ∷ later) = 1 + addition_count later
+
+-- how many calls were begun and procedures added
+abbrev pub call_count : World → ℕ
+call_count world = length world.calls + addition_count world.log
+
 abbrev pub position_of : Option Replica → ℕ
 position_of None = 0
 position_of (Some replica) = replica.position
@@ -82,16 +102,27 @@ position_of (Some replica) = replica.position
 abbrev pub with_begun : World → ℕ → Call → World
 with_begun world r call = record world { calls = world.calls ++ Some (record { replica = r; call = call; turns = 0 }) ∷ [] }
 
-abbrev pub new_call : World → ℕ → List ℕ → ℕ → Call
-new_call world procedure args snapshot = record { number = length world.calls + 1; procedure = procedure; args = args; snapshot = snapshot }
+-- a call that is begun without a request carries none
+abbrev pub or_none : Option RequestId → RequestId
+or_none None = no_request
+or_none (Some request) = request
 
-abbrev pub after_begin : World → ℕ → ℕ → List ℕ → Option Replica → Option StoredProcedure → Outcome × World
-after_begin world r procedure args None _ = (Refused NoReplica, world)
-after_begin world r procedure args (Some replica) None = (Refused NoProcedure, world)
-after_begin world r procedure args (Some replica) (Some p) =
+abbrev pub has_zero : Option RequestId → Bool
+has_zero None = false
+has_zero (Some request) = request.session == 0 || request.sequence == 0
+
+abbrev pub new_call : World → ℕ → List ℕ → Option RequestId → ℕ → Call
+new_call world procedure args request snapshot =
+    record { number = length world.calls + 1; procedure = procedure; args = args; snapshot = snapshot; request = or_none request }
+
+abbrev pub after_begin : World → ℕ → ℕ → List ℕ → Option RequestId → Option Replica → Option StoredProcedure → Outcome × World
+after_begin world r procedure args request None _ = (Refused NoReplica, world)
+after_begin world r procedure args request (Some replica) None = (Refused NoProcedure, world)
+after_begin world r procedure args request (Some replica) (Some p) =
     if not (length args == p.args_len) then (Refused ArgumentsLength, world)
-    else if nat_le max_calls (length world.calls) then (Refused TooManyCalls, world)
-    else (Begun (length world.calls + 1) replica.position, with_begun world r (new_call world procedure args replica.position))
+    else if has_zero request then (Refused ZeroInRequest, world)
+    else if nat_le max_calls (call_count world) then (Refused TooManyCalls, world)
+    else (Begun (length world.calls + 1) replica.position, with_begun world r (new_call world procedure args request replica.position))
 
 -- ---- Turn
 
@@ -120,7 +151,7 @@ after_turn w world c (Some o) = if is_stale w world o then (Stale, without_call 
 -- ---- Order
 
 abbrev pub with_ordered : World → ℕ → Call → World
-with_ordered world c call = record (without_call world c) { log = world.log ++ call ∷ [] }
+with_ordered world c call = record (without_call world c) { log = world.log ++ CallItem call ∷ [] }
 
 -- at EXIT, by the run: one that cancelled or wrote nothing isn't ordered
 abbrev pub after_order_by_run : World → ℕ → Call → Option ℕ → Run → Outcome × World
@@ -152,16 +183,36 @@ abbrev pub after_rebuild : World → ℕ → Option Replica → Outcome × World
 after_rebuild world r None = (Refused NoReplica, world)
 after_rebuild world r (Some replica) = (Rebuilt (length world.log), with_replica world r (record { position = length world.log; running = true }))
 
+-- ---- Add
+
+abbrev pub with_added : World → StoredProcedure → World
+with_added world p = record world { log = world.log ++ AdditionItem p ∷ [] }
+
+abbrev pub after_add_checked : World → List ℕ → ℕ → ℕ → Checked → Outcome × World
+after_add_checked world name number args_len (Failed fault) = (Refused (ProgramRefused fault), world)
+after_add_checked world name number args_len (Passed program) =
+    if not (is_name name) then (Refused NameShape, world)
+    else (Added (length world.log + 1), with_added world (record { name = name; number = number; program = program; args_len = args_len }))
+
+abbrev pub after_add : World → List ℕ → ℕ → ℕ → Checked → Outcome × World
+after_add world name number args_len checked =
+    if nat_le max_calls (call_count world) then (Refused TooManyCalls, world)
+    else if nat_lt 256 args_len then (Refused ArgumentsLimit, world)
+    else after_add_checked world name number args_len checked
+
 -- ---- a step
 
--- what it answers and leaves where memory suffices. It is meant for catalogues whose procedures are safe: of another a call
+-- what it answers and leaves where memory suffices. It is meant for catalogues whose procedures are safe, and for additions that are: of another a call
 -- may have no run, and then its answers mean nothing
 unfoldable pub after_step : Setting → World → Step → Outcome × World
-after_step w world (Begin r procedure args) = after_begin world r procedure args (numbered world.replicas r) (by_number w.catalogue procedure)
+after_step w world (Begin r procedure args request) =
+    after_begin world r procedure args request (numbered world.replicas r)
+    (by_number (procedures_after w world.log (position_of (numbered world.replicas r))) procedure)
 after_step w world (Turn c) = after_turn w world c (open_call world c)
 after_step w world (Order c) = after_order w world c (open_call world c)
 after_step w world (Deliver r) = after_deliver w world r (numbered world.replicas r)
 after_step w world (Rebuild r) = after_rebuild world r (numbered world.replicas r)
+after_step w world (Add name number args_len checked) = after_add world name number args_len checked
 
 abbrev pub stopped : Replica → Replica
 stopped replica = record replica { running = false }
@@ -195,15 +246,19 @@ abbrev pub after_turn_without_memory : Setting → World → ℕ → Option Open
 after_turn_without_memory w world c None = None
 after_turn_without_memory w world c (Some o) =
     if is_stale w world o then None
-    else if at_row_helper (by_number w.catalogue o.call.procedure) (moment_at w world.log o.call o.turns) then Some (NoMemory, without_call world c)
+    else if at_row_helper (procedure_of w world.log o.call) (moment_at w world.log o.call o.turns) then Some (NoMemory, without_call world c)
     else None
 
--- a step that would take memory for what it answers may find none
+-- a step that would take memory for what it answers may find none; a program can't be checked without memory, so an
+-- addition may want it also where its program or its name is refused
 abbrev pub after_refused_memory : World → Step → Outcome → Option (Outcome × World)
-after_refused_memory world (Begin r procedure args) (Begun c s) = Some (Refused OutOfMemory, after_refused world (Begin r procedure args))
+after_refused_memory world (Begin r procedure args request) (Begun c s) = Some (Refused OutOfMemory, after_refused world (Begin r procedure args request))
 after_refused_memory world (Order c) (Ordered position) = Some (Refused OutOfMemory, after_refused world (Order c))
 after_refused_memory world (Deliver r) (Delivered position verdict) = Some (Refused OutOfMemory, after_refused world (Deliver r))
 after_refused_memory world (Rebuild r) (Rebuilt position) = Some (Refused OutOfMemory, after_refused world (Rebuild r))
+after_refused_memory world (Add name number args_len checked) (Added position) = Some (Refused OutOfMemory, after_refused world (Add name number args_len checked))
+after_refused_memory world (Add name number args_len checked) (Refused (ProgramRefused fault)) = Some (Refused OutOfMemory, after_refused world (Add name number args_len checked))
+after_refused_memory world (Add name number args_len checked) (Refused NameShape) = Some (Refused OutOfMemory, after_refused world (Add name number args_len checked))
 after_refused_memory world step outcome = None
 
 unfoldable pub after_step_without_memory : Setting → World → Step → Option (Outcome × World)
@@ -212,12 +267,13 @@ after_step_without_memory w world step = after_refused_memory world step (after_
 
 -- which answers a step may give
 abbrev pub is_answer : Step → Outcome → Bool
-is_answer (Begin _ _ _) (Begun _ _) = true
-is_answer (Begin _ _ _) (Refused NoReplica) = true
-is_answer (Begin _ _ _) (Refused NoProcedure) = true
-is_answer (Begin _ _ _) (Refused ArgumentsLength) = true
-is_answer (Begin _ _ _) (Refused OutOfMemory) = true
-is_answer (Begin _ _ _) (Refused TooManyCalls) = true
+is_answer (Begin _ _ _ _) (Begun _ _) = true
+is_answer (Begin _ _ _ _) (Refused NoReplica) = true
+is_answer (Begin _ _ _ _) (Refused NoProcedure) = true
+is_answer (Begin _ _ _ _) (Refused ArgumentsLength) = true
+is_answer (Begin _ _ _ _) (Refused OutOfMemory) = true
+is_answer (Begin _ _ _ _) (Refused TooManyCalls) = true
+is_answer (Begin _ _ _ _) (Refused ZeroInRequest) = true
 is_answer (Turn _) More = true
 is_answer (Turn _) (Exit _) = true
 is_answer (Turn _) Stale = true
@@ -238,6 +294,12 @@ is_answer (Deliver _) (Refused OutOfMemory) = true
 is_answer (Rebuild _) (Rebuilt _) = true
 is_answer (Rebuild _) (Refused NoReplica) = true
 is_answer (Rebuild _) (Refused OutOfMemory) = true
+is_answer (Add _ _ _ _) (Added _) = true
+is_answer (Add _ _ _ _) (Refused OutOfMemory) = true
+is_answer (Add _ _ _ _) (Refused TooManyCalls) = true
+is_answer (Add _ _ _ _) (Refused ArgumentsLimit) = true
+is_answer (Add _ _ _ _) (Refused (ProgramRefused _)) = true
+is_answer (Add _ _ _ _) (Refused NameShape) = true
 is_answer _ _ = false
 
 -- the one or the other

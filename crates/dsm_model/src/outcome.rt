@@ -1,5 +1,16 @@
 //! What a step of the world answers.
+use abs_cause::Cause;
+use bpf_code::DecodeFault;
 use log_model::Verdict;
+
+/// What is wrong with a program that was to be added.
+#[derive(Clone, Copy, Debug, PartialEq, Eq)]
+pub enum ProgramFault {
+    /// Its bytes are no program.
+    Bytes(DecodeFault),
+    /// The lowest slot, counted from 0, whose instruction the verifier refuses, and its lowest cause.
+    Instruction { slot: u16, cause: Cause },
+}
 
 /// Why a step was refused, in the order of their printed numbers.
 #[derive(Clone, Copy, Debug, PartialEq, Eq)]
@@ -14,7 +25,16 @@ pub enum StepRefusal {
     ReplicaStopped,
     LogFull,
     OutOfMemory,
+    /// The world has had all its calls and additions.
     TooManyCalls,
+    /// An added procedure would have arguments of more than 256 bytes.
+    ArgumentsLimit,
+    /// The program of an added procedure is refused.
+    ProgramRefused(ProgramFault),
+    /// An added procedure's name isn't 1 to 32 letters, digits or `_`.
+    NameShape,
+    /// The session or the number of a request is 0.
+    ZeroInRequest,
 }
 
 /// What a step answers.
@@ -32,5 +52,7 @@ pub enum Outcome {
     Cancelled { snapshot: u32, code: u64 },
     Delivered { position: u32, verdict: Verdict },
     Rebuilt { position: u32 },
+    /// The procedure is appended to the log.
+    Added { position: u32 },
     Refused(StepRefusal),
 }

@@ -1,3 +1,4 @@
 pub mod BitLemmas
 pub mod CertifyLemmas
+pub mod ProcedureLemmas
 pub mod LogLemmas

@@ -4,10 +4,14 @@
 //! contract.
 #![tactic(auto)]
 
-pub use plain_log::{CallReport, PlainCall, PlainProcedure, PlainSetting};
+pub use plain_log::{
+    ItemReport, PlainCall, PlainItem, PlainItemKind, PlainProcedure, PlainSetting,
+};
 pub use plain_rows::{Row, Write};
+pub use procedures::{procedure_by_name, procedure_by_number};
 pub use replay::{CompletedReplay, replay_log};
 
 mod bits;
 mod certify;
+mod procedures;
 mod replay;

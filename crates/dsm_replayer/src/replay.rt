@@ -1,15 +1,19 @@
-//! A log as the definitions say it, call by call.
+//! A log as the definitions say it, item by item.
 
-ghost use Rattle.std.specs.Prelude.{◌≡◌, ◌<◌, ◌^◌, ℕ, length, map, slice_get, slice_index_or, option_map, Some, [], ◌∷◌, ◌++◌, IfOk, OnOk};
+ghost use Rattle.std.specs.Prelude.{◌≡◌, ◌<◌, ◌≤◌, ◌^◌, ℕ, length, map, take, slice_get, slice_index_or, option_map, Some, [], ◌∷◌, ◌++◌, IfOk, OnOk};
 ghost use Rattle.std.specs.FinMap.{empty, entries};
 ghost use Rattle.plain_rows.specs.Listed.{rows_of};
-ghost use Rattle.log_model.specs.Log.{Call, IsLog, by_number, or_idle, run_of_procedure, run_of_call, if_commits, history};
+ghost use Rattle.log_model.specs.Log.{Item, CallItem, IsLog, by_number, or_idle, run_of_procedure, procedures_after, if_commits, history};
 ghost use Rattle.plain_log.specs.Report.{Report};
-ghost use Rattle.dsm_replayer.specs.Replay.{IsReportOf, certified_call, report_after, rows_after_next};
+ghost use Rattle.dsm_replayer.specs.Replay.{IsReportOf, procedures_at, procedures_of, report_after, rows_after_next, run_by, told_by};
 
-use crate::certify::{comparisons_after, verdict_after};
-use log_model::Verdict;
-use plain_log::{CallReport, PlainCall, PlainSetting, RowList, looks_of, rows_at};
+use crate::certify::{comparisons_after, is_commit, verdict_after};
+use crate::procedures::{procedure_of_call, verdict_on_addition};
+use log_model::{Verdict, verdicts_in_words_of_the_log};
+use plain_log::{
+    ItemReport, PlainCall, PlainItem, PlainItemKind, PlainSetting, RowList, looks_of, reply_of,
+    rows_at,
+};
 use plain_rows::Row;
 use plain_runner::{CompletedRun, run_program};
 use std::alloc::{AllocError, Allocator, Global};
@@ -18,7 +22,7 @@ use std::marker::Model;
 /// What a log comes to. Contracts see a record.
 #[derive(Drop)]
 pub struct CompletedReplay<A: Allocator = Global> {
-    reports: Vec<CallReport<A>, A>,
+    reports: Vec<ItemReport<A>, A>,
     rows: Vec<RowList<A>, A>,
 }
 
@@ -34,8 +38,8 @@ impl<A: Allocator> Model for CompletedReplay<A> {
 }
 
 impl<A: Allocator> CompletedReplay<A> {
-    /// What it says of each call, in the order of the log.
-    pub fn reports(&self) -> &[CallReport<A>]
+    /// What it says of each item, in the order of the log.
+    pub fn reports(&self) -> &[ItemReport<A>]
         ensures { result.now ≡ self.now.reports }
     {
         &self.reports
@@ -50,63 +54,97 @@ impl<A: Allocator> CompletedReplay<A> {
     }
 }
 
-/// What the log comes to: of each call its run on the rows of its snapshot, its verdict and its comparisons, and the
-/// rows before the first call and after each. The error is want of memory, which may come in place of any answer. It
-/// takes time by the square of the log's length, and memory for all rows at each position.
-pub fn replay_log<A: Allocator + Copy, B: Allocator, C: Allocator>(
+/// What the log comes to: of each call its run on the rows of its snapshot, its verdict and its comparisons, of each
+/// addition its verdict, and the rows before the first item and after each. The error is want of memory, which may
+/// come in place of any answer. It takes time by the square of the log's length, and memory for all rows at each
+/// position.
+pub fn replay_log<A: Allocator + Copy, B: Allocator>(
     alloc: A,
     setting: &PlainSetting<B>,
-    log: &[PlainCall<C>],
+    log: &[PlainItem<B>],
 ) -> Result<CompletedReplay<A>, AllocError>
     requires { length log.now < 2 ^ 32 }
-    ensures rows { IfOk result (λ replay. replay.rows ≡ (history setting.now log.now).rows) }
+    ensures rows { IfOk result (λ replay.
+        replay.rows ≡ map (λ database. database.rows) (history setting.now log.now).databases) }
+    ensures procedures { IfOk result (λ replay. (position : ℕ) → position ≤ length log.now
+        → procedures_of setting.now log.now (take position replay.reports)
+        ≡ procedures_after setting.now log.now position) }
     ensures count { IfOk result (λ replay. length replay.reports ≡ length log.now) }
-    ensures reports { IfOk result (λ replay. (before : ℕ) (call : Call) (report : Report)
-        → IsLog log.now → slice_get log.now before ≡ Some call → slice_get replay.reports before ≡ Some report
-        → IsReportOf setting.now log.now before call report) }
+    ensures reports { IfOk result (λ replay. (before : ℕ) (item : Item) (report : Report)
+        → IsLog log.now → slice_get log.now before ≡ Some item → slice_get replay.reports before ≡ Some report
+        → IsReportOf setting.now log.now before item report) }
 {
+    verdicts_in_words_of_the_log();
     let mut reports = Vec::new(alloc);
     let mut rows = Vec::new(alloc);
     rows.push(RowList::new(alloc))?;
-    for call in log {
-        add_call(alloc, setting, call, &mut reports, &mut rows)?;
+    for item in log {
+        add_item(alloc, setting, log, item, &mut reports, &mut rows)?;
     }
     Ok(CompletedReplay { reports, rows })
 }
 
-/// Adds what is said of the next call, and the rows after it.
-fn add_call<A: Allocator + Copy, B: Allocator, C: Allocator>(
+/// Adds what is said of the next item, and the rows after it.
+fn add_item<A: Allocator + Copy, B: Allocator>(
     alloc: A,
     setting: &PlainSetting<B>,
-    call: &PlainCall<C>,
-    reports: &mut Vec<CallReport<A>, A>,
+    log: &[PlainItem<B>],
+    item: &PlainItem<B>,
+    reports: &mut Vec<ItemReport<A>, A>,
     rows: &mut Vec<RowList<A>, A>,
 ) -> Result<(), AllocError>
     requires { length reports.old.items < 2 ^ 32 }
     ensures reports { OnOk result (reports.new.items ≡ reports.old.items
-        ++ report_after setting.now (map certified_call reports.old.items) rows.old.items call.now ∷ []) }
+        ++ report_after setting.now log.now reports.old.items rows.old.items item.now ∷ []) }
     ensures rows { OnOk result (rows.new.items ≡ rows.old.items
-        ++ rows_after_next setting.now reports.old.items rows.old.items call.now ∷ []) }
+        ++ rows_after_next setting.now log.now reports.old.items
+        (slice_index_or rows.old.items (length reports.old.items) empty) item.now
+        (report_after setting.now log.now reports.old.items rows.old.items item.now).verdict ∷ []) }
 {
-    let report = report_after(alloc, setting, reports, rows, call)?;
+    let report = report_after(alloc, setting, log, reports, rows, item)?;
     let now = rows_at(rows, reports.len());
-    let next = rows_after(alloc, setting, call, report.verdict(), now)?;
+    let next = rows_after(alloc, setting, log, reports, item, report.verdict(), now)?;
     reports.push(report)?;
     rows.push(next)?;
     Ok(())
 }
 
-/// The run of a call on rows.
+/// What is said of the next item, by what was said of those before it and by the rows so far.
+fn report_after<A: Allocator + Copy, B: Allocator>(
+    alloc: A,
+    setting: &PlainSetting<B>,
+    log: &[PlainItem<B>],
+    past: &[ItemReport<A>],
+    rows: &[RowList<A>],
+    item: &PlainItem<B>,
+) -> Result<ItemReport<A>, AllocError>
+    requires { length past.now < 2 ^ 32 }
+    ensures { IfOk result (λ report. report
+        ≡ report_after setting.now log.now past.now rows.now item.now) }
+{
+    match &item.kind {
+        PlainItemKind::Call(call) => report_of_call(alloc, setting, log, past, rows, call),
+        PlainItemKind::Addition(procedure) => {
+            let verdict = verdict_on_addition(setting, log, past, procedure);
+            Ok(ItemReport::of_addition(alloc, verdict))
+        }
+    }
+}
+
+/// The run of a call of the procedures of its snapshot, on some rows.
 fn run_of_call<A: Allocator + Copy, B: Allocator, C: Allocator, D: Allocator>(
     alloc: A,
     setting: &PlainSetting<B>,
-    call: &PlainCall<C>,
+    log: &[PlainItem<B>],
+    past: &[ItemReport<C>],
+    call: &PlainCall<B>,
     rows: &[Row<D>],
 ) -> Result<Option<CompletedRun<A>>, AllocError>
     ensures { IfOk result (λ run. run ≡ run_of_procedure setting.now.tables
-        (by_number setting.now.catalogue call.now.procedure) call.now.args (rows_of rows.now)) }
+        (by_number (procedures_at setting.now log.now past.now call.now.snapshot) call.now.procedure)
+        call.now.args (rows_of rows.now)) }
 {
-    match setting.procedure(call.procedure()) {
+    match procedure_of_call(setting, log, past, call) {
         Some(procedure) => {
             run_program(alloc, procedure.code(), setting.schema(), call.args(), rows)
         }
@@ -114,44 +152,89 @@ fn run_of_call<A: Allocator + Copy, B: Allocator, C: Allocator, D: Allocator>(
     }
 }
 
-/// What is said of the next call, by what was said of those before it and by the rows so far.
-fn report_after<A: Allocator + Copy, B: Allocator, C: Allocator>(
+/// What is said of a call as the next item.
+fn report_of_call<A: Allocator + Copy, B: Allocator>(
     alloc: A,
     setting: &PlainSetting<B>,
-    past: &[CallReport<A>],
+    log: &[PlainItem<B>],
+    past: &[ItemReport<A>],
     rows: &[RowList<A>],
-    call: &PlainCall<C>,
-) -> Result<CallReport<A>, AllocError>
+    call: &PlainCall<B>,
+) -> Result<ItemReport<A>, AllocError>
     requires { length past.now < 2 ^ 32 }
     ensures { IfOk result (λ report. report
-        ≡ report_after setting.now (map certified_call past.now) rows.now call.now) }
+        ≡ report_after setting.now log.now past.now rows.now (CallItem call.now)) }
 {
-    let run = run_of_call(alloc, setting, call, rows_at(rows, call.snapshot()))?;
+    let run = run_of_call(
+        alloc,
+        setting,
+        log,
+        past,
+        call,
+        rows_at(rows, call.snapshot()),
+    )?;
     let looks = looks_of(&run);
     let window = setting.window();
     let verdict = verdict_after(window, past, call, looks);
     let comparisons = comparisons_after(alloc, window, past, call, looks)?;
-    Ok(CallReport::new(run, verdict, comparisons))
+    let told = told_by(past, verdict, reply_of(&run));
+    Ok(ItemReport::of_call(call.request(), run, verdict, comparisons, told))
 }
 
-/// The rows after a call, by its verdict: where it commits it runs once more, on the rows now.
-#[tactic(auto, unfolding(log_model::specs::Log::run_of_call))]
-fn rows_after<A: Allocator + Copy, B: Allocator, C: Allocator>(
-    alloc: A,
-    setting: &PlainSetting<B>,
-    call: &PlainCall<C>,
-    verdict: Verdict,
-    rows: &[Row<A>],
-) -> Result<RowList<A>, AllocError>
-    ensures { IfOk result (λ after. after
-        ≡ if_commits verdict (run_of_call setting.now call.now (rows_of rows.now)).effect (rows_of rows.now)) }
+/// The reply that the caller of a call with this verdict is told: where it commits its own, and where it is repeated
+/// that of the call that it repeats.
+fn told_by<A: Allocator>(past: &[ItemReport<A>], verdict: Verdict, reply: u64) -> Option<u64>
+    ensures { result ≡ told_by past.now verdict reply }
 {
     match verdict {
-        Verdict::Commit => {
-            let run = run_of_call(alloc, setting, call, rows)?;
-            rows_after_run(alloc, run, rows)
+        Verdict::Commit => Some(reply),
+        Verdict::Repeated(position) => {
+            let before = (position as usize).saturating_sub(1);
+            past.get(before).map(|report| report.reply())
         }
-        Verdict::Conflict(_) | Verdict::Stale => RowList::from_rows(alloc, rows),
+        Verdict::Conflict(_) | Verdict::Stale | Verdict::Taken(_) => None,
+    }
+}
+
+/// The rows after an item, by its verdict: a call that commits runs once more, on the rows now.
+fn rows_after<A: Allocator + Copy, B: Allocator>(
+    alloc: A,
+    setting: &PlainSetting<B>,
+    log: &[PlainItem<B>],
+    past: &[ItemReport<A>],
+    item: &PlainItem<B>,
+    verdict: Verdict,
+    now: &[Row<A>],
+) -> Result<RowList<A>, AllocError>
+    ensures { IfOk result (λ after. after
+        ≡ rows_after_next setting.now log.now past.now (rows_of now.now) item.now verdict) }
+{
+    match &item.kind {
+        PlainItemKind::Call(call) => {
+            rows_after_call(alloc, setting, log, past, call, verdict, now)
+        }
+        PlainItemKind::Addition(_) => RowList::from_rows(alloc, now),
+    }
+}
+
+/// The same of a call.
+fn rows_after_call<A: Allocator + Copy, B: Allocator>(
+    alloc: A,
+    setting: &PlainSetting<B>,
+    log: &[PlainItem<B>],
+    past: &[ItemReport<A>],
+    call: &PlainCall<B>,
+    verdict: Verdict,
+    now: &[Row<A>],
+) -> Result<RowList<A>, AllocError>
+    ensures { IfOk result (λ after. after ≡ if_commits verdict
+        (run_by setting.now log.now past.now call.now (rows_of now.now)).effect (rows_of now.now)) }
+{
+    if is_commit(verdict) {
+        let run = run_of_call(alloc, setting, log, past, call, now)?;
+        rows_after_run(alloc, run, now)
+    } else {
+        RowList::from_rows(alloc, now)
     }
 }
 

@@ -2,18 +2,15 @@
 use Rattle.std.proofs.Common.{◌≡◌, ℕ, zero, suc, ◌+◌, ◌≤◌, List, [], ◌∷◌, ◌++◌, length, take, drop, slice_get, Some, refl, sym, ap, subst, ◌∙◌, arith}
 use Rattle.std.specs.List.{AllByRecursion}
 use Rattle.schema.specs.Rows.{Rows, AreRows}
-use Rattle.log_model.specs.Log.{Setting, Call, Log, IsLog, IsLogFrom, rows_after, run_in, run_of_call}
-use Rattle.log_model.specs.Fit.{IsCall, AreCalls}
-use Rattle.log_model.specs.Entries.{Entry, calls_of, CarriesRun, CarryRuns}
+use Rattle.log_model.specs.Log.{Catalogue, Setting, Call, Item, CallItem, AdditionItem, Log, IsPlaced, IsLog, IsLogFrom, by_number}
+use Rattle.log_model.specs.Fit.{IsCallOf, IsCall, IsItem, AreItems}
+use Rattle.log_model.specs.Entries.{ExecutedCall, Entry, CallEntry, AdditionEntry, item_of, items_of, CarriesRun, IsCarried, CarryRuns}
+use Rattle.log_model.proofs.GrowthLemmas.{rows_grown, procedures_grown, run_grown, is_log_snoc, are_items_snoc}
 use Rattle.replica.specs.Replica.{AreEntriesOf}
 use Rattle.bpf_vm.specs.Run.{own_effects}
 use Rattle.catalogue.specs.Catalogue.{accepted_of}
-use Rattle.world_calls.specs.OpenCall.{HasCome, Follows}
+use Rattle.world_calls.specs.OpenCall.{call_of, HasCome, Follows}
 use Rattle.world_calls.specs.declared.open_call.OpenCall.{OpenCall as OpenCallState}
-
--- what the law of growing logs says of rows
-abbrev pub RowsGrow : Type 0
-RowsGrow = (w : Setting) (log more : Log) (position : ℕ) → position ≤ length log → rows_after w (log ++ more) position ≡ rows_after w log position
 
 -- ---- lists
 
@@ -38,13 +35,13 @@ take_drop xs zero = refl
 take_drop [] (suc n) = refl
 take_drop (x ∷ xs) (suc n) = ap (λ ys. x ∷ ys) (take_drop xs n)
 
-pub calls_append : (xs ys : List Entry) → calls_of (xs ++ ys) ≡ calls_of xs ++ calls_of ys
-calls_append [] ys = refl
-calls_append (x ∷ xs) ys = ap (λ zs. x.call ∷ zs) (calls_append xs ys)
+pub items_append : (xs ys : List Entry) → items_of (xs ++ ys) ≡ items_of xs ++ items_of ys
+items_append [] ys = refl
+items_append (x ∷ xs) ys = ap (λ zs. item_of x ∷ zs) (items_append xs ys)
 
-pub calls_count : (xs : List Entry) → length (calls_of xs) ≡ length xs
-calls_count [] = refl
-calls_count (x ∷ xs) = ap suc (calls_count xs)
+pub items_count : (xs : List Entry) → length (items_of xs) ≡ length xs
+items_count [] = refl
+items_count (x ∷ xs) = ap suc (items_count xs)
 
 pub take_count : {X : Type 0} (xs : List X) (n : ℕ) → n ≤ length xs → length (take n xs) ≡ n
 take_count xs zero le = refl
@@ -71,79 +68,93 @@ all_at P (y ∷ xs) (suc k) x h e = all_at P xs k x h.1 e
 
 log_first : (n : ℕ) (log more : Log) → IsLogFrom n (log ++ more) → IsLogFrom n log
 log_first n [] more h = tt
-log_first n (call ∷ log) more h = (h.0, log_first (suc n) log more h.1)
+log_first n (item ∷ log) more h = (h.0, log_first (suc n) log more h.1)
 
-log_snoc : (n : ℕ) (log : Log) (call : Call) → IsLogFrom n log → call.snapshot ≤ n + length log → IsLogFrom n (log ++ call ∷ [])
-log_snoc n [] call h le = (omega arith, tt)
-log_snoc n (first ∷ log) call h le = (h.0, log_snoc (suc n) log call h.1 (omega arith))
-
-pub snapshot_at : (n : ℕ) (entries : List Entry) (k : ℕ) (e : Entry) → IsLogFrom n (calls_of entries) → slice_get entries k ≡ Some e → e.call.snapshot ≤ n + k
-snapshot_at n [] k e h is = absurd cc
-snapshot_at n (x ∷ entries) zero e h is =
-    let same : e ≡ x = cc in
-    let first : x.call.snapshot ≤ n = h.0 in
-    let count : e.call.snapshot ≡ x.call.snapshot = ap (λ (y : Entry). y.call.snapshot) same in
-    omega arith
-snapshot_at n (x ∷ entries) (suc k) e h is = let later = snapshot_at (suc n) entries k e h.1 is in omega arith
+pub placed_at : (n : ℕ) (entries : List Entry) (k : ℕ) (e : Entry) → IsLogFrom n (items_of entries) → slice_get entries k ≡ Some e → IsPlaced (n + k) (item_of e)
+placed_at n [] k e h is = absurd cc
+placed_at n (x ∷ entries) zero e h is =
+    let same : x ≡ e = cc in
+    subst (λ (y : Entry). IsPlaced (n + 0) (item_of y)) same (subst (λ (m : ℕ). IsPlaced m (item_of x)) (let here : n ≡ n + 0 = omega arith in here) h.0)
+placed_at n (x ∷ entries) (suc k) e h is =
+    subst (λ (m : ℕ). IsPlaced m (item_of e)) (let same : suc n + k ≡ n + suc k = omega arith in same) (placed_at (suc n) entries k e h.1 is)
 
 -- ---- what entries carry
 
-same_run : (grow : RowsGrow) (w : Setting) (log more : Log) (call : Call) → call.snapshot ≤ length log → run_in w (log ++ more) call ≡ run_in w log call
-same_run grow w log more call le = ap (λ (rows : Rows). run_of_call w call rows) (grow w log more call.snapshot le)
-
-carries_first : (grow : RowsGrow) (w : Setting) (log more : Log) (e : Entry) → e.call.snapshot ≤ length log → CarriesRun w (log ++ more) e → CarriesRun w log e
-carries_first grow w log more e le h =
-    let same = same_run grow w log more e.call le in
+carries_first : (w : Setting) (log more : Log) (e : ExecutedCall) → e.call.snapshot ≤ length log → CarriesRun w (log ++ more) e → CarriesRun w log e
+carries_first w log more e le h =
+    let same = run_grown w log more e.call le in
     record {
       looks = h.looks ∙ ap (λ r. r.looks) same;
       writes = h.writes ∙ ap (λ r. r.writes) same;
       reply = h.reply ∙ ap (λ r. r.reply) same;
     }
 
-all_carry_first : (grow : RowsGrow) (w : Setting) (log more : Log) (n : ℕ) (entries : List Entry) → IsLogFrom n (calls_of entries) → n + length entries ≤ length log → AllByRecursion (CarriesRun w (log ++ more)) entries → AllByRecursion (CarriesRun w log) entries
-all_carry_first grow w log more n [] is le h = tt
-all_carry_first grow w log more n (e ∷ entries) is le h =
-    let first : e.call.snapshot ≤ n = is.0 in
-    (carries_first grow w log more e (omega arith) h.0, all_carry_first grow w log more (suc n) entries is.1 (omega arith) h.1)
+carried_first : (w : Setting) (log more : Log) (n : ℕ) (e : Entry) → IsPlaced n (item_of e) → n ≤ length log → IsCarried w (log ++ more) e → IsCarried w log e
+carried_first w log more n (CallEntry e) placed le h = carries_first w log more e (omega arith) h
+carried_first w log more n (AdditionEntry p) placed le h = tt
+
+all_carried_first : (w : Setting) (log more : Log) (n : ℕ) (entries : List Entry) → IsLogFrom n (items_of entries) → n + length entries ≤ length log → AllByRecursion (IsCarried w (log ++ more)) entries → AllByRecursion (IsCarried w log) entries
+all_carried_first w log more n [] is le h = tt
+all_carried_first w log more n (e ∷ entries) is le h =
+    (carried_first w log more n e is.0 (omega arith) h.0, all_carried_first w log more (suc n) entries is.1 (omega arith) h.1)
+
+item_first : (w : Setting) (log more : Log) (n : ℕ) (item : Item) → IsPlaced n item → n ≤ length log → IsItem w (log ++ more) item → IsItem w log item
+item_first w log more n (CallItem call) placed le h = subst (λ (ps : Catalogue). IsCallOf ps call) (procedures_grown w log more call.snapshot (omega arith)) h
+item_first w log more n (AdditionItem p) placed le h = h
+
+all_items_first : (w : Setting) (log more : Log) (n : ℕ) (items : Log) → IsLogFrom n items → n + length items ≤ length log → AllByRecursion (IsItem w (log ++ more)) items → AllByRecursion (IsItem w log) items
+all_items_first w log more n [] is le h = tt
+all_items_first w log more n (item ∷ items) is le h =
+    (item_first w log more n item is.0 (omega arith) h.0, all_items_first w log more (suc n) items is.1 (omega arith) h.1)
 
 -- a beginning of the entries
-pub entries_first : (grow : RowsGrow) (w : Setting) (entries more : List Entry) → AreEntriesOf w (entries ++ more) → AreEntriesOf w entries
-entries_first grow w entries more are =
-    let calls = calls_append entries more in
-    let log = log_first 0 (calls_of entries) (calls_of more) (subst IsLog calls are.log) in
+pub entries_first : (w : Setting) (entries more : List Entry) → AreEntriesOf w (entries ++ more) → AreEntriesOf w entries
+entries_first w entries more are =
+    let items = items_append entries more in
+    let log = log_first 0 (items_of entries) (items_of more) (subst IsLog items are.log) in
+    let count = items_count entries in
     record {
       procedures = are.procedures;
       log = log;
-      calls = all_first (IsCall w) (calls_of entries) (calls_of more) (subst (λ (l : Log). AreCalls w l) calls are.calls);
-      runs = all_carry_first grow w (calls_of entries) (calls_of more) 0 entries log (let count = calls_count entries in omega arith)
-          (all_first (CarriesRun w (calls_of entries ++ calls_of more)) entries more (subst (λ (l : Log). AllByRecursion (CarriesRun w l) (entries ++ more)) calls are.runs));
+      items = all_items_first w (items_of entries) (items_of more) 0 (items_of entries) log (omega arith)
+          (all_first (IsItem w (items_of entries ++ items_of more)) (items_of entries) (items_of more) (subst (λ (l : Log). AreItems w l) items are.items));
+      runs = all_carried_first w (items_of entries) (items_of more) 0 entries log (omega arith)
+          (all_first (IsCarried w (items_of entries ++ items_of more)) entries more (subst (λ (l : Log). AllByRecursion (IsCarried w l) (entries ++ more)) items are.runs));
     }
 
-pub entries_taken : (grow : RowsGrow) (w : Setting) (entries : List Entry) (n : ℕ) → AreEntriesOf w entries → AreEntriesOf w (take n entries)
-entries_taken grow w entries n are = entries_first grow w (take n entries) (drop n entries) (subst (λ (l : List Entry). AreEntriesOf w l) (sym (take_drop entries n)) are)
+pub entries_taken : (w : Setting) (entries : List Entry) (n : ℕ) → AreEntriesOf w entries → AreEntriesOf w (take n entries)
+entries_taken w entries n are = entries_first w (take n entries) (drop n entries) (subst (λ (l : List Entry). AreEntriesOf w l) (sym (take_drop entries n)) are)
 
 -- what the law of one more entry says
 abbrev pub OneMore : Type 0
-OneMore = (w : Setting) (entries : List Entry) (e : Entry) → IsLog (calls_of entries) → CarryRuns w entries → e.call.snapshot ≤ length entries → CarriesRun w (calls_of entries) e → CarryRuns w (entries ++ e ∷ [])
+OneMore = (w : Setting) (entries : List Entry) (e : Entry) → IsLog (items_of entries) → CarryRuns w entries → IsPlaced (length entries) (item_of e) → IsCarried w (items_of entries) e → CarryRuns w (entries ++ e ∷ [])
 
-pub entries_snoc : (one : OneMore) (w : Setting) (entries : List Entry) (e : Entry) → AreEntriesOf w entries → IsCall w e.call → e.call.snapshot ≤ length entries → CarriesRun w (calls_of entries) e → AreEntriesOf w (entries ++ e ∷ [])
-entries_snoc one w entries e are is le carries =
-    let calls = sym (calls_append entries (e ∷ [])) in
+pub entries_snoc : (one : OneMore) (w : Setting) (entries : List Entry) (e : Entry) → AreEntriesOf w entries → IsItem w (items_of entries) (item_of e) → IsPlaced (length entries) (item_of e) → IsCarried w (items_of entries) e → AreEntriesOf w (entries ++ e ∷ [])
+entries_snoc one w entries e are is placed carries =
+    let items = sym (items_append entries (e ∷ [])) in
+    let there = subst (λ (n : ℕ). IsPlaced n (item_of e)) (sym (items_count entries)) placed in
     record {
       procedures = are.procedures;
-      log = subst IsLog calls (log_snoc 0 (calls_of entries) e.call are.log (let count = calls_count entries in omega arith));
-      calls = subst (λ (l : Log). AreCalls w l) calls (all_snoc (IsCall w) (calls_of entries) e.call are.calls is);
-      runs = one w entries e are.log are.runs le carries;
+      log = subst IsLog items (is_log_snoc 0 (items_of entries) (item_of e) are.log (subst (λ (n : ℕ). IsPlaced n (item_of e)) (let same : length (items_of entries) ≡ 0 + length (items_of entries) = omega arith in same) there));
+      items = subst (λ (l : Log). AreItems w l) items (are_items_snoc w (items_of entries) (item_of e) are.log are.items there is);
+      runs = one w entries e are.log are.runs placed carries;
     }
 
 -- ---- open calls
 
+abbrev call_grown : (w : Setting) (log more : Log) (call : Call) → call.snapshot ≤ length log → IsCall w log call → IsCall w (log ++ more) call
+call_grown w log more call le is = record {
+  procedure = is.procedure;
+  known = ap (λ (ps : Catalogue). by_number ps call.procedure) (procedures_grown w log more call.snapshot le) ∙ is.known;
+  arguments = is.arguments;
+}
+
 -- one follows its run on a log that has grown
-pub follows_grown : {A : Type 0} (grow : RowsGrow) (w : Setting) (log more : Log) (c : OpenCallState A) → c.snapshot ≤ length log → Follows w log c → Follows w (log ++ more) c
-follows_grown grow w log more c le f =
-    let same = sym (grow w log more c.snapshot le) in
+pub follows_grown : {A : Type 0} (w : Setting) (log more : Log) (c : OpenCallState A) → c.snapshot ≤ length log → Follows w log c → Follows w (log ++ more) c
+follows_grown w log more c le f =
+    let same = sym (rows_grown w log more c.snapshot le) in
     record {
-      is_call = f.is_call;
+      is_call = call_grown w log more (call_of c) le f.is_call;
       accepted = f.accepted;
       rows = subst (λ (rows : Rows). AreRows w.tables rows) same f.rows;
       so_far = subst (λ (rows : Rows). HasCome (accepted_of w.tables f.is_call.procedure) c.args rows c.turns c.machine.last c.machine (own_effects c.own)) same f.so_far;

@@ -5,26 +5,33 @@ use Rattle.schema.specs.Schema.{Tables}
 use Rattle.schema.specs.Rows.{AreWrites}
 use Rattle.key_table.specs.Table.{Table}
 use Rattle.rows_mv.specs.Versions.{HaveTables, width_of}
-use Rattle.replica.specs.Replica.{Replica, StandsFor, AreEntriesOf}
+use Rattle.stored_procedures.specs.Held.{ListedProcedure, AreForTables, listed_by_number, stored_procedures}
+use Rattle.std.specs.List.{AllByRecursion}
+use Rattle.log_entry.specs.declared.entry.Entry.{Entry as LogEntry}
+use Rattle.log_entry.specs.Kind.{entry_of}
+use Rattle.replica.specs.Replica.{Replica, StandsFor, AreEntriesOf, IsNamed, entries_of, writes_in}
 use Rattle.log_model.specs.declared.verdict.Verdict.{Verdict}
 use Rattle.dsm_model.specs.declared.outcome.StepRefusal.TheVariants.{NothingToDeliver, ReplicaStopped, OutOfMemory}
 use Rattle.dsm_model.specs.declared.outcome.Outcome.{Outcome}
 use Rattle.dsm_model.specs.declared.outcome.Outcome.TheVariants.{Delivered, Rebuilt, Refused}
-use Rattle.log_model.specs.Log.{Setting, Log, verdict_of}
-use Rattle.log_model.specs.Entries.{Entry, calls_of}
+use Rattle.log_model.specs.Log.{Catalogue, Setting, Log, IsPlaced, by_number, procedures_after, verdict_of}
+use Rattle.log_model.specs.Entries.{Entry, item_of, items_of}
 use Rattle.dsm_model.specs.World as model
 use Rattle.dsm_model.specs.World.{World, Step, Deliver, Rebuild, numbered, with_replica, max_calls, IsStep}
-use Rattle.dsm_model.specs.Sound.{HasByteArguments, IsWorld}
+use Rattle.dsm_model.specs.Sound.{IsGiven, IsWorld}
 use Rattle.world_calls.specs.declared.open_call.OpenCall.{OpenCall as OpenCallState}
+use Rattle.log_model.proofs.GrowthLemmas.{procedures_grown}
+use Rattle.catalogue.specs.Catalogue.{accepted_of}
+use Rattle.catalogue.proofs.HeldLemmas.{numbered_for}
 use Rattle.dsm_world.specs.System.{SystemWorld, setting_of, progress_of, world_of}
 use Rattle.dsm_world.specs.Holdings.{IsReplicaOf, IsTogether, HasSameTables, HasDelivered, HasStopped}
 use Rattle.dsm_world.proofs.Numbered.{get_map, set_map, get_set, get_lt, numbered_map, numbered_at, with_numbered_at, numbered_none}
 use Rattle.dsm_world.proofs.StepLemmas.{deliver_nothing, deliver_stopped, deliver_new, deliver_without_memory, rebuild_new}
-use Rattle.dsm_world.proofs.EntryLemmas.{RowsGrow, take_all, take_next, take_drop, take_count, calls_append, calls_count, all_at, snapshot_at, entries_taken}
+use Rattle.dsm_world.proofs.EntryLemmas.{take_all, take_next, take_drop, take_count, items_append, items_count, all_at, placed_at, entries_taken}
 
 -- what laws of the model and of replicas say
 abbrev pub Keeps : Type 0
-Keeps = (w : Setting) (before : World) (step : Step) (outcome : Outcome) (after : World) → HasByteArguments step → IsStep w before step outcome after → IsWorld w before → IsWorld w after
+Keeps = (w : Setting) (before : World) (step : Step) (outcome : Outcome) (after : World) → IsGiven w step outcome → IsStep w before step outcome after → IsWorld w before → IsWorld w after
 
 abbrev pub VerdictsGrow : Type 0
 VerdictsGrow = (w : Setting) (log more : Log) (d : ℕ) → d < length log → verdict_of w (log ++ more) (suc d) ≡ verdict_of w log (suc d)
@@ -48,17 +55,18 @@ replica_at s r k old e at = numbered_at (map progress_of s.replicas) r k e ∙ g
 
 world_with : (s : SystemWorld) (r k : ℕ) (new : Replica) (now : model.Replica) → r ≡ k + 1 → now ≡ progress_of new → with_replica (world_of s) r now ≡ world_of (with_one s k new)
 world_with s r k new now e is =
-    ap (λ (rs : List model.Replica). record { log = calls_of s.entries; replicas = rs; calls = s.calls })
+    ap (λ (rs : List model.Replica). record { log = items_of s.entries; replicas = rs; calls = s.calls })
     (with_numbered_at (map progress_of s.replicas) r k now e ∙ ap (λ (x : model.Replica). slice_set (map progress_of s.replicas) k x) is ∙ sym (set_map progress_of s.replicas k new))
 
-pub one_changed : {A : Type 0} (s : SystemWorld) (slots : List (Option (OpenCallState A))) (k : ℕ) (new : Replica) → IsTogether s slots → IsReplicaOf s.catalogue.tables s.window s.entries new → IsWorld (setting_of s) (world_of (with_one s k new)) → IsTogether (with_one s k new) slots
+pub one_changed : {A : Type 0} (s : SystemWorld) (slots : List (Option (OpenCallState A))) (k : ℕ) (new : Replica) → IsTogether s slots → IsReplicaOf s.catalogue s.window s.entries new → IsWorld (setting_of s) (world_of (with_one s k new)) → IsTogether (with_one s k new) slots
 one_changed s slots k new h is world = record {
   entries = h.entries;
   writes = h.writes;
+  named = h.named;
   world = world;
   replicas = λ j r e. elim (get_set s.replicas k j new) [
     | inl same ↦ h.replicas j r (sym same ∙ e)
-    | inr now ↦ subst (IsReplicaOf s.catalogue.tables s.window s.entries) (some_is new r (sym now.1 ∙ e)) is
+    | inr now ↦ subst (IsReplicaOf s.catalogue s.window s.entries) (some_is new r (sym now.1 ∙ e)) is
   ];
   calls = h.calls;
   open_calls = h.open_calls;
@@ -75,7 +83,7 @@ next_number : (w : Setting) (log : Log) (d : ℕ) (o : Option Verdict) → verdi
 next_number w log d o e = let same : d + 1 ≡ suc d = omega arith in ap (verdict_of w log) same ∙ e
 
 pub log_count : (s : SystemWorld) → length (world_of s).log ≡ length s.entries
-log_count s = calls_count s.entries
+log_count s = items_count s.entries
 
 -- ---- Deliver
 
@@ -97,43 +105,44 @@ stopped_before s slots r k old e have h is at next stopped =
     deliver_stopped (setting_of s) (world_of s) r (progress_of old) v.0 (replica_at s r k old is at) v.1 (ap not stopped)
 
 -- the verdict of a delivery is that of the log
-verdict_is : {A : Type 0} (s : SystemWorld) (slots : List (Option (OpenCallState A))) (k : ℕ) (old new : Replica) (e : Entry) (v : Verdict) → RowsGrow → VerdictsGrow → IsTogether s slots → slice_get s.replicas k ≡ Some old → slice_get s.entries old.position ≡ Some e → HasDelivered old new e v
+verdict_is : {A : Type 0} (s : SystemWorld) (slots : List (Option (OpenCallState A))) (k : ℕ) (old new : Replica) (e : Entry) (v : Verdict) → VerdictsGrow → IsTogether s slots → slice_get s.replicas k ≡ Some old → slice_get s.entries old.position ≡ Some e → HasDelivered s.catalogue.tables old new e v
     → verdict_of (setting_of s) (world_of s).log (old.position + 1) ≡ Some v
-verdict_is s slots k old new e v grow verdicts h at next d =
+verdict_is s slots k old new e v verdicts h at next d =
     let w = setting_of s in
     let p = old.position in
     let lt = get_lt s.entries p e next in
     let first = take_next s.entries p e next in
     let is = h.replicas k old at in
-    let are = subst (λ (xs : List Entry). AreEntriesOf w xs) (sym first) (entries_taken grow w s.entries (suc p) h.entries) in
+    let are = subst (λ (xs : List Entry). AreEntriesOf w xs) (sym first) (entries_taken w s.entries (suc p) h.entries) in
     let there = d.verdict w (take p s.entries) (sym is.same_window) is.stands are in
     let at_next : new.position ≡ suc p = (let position = d.position in omega arith) in
-    let count : length (calls_of (take (suc p) s.entries)) ≡ suc p = calls_count (take (suc p) s.entries) ∙ take_count s.entries (suc p) (omega arith) in
-    let log : (world_of s).log ≡ calls_of (take (suc p) s.entries) ++ calls_of (drop (suc p) s.entries) =
-    ap calls_of (sym (take_drop s.entries (suc p))) ∙ calls_append (take (suc p) s.entries) (drop (suc p) s.entries) in
+    let count : length (items_of (take (suc p) s.entries)) ≡ suc p = items_count (take (suc p) s.entries) ∙ take_count s.entries (suc p) (omega arith) in
+    let log : (world_of s).log ≡ items_of (take (suc p) s.entries) ++ items_of (drop (suc p) s.entries) =
+    ap items_of (sym (take_drop s.entries (suc p))) ∙ items_append (take (suc p) s.entries) (drop (suc p) s.entries) in
     next_number w (world_of s).log p (Some v)
-    (ap (λ (l : Log). verdict_of w l (suc p)) log ∙ verdicts w (calls_of (take (suc p) s.entries)) (calls_of (drop (suc p) s.entries)) p (omega arith)
-    ∙ ap (λ (xs : List Entry). verdict_of w (calls_of xs) (suc p)) (sym first) ∙ ap (verdict_of w (calls_of (take p s.entries ++ e ∷ []))) (sym at_next) ∙ there)
+    (ap (λ (l : Log). verdict_of w l (suc p)) log ∙ verdicts w (items_of (take (suc p) s.entries)) (items_of (drop (suc p) s.entries)) p (omega arith)
+    ∙ ap (λ (xs : List Entry). verdict_of w (items_of xs) (suc p)) (sym first) ∙ ap (verdict_of w (items_of (take p s.entries ++ e ∷ []))) (sym at_next) ∙ there)
 
-pub delivered : {A : Type 0} (s : SystemWorld) (slots : List (Option (OpenCallState A))) (r k : ℕ) (old new : Replica) (e : Entry) (v : Verdict) → RowsGrow → VerdictsGrow → IsTogether s slots → r ≡ k + 1 → slice_get s.replicas k ≡ Some old → slice_get s.entries old.position ≡ Some e → old.stopped ≡ false → HasDelivered old new e v
+pub delivered : {A : Type 0} (s : SystemWorld) (slots : List (Option (OpenCallState A))) (r k : ℕ) (old new : Replica) (e : Entry) (v : Verdict) → VerdictsGrow → IsTogether s slots → r ≡ k + 1 → slice_get s.replicas k ≡ Some old → slice_get s.entries old.position ≡ Some e → old.stopped ≡ false → HasDelivered s.catalogue.tables old new e v
     → IsStep (setting_of s) (world_of s) (Deliver r) (Delivered (old.position + 1) v) (world_of (with_one s k new))
-delivered s slots r k old new e v grow verdicts h is at next going d =
+delivered s slots r k old new e v verdicts h is at next going d =
     let progress : record { position = old.position + 1; running = not old.stopped } ≡ progress_of new = ap (λ n. record { position = n; running = not old.stopped }) (sym d.position) ∙ ap (λ b. record { position = new.position; running = not b }) (going ∙ sym d.running) in
     subst (λ (x : World). IsStep (setting_of s) (world_of s) (Deliver r) (Delivered (old.position + 1) v) x) (world_with s r k new _ is progress)
-    (deliver_new (setting_of s) (world_of s) r (progress_of old) v (replica_at s r k old is at) (verdict_is s slots k old new e v grow verdicts h at next d) (ap not going))
+    (deliver_new (setting_of s) (world_of s) r (progress_of old) v (replica_at s r k old is at) (verdict_is s slots k old new e v verdicts h at next d) (ap not going))
 
 same_tables : (tables : Tables) (old new : Replica) → TablesKept → HasSameTables old new → HaveTables tables old.versions.tables → HaveTables tables new.versions.tables
 same_tables tables old new kept same have = kept tables old.versions.tables new.versions.tables same.widths same.count have
 
-pub delivered_replica : {A : Type 0} (s : SystemWorld) (slots : List (Option (OpenCallState A))) (k : ℕ) (old new : Replica) (e : Entry) (v : Verdict) → TablesKept → IsTogether s slots → slice_get s.replicas k ≡ Some old → slice_get s.entries old.position ≡ Some e → HasDelivered old new e v
-    → IsReplicaOf s.catalogue.tables s.window s.entries new
+pub delivered_replica : {A : Type 0} (s : SystemWorld) (slots : List (Option (OpenCallState A))) (k : ℕ) (old new : Replica) (e : Entry) (v : Verdict) → TablesKept → IsTogether s slots → slice_get s.replicas k ≡ Some old → slice_get s.entries old.position ≡ Some e → HasDelivered s.catalogue.tables old new e v
+    → IsReplicaOf s.catalogue s.window s.entries new
 delivered_replica s slots k old new e v kept h at next d =
     let is = h.replicas k old at in
     let position : suc old.position ≡ new.position = (let p = d.position in omega arith) in
     record {
-      stands = subst (StandsFor new) (take_next s.entries old.position e next ∙ ap (λ n. take n s.entries) position) (d.stands (take old.position s.entries) is.stands);
-      same_window = d.tables.window ∙ is.same_window;
-      have = same_tables s.catalogue.tables old new kept d.tables is.have;
+      stands = subst (StandsFor s.catalogue.procedures new) (take_next s.entries old.position e next ∙ ap (λ n. take n s.entries) position) (d.stands s.catalogue.procedures (take old.position s.entries) is.stands);
+      same_window = d.same_tables.window ∙ is.same_window;
+      have = same_tables s.catalogue.tables old new kept d.same_tables is.have;
+      for_tables = d.for_tables is.for_tables;
     }
 
 pub stops : {A : Type 0} (s : SystemWorld) (slots : List (Option (OpenCallState A))) (r k : ℕ) (old new : Replica) (e : Entry) → HaveVerdicts → IsTogether s slots → r ≡ k + 1 → slice_get s.replicas k ≡ Some old → slice_get s.entries old.position ≡ Some e → old.stopped ≡ false → HasStopped old new
@@ -144,32 +153,34 @@ stops s slots r k old new e have h is at next going d =
     subst (λ (x : World). IsStep (setting_of s) (world_of s) (Deliver r) (Refused OutOfMemory) x) (world_with s r k new _ is progress)
     (deliver_without_memory (setting_of s) (world_of s) r (progress_of old) v.0 (replica_at s r k old is at) v.1 (ap not going))
 
-pub stopped_replica : {A : Type 0} (s : SystemWorld) (slots : List (Option (OpenCallState A))) (k : ℕ) (old new : Replica) → TablesKept → IsTogether s slots → slice_get s.replicas k ≡ Some old → HasStopped old new → IsReplicaOf s.catalogue.tables s.window s.entries new
+pub stopped_replica : {A : Type 0} (s : SystemWorld) (slots : List (Option (OpenCallState A))) (k : ℕ) (old new : Replica) → TablesKept → IsTogether s slots → slice_get s.replicas k ≡ Some old → HasStopped old new → IsReplicaOf s.catalogue s.window s.entries new
 stopped_replica s slots k old new kept h at d =
     let is = h.replicas k old at in
     record {
-      stands = subst (StandsFor new) (ap (λ n. take n s.entries) (sym d.position)) (d.stands (take old.position s.entries) is.stands);
+      stands = subst (StandsFor s.catalogue.procedures new) (ap (λ n. take n s.entries) (sym d.position)) (d.stands s.catalogue.procedures (take old.position s.entries) is.stands);
       same_window = d.tables.window ∙ is.same_window;
       have = same_tables s.catalogue.tables old new kept d.tables is.have;
+      for_tables = subst (AreForTables s.catalogue.tables) (sym d.procedures) is.for_tables;
     }
 
 -- what may be delivered next
 pub next_entry_fits : {A : Type 0} (s : SystemWorld) (slots : List (Option (OpenCallState A))) (k : ℕ) (old : Replica) (e : Entry) → IsTogether s slots → slice_get s.replicas k ≡ Some old → slice_get s.entries old.position ≡ Some e
-    → (e.call.snapshot ≤ old.position) × AreWrites s.catalogue.tables e.writes × HaveTables s.catalogue.tables old.versions.tables × (old.position < max_calls)
+    → IsPlaced old.position (item_of e) × AreWrites s.catalogue.tables (writes_in e) × HaveTables s.catalogue.tables old.versions.tables × (old.position < max_calls) × IsNamed e
 next_entry_fits s slots k old e h at next =
     let lt = get_lt s.entries old.position e next in
     let count = log_count s in
     let log = h.world.log_limit in
     let calls = h.world.calls_limit in (
-      (let below = snapshot_at 0 s.entries old.position e h.entries.log next in omega arith),
-      all_at (λ x. AreWrites s.catalogue.tables x.writes) s.entries old.position e h.writes next,
+      subst (λ (n : ℕ). IsPlaced n (item_of e)) (let same : 0 + old.position ≡ old.position = omega arith in same) (placed_at 0 s.entries old.position e h.entries.log next),
+      all_at (λ x. AreWrites s.catalogue.tables (writes_in x)) s.entries old.position e h.writes next,
       (h.replicas k old at).have,
       omega arith,
+      all_at IsNamed s.entries old.position e h.named next,
     )
 
 -- ---- Rebuild
 
-pub rebuilt : (s : SystemWorld) (r k : ℕ) (old new : Replica) → r ≡ k + 1 → slice_get s.replicas k ≡ Some old → StandsFor new s.entries → new.stopped ≡ false
+pub rebuilt : (s : SystemWorld) (r k : ℕ) (old new : Replica) → r ≡ k + 1 → slice_get s.replicas k ≡ Some old → StandsFor s.catalogue.procedures new s.entries → new.stopped ≡ false
     → IsStep (setting_of s) (world_of s) (Rebuild r) (Rebuilt (length s.entries)) (world_of (with_one s k new))
 rebuilt s r k old new is at stands going =
     let count = log_count s in
@@ -179,12 +190,13 @@ rebuilt s r k old new is at stands going =
     (subst (λ (x : World). IsStep (setting_of s) (world_of s) (Rebuild r) (Rebuilt (length (world_of s).log)) x) (world_with s r k new _ is progress)
     (rebuild_new (setting_of s) (world_of s) r (progress_of old) (replica_at s r k old is at)))
 
-pub rebuilt_replica : {A : Type 0} (s : SystemWorld) (slots : List (Option (OpenCallState A))) (k : ℕ) (old new : Replica) → IsTogether s slots → slice_get s.replicas k ≡ Some old → StandsFor new s.entries → new.window ≡ old.window → HaveTables s.catalogue.tables new.versions.tables
-    → IsReplicaOf s.catalogue.tables s.window s.entries new
-rebuilt_replica s slots k old new h at stands window have = record {
-  stands = subst (StandsFor new) (sym (take_all s.entries new.position (let p = stands.position in omega arith))) stands;
+pub rebuilt_replica : {A : Type 0} (s : SystemWorld) (slots : List (Option (OpenCallState A))) (k : ℕ) (old new : Replica) → IsTogether s slots → slice_get s.replicas k ≡ Some old → StandsFor s.catalogue.procedures new s.entries → new.window ≡ old.window → HaveTables s.catalogue.tables new.versions.tables → AreForTables s.catalogue.tables new.procedures
+    → IsReplicaOf s.catalogue s.window s.entries new
+rebuilt_replica s slots k old new h at stands window have for_tables = record {
+  stands = subst (StandsFor s.catalogue.procedures new) (sym (take_all s.entries new.position (let p = stands.position in omega arith))) stands;
   same_window = window ∙ (h.replicas k old at).same_window;
   have = have;
+  for_tables = for_tables;
 }
 
 pub entries_are_few : {A : Type 0} (s : SystemWorld) (slots : List (Option (OpenCallState A))) → IsTogether s slots → length s.entries ≤ max_calls
@@ -199,9 +211,6 @@ get_is (y ∷ xs) (suc k) x lt e = get_is xs k x (omega arith) e
 
 pub no_replica : (s : SystemWorld) (r n : ℕ) → n ≡ length s.replicas → (r ≡ 0) ⊎ (n < r) → numbered (world_of s).replicas r ≡ None
 no_replica s r n e out = numbered_map progress_of s.replicas r ∙ ap (option_map progress_of) (numbered_none s.replicas r (subst (λ (m : ℕ). (r ≡ 0) ⊎ (m < r)) e out))
-
-pub entry_at : (entries items : List Entry) (n position : ℕ) (e : Entry) → items ≡ entries → n ≡ position → n < length items → e ≡ get_or items n e → slice_get entries position ≡ Some e
-entry_at entries items n position e same at lt is = ap (λ (xs : List Entry). slice_get xs position) (sym same) ∙ ap (slice_get items) (sym at) ∙ get_is items n e lt is
 
 pub same_item : {X : Type 0} (xs : List X) (k : ℕ) (a b : X) → slice_get xs k ≡ Some a → slice_get xs k ≡ Some b → a ≡ b
 same_item xs k a b e f = some_is a b (sym e ∙ f)
@@ -227,3 +236,45 @@ unknown f (Some x) e = absurd cc
 pub known : {X Y : Type 0} (f : X → Y) (o : Option X) (y : Y) → Some y ≡ option_map f o → (x : X) × (o ≡ Some x) × (y ≡ f x)
 known f None y e = absurd cc
 known f (Some x) y e = (x, refl, cc)
+
+-- what the law of replicas says of procedures
+abbrev pub ProceduresFollow : Type 0
+ProceduresFollow = (w : Setting) (r : Replica) (entries : List Entry) → w.window ≡ r.window → StandsFor w.catalogue r entries → AreEntriesOf w entries
+    → stored_procedures r.procedures ≡ procedures_after w (items_of entries) r.position
+
+-- a replica's procedures are those of the log at its position
+pub procedures_held : {A : Type 0} (s : SystemWorld) (slots : List (Option (OpenCallState A))) (k : ℕ) (r : Replica) → ProceduresFollow → IsTogether s slots → slice_get s.replicas k ≡ Some r
+    → stored_procedures r.procedures ≡ procedures_after (setting_of s) (world_of s).log r.position
+procedures_held s slots k r law h at =
+    let w = setting_of s in
+    let is = h.replicas k r at in
+    let reached = has_reached s slots k r h at in
+    let past = take r.position s.entries in
+    let more = drop r.position s.entries in
+    let count = take_count s.entries r.position reached in
+    let items = items_count past in
+    let log = ap items_of (sym (take_drop s.entries r.position)) ∙ items_append past more in
+    law w r past (sym is.same_window) is.stands (entries_taken w s.entries r.position h.entries)
+    ∙ sym (ap (λ (l : Log). procedures_after w l r.position) log ∙ procedures_grown w (items_of past) (items_of more) r.position (omega arith))
+
+-- what is found among them under a number
+pub found_at : {A : Type 0} (s : SystemWorld) (slots : List (Option (OpenCallState A))) (k number : ℕ) (r : Replica) → ProceduresFollow → IsTogether s slots → slice_get s.replicas k ≡ Some r
+    → option_map (λ l. l.accepted) (listed_by_number r.procedures number) ≡ option_map (accepted_of s.catalogue.tables) (by_number (procedures_after (setting_of s) (world_of s).log r.position) number)
+found_at s slots k number r law h at =
+    numbered_for s.catalogue.tables number r.procedures (h.replicas k r at).for_tables
+    ∙ ap (λ (ps : Catalogue). option_map (accepted_of s.catalogue.tables) (by_number ps number)) (procedures_held s slots k r law h at)
+
+pub in_procedures : (number : ℕ) (a b : List ListedProcedure) → a ≡ b → option_map (λ l. l.accepted) (listed_by_number a number) ≡ option_map (λ l. l.accepted) (listed_by_number b number)
+in_procedures number a b e = ap (λ (ls : List ListedProcedure). option_map (λ l. l.accepted) (listed_by_number ls number)) e
+
+-- ---- entries in code
+
+pub all_in_code : {A : Type 0} (P : Entry → Type 0) (xs : List (LogEntry A)) → AllByRecursion P (entries_of xs) → AllByRecursion (λ e. P (entry_of e)) xs
+all_in_code P [] all = tt
+all_in_code P (x ∷ xs) all = (all.0, all_in_code P xs all.1)
+
+pub get_in_code : {A : Type 0} (xs : List (LogEntry A)) (k : ℕ) (e : LogEntry A) → slice_get xs k ≡ Some e → slice_get (entries_of xs) k ≡ Some (entry_of e)
+get_in_code xs k e at = get_map entry_of xs k ∙ ap (λ o. option_map entry_of o) at
+
+pub at_in_code : {X : Type 0} (xs items : List X) (n position : ℕ) (e : X) → items ≡ xs → n ≡ position → n < length items → e ≡ get_or items n e → slice_get xs position ≡ Some e
+at_in_code xs items n position e same at lt is = ap (λ (ys : List _). slice_get ys position) (sym same) ∙ ap (slice_get items) (sym at) ∙ get_is items n e lt is

@@ -1,24 +1,25 @@
 -- Steps, one after another.
 use Rattle.std.proofs.Common.{◌≡◌, ◌≤◌, ◌+◌, ◌-◌, ℕ, zero, suc, true, false, not, List, [], ◌∷◌, ◌++◌, length, replicate, map, take, drop, slice_get, Some, Option, refl, sym, ap, subst, ◌∙◌, arith, inl, inr}
-use Rattle.schema.specs.Schema.{Tables}
+use Rattle.std.proofs.lemmas.List.{length-append}
 use Rattle.rows_mv.specs.Versions.{AnswersFrom, HaveTables}
+use Rattle.stored_procedures.specs.Held.{AreForTables}
+use Rattle.log_model.proofs.GrowthLemmas.{rows_grown}
 use Rattle.replica.specs.Replica.{Replica, StandsFor, AreEntriesOf}
 use Rattle.dsm_model.specs.declared.outcome.Outcome.{Outcome}
-use Rattle.log_model.specs.Log.{Setting, Log, rows_after}
-use Rattle.log_model.specs.Entries.{Entry, calls_of}
+use Rattle.log_model.specs.Log.{Catalogue, Setting, Log, rows_after}
+use Rattle.log_model.specs.Entries.{Entry, items_of}
 use Rattle.catalogue.specs.Catalogue.{SystemCatalogue}
 use Rattle.log_model.specs.Fit.{HasSafeProcedures}
 use Rattle.dsm_model.specs.World.{World, Replica as ModelReplica, Step, first_world, numbered, IsStep, AreSteps}
 use Rattle.world_calls.specs.declared.open_call.OpenCall.{OpenCall as OpenCallState}
-use Rattle.std.specs.List.{AllByRecursion}
-use Rattle.dsm_model.specs.Sound.{HasByteArguments, IsWorld}
+use Rattle.dsm_model.specs.Sound.{IsGiven, AreGiven, IsWorld}
 use Rattle.dsm_world.specs.declared.step.Step.{Step as GivenStep}
 use Rattle.dsm_world.specs.System.{SystemWorld, setting_of, world_of, step_of, progress_of, KeepsDelivered}
 use Rattle.dsm_world.specs.Holdings.{IsReplicaOf, IsTogether}
 use Rattle.dsm_world.proofs.Numbered.{get_snoc}
-use Rattle.dsm_world.proofs.EntryLemmas.{RowsGrow, take_drop, take_count, calls_append, calls_count, all_snoc, entries_taken}
+use Rattle.dsm_world.proofs.EntryLemmas.{take_drop, take_count, items_append, items_count, entries_taken}
 use Rattle.dsm_world.proofs.CallLemmas.{append_map}
-use Rattle.dsm_world.proofs.ReplicaLemmas.{has_reached}
+use Rattle.dsm_world.proofs.ReplicaLemmas.{has_reached, ProceduresFollow, procedures_held}
 
 pub steps_snoc : (w : Setting) (before : World) (steps : List Step) (outcomes : List Outcome) (between : World) (step : Step) (outcome : Outcome) (after : World) → AreSteps w before steps outcomes between → IsStep w between step outcome after → AreSteps w before (steps ++ step ∷ []) (outcomes ++ outcome ∷ []) after
 unfolding AreSteps
@@ -33,11 +34,11 @@ no_steps w world = refl
 
 -- what the law of replicas says of rows
 abbrev pub RowsFollow : Type 0
-RowsFollow = (w : Setting) (r : Replica) (entries : List Entry) (s : ℕ) → w.window ≡ r.window → StandsFor r entries → AreEntriesOf w entries → s ≤ r.position → r.position - s ≤ r.window
-    → AnswersFrom r.versions.tables s (rows_after w (calls_of entries) s)
+RowsFollow = (w : Setting) (r : Replica) (entries : List Entry) (s : ℕ) → w.window ≡ r.window → StandsFor w.catalogue r entries → AreEntriesOf w entries → s ≤ r.position → r.position - s ≤ r.window
+    → AnswersFrom r.versions.tables s (rows_after w (items_of entries) s)
 
-pub keeps_delivered : {A : Type 0} (s : SystemWorld) (slots : List (Option (OpenCallState A))) (n : ℕ) (r : Replica) → RowsGrow → RowsFollow → IsTogether s slots → numbered s.replicas n ≡ Some r → KeepsDelivered s r
-keeps_delivered s slots n r grow law h e = go n e
+pub keeps_delivered : {A : Type 0} (s : SystemWorld) (slots : List (Option (OpenCallState A))) (n : ℕ) (r : Replica) → RowsFollow → ProceduresFollow → IsTogether s slots → numbered s.replicas n ≡ Some r → KeepsDelivered s r
+keeps_delivered s slots n r law procedures h e = go n e
   where
     go : (n : ℕ) → numbered s.replicas n ≡ Some r → KeepsDelivered s r
     go zero e = absurd cc
@@ -54,11 +55,12 @@ keeps_delivered s slots n r grow law h e = go n e
           rows = λ position within near.
               let window = is.same_window in
               let count = take_count s.entries r.position reached in
-              let calls = calls_count past in
-              let log = ap calls_of (sym (take_drop s.entries r.position)) ∙ calls_append past more in
+              let calls = items_count past in
+              let log = ap items_of (sym (take_drop s.entries r.position)) ∙ items_append past more in
               subst (AnswersFrom r.versions.tables position)
-              (sym (ap (λ (l : Log). rows_after w l position) log ∙ grow w (calls_of past) (calls_of more) position (omega arith)))
-              (law w r past position (sym window) is.stands (entries_taken grow w s.entries r.position h.entries) within (omega arith));
+              (sym (ap (λ (l : Log). rows_after w l position) log ∙ rows_grown w (items_of past) (items_of more) position (omega arith)))
+              (law w r past position (sym window) is.stands (entries_taken w s.entries r.position h.entries) within (omega arith));
+          procedures = procedures_held s slots k r procedures h e;
         }
 
 pub one_more_step : (w : Setting) (before : World) (steps : List GivenStep) (n : ℕ) (item : GivenStep) (outcomes more : List Outcome) (between : World) (outcome : Outcome) (after : World) → take (n + 1) steps ≡ take n steps ++ item ∷ [] → more ≡ outcomes ++ outcome ∷ [] → AreSteps w before (map step_of (take n steps)) outcomes between
@@ -69,28 +71,43 @@ one_more_step w before steps n item outcomes more between outcome after taken an
     (subst (λ (xs : List Step). AreSteps w before xs (outcomes ++ outcome ∷ []) after) (sym all)
     (steps_snoc w before (map step_of (take n steps)) outcomes between (step_of item) outcome after done is))
 
-pub one_more_of_bytes : (steps : List GivenStep) (n : ℕ) (item : GivenStep) → take (n + 1) steps ≡ take n steps ++ item ∷ [] → AllByRecursion HasByteArguments (map step_of (take n steps)) → HasByteArguments (step_of item) → AllByRecursion HasByteArguments (map step_of (take (n + 1) steps))
-one_more_of_bytes steps n item taken done is =
-    subst (λ (xs : List Step). AllByRecursion HasByteArguments xs) (sym (ap (λ (xs : List GivenStep). map step_of xs) taken ∙ append_map step_of (take n steps) item)) (all_snoc HasByteArguments (map step_of (take n steps)) (step_of item) done is)
+given_snoc : (w : Setting) (steps : List Step) (outcomes : List Outcome) (step : Step) (outcome : Outcome) → length steps ≡ length outcomes → AreGiven w steps outcomes → IsGiven w step outcome → AreGiven w (steps ++ step ∷ []) (outcomes ++ outcome ∷ [])
+given_snoc w [] [] step outcome count all is = (is, tt)
+given_snoc w [] (o ∷ outcomes) step outcome count all is = absurd cc
+given_snoc w (s ∷ steps) [] step outcome count all is = absurd cc
+given_snoc w (s ∷ steps) (o ∷ outcomes) step outcome count all is = (all.0, given_snoc w steps outcomes step outcome (let c = count in omega arith) all.1 is)
+
+pub one_more_given : (w : Setting) (steps : List GivenStep) (n : ℕ) (item : GivenStep) (outcomes more : List Outcome) (outcome : Outcome) → take (n + 1) steps ≡ take n steps ++ item ∷ [] → more ≡ outcomes ++ outcome ∷ [] → length (map step_of (take n steps)) ≡ length outcomes
+    → AreGiven w (map step_of (take n steps)) outcomes → IsGiven w (step_of item) outcome → AreGiven w (map step_of (take (n + 1) steps)) more
+one_more_given w steps n item outcomes more outcome taken answered count done is =
+    let all = ap (λ (xs : List GivenStep). map step_of xs) taken ∙ append_map step_of (take n steps) item in
+    subst (λ (os : List Outcome). AreGiven w (map step_of (take (n + 1) steps)) os) (sym answered)
+    (subst (λ (xs : List Step). AreGiven w xs (outcomes ++ outcome ∷ [])) (sym all) (given_snoc w (map step_of (take n steps)) outcomes (step_of item) outcome count done is))
+
+pub one_more_answer : (steps : List GivenStep) (n : ℕ) (item : GivenStep) (outcomes more : List Outcome) (outcome : Outcome) → take (n + 1) steps ≡ take n steps ++ item ∷ [] → more ≡ outcomes ++ outcome ∷ [] → length (map step_of (take n steps)) ≡ length outcomes → length (map step_of (take (n + 1) steps)) ≡ length more
+one_more_answer steps n item outcomes more outcome taken answered count =
+    ap (λ (xs : List GivenStep). length (map step_of xs)) taken ∙ ap (λ (xs : List Step). length xs) (append_map step_of (take n steps) item) ∙ length-append (map step_of (take n steps)) (step_of item ∷ [])
+    ∙ ap (λ (m : ℕ). m + 1) count ∙ sym (length-append outcomes (outcome ∷ [])) ∙ ap (λ (xs : List Outcome). length xs) (sym answered)
 
 -- ---- at first
 
 abbrev the_empty : List Entry
 the_empty = []
 
-pub first_replica : (tables : Tables) (window : ℕ) (r : Replica) → StandsFor r [] → r.window ≡ window → HaveTables tables r.versions.tables → IsReplicaOf tables window [] r
-first_replica tables window r stands same have = record {
-  stands = subst (StandsFor r) (nothing r.position) stands;
+pub first_replica : (catalogue : SystemCatalogue) (window : ℕ) (r : Replica) → StandsFor catalogue.procedures r [] → r.window ≡ window → HaveTables catalogue.tables r.versions.tables → AreForTables catalogue.tables r.procedures → IsReplicaOf catalogue window [] r
+first_replica catalogue window r stands same have for_tables = record {
+  stands = subst (StandsFor catalogue.procedures r) (nothing r.position) stands;
   same_window = same;
   have = have;
+  for_tables = for_tables;
 }
   where
     nothing : (n : ℕ) → the_empty ≡ take n the_empty
     nothing zero = refl
     nothing (suc n) = refl
 
-pub first_progress : (r : Replica) → StandsFor r [] → r.stopped ≡ false → progress_of r ≡ record { position = 0; running = true }
-first_progress r stands running = ap (λ n. record { position = n; running = not r.stopped }) stands.position ∙ ap (λ b. record { position = 0; running = not b }) running
+pub first_progress : (base : Catalogue) (r : Replica) → StandsFor base r [] → r.stopped ≡ false → progress_of r ≡ record { position = 0; running = true }
+first_progress base r stands running = ap (λ n. record { position = n; running = not r.stopped }) stands.position ∙ ap (λ b. record { position = 0; running = not b }) running
 
 pub all_alike : {X Y : Type 0} (f : X → Y) (xs : List X) (y : Y) → ((k : ℕ) (x : X) → slice_get xs k ≡ Some x → f x ≡ y) → map f xs ≡ replicate (length xs) y
 all_alike f [] y h = refl
@@ -102,11 +119,12 @@ first_of catalogue window n replicas count fresh =
     ap (λ (rs : List ModelReplica). record { log = []; replicas = rs; calls = [] }) (all_alike progress_of replicas (record { position = 0; running = true }) fresh ∙ ap (λ (m : ℕ). replicate m (record { position = 0; running = true })) count)
 
 pub first_together : {A : Type 0} (catalogue : SystemCatalogue) (window n : ℕ) (replicas : List Replica) → ((w : Setting) (n : ℕ) → IsWorld w (first_world n)) → HasSafeProcedures (record { tables = catalogue.tables; catalogue = catalogue.procedures; window = window }) → length replicas ≡ n
-    → ((k : ℕ) (r : Replica) → slice_get replicas k ≡ Some r → IsReplicaOf catalogue.tables window [] r) → ((k : ℕ) (r : Replica) → slice_get replicas k ≡ Some r → progress_of r ≡ record { position = 0; running = true })
+    → ((k : ℕ) (r : Replica) → slice_get replicas k ≡ Some r → IsReplicaOf catalogue window [] r) → ((k : ℕ) (r : Replica) → slice_get replicas k ≡ Some r → progress_of r ≡ record { position = 0; running = true })
     → IsTogether {A = A} (record { catalogue = catalogue; window = window; entries = []; replicas = replicas; calls = [] }) []
 first_together catalogue window n replicas law safe count each fresh = record {
-  entries = record { procedures = safe; log = tt; calls = tt; runs = tt };
+  entries = record { procedures = safe; log = tt; items = tt; runs = tt };
   writes = tt;
+  named = tt;
   world = subst (λ (x : World). IsWorld (record { tables = catalogue.tables; catalogue = catalogue.procedures; window = window }) x) (sym (first_of catalogue window n replicas count fresh)) (law _ n);
   replicas = each;
   calls = refl;

@@ -8,8 +8,8 @@ use Rattle.log_model.specs.declared.verdict.Verdict.{Verdict}
 use Rattle.dsm_model.specs.declared.outcome.StepRefusal.TheVariants.{NoReplica, NoProcedure, ArgumentsLength, NoCall, NotAtExit, NothingToDeliver, ReplicaStopped, LogFull, OutOfMemory, TooManyCalls}
 use Rattle.dsm_model.specs.declared.outcome.Outcome.{Outcome}
 use Rattle.dsm_model.specs.declared.outcome.Outcome.TheVariants.{Begun, More, Exit, Ordered, Read, Cancelled, Delivered, Rebuilt, Refused}
-use Rattle.log_model.specs.Log.{StoredProcedure, Setting, by_number, run_in, verdict_of, moment_at}
-use Rattle.dsm_model.specs.World.{World, Replica, OpenCall, Begin, Turn, Order, Deliver, Rebuild, max_calls, numbered, position_of, open_call, without_call, with_open_call, with_replica, with_begun, new_call, after_begin, is_stale, after_turn_by_run, after_turn, with_ordered, after_order_by_run, after_order, after_deliver_next, after_deliver, after_rebuild, after_step, at_row_helper, after_turn_without_memory, after_refused_memory, after_step_without_memory, with_stopped, IsStep}
+use Rattle.log_model.specs.Log.{StoredProcedure, Setting, by_number, procedures_after, procedure_of, run_in, verdict_of, moment_at}
+use Rattle.dsm_model.specs.World.{World, Replica, OpenCall, Begin, Turn, Order, Deliver, Rebuild, max_calls, call_count, numbered, position_of, open_call, without_call, with_open_call, with_replica, with_begun, new_call, after_begin, is_stale, after_turn_by_run, after_turn, with_ordered, after_order_by_run, after_order, after_deliver_next, after_deliver, after_rebuild, after_step, at_row_helper, after_turn_without_memory, after_refused_memory, after_step_without_memory, with_stopped, IsStep}
 use Rattle.world_calls.specs.OpenCall.{IsTurn, stays_open}
 use Rattle.dsm_world.specs.Turned.{outcome_of}
 
@@ -53,40 +53,40 @@ one_number m n e = grind (arith, nat_tests)
 
 -- ---- Begin
 
-begins : (w : Setting) (world : World) (r p : ℕ) (args : List ℕ) (o : Option Replica) (q : Option StoredProcedure) → numbered world.replicas r ≡ o → by_number w.catalogue p ≡ q → after_step w world (Begin r p args) ≡ after_begin world r p args o q
+begins : (w : Setting) (world : World) (r p : ℕ) (args : List ℕ) (o : Option Replica) (q : Option StoredProcedure) → numbered world.replicas r ≡ o → by_number (procedures_after w world.log (position_of o)) p ≡ q → after_step w world (Begin r p args None) ≡ after_begin world r p args None o q
 unfolding after_step
-begins w world r p args o q e f = ap (λ x. after_begin world r p args x (by_number w.catalogue p)) e ∙ ap (after_begin world r p args o) f
+begins w world r p args o q e f = ap (λ x. after_begin world r p args None x (by_number (procedures_after w world.log (position_of x)) p)) e ∙ ap (after_begin world r p args None o) f
 
-pub begin_no_replica : (w : Setting) (world : World) (r p : ℕ) (args : List ℕ) → numbered world.replicas r ≡ None → IsStep w world (Begin r p args) (Refused NoReplica) world
+pub begin_no_replica : (w : Setting) (world : World) (r p : ℕ) (args : List ℕ) → numbered world.replicas r ≡ None → IsStep w world (Begin r p args None) (Refused NoReplica) world
 begin_no_replica w world r p args e = inl (begins w world r p args None _ e refl)
 
-pub begin_no_procedure : (w : Setting) (world : World) (r p : ℕ) (args : List ℕ) (k : Replica) → numbered world.replicas r ≡ Some k → by_number w.catalogue p ≡ None → IsStep w world (Begin r p args) (Refused NoProcedure) world
+pub begin_no_procedure : (w : Setting) (world : World) (r p : ℕ) (args : List ℕ) (k : Replica) → numbered world.replicas r ≡ Some k → by_number (procedures_after w world.log k.position) p ≡ None → IsStep w world (Begin r p args None) (Refused NoProcedure) world
 begin_no_procedure w world r p args k e f = inl (begins w world r p args (just k) None e f)
 
-pub begin_other_length : (w : Setting) (world : World) (r p : ℕ) (args : List ℕ) (k : Replica) (q : StoredProcedure) → numbered world.replicas r ≡ Some k → by_number w.catalogue p ≡ Some q → length args ≢ q.args_len
-    → IsStep w world (Begin r p args) (Refused ArgumentsLength) world
+pub begin_other_length : (w : Setting) (world : World) (r p : ℕ) (args : List ℕ) (k : Replica) (q : StoredProcedure) → numbered world.replicas r ≡ Some k → by_number (procedures_after w world.log k.position) p ≡ Some q → length args ≢ q.args_len
+    → IsStep w world (Begin r p args None) (Refused ArgumentsLength) world
 begin_other_length w world r p args k q e f other = inl (begins w world r p args (just k) (just q) e f ∙ yes (not (nat_eq (length args) q.args_len)) _ _ (other_number (length args) q.args_len other))
 
-begun_or_many : (w : Setting) (world : World) (r p : ℕ) (args : List ℕ) (k : Replica) (q : StoredProcedure) → numbered world.replicas r ≡ just k → by_number w.catalogue p ≡ just q → length args ≡ q.args_len → after_step w world (Begin r p args)
-    ≡ cond (nat_le max_calls (length world.calls)) (Refused TooManyCalls, world) (Begun (length world.calls + 1) k.position, with_begun world r (new_call world p args k.position))
+begun_or_many : (w : Setting) (world : World) (r p : ℕ) (args : List ℕ) (k : Replica) (q : StoredProcedure) → numbered world.replicas r ≡ just k → by_number (procedures_after w world.log k.position) p ≡ just q → length args ≡ q.args_len → after_step w world (Begin r p args None)
+    ≡ cond (nat_le max_calls (call_count world)) (Refused TooManyCalls, world) (Begun (length world.calls + 1) k.position, with_begun world r (new_call world p args None k.position))
 begun_or_many w world r p args k q e f long = begins w world r p args (just k) (just q) e f ∙ no (not (nat_eq (length args) q.args_len)) _ _ (same_number (length args) q.args_len long)
 
-pub begin_too_many : (w : Setting) (world : World) (r p : ℕ) (args : List ℕ) (k : Replica) (q : StoredProcedure) → numbered world.replicas r ≡ Some k → by_number w.catalogue p ≡ Some q → length args ≡ q.args_len → max_calls ≤ length world.calls
-    → IsStep w world (Begin r p args) (Refused TooManyCalls) world
-begin_too_many w world r p args k q e f long many = inl (begun_or_many w world r p args k q e f long ∙ yes (nat_le max_calls (length world.calls)) _ _ (is_le max_calls (length world.calls) many))
+pub begin_too_many : (w : Setting) (world : World) (r p : ℕ) (args : List ℕ) (k : Replica) (q : StoredProcedure) → numbered world.replicas r ≡ Some k → by_number (procedures_after w world.log k.position) p ≡ Some q → length args ≡ q.args_len → max_calls ≤ call_count world
+    → IsStep w world (Begin r p args None) (Refused TooManyCalls) world
+begin_too_many w world r p args k q e f long many = inl (begun_or_many w world r p args k q e f long ∙ yes (nat_le max_calls (call_count world)) _ _ (is_le max_calls (call_count world) many))
 
-begins_new : (w : Setting) (world : World) (r p : ℕ) (args : List ℕ) (k : Replica) (q : StoredProcedure) → numbered world.replicas r ≡ just k → by_number w.catalogue p ≡ just q → length args ≡ q.args_len → length world.calls < max_calls
-    → after_step w world (Begin r p args) ≡ (Begun (length world.calls + 1) k.position, with_begun world r (new_call world p args k.position))
-begins_new w world r p args k q e f long few = begun_or_many w world r p args k q e f long ∙ no (nat_le max_calls (length world.calls)) _ _ (not_le max_calls (length world.calls) few)
+begins_new : (w : Setting) (world : World) (r p : ℕ) (args : List ℕ) (k : Replica) (q : StoredProcedure) → numbered world.replicas r ≡ just k → by_number (procedures_after w world.log k.position) p ≡ just q → length args ≡ q.args_len → call_count world < max_calls
+    → after_step w world (Begin r p args None) ≡ (Begun (length world.calls + 1) k.position, with_begun world r (new_call world p args None k.position))
+begins_new w world r p args k q e f long few = begun_or_many w world r p args k q e f long ∙ no (nat_le max_calls (call_count world)) _ _ (not_le max_calls (call_count world) few)
 
-pub begin_new : (w : Setting) (world : World) (r p : ℕ) (args : List ℕ) (k : Replica) (q : StoredProcedure) → numbered world.replicas r ≡ Some k → by_number w.catalogue p ≡ Some q → length args ≡ q.args_len → length world.calls < max_calls
-    → IsStep w world (Begin r p args) (Begun (length world.calls + 1) k.position) (with_begun world r (new_call world p args k.position))
+pub begin_new : (w : Setting) (world : World) (r p : ℕ) (args : List ℕ) (k : Replica) (q : StoredProcedure) → numbered world.replicas r ≡ Some k → by_number (procedures_after w world.log k.position) p ≡ Some q → length args ≡ q.args_len → call_count world < max_calls
+    → IsStep w world (Begin r p args None) (Begun (length world.calls + 1) k.position) (with_begun world r (new_call world p args None k.position))
 begin_new w world r p args k q e f long few = inl (begins_new w world r p args k q e f long few)
 
-pub begin_without_memory : (w : Setting) (world : World) (r p : ℕ) (args : List ℕ) (k : Replica) (q : StoredProcedure) → numbered world.replicas r ≡ Some k → by_number w.catalogue p ≡ Some q → length args ≡ q.args_len → length world.calls < max_calls
-    → IsStep w world (Begin r p args) (Refused OutOfMemory) world
+pub begin_without_memory : (w : Setting) (world : World) (r p : ℕ) (args : List ℕ) (k : Replica) (q : StoredProcedure) → numbered world.replicas r ≡ Some k → by_number (procedures_after w world.log k.position) p ≡ Some q → length args ≡ q.args_len → call_count world < max_calls
+    → IsStep w world (Begin r p args None) (Refused OutOfMemory) world
 unfolding after_step_without_memory
-begin_without_memory w world r p args k q e f long few = inr (ap (λ (d : Done). after_refused_memory world (Begin r p args) d.0) (begins_new w world r p args k q e f long few))
+begin_without_memory w world r p args k q e f long few = inr (ap (λ (d : Done). after_refused_memory world (Begin r p args None) d.0) (begins_new w world r p args k q e f long few))
 
 -- ---- Turn
 
@@ -121,7 +121,7 @@ turn_on w world c o n (answer.Exit reply) e h = inl (
     )
 turn_on w world c o n answer.Stale e h = inl (turns w world c (just o) e ∙ yes (is_stale w world o) _ _ h)
 turn_on w world c o n answer.NoMemory e h = inr (
-    ap (after_turn_without_memory w world c) e ∙ no (is_stale w world o) _ _ h.0 ∙ yes (at_row_helper (by_number w.catalogue o.call.procedure) (moment_at w world.log o.call o.turns)) _ _ h.1
+    ap (after_turn_without_memory w world c) e ∙ no (is_stale w world o) _ _ h.0 ∙ yes (at_row_helper (procedure_of w world.log o.call) (moment_at w world.log o.call o.turns)) _ _ h.1
     )
 
 -- ---- Order

@@ -4,22 +4,25 @@ use Rattle.std.specs.List.{AllByRecursion}
 use Rattle.schema.specs.Schema.{Tables}
 use Rattle.schema.specs.Rows.{AreWrites}
 use Rattle.rows_mv.specs.Versions.{HaveTables, width_of}
-use Rattle.replica.specs.Replica.{Replica, StandsFor, AreEntriesOf}
+use Rattle.stored_procedures.specs.Held.{AreForTables}
+use Rattle.catalogue.specs.Catalogue.{SystemCatalogue}
+use Rattle.replica.specs.Replica.{Replica, StandsFor, AreEntriesOf, IsForTables, IsNamed, entries_of, writes_in}
 use Rattle.log_model.specs.declared.verdict.Verdict.{Verdict}
-use Rattle.log_model.specs.Log.{Setting, verdict_of}
-use Rattle.log_model.specs.Entries.{Entry, calls_of}
-use Rattle.dsm_model.specs.World.{OpenCall}
+use Rattle.log_model.specs.Log.{Catalogue, verdict_of, Setting}
+use Rattle.log_model.specs.Entries.{Entry, items_of}
+use Rattle.dsm_model.specs.World.{OpenCall, addition_count}
 use Rattle.dsm_model.specs.Sound.{IsWorld}
 use Rattle.world_calls.specs.OpenCall.{open_call_of, Follows}
 use Rattle.world_calls.specs.declared.open_call.OpenCall.{OpenCall as OpenCallState}
 use Rattle.dsm_world.specs.declared.holdings.Holdings.{Holdings}
 use Rattle.dsm_world.specs.System.{SystemWorld, setting_of, world_of}
 
--- a replica has delivered a beginning of the entries
-pub record IsReplicaOf (tables : Tables) (window : ℕ) (entries : List Entry) (r : Replica) : Type 0 where
-  pub stands : StandsFor r (take r.position entries)
+-- a replica of this catalogue has delivered a beginning of the entries
+pub record IsReplicaOf (catalogue : SystemCatalogue) (window : ℕ) (entries : List Entry) (r : Replica) : Type 0 where
+  pub stands : StandsFor catalogue.procedures r (take r.position entries)
   pub same_window : r.window ≡ window
-  pub have : HaveTables tables r.versions.tables
+  pub have : HaveTables catalogue.tables r.versions.tables
+  pub for_tables : AreForTables catalogue.tables r.procedures
 
 abbrev pub open_calls_of : {A : Type 0} → List (Option (OpenCallState A)) → List (Option OpenCall)
 open_calls_of slots = map (λ slot. option_map open_call_of slot) slots
@@ -27,11 +30,12 @@ open_calls_of slots = map (λ slot. option_map open_call_of slot) slots
 -- the entries carry their runs, each replica has delivered a beginning of them, and each open call follows its run
 pub record IsTogether {A : Type 0} (s : SystemWorld) (slots : List (Option (OpenCallState A))) : Type 0 where
   pub entries : AreEntriesOf (setting_of s) s.entries
-  pub writes : AllByRecursion (λ e. AreWrites s.catalogue.tables e.writes) s.entries
+  pub writes : AllByRecursion (λ e. AreWrites s.catalogue.tables (writes_in e)) s.entries
+  pub named : AllByRecursion IsNamed s.entries
   pub world : IsWorld (setting_of s) (world_of s)
-  pub replicas : (k : ℕ) (r : Replica) → slice_get s.replicas k ≡ Some r → IsReplicaOf s.catalogue.tables s.window s.entries r
+  pub replicas : (k : ℕ) (r : Replica) → slice_get s.replicas k ≡ Some r → IsReplicaOf s.catalogue s.window s.entries r
   pub calls : s.calls ≡ open_calls_of slots
-  pub open_calls : (k : ℕ) (c : OpenCallState A) → slice_get slots k ≡ Some (Some c) → Follows (setting_of s) (calls_of s.entries) c
+  pub open_calls : (k : ℕ) (c : OpenCallState A) → slice_get slots k ≡ Some (Some c) → Follows (setting_of s) (items_of s.entries) c
 
 -- ---- in code
 
@@ -43,13 +47,16 @@ abbrev pub system_of : {A : Type 0} → Holdings A → SystemWorld
 system_of h = record {
   catalogue = h.catalogue;
   window = h.window;
-  entries = h.entries.items;
+  entries = entries_of h.entries.items;
   replicas = h.replicas.items;
   calls = open_calls_of (call_slots h);
 }
 
-abbrev pub AreConsistentHoldings : {A : Type 0} → Holdings A → Type 0
-AreConsistentHoldings h = IsTogether (system_of h) (call_slots h)
+-- they fit together, the programs of additions were accepted for the catalogue's tables, and additions are counted
+pub record AreConsistentHoldings {A : Type 0} (h : Holdings A) : Type 0 where
+  pub together : IsTogether (system_of h) (call_slots h)
+  pub for_tables : AllByRecursion (IsForTables h.catalogue.tables) h.entries.items
+  pub additions : h.additions ≡ addition_count (items_of (entries_of h.entries.items))
 
 -- ---- what one replica does
 
@@ -59,17 +66,19 @@ pub record HasSameTables (old new : Replica) : Type 0 where
   pub count : length new.versions.tables ≡ length old.versions.tables
 
 -- it has taken an entry in, with this verdict
-pub record HasDelivered (old new : Replica) (e : Entry) (v : Verdict) : Type 0 where
-  pub stands : (past : List Entry) → StandsFor old past → StandsFor new (past ++ e ∷ [])
-  pub verdict : (w : Setting) (past : List Entry) → w.window ≡ old.window → StandsFor old past → AreEntriesOf w (past ++ e ∷ [])
-      → verdict_of w (calls_of (past ++ e ∷ [])) new.position ≡ Some v
+pub record HasDelivered (tables : Tables) (old new : Replica) (e : Entry) (v : Verdict) : Type 0 where
+  pub stands : (base : Catalogue) (past : List Entry) → StandsFor base old past → StandsFor base new (past ++ e ∷ [])
+  pub verdict : (w : Setting) (past : List Entry) → w.window ≡ old.window → StandsFor w.catalogue old past → AreEntriesOf w (past ++ e ∷ [])
+      → verdict_of w (items_of (past ++ e ∷ [])) new.position ≡ Some v
   pub position : new.position ≡ old.position + 1
   pub running : new.stopped ≡ false
-  pub tables : HasSameTables old new
+  pub same_tables : HasSameTables old new
+  pub for_tables : AreForTables tables old.procedures → AreForTables tables new.procedures
 
 -- it found no memory
 pub record HasStopped (old new : Replica) : Type 0 where
-  pub stands : (past : List Entry) → StandsFor old past → StandsFor new past
+  pub stands : (base : Catalogue) (past : List Entry) → StandsFor base old past → StandsFor base new past
+  pub procedures : new.procedures ≡ old.procedures
   pub position : new.position ≡ old.position
   pub stopped : new.stopped ≡ true
   pub tables : HasSameTables old new

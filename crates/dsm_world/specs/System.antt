@@ -1,10 +1,11 @@
 -- A world of replicas as contracts see it, and the world of the definitions that it is.
-use Rattle.std.specs.Prelude.{◌≡◌, ℕ, ◌-◌, ◌≤◌, not, List, map, take, Option}
+use Rattle.std.specs.Prelude.{◌≡◌, ℕ, ◌-◌, ◌≤◌, not, List, map, take, Option, None}
 use Rattle.catalogue.specs.Catalogue.{SystemCatalogue}
 use Rattle.rows_mv.specs.Versions.{AnswersFrom}
 use Rattle.replica.specs.Replica.{Replica, StandsFor, AreEntriesOf}
-use Rattle.log_model.specs.Log.{Setting, rows_after}
-use Rattle.log_model.specs.Entries.{Entry, calls_of}
+use Rattle.log_model.specs.Log.{Setting, rows_after, procedures_after}
+use Rattle.stored_procedures.specs.Held.{stored_procedures}
+use Rattle.log_model.specs.Entries.{Entry, items_of}
 use Rattle.dsm_model.specs.World as model
 use Rattle.dsm_model.specs.World.{World, OpenCall}
 use Rattle.dsm_world.specs.declared.step.Step.{Step}
@@ -27,20 +28,21 @@ abbrev pub progress_of : Replica → model.Replica
 progress_of r = record { position = r.position; running = not r.stopped }
 
 abbrev pub world_of : SystemWorld → World
-world_of s = record { log = calls_of s.entries; replicas = map progress_of s.replicas; calls = s.calls }
+world_of s = record { log = items_of s.entries; replicas = map progress_of s.replicas; calls = s.calls }
 
 -- a step, as it is asked for
 abbrev pub step_of : Step → model.Step
-step_of (Begin replica procedure args) = model.Begin replica procedure args.now
+step_of (Begin replica procedure args) = model.Begin replica procedure args.now None
 step_of (Turn call) = model.Turn call
 step_of (Order call) = model.Order call
 step_of (Deliver replica) = model.Deliver replica
 step_of (Rebuild replica) = model.Rebuild replica
 
--- what a replica keeps is of the entries as far as it has come: its verdicts and rows are those of the log
+-- what a replica keeps is of the entries as far as it has come: its verdicts, rows and procedures are those of the log
 pub record KeepsDelivered (s : SystemWorld) (r : Replica) : Type 0 where
-  pub delivered : StandsFor r (take r.position s.entries)
+  pub delivered : StandsFor s.catalogue.procedures r (take r.position s.entries)
   pub window : r.window ≡ s.window
   pub entries : AreEntriesOf (setting_of s) s.entries
   pub rows : (position : ℕ) → position ≤ r.position → r.position - position ≤ s.window
-      → AnswersFrom r.versions.tables position (rows_after (setting_of s) (calls_of s.entries) position)
+      → AnswersFrom r.versions.tables position (rows_after (setting_of s) (items_of s.entries) position)
+  pub procedures : stored_procedures r.procedures ≡ procedures_after (setting_of s) (items_of s.entries) r.position

@@ -5,7 +5,6 @@ use Rattle.bpf_vm.specs.declared.turn.Turn.TheVariants as answer
 use Rattle.dsm_model.specs.declared.outcome.StepRefusal.TheVariants.{LogFull, OutOfMemory}
 use Rattle.dsm_model.specs.declared.outcome.Outcome.{Outcome}
 use Rattle.dsm_model.specs.declared.outcome.Outcome.TheVariants.{More, Exit, Stale, NoMemory, Ordered, Refused}
-use Rattle.log_model.specs.Entries.{Entry}
 use Rattle.dsm_model.specs.World.{max_calls}
 
 abbrev pub outcome_of : Turn → Outcome
@@ -15,7 +14,7 @@ outcome_of answer.Stale = Stale
 outcome_of answer.NoMemory = NoMemory
 
 -- an entry was appended, or the log is full, or there was no memory
-abbrev pub IsAppended : List Entry → Entry → Outcome → List Entry → Type 0
+abbrev pub IsAppended : {X : Type 0} → List X → X → Outcome → List X → Type 0
 IsAppended old e (Ordered position) new = (length old < max_calls) × (position ≡ length old + 1) × (new ≡ old ++ e ∷ [])
 IsAppended old e (Refused LogFull) new = (max_calls ≤ length old) × (new ≡ old)
 IsAppended old e (Refused OutOfMemory) new = (length old < max_calls) × (new ≡ old)

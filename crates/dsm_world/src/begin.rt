@@ -1,6 +1,6 @@
 //! A call begins.
 
-ghost use Rattle.std.specs.Prelude.{◌≡◌, ◌<◌, All};
+ghost use Rattle.std.specs.Prelude.{◌≡◌, ◌<◌, All, None};
 ghost use Rattle.dsm_model.specs.World.{Begin, IsStep};
 ghost use Rattle.dsm_world.specs.System.{setting_of, world_of};
 ghost use Rattle.dsm_world.specs.Holdings.{system_of, AreConsistentHoldings};
@@ -9,11 +9,18 @@ use crate::calls::enter;
 use crate::holdings::Holdings;
 use crate::numbers::index_of;
 use dsm_model::{Outcome, StepRefusal, steps_keep_a_world};
-use log_model::rows_fit_the_schema;
+use log_model::{RequestId, a_log_only_grows, rows_fit_the_schema};
+use replica::replicas_follow_the_log;
 use std::alloc::Allocator;
 use world_calls::OpenCall;
 
-/// The most calls of a world, and of its log.
+/// The request of a call that carries none.
+const NO_REQUEST: RequestId = RequestId {
+    session: 0,
+    sequence: 0,
+};
+
+/// The most calls and additions of a world, and entries of its log.
 pub(crate) const MAX_CALLS: usize = 1_048_576;
 
 /// Begins a call of a procedure at a replica.
@@ -24,30 +31,35 @@ pub(crate) fn begin<A: Allocator + Copy>(
     args: &[u8],
 ) -> Outcome
     requires { AreConsistentHoldings world.old }
-    ensures step { IsStep (setting_of (system_of world.old)) (world_of (system_of world.old)) (Begin replica procedure args.now)
+    ensures step { IsStep (setting_of (system_of world.old)) (world_of (system_of world.old)) (Begin replica procedure args.now None)
         result (world_of (system_of world.new)) }
     ensures setting { setting_of (system_of world.new) ≡ setting_of (system_of world.old) }
     ensures consistent { AreConsistentHoldings world.new }
     ensures bytes { All (λ b. b < 256) args.now }
 {
+    a_log_only_grows();
+    replicas_follow_the_log();
     rows_fit_the_schema();
     steps_keep_a_world();
     let Some(at) = index_of(replica, world.replicas.len()) else {
         return Outcome::Refused(StepRefusal::NoReplica);
     };
-    let Some(accepted) = world.catalogue.by_number(procedure) else {
+    let held = &world.replicas[at];
+    let Some(accepted) = held.procedures().by_number(procedure) else {
         return Outcome::Refused(StepRefusal::NoProcedure);
     };
     if args.len() != usize::from(accepted.args_len()) {
         return Outcome::Refused(StepRefusal::ArgumentsLength);
     }
-    if world.calls.len() >= MAX_CALLS {
+    if world.calls.len() + world.additions as usize >= MAX_CALLS {
         return Outcome::Refused(StepRefusal::TooManyCalls);
     }
     let alloc = world.alloc;
     let call = world.calls.len() as u32 + 1;
-    let snapshot = world.replicas[at].begin();
-    let begun = OpenCall::begin(alloc, replica, call, procedure, accepted, args, snapshot);
+    let snapshot = held.begin();
+    let begun = OpenCall::begin(
+        alloc, replica, call, procedure, accepted, args, snapshot, NO_REQUEST,
+    );
     let Ok(open_call) = begun else {
         return Outcome::Refused(StepRefusal::OutOfMemory);
     };

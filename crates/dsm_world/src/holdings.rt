@@ -14,6 +14,8 @@ pub(crate) struct Holdings<A: Allocator + Copy = Global> {
     pub(crate) catalogue: Catalogue<A>,
     /// What was ordered.
     pub(crate) entries: Vec<Entry<A>, A>,
+    /// How many of them are additions.
+    pub(crate) additions: u32,
     pub(crate) replicas: Vec<Replica<A>, A>,
     /// The calls that were begun.
     pub(crate) calls: Calls<A>,

@@ -1,16 +1,19 @@
 //! A call is ordered.
 
-ghost use Rattle.std.specs.Prelude.{◌≡◌};
+ghost use Rattle.std.specs.Prelude.{◌≡◌, ◌⊎◌, ◌++◌, [], ◌∷◌};
 ghost use Rattle.dsm_model.specs.World.{Order, IsStep};
 ghost use Rattle.dsm_world.specs.System.{setting_of, world_of};
 ghost use Rattle.dsm_world.specs.Holdings.{system_of, AreConsistentHoldings};
+ghost use Rattle.log_model.specs.Entries.{CallEntry};
+ghost use Rattle.log_entry.specs.declared.entry.Entry.TheVariants.{Call as LogCall};
+ghost use Rattle.replica.specs.Replica.{entries_of};
 ghost use Rattle.dsm_world.specs.Turned.{IsAppended};
 
 use crate::begin::MAX_CALLS;
 use crate::calls::{put_call, take_call};
 use crate::holdings::Holdings;
 use dsm_model::{Outcome, StepRefusal, steps_keep_a_world};
-use log_entry::Entry;
+use log_entry::{Entry, ExecutedCall};
 use log_model::{a_log_only_grows, one_more_entry_carries_its_run};
 use std::alloc::Allocator;
 use world_calls::Completion;
@@ -38,19 +41,20 @@ pub(crate) fn order<A: Allocator + Copy>(world: &mut Holdings<A>, call: u32) -> 
     match open_call.complete(store) {
         Completion::Cancelled { snapshot, code } => Outcome::Cancelled { snapshot, code },
         Completion::Read { snapshot, reply } => Outcome::Read { snapshot, reply },
-        Completion::Wrote(entry) => append(&mut world.entries, entry),
+        Completion::Wrote(call) => append(&mut world.entries, call),
     }
 }
 
-/// Puts an entry behind the others.
-fn append<A: Allocator + Copy>(entries: &mut Vec<Entry<A>, A>, entry: Entry<A>) -> Outcome
-    ensures { IsAppended entries.old.items entry result entries.new.items }
+/// Puts a call behind the other entries.
+fn append<A: Allocator + Copy>(entries: &mut Vec<Entry<A>, A>, call: ExecutedCall<A>) -> Outcome
+    ensures appended { IsAppended (entries_of entries.old.items) (CallEntry call) result (entries_of entries.new.items) }
+    ensures left { (entries.new.items ≡ entries.old.items) ⊎ (entries.new.items ≡ entries.old.items ++ LogCall call ∷ []) }
 {
     if entries.len() >= MAX_CALLS {
         return Outcome::Refused(StepRefusal::LogFull);
     }
     let position = entries.len() as u32 + 1;
-    match entries.push(entry) {
+    match entries.push(Entry::Call(call)) {
         Ok(()) => Outcome::Ordered { position },
         Err(_) => Outcome::Refused(StepRefusal::OutOfMemory),
     }

@@ -10,7 +10,8 @@ use crate::calls::{put_call, take_call};
 use crate::holdings::Holdings;
 use bpf_vm::Turn;
 use dsm_model::{Outcome, StepRefusal, steps_keep_a_world};
-use log_model::{a_log_only_grows, entries_suffice};
+use log_model::{a_log_only_grows, entries_suffice, procedures_are_never_lost};
+use replica::replicas_follow_the_log;
 use std::alloc::Allocator;
 use world_calls::stays_open;
 
@@ -24,14 +25,17 @@ pub(crate) fn turn<A: Allocator + Copy>(world: &mut Holdings<A>, call: u32) -> O
 {
     a_log_only_grows();
     entries_suffice();
+    procedures_are_never_lost();
+    replicas_follow_the_log();
     steps_keep_a_world();
     let Some((at, mut open_call)) = take_call(&mut world.calls, call) else {
         return Outcome::Refused(StepRefusal::NoCall);
     };
-    let Some(accepted) = world.catalogue.by_number(open_call.procedure) else {
+    let replica = &world.replicas[open_call.replica as usize - 1];
+    let Some(accepted) = replica.procedures().by_number(open_call.procedure) else {
         unreachable!()
     };
-    let store = world.replicas[open_call.replica as usize - 1].at(open_call.snapshot);
+    let store = replica.at(open_call.snapshot);
     let answer = open_call.turn(world.alloc, accepted, store);
     if !stays_open(answer) {
         return outcome_of(answer);

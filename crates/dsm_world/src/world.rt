@@ -5,19 +5,21 @@ ghost use Rattle.std.specs.Prelude.{option_map, slice_get, Some, None, IsSome, t
 ghost use Rattle.log_model.specs.declared.verdict.Verdict.{Verdict as ModelVerdict};
 ghost use Rattle.log_model.specs.declared.verdict.Verdict.TheVariants.{Commit};
 ghost use Rattle.dsm_model.specs.declared.outcome.Outcome.TheVariants.{Exit, Ordered, Delivered};
-ghost use Rattle.log_model.specs.Log.{verdict_of};
+ghost use Rattle.log_model.specs.Log.{by_name, procedures_after, verdict_of};
+ghost use Rattle.log_entry.specs.Kind.{entry_of};
 ghost use Rattle.log_model.specs.Fit.{HasSafeProcedures};
 ghost use Rattle.dsm_model.specs.World.{OpenCall as ModelCall, Turn as TurnStep, Order as OrderStep};
 ghost use Rattle.dsm_model.specs.World.{IsStep, AreSteps, first_world, numbered, open_call};
-ghost use Rattle.dsm_model.specs.Sound.{HasByteArguments, IsSound, IsSerialReply, IsWorld};
+ghost use Rattle.dsm_model.specs.Sound.{IsGiven, IsSound, IsSerialReply, IsWorld};
 ghost use Rattle.replica.specs.Replica.{Replica as ReplicaState, AreEntriesOf};
-ghost use Rattle.catalogue.specs.Catalogue.{IsCatalogue, by_name};
+ghost use Rattle.catalogue.specs.Catalogue.{IsCatalogue};
 ghost use Rattle.dsm_world.specs.System.{setting_of, world_of, step_of, progress_of, KeepsDelivered};
 ghost use Rattle.dsm_world.specs.Holdings.{system_of, AreConsistentHoldings, IsReplicaOf};
 
 use crate::begin::begin;
 use crate::deliver::deliver;
 use crate::holdings::Holdings;
+use crate::numbers::index_of;
 use crate::order::order;
 use crate::rebuild::rebuild;
 use crate::step::Step;
@@ -61,7 +63,7 @@ fn take_step<A: Allocator + Copy>(world: &mut Holdings<A>, step: Step<'_>) -> Ou
         (world_of (system_of world.new)) }
     ensures setting { setting_of (system_of world.new) ≡ setting_of (system_of world.old) }
     ensures consistent { AreConsistentHoldings world.new }
-    ensures bytes { HasByteArguments (step_of step.entry) }
+    ensures given { IsGiven (setting_of (system_of world.old)) (step_of step.entry) result }
 {
     match step {
         Step::Begin {
@@ -85,7 +87,7 @@ fn replicas_of<A: Allocator + Copy>(
 ) -> Result<Vec<Replica<A>, A>, AllocError>
     ensures count { IfOk result (λ v. length v.items ≡ count) }
     ensures first { IfOk result (λ v. (k : ℕ) (r : ReplicaState) → slice_get v.items k ≡ Some r
-        → IsReplicaOf catalogue.now.tables window [] r) }
+        → IsReplicaOf catalogue.now window [] r) }
     ensures running { IfOk result (λ v. (k : ℕ) (r : ReplicaState) → slice_get v.items k ≡ Some r
         → progress_of r ≡ record { position = 0; running = true }) }
 {
@@ -134,6 +136,7 @@ impl<A: Allocator + Copy> World<A> {
                 window,
                 catalogue,
                 entries: Vec::new(alloc),
+                additions: 0,
                 replicas,
                 calls: Vec::new(alloc),
             },
@@ -145,7 +148,7 @@ impl<A: Allocator + Copy> World<A> {
         ensures step { IsStep (setting_of self.old) (world_of self.old) (step_of step.entry) result (world_of self.new) }
         ensures setting { setting_of self.new ≡ setting_of self.old }
         // What their type says of the arguments.
-        ensures bytes { HasByteArguments (step_of step.entry) }
+        ensures given { IsGiven (setting_of self.old) (step_of step.entry) result }
     {
         take_step(&mut self.holdings, step)
     }
@@ -203,7 +206,7 @@ impl<A: Allocator + Copy> World<A> {
         each_catalogue_is_consistent(&self.holdings.catalogue);
     }
 
-    /// How many calls were ordered.
+    /// How many entries the log has.
     pub fn log_len(&self) -> u32
         ensures { result ≡ length self.now.entries }
     {
@@ -212,20 +215,18 @@ impl<A: Allocator + Copy> World<A> {
 
     /// The entry at a position, from 1 on.
     pub fn entry(&self, position: u32) -> Option<&Entry<A>>
-        ensures { option_map (λ e. e.now) result ≡ numbered self.now.entries position }
+        ensures { option_map (λ e. entry_of e.now) result ≡ numbered self.now.entries position }
     {
-        self.holdings
-            .entries
-            .get((position as usize).checked_sub(1)?)
+        let at = index_of(position, self.holdings.entries.len())?;
+        Some(&self.holdings.entries[at])
     }
 
     /// A replica, by its number from 1 on.
     pub fn replica(&self, number: u32) -> Option<&Replica<A>>
         ensures { option_map (λ r. r.now) result ≡ numbered self.now.replicas number }
     {
-        self.holdings
-            .replicas
-            .get((number as usize).checked_sub(1)?)
+        let at = index_of(number, self.holdings.replicas.len())?;
+        Some(&self.holdings.replicas[at])
     }
 
     /// The replicas, in the order of their numbers.
@@ -235,13 +236,14 @@ impl<A: Allocator + Copy> World<A> {
         &self.holdings.replicas
     }
 
-    /// The number of a procedure, by its name, at a replica.
+    /// The number of a procedure, by its name, at a replica's position.
     pub fn by_name(&self, replica: u32, name: &[u8]) -> Option<u16>
-        ensures there { IsSome (numbered self.now.replicas replica)
-            → result ≡ option_map (λ p. p.number) (by_name self.now.catalogue.procedures name.now) }
+        ensures there { (r : ReplicaState) → numbered self.now.replicas replica ≡ Some r
+            → result ≡ option_map (λ p. p.number)
+            (by_name (procedures_after (setting_of self.now) (world_of self.now).log r.position) name.now) }
         ensures no_replica { numbered self.now.replicas replica ≡ None → result ≡ None }
     {
-        let _ = self.replica(replica)?;
-        self.holdings.catalogue.by_name(name)
+        self.keeps_what_was_delivered();
+        self.replica(replica)?.procedures().by_name(name)
     }
 }

@@ -1,18 +1,21 @@
 -- The bytes of an entry (this product's own form): fields one behind the other, numbers least byte first. A length or a
--- count has two bytes, and is cut to them.
+-- count is cut to the bytes that it has.
 use Rattle.std.specs.Prelude.{ℕ, ◌%◌, ◌^◌, List, [], ◌∷◌, ◌++◌, map, length, Option, Some, None}
 use Rattle.std.specs.List.{concat}
 use Rattle.std.specs.FinMap.{entries, len}
 use Rattle.byteorder.specs.Endian.{little_bytes}
 use Rattle.schema.specs.declared.look.Look.{Look}
 use Rattle.schema.specs.Rows.{Key, Writes}
-use Rattle.log_model.specs.Entries.{Entry}
+use Rattle.bpf_code.specs.Program.{Program, spelling}
+use Rattle.log_model.specs.declared.request.RequestId.{RequestId}
+use Rattle.log_model.specs.Log.{StoredProcedure}
+use Rattle.log_model.specs.Entries.{ExecutedCall, Entry, CallEntry, AdditionEntry}
 
 abbrev pub count_bytes : ℕ → List ℕ
 count_bytes n = little_bytes 2 (n % 2 ^ 16)
 
 -- number of the call and of its procedure, arguments, snapshot, reply
-abbrev pub head_bytes : Entry → List ℕ
+abbrev pub head_bytes : ExecutedCall → List ℕ
 head_bytes e =
     little_bytes 4 e.call.number ++ little_bytes 2 e.call.procedure ++ count_bytes (length e.call.args) ++ e.call.args
     ++ little_bytes 4 e.call.snapshot ++ little_bytes 8 e.reply
@@ -37,5 +40,22 @@ write_bytes write = write.0.0 ∷ little_bytes 8 write.0.1 ++ row_bytes write.1
 abbrev pub writes_bytes : Writes → List ℕ
 writes_bytes writes = count_bytes (len writes) ++ concat (map write_bytes (entries writes))
 
+abbrev pub request_bytes : RequestId → List ℕ
+request_bytes request = little_bytes 4 request.session ++ little_bytes 4 request.sequence
+
+abbrev pub executed_bytes : ExecutedCall → List ℕ
+executed_bytes e = head_bytes e ++ looks_bytes e.looks ++ writes_bytes e.writes
+
+abbrev pub call_bytes : ExecutedCall → List ℕ
+call_bytes e = 1 ∷ request_bytes e.call.request ++ executed_bytes e
+
+-- number, how many bytes the arguments have, the name, and the program
+abbrev pub addition_bytes : StoredProcedure → List ℕ
+addition_bytes p =
+    2 ∷ little_bytes 2 p.number ++ little_bytes 2 p.args_len ++ little_bytes 1 (length p.name % 2 ^ 8) ++ p.name
+    ++ little_bytes 4 (length (spelling p.program) % 2 ^ 32) ++ spelling p.program
+
+-- 1 and a call, or 2 and an addition
 abbrev pub entry_bytes : Entry → List ℕ
-entry_bytes e = head_bytes e ++ looks_bytes e.looks ++ writes_bytes e.writes
+entry_bytes (CallEntry e) = call_bytes e
+entry_bytes (AdditionEntry p) = addition_bytes p

@@ -5,16 +5,17 @@ use Rattle.std.specs.FinMap.{code}
 use Rattle.schema.specs.declared.look.Look.{Look}
 use Rattle.schema.specs.Rows.{Writes}
 use Rattle.row_sets.specs.Codes.{looks_code}
+use Rattle.log_model.specs.declared.request.RequestId.{RequestId}
 use Rattle.log_model.specs.Log.{Call}
-use Rattle.log_model.specs.Entries.{Entry}
+use Rattle.log_model.specs.Entries.{ExecutedCall}
 
-abbrev call_code : Coded Call
-call_code = code_by (ℕ × (ℕ × (List ℕ × ℕ))) (coded× coded_ℕ (coded× coded_ℕ (coded× (coded_list coded_ℕ) coded_ℕ)))
-    (λ c. (c.number, (c.procedure, (c.args, c.snapshot))))
-    (λ c. record { number = c.0; procedure = c.1.0; args = c.1.1.0; snapshot = c.1.1.1 }) (λ _. refl)
+abbrev pub call_code : Coded Call
+call_code = code_by (ℕ × (ℕ × (List ℕ × (ℕ × (ℕ × ℕ))))) (coded× coded_ℕ (coded× coded_ℕ (coded× (coded_list coded_ℕ) (coded× coded_ℕ (coded× coded_ℕ coded_ℕ)))))
+    (λ c. (c.number, (c.procedure, (c.args, (c.snapshot, (c.request.session, c.request.sequence))))))
+    (λ c. record { number = c.0; procedure = c.1.0; args = c.1.1.0; snapshot = c.1.1.1.0; request = record { session = c.1.1.1.1.0; sequence = c.1.1.1.1.1 } }) (λ _. refl)
 
-abbrev pub entry_code : Coded Entry
-entry_code = code_by (Call × (List Look × (Writes × ℕ)))
+abbrev pub executed_code : Coded ExecutedCall
+executed_code = code_by (Call × (List Look × (Writes × ℕ)))
     (coded× call_code (coded× looks_code (coded× (code (coded× coded_ℕ coded_ℕ) (coded_option (coded_list coded_ℕ))) coded_ℕ)))
     (λ e. (e.call, (e.looks, (e.writes, e.reply))))
     (λ c. record { call = c.0; looks = c.1.0; writes = c.1.1.0; reply = c.1.1.1 }) (λ _. refl)

@@ -1,10 +1,25 @@
-use crate::{Entry, to_bytes};
+use crate::{AddedProcedure, Entry, ExecutedCall, to_bytes};
+use bpf_code::decode;
+use bpf_verify::verify;
+use log_model::RequestId;
 use row_sets::{ReadSet, WriteSet};
 use row_values::Bytes;
 use scarce::Scarce;
-use schema::Look;
+use schema::{Look, Schema};
 use std::alloc::Global;
+use std::sync::Arc;
 use std::test::Fail;
+
+/// A procedure that replies 1.
+fn addition(alloc: Global) -> Result<Entry, Fail> {
+    let code = decode(alloc, &[0xb7, 0, 0, 0, 1, 0, 0, 0, 0x95, 0, 0, 0, 0, 0, 0, 0])?;
+    let accepted = verify(alloc, code, &Schema::new(alloc, &[(1, 8)])?, 0)?;
+    Ok(Entry::Addition(AddedProcedure {
+        name: Bytes::new(Vec::from_slice(alloc, b"one")?),
+        number: 9,
+        accepted: Arc::new(alloc, accepted)?,
+    }))
+}
 
 /// An increment of key 5 of table 1 by 10 at snapshot 0, which found no row there.
 fn increment(alloc: Global) -> Result<Entry, Fail> {
@@ -14,15 +29,19 @@ fn increment(alloc: Global) -> Result<Entry, Fail> {
     reads.add_point(1, 5)?;
     let mut writes = WriteSet::new(alloc);
     writes.put(1, 5, &10u64.to_le_bytes())?;
-    Ok(Entry {
+    Ok(Entry::Call(ExecutedCall {
         call: 1,
         procedure: 1,
         args: Bytes::new(args),
         snapshot: 0,
+        request: RequestId {
+            session: 0,
+            sequence: 0,
+        },
         reads,
         writes,
         reply: 10,
-    })
+    }))
 }
 
 /// A range, a removal, and a row of two bytes in another table.
@@ -36,30 +55,43 @@ fn several(alloc: Global) -> Result<Entry, Fail> {
     let mut writes = WriteSet::new(alloc);
     writes.put(2, 7, &[1, 2])?;
     writes.remove(1, 513)?;
-    Ok(Entry {
+    Ok(Entry::Call(ExecutedCall {
         call: 0,
         procedure: 258,
         args: Bytes::new(Vec::new(alloc)),
         snapshot: 65_536,
+        request: RequestId {
+            session: 7,
+            sequence: 258,
+        },
         reads,
         writes,
         reply: u64::MAX,
-    })
+    }))
 }
 
-const INCREMENT: &str = "0100000001001000\
+const INCREMENT: &str = "010000000000000000\
+    0100000001001000\
     05000000000000000a00000000000000000000000a00000000000000\
     01000105000000000000000500000000000000\
     0100010500000000000000010a00000000000000";
 
-const SEVERAL: &str = "000000000201000000000100ffffffffffffffff\
+const SEVERAL: &str = "010700000002010000\
+    000000000201000000000100ffffffffffffffff\
     0100020001000000000000ffffffffffffffff\
     020001010200000000000000020700000000000000010102";
+
+const ADDITION: &str = "020900000003\
+    6f6e6510000000b7000000010000009500000000000000";
 
 #[test]
 fn entries_have_their_bytes(rt: HostRuntime) -> Result<(), Fail> {
     let alloc = rt.alloc();
-    let entries = [(increment(alloc)?, INCREMENT), (several(alloc)?, SEVERAL)];
+    let entries = [
+        (increment(alloc)?, INCREMENT),
+        (several(alloc)?, SEVERAL),
+        (addition(alloc)?, ADDITION),
+    ];
     for (entry, expected) in &entries {
         let bytes = to_bytes(alloc, entry)?;
         assert_eq!(rt; hex::encode(alloc, &bytes)?.as_str(), *expected);
@@ -70,9 +102,10 @@ fn entries_have_their_bytes(rt: HostRuntime) -> Result<(), Fail> {
 #[test]
 fn each_growth_refused_is_want_of_memory(rt: HostRuntime) -> Result<(), Fail> {
     let alloc = rt.alloc();
-    let entry = increment(alloc)?;
-    let scarce = Scarce::new(alloc);
-    let failed = scarce.refuse_each(|| to_bytes(&scarce, &entry).is_ok());
-    assert!(rt; failed.is_some_and(|count| count > 0));
+    for entry in [increment(alloc)?, addition(alloc)?] {
+        let scarce = Scarce::new(alloc);
+        let failed = scarce.refuse_each(|| to_bytes(&scarce, &entry).is_ok());
+        assert!(rt; failed.is_some_and(|count| count > 0));
+    }
     Ok(())
 }

@@ -1,11 +1,11 @@
 -- Which calls a verdict compares with.
-use Rattle.std.proofs.Common.{◌≡◌, ◌⊎◌, inl, inr, ℕ, zero, suc, ◌+◌, ◌-◌, ◌≤◌, ◌<◌, Bool, true, false, cond, ◌&&◌, ◌||◌, List, [], ◌∷◌, ◌++◌, length, drop, slice_get, nat_eq, nat_le, refl, sym, ap, subst, ◌∙◌, arith}
+use Rattle.std.proofs.Common.{◌≡◌, ◌⊎◌, inl, inr, ℕ, zero, suc, ◌+◌, ◌-◌, ◌≤◌, ◌<◌, Bool, true, false, cond, ◌&&◌, ◌||◌, List, [], ◌∷◌, ◌++◌, length, drop, slice_get, nat_eq, nat_le, is_some, Option, Some, None, refl, sym, ap, subst, ◌∙◌, arith}
 use Rattle.std.specs.Prelude.{IsTrue}
 use Rattle.std.specs.List.{list_any}
 use Rattle.std.proofs.lemmas.Bool.Decides.{nat_tests}
 use Rattle.schema.specs.declared.look.Look.{Look}
 use Rattle.row_model.specs.Signature.{shares_bit}
-use Rattle.log_model.specs.Log.{Call, CertifiedCall, is_commit, conflicts}
+use Rattle.log_model.specs.Log.{Call, CertifiedItem, is_commit, conflicts, first_repeated}
 use Rattle.log_model.specs.Comparisons.{comparisons_from, comparisons_after, AreRising, IsCompared}
 use Rattle.log_model.proofs.RunLemmas.{just}
 use Rattle.log_model.proofs.MeaningLemmas.{get_drop}
@@ -43,24 +43,24 @@ some_is x y e = cc
 -- ---- those of a list
 
 -- the one at i is compared with
-record ComparedAt (looks : List Look) (cs : List CertifiedCall) (i : ℕ) : Type 0 where
-  c : CertifiedCall
+record ComparedAt (looks : List Look) (cs : List CertifiedItem) (i : ℕ) : Type 0 where
+  c : CertifiedItem
   stands : slice_get cs i ≡ just c
   committed : is_commit c.verdict ≡ true
   shares : shares_bit looks c.writes ≡ true
-  first : (j : ℕ) (d : CertifiedCall) → j < i → slice_get cs j ≡ just d → conflicts looks d ≡ false
+  first : (j : ℕ) (d : CertifiedItem) → j < i → slice_get cs j ≡ just d → conflicts looks d ≡ false
 
-abbrev here : List Look → ℕ → CertifiedCall → List ℕ
+abbrev here : List Look → ℕ → CertifiedItem → List ℕ
 here looks n c = cond (is_commit c.verdict && shares_bit looks c.writes) (n ∷ []) []
 
-here_is : (looks : List Look) (n k : ℕ) (c : CertifiedCall) → has k (here looks n c) ≡ true → (n ≡ k) × ((is_commit c.verdict && shares_bit looks c.writes) ≡ true)
+here_is : (looks : List Look) (n k : ℕ) (c : CertifiedItem) → has k (here looks n c) ≡ true → (n ≡ k) × ((is_commit c.verdict && shares_bit looks c.writes) ≡ true)
 here_is looks n k c e = elim (is_commit c.verdict && shares_bit looks c.writes) as (λ b. has k (cond b (n ∷ []) []) ≡ true → (n ≡ k) × (b ≡ true)) [
   | true ↦ λ h. ((elim (or_either (nat_eq n k) false h) [ inl t ↦ grind (arith, nat_tests) | inr f ↦ absurd cc ]), refl)
   | false ↦ λ h. absurd cc
 ] e
 
 -- no position below the first
-none_below : (looks : List Look) (n k : ℕ) (cs : List CertifiedCall) → k < n → has k (comparisons_from looks n cs) ≡ true → ⊥
+none_below : (looks : List Look) (n k : ℕ) (cs : List CertifiedItem) → k < n → has k (comparisons_from looks n cs) ≡ true → ⊥
 unfolding comparisons_from
 none_below looks n k [] lt e = cc
 none_below looks n k (c ∷ cs) lt e = elim (or_either (has k (here looks n c)) _ (sym (any-append (λ x. nat_eq x k) (here looks n c) (cond (conflicts looks c) [] (comparisons_from looks (n + 1) cs))) ∙ e)) [
@@ -71,12 +71,12 @@ none_below looks n k (c ∷ cs) lt e = elim (or_either (has k (here looks n c)) 
   ] h
 ]
 
-before : (looks : List Look) (c : CertifiedCall) (cs : List CertifiedCall) (i : ℕ) → conflicts looks c ≡ false → ((j : ℕ) (d : CertifiedCall) → j < i → slice_get cs j ≡ just d → conflicts looks d ≡ false)
-    → (j : ℕ) (d : CertifiedCall) → j < suc i → slice_get (c ∷ cs) j ≡ just d → conflicts looks d ≡ false
-before looks c cs i t h zero d lt e = subst (λ (x : CertifiedCall). conflicts looks x ≡ false) (some_is c d e) t
+before : (looks : List Look) (c : CertifiedItem) (cs : List CertifiedItem) (i : ℕ) → conflicts looks c ≡ false → ((j : ℕ) (d : CertifiedItem) → j < i → slice_get cs j ≡ just d → conflicts looks d ≡ false)
+    → (j : ℕ) (d : CertifiedItem) → j < suc i → slice_get (c ∷ cs) j ≡ just d → conflicts looks d ≡ false
+before looks c cs i t h zero d lt e = subst (λ (x : CertifiedItem). conflicts looks x ≡ false) (some_is c d e) t
 before looks c cs i t h (suc j) d lt e = h j d (omega arith) e
 
-from_means : (looks : List Look) (n i : ℕ) (cs : List CertifiedCall) → has (n + i) (comparisons_from looks n cs) ≡ true → ComparedAt looks cs i
+from_means : (looks : List Look) (n i : ℕ) (cs : List CertifiedItem) → has (n + i) (comparisons_from looks n cs) ≡ true → ComparedAt looks cs i
 unfolding comparisons_from
 from_means looks n i [] e = absurd cc
 from_means looks n zero (c ∷ cs) e = elim (or_either (has (n + 0) (here looks n c)) _ (sym (any-append (λ x. nat_eq x (n + 0)) (here looks n c) (cond (conflicts looks c) [] (comparisons_from looks (n + 1) cs))) ∙ e)) [
@@ -102,13 +102,13 @@ from_means looks n (suc i) (c ∷ cs) e = elim (or_either (has (n + suc i) (here
 is_has : (k : ℕ) → has k (k ∷ []) ≡ true
 is_has k = let t : nat_eq k k ≡ true = grind (arith, nat_tests) in or_left (nat_eq k k) false t
 
-means_from : (looks : List Look) (n i : ℕ) (cs : List CertifiedCall) → ComparedAt looks cs i → has (n + i) (comparisons_from looks n cs) ≡ true
+means_from : (looks : List Look) (n i : ℕ) (cs : List CertifiedItem) → ComparedAt looks cs i → has (n + i) (comparisons_from looks n cs) ≡ true
 unfolding comparisons_from
 means_from looks n i [] at = absurd (let e = at.stands in cc)
 means_from looks n zero (c ∷ cs) at =
     let same = some_is c at.c at.stands in
     let test : (is_commit c.verdict && shares_bit looks c.writes) ≡ true =
-    subst (λ (x : CertifiedCall). (is_commit x.verdict && shares_bit looks x.writes) ≡ true) (sym same) (and_both (is_commit at.c.verdict) (shares_bit looks at.c.writes) at.committed at.shares) in
+    subst (λ (x : CertifiedItem). (is_commit x.verdict && shares_bit looks x.writes) ≡ true) (sym same) (and_both (is_commit at.c.verdict) (shares_bit looks at.c.writes) at.committed at.shares) in
     let none : n + 0 ≡ n = omega arith in
     any-append (λ x. nat_eq x (n + 0)) (here looks n c) (cond (conflicts looks c) [] (comparisons_from looks (n + 1) cs))
     ∙ or_left (has (n + 0) (here looks n c)) _ (ap (λ b. has (n + 0) (cond b (n ∷ []) [])) test ∙ ap (λ k. has k (n ∷ [])) none ∙ is_has n)
@@ -136,18 +136,19 @@ false_if_not true h = absurd (h refl)
 false_if_not false h = refl
 
 -- positions below the first are none of them, so each is the snapshot's, one and something
-split : (looks : List Look) (s k : ℕ) (cs : List CertifiedCall) → has k (comparisons_from looks (s + 1) cs) ≡ true → (i : ℕ) × (k ≡ s + 1 + i)
+split : (looks : List Look) (s k : ℕ) (cs : List CertifiedItem) → has k (comparisons_from looks (s + 1) cs) ≡ true → (i : ℕ) × (k ≡ s + 1 + i)
 split looks s k cs e = elim (nat_le (s + 1) k) as (λ b. nat_le (s + 1) k ≡ b → (i : ℕ) × (k ≡ s + 1 + i)) [
   | true ↦ λ t. let le = recent (s + 1) k t in (k - (s + 1), omega arith)
   | false ↦ λ f. absurd (let lt : k < s + 1 = grind (arith, nat_tests) in none_below looks (s + 1) k cs lt e)
 ] refl
 
-compared : (window : ℕ) (past : List CertifiedCall) (call : Call) (looks : List Look) (position : ℕ) → length past - call.snapshot ≤ window → has position (comparisons_from looks (call.snapshot + 1) (drop call.snapshot past)) ≡ true
+compared : (window : ℕ) (past : List CertifiedItem) (call : Call) (looks : List Look) (position : ℕ) → first_repeated past call ≡ None → length past - call.snapshot ≤ window → has position (comparisons_from looks (call.snapshot + 1) (drop call.snapshot past)) ≡ true
     → IsCompared window past call looks position
-compared window past call looks position near e =
+compared window past call looks position new near e =
     let (i, is) = split looks call.snapshot position (drop call.snapshot past) e in
     let at = from_means looks (call.snapshot + 1) i (drop call.snapshot past) (ap (λ k. has k (comparisons_from looks (call.snapshot + 1) (drop call.snapshot past))) (sym is) ∙ e) in
     record {
+      new = new;
       recent = near;
       since = omega arith;
       before = call.snapshot + i;
@@ -162,14 +163,18 @@ compared window past call looks position near e =
           not_both (conflicts looks d) test (at.first (other - call.snapshot) d (omega arith) (get_drop past call.snapshot (other - call.snapshot) ∙ ap (slice_get past) back ∙ stands));
     }
 
-pub compared_if : (window : ℕ) (past : List CertifiedCall) (call : Call) (looks : List Look) (position : ℕ) → IsTrue (list_any (λ x. nat_eq x position) (comparisons_after window past call looks)) → IsCompared window past call looks position
+pub compared_if : (window : ℕ) (past : List CertifiedItem) (call : Call) (looks : List Look) (position : ℕ) → IsTrue (list_any (λ x. nat_eq x position) (comparisons_after window past call looks)) → IsCompared window past call looks position
 unfolding comparisons_after
-compared_if window past call looks position e = elim (nat_le (length past - call.snapshot) window) as (λ b. nat_le (length past - call.snapshot) window ≡ b → has position (cond b (comparisons_from looks (call.snapshot + 1) (drop call.snapshot past)) []) ≡ true → IsCompared window past call looks position) [
-  | true ↦ λ t h. compared window past call looks position (recent (length past - call.snapshot) window t) h
-  | false ↦ λ f h. absurd cc
-] refl e
+compared_if window past call looks position e = by (first_repeated past call) refl e
+  where
+    by : (o : Option ℕ) → first_repeated past call ≡ o → has position (cond (is_some o) [] (cond (nat_le (length past - call.snapshot) window) (comparisons_from looks (call.snapshot + 1) (drop call.snapshot past)) [])) ≡ true → IsCompared window past call looks position
+    by (Some n) f h = absurd cc
+    by None f h = elim (nat_le (length past - call.snapshot) window) as (λ b. nat_le (length past - call.snapshot) window ≡ b → has position (cond b (comparisons_from looks (call.snapshot + 1) (drop call.snapshot past)) []) ≡ true → IsCompared window past call looks position) [
+      | true ↦ λ t g. compared window past call looks position f (recent (length past - call.snapshot) window t) g
+      | false ↦ λ t g. absurd cc
+    ] refl h
 
-pub if_compared : (window : ℕ) (past : List CertifiedCall) (call : Call) (looks : List Look) (position : ℕ) → IsCompared window past call looks position → IsTrue (list_any (λ x. nat_eq x position) (comparisons_after window past call looks))
+pub if_compared : (window : ℕ) (past : List CertifiedItem) (call : Call) (looks : List Look) (position : ℕ) → IsCompared window past call looks position → IsTrue (list_any (λ x. nat_eq x position) (comparisons_after window past call looks))
 unfolding comparisons_after
 if_compared window past call looks position is =
     let since = is.since in
@@ -177,7 +182,8 @@ if_compared window past call looks position is =
     let i = is.before - call.snapshot in
     let back : call.snapshot + (is.before - call.snapshot) ≡ is.before = omega arith in
     let sum : call.snapshot + 1 + (is.before - call.snapshot) ≡ position = omega arith in
-    ap (λ b. has position (cond b (comparisons_from looks (call.snapshot + 1) (drop call.snapshot past)) [])) (is_recent (length past - call.snapshot) window is.recent)
+    ap (λ (o : Option ℕ). has position (cond (is_some o) [] (cond (nat_le (length past - call.snapshot) window) (comparisons_from looks (call.snapshot + 1) (drop call.snapshot past)) []))) is.new
+    ∙ ap (λ b. has position (cond b (comparisons_from looks (call.snapshot + 1) (drop call.snapshot past)) [])) (is_recent (length past - call.snapshot) window is.recent)
     ∙ ap (λ k. has k (comparisons_from looks (call.snapshot + 1) (drop call.snapshot past))) (sym sum)
     ∙ means_from looks (call.snapshot + 1) (is.before - call.snapshot) (drop call.snapshot past) (record {
       c = is.certificate;
@@ -208,7 +214,7 @@ none_rises n = record { rising = tt; above = λ k lt. tt }
 lower : (n : ℕ) (xs : List ℕ) → Rises (n + 1) xs → Rises n xs
 lower n xs r = record { rising = r.rising; above = λ k lt. r.above k (omega arith) }
 
-from_rises : (looks : List Look) (n : ℕ) (cs : List CertifiedCall) → Rises n (comparisons_from looks n cs)
+from_rises : (looks : List Look) (n : ℕ) (cs : List CertifiedItem) → Rises n (comparisons_from looks n cs)
 unfolding comparisons_from
 from_rises looks n [] = none_rises n
 from_rises looks n (c ∷ cs) =
@@ -225,9 +231,12 @@ from_rises looks n (c ∷ cs) =
           ]
     ]
 
-pub comparisons_rise : (window : ℕ) (past : List CertifiedCall) (call : Call) (looks : List Look) → AreRising (comparisons_after window past call looks)
+pub comparisons_rise : (window : ℕ) (past : List CertifiedItem) (call : Call) (looks : List Look) → AreRising (comparisons_after window past call looks)
 unfolding comparisons_after
-comparisons_rise window past call looks = elim (nat_le (length past - call.snapshot) window) as (λ b. AreRising (cond b (comparisons_from looks (call.snapshot + 1) (drop call.snapshot past)) [])) [
-  | true ↦ (from_rises looks (call.snapshot + 1) (drop call.snapshot past)).rising
-  | false ↦ tt
+comparisons_rise window past call looks = elim (is_some (first_repeated past call)) as (λ a. AreRising (cond a [] (cond (nat_le (length past - call.snapshot) window) (comparisons_from looks (call.snapshot + 1) (drop call.snapshot past)) []))) [
+  | true ↦ tt
+  | false ↦ elim (nat_le (length past - call.snapshot) window) as (λ b. AreRising (cond b (comparisons_from looks (call.snapshot + 1) (drop call.snapshot past)) [])) [
+    | true ↦ (from_rises looks (call.snapshot + 1) (drop call.snapshot past)).rising
+    | false ↦ tt
+  ]
 ]

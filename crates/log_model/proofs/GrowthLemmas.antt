@@ -1,29 +1,38 @@
 -- A log that grows keeps what it had come to.
-use Rattle.std.proofs.Common.{◌≡◌, ℕ, zero, suc, ◌+◌, ◌≤◌, ◌<◌, List, [], ◌∷◌, ◌++◌, length, fold, Some, slice_get, option_map, refl, sym, ap, subst, ◌∙◌, arith}
+use Rattle.std.proofs.Common.{◌≡◌, ℕ, zero, suc, ◌+◌, ◌-◌, ◌≤◌, ◌<◌, true, false, cond, nat_eq, List, [], ◌∷◌, ◌++◌, length, fold, Some, slice_get, option_map, refl, sym, ap, subst, ◌∙◌, arith}
+use Rattle.std.specs.List.{AllByRecursion}
 use Rattle.std.proofs.lemmas.List.Sums.{fold-append}
-use Rattle.schema.specs.Rows.{Rows, AreRows}
+use Rattle.schema.specs.Rows.{AreRows}
 use Rattle.log_model.specs.declared.verdict.Verdict.{Verdict}
-use Rattle.log_model.specs.Log.{by_number, Setting, Call, Log, IsLogFrom, IsLog, CertifiedCall, History, start, with_call, history, rows_after, verdict_of, verdict_in, moment_of, moment_at, run_of_call, run_in}
-use Rattle.log_model.specs.Fit.{HasSafeProcedures, IsCall, AreCalls}
-use Rattle.log_model.proofs.HistoryLemmas.{history_kept}
-use Rattle.log_model.proofs.CallLemmas.{Grows, grows, rows_stay, Even, even_with_call, count_history}
+use Rattle.log_model.specs.Log.{by_number, Setting, Call, Log, IsLogFrom, IsLog, History, start, history, rows_after, verdict_of, verdict_in, moment_of, moment_at, run_of_call, run_in, StoredProcedure, Catalogue, verdict_on_addition, if_commits, Item, CallItem, AdditionItem, IsPlaced, CertifiedItem, Database, database_at, with_item, procedures_after}
+use Rattle.log_model.specs.Fit.{HasSafeProcedures, IsCall, AreSafe, IsCallOf, IsItem, AreItems}
+use Rattle.log_model.proofs.CallLemmas.{Grows, grows, Even, count_history, history_kept, databases_stay, even_with_item, procedures_next, procedures_after_addition}
+use Rattle.log_model.specs.declared.verdict.Verdict.TheVariants.{Commit, Conflict, Stale, Repeated, Taken}
+use Rattle.log_model.proofs.AdditionLemmas.{addition_verdict}
+use Rattle.log_model.proofs.RunLemmas.{just}
 
-even_fold : (w : Setting) (h : History) (log : Log) → Even h → Even (fold (with_call w) h log)
+even_fold : (w : Setting) (h : History) (log : Log) → Even h → Even (fold (with_item w) h log)
 even_fold w h [] even = even
-even_fold w h (call ∷ log) even = even_fold w (with_call w h call) log (even_with_call w h call even)
+even_fold w h (item ∷ log) even = even_fold w (with_item w h item) log (even_with_item w h item even)
 
 pub even_history : (w : Setting) (log : Log) → Even (history w log)
 unfolding history
-even_history w log = even_fold w start log refl
+even_history w log = even_fold w (start w) log refl
 
 pub grown : (w : Setting) (log more : Log) → Grows (history w log) (history w (log ++ more))
 unfolding history
-grown w log more = subst (λ (g : History). Grows (fold (with_call w) start log) g) (sym (fold-append (with_call w) start log more)) (grows w (fold (with_call w) start log) more)
+grown w log more = subst (λ (g : History). Grows (fold (with_item w) (start w) log) g) (sym (fold-append (with_item w) (start w) log more)) (grows w (fold (with_item w) (start w) log) more)
+
+pub database_grown : (w : Setting) (log more : Log) (p : ℕ) → p ≤ length log → database_at (history w (log ++ more)) p ≡ database_at (history w log) p
+database_grown w log more p le =
+    let count = count_history w log in
+    databases_stay (history w log) (history w (log ++ more)) (even_history w log) (grown w log more) p (omega arith)
 
 pub rows_grown : (w : Setting) (log more : Log) (p : ℕ) → p ≤ length log → rows_after w (log ++ more) p ≡ rows_after w log p
-rows_grown w log more p le =
-    let count = count_history w log in
-    rows_stay (history w log) (history w (log ++ more)) (even_history w log) (grown w log more) p (omega arith)
+rows_grown w log more p le = ap (λ (d : Database). d.rows) (database_grown w log more p le)
+
+pub procedures_grown : (w : Setting) (log more : Log) (p : ℕ) → p ≤ length log → procedures_after w (log ++ more) p ≡ procedures_after w log p
+procedures_grown w log more p le = ap (λ (d : Database). d.procedures) (database_grown w log more p le)
 
 pub get_before : {X : Type 0} (xs ys : List X) (k : ℕ) → k < length xs → slice_get (xs ++ ys) k ≡ slice_get xs k
 get_before [] ys k lt = absurd (omega arith)
@@ -34,37 +43,96 @@ pub verdict_grown : (w : Setting) (log more : Log) (d : ℕ) → d < length log 
 verdict_grown w log more d lt =
     let count = count_history w log in
     let g = grown w log more in
-    ap (λ (l : List CertifiedCall). verdict_in l (suc d)) g.certified_is ∙ ap (option_map (λ (c : CertifiedCall). c.verdict)) (get_before (history w log).certified_calls g.certified_calls d (omega arith))
+    ap (λ (l : List CertifiedItem). verdict_in l (suc d)) g.certified_is ∙ ap (option_map (λ (c : CertifiedItem). c.verdict)) (get_before (history w log).certified g.certified d (omega arith))
 
 pub moment_grown : (w : Setting) (log more : Log) (call : Call) (k : ℕ) → call.snapshot ≤ length log → moment_at w (log ++ more) call k ≡ moment_at w log call k
 unfolding moment_at
-moment_grown w log more call k le = ap (λ (rows : Rows). moment_of w (by_number w.catalogue call.procedure) call.args rows k) (rows_grown w log more call.snapshot le)
+moment_grown w log more call k le = ap (λ (d : Database). moment_of w.tables (by_number d.procedures call.procedure) call.args d.rows k) (database_grown w log more call.snapshot le)
 
-pub rows_fit : (w : Setting) (log : Log) (p : ℕ) → HasSafeProcedures w → IsLog log → AreCalls w log → p ≤ length log → AreRows w.tables (rows_after w log p)
-rows_fit w log p safe below calls le = let count = count_history w log in (history_kept w log safe below calls).fit p (omega arith)
+pub rows_fit : (w : Setting) (log : Log) (p : ℕ) → HasSafeProcedures w → IsLog log → AreItems w log → p ≤ length log → AreRows w.tables (rows_after w log p)
+rows_fit w log p safe below items le = let count = count_history w log in (history_kept w log safe below items).fit p (omega arith)
 
--- ---- one more call
+pub procedures_safe : (w : Setting) (log : Log) (p : ℕ) → HasSafeProcedures w → IsLog log → AreItems w log → p ≤ length log → AreSafe w.tables (procedures_after w log p)
+procedures_safe w log p safe below items le = let count = count_history w log in (history_kept w log safe below items).safe p (omega arith)
 
-pub is_log_snoc : (n : ℕ) (log : Log) (call : Call) → IsLogFrom n log → call.snapshot ≤ n + length log → IsLogFrom n (log ++ call ∷ [])
-is_log_snoc n [] call below le = (omega arith, tt)
-is_log_snoc n (first ∷ log) call below le = (below.0, is_log_snoc (suc n) log call below.1 (omega arith))
+-- ---- one more item
 
-pub are_calls_snoc : (w : Setting) (log : Log) (call : Call) → AreCalls w log → IsCall w call → AreCalls w (log ++ call ∷ [])
-are_calls_snoc w [] call calls is = (is, tt)
-are_calls_snoc w (first ∷ log) call calls is = (calls.0, are_calls_snoc w log call calls.1 is)
+pub is_log_snoc : (n : ℕ) (log : Log) (item : Item) → IsLogFrom n log → IsPlaced (n + length log) item → IsLogFrom n (log ++ item ∷ [])
+is_log_snoc n [] item below le = (subst (λ (k : ℕ). IsPlaced k item) (let e : n + 0 ≡ n = omega arith in e) le, tt)
+is_log_snoc n (first ∷ log) item below le =
+    (below.0, is_log_snoc (suc n) log item below.1 (subst (λ (k : ℕ). IsPlaced k item) (let e : n + suc (length log) ≡ suc n + length log = omega arith in e) le))
 
--- there is a verdict on each call, and on no number beyond
+pub is_call_grown : (w : Setting) (log more : Log) (call : Call) → call.snapshot ≤ length log → IsCall w log call → IsCall w (log ++ more) call
+is_call_grown w log more call le is = subst (λ (ps : Catalogue). IsCallOf ps call) (sym (procedures_grown w log more call.snapshot le)) is
+
+is_item_grown : (w : Setting) (log more : Log) (n : ℕ) (item : Item) → IsPlaced n item → n ≤ length log → IsItem w log item → IsItem w (log ++ more) item
+is_item_grown w log more n (CallItem call) below le is = is_call_grown w log more call (omega arith) is
+is_item_grown w log more n (AdditionItem p) below le is = is
+
+are_items_grown : (w : Setting) (log more : Log) (n : ℕ) (items : Log) → IsLogFrom n items → n + length items ≤ length log → AllByRecursion (IsItem w log) items → AllByRecursion (IsItem w (log ++ more)) items
+are_items_grown w log more n [] below le all = tt
+are_items_grown w log more n (item ∷ items) below le all =
+    (is_item_grown w log more n item below.0 (omega arith) all.0, are_items_grown w log more (suc n) items below.1 (omega arith) all.1)
+
+all_snoc : (w : Setting) (whole items : Log) (item : Item) → AllByRecursion (IsItem w whole) items → IsItem w whole item → AllByRecursion (IsItem w whole) (items ++ item ∷ [])
+all_snoc w whole [] item all is = (is, tt)
+all_snoc w whole (first ∷ items) item all is = (all.0, all_snoc w whole items item all.1 is)
+
+pub are_items_snoc : (w : Setting) (log : Log) (item : Item) → IsLog log → AreItems w log → IsPlaced (length log) item → IsItem w log item → AreItems w (log ++ item ∷ [])
+are_items_snoc w log item below items le is =
+    all_snoc w (log ++ item ∷ []) log item (are_items_grown w log (item ∷ []) 0 log below (omega arith) items) (is_item_grown w log (item ∷ []) (length log) item le (omega arith) is)
+
+-- there is a verdict on each item, and on no number beyond
 pub verdict_within : (w : Setting) (log : Log) (d : ℕ) (v : Verdict) → verdict_of w log (suc d) ≡ Some v → d < length log
 verdict_within w log d v e =
     let count = count_history w log in
-    let lt : d < length (history w log).certified_calls = within (history w log).certified_calls d v e in
+    let lt : d < length (history w log).certified = within (history w log).certified d v e in
     omega arith
   where
-    within : (cs : List CertifiedCall) (d : ℕ) (v : Verdict) → option_map (λ c. c.verdict) (slice_get cs d) ≡ Some v → d < length cs
+    within : (cs : List CertifiedItem) (d : ℕ) (v : Verdict) → option_map (λ c. c.verdict) (slice_get cs d) ≡ Some v → d < length cs
     within [] d v e = absurd cc
     within (c ∷ cs) zero v e = omega arith
     within (c ∷ cs) (suc d) v e = let lt = within cs d v e in omega arith
 
 -- the run of a call stays as the log grows
 pub run_grown : (w : Setting) (log more : Log) (call : Call) → call.snapshot ≤ length log → run_in w (log ++ more) call ≡ run_in w log call
-run_grown w log more call le = ap (λ (rows : Rows). run_of_call w call rows) (rows_grown w log more call.snapshot le)
+run_grown w log more call le = ap (λ (d : Database). run_of_call w.tables d.procedures call d.rows) (database_grown w log more call.snapshot le)
+
+-- ---- what is found among the procedures stays
+
+found_first : (ps : Catalogue) (p q : StoredProcedure) (number : ℕ) → by_number ps number ≡ Some q → by_number (ps ++ p ∷ []) number ≡ Some q
+found_first [] p q number e = absurd cc
+found_first (x ∷ ps) p q number e = elim (nat_eq x.number number) as (λ b. cond b (just x) (by_number ps number) ≡ just q → cond b (just x) (by_number (ps ++ p ∷ []) number) ≡ just q) [
+  | true ↦ λ f. f
+  | false ↦ λ f. found_first ps p q number f
+] e
+
+found_after : (ps : Catalogue) (p q : StoredProcedure) (number : ℕ) (v : Verdict) → by_number ps number ≡ Some q → by_number (if_commits v (ps ++ p ∷ []) ps) number ≡ Some q
+found_after ps p q number Commit e = found_first ps p q number e
+found_after ps p q number (Conflict n) e = e
+found_after ps p q number Stale e = e
+found_after ps p q number (Repeated n) e = e
+found_after ps p q number (Taken n) e = e
+
+there : (log : Log) (k : ℕ) → k < length log → (item : Item) × (slice_get log k ≡ Some item)
+there [] k lt = absurd (omega arith)
+there (x ∷ log) zero lt = (x, refl)
+there (x ∷ log) (suc k) lt = there log k (omega arith)
+
+stays_by_item : (w : Setting) (log : Log) (d number : ℕ) (q : StoredProcedure) (item : Item) → IsLog log → slice_get log d ≡ Some item → by_number (procedures_after w log d) number ≡ Some q → by_number (procedures_after w log (suc d)) number ≡ Some q
+stays_by_item w log d number q (CallItem call) below at e = ap (λ (ps : Catalogue). by_number ps number) (procedures_next w log d call below at) ∙ e
+stays_by_item w log d number q (AdditionItem p) below at e =
+    ap (λ (ps : Catalogue). by_number ps number) (procedures_after_addition w log d p (verdict_on_addition (procedures_after w log d) p) below at (addition_verdict w log d p below at))
+    ∙ found_after (procedures_after w log d) p q number (verdict_on_addition (procedures_after w log d) p) e
+
+stays_so_far : (w : Setting) (log : Log) (s n number : ℕ) (q : StoredProcedure) → IsLog log → s + n ≤ length log → by_number (procedures_after w log s) number ≡ Some q → by_number (procedures_after w log (s + n)) number ≡ Some q
+stays_so_far w log s zero number q below le e = ap (λ (k : ℕ). by_number (procedures_after w log k) number) (let same : s + 0 ≡ s = omega arith in same) ∙ e
+stays_so_far w log s (suc n) number q below le e =
+    let before = stays_so_far w log s n number q below (omega arith) e in
+    let item = there log (s + n) (omega arith) in
+    ap (λ (k : ℕ). by_number (procedures_after w log k) number) (let same : s + suc n ≡ suc (s + n) = omega arith in same) ∙ stays_by_item w log (s + n) number q item.0 below item.1 before
+
+pub procedure_stays : (w : Setting) (log : Log) (s t number : ℕ) (q : StoredProcedure) → IsLog log → s ≤ t → t ≤ length log → by_number (procedures_after w log s) number ≡ Some q → by_number (procedures_after w log t) number ≡ Some q
+procedure_stays w log s t number q below le within e =
+    let back : s + (t - s) ≡ t = omega arith in
+    ap (λ (k : ℕ). by_number (procedures_after w log k) number) (sym back) ∙ stays_so_far w log s (t - s) number q below (omega arith) e

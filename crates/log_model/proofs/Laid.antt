@@ -3,11 +3,11 @@ use Rattle.std.specs.Prelude.{ℕ, List, [], ◌∷◌, if◌then◌else◌, tak
 use Rattle.std.specs.FinMap.{empty}
 use Rattle.schema.specs.Rows.{Rows, Writes}
 use Rattle.bpf_semantics.specs.Agree.{after_each}
-use Rattle.log_model.specs.Log.{CertifiedCall, is_commit}
+use Rattle.log_model.specs.Log.{CertifiedItem, is_commit}
 
-abbrev pub installed_writes : List CertifiedCall → List Writes
+abbrev pub installed_writes : List CertifiedItem → List Writes
 installed_writes [] = []
 installed_writes (c ∷ later) = if is_commit c.verdict then c.writes ∷ installed_writes later else installed_writes later
 
-abbrev pub rows_laid_on : List CertifiedCall → ℕ → Rows
-rows_laid_on certified_calls position = after_each (installed_writes (take position certified_calls)) empty
+abbrev pub rows_laid_on : List CertifiedItem → ℕ → Rows
+rows_laid_on certified position = after_each (installed_writes (take position certified)) empty

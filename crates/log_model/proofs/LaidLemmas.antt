@@ -5,7 +5,7 @@ use Rattle.std.proofs.lemmas.Bool.Decides.{nat_tests}
 use Rattle.schema.specs.Rows.{Rows, after_writes}
 use Rattle.bpf_semantics.specs.Agree.{after_each}
 use Rattle.row_model.specs.InstalledWrites.{with_installed, map_after}
-use Rattle.log_model.specs.Log.{CertifiedCall, is_commit}
+use Rattle.log_model.specs.Log.{CertifiedItem, is_commit}
 use Rattle.log_model.specs.Entries.{installed_from}
 use Rattle.log_model.proofs.Laid.{installed_writes, rows_laid_on}
 
@@ -15,7 +15,7 @@ late n p lt = grind (arith, nat_tests)
 early : (n p : ℕ) → n ≤ p → nat_le n p ≡ true
 early n p le = grind (arith, nat_tests)
 
-beyond : (position n : ℕ) (cs : List CertifiedCall) (rows : Rows) → position < n → fold (with_installed position) rows (installed_from n cs) ≡ rows
+beyond : (position n : ℕ) (cs : List CertifiedItem) (rows : Rows) → position < n → fold (with_installed position) rows (installed_from n cs) ≡ rows
 unfolding installed_from
 beyond position n [] rows lt = refl
 beyond position n (c ∷ cs) rows lt = elim (is_commit c.verdict) as (λ b. fold (with_installed position) rows (cond b (record { position = n; writes = c.writes } ∷ []) [] ++ installed_from (n + 1) cs) ≡ rows) [
@@ -23,7 +23,7 @@ beyond position n (c ∷ cs) rows lt = elim (is_commit c.verdict) as (λ b. fold
   | false ↦ beyond position (n + 1) cs rows (omega arith)
 ]
 
-within : (position n k : ℕ) (cs : List CertifiedCall) (rows : Rows) → n + k ≡ position + 1 → fold (with_installed position) rows (installed_from n cs) ≡ after_each (installed_writes (take k cs)) rows
+within : (position n k : ℕ) (cs : List CertifiedItem) (rows : Rows) → n + k ≡ position + 1 → fold (with_installed position) rows (installed_from n cs) ≡ after_each (installed_writes (take k cs)) rows
 unfolding installed_from
 within position n zero cs rows e = beyond position n cs rows (omega arith)
 within position n (suc k) [] rows e = refl
@@ -32,6 +32,6 @@ within position n (suc k) (c ∷ cs) rows e = elim (is_commit c.verdict) as (λ 
   | false ↦ within position (n + 1) k cs rows (omega arith)
 ]
 
-pub map_is_laid_on : (cs : List CertifiedCall) (position : ℕ) → map_after (installed_from 1 cs) position ≡ rows_laid_on cs position
+pub map_is_laid_on : (cs : List CertifiedItem) (position : ℕ) → map_after (installed_from 1 cs) position ≡ rows_laid_on cs position
 unfolding map_after
 map_is_laid_on cs position = within position 1 position cs empty (omega arith)

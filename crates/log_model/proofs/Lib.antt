@@ -6,6 +6,8 @@ mod HistoryLemmas
 pub mod CallLemmas
 pub mod GrowthLemmas
 mod MeaningLemmas
+pub mod RepetitionLemmas
+mod AdditionLemmas
 mod ComparisonLemmas
 pub mod EntryLemmas
 mod CarryLemmas

@@ -1,6 +1,7 @@
 -- The run of a call.
 use Rattle.std.proofs.Common.{◌≡◌, ℕ, ◌≤◌, List, Option, Some, None, IsSome, All, refl, sym, ap, subst, ◌∙◌}
 use Rattle.std.specs.Option.{IsSomeAnd}
+use Rattle.schema.specs.Schema.{Tables}
 use Rattle.schema.specs.Rows.{Rows, Writes, AreRows, after_writes}
 use Rattle.schema.proofs.RowsLemmas.{after_writes-empty}
 use Rattle.bpf_semantics.specs.Run.{Run, run}
@@ -8,8 +9,8 @@ use Rattle.bpf_semantics.specs.Path.{longest_path}
 use Rattle.bpf_semantics.specs.Agree.{same_on, AreElsewhere, after_each}
 use Rattle.bpf_semantics.proofs.TwinLemmas.{elsewhere_each}
 use Rattle.bpf_semantics.proofs.EffectLemmas.{effect_kept, effect_cancelled}
-use Rattle.log_model.specs.Log.{StoredProcedure, Setting, Call, by_number, or_idle, run_of_procedure, run_of_call}
-use Rattle.log_model.specs.Fit.{HasSafeProcedures, IsCall}
+use Rattle.log_model.specs.Log.{StoredProcedure, Catalogue, Call, by_number, or_idle, run_of_procedure, run_of_call}
+use Rattle.log_model.specs.Fit.{AreSafe, IsCallOf}
 
 abbrev pub just : {X : Type 0} → X → Option X
 just x = Some x
@@ -19,48 +20,48 @@ some_of P None h = absurd h
 some_of P (Some x) h = (x, refl, h)
 
 -- where there is a run, that of the call is it
-pub is_run : (w : Setting) (call : Call) (rows : Rows) (p : StoredProcedure) (r : Run) → by_number w.catalogue call.procedure ≡ Some p → run p.program w.tables call.args rows ≡ Some r → run_of_call w call rows ≡ r
+pub is_run : (tables : Tables) (procedures : Catalogue) (call : Call) (rows : Rows) (p : StoredProcedure) (r : Run) → by_number procedures call.procedure ≡ Some p → run p.program tables call.args rows ≡ Some r → run_of_call tables procedures call rows ≡ r
 unfolding run_of_call
-is_run w call rows p r known e = ap (λ (o : Option StoredProcedure). or_idle rows (run_of_procedure w.tables o call.args rows)) known ∙ ap (or_idle rows) e
+is_run tables procedures call rows p r known e = ap (λ (o : Option StoredProcedure). or_idle rows (run_of_procedure tables o call.args rows)) known ∙ ap (or_idle rows) e
 
 -- a safe call has one, which is short and leaves the schema's rows
-pub record HasRun (w : Setting) (call : Call) (rows : Rows) (c : IsCall w call) : Type 0 where
-  pub run : run c.procedure.program w.tables call.args rows ≡ Some (run_of_call w call rows)
-  pub short : (run_of_call w call rows).steps ≤ longest_path c.procedure.program
-  pub fits : AreRows w.tables (run_of_call w call rows).effect
+pub record HasRun (tables : Tables) (procedures : Catalogue) (call : Call) (rows : Rows) (c : IsCallOf procedures call) : Type 0 where
+  pub run : run c.procedure.program tables call.args rows ≡ Some (run_of_call tables procedures call rows)
+  pub short : (run_of_call tables procedures call rows).steps ≤ longest_path c.procedure.program
+  pub fits : AreRows tables (run_of_call tables procedures call rows).effect
 
-pub has_run : (w : Setting) (call : Call) (rows : Rows) → HasSafeProcedures w → (c : IsCall w call) → AreRows w.tables rows → HasRun w call rows c
-has_run w call rows safe c are =
-    let (r, e, facts) = some_of (λ r. (r.steps ≤ longest_path c.procedure.program) × AreRows w.tables r.effect) (run c.procedure.program w.tables call.args rows)
+pub has_run : (tables : Tables) (procedures : Catalogue) (call : Call) (rows : Rows) → AreSafe tables procedures → (c : IsCallOf procedures call) → AreRows tables rows → HasRun tables procedures call rows c
+has_run tables procedures call rows safe c are =
+    let (r, e, facts) = some_of (λ r. (r.steps ≤ longest_path c.procedure.program) × AreRows tables r.effect) (run c.procedure.program tables call.args rows)
     (safe call.procedure c.procedure c.known call.args rows c.arguments are) in
-    let same : r ≡ run_of_call w call rows = sym (is_run w call rows c.procedure r c.known e) in
+    let same : r ≡ run_of_call tables procedures call rows = sym (is_run tables procedures call rows c.procedure r c.known e) in
     record {
       run = e ∙ ap just same;
       short = subst (λ (x : Run). x.steps ≤ longest_path c.procedure.program) same facts.0;
-      fits = subst (λ (x : Run). AreRows w.tables x.effect) same facts.1;
+      fits = subst (λ (x : Run). AreRows tables x.effect) same facts.1;
     }
 
 -- writes elsewhere leave the run of a call
-pub same_run : (w : Setting) (call : Call) (rows : Rows) (later : List Writes) → HasSafeProcedures w → IsCall w call → AreRows w.tables rows → All (AreElsewhere (run_of_call w call rows).looks) later
-    → run_of_call w call (after_each later rows) ≡ same_on (after_each later rows) (run_of_call w call rows)
-same_run w call rows later safe c are apart =
-    is_run w call (after_each later rows) c.procedure _ c.known
-    (elsewhere_each c.procedure.program w.tables call.args rows (run_of_call w call rows) later (has_run w call rows safe c are).run apart)
+pub same_run : (tables : Tables) (procedures : Catalogue) (call : Call) (rows : Rows) (later : List Writes) → AreSafe tables procedures → IsCallOf procedures call → AreRows tables rows → All (AreElsewhere (run_of_call tables procedures call rows).looks) later
+    → run_of_call tables procedures call (after_each later rows) ≡ same_on (after_each later rows) (run_of_call tables procedures call rows)
+same_run tables procedures call rows later safe c are apart =
+    is_run tables procedures call (after_each later rows) c.procedure _ c.known
+    (elsewhere_each c.procedure.program tables call.args rows (run_of_call tables procedures call rows) later (has_run tables procedures call rows safe c are).run apart)
 
 effect_of : (rows : Rows) (r : Run) (o : Option ℕ) → r.cancel_code ≡ o → (r.cancel_code ≡ None → r.effect ≡ after_writes r.writes rows) → (IsSome r.cancel_code → r.effect ≡ after_writes r.writes rows) → r.effect ≡ after_writes r.writes rows
 effect_of rows r None e kept cancelled = kept e
 effect_of rows r (Some code) e kept cancelled = cancelled (subst (λ (o : Option ℕ). IsSome o) (sym e) refl)
 
 -- the effect of a run is that of its writes, cancelled or not
-pub effect_is : (w : Setting) (call : Call) (rows : Rows) → HasSafeProcedures w → IsCall w call → AreRows w.tables rows → (run_of_call w call rows).effect ≡ after_writes (run_of_call w call rows).writes rows
-effect_is w call rows safe c are =
-    let e = (has_run w call rows safe c are).run in
-    let r = run_of_call w call rows in
+pub effect_is : (tables : Tables) (procedures : Catalogue) (call : Call) (rows : Rows) → AreSafe tables procedures → IsCallOf procedures call → AreRows tables rows → (run_of_call tables procedures call rows).effect ≡ after_writes (run_of_call tables procedures call rows).writes rows
+effect_is tables procedures call rows safe c are =
+    let e = (has_run tables procedures call rows safe c are).run in
+    let r = run_of_call tables procedures call rows in
     effect_of rows r r.cancel_code refl
-    (effect_kept c.procedure.program w.tables call.args rows r e)
+    (effect_kept c.procedure.program tables call.args rows r e)
     (λ some.
-    let both = effect_cancelled c.procedure.program w.tables call.args rows r e some in
+    let both = effect_cancelled c.procedure.program tables call.args rows r e some in
     both.0 ∙ sym (ap (λ (x : Writes). after_writes x rows) both.1 ∙ after_writes-empty rows))
 
-pub effect_fits : (w : Setting) (call : Call) (rows : Rows) → HasSafeProcedures w → IsCall w call → AreRows w.tables rows → AreRows w.tables (run_of_call w call rows).effect
-effect_fits w call rows safe c are = (has_run w call rows safe c are).fits
+pub effect_fits : (tables : Tables) (procedures : Catalogue) (call : Call) (rows : Rows) → AreSafe tables procedures → IsCallOf procedures call → AreRows tables rows → AreRows tables (run_of_call tables procedures call rows).effect
+effect_fits tables procedures call rows safe c are = (has_run tables procedures call rows safe c are).fits

@@ -6,7 +6,7 @@ use Rattle.schema.specs.Rows.{Rows, Writes, shares_key}
 use Rattle.schema.proofs.ShareLemmas.{apart}
 use Rattle.bpf_semantics.specs.Agree.{AreElsewhere, after_each}
 use Rattle.log_model.specs.declared.verdict.Verdict.TheVariants.{Commit, Stale}
-use Rattle.log_model.specs.Log.{Call, CertifiedCall, is_commit, conflicts, first_conflict, unless_conflict, verdict_after}
+use Rattle.log_model.specs.Log.{Call, CertifiedItem, is_commit, conflicts, first_position, first_repeated, unless_repeated, unless_conflict, verdict_after}
 use Rattle.log_model.proofs.Laid.{installed_writes}
 use Rattle.log_model.proofs.RunLemmas.{just}
 
@@ -16,32 +16,33 @@ none_here : (b : Bool) (number : ℕ) (o : Option ℕ) → cond b (just number) 
 none_here true number o e = absurd cc
 none_here false number o e = (refl, e)
 
-pub all_apart : (looks : List Look) (number : ℕ) (later : List CertifiedCall) → first_conflict looks number later ≡ None → AllByRecursion (AreElsewhere looks) (installed_writes later)
-unfolding first_conflict
+pub all_apart : (looks : List Look) (number : ℕ) (later : List CertifiedItem) → first_position (conflicts looks) number later ≡ None → AllByRecursion (AreElsewhere looks) (installed_writes later)
+unfolding first_position
 all_apart looks number [] e = tt
 all_apart looks number (c ∷ later) e =
-    let parts = none_here (conflicts looks c) number (first_conflict looks (number + 1) later) e in
+    let parts = none_here (conflicts looks c) number (first_position (conflicts looks) (number + 1) later) e in
     let rest = all_apart looks (number + 1) later parts.1 in
     elim (is_commit c.verdict) as (λ b. (b && shares_key looks c.writes) ≡ false → AllByRecursion (AreElsewhere looks) (cond b (c.writes ∷ installed_writes later) (installed_writes later))) [
       | true ↦ λ none. (apart looks c.writes none, rest)
       | false ↦ λ none. rest
     ] parts.0
 
-commit_of : (b : Bool) (o : Option ℕ) → cond b (unless_conflict o) Stale ≡ Commit → o ≡ None
-commit_of true None e = refl
-commit_of true (Some number) e = absurd cc
-commit_of false o e = absurd cc
+commit_of : (r : Option ℕ) (b : Bool) (o : Option ℕ) → unless_repeated r (cond b (unless_conflict o) Stale) ≡ Commit → o ≡ None
+commit_of (Some position) b o e = absurd cc
+commit_of None true None e = refl
+commit_of None true (Some number) e = absurd cc
+commit_of None false o e = absurd cc
 
--- where a call is_commit, none of those since its snapshot wrote what it looked at
-pub committed_apart : (window : ℕ) (past : List CertifiedCall) (call : Call) (looks : List Look) → verdict_after window past call looks ≡ Commit
+-- where a call commits, none of those since its snapshot wrote what it looked at
+pub committed_apart : (window : ℕ) (past : List CertifiedItem) (call : Call) (looks : List Look) → verdict_after window past call looks ≡ Commit
     → AllByRecursion (AreElsewhere looks) (installed_writes (drop call.snapshot past))
 unfolding verdict_after
 committed_apart window past call looks e =
-    all_apart looks (call.snapshot + 1) (drop call.snapshot past) (commit_of (nat_le (length past - call.snapshot) window) (first_conflict looks (call.snapshot + 1) (drop call.snapshot past)) e)
+    all_apart looks (call.snapshot + 1) (drop call.snapshot past) (commit_of (first_repeated past call) (nat_le (length past - call.snapshot) window) (first_position (conflicts looks) (call.snapshot + 1) (drop call.snapshot past)) e)
 
 -- ---- installed_writes write sets, one list after another
 
-pub installed_writes-append : (xs ys : List CertifiedCall) → installed_writes (xs ++ ys) ≡ installed_writes xs ++ installed_writes ys
+pub installed_writes-append : (xs ys : List CertifiedItem) → installed_writes (xs ++ ys) ≡ installed_writes xs ++ installed_writes ys
 installed_writes-append [] ys = refl
 installed_writes-append (c ∷ xs) ys = elim (is_commit c.verdict) as (λ b. cond b (c.writes ∷ installed_writes (xs ++ ys)) (installed_writes (xs ++ ys)) ≡ cond b (c.writes ∷ installed_writes xs) (installed_writes xs) ++ installed_writes ys) [
   | true ↦ ap (λ (l : List Writes). c.writes ∷ l) (installed_writes-append xs ys)

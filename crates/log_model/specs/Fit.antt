@@ -1,4 +1,4 @@
--- What is asked of a setting and of its calls.
+-- What is asked of a setting and of the items of its log.
 use Rattle.std.specs.Prelude.{◌≡◌, ℕ, ◌<◌, ◌≤◌, List, length, All, Some}
 use Rattle.std.specs.Option.{IsSomeAnd}
 use Rattle.std.specs.List.{AllByRecursion}
@@ -6,7 +6,7 @@ use Rattle.schema.specs.Schema.{Tables}
 use Rattle.schema.specs.Rows.{Rows, AreRows}
 use Rattle.bpf_semantics.specs.Run.{run}
 use Rattle.bpf_semantics.specs.Path.{longest_path}
-use Rattle.log_model.specs.Log.{StoredProcedure, Setting, Call, Log, by_number}
+use Rattle.log_model.specs.Log.{StoredProcedure, Catalogue, Setting, Call, Item, CallItem, AdditionItem, Log, by_number, procedures_after}
 
 -- arguments that a procedure takes
 pub record AreArguments (p : StoredProcedure) (args : List ℕ) : Type 0 where
@@ -19,15 +19,28 @@ abbrev pub IsSafe : Tables → StoredProcedure → Type 0
 IsSafe tables p = (args : List ℕ) (rows : Rows) → AreArguments p args → AreRows tables rows
     → IsSomeAnd (run p.program tables args rows) (λ r. (r.steps ≤ longest_path p.program) × AreRows tables r.effect)
 
+-- each of these procedures is safe
+abbrev pub AreSafe : Tables → Catalogue → Type 0
+AreSafe tables procedures = (number : ℕ) (p : StoredProcedure) → by_number procedures number ≡ Some p → IsSafe tables p
+
 -- each procedure of the catalogue is safe
 abbrev pub HasSafeProcedures : Setting → Type 0
-HasSafeProcedures w = (number : ℕ) (p : StoredProcedure) → by_number w.catalogue number ≡ Some p → IsSafe w.tables p
+HasSafeProcedures w = AreSafe w.tables w.catalogue
 
--- a call of a procedure of the catalogue, with arguments that it takes
-pub record IsCall (w : Setting) (call : Call) : Type 0 where
+-- a call of one of these procedures, with arguments that it takes
+pub record IsCallOf (procedures : Catalogue) (call : Call) : Type 0 where
   pub procedure : StoredProcedure
-  pub known : by_number w.catalogue call.procedure ≡ Some procedure
+  pub known : by_number procedures call.procedure ≡ Some procedure
   pub arguments : AreArguments procedure call.args
 
-abbrev pub AreCalls : Setting → Log → Type 0
-AreCalls w log = AllByRecursion (IsCall w) log
+-- a call of one of the procedures of its snapshot
+abbrev pub IsCall : Setting → Log → Call → Type 0
+IsCall w log call = IsCallOf (procedures_after w log call.snapshot) call
+
+-- an added procedure is safe
+abbrev pub IsItem : Setting → Log → Item → Type 0
+IsItem w log (CallItem call) = IsCall w log call
+IsItem w log (AdditionItem p) = IsSafe w.tables p
+
+abbrev pub AreItems : Setting → Log → Type 0
+AreItems w log = AllByRecursion (IsItem w log) log

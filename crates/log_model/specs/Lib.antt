@@ -1,3 +1,4 @@
+pub mod Name
 pub mod Log
 pub mod Verdicts
 pub mod Comparisons

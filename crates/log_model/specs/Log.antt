@@ -1,10 +1,11 @@
--- The log: calls in one total order. What becomes of each, and the rows after each position (Pedone, Guerraoui and
--- Schiper 2003: each site certifies the calls in that order by one deterministic test; the test itself, the window and
--- the snapshots are this product's own).
-use Rattle.std.specs.Prelude.{ℕ, zero, suc, ◌+◌, ◌-◌, ◌≤◌, ◌==◌, nat_le, Bool, true, false, ◌&&◌, if◌then◌else◌, List, [], ◌∷◌, ◌++◌, length, drop, find, slice_get, slice_index_or, Option, Some, None}
+-- The log: calls and additions of procedures in one total order. What becomes of each, and the database after each position
+-- (Pedone, Guerraoui and Schiper 2003: each site certifies the calls in that order by one deterministic test; the test
+-- itself, the window, the snapshots, the additions and the requests are this product's own).
+use Rattle.std.specs.Prelude.{ℕ, zero, suc, ◌+◌, ◌-◌, ◌≤◌, ◌==◌, nat_le, Bool, true, false, not, is_some, ◌&&◌, if◌then◌else◌, List, [], ◌∷◌, ◌++◌, length, drop, find, slice_get, slice_index_or, Option, Some, None}
 use Rattle.std.specs.Option.{option_map}
 use Rattle.std.specs.List.{fold}
 use Rattle.std.specs.FinMap.{empty}
+use Rattle.std.specs.Str.{bytes_eq}
 use Rattle.bpf_code.specs.Program.{Program}
 use Rattle.schema.specs.Schema.{Tables}
 use Rattle.schema.specs.declared.look.Look.{Look}
@@ -12,8 +13,10 @@ use Rattle.schema.specs.Rows.{Rows, Writes, shares_key}
 use Rattle.bpf_semantics.specs.State.{entry_state}
 use Rattle.bpf_semantics.specs.Step.{Moment, Stuck}
 use Rattle.bpf_semantics.specs.Run.{Run, run, moment}
+use Rattle.log_model.specs.declared.request.RequestId.{RequestId}
+use Rattle.log_model.specs.declared.verdict.Identifier.TheVariants.{Name, Number}
 use Rattle.log_model.specs.declared.verdict.Verdict.{Verdict}
-use Rattle.log_model.specs.declared.verdict.Verdict.TheVariants.{Commit, Conflict, Stale}
+use Rattle.log_model.specs.declared.verdict.Verdict.TheVariants.{Commit, Conflict, Stale, Repeated, Taken}
 
 pub record StoredProcedure : Type 0 where
   pub name : List ℕ
@@ -28,7 +31,10 @@ Catalogue = List StoredProcedure
 abbrev pub by_number : Catalogue → ℕ → Option StoredProcedure
 by_number catalogue number = find (λ p. p.number == number) catalogue
 
--- what all replicas have in common
+abbrev pub by_name : Catalogue → List ℕ → Option StoredProcedure
+by_name catalogue name = find (λ p. bytes_eq p.name name) catalogue
+
+-- what all replicas have in common at first
 pub record Setting : Type 0 where
   pub tables : Tables
   pub catalogue : Catalogue
@@ -39,16 +45,33 @@ pub record Call : Type 0 where
   pub number : ℕ  -- of the call among all that were begun, not its place in the log
   pub procedure : ℕ  -- its number
   pub args : List ℕ
-  pub snapshot : ℕ  -- the position whose rows it read
+  pub snapshot : ℕ  -- the position whose rows and procedures it read
+  pub request : RequestId
 
--- what is ordered: a call. Its place in the log is its position, from 1 on
+abbrev pub no_request : RequestId
+no_request = record { session = 0; sequence = 0 }
+
+-- it is the same, and one
+abbrev pub same_request : RequestId → RequestId → Bool
+same_request a b = (a.session == b.session && a.sequence == b.sequence) && not (a.session == 0 && a.sequence == 0)
+
+-- what is ordered: a call, or a procedure that is to be added
+pub data Item : Type 0 where
+  CallItem : Call → Item
+  AdditionItem : StoredProcedure → Item
+
+-- its place in the log is its position, from 1 on
 abbrev pub Log : Type 0
-Log = List Call
+Log = List Item
 
--- each has a snapshot below its position, where so many come before the first
+-- a call has a snapshot below its position, where so many come before it
+abbrev pub IsPlaced : ℕ → Item → Type 0
+IsPlaced before (CallItem call) = call.snapshot ≤ before
+IsPlaced before (AdditionItem p) = Unit {0}
+
 abbrev pub IsLogFrom : ℕ → Log → Type 0
 IsLogFrom before [] = Unit {0}
-IsLogFrom before (call ∷ later) = (call.snapshot ≤ before) × IsLogFrom (suc before) later
+IsLogFrom before (item ∷ later) = IsPlaced before item × IsLogFrom (suc before) later
 
 abbrev pub IsLog : Log → Type 0
 IsLog log = IsLogFrom 0 log
@@ -66,14 +89,16 @@ abbrev pub run_of_procedure : Tables → Option StoredProcedure → List ℕ →
 run_of_procedure tables None args rows = None
 run_of_procedure tables (Some p) args rows = run p.program tables args rows
 
--- the run of a call on some rows. A call without a run does nothing: of an accepted procedure each has one
-unfoldable pub run_of_call : Setting → Call → Rows → Run
-run_of_call w call rows = or_idle rows (run_of_procedure w.tables (by_number w.catalogue call.procedure) call.args rows)
+-- the run of a call, of one of these procedures, on some rows. A call without a run does nothing: of an accepted procedure
+-- each has one
+unfoldable pub run_of_call : Tables → Catalogue → Call → Rows → Run
+run_of_call tables procedures call rows = or_idle rows (run_of_procedure tables (by_number procedures call.procedure) call.args rows)
 
 -- ---- verdicts
 
--- an ordered call afterwards: what it wrote, and its verdict
-pub record CertifiedCall : Type 0 where
+-- an item of the log afterwards: the request that it carried, what it wrote, and its verdict
+pub record CertifiedItem : Type 0 where
+  pub request : RequestId
   pub writes : Writes
   pub verdict : Verdict
 
@@ -82,83 +107,149 @@ is_commit Commit = true
 is_commit _ = false
 
 -- it committed, and wrote a key that was looked at
-abbrev pub conflicts : List Look → CertifiedCall → Bool
+abbrev pub conflicts : List Look → CertifiedItem → Bool
 conflicts looks c = is_commit c.verdict && shares_key looks c.writes
 
--- the least position of one that conflicts; the first has this position
-unfoldable pub first_conflict : List Look → ℕ → List CertifiedCall → Option ℕ
-first_conflict looks position [] = None
-first_conflict looks position (c ∷ later) = if conflicts looks c then Some position else first_conflict looks (position + 1) later
+-- it committed, and carried this request
+abbrev pub repeats : RequestId → CertifiedItem → Bool
+repeats request c = is_commit c.verdict && same_request request c.request
+
+-- the least position of one that passes a test; the first has this position
+unfoldable pub first_position : (CertifiedItem → Bool) → ℕ → List CertifiedItem → Option ℕ
+first_position test position [] = None
+first_position test position (c ∷ later) = if test c then Some position else first_position test (position + 1) later
+
+abbrev pub unless_repeated : Option ℕ → Verdict → Verdict
+unless_repeated None verdict = verdict
+unless_repeated (Some position) verdict = Repeated position
 
 abbrev pub unless_conflict : Option ℕ → Verdict
 unless_conflict None = Commit
 unless_conflict (Some position) = Conflict position
 
--- the verdict on the next call, by what is known of those before it: stale, where more than the window were ordered since
--- its snapshot; else in conflict with the least since then that conflicts with its looks; else it commits
-unfoldable pub verdict_after : ℕ → List CertifiedCall → Call → List Look → Verdict
-verdict_after window past call looks =
-    if nat_le (length past - call.snapshot) window
-    then unless_conflict (first_conflict looks (call.snapshot + 1) (drop call.snapshot past))
-    else Stale
+-- the position of the committed call that carries this request
+abbrev pub first_repeated : List CertifiedItem → Call → Option ℕ
+first_repeated past call = first_position (repeats call.request) 1 past
 
--- the next call, by its looks and writes
-abbrev pub certified_call_after : ℕ → List CertifiedCall → Call → List Look → Writes → CertifiedCall
-certified_call_after window past call looks writes = record { writes = writes; verdict = verdict_after window past call looks }
+-- the verdict on the next item, a call, by what is known of those before it: it is repeated, where a committed one carries
+-- its request, however long ago; else stale, where more than the window were ordered since its snapshot; else in conflict
+-- with the least since then that conflicts with its looks; else it commits
+unfoldable pub verdict_after : ℕ → List CertifiedItem → Call → List Look → Verdict
+verdict_after window past call looks =
+    unless_repeated (first_repeated past call)
+    (if nat_le (length past - call.snapshot) window
+    then unless_conflict (first_position (conflicts looks) (call.snapshot + 1) (drop call.snapshot past))
+    else Stale)
+
+-- the next item, a call, by its looks and writes
+abbrev pub certified_call_after : ℕ → List CertifiedItem → Call → List Look → Writes → CertifiedItem
+certified_call_after window past call looks writes =
+    record { request = call.request; writes = writes; verdict = verdict_after window past call looks }
+
+-- the verdict on an addition to these procedures
+abbrev pub verdict_on_addition : Catalogue → StoredProcedure → Verdict
+verdict_on_addition procedures p =
+    if is_some (by_name procedures p.name) then Taken Name
+    else if is_some (by_number procedures p.number) then Taken Number
+    else Commit
+
+-- it carries no request, and writes nothing
+abbrev pub certified_addition : Catalogue → StoredProcedure → CertifiedItem
+certified_addition procedures p = record { request = no_request; writes = empty; verdict = verdict_on_addition procedures p }
 
 -- ---- the recursion on the log
 
--- what the first so many calls came to
+-- what there is after a position
+pub record Database : Type 0 where
+  pub rows : Rows
+  pub procedures : Catalogue
+
+-- what the first so many items came to
 pub record History : Type 0 where
-  pub certified_calls : List CertifiedCall  -- of each call
-  pub rows : List Rows  -- before the first call, and after each
+  pub certified : List CertifiedItem  -- of each item
+  pub databases : List Database  -- before the first item, and after each
 
-abbrev pub start : History
-start = record { certified_calls = []; rows = empty ∷ [] }
+abbrev pub first_database : Catalogue → Database
+first_database procedures = record { rows = empty; procedures = procedures }
 
-abbrev pub rows_at : History → ℕ → Rows
-rows_at h position = slice_index_or h.rows position empty
+abbrev pub start : Setting → History
+start w = record { certified = []; databases = first_database w.catalogue ∷ [] }
 
-abbrev pub rows_now : History → Rows
-rows_now h = rows_at h (length h.certified_calls)
+-- past the end there is nothing
+abbrev pub database_at : History → ℕ → Database
+database_at h position = slice_index_or h.databases position (first_database [])
 
-abbrev pub with_certified_call : History → CertifiedCall → Rows → History
-with_certified_call h c rows = record { certified_calls = h.certified_calls ++ c ∷ []; rows = h.rows ++ rows ∷ [] }
+abbrev pub database_now : History → Database
+database_now h = database_at h (length h.certified)
 
-abbrev pub if_commits : Verdict → Rows → Rows → Rows
-if_commits Commit then_rows else_rows = then_rows
-if_commits _ then_rows else_rows = else_rows
+abbrev pub with_certified : History → CertifiedItem → Database → History
+with_certified h c database = record { certified = h.certified ++ c ∷ []; databases = h.databases ++ database ∷ [] }
 
--- one more call: it ran on the rows of its snapshot, and where it commits it runs once more, on the rows now
-unfoldable pub with_call : Setting → History → Call → History
-with_call w h call =
-    let r = run_of_call w call (rows_at h call.snapshot) in
-    let c = certified_call_after w.window h.certified_calls call r.looks r.writes in
-    with_certified_call h c (if_commits c.verdict (run_of_call w call (rows_now h)).effect (rows_now h))
+abbrev pub if_commits : {X : Type 0} → Verdict → X → X → X
+if_commits Commit then_this else_this = then_this
+if_commits _ then_this else_this = else_this
+
+-- the run of a call of the procedures of its snapshot, on some rows
+abbrev pub run_at : Setting → History → Call → Rows → Run
+run_at w h call rows = run_of_call w.tables (database_at h call.snapshot).procedures call rows
+
+-- what becomes of the next item: a call ran on the rows of its snapshot
+unfoldable pub certified_item : Setting → History → Item → CertifiedItem
+certified_item w h (CallItem call) =
+    let r = run_at w h call (database_at h call.snapshot).rows in
+    certified_call_after w.window h.certified call r.looks r.writes
+certified_item w h (AdditionItem p) = certified_addition (database_now h).procedures p
+
+-- and the database after it, with this verdict: a call that commits runs once more, on the rows now; a procedure that is
+-- added comes behind the others
+unfoldable pub database_after_item : Setting → History → Item → Verdict → Database
+database_after_item w h (CallItem call) v = record {
+  rows = if_commits v (run_at w h call (database_now h).rows).effect (database_now h).rows;
+  procedures = (database_now h).procedures;
+}
+database_after_item w h (AdditionItem p) v = record {
+  rows = (database_now h).rows;
+  procedures = if_commits v ((database_now h).procedures ++ p ∷ []) (database_now h).procedures;
+}
+
+abbrev pub with_item : Setting → History → Item → History
+with_item w h item = with_certified h (certified_item w h item) (database_after_item w h item (certified_item w h item).verdict)
 
 unfoldable pub history : Setting → Log → History
-history w log = fold (with_call w) start log
+history w log = fold (with_item w) (start w) log
 
-abbrev pub verdict_in : List CertifiedCall → ℕ → Option Verdict
-verdict_in certified_calls zero = None
-verdict_in certified_calls (suc k) = option_map (λ c. c.verdict) (slice_get certified_calls k)
+abbrev pub verdict_in : List CertifiedItem → ℕ → Option Verdict
+verdict_in certified zero = None
+verdict_in certified (suc k) = option_map (λ c. c.verdict) (slice_get certified k)
 
--- the verdict on the call at a position, from 1 on
+-- the verdict on the item at a position, from 1 on
 abbrev pub verdict_of : Setting → Log → ℕ → Option Verdict
-verdict_of w log position = verdict_in (history w log).certified_calls position
+verdict_of w log position = verdict_in (history w log).certified position
 
 -- the rows after a position; at 0, and past the end, there are none
 abbrev pub rows_after : Setting → Log → ℕ → Rows
-rows_after w log position = rows_at (history w log) position
+rows_after w log position = (database_at (history w log) position).rows
+
+-- the procedures after a position; at 0 those of the catalogue, and past the end none
+abbrev pub procedures_after : Setting → Log → ℕ → Catalogue
+procedures_after w log position = (database_at (history w log) position).procedures
+
+-- the procedure of a call: of those of its snapshot
+abbrev pub procedure_of : Setting → Log → Call → Option StoredProcedure
+procedure_of w log call = by_number (procedures_after w log call.snapshot) call.procedure
+
+-- the run of a call on some rows
+abbrev pub run_on : Setting → Log → Call → Rows → Run
+run_on w log call rows = run_of_call w.tables (procedures_after w log call.snapshot) call rows
 
 -- the run of a call on the rows of its snapshot
 abbrev pub run_in : Setting → Log → Call → Run
-run_in w log call = run_of_call w call (rows_after w log call.snapshot)
+run_in w log call = run_on w log call (rows_after w log call.snapshot)
 
-abbrev pub moment_of : Setting → Option StoredProcedure → List ℕ → Rows → ℕ → Moment
-moment_of w None args rows k = Stuck
-moment_of w (Some p) args rows k = moment p.program w.tables k (entry_state args rows)
+abbrev pub moment_of : Tables → Option StoredProcedure → List ℕ → Rows → ℕ → Moment
+moment_of tables None args rows k = Stuck
+moment_of tables (Some p) args rows k = moment p.program tables k (entry_state args rows)
 
 -- where a call is after so many instructions, on the rows of its snapshot
 unfoldable pub moment_at : Setting → Log → Call → ℕ → Moment
-moment_at w log call k = moment_of w (by_number w.catalogue call.procedure) call.args (rows_after w log call.snapshot) k
+moment_at w log call k = moment_of w.tables (procedure_of w log call) call.args (rows_after w log call.snapshot) k

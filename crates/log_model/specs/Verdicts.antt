@@ -4,14 +4,14 @@ use Rattle.std.specs.FinMap.{get}
 use Rattle.schema.specs.declared.look.Look.{Look}
 use Rattle.schema.specs.Rows.{Key, any_covers}
 use Rattle.log_model.specs.declared.verdict.Verdict.TheVariants.{Commit}
-use Rattle.log_model.specs.Log.{Setting, Call, Log, verdict_of, run_in}
+use Rattle.log_model.specs.Log.{Setting, Call, CallItem, Log, same_request, verdict_of, run_in}
 
 -- the call at this position committed, and its run wrote a key in one of the looks
 pub record WroteWhatWasRead (w : Setting) (log : Log) (looks : List Look) (position : ℕ) : Type 0 where
   pub before : ℕ
   pub place : position ≡ suc before
   pub call : Call
-  pub stands : slice_get log before ≡ Some call
+  pub stands : slice_get log before ≡ Some (CallItem call)
   pub committed : verdict_of w log position ≡ Some Commit
   pub key : Key
   pub looked_at : IsTrue (any_covers looks key)
@@ -27,3 +27,17 @@ pub record IsConflict (w : Setting) (log : Log) (call : Call) (position later : 
 pub record IsLeastConflict (w : Setting) (log : Log) (call : Call) (position later : ℕ) : Type 0 where
   pub is : IsConflict w log call position later
   pub least : (other : ℕ) → IsConflict w log call other later → position ≤ other
+
+-- the call at this position committed, and carries the request of one that stands at a later position
+pub record IsRepetition (w : Setting) (log : Log) (call : Call) (position later : ℕ) : Type 0 where
+  pub earlier : position < later
+  pub before : ℕ
+  pub place : position ≡ suc before
+  pub first : Call
+  pub stands : slice_get log before ≡ Some (CallItem first)
+  pub committed : verdict_of w log position ≡ Some Commit
+  pub same : IsTrue (same_request call.request first.request)
+
+-- no call before this position did
+abbrev pub IsNew : Setting → Log → Call → ℕ → Type 0
+IsNew w log call later = (position : ℕ) → IsRepetition w log call position later → ⊥

@@ -1,44 +1,88 @@
 //! Laws of the log: its verdicts, and the rows after each position.
 
-ghost use Rattle.std.specs.Prelude.{◌≡◌, ◌↔◌, ◌+◌, ◌-◌, ◌<◌, ◌≤◌, ℕ, suc, List, ◌++◌, length, slice_get, Some, None, IsSome};
-ghost use Rattle.std.specs.Prelude.{◌==◌, IsTrue, [], ◌∷◌};
+ghost use Rattle.std.specs.Prelude.{◌≡◌, ◌↔◌, ◌+◌, ◌-◌, ◌<◌, ◌≤◌, ℕ, suc, List, ◌++◌, length, slice_get, Some, None, IsSome, ◌==◌, IsTrue, [], ◌∷◌};
 ghost use Rattle.std.specs.List.{list_any};
 ghost use Rattle.schema.specs.declared.look.Look.{Look};
 ghost use Rattle.schema.specs.Rows.{AreRows};
 ghost use Rattle.row_model.specs.InstalledWrites.{map_after};
-ghost use Rattle.log_model.specs.declared.verdict.Verdict.TheVariants.{Commit, Conflict, Stale};
+ghost use Rattle.log_model.specs.declared.verdict.Verdict.TheVariants.{Commit, Conflict, Stale, Repeated, Taken};
+ghost use Rattle.log_model.specs.declared.verdict.Identifier.TheVariants.{Name, Number};
+ghost use Rattle.log_model.specs.declared.verdict.Verdict.{Verdict};
 ghost use Rattle.log_model.specs.Comparisons.{comparisons_after, AreRising, IsCompared};
-ghost use Rattle.log_model.specs.Log.{CertifiedCall, Setting, Call, Log, IsLog};
-ghost use Rattle.log_model.specs.Log.{history, rows_after, verdict_of};
-ghost use Rattle.log_model.specs.Fit.{HasSafeProcedures, AreCalls};
-ghost use Rattle.log_model.specs.Verdicts.{IsConflict, IsLeastConflict};
-ghost use Rattle.log_model.specs.Entries.{Entry, calls_of, CarriesRun, CarryRuns, certified_calls_of, installed_from};
+ghost use Rattle.log_model.specs.Log.{StoredProcedure, CertifiedItem, Setting, Call, CallItem, AdditionItem, Log, IsPlaced, IsLog, same_request};
+ghost use Rattle.log_model.specs.Log.{by_number, by_name, if_commits, history, rows_after, procedures_after, verdict_of, run_on, run_in};
+ghost use Rattle.log_model.specs.Fit.{AreSafe, HasSafeProcedures, AreItems};
+ghost use Rattle.log_model.specs.Verdicts.{IsConflict, IsLeastConflict, IsRepetition, IsNew};
+ghost use Rattle.log_model.specs.Entries.{Entry, item_of, items_of, IsCarried, CarryRuns, certified_entries_of, installed_from};
 ghost use Rattle.log_model.specs.Log.{moment_at};
 
-/// A verdict in words of the log: stale where more calls than the window came since the snapshot; else in
+/// The procedures after each position: the catalogue's at first; a call leaves them; an addition that commits
+/// comes behind them.
+pub fn procedures_after_each_item()
+    ensures first { (w : Setting) (log : Log) → procedures_after w log 0 ≡ w.catalogue }
+    ensures call { (w : Setting) (log : Log) (d : ℕ) (call : Call)
+        → IsLog log → slice_get log d ≡ Some (CallItem call)
+        → procedures_after w log (suc d) ≡ procedures_after w log d }
+    ensures addition { (w : Setting) (log : Log) (d : ℕ) (p : StoredProcedure) (v : Verdict)
+        → IsLog log → slice_get log d ≡ Some (AdditionItem p) → verdict_of w log (suc d) ≡ Some v
+        → procedures_after w log (suc d)
+        ≡ if_commits v (procedures_after w log d ++ p ∷ []) (procedures_after w log d) }
+{}
+
+/// A verdict on a call in words of the log: repeated where an earlier committed call carries the same request, however
+/// long ago; else stale where more calls than the window came since the snapshot; else in
 /// conflict with the least since then that committed and wrote a key that the call looked at; and where there
 /// is none, the call commits.
 pub fn verdicts_in_words_of_the_log()
+    ensures repeated { (w : Setting) (log : Log) (d : ℕ) (call : Call) (position : ℕ)
+        → IsLog log → slice_get log d ≡ Some (CallItem call)
+        → (verdict_of w log (suc d) ≡ Some (Repeated position)) ↔ IsRepetition w log call position (suc d) }
     ensures stale { (w : Setting) (log : Log) (d : ℕ) (call : Call)
-        → IsLog log → slice_get log d ≡ Some call
-        → (verdict_of w log (suc d) ≡ Some Stale) ↔ (w.window < d - call.snapshot) }
+        → IsLog log → slice_get log d ≡ Some (CallItem call)
+        → (verdict_of w log (suc d) ≡ Some Stale) ↔ (IsNew w log call (suc d) × (w.window < d - call.snapshot)) }
     ensures conflict { (w : Setting) (log : Log) (d : ℕ) (call : Call) (position : ℕ)
-        → IsLog log → slice_get log d ≡ Some call
+        → IsLog log → slice_get log d ≡ Some (CallItem call)
         → (verdict_of w log (suc d) ≡ Some (Conflict position))
-        ↔ ((d - call.snapshot ≤ w.window) × IsLeastConflict w log call position (suc d)) }
+        ↔ (IsNew w log call (suc d) × (d - call.snapshot ≤ w.window) × IsLeastConflict w log call position (suc d)) }
     ensures commit { (w : Setting) (log : Log) (d : ℕ) (call : Call)
-        → IsLog log → slice_get log d ≡ Some call
+        → IsLog log → slice_get log d ≡ Some (CallItem call)
         → (verdict_of w log (suc d) ≡ Some Commit)
-        ↔ ((d - call.snapshot ≤ w.window)
+        ↔ (IsNew w log call (suc d) × (d - call.snapshot ≤ w.window)
         × ((position : ℕ) → IsConflict w log call position (suc d) → ⊥)) }
 {}
 
+/// No two committed calls carry one request.
+pub fn each_request_commits_once()
+    ensures { (w : Setting) (log : Log) (d e : ℕ) (a b : Call)
+        → IsLog log → slice_get log d ≡ Some (CallItem a) → slice_get log e ≡ Some (CallItem b)
+        → verdict_of w log (suc d) ≡ Some Commit → verdict_of w log (suc e) ≡ Some Commit
+        → IsTrue (same_request a.request b.request) → d ≡ e }
+{}
+
+/// A verdict on an addition: its name is taken where one of the procedures before it has it; else its number, where one
+/// has that; and else it commits.
+pub fn verdicts_on_additions_in_words_of_the_log()
+    ensures name { (w : Setting) (log : Log) (d : ℕ) (p : StoredProcedure)
+        → IsLog log → slice_get log d ≡ Some (AdditionItem p)
+        → (verdict_of w log (suc d) ≡ Some (Taken Name)) ↔ IsSome (by_name (procedures_after w log d) p.name) }
+    ensures number { (w : Setting) (log : Log) (d : ℕ) (p : StoredProcedure)
+        → IsLog log → slice_get log d ≡ Some (AdditionItem p)
+        → (verdict_of w log (suc d) ≡ Some (Taken Number))
+        ↔ ((by_name (procedures_after w log d) p.name ≡ None)
+        × IsSome (by_number (procedures_after w log d) p.number)) }
+    ensures commit { (w : Setting) (log : Log) (d : ℕ) (p : StoredProcedure)
+        → IsLog log → slice_get log d ≡ Some (AdditionItem p)
+        → (verdict_of w log (suc d) ≡ Some Commit)
+        ↔ ((by_name (procedures_after w log d) p.name ≡ None)
+        × (by_number (procedures_after w log d) p.number ≡ None)) }
+{}
+
 /// An exact comparison is made exactly with those that committed since the snapshot and share a bit with the
-/// looks, up to the first that conflicts, once with each, in rising order; where the call is stale, with none.
+/// looks, up to the first that conflicts, once with each, in rising order; where the call is repeated or stale, with none.
 pub fn comparisons_in_words_of_the_log()
-    ensures rising { (window : ℕ) (past : List CertifiedCall) (call : Call) (looks : List Look)
+    ensures rising { (window : ℕ) (past : List CertifiedItem) (call : Call) (looks : List Look)
         → AreRising (comparisons_after window past call looks) }
-    ensures compared { (window : ℕ) (past : List CertifiedCall) (call : Call) (looks : List Look) (position : ℕ)
+    ensures compared { (window : ℕ) (past : List CertifiedItem) (call : Call) (looks : List Look) (position : ℕ)
         → IsTrue (list_any (λ x. x == position) (comparisons_after window past call looks))
         ↔ IsCompared window past call looks position }
 {}
@@ -52,14 +96,16 @@ pub fn each_call_has_a_verdict()
 /// The rows after each position are the write sets of the calls that commit, laid on in order.
 pub fn rows_are_installed_writes()
     ensures { (w : Setting) (log : Log) (position : ℕ)
-        → HasSafeProcedures w → IsLog log → AreCalls w log → position ≤ length log
-        → map_after (installed_from 1 (history w log).certified_calls) position ≡ rows_after w log position }
+        → HasSafeProcedures w → IsLog log → AreItems w log → position ≤ length log
+        → map_after (installed_from 1 (history w log).certified) position ≡ rows_after w log position }
 {}
 
-/// A log that grows keeps the rows after each of its positions, its verdicts, and the runs on its rows.
+/// A log that grows keeps the rows and procedures after each of its positions, its verdicts, and the runs on its rows.
 pub fn a_log_only_grows()
     ensures rows { (w : Setting) (log more : Log) (position : ℕ) → position ≤ length log
         → rows_after w (log ++ more) position ≡ rows_after w log position }
+    ensures procedures { (w : Setting) (log more : Log) (position : ℕ) → position ≤ length log
+        → procedures_after w (log ++ more) position ≡ procedures_after w log position }
     ensures verdicts { (w : Setting) (log more : Log) (d : ℕ) → d < length log
         → verdict_of w (log ++ more) (suc d) ≡ verdict_of w log (suc d) }
     ensures runs { (w : Setting) (log more : Log) (call : Call) (k : ℕ) → call.snapshot ≤ length log
@@ -69,26 +115,45 @@ pub fn a_log_only_grows()
 /// The rows after each position are the schema's.
 pub fn rows_fit_the_schema()
     ensures { (w : Setting) (log : Log) (position : ℕ)
-        → HasSafeProcedures w → IsLog log → AreCalls w log → position ≤ length log
+        → HasSafeProcedures w → IsLog log → AreItems w log → position ≤ length log
         → AreRows w.tables (rows_after w log position) }
 {}
 
-/// Where each entry carries its run's looks and writes, the verdicts by these alone are the log's, and the rows
-/// after each position are the write sets of those that commit, laid on in order.
-pub fn entries_suffice()
-    ensures verdicts { (w : Setting) (entries : List Entry)
-        → IsLog (calls_of entries) → CarryRuns w entries
-        → certified_calls_of w.window entries ≡ (history w (calls_of entries)).certified_calls }
-    ensures rows { (w : Setting) (entries : List Entry) (position : ℕ)
-        → HasSafeProcedures w → IsLog (calls_of entries) → AreCalls w (calls_of entries) → CarryRuns w entries
-        → position ≤ length entries
-        → map_after (installed_from 1 (certified_calls_of w.window entries)) position
-        ≡ rows_after w (calls_of entries) position }
+/// The procedures after each position are safe.
+pub fn procedures_stay_safe()
+    ensures { (w : Setting) (log : Log) (position : ℕ)
+        → HasSafeProcedures w → IsLog log → AreItems w log → position ≤ length log
+        → AreSafe w.tables (procedures_after w log position) }
 {}
 
-/// Entries that carry their runs do so too after one more that does.
+/// Where each entry that is a call carries its run's looks and writes, the verdicts and procedures by these alone are the
+/// log's, and the rows after each position are the write sets of those that commit, laid on in order.
+pub fn entries_suffice()
+    ensures verdicts { (w : Setting) (entries : List Entry)
+        → IsLog (items_of entries) → CarryRuns w entries
+        → (certified_entries_of w.window w.catalogue entries).certified ≡ (history w (items_of entries)).certified }
+    ensures procedures { (w : Setting) (entries : List Entry)
+        → IsLog (items_of entries) → CarryRuns w entries
+        → (certified_entries_of w.window w.catalogue entries).procedures
+        ≡ procedures_after w (items_of entries) (length entries) }
+    ensures rows { (w : Setting) (entries : List Entry) (position : ℕ)
+        → HasSafeProcedures w → IsLog (items_of entries) → AreItems w (items_of entries) → CarryRuns w entries
+        → position ≤ length entries
+        → map_after (installed_from 1 (certified_entries_of w.window w.catalogue entries).certified) position
+        ≡ rows_after w (items_of entries) position }
+{}
+
+/// A procedure that is found at a position is found at each later one.
+pub fn procedures_are_never_lost()
+    ensures { (w : Setting) (log : Log) (earlier later number : ℕ) (p : StoredProcedure)
+        → IsLog log → earlier ≤ later → later ≤ length log
+        → by_number (procedures_after w log earlier) number ≡ Some p
+        → by_number (procedures_after w log later) number ≡ Some p }
+{}
+
+/// Entries that carry their runs do so too after one more that does, or that is an addition.
 pub fn one_more_entry_carries_its_run()
     ensures { (w : Setting) (entries : List Entry) (e : Entry)
-        → IsLog (calls_of entries) → CarryRuns w entries → e.call.snapshot ≤ length entries
-        → CarriesRun w (calls_of entries) e → CarryRuns w (entries ++ e ∷ []) }
+        → IsLog (items_of entries) → CarryRuns w entries → IsPlaced (length entries) (item_of e)
+        → IsCarried w (items_of entries) e → CarryRuns w (entries ++ e ∷ []) }
 {}

@@ -4,3 +4,4 @@ mod PartLemmas
 mod TurnLemmas
 mod RefusalLemmas
 mod AgreeLemmas
+mod ToldLemmas

@@ -1,15 +1,16 @@
 -- What refused steps leave, and that the log is never full.
-use Rattle.std.proofs.Common.{◌≡◌, ◌⊎◌, inl, inr, ℕ, ◌≤◌, false, List, length, Some, None, refl, sym, ap, ◌∙◌, arith}
+use Rattle.std.proofs.Common.{◌≡◌, ◌⊎◌, inl, inr, ℕ, ◌≤◌, false, List, length, Option, Some, None, refl, sym, ap, ◌∙◌, arith}
 use Rattle.dsm_model.specs.declared.outcome.StepRefusal.{StepRefusal}
 use Rattle.dsm_model.specs.declared.outcome.StepRefusal.TheVariants.{NotAtExit, LogFull, OutOfMemory}
+use Rattle.log_model.specs.declared.request.RequestId.{RequestId}
 use Rattle.dsm_model.specs.declared.outcome.Outcome.{Outcome}
 use Rattle.dsm_model.specs.declared.outcome.Outcome.TheVariants.{Stale, NoMemory, Refused}
 use Rattle.log_model.specs.Log.{Setting}
-use Rattle.dsm_model.specs.World.{World, Replica, OpenCall, Step, Begin, Turn, Order, Deliver, Rebuild, max_calls, numbered, open_call, with_open_call, without_call, with_replica, with_stopped, after_refused, IsStep}
+use Rattle.dsm_model.specs.World.{World, Replica, OpenCall, Step, Begin, Turn, Order, Deliver, Rebuild, Checked, Add, max_calls, numbered, open_call, with_open_call, without_call, with_replica, with_stopped, after_refused, IsStep}
 use Rattle.dsm_model.specs.Sound.{IsWorld}
 use Rattle.log_model.proofs.RunLemmas.{just}
 use Rattle.dsm_model.proofs.Numbered.{numbered_gone, numbered_count}
-use Rattle.dsm_model.proofs.Cases.{Case, Same, New, Over, Turned, Appended, Verdicted, Stop, Anew, step_case}
+use Rattle.dsm_model.proofs.Cases.{Case, Same, New, Over, Turned, Appended, Verdicted, Stop, Anew, Put, step_case}
 
 one_refusal : (a b : StepRefusal) → Refused a ≡ Refused b → a ≡ b
 one_refusal a b e = cc
@@ -29,6 +30,7 @@ case_same w before step refusal outcome after is apart full (Appended c) = absur
 case_same w before step refusal outcome after is apart full (Verdicted c) = absurd (let e = sym c.answer ∙ is in cc)
 case_same w before step refusal outcome after is apart full (Stop c) = absurd (apart (one_refusal refusal OutOfMemory (sym is ∙ c.answer)))
 case_same w before step refusal outcome after is apart full (Anew c) = absurd (let e = sym c.answer ∙ is in cc)
+case_same w before step refusal outcome after is apart full (Put c) = absurd (let e = sym c.answer ∙ is in cc)
 
 pub refused_same : (w : Setting) (before : World) (step : Step) (refusal : StepRefusal) (after : World) → IsStep w before step (Refused refusal) after → (refusal ≡ OutOfMemory → ⊥) → (refusal ≡ LogFull → ⊥) → after ≡ before
 refused_same w before step refusal after e apart full = case_same w before step refusal (Refused refusal) after refl apart full (step_case w before step (Refused refusal) after e)
@@ -48,6 +50,7 @@ case_memory w before step outcome after is (Appended c) = absurd (let e = sym c.
 case_memory w before step outcome after is (Verdicted c) = absurd (let e = sym c.answer ∙ is in cc)
 case_memory w before step outcome after is (Stop c) = c.leaves ∙ sym (stopped_is before c.r c.replica c.stands) ∙ ap (after_refused before) (sym c.is)
 case_memory w before step outcome after is (Anew c) = absurd (let e = sym c.answer ∙ is in cc)
+case_memory w before step outcome after is (Put c) = absurd (let e = sym c.answer ∙ is in cc)
 
 pub refused_memory_leaves : (w : Setting) (before : World) (step : Step) (after : World) → IsStep w before step (Refused OutOfMemory) after → after ≡ after_refused before step
 refused_memory_leaves w before step after e = case_memory w before step (Refused OutOfMemory) after refl (step_case w before step (Refused OutOfMemory) after e)
@@ -55,8 +58,8 @@ refused_memory_leaves w before step after e = case_memory w before step (Refused
 pub order_memory : (w : Setting) (before : World) (c : ℕ) (after : World) → IsStep w before (Order c) (Refused OutOfMemory) after → after ≡ with_open_call before c None
 order_memory w before c after e = refused_memory_leaves w before (Order c) after e
 
-pub begin_memory : (w : Setting) (before : World) (r procedure : ℕ) (args : List ℕ) (after : World) → IsStep w before (Begin r procedure args) (Refused OutOfMemory) after → after ≡ before
-begin_memory w before r procedure args after e = refused_memory_leaves w before (Begin r procedure args) after e
+pub begin_memory : (w : Setting) (before : World) (r procedure : ℕ) (args : List ℕ) (request : Option RequestId) (after : World) → IsStep w before (Begin r procedure args request) (Refused OutOfMemory) after → after ≡ before
+begin_memory w before r procedure args request after e = refused_memory_leaves w before (Begin r procedure args request) after e
 
 pub rebuild_memory : (w : Setting) (before : World) (r : ℕ) (after : World) → IsStep w before (Rebuild r) (Refused OutOfMemory) after → after ≡ before
 rebuild_memory w before r after e = refused_memory_leaves w before (Rebuild r) after e
@@ -76,6 +79,7 @@ case_stopped w before step r outcome after is answer (Stop c) =
     let same = one_deliver c.r r (sym c.is ∙ is) in
     (c.replica, ap (numbered before.replicas) (sym same) ∙ c.stands, c.leaves ∙ ap (λ (n : ℕ). with_replica before n (record c.replica { running = false })) same)
 case_stopped w before step r outcome after is answer (Anew c) = absurd (let e = sym c.is ∙ is in cc)
+case_stopped w before step r outcome after is answer (Put c) = absurd (let e = sym c.is ∙ is in cc)
 
 pub deliver_memory : (w : Setting) (before : World) (r : ℕ) (after : World) → IsStep w before (Deliver r) (Refused OutOfMemory) after
     → (replica : Replica) × (numbered before.replicas r ≡ Some replica) × (after ≡ with_replica before r (record { position = replica.position; running = false }))
@@ -102,6 +106,7 @@ case_over w before step c outcome after is (Appended x) =
 case_over w before step c outcome after is (Verdicted x) = absurd (let e = sym x.is ∙ is in cc)
 case_over w before step c outcome after is (Stop x) = absurd (let e = sym x.is ∙ is in cc)
 case_over w before step c outcome after is (Anew x) = absurd (let e = sym x.is ∙ is in cc)
+case_over w before step c outcome after is (Put x) = absurd (let e = sym x.is ∙ is in cc)
 
 pub order_ends : (w : Setting) (before : World) (c : ℕ) (outcome : Outcome) (after : World) → IsStep w before (Order c) outcome after → (outcome ≡ Refused NotAtExit) ⊎ (open_call after c ≡ None)
 order_ends w before c outcome after e = case_over w before (Order c) c outcome after refl (step_case w before (Order c) outcome after e)
@@ -125,6 +130,7 @@ case_turn_over w before step c outcome after is answer (Appended x) = absurd (le
 case_turn_over w before step c outcome after is answer (Verdicted x) = absurd (let e = sym x.is ∙ is in cc)
 case_turn_over w before step c outcome after is answer (Stop x) = absurd (let e = sym x.is ∙ is in cc)
 case_turn_over w before step c outcome after is answer (Anew x) = absurd (let e = sym x.is ∙ is in cc)
+case_turn_over w before step c outcome after is answer (Put x) = absurd (let e = sym x.is ∙ is in cc)
 
 pub stale_ends : (w : Setting) (before : World) (c : ℕ) (after : World) → IsStep w before (Turn c) Stale after → open_call after c ≡ None
 stale_ends w before c after e = case_turn_over w before (Turn c) c Stale after refl (inl refl) (step_case w before (Turn c) Stale after e)
@@ -156,6 +162,10 @@ case_full w before step outcome after world is (Appended c) = let e = sym c.answ
 case_full w before step outcome after world is (Verdicted c) = let e = sym c.answer ∙ is in cc
 case_full w before step outcome after world is (Stop c) = let e = sym c.answer ∙ is in cc
 case_full w before step outcome after world is (Anew c) = let e = sym c.answer ∙ is in cc
+case_full w before step outcome after world is (Put c) = let e = sym c.answer ∙ is in cc
 
 pub never_full : (w : Setting) (before : World) (step : Step) (after : World) → IsWorld w before → IsStep w before step (Refused LogFull) after → ⊥
 never_full w before step after is e = case_full w before step (Refused LogFull) after is refl (step_case w before step (Refused LogFull) after e)
+
+pub add_memory : (w : Setting) (before : World) (name : List ℕ) (number args_len : ℕ) (checked : Checked) (after : World) → IsStep w before (Add name number args_len checked) (Refused OutOfMemory) after → after ≡ before
+add_memory w before name number args_len checked after e = refused_memory_leaves w before (Add name number args_len checked) after e

@@ -4,19 +4,20 @@ use Rattle.std.specs.List.{AllByRecursion}
 use Rattle.bpf_semantics.specs.Run.{Run}
 use Rattle.bpf_semantics.specs.Path.{longest_path}
 use Rattle.dsm_model.specs.declared.outcome.StepRefusal.{StepRefusal}
-use Rattle.dsm_model.specs.declared.outcome.StepRefusal.TheVariants.{NoReplica, NoProcedure, ArgumentsLength, NoCall, NotAtExit, NothingToDeliver, ReplicaStopped, LogFull, OutOfMemory, TooManyCalls}
+use Rattle.dsm_model.specs.declared.outcome.StepRefusal.TheVariants.{NoReplica, NoProcedure, ArgumentsLength, NoCall, NotAtExit, NothingToDeliver, ReplicaStopped, LogFull, OutOfMemory, TooManyCalls, ArgumentsLimit, ProgramRefused, NameShape, ZeroInRequest}
 use Rattle.dsm_model.specs.declared.outcome.Outcome.{Outcome}
-use Rattle.dsm_model.specs.declared.outcome.Outcome.TheVariants.{Begun, More, Exit, Stale, NoMemory, Ordered, Read, Cancelled, Delivered, Rebuilt, Refused}
-use Rattle.log_model.specs.Log.{StoredProcedure, Setting, Call, Log, by_number, run_in}
+use Rattle.dsm_model.specs.declared.outcome.Outcome.TheVariants.{Begun, More, Exit, Stale, NoMemory, Ordered, Read, Cancelled, Delivered, Rebuilt, Added, Refused}
+use Rattle.log_model.specs.Log.{StoredProcedure, Setting, Call, Log, procedure_of, run_in}
 use Rattle.log_model.specs.Fit.{HasSafeProcedures}
-use Rattle.dsm_model.specs.World.{World, OpenCall, Step, Begin, Turn, Order, Deliver, Rebuild, numbered, with_numbered, flatten, open_call, without_call, with_turns, IsStep, AreSteps, is_answer}
-use Rattle.dsm_model.specs.Sound.{HasByteArguments, IsWorld}
+use Rattle.dsm_model.specs.World.{World, OpenCall, Step, Begin, Turn, Order, Deliver, Rebuild, numbered, with_numbered, flatten, open_call, without_call, with_turns, IsStep, AreSteps, is_answer, Add}
+use Rattle.dsm_model.specs.Sound.{IsWorld, IsGiven, AreGiven}
 use Rattle.model_laws.specs.Worlds.{turns_of}
 use Rattle.log_model.proofs.GrowthLemmas.{run_grown}
 use Rattle.log_model.proofs.RunLemmas.{just}
 use Rattle.dsm_model.proofs.Numbered.{some_is, numbered_there, numbered_gone, numbered_first, flat_is}
-use Rattle.dsm_model.proofs.Cases.{Case, Same, New, Over, Turned, Appended, Verdicted, Stop, Anew, step_case}
+use Rattle.dsm_model.proofs.Cases.{Case, Same, New, Over, Turned, Appended, Verdicted, Stop, Anew, step_case, Put}
 use Rattle.dsm_model.proofs.WorldLemmas.{begun_within, step_keeps, steps_keep}
+use Rattle.log_model.proofs.GrowthLemmas.{run_grown}
 use Rattle.dsm_model.proofs.SoundLemmas.{open_run}
 use Rattle.model_laws.proofs.PartLemmas.{here}
 use Rattle.dsm_model.proofs.LeadLemmas.{step_leads, log_grows, over_stays}
@@ -55,6 +56,7 @@ case_else w before step outcome after c o q apart e f (Appended x) =
 case_else w before step outcome after c o q apart e f (Verdicted x) = some_is q o (sym f ∙ ap (λ (v : World). open_call v c) x.leaves ∙ e)
 case_else w before step outcome after c o q apart e f (Stop x) = some_is q o (sym f ∙ ap (λ (v : World). open_call v c) x.leaves ∙ e)
 case_else w before step outcome after c o q apart e f (Anew x) = some_is q o (sym f ∙ ap (λ (v : World). open_call v c) x.leaves ∙ e)
+case_else w before step outcome after c o q apart e f (Put x) = some_is q o (sym f ∙ ap (λ (v : World). open_call v c) x.leaves ∙ e)
 
 step_else : (w : Setting) (before : World) (step : Step) (outcome : Outcome) (after : World) (c : ℕ) (o q : OpenCall) → (step ≡ Turn c → ⊥) → open_call before c ≡ just o → open_call after c ≡ just q → IsStep w before step outcome after → WentOn w after.log o q 0
 step_else w before step outcome after c o q apart e f h = stayed w after.log o q (case_else w before step outcome after c o q apart e f (step_case w before step outcome after h))
@@ -82,6 +84,10 @@ refusal_of_turn c ReplicaStopped e = absurd cc
 refusal_of_turn c LogFull e = absurd cc
 refusal_of_turn c OutOfMemory e = absurd cc
 refusal_of_turn c TooManyCalls e = absurd cc
+refusal_of_turn c ArgumentsLimit e = absurd cc
+refusal_of_turn c (ProgramRefused fault) e = absurd cc
+refusal_of_turn c NameShape e = absurd cc
+refusal_of_turn c ZeroInRequest e = absurd cc
 
 turn_further : (w : Setting) (before : World) (outcome : Outcome) (after : World) (c : ℕ) (o q : OpenCall) → open_call before c ≡ just o → open_call after c ≡ just q → IsStep w before (Turn c) outcome after → is_answer (Turn c) outcome ≡ true → WentOn w after.log o q 1
 turn_further w before More after c o q e f h is =
@@ -110,6 +116,7 @@ turn_further w before (Read s n) after c o q e f h is = absurd cc
 turn_further w before (Cancelled s n) after c o q e f h is = absurd cc
 turn_further w before (Delivered d v) after c o q e f h is = absurd cc
 turn_further w before (Rebuilt d) after c o q e f h is = absurd cc
+turn_further w before (Added d) after c o q e f h is = absurd cc
 
 -- ---- a step
 
@@ -138,19 +145,21 @@ step_on w before (Turn d) outcome after c o q e f h = elim (same_or_not c d) [
       let count : 0 ≡ one_if (nat_eq d c) + 0 = (let none = count_one c d apart in omega arith) in
       subst (WentOn w after.log o q) count (step_else w before (Turn d) outcome after c o q (λ t. apart (one_turn d c t)) e f h)
 ]
-step_on w before (Begin r p args) outcome after c o q e f h = step_else w before (Begin r p args) outcome after c o q (λ t. cc) e f h
+step_on w before (Begin r p args request) outcome after c o q e f h = step_else w before (Begin r p args request) outcome after c o q (λ t. cc) e f h
 step_on w before (Order d) outcome after c o q e f h = step_else w before (Order d) outcome after c o q (λ t. cc) e f h
 step_on w before (Deliver r) outcome after c o q e f h = step_else w before (Deliver r) outcome after c o q (λ t. cc) e f h
 step_on w before (Rebuild r) outcome after c o q e f h = step_else w before (Rebuild r) outcome after c o q (λ t. cc) e f h
+step_on w before (Add name number args_len checked) outcome after c o q e f h = step_else w before (Add name number args_len checked) outcome after c o q (λ t. cc) e f h
 
 -- ---- steps
 
 count_first : (c : ℕ) (step : Step) (steps : List Step) → turns_of c (step ∷ steps) ≡ turns_of c (step ∷ []) + turns_of c steps
 count_first c (Turn d) steps = omega arith
-count_first c (Begin r p args) steps = omega arith
+count_first c (Begin r p args request) steps = omega arith
 count_first c (Order d) steps = omega arith
 count_first c (Deliver r) steps = omega arith
 count_first c (Rebuild r) steps = omega arith
+count_first c (Add name number args_len checked) steps = omega arith
 
 gone_steps : (w : Setting) (before : World) (steps : List Step) (outcomes : List Outcome) (after : World) (c : ℕ) → AreSteps w before steps outcomes after → numbered before.calls c ≡ Some None → numbered after.calls c ≡ Some None
 unfolding AreSteps
@@ -175,7 +184,7 @@ further w between after o p q m n world within grown first rest = record {
   ];
 }
 
-steps_on : (w : Setting) (before : World) (steps : List Step) (outcomes : List Outcome) (after : World) (c : ℕ) (o q : OpenCall) → AllByRecursion HasByteArguments steps → IsWorld w before → AreSteps w before steps outcomes after
+steps_on : (w : Setting) (before : World) (steps : List Step) (outcomes : List Outcome) (after : World) (c : ℕ) (o q : OpenCall) → AreGiven w steps outcomes → IsWorld w before → AreSteps w before steps outcomes after
     → open_call before c ≡ just o → open_call after c ≡ just q → WentOn w after.log o q (turns_of c steps)
 unfolding AreSteps
 steps_on w before [] [] after c o q bytes is h e f = stayed w after.log o q (some_is q o (sym f ∙ ap (λ (v : World). open_call v c) (sym h) ∙ e))
@@ -205,8 +214,8 @@ there_is : (o : Option OpenCall) → IsSome o → (x : OpenCall) × (o ≡ just 
 there_is None h = absurd cc
 there_is (Some x) h = (x, refl)
 
-pub reaches_exit : (w : Setting) (before : World) (steps : List Step) (outcomes : List Outcome) (after : World) (c : ℕ) (o : OpenCall) (p : StoredProcedure) → HasSafeProcedures w → AllByRecursion HasByteArguments steps → IsWorld w before → AreSteps w before steps outcomes after
-    → IsSome (open_call before c) → open_call after c ≡ Some o → by_number w.catalogue o.call.procedure ≡ Some p → longest_path p.program ≤ turns_of c steps → o.turns ≡ (run_in w after.log o.call).steps
+pub reaches_exit : (w : Setting) (before : World) (steps : List Step) (outcomes : List Outcome) (after : World) (c : ℕ) (o : OpenCall) (p : StoredProcedure) → HasSafeProcedures w → AreGiven w steps outcomes → IsWorld w before → AreSteps w before steps outcomes after
+    → IsSome (open_call before c) → open_call after c ≡ Some o → procedure_of w after.log o.call ≡ Some p → longest_path p.program ≤ turns_of c steps → o.turns ≡ (run_in w after.log o.call).steps
 reaches_exit w before steps outcomes after c o p safe bytes is h there f known enough =
     let first = there_is (open_call before c) there in
     let on = steps_on w before steps outcomes after c first.0 o bytes is h first.1 f in

@@ -10,8 +10,8 @@ turns_of c (Turn d ∷ steps) = (if d == c then 1 else 0) + turns_of c steps
 turns_of c (_ ∷ steps) = turns_of c steps
 
 -- what a replica has delivered
-abbrev pub delivered_calls : Log → Replica → Log
-delivered_calls log replica = take replica.position log
+abbrev pub delivered_items : Log → Replica → Log
+delivered_items log replica = take replica.position log
 
 -- the second list begins with the first
 abbrev pub IsPrefix : Log → Log → Type 0

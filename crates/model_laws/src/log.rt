@@ -1,34 +1,53 @@
 //! Laws of the log: what a call that commits does, and what its rows are.
 
-ghost use Rattle.std.specs.Prelude.{◌≡◌, ℕ, suc, slice_get, Some};
+ghost use Rattle.std.specs.Prelude.{◌≡◌, ◌≢◌, ℕ, suc, slice_get, Some, None};
 ghost use Rattle.std.specs.FinMap.{empty};
 ghost use Rattle.schema.specs.Rows.{after_writes};
 ghost use Rattle.bpf_semantics.specs.Agree.{same_on};
 ghost use Rattle.log_model.specs.declared.verdict.Verdict.{Verdict};
-ghost use Rattle.log_model.specs.declared.verdict.Verdict.TheVariants.{Commit};
-ghost use Rattle.log_model.specs.Log.{Setting, Call, Log, IsLog};
-ghost use Rattle.log_model.specs.Log.{run_of_call, if_commits, rows_after, verdict_of, run_in};
-ghost use Rattle.log_model.specs.Fit.{HasSafeProcedures, AreCalls};
+ghost use Rattle.log_model.specs.declared.verdict.Verdict.TheVariants.{Commit, Repeated};
+ghost use Rattle.log_model.specs.Log.{StoredProcedure, Setting, Call, CallItem, AdditionItem, Log, IsLog};
+ghost use Rattle.log_model.specs.Log.{if_commits, rows_after, verdict_of, run_on, run_in};
+ghost use Rattle.dsm_model.specs.Sound.{IsSerialReply, told_reply};
+ghost use Rattle.log_model.specs.Fit.{HasSafeProcedures, AreItems};
 
 /// The rows after each position: none at first; then the effect of the call's run on the rows before it, where
-/// it commits, and else those rows.
+/// it commits, and else those rows; an addition leaves them.
 pub fn rows_after_each_call()
     ensures first { (w : Setting) (log : Log) → rows_after w log 0 ≡ empty }
     ensures next { (w : Setting) (log : Log) (d : ℕ) (call : Call) (v : Verdict)
-        → IsLog log → slice_get log d ≡ Some call → verdict_of w log (suc d) ≡ Some v
+        → IsLog log → slice_get log d ≡ Some (CallItem call) → verdict_of w log (suc d) ≡ Some v
         → rows_after w log (suc d)
-        ≡ if_commits v (run_of_call w call (rows_after w log d)).effect (rows_after w log d) }
+        ≡ if_commits v (run_on w log call (rows_after w log d)).effect (rows_after w log d) }
+    ensures addition { (w : Setting) (log : Log) (d : ℕ) (p : StoredProcedure)
+        → IsLog log → slice_get log d ≡ Some (AdditionItem p) → rows_after w log (suc d) ≡ rows_after w log d }
 {}
 
 /// A call that commits runs alike on the rows of its snapshot and on those just before it: reply, looks and
 /// writes are the same, and its effect is those writes.
 pub fn what_commits_is_serial()
     ensures run { (w : Setting) (log : Log) (d : ℕ) (call : Call)
-        → HasSafeProcedures w → IsLog log → AreCalls w log → slice_get log d ≡ Some call
+        → HasSafeProcedures w → IsLog log → AreItems w log → slice_get log d ≡ Some (CallItem call)
         → verdict_of w log (suc d) ≡ Some Commit
-        → run_of_call w call (rows_after w log d) ≡ same_on (rows_after w log d) (run_in w log call) }
+        → run_on w log call (rows_after w log d) ≡ same_on (rows_after w log d) (run_in w log call) }
     ensures rows { (w : Setting) (log : Log) (d : ℕ) (call : Call)
-        → HasSafeProcedures w → IsLog log → AreCalls w log → slice_get log d ≡ Some call
+        → HasSafeProcedures w → IsLog log → AreItems w log → slice_get log d ≡ Some (CallItem call)
         → verdict_of w log (suc d) ≡ Some Commit
         → rows_after w log (suc d) ≡ after_writes (run_in w log call).writes (rows_after w log d) }
+{}
+
+/// What is told of a call that commits is its reply where it runs in its turn; of one that is repeated, that of the call
+/// that it repeats.
+pub fn what_is_told_is_serial()
+    ensures committed { (w : Setting) (log : Log) (d : ℕ) (call : Call)
+        → HasSafeProcedures w → IsLog log → AreItems w log → slice_get log d ≡ Some (CallItem call)
+        → verdict_of w log (suc d) ≡ Some Commit
+        → (reply : ℕ) × (told_reply w log (suc d) ≡ Some reply) × IsSerialReply w log (suc d) reply }
+    ensures repeated { (w : Setting) (log : Log) (d : ℕ) (call : Call) (earlier : ℕ)
+        → HasSafeProcedures w → IsLog log → AreItems w log → slice_get log d ≡ Some (CallItem call)
+        → verdict_of w log (suc d) ≡ Some (Repeated earlier)
+        → (reply : ℕ) × (told_reply w log (suc d) ≡ Some reply) × IsSerialReply w log earlier reply }
+    ensures untold { (w : Setting) (log : Log) (position : ℕ)
+        → verdict_of w log position ≢ Some Commit → ((earlier : ℕ) → verdict_of w log position ≢ Some (Repeated earlier))
+        → told_reply w log position ≡ None }
 {}

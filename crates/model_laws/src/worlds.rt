@@ -2,10 +2,11 @@
 //! leave, where calls end, and that replicas agree.
 
 ghost use Rattle.std.specs.Prelude.{◌≡◌, ◌≢◌, ◌+◌, ◌<◌, ◌≤◌, ℕ, true, List, [], Some, None, IsSome, Option, ◌⊎◌, false, length};
+ghost use Rattle.log_model.specs.declared.request.RequestId.{RequestId};
 ghost use Rattle.dsm_model.specs.declared.outcome.Outcome.{Outcome};
 ghost use Rattle.dsm_model.specs.declared.outcome.Outcome.TheVariants.{Begun, Exit, Stale, NoMemory, Refused};
-ghost use Rattle.log_model.specs.Log.{Setting, StoredProcedure, Log, by_number, run_in};
-ghost use Rattle.dsm_model.specs.World.{World, Replica, OpenCall, Step, Begin, Turn, Order, Deliver, Rebuild};
+ghost use Rattle.log_model.specs.Log.{Setting, StoredProcedure, Log, procedure_of, run_in};
+ghost use Rattle.dsm_model.specs.World.{World, Replica, OpenCall, Step, Begin, Turn, Order, Deliver, Rebuild, Checked, Add, or_none};
 ghost use Rattle.dsm_model.specs.World.{max_calls, first_world, numbered, open_call, with_open_call, with_replica};
 ghost use Rattle.dsm_model.specs.World.{IsStep, AreSteps};
 ghost use Rattle.std.specs.List.{AllByRecursion};
@@ -13,8 +14,8 @@ ghost use Rattle.dsm_model.specs.declared.outcome.StepRefusal.{StepRefusal};
 ghost use Rattle.dsm_model.specs.declared.outcome.StepRefusal.TheVariants.{NotAtExit, LogFull, OutOfMemory};
 ghost use Rattle.bpf_semantics.specs.Path.{longest_path};
 ghost use Rattle.log_model.specs.Fit.{HasSafeProcedures};
-ghost use Rattle.dsm_model.specs.Sound.{HasByteArguments, IsWorld};
-ghost use Rattle.model_laws.specs.Worlds.{delivered_calls, IsPrefix, turns_of};
+ghost use Rattle.dsm_model.specs.Sound.{AreGiven, IsWorld};
+ghost use Rattle.model_laws.specs.Worlds.{delivered_items, IsPrefix, turns_of};
 
 /// A change of one call or replica is made there, and leaves the others and the rest; a call that begins is open under
 /// its number.
@@ -30,11 +31,12 @@ pub fn each_change_is_of_one()
     ensures rest { (world : World) (c r : ℕ) (o : Option OpenCall) (replica : Replica)
         → ((with_open_call world c o).log ≡ world.log) × ((with_open_call world c o).replicas ≡ world.replicas)
         × ((with_replica world r replica).log ≡ world.log) × ((with_replica world r replica).calls ≡ world.calls) }
-    ensures begun { (w : Setting) (before : World) (r procedure : ℕ) (args : List ℕ) (c snapshot : ℕ) (after : World)
-        → IsStep w before (Begin r procedure args) (Begun c snapshot) after
+    ensures begun { (w : Setting) (before : World) (r procedure : ℕ) (args : List ℕ) (request : Option RequestId)
+        (c snapshot : ℕ) (after : World)
+        → IsStep w before (Begin r procedure args request) (Begun c snapshot) after
         → open_call after c ≡ Some (record {
           replica = r;
-          call = record { number = c; procedure = procedure; args = args; snapshot = snapshot };
+          call = record { number = c; procedure = procedure; args = args; snapshot = snapshot; request = or_none request };
           turns = 0;
         }) }
 {}
@@ -55,18 +57,18 @@ pub fn there_are_worlds()
 pub fn enough_turns_reach_exit()
     ensures { (w : Setting) (before : World) (steps : List Step) (outcomes : List Outcome)
         (after : World) (c : ℕ) (o : OpenCall) (p : StoredProcedure)
-        → HasSafeProcedures w → AllByRecursion HasByteArguments steps → IsWorld w before
+        → HasSafeProcedures w → AreGiven w steps outcomes → IsWorld w before
         → AreSteps w before steps outcomes after
         → IsSome (open_call before c) → open_call after c ≡ Some o
-        → by_number w.catalogue o.call.procedure ≡ Some p → longest_path p.program ≤ turns_of c steps
+        → procedure_of w after.log o.call ≡ Some p → longest_path p.program ≤ turns_of c steps
         → o.turns ≡ (run_in w after.log o.call).steps }
 {}
 
 /// Of what two replicas of one log have delivered, one begins with the other.
 pub fn replicas_agree()
     ensures { (log : Log) (a b : Replica)
-        → IsPrefix (delivered_calls log a) (delivered_calls log b)
-        ⊎ IsPrefix (delivered_calls log b) (delivered_calls log a) }
+        → IsPrefix (delivered_items log a) (delivered_items log b)
+        ⊎ IsPrefix (delivered_items log b) (delivered_items log a) }
 {}
 
 /// A refused step changes nothing, but where memory is wanted or the log is full: then a call that was to be ordered is
@@ -75,8 +77,9 @@ pub fn refused_steps_change_nothing()
     ensures nothing { (w : Setting) (before : World) (step : Step) (refusal : StepRefusal) (after : World)
         → IsStep w before step (Refused refusal) after → refusal ≢ OutOfMemory → refusal ≢ LogFull
         → after ≡ before }
-    ensures begin { (w : Setting) (before : World) (r procedure : ℕ) (args : List ℕ) (after : World)
-        → IsStep w before (Begin r procedure args) (Refused OutOfMemory) after → after ≡ before }
+    ensures begin { (w : Setting) (before : World) (r procedure : ℕ) (args : List ℕ) (request : Option RequestId)
+        (after : World)
+        → IsStep w before (Begin r procedure args request) (Refused OutOfMemory) after → after ≡ before }
     ensures order { (w : Setting) (before : World) (c : ℕ) (after : World)
         → IsStep w before (Order c) (Refused OutOfMemory) after → after ≡ with_open_call before c None }
     ensures deliver { (w : Setting) (before : World) (r : ℕ) (after : World)
@@ -85,6 +88,8 @@ pub fn refused_steps_change_nothing()
         × (after ≡ with_replica before r (record { position = replica.position; running = false })) }
     ensures rebuild { (w : Setting) (before : World) (r : ℕ) (after : World)
         → IsStep w before (Rebuild r) (Refused OutOfMemory) after → after ≡ before }
+    ensures add { (w : Setting) (before : World) (name : List ℕ) (number args_len : ℕ) (checked : Checked) (after : World)
+        → IsStep w before (Add name number args_len checked) (Refused OutOfMemory) after → after ≡ before }
 {}
 
 /// A call is over after any answer of its order but that it isn't at EXIT, and after a turn that is stale or finds

@@ -1,7 +1,7 @@
-//! What is replayed: a setting and calls, as the definitions have them.
+//! What all replicas have in common, as the definitions have it.
 
-ghost use Rattle.std.specs.Prelude.{◌≡◌, ◌<◌, ◌^◌, option_map};
-ghost use Rattle.log_model.specs.Log.{by_number};
+ghost use Rattle.std.specs.Prelude.{◌≡◌, option_map};
+ghost use Rattle.log_model.specs.Log.{by_name, by_number};
 
 use bpf_code::Code;
 use schema::Schema;
@@ -48,11 +48,30 @@ impl<A: Allocator> PlainProcedure<A> {
         }
     }
 
+    pub fn name(&self) -> &[u8]
+        ensures { result.now ≡ self.now.name }
+    {
+        &self.name
+    }
+
+    pub fn number(&self) -> u16
+        ensures { result ≡ self.now.number }
+    {
+        self.number
+    }
+
     /// Its program.
     pub fn code(&self) -> &Code<A>
         ensures { result.now ≡ self.now.program }
     {
         &self.code
+    }
+
+    /// How many bytes its arguments have.
+    pub fn args_len(&self) -> u16
+        ensures { result ≡ self.now.args_len }
+    {
+        self.args_len
     }
 }
 
@@ -80,7 +99,7 @@ impl<A: Allocator> Model for PlainSetting<A> {
 }
 
 impl<A: Allocator> PlainSetting<A> {
-    /// The tables, the procedures in order of entry, and how many calls a verdict goes back.
+    /// The tables, the procedures in order of entry, and how many items a verdict goes back.
     pub fn new(
         schema: Schema<A>,
         catalogue: Vec<PlainProcedure<A>, A>,
@@ -106,7 +125,7 @@ impl<A: Allocator> PlainSetting<A> {
         &self.schema
     }
 
-    /// How many calls a verdict goes back.
+    /// How many items a verdict goes back.
     pub fn window(&self) -> u32
         ensures { result ≡ self.now.window }
     {
@@ -121,66 +140,13 @@ impl<A: Allocator> PlainSetting<A> {
             .iter()
             .find(|procedure| procedure.number == number)
     }
-}
 
-/// An ordered call. Contracts see the definition's record.
-#[derive(Drop)]
-pub struct PlainCall<A: Allocator = Global> {
-    number: u32,
-    procedure: u16,
-    args: Vec<u8, A>,
-    snapshot: u32,
-}
-
-impl<A: Allocator> Model for PlainCall<A> {
-    ghost use Rattle.log_model.specs.Log.{Call};
-
-    ghost Value = { Call };
-
-    ghost view = { λ c. record {
-      number = c.number;
-      procedure = c.procedure;
-      args = c.args.items;
-      snapshot = c.snapshot;
-    } };
-}
-
-impl<A: Allocator> PlainCall<A> {
-    /// A call under its own number, of the procedure of a number, on arguments and the rows after a position.
-    pub fn new(number: u32, procedure: u16, args: Vec<u8, A>, snapshot: u32) -> PlainCall<A>
-        ensures { result ≡ record {
-          number = number;
-          procedure = procedure;
-          args = args.items;
-          snapshot = snapshot;
-        } }
+    /// The procedure of a name, the first that was entered.
+    pub fn procedure_named(&self, name: &[u8]) -> Option<&PlainProcedure<A>>
+        ensures { option_map (λ p. p.now) result ≡ by_name self.now.catalogue name.now }
     {
-        PlainCall {
-            number,
-            procedure,
-            args,
-            snapshot,
-        }
-    }
-
-    /// The number of its procedure.
-    pub fn procedure(&self) -> u16
-        ensures { result ≡ self.now.procedure }
-    {
-        self.procedure
-    }
-
-    pub fn args(&self) -> &[u8]
-        ensures { result.now ≡ self.now.args }
-    {
-        &self.args
-    }
-
-    /// The position whose rows it read.
-    pub fn snapshot(&self) -> usize
-        ensures snapshot { result ≡ self.now.snapshot }
-        ensures fits { result < 2 ^ 32 }
-    {
-        self.snapshot as usize
+        self.catalogue
+            .iter()
+            .find(|procedure| procedure.name.as_slice() == name)
     }
 }

@@ -1,9 +1,9 @@
 ghost use Rattle.std.specs.Prelude.{◌<◌, ◌^◌, length};
 
-use dsm_replayer::{CallReport, CompletedReplay, PlainCall, replay_log};
-use log_model::Verdict;
+use dsm_replayer::{CompletedReplay, ItemReport, PlainCall, PlainItem, PlainItemKind, replay_log};
+use log_model::{Identifier, RequestId, Verdict};
 use plain_runner::{Row, Write};
-use sample_procedures::{args_of, setting_of};
+use sample_procedures::{ONE, PUT, args_of, procedure_of, setting_of};
 use scarce::Scarce;
 use schema::Look;
 use std::alloc::Global;
@@ -12,23 +12,69 @@ use std::test::Fail;
 
 mod drawn;
 
-/// A procedure's number, its arguments, and a snapshot.
-type CallCase = (u16, &'static [u64], u32);
+/// An item of a log.
+enum ItemCase {
+    /// A procedure's number, its arguments, and a snapshot.
+    Call(u16, &'static [u64], u32),
+    /// The same, and a session and a sequence number.
+    Numbered(u16, &'static [u64], u32, u32, u32),
+    /// An addition's name and number, its program, and how many words that takes.
+    Addition(&'static str, u16, &'static str, usize),
+}
 
-/// The calls in order, numbered from 1 on.
-fn log_of(alloc: Global, calls: &[CallCase]) -> Result<Vec<PlainCall>, Fail> {
+fn call_of(
+    alloc: Global,
+    procedure: u16,
+    words: &[u64],
+    snapshot: u32,
+    request: RequestId,
+) -> Result<PlainItem, Fail> {
+    let args = args_of(alloc, words)?;
+    Ok(PlainItem {
+        kind: PlainItemKind::Call(PlainCall::new(0, procedure, args, snapshot, request)),
+    })
+}
+
+fn addition_of(
+    alloc: Global,
+    name: &str,
+    number: u16,
+    hex: &str,
+    words: usize,
+) -> Result<PlainItem, Fail> {
+    let procedure = procedure_of(alloc, name.as_bytes(), number, hex, words)?;
+    Ok(PlainItem {
+        kind: PlainItemKind::Addition(procedure),
+    })
+}
+
+fn item_of(alloc: Global, item: &ItemCase) -> Result<PlainItem, Fail> {
+    let (mut session, mut sequence) = (0, 0);
+    let (procedure, words, snapshot) = match item {
+        ItemCase::Addition(name, number, hex, words) => {
+            return addition_of(alloc, name, *number, hex, *words);
+        }
+        ItemCase::Call(procedure, words, snapshot) => (procedure, words, snapshot),
+        ItemCase::Numbered(procedure, words, snapshot, first, second) => {
+            (session, sequence) = (*first, *second);
+            (procedure, words, snapshot)
+        }
+    };
+    let request = RequestId { session, sequence };
+    call_of(alloc, *procedure, words, *snapshot, request)
+}
+
+/// The items in order.
+fn log_of(alloc: Global, items: &[ItemCase]) -> Result<Vec<PlainItem>, Fail> {
     let mut log = Vec::new(alloc);
-    let mut number = 0u32;
-    for (procedure, words, snapshot) in calls {
-        number = number.wrapping_add(1);
-        let args = args_of(alloc, words)?;
-        log.push(PlainCall::new(number, *procedure, args, *snapshot))?;
+    for item in items {
+        log.push(item_of(alloc, item)?)?;
     }
     Ok(log)
 }
 
 /// The log, which is short in these tests.
-fn short(log: &[PlainCall]) -> &[PlainCall]
+fn short(log: &[PlainItem]) -> &[PlainItem]
     ensures { length result.now < 2 ^ 32 }
 {
     if log.len() < 10_000 { log } else { &[] }
@@ -39,22 +85,30 @@ fn append_verdict(text: &mut String, verdict: Verdict) -> Result<(), Fail> {
         Verdict::Commit => write!(text, " commit")?,
         Verdict::Conflict(position) => write!(text, " conflict {position}")?,
         Verdict::Stale => write!(text, " stale")?,
+        Verdict::Repeated(position) => write!(text, " repeat {position}")?,
+        Verdict::Taken(Identifier::Name) => write!(text, " taken name")?,
+        Verdict::Taken(Identifier::Number) => write!(text, " taken number")?,
     }
     Ok(())
 }
 
-fn append_comparisons(text: &mut String, positions: &[u32]) -> Result<(), Fail> {
-    for position in positions {
+/// The reply that is told, and with which items the verdict compared.
+fn append_told(text: &mut String, report: &ItemReport) -> Result<(), Fail> {
+    if let Some(reply) = report.told_reply() {
+        write!(text, " told {reply}")?;
+    }
+    for position in report.comparisons() {
         write!(text, " compared {position}")?;
     }
     Ok(())
 }
 
-/// What a replay says of a call, in a line: its reply, its verdict, and with which calls it was compared.
-fn described(alloc: Global, report: &CallReport) -> Result<String, Fail> {
+/// What a replay says of an item, in a line: the reply of its run, its verdict, the reply that is told, and with which
+/// items it was compared.
+fn described(alloc: Global, report: &ItemReport) -> Result<String, Fail> {
     let mut text = format!(in alloc; "{}", report.reply())?;
     append_verdict(&mut text, report.verdict())?;
-    append_comparisons(&mut text, report.comparisons())?;
+    append_told(&mut text, report)?;
     Ok(text)
 }
 
@@ -90,134 +144,344 @@ fn run_text(alloc: Global, reply: u64, looks: &[Look], writes: &[Write]) -> Resu
     Ok(text)
 }
 
-/// A window and calls, and what is said of each; the rows at the end.
+/// A window and items, and what is said of each; the rows at the end.
 struct LogCase {
     window: u32,
-    calls: &'static [CallCase],
+    items: &'static [ItemCase],
     said: &'static [&'static str],
     rows: &'static str,
 }
 
-static LOGS: [LogCase; 11] = [
+static LOGS: [LogCase; 21] = [
     LogCase {
         window: 4,
-        calls: &[(1, &[5, 10], 0), (1, &[5, 7], 0), (1, &[5, 7], 2)],
-        said: &["10 commit", "7 conflict 1 compared 1", "17 commit"],
+        items: &[
+            ItemCase::Call(1, &[5, 10], 0),
+            ItemCase::Call(1, &[5, 7], 0),
+            ItemCase::Call(1, &[5, 7], 2),
+        ],
+        said: &[
+            "10 commit told 10",
+            "7 conflict 1 compared 1",
+            "17 commit told 17",
+        ],
         rows: " 1:5=1100000000000000",
     },
     // The least of those that conflict, with which the comparisons end.
     LogCase {
         window: 4,
-        calls: &[
-            (3, &[6, 1], 0),
-            (3, &[5, 1], 0),
-            (3, &[5, 2], 0),
-            (1, &[5, 7], 0),
+        items: &[
+            ItemCase::Call(3, &[6, 1], 0),
+            ItemCase::Call(3, &[5, 1], 0),
+            ItemCase::Call(3, &[5, 2], 0),
+            ItemCase::Call(1, &[5, 7], 0),
         ],
         said: &[
-            "0 commit",
-            "0 commit",
-            "0 commit",
+            "0 commit told 0",
+            "0 commit told 0",
+            "0 commit told 0",
             "7 conflict 2 compared 2",
         ],
         rows: " 1:5=0200000000000000 1:6=0100000000000000",
     },
     LogCase {
         window: 4,
-        calls: &[(2, &[1, 2], 0), (2, &[2, 1], 0)],
-        said: &["0 commit", "0 conflict 1 compared 1"],
+        items: &[ItemCase::Call(2, &[1, 2], 0), ItemCase::Call(2, &[2, 1], 0)],
+        said: &["0 commit told 0", "0 conflict 1 compared 1"],
         rows: " 1:1=0100000000000000",
     },
     LogCase {
         window: 4,
-        calls: &[(3, &[7, 1], 0), (3, &[7, 2], 0)],
-        said: &["0 commit", "0 commit"],
+        items: &[ItemCase::Call(3, &[7, 1], 0), ItemCase::Call(3, &[7, 2], 0)],
+        said: &["0 commit told 0", "0 commit told 0"],
         rows: " 1:7=0200000000000000",
     },
     LogCase {
         window: 4,
-        calls: &[
-            (3, &[12, 1], 0),
-            (3, &[15, 9], 1),
-            (4, &[10, 20, 100], 1),
-            (5, &[10, 20, 101], 1),
+        items: &[
+            ItemCase::Call(3, &[12, 1], 0),
+            ItemCase::Call(3, &[15, 9], 1),
+            ItemCase::Call(4, &[10, 20, 100], 1),
+            ItemCase::Call(5, &[10, 20, 101], 1),
         ],
         said: &[
-            "0 commit",
-            "0 commit",
+            "0 commit told 0",
+            "0 commit told 0",
             "1 conflict 2 compared 2",
-            "12 commit",
+            "12 commit told 12",
         ],
         rows: " 1:12=0100000000000000 1:15=0900000000000000 1:101=0100000000000000",
     },
     LogCase {
         window: 2,
-        calls: &[
-            (3, &[1, 1], 0),
-            (3, &[2, 1], 0),
-            (3, &[3, 1], 0),
-            (4, &[1, 2, 4], 0),
+        items: &[
+            ItemCase::Call(3, &[1, 1], 0),
+            ItemCase::Call(3, &[2, 1], 0),
+            ItemCase::Call(3, &[3, 1], 0),
+            ItemCase::Call(4, &[1, 2, 4], 0),
         ],
-        said: &["0 commit", "0 commit", "0 commit", "0 stale"],
+        said: &[
+            "0 commit told 0",
+            "0 commit told 0",
+            "0 commit told 0",
+            "0 stale",
+        ],
         rows: " 1:1=0100000000000000 1:2=0100000000000000 1:3=0100000000000000",
     },
     // Two keys of one bit.
     LogCase {
         window: 4,
-        calls: &[(1, &[0, 1], 0), (1, &[987, 1], 0)],
-        said: &["1 commit", "1 commit compared 1"],
+        items: &[
+            ItemCase::Call(1, &[0, 1], 0),
+            ItemCase::Call(1, &[987, 1], 0),
+        ],
+        said: &["1 commit told 1", "1 commit told 1 compared 1"],
         rows: " 1:0=0100000000000000 1:987=0100000000000000",
     },
     // A removal counts as a write, and a range without keys as no look.
     LogCase {
         window: 4,
-        calls: &[
-            (6, &[9], 0),
-            (4, &[0, 20, 100], 0),
-            (3, &[15, 9], 2),
-            (4, &[20, 10, 100], 2),
-            (6, &[15], 4),
+        items: &[
+            ItemCase::Call(6, &[9], 0),
+            ItemCase::Call(4, &[0, 20, 100], 0),
+            ItemCase::Call(3, &[15, 9], 2),
+            ItemCase::Call(4, &[20, 10, 100], 2),
+            ItemCase::Call(6, &[15], 4),
         ],
         said: &[
-            "0 commit",
+            "0 commit told 0",
             "0 conflict 1 compared 1",
-            "0 commit",
-            "0 commit",
-            "0 commit",
+            "0 commit told 0",
+            "0 commit told 0",
+            "0 commit told 0",
         ],
         rows: " 1:100=0000000000000000",
     },
     // A look of 17 keys sets every bit.
     LogCase {
         window: 4,
-        calls: &[(3, &[1, 1], 0), (3, &[2, 2], 0), (4, &[100, 116, 200], 0)],
-        said: &["0 commit", "0 commit", "0 commit compared 1 compared 2"],
+        items: &[
+            ItemCase::Call(3, &[1, 1], 0),
+            ItemCase::Call(3, &[2, 2], 0),
+            ItemCase::Call(4, &[100, 116, 200], 0),
+        ],
+        said: &[
+            "0 commit told 0",
+            "0 commit told 0",
+            "0 commit told 0 compared 1 compared 2",
+        ],
         rows: " 1:1=0100000000000000 1:2=0200000000000000 1:200=0000000000000000",
     },
     // A look of 16 keys sets theirs: key 1102 has the bit of key 115, and keys 1 and 2 have the bit of none.
     LogCase {
         window: 4,
-        calls: &[
-            (3, &[1, 1], 0),
-            (3, &[2, 2], 0),
-            (3, &[1102, 3], 0),
-            (4, &[100, 115, 200], 0),
+        items: &[
+            ItemCase::Call(3, &[1, 1], 0),
+            ItemCase::Call(3, &[2, 2], 0),
+            ItemCase::Call(3, &[1102, 3], 0),
+            ItemCase::Call(4, &[100, 115, 200], 0),
         ],
-        said: &["0 commit", "0 commit", "0 commit", "0 commit compared 3"],
+        said: &[
+            "0 commit told 0",
+            "0 commit told 0",
+            "0 commit told 0",
+            "0 commit told 0 compared 3",
+        ],
         rows: " 1:1=0100000000000000 1:2=0200000000000000 1:200=0000000000000000 1:1102=0300000000000000",
     },
     // A call of no procedure does nothing.
     LogCase {
         window: 4,
-        calls: &[(3, &[7, 1], 0), (7, &[7, 2], 0)],
-        said: &["0 commit", "0 commit"],
+        items: &[ItemCase::Call(3, &[7, 1], 0), ItemCase::Call(7, &[7, 2], 0)],
+        said: &["0 commit told 0", "0 commit told 0"],
         rows: " 1:7=0100000000000000",
+    },
+    // The first of a name is added. A call finds it from the next position on; what is taken isn't there.
+    LogCase {
+        window: 4,
+        items: &[
+            ItemCase::Addition("one", 9, ONE, 0),
+            ItemCase::Addition("one", 10, ONE, 0),
+            ItemCase::Call(9, &[], 1),
+            ItemCase::Call(9, &[], 0),
+            ItemCase::Call(10, &[], 2),
+        ],
+        said: &[
+            "0 commit",
+            "0 taken name",
+            "1 commit told 1",
+            "0 commit told 0",
+            "0 commit told 0",
+        ],
+        rows: "",
+    },
+    // A number is taken by the catalogue and by what was added; where both are, by different procedures too, the
+    // name counts. What a refused addition asked for is still free.
+    LogCase {
+        window: 4,
+        items: &[
+            ItemCase::Addition("two", 3, ONE, 0),
+            ItemCase::Addition("two", 9, ONE, 0),
+            ItemCase::Addition("three", 9, ONE, 0),
+            ItemCase::Addition("3", 3, ONE, 0),
+            ItemCase::Addition("3", 10, ONE, 0),
+            ItemCase::Addition("two", 3, ONE, 0),
+            ItemCase::Addition("three", 10, ONE, 0),
+        ],
+        said: &[
+            "0 taken number",
+            "0 commit",
+            "0 taken number",
+            "0 taken name",
+            "0 taken name",
+            "0 taken name",
+            "0 commit",
+        ],
+        rows: "",
+    },
+    // An added procedure writes as any other, and is never compared itself.
+    LogCase {
+        window: 4,
+        items: &[
+            ItemCase::Addition("set", 7, PUT, 2),
+            ItemCase::Call(7, &[5, 1], 1),
+            ItemCase::Call(7, &[6, 1], 0),
+            ItemCase::Call(1, &[5, 7], 1),
+            ItemCase::Call(1, &[5, 7], 4),
+        ],
+        said: &[
+            "0 commit",
+            "0 commit told 0",
+            "0 commit told 0",
+            "7 conflict 2 compared 2",
+            "8 commit told 8",
+        ],
+        rows: " 1:5=0800000000000000",
+    },
+    // Additions count among the positions of the window, refused ones too.
+    LogCase {
+        window: 2,
+        items: &[
+            ItemCase::Call(3, &[1, 1], 0),
+            ItemCase::Addition("one", 9, ONE, 0),
+            ItemCase::Addition("one", 9, ONE, 0),
+            ItemCase::Call(3, &[2, 1], 1),
+            ItemCase::Call(3, &[3, 1], 1),
+        ],
+        said: &[
+            "0 commit told 0",
+            "0 commit",
+            "0 taken name",
+            "0 commit told 0",
+            "0 stale",
+        ],
+        rows: " 1:1=0100000000000000 1:2=0100000000000000",
+    },
+    // A call that is sent again is repeated, and isn't compared; the next request commits.
+    LogCase {
+        window: 4,
+        items: &[
+            ItemCase::Numbered(1, &[5, 10], 0, 7, 1),
+            ItemCase::Numbered(1, &[5, 10], 0, 7, 1),
+            ItemCase::Numbered(1, &[5, 10], 2, 7, 2),
+        ],
+        said: &[
+            "10 commit told 10",
+            "10 repeat 1 told 10",
+            "20 commit told 20",
+        ],
+        rows: " 1:5=1400000000000000",
+    },
+    // The reply of the first is told, whatever the copy would have replied, and whatever it calls.
+    LogCase {
+        window: 4,
+        items: &[
+            ItemCase::Numbered(1, &[5, 10], 0, 7, 1),
+            ItemCase::Numbered(1, &[5, 10], 1, 7, 1),
+            ItemCase::Numbered(3, &[6, 1], 2, 7, 1),
+        ],
+        said: &[
+            "10 commit told 10",
+            "20 repeat 1 told 10",
+            "0 repeat 1 told 10",
+        ],
+        rows: " 1:5=0a00000000000000",
+    },
+    // However long ago: not stale.
+    LogCase {
+        window: 1,
+        items: &[
+            ItemCase::Numbered(1, &[5, 10], 0, 7, 1),
+            ItemCase::Call(3, &[6, 1], 1),
+            ItemCase::Call(3, &[7, 1], 2),
+            ItemCase::Numbered(1, &[5, 10], 0, 7, 1),
+        ],
+        said: &[
+            "10 commit told 10",
+            "0 commit told 0",
+            "0 commit told 0",
+            "10 repeat 1 told 10",
+        ],
+        rows: " 1:5=0a00000000000000 1:6=0100000000000000 1:7=0100000000000000",
+    },
+    // After a conflict the request is free.
+    LogCase {
+        window: 4,
+        items: &[
+            ItemCase::Call(1, &[5, 10], 0),
+            ItemCase::Numbered(1, &[5, 7], 0, 7, 1),
+            ItemCase::Numbered(1, &[5, 7], 2, 7, 1),
+            ItemCase::Numbered(1, &[5, 7], 0, 7, 1),
+        ],
+        said: &[
+            "10 commit told 10",
+            "7 conflict 1 compared 1",
+            "17 commit told 17",
+            "7 repeat 3 told 17",
+        ],
+        rows: " 1:5=1100000000000000",
+    },
+    // And where the call was stale.
+    LogCase {
+        window: 1,
+        items: &[
+            ItemCase::Call(3, &[1, 1], 0),
+            ItemCase::Call(3, &[2, 1], 1),
+            ItemCase::Numbered(1, &[3, 5], 0, 7, 1),
+            ItemCase::Numbered(1, &[3, 5], 2, 7, 1),
+            ItemCase::Numbered(1, &[3, 5], 0, 7, 1),
+        ],
+        said: &[
+            "0 commit told 0",
+            "0 commit told 0",
+            "5 stale",
+            "5 commit told 5",
+            "5 repeat 4 told 5",
+        ],
+        rows: " 1:1=0100000000000000 1:2=0100000000000000 1:3=0500000000000000",
+    },
+    // Requests differ in the session or in the sequence number.
+    LogCase {
+        window: 4,
+        items: &[
+            ItemCase::Numbered(3, &[1, 1], 0, 7, 1),
+            ItemCase::Numbered(3, &[2, 1], 0, 7, 2),
+            ItemCase::Numbered(3, &[3, 1], 0, 1, 7),
+            ItemCase::Numbered(3, &[4, 1], 0, 7, 2),
+        ],
+        said: &[
+            "0 commit told 0",
+            "0 commit told 0",
+            "0 commit told 0",
+            "0 repeat 2 told 0",
+        ],
+        rows: " 1:1=0100000000000000 1:2=0100000000000000 1:3=0100000000000000",
     },
 ];
 
-/// What a replay says of the calls of a case, and then the rows.
+/// What a replay says of the items of a case, and then the rows.
 fn said_of(alloc: Global, case: &LogCase) -> Result<String, Fail> {
-    let log = log_of(alloc, case.calls)?;
+    let log = log_of(alloc, case.items)?;
     let replay = replay_log(alloc, &setting_of(alloc, case.window)?, short(&log))?;
     let mut text = String::new(alloc);
     for report in replay.reports() {
@@ -249,10 +513,19 @@ fn logs_come_to_what_is_expected(rt: HostRuntime) -> Result<(), Fail> {
     Ok(())
 }
 
+/// A log in which each kind of item takes memory.
+static REFUSED: [ItemCase; 5] = [
+    ItemCase::Numbered(1, &[5, 10], 0, 7, 1),
+    ItemCase::Call(4, &[5, 7, 6], 0),
+    ItemCase::Addition("set", 7, PUT, 2),
+    ItemCase::Numbered(7, &[5, 1], 3, 7, 1),
+    ItemCase::Call(6, &[5], 1),
+];
+
 #[test]
 fn refused_growths_end_a_replay(rt: HostRuntime) -> Result<(), Fail> {
     let alloc = rt.alloc();
-    let log = log_of(alloc, &[(1, &[5, 10], 0), (4, &[5, 7, 6], 0), (6, &[5], 1)])?;
+    let log = log_of(alloc, &REFUSED)?;
     let setting = setting_of(alloc, 4)?;
     let scarce = Scarce::new(alloc);
     let failed = scarce.refuse_each(|| replay_log(&scarce, &setting, short(&log)).is_ok());

@@ -10,14 +10,15 @@ use Rattle.key_table.specs.Table.{Table}
 use Rattle.std.specs.FinMap.{empty}
 use Rattle.rows_mv.specs.Versions.{AnswersFrom, AreEmpty, IsInstalled}
 use Rattle.log_model.specs.declared.verdict.Verdict.{Verdict}
-use Rattle.log_model.specs.declared.verdict.Verdict.TheVariants.{Commit, Conflict, Stale}
-use Rattle.log_model.specs.Log.{is_commit, if_commits, verdict_after}
-use Rattle.log_model.specs.Entries.{Entry, certified_calls_of}
+use Rattle.log_model.specs.declared.verdict.Verdict.TheVariants.{Commit, Conflict, Stale, Repeated, Taken}
+use Rattle.log_model.specs.Log.{Catalogue, is_commit, if_commits}
+use Rattle.log_model.specs.Entries.{Entry, CallEntry, AdditionEntry, CertifiedEntries, certified_entry, with_entry, certified_entries_of}
+use Rattle.stored_procedures.specs.Held.{stored_procedures}
 use Rattle.certify.specs.Kept as certifier
 use Rattle.replica.specs.declared.certification.Certification.{Certification}
-use Rattle.replica.specs.Replica.{rows_kept, KeepsRows, certification_after, AreCertificationsOf, Replica, StandsFor}
-use Rattle.replica.specs.Delivery.{HasSameVersions, IsDelivered, IsRefusedDelivery}
-use Rattle.replica.proofs.KeepsLemmas.{LaysOn, certified_more, rows_later, rows_before}
+use Rattle.replica.specs.Replica.{rows_kept, KeepsRows, certification_next, AreCertificationsOf, Replica, StandsFor, writes_in}
+use Rattle.replica.specs.Delivery.{HasSameVersions, KeepsCertified, IsDelivered, IsRefusedDelivery}
+use Rattle.replica.proofs.KeepsLemmas.{LaysOn, certified_more, next_item, rows_later, rows_before}
 
 -- the laws of one more install
 pub record Installs : Type 0 where
@@ -39,6 +40,8 @@ laid_on : Installs → (old new : List Table) (position s : ℕ) (writes : Write
 laid_on law old new position s writes Commit rows le installs refuses from = law.after s (position + 1) writes old new rows (installs refl) le from
 laid_on law old new position s writes (Conflict at) rows le installs refuses from = same_answers old new s rows (refuses refl) from
 laid_on law old new position s writes Stale rows le installs refuses from = same_answers old new s rows (refuses refl) from
+laid_on law old new position s writes (Repeated at) rows le installs refuses from = same_answers old new s rows (refuses refl) from
+laid_on law old new position s writes (Taken part) rows le installs refuses from = same_answers old new s rows (refuses refl) from
 
 -- and where it doesn't
 left_out : Installs → (old new : List Table) (position s : ℕ) (writes : Writes) (v : Verdict) (rows : Rows) → s < position + 1
@@ -47,18 +50,28 @@ left_out : Installs → (old new : List Table) (position s : ℕ) (writes : Writ
 left_out law old new position s writes Commit rows lt installs refuses from = law.before s (position + 1) writes old new rows (installs refl) lt from
 left_out law old new position s writes (Conflict at) rows lt installs refuses from = same_answers old new s rows (refuses refl) from
 left_out law old new position s writes Stale rows lt installs refuses from = same_answers old new s rows (refuses refl) from
+left_out law old new position s writes (Repeated at) rows lt installs refuses from = same_answers old new s rows (refuses refl) from
+left_out law old new position s writes (Taken part) rows lt installs refuses from = same_answers old new s rows (refuses refl) from
 
-next_answers : LaysOn → Installs → (old new : List Table) (window position s : ℕ) (entries : List Entry) (e : Entry) → position ≡ length entries
-    → (is_commit (verdict_after window (certified_calls_of window entries) e.call e.looks) ≡ true → IsInstalled (position + 1) e.writes old new)
-    → (is_commit (verdict_after window (certified_calls_of window entries) e.call e.looks) ≡ false → HasSameVersions old new)
-    → AnswersFrom old s (rows_kept window entries s) → AnswersFrom new s (rows_kept window (entries ++ e ∷ []) s)
-next_answers lays law old new window position s entries e at installs refuses from =
-    let v = verdict_after window (certified_calls_of window entries) e.call e.looks in
+-- what becomes of an entry has its writes, and its certification's verdict
+same_writes : (window : ℕ) (past : CertifiedEntries) (e : Entry) → (certified_entry window past e).writes ≡ writes_in e
+same_writes window past (CallEntry e) = refl
+same_writes window past (AdditionEntry p) = refl
+
+same_verdict : (window : ℕ) (past : CertifiedEntries) (e : Entry) → (certification_next window past e).verdict ≡ (certified_entry window past e).verdict
+same_verdict window past (CallEntry e) = refl
+same_verdict window past (AdditionEntry p) = refl
+
+next_answers : LaysOn → Installs → (old new : List Table) (window position s : ℕ) (base : Catalogue) (entries : List Entry) (e : Entry) → position ≡ length entries
+    → (is_commit (next_item window base entries e).verdict ≡ true → IsInstalled (position + 1) (next_item window base entries e).writes old new)
+    → (is_commit (next_item window base entries e).verdict ≡ false → HasSameVersions old new)
+    → AnswersFrom old s (rows_kept window base entries s) → AnswersFrom new s (rows_kept window base (entries ++ e ∷ []) s)
+next_answers lays law old new window position s base entries e at installs refuses from =
     elim (cases_lt (length entries) s) [
-      | inl lt ↦ moved new s (rows_kept window (entries ++ e ∷ []) s) _ (rows_later lays window s entries e (omega arith))
-          (laid_on law old new position s e.writes v (rows_kept window entries s) (omega arith) installs refuses from)
-      | inr ge ↦ moved new s (rows_kept window (entries ++ e ∷ []) s) _ (rows_before lays window s entries e (omega arith))
-          (left_out law old new position s e.writes v (rows_kept window entries s) (omega arith) installs refuses from)
+      | inl lt ↦ moved new s (rows_kept window base (entries ++ e ∷ []) s) _ (rows_later lays window s base entries e (omega arith))
+          (laid_on law old new position s (next_item window base entries e).writes (next_item window base entries e).verdict (rows_kept window base entries s) (omega arith) installs refuses from)
+      | inr ge ↦ moved new s (rows_kept window base (entries ++ e ∷ []) s) _ (rows_before lays window s base entries e (omega arith))
+          (left_out law old new position s (next_item window base entries e).writes (next_item window base entries e).verdict (rows_kept window base entries s) (omega arith) installs refuses from)
     ]
 
 -- ---- the certifications
@@ -77,10 +90,10 @@ get_end (x ∷ xs) y (suc i) is = get_end xs y i (omega arith)
 pub same_some : {X : Type 0} (x y : X) → Some x ≡ Some y → x ≡ y
 same_some x y is = cc
 
-certifications_more : (window : ℕ) (entries : List Entry) (e : Entry) (certifications : List Certification) (c : Certification)
-    → AreCertificationsOf window entries certifications → c ≡ certification_after window (certified_calls_of window entries) e.call e.looks
-    → AreCertificationsOf window (entries ++ e ∷ []) (certifications ++ c ∷ [])
-certifications_more window entries e certifications c are is =
+certifications_more : (window : ℕ) (base : Catalogue) (entries : List Entry) (e : Entry) (certifications : List Certification) (c : Certification)
+    → AreCertificationsOf window base entries certifications → c ≡ certification_next window (certified_entries_of window base entries) e
+    → AreCertificationsOf window base (entries ++ e ∷ []) (certifications ++ c ∷ [])
+certifications_more window base entries e certifications c are is =
     let more : length (entries ++ e ∷ []) ≡ length entries + 1 = length-append entries (e ∷ []) in
     let count : length (certifications ++ c ∷ []) ≡ length certifications + 1 = length-append certifications (c ∷ []) in
     let same = are.count in
@@ -91,79 +104,84 @@ certifications_more window entries e certifications c are is =
           elim (cases_lt before (length entries)) [
             | inl lt ↦ get_left certifications (c ∷ []) before (omega arith)
                 ∙ are.each before x (sym (get_left entries (e ∷ []) before lt) ∙ at)
-                ∙ ap (λ (l : List Entry). Some (certification_after window (certified_calls_of window l) x.call x.looks)) (sym (take-append-le before entries (e ∷ []) (omega arith)))
+                ∙ ap (λ (l : List Entry). Some (certification_next window (certified_entries_of window base l) x)) (sym (take-append-le before entries (e ∷ []) (omega arith)))
             | inr ge ↦
                 let last : e ≡ x = same_some e x (sym (get_end entries e before (omega arith)) ∙ at) in
                 let all : take before (entries ++ e ∷ []) ≡ entries = take-append-le before entries (e ∷ []) (omega arith) ∙ take_all before entries (omega arith) in
                 get_end certifications c before (omega arith)
                 ∙ ap (λ (y : Certification). Some y) is
-                ∙ ap (λ (y : Entry). Some (certification_after window (certified_calls_of window entries) y.call y.looks)) last
-                ∙ ap (λ (l : List Entry). Some (certification_after window (certified_calls_of window l) x.call x.looks)) (sym all)
+                ∙ ap (λ (y : Entry). Some (certification_next window (certified_entries_of window base entries) y)) last
+                ∙ ap (λ (l : List Entry). Some (certification_next window (certified_entries_of window base l) x)) (sym all)
           ];
     }
 
 -- ---- the replica
 
-pub delivered : LaysOn → Installs → (old new : Replica) (e : Entry) (c : Certification) (installed : List Table) (entries : List Entry) → IsDelivered old new e c installed → StandsFor old entries → StandsFor new (entries ++ e ∷ [])
-delivered lays law old new e c installed entries is stands =
+pub delivered : LaysOn → Installs → (base : Catalogue) (old new : Replica) (e : Entry) (c : Certification) (installed : List Table) (entries : List Entry) → IsDelivered old new e c installed → StandsFor base old entries → StandsFor base new (entries ++ e ∷ [])
+delivered lays law base old new e c installed entries is stands =
     let at = stands.position in
     let next = is.position in
     let more : length (entries ++ e ∷ []) ≡ length entries + 1 = length-append entries (e ∷ []) in
-    let past = certified_calls_of old.window entries in
-    let certified : c ≡ certification_after old.window past e.call e.looks =
-    is.certified past stands.memory ∙ ap (λ (w : ℕ). certification_after w past e.call e.looks) stands.window in
-    let verdict : c.verdict ≡ verdict_after old.window past e.call e.looks = ap (λ (x : Certification). x.verdict) certified in
+    let past = certified_entries_of old.window base entries in
+    let before : KeepsCertified old.memory old.procedures past = record { memory = stands.memory; procedures = stands.procedures } in
+    let certified : c ≡ certification_next old.window past e =
+    is.certified past before ∙ ap (λ (w : ℕ). certification_next w past e) stands.window in
+    let verdict : c.verdict ≡ (next_item old.window base entries e).verdict = ap (λ (x : Certification). x.verdict) certified ∙ same_verdict old.window past e in
+    let writes : writes_in e ≡ (next_item old.window base entries e).writes = sym (same_writes old.window past e) in
     let window = is.window in
     let same = sym is.window in
     let all = entries ++ e ∷ [] in
-    let keeps : KeepsRows old.window new.versions all new.position =
-    (λ s near. is.pruned s (rows_kept old.window all s) (omega arith)
-    (next_answers lays law old.versions.tables installed old.window old.position s entries e at
-    (λ commits. is.installs (ap is_commit verdict ∙ commits)) (λ refuses. is.refuses (ap is_commit verdict ∙ refuses))
+    let keeps : KeepsRows old.window base new.versions all new.position =
+    (λ s near. is.pruned s (rows_kept old.window base all s) (omega arith)
+    (next_answers lays law old.versions.tables installed old.window old.position s base entries e at
+    (λ commits. subst (λ (w : Writes). IsInstalled (old.position + 1) w old.versions.tables installed) writes (is.installs (ap is_commit verdict ∙ commits))) (λ refuses. is.refuses (ap is_commit verdict ∙ refuses))
     (stands.rows s (omega arith)))) in
-    let memory : certifier.StandsFor new.memory (certified_calls_of old.window all) =
-    subst (certifier.StandsFor new.memory) (ap (λ (v : Verdict). past ++ record { writes = e.writes; verdict = v } ∷ []) verdict ∙ sym (certified_more old.window entries e)) (is.memory past stands.memory) in
+    let kept : KeepsCertified new.memory new.procedures (certified_entries_of old.window base all) =
+    subst (KeepsCertified new.memory new.procedures) (ap (λ (w : ℕ). with_entry w past e) stands.window ∙ sym (certified_more old.window base entries e)) (is.kept past before) in
     record {
       position = omega arith;
       window = is.same_window ∙ stands.window ∙ same;
-      memory = subst (λ (w : ℕ). certifier.StandsFor new.memory (certified_calls_of w all)) same memory;
+      memory = subst (λ (w : ℕ). certifier.StandsFor new.memory (certified_entries_of w base all).certified) same kept.memory;
       horizon = is.horizon;
-      rows = subst (λ (w : ℕ). KeepsRows w new.versions all new.position) same keeps;
-      certifications = subst (λ (w : ℕ). AreCertificationsOf w all new.certifications) same
-          (subst (AreCertificationsOf old.window all) (sym is.certifications) (certifications_more old.window entries e old.certifications c stands.certifications certified));
+      rows = subst (λ (w : ℕ). KeepsRows w base new.versions all new.position) same keeps;
+      certifications = subst (λ (w : ℕ). AreCertificationsOf w base all new.certifications) same
+          (subst (AreCertificationsOf old.window base all) (sym is.certifications) (certifications_more old.window base entries e old.certifications c stands.certifications certified));
+      procedures = subst (λ (w : ℕ). stored_procedures new.procedures ≡ (certified_entries_of w base all).procedures) same kept.procedures;
     }
 
-pub refused : (old new : Replica) (entries : List Entry) → IsRefusedDelivery old new → StandsFor old entries → StandsFor new entries
-refused old new entries is stands =
+pub refused : (base : Catalogue) (old new : Replica) (entries : List Entry) → IsRefusedDelivery old new → StandsFor base old entries → StandsFor base new entries
+refused base old new entries is stands =
     let position = is.position in
     let window = is.window in
     let same = sym is.window in
     let horizon = stands.horizon in
     let now = is.horizon in
-    let keeps : KeepsRows old.window new.versions entries new.position =
-    (λ s near. same_answers old.versions.tables new.versions.tables s (rows_kept old.window entries s) is.versions (stands.rows s (omega arith))) in
+    let keeps : KeepsRows old.window base new.versions entries new.position =
+    (λ s near. same_answers old.versions.tables new.versions.tables s (rows_kept old.window base entries s) is.versions (stands.rows s (omega arith))) in
     record {
       position = is.position ∙ stands.position;
       window = ap (λ (m : certifier.Memory). m.window) is.memory ∙ stands.window ∙ same;
-      memory = subst (λ (w : ℕ). certifier.StandsFor new.memory (certified_calls_of w entries)) same (subst (λ (m : certifier.Memory). certifier.StandsFor m (certified_calls_of old.window entries)) (sym is.memory) stands.memory);
+      memory = subst (λ (w : ℕ). certifier.StandsFor new.memory (certified_entries_of w base entries).certified) same (subst (λ (m : certifier.Memory). certifier.StandsFor m (certified_entries_of old.window base entries).certified) (sym is.memory) stands.memory);
       horizon = omega arith;
-      rows = subst (λ (w : ℕ). KeepsRows w new.versions entries new.position) same keeps;
-      certifications = subst (λ (w : ℕ). AreCertificationsOf w entries new.certifications) same (subst (AreCertificationsOf old.window entries) (sym is.certifications) stands.certifications);
+      rows = subst (λ (w : ℕ). KeepsRows w base new.versions entries new.position) same keeps;
+      certifications = subst (λ (w : ℕ). AreCertificationsOf w base entries new.certifications) same (subst (AreCertificationsOf old.window base entries) (sym is.certifications) stands.certifications);
+      procedures = subst (λ (w : ℕ). stored_procedures new.procedures ≡ (certified_entries_of w base entries).procedures) same (ap stored_procedures is.procedures ∙ stands.procedures);
     }
 
 -- at first, with no versions
-pub stands_at_first : (r : Replica) → ((s : ℕ) (tables : List Table) → AreEmpty tables → AnswersFrom tables s empty) → ((window s : ℕ) → rows_kept window [] s ≡ empty)
-    → r.position ≡ 0 → r.memory.window ≡ r.window → certifier.StandsFor r.memory [] → r.versions.horizon ≡ 0 → AreEmpty r.versions.tables → r.certifications ≡ []
-    → StandsFor r []
-unfolding certified_calls_of
-stands_at_first r answers rows position window memory horizon none certifications = record {
+pub stands_at_first : (base : Catalogue) (r : Replica) → ((s : ℕ) (tables : List Table) → AreEmpty tables → AnswersFrom tables s empty) → ((window s : ℕ) (base : Catalogue) → rows_kept window base [] s ≡ empty)
+    → r.position ≡ 0 → r.memory.window ≡ r.window → certifier.StandsFor r.memory [] → r.versions.horizon ≡ 0 → AreEmpty r.versions.tables → r.certifications ≡ [] → stored_procedures r.procedures ≡ base
+    → StandsFor base r []
+unfolding certified_entries_of
+stands_at_first base r answers rows position window memory horizon none certifications procedures = record {
   position = position;
   window = window;
   memory = memory;
   horizon = omega arith;
-  rows = λ s near. moved r.versions.tables s (rows_kept r.window [] s) empty (rows r.window s) (answers s r.versions.tables none);
+  rows = λ s near. moved r.versions.tables s (rows_kept r.window base [] s) empty (rows r.window s base) (answers s r.versions.tables none);
   certifications = record {
     count = ap (λ (l : List Certification). length l) certifications;
     each = λ before e at. let bad : None ≡ Some e = at in cc;
   };
+  procedures = procedures;
 }

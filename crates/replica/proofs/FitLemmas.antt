@@ -1,15 +1,17 @@
 -- Writes of a schema fit tables of its widths.
-use Rattle.std.proofs.Common.{◌≡◌, ℕ, zero, suc, ◌+◌, ◌≤◌, ◌<◌, List, [], ◌∷◌, length, refl, sym, ◌∙◌, arith}
+use Rattle.std.proofs.Common.{◌≡◌, ℕ, zero, suc, ◌+◌, ◌<◌, List, [], ◌∷◌, length, refl, sym, subst, ◌∙◌, arith}
 use Rattle.std.specs.Prelude.{Option, Some, None, IsSome, slice_index_or}
 use Rattle.std.proofs.lemmas.Bool.{false≢true}
 use Rattle.std.specs.FinMap.{get}
 use Rattle.schema.specs.Schema.{Tables}
 use Rattle.schema.specs.Rows.{Key, Writes, AreWrites, IsKey, IsWrite}
-use Rattle.log_model.specs.Log.{IsLogFrom}
-use Rattle.log_model.specs.Entries.{Entry, calls_of}
+use Rattle.log_model.specs.Log.{IsPlaced, IsLogFrom}
+use Rattle.log_model.specs.Entries.{item_of, items_of}
+use Rattle.log_entry.specs.declared.entry.Entry.{Entry as LogEntry}
+use Rattle.log_entry.specs.Kind.{entry_of}
 use Rattle.key_table.specs.Table.{Table}
 use Rattle.rows_mv.specs.Versions.{Versions, HaveTables, width_of}
-use Rattle.replica.specs.Replica.{FitTables}
+use Rattle.replica.specs.Replica.{FitTables, entries_of}
 
 of_some : {X : Type 0} (o : Option X) → IsSome o → (x : X) × (o ≡ Some x)
 of_some (Some x) h = (x, refl)
@@ -39,7 +41,9 @@ tables_kept schema old new widths count have t width is =
 
 -- ---- entries that are delivered one by one
 
-pub snapshot_below : (n : ℕ) (entries : List Entry) (i : ℕ) (d : Entry) → IsLogFrom n (calls_of entries) → i < length entries → (slice_index_or entries i d).call.snapshot ≤ n + i
-snapshot_below n [] i d log lt = absurd (omega arith)
-snapshot_below n (e ∷ entries) zero d log lt = let first : e.call.snapshot ≤ n = log.0 in omega arith
-snapshot_below n (e ∷ entries) (suc i) d log lt = let later = snapshot_below (suc n) entries i d log.1 (omega arith) in omega arith
+-- each is placed where it stands
+pub placed_in_code : {A : Type 0} (n : ℕ) (entries : List (LogEntry A)) (i : ℕ) (d : LogEntry A) → IsLogFrom n (items_of (entries_of entries)) → i < length entries → IsPlaced (n + i) (item_of (entry_of (slice_index_or entries i d)))
+placed_in_code n [] i d log lt = absurd (omega arith)
+placed_in_code n (e ∷ entries) zero d log lt = subst (λ (k : ℕ). IsPlaced k (item_of (entry_of e))) (let same : n ≡ n + 0 = omega arith in same) log.0
+placed_in_code n (e ∷ entries) (suc i) d log lt =
+    subst (λ (k : ℕ). IsPlaced k (item_of (entry_of (slice_index_or entries i d)))) (let same : suc n + i ≡ n + suc i = omega arith in same) (placed_in_code (suc n) entries i d log.1 (omega arith))

@@ -7,40 +7,41 @@ use Rattle.std.proofs.lemmas.List.Sums.{fold-append}
 use Rattle.std.specs.FinMap.{empty}
 use Rattle.schema.specs.Rows.{Rows, Writes, after_writes}
 use Rattle.row_model.specs.InstalledWrites.{InstalledWrites, map_after}
+use Rattle.log_model.specs.declared.request.RequestId.{RequestId}
 use Rattle.log_model.specs.declared.verdict.Verdict.{Verdict}
-use Rattle.log_model.specs.declared.verdict.Verdict.TheVariants.{Commit, Conflict, Stale}
-use Rattle.log_model.specs.Log.{CertifiedCall, is_commit, if_commits, verdict_after, certified_call_after}
-use Rattle.log_model.specs.Entries.{Entry, with_entry, certified_calls_of, installed_from}
+use Rattle.log_model.specs.declared.verdict.Verdict.TheVariants.{Commit, Conflict, Stale, Repeated, Taken}
+use Rattle.log_model.specs.Log.{Catalogue, CertifiedItem, is_commit, if_commits}
+use Rattle.log_model.specs.Entries.{Entry, CertifiedEntries, certified_entry, with_entry, certified_entries_of, installed_from}
 use Rattle.replica.specs.Replica.{rows_kept}
 
 -- ---- the certified calls of one entry more
 
-pub certified_more : (window : ℕ) (entries : List Entry) (e : Entry) → certified_calls_of window (entries ++ e ∷ []) ≡ with_entry window (certified_calls_of window entries) e
-unfolding certified_calls_of
-certified_more window entries e = fold-append (with_entry window) [] entries (e ∷ [])
+pub certified_more : (window : ℕ) (base : Catalogue) (entries : List Entry) (e : Entry) → certified_entries_of window base (entries ++ e ∷ []) ≡ with_entry window (certified_entries_of window base entries) e
+unfolding certified_entries_of
+certified_more window base entries e = fold-append (with_entry window) (record { certified = []; procedures = base }) entries (e ∷ [])
 
-count_fold : (window : ℕ) (entries : List Entry) (past : List CertifiedCall) → length (fold (with_entry window) past entries) ≡ length past + length entries
+pub count_fold : (window : ℕ) (entries : List Entry) (past : CertifiedEntries) → length (fold (with_entry window) past entries).certified ≡ length past.certified + length entries
 count_fold window [] past = omega arith
 count_fold window (e ∷ entries) past =
-    let one : length (with_entry window past e) ≡ length past + 1 = length-append past (certified_call_after window past e.call e.looks e.writes ∷ []) in
+    let one : length (with_entry window past e).certified ≡ length past.certified + 1 = length-append past.certified (certified_entry window past e ∷ []) in
     let rest = count_fold window entries (with_entry window past e) in
     omega arith
 
-pub certified_count : (window : ℕ) (entries : List Entry) → length (certified_calls_of window entries) ≡ length entries
-unfolding certified_calls_of
-certified_count window entries = count_fold window entries [] ∙ omega arith
+pub certified_count : (window : ℕ) (base : Catalogue) (entries : List Entry) → length (certified_entries_of window base entries).certified ≡ length entries
+unfolding certified_entries_of
+certified_count window base entries = count_fold window entries (record { certified = []; procedures = base }) ∙ omega arith
 
 -- ---- the installed writes of one call more
 
 -- of the call at a position
-abbrev one_installed : ℕ → CertifiedCall → List InstalledWrites
+abbrev one_installed : ℕ → CertifiedItem → List InstalledWrites
 one_installed position c = if is_commit c.verdict then record { position = position; writes = c.writes } ∷ [] else []
 
 append_assoc : {X : Type 0} (xs ys zs : List X) → xs ++ (ys ++ zs) ≡ xs ++ ys ++ zs
 append_assoc [] ys zs = refl
 append_assoc (x ∷ xs) ys zs = ap (λ l. x ∷ l) (append_assoc xs ys zs)
 
-installed_more : (p : ℕ) (past : List CertifiedCall) (c : CertifiedCall) → installed_from p (past ++ c ∷ []) ≡ installed_from p past ++ one_installed (p + length past) c
+installed_more : (p : ℕ) (past : List CertifiedItem) (c : CertifiedItem) → installed_from p (past ++ c ∷ []) ≡ installed_from p past ++ one_installed (p + length past) c
 unfolding installed_from
 installed_more p [] c = append-nil (one_installed p c) ∙ ap (λ (n : ℕ). one_installed n c) (omega arith)
 installed_more p (x ∷ past) c =
@@ -48,10 +49,10 @@ installed_more p (x ∷ past) c =
     ∙ append_assoc (one_installed p x) (installed_from (p + 1) past) (one_installed (p + length (x ∷ past)) c)
 
 -- the rows after a position by the certified calls
-abbrev rows_by : List CertifiedCall → ℕ → Rows
+abbrev rows_by : List CertifiedItem → ℕ → Rows
 rows_by past s = map_after (installed_from 1 past) s
 
-by_more : (past : List CertifiedCall) (c : CertifiedCall) (s : ℕ) → rows_by (past ++ c ∷ []) s ≡ map_after (installed_from 1 past ++ one_installed (1 + length past) c) s
+by_more : (past : List CertifiedItem) (c : CertifiedItem) (s : ℕ) → rows_by (past ++ c ∷ []) s ≡ map_after (installed_from 1 past ++ one_installed (1 + length past) c) s
 by_more past c s = ap (λ (l : List InstalledWrites). map_after l s) (installed_more 1 past c)
 
 -- the laws of one more write set
@@ -59,33 +60,41 @@ pub record LaysOn : Type 0 where
   pub later : (installed : List InstalledWrites) (next : InstalledWrites) (position : ℕ) → next.position ≤ position → map_after (installed ++ next ∷ []) position ≡ after_writes next.writes (map_after installed position)
   pub before : (installed : List InstalledWrites) (next : InstalledWrites) (position : ℕ) → position < next.position → map_after (installed ++ next ∷ []) position ≡ map_after installed position
 
-later_by : LaysOn → (past : List CertifiedCall) (writes : Writes) (verdict : Verdict) (s : ℕ) → suc (length past) ≤ s
-    → rows_by (past ++ record { writes = writes; verdict = verdict } ∷ []) s ≡ if_commits verdict (after_writes writes (rows_by past s)) (rows_by past s)
-later_by law past writes Commit s le = by_more past (record { writes = writes; verdict = Commit }) s ∙ law.later (installed_from 1 past) (record { position = 1 + length past; writes = writes }) s (omega arith)
-later_by law past writes (Conflict position) s le = by_more past (record { writes = writes; verdict = Conflict position }) s ∙ ap (λ (l : List InstalledWrites). map_after l s) (append-nil (installed_from 1 past))
-later_by law past writes Stale s le = by_more past (record { writes = writes; verdict = Stale }) s ∙ ap (λ (l : List InstalledWrites). map_after l s) (append-nil (installed_from 1 past))
+later_by : LaysOn → (past : List CertifiedItem) (request : RequestId) (writes : Writes) (verdict : Verdict) (s : ℕ) → suc (length past) ≤ s
+    → rows_by (past ++ record { request = request; writes = writes; verdict = verdict } ∷ []) s ≡ if_commits verdict (after_writes writes (rows_by past s)) (rows_by past s)
+later_by law past request writes Commit s le = by_more past (record { request = request; writes = writes; verdict = Commit }) s ∙ law.later (installed_from 1 past) (record { position = 1 + length past; writes = writes }) s (omega arith)
+later_by law past request writes (Conflict position) s le = by_more past (record { request = request; writes = writes; verdict = Conflict position }) s ∙ ap (λ (l : List InstalledWrites). map_after l s) (append-nil (installed_from 1 past))
+later_by law past request writes Stale s le = by_more past (record { request = request; writes = writes; verdict = Stale }) s ∙ ap (λ (l : List InstalledWrites). map_after l s) (append-nil (installed_from 1 past))
+later_by law past request writes (Repeated position) s le = by_more past (record { request = request; writes = writes; verdict = Repeated position }) s ∙ ap (λ (l : List InstalledWrites). map_after l s) (append-nil (installed_from 1 past))
+later_by law past request writes (Taken part) s le = by_more past (record { request = request; writes = writes; verdict = Taken part }) s ∙ ap (λ (l : List InstalledWrites). map_after l s) (append-nil (installed_from 1 past))
 
-before_by : LaysOn → (past : List CertifiedCall) (writes : Writes) (verdict : Verdict) (s : ℕ) → s ≤ length past
-    → rows_by (past ++ record { writes = writes; verdict = verdict } ∷ []) s ≡ rows_by past s
-before_by law past writes Commit s le = by_more past (record { writes = writes; verdict = Commit }) s ∙ law.before (installed_from 1 past) (record { position = 1 + length past; writes = writes }) s (omega arith)
-before_by law past writes (Conflict position) s le = by_more past (record { writes = writes; verdict = Conflict position }) s ∙ ap (λ (l : List InstalledWrites). map_after l s) (append-nil (installed_from 1 past))
-before_by law past writes Stale s le = by_more past (record { writes = writes; verdict = Stale }) s ∙ ap (λ (l : List InstalledWrites). map_after l s) (append-nil (installed_from 1 past))
+before_by : LaysOn → (past : List CertifiedItem) (request : RequestId) (writes : Writes) (verdict : Verdict) (s : ℕ) → s ≤ length past
+    → rows_by (past ++ record { request = request; writes = writes; verdict = verdict } ∷ []) s ≡ rows_by past s
+before_by law past request writes Commit s le = by_more past (record { request = request; writes = writes; verdict = Commit }) s ∙ law.before (installed_from 1 past) (record { position = 1 + length past; writes = writes }) s (omega arith)
+before_by law past request writes (Conflict position) s le = by_more past (record { request = request; writes = writes; verdict = Conflict position }) s ∙ ap (λ (l : List InstalledWrites). map_after l s) (append-nil (installed_from 1 past))
+before_by law past request writes Stale s le = by_more past (record { request = request; writes = writes; verdict = Stale }) s ∙ ap (λ (l : List InstalledWrites). map_after l s) (append-nil (installed_from 1 past))
+before_by law past request writes (Repeated position) s le = by_more past (record { request = request; writes = writes; verdict = Repeated position }) s ∙ ap (λ (l : List InstalledWrites). map_after l s) (append-nil (installed_from 1 past))
+before_by law past request writes (Taken part) s le = by_more past (record { request = request; writes = writes; verdict = Taken part }) s ∙ ap (λ (l : List InstalledWrites). map_after l s) (append-nil (installed_from 1 past))
 
 -- ---- the rows of one entry more
 
-pub rows_later : LaysOn → (window s : ℕ) (entries : List Entry) (e : Entry) → suc (length entries) ≤ s
-    → rows_kept window (entries ++ e ∷ []) s ≡ if_commits (verdict_after window (certified_calls_of window entries) e.call e.looks) (after_writes e.writes (rows_kept window entries s)) (rows_kept window entries s)
-rows_later law window s entries e le =
-    let count = certified_count window entries in
-    ap (λ (l : List CertifiedCall). rows_by l s) (certified_more window entries e)
-    ∙ later_by law (certified_calls_of window entries) e.writes (verdict_after window (certified_calls_of window entries) e.call e.looks) s (omega arith)
+abbrev pub next_item : ℕ → Catalogue → List Entry → Entry → CertifiedItem
+next_item window base entries e = certified_entry window (certified_entries_of window base entries) e
 
-pub rows_before : LaysOn → (window s : ℕ) (entries : List Entry) (e : Entry) → s ≤ length entries → rows_kept window (entries ++ e ∷ []) s ≡ rows_kept window entries s
-rows_before law window s entries e le =
-    let count = certified_count window entries in
-    ap (λ (l : List CertifiedCall). rows_by l s) (certified_more window entries e)
-    ∙ before_by law (certified_calls_of window entries) e.writes (verdict_after window (certified_calls_of window entries) e.call e.looks) s (omega arith)
+pub rows_later : LaysOn → (window s : ℕ) (base : Catalogue) (entries : List Entry) (e : Entry) → suc (length entries) ≤ s
+    → rows_kept window base (entries ++ e ∷ []) s ≡ if_commits (next_item window base entries e).verdict (after_writes (next_item window base entries e).writes (rows_kept window base entries s)) (rows_kept window base entries s)
+rows_later law window s base entries e le =
+    let count = certified_count window base entries in
+    let c = next_item window base entries e in
+    ap (λ (x : CertifiedEntries). rows_by x.certified s) (certified_more window base entries e)
+    ∙ later_by law (certified_entries_of window base entries).certified (next_item window base entries e).request (next_item window base entries e).writes (next_item window base entries e).verdict s (omega arith)
 
-pub rows_none : ((position : ℕ) → map_after [] position ≡ empty) → (window s : ℕ) → rows_kept window [] s ≡ empty
-unfolding certified_calls_of installed_from
-rows_none none window s = none s
+pub rows_before : LaysOn → (window s : ℕ) (base : Catalogue) (entries : List Entry) (e : Entry) → s ≤ length entries → rows_kept window base (entries ++ e ∷ []) s ≡ rows_kept window base entries s
+rows_before law window s base entries e le =
+    let count = certified_count window base entries in
+    ap (λ (x : CertifiedEntries). rows_by x.certified s) (certified_more window base entries e)
+    ∙ before_by law (certified_entries_of window base entries).certified (next_item window base entries e).request (next_item window base entries e).writes (next_item window base entries e).verdict s (omega arith)
+
+pub rows_none : ((position : ℕ) → map_after [] position ≡ empty) → (window s : ℕ) (base : Catalogue) → rows_kept window base [] s ≡ empty
+unfolding certified_entries_of installed_from
+rows_none none window s base = none s

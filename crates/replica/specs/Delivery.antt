@@ -1,30 +1,36 @@
 -- What one delivery leaves, step by step. No public clause speaks of it.
 use Rattle.std.specs.Prelude.{◌≡◌, ℕ, ◌+◌, ◌-◌, ◌≤◌, true, false, List, [], ◌∷◌, ◌++◌}
 use Rattle.schema.specs.Rows.{Key, Rows}
-use Rattle.log_model.specs.Log.{CertifiedCall, is_commit}
-use Rattle.log_model.specs.Entries.{Entry}
+use Rattle.log_model.specs.Log.{is_commit}
+use Rattle.log_model.specs.Entries.{Entry, CertifiedEntries, with_entry}
 use Rattle.key_table.specs.Table.{Table, versions_at}
 use Rattle.rows_mv.specs.Versions.{slots_of, AnswersFrom, IsInstalled}
 use Rattle.certify.specs.Kept as certifier
 use Rattle.replica.specs.declared.certification.Certification.{Certification}
-use Rattle.replica.specs.Replica.{Replica, certification_after}
+use Rattle.stored_procedures.specs.Held.{ListedProcedure, stored_procedures}
+use Rattle.replica.specs.Replica.{Replica, certification_next, writes_in}
 
 -- each key has the versions that it had
 abbrev pub HasSameVersions : List Table → List Table → Type 0
 HasSameVersions old new = (k : Key) → versions_at (slots_of new k.0) k.1 ≡ versions_at (slots_of old k.0) k.1
 
--- what one delivery leaves: the certifier has taken the entry in, the writes of one that commits are installed, and then
+-- what a replica keeps for verdicts is of these
+pub record KeepsCertified (m : certifier.Memory) (held : List ListedProcedure) (past : CertifiedEntries) : Type 0 where
+  pub memory : certifier.StandsFor m past.certified
+  pub procedures : stored_procedures held ≡ past.procedures
+
+-- what one delivery leaves: the certifier and the procedures have taken the entry in, the writes of one that commits are installed, and then
 -- what no position within the window sees may be dropped
 pub record IsDelivered (old new : Replica) (e : Entry) (c : Certification) (installed : List Table) : Type 0 where
   pub window : new.window ≡ old.window
   pub position : new.position ≡ old.position + 1
-  pub certified : (past : List CertifiedCall) → certifier.StandsFor old.memory past
-      → c ≡ certification_after old.memory.window past e.call e.looks
+  pub certified : (past : CertifiedEntries) → KeepsCertified old.memory old.procedures past
+      → c ≡ certification_next old.memory.window past e
   pub certifications : new.certifications ≡ old.certifications ++ c ∷ []
-  pub memory : (past : List CertifiedCall) → certifier.StandsFor old.memory past
-      → certifier.StandsFor new.memory (past ++ record { writes = e.writes; verdict = c.verdict } ∷ [])
+  pub kept : (past : CertifiedEntries) → KeepsCertified old.memory old.procedures past
+      → KeepsCertified new.memory new.procedures (with_entry old.memory.window past e)
   pub same_window : new.memory.window ≡ old.memory.window
-  pub installs : is_commit c.verdict ≡ true → IsInstalled (old.position + 1) e.writes old.versions.tables installed
+  pub installs : is_commit c.verdict ≡ true → IsInstalled (old.position + 1) (writes_in e) old.versions.tables installed
   pub refuses : is_commit c.verdict ≡ false → HasSameVersions old.versions.tables installed
   pub pruned : (s : ℕ) (rows : Rows) → new.position - s ≤ new.window
       → AnswersFrom installed s rows → AnswersFrom new.versions.tables s rows
@@ -36,5 +42,6 @@ pub record IsRefusedDelivery (old new : Replica) : Type 0 where
   pub position : new.position ≡ old.position
   pub certifications : new.certifications ≡ old.certifications
   pub memory : new.memory ≡ old.memory
+  pub procedures : new.procedures ≡ old.procedures
   pub versions : HasSameVersions old.versions.tables new.versions.tables
   pub horizon : new.versions.horizon ≡ old.versions.horizon

@@ -1,43 +1,55 @@
 -- What a replica keeps, and the delivered entries for which it stands.
-use Rattle.std.specs.Prelude.{◌≡◌, ℕ, ◌-◌, ◌≤◌, Bool, List, length, take, slice_get, Some}
+use Rattle.std.specs.Prelude.{◌≡◌, ℕ, ◌-◌, ◌≤◌, Bool, true, List, length, map, take, slice_get, Some}
+use Rattle.std.specs.FinMap.{empty}
+use Rattle.schema.specs.Schema.{Tables}
 use Rattle.schema.specs.Rows.{Rows, Writes}
 use Rattle.schema.specs.declared.look.Look.{Look}
 use Rattle.row_model.specs.InstalledWrites.{map_after}
-use Rattle.log_model.specs.Log.{Setting, Call, CertifiedCall, IsLog, verdict_after}
+use Rattle.log_model.specs.Log.{Catalogue, Setting, Call as OrderedCall, CertifiedItem, IsLog, verdict_after}
 use Rattle.log_model.specs.Comparisons.{comparisons_after}
-use Rattle.log_model.specs.Entries.{Entry, calls_of, CarryRuns, certified_calls_of, installed_from}
-use Rattle.log_model.specs.Fit.{HasSafeProcedures, AreCalls}
+use Rattle.log_model.specs.Entries.{Entry, CallEntry, AdditionEntry, items_of, CarryRuns, CertifiedEntries, certified_entry, certified_entries_of, installed_from}
+use Rattle.log_model.specs.Fit.{HasSafeProcedures, AreItems}
 use Rattle.rows_mv.specs.Versions.{Versions, AnswersFrom, AreOfTables, HaveWidths}
+use Rattle.stored_procedures.specs.Held.{ListedProcedure, stored_procedures}
+use Rattle.log_model.specs.Name.{is_name}
+use Rattle.log_entry.specs.declared.entry.Entry.{Entry as LogEntry}
+use Rattle.log_entry.specs.declared.entry.Entry.TheVariants.{Call, Addition}
+use Rattle.log_entry.specs.Kind.{entry_of}
 use Rattle.certify.specs.Kept as certifier
 use Rattle.replica.specs.declared.certification.Certification.{Certification}
 
--- the rows after a position, by the delivered entries alone
-abbrev pub rows_kept : ℕ → List Entry → ℕ → Rows
-rows_kept window entries s = map_after (installed_from 1 (certified_calls_of window entries)) s
+-- the rows after a position, by the delivered entries alone, and the procedures at first
+abbrev pub rows_kept : ℕ → Catalogue → List Entry → ℕ → Rows
+rows_kept window base entries s = map_after (installed_from 1 (certified_entries_of window base entries).certified) s
 
 -- each position within the window, and each later one, answers from the rows after it
-abbrev pub KeepsRows : ℕ → Versions → List Entry → ℕ → Type 0
-KeepsRows window versions entries position =
-    (s : ℕ) → position - s ≤ window → AnswersFrom versions.tables s (rows_kept window entries s)
+abbrev pub KeepsRows : ℕ → Catalogue → Versions → List Entry → ℕ → Type 0
+KeepsRows window base versions entries position =
+    (s : ℕ) → position - s ≤ window → AnswersFrom versions.tables s (rows_kept window base entries s)
 
 -- the verdict on the next call, and how many exact comparisons it takes
-abbrev pub certification_after : ℕ → List CertifiedCall → Call → List Look → Certification
+abbrev pub certification_after : ℕ → List CertifiedItem → OrderedCall → List Look → Certification
 certification_after window past call looks = record {
   verdict = verdict_after window past call looks;
   compared = length (comparisons_after window past call looks);
 }
 
+-- that of the next entry: an addition takes no comparison
+abbrev pub certification_next : ℕ → CertifiedEntries → Entry → Certification
+certification_next window past (CallEntry e) = certification_after window past.certified e.call e.looks
+certification_next window past (AdditionEntry p) = record { verdict = (certified_entry window past (AdditionEntry p)).verdict; compared = 0 }
+
 -- that of an entry which has so many before it
-abbrev pub certification_of : ℕ → List Entry → ℕ → Entry → Certification
-certification_of window entries before e = certification_after window (certified_calls_of window (take before entries)) e.call e.looks
+abbrev pub certification_of : ℕ → Catalogue → List Entry → ℕ → Entry → Certification
+certification_of window base entries before e = certification_next window (certified_entries_of window base (take before entries)) e
 
 -- that of each entry
-pub record AreCertificationsOf (window : ℕ) (entries : List Entry) (certifications : List Certification) : Type 0 where
+pub record AreCertificationsOf (window : ℕ) (base : Catalogue) (entries : List Entry) (certifications : List Certification) : Type 0 where
   pub count : length certifications ≡ length entries
   pub each : (before : ℕ) (e : Entry) → slice_get entries before ≡ Some e
-      → slice_get certifications before ≡ Some (certification_of window entries before e)
+      → slice_get certifications before ≡ Some (certification_of window base entries before e)
 
--- what a replica keeps of the delivered entries for verdicts and for rows, and whether it has stopped
+-- what a replica keeps of the delivered entries for verdicts and for rows, its procedures, and whether it has stopped
 pub record Replica : Type 0 where
   pub window : ℕ
   pub position : ℕ
@@ -45,6 +57,7 @@ pub record Replica : Type 0 where
   pub certifications : List Certification
   pub memory : certifier.Memory
   pub versions : Versions
+  pub procedures : List ListedProcedure
 
 -- what is known of every replica
 pub record IsReplica (r : Replica) : Type 0 where
@@ -53,14 +66,15 @@ pub record IsReplica (r : Replica) : Type 0 where
   pub window : r.memory.window ≡ r.window
   pub horizon : r.versions.horizon ≤ r.position - r.window
 
--- what it keeps is of these entries, in the order of their delivery
-pub record StandsFor (r : Replica) (entries : List Entry) : Type 0 where
+-- what it keeps is of these entries, in the order of their delivery, where these are the procedures at first
+pub record StandsFor (base : Catalogue) (r : Replica) (entries : List Entry) : Type 0 where
   pub position : r.position ≡ length entries
   pub window : r.memory.window ≡ r.window
-  pub memory : certifier.StandsFor r.memory (certified_calls_of r.window entries)
+  pub memory : certifier.StandsFor r.memory (certified_entries_of r.window base entries).certified
   pub horizon : r.versions.horizon ≤ r.position - r.window
-  pub rows : KeepsRows r.window r.versions entries r.position
-  pub certifications : AreCertificationsOf r.window entries r.certifications
+  pub rows : KeepsRows r.window base r.versions entries r.position
+  pub certifications : AreCertificationsOf r.window base entries r.certifications
+  pub procedures : stored_procedures r.procedures ≡ (certified_entries_of r.window base entries).procedures
 
 -- writes for which the tables have room: of their keys, and of their widths
 pub record FitTables (versions : Versions) (writes : Writes) : Type 0 where
@@ -69,9 +83,30 @@ pub record FitTables (versions : Versions) (writes : Writes) : Type 0 where
 
 -- ---- the log
 
--- the calls are a log of this setting, and each entry carries its run
+-- the entries are of a log of this setting, and each call carries its run
 pub record AreEntriesOf (w : Setting) (entries : List Entry) : Type 0 where
   pub procedures : HasSafeProcedures w
-  pub log : IsLog (calls_of entries)
-  pub calls : AreCalls w (calls_of entries)
+  pub log : IsLog (items_of entries)
+  pub items : AreItems w (items_of entries)
   pub runs : CarryRuns w entries
+
+-- ---- what is asked of an entry
+
+-- what an entry writes: an addition nothing
+abbrev pub writes_in : Entry → Writes
+writes_in (CallEntry e) = e.writes
+writes_in (AdditionEntry p) = empty
+
+-- the name of an added procedure is one
+abbrev pub IsNamed : Entry → Type 0
+IsNamed (CallEntry e) = Unit {0}
+IsNamed (AdditionEntry p) = is_name p.name ≡ true
+
+-- the program of an added procedure was accepted for these tables
+abbrev pub IsForTables : {A : Type 0} → Tables → LogEntry A → Type 0
+IsForTables tables (Call e) = Unit {0}
+IsForTables tables (Addition p) = p.accepted.tables ≡ tables
+
+-- entries in code, as the model has them
+abbrev pub entries_of : {A : Type 0} → List (LogEntry A) → List Entry
+entries_of entries = map entry_of entries

@@ -3,18 +3,25 @@
 ghost use Rattle.std.specs.Prelude.{◌≡◌, ℕ, ◌+◌, ◌-◌, ◌<◌, ◌≤◌, List, [], ◌∷◌, ◌++◌, length, true, false, IfOk, OnOk, OnErr};
 ghost use Rattle.schema.specs.Rows.{Rows};
 ghost use Rattle.rows_mv.specs.Versions.{AnswersFrom, IsInstalled, width_of};
-ghost use Rattle.log_model.specs.Log.{CertifiedCall, is_commit};
+ghost use Rattle.schema.specs.Schema.{Tables};
+ghost use Rattle.log_model.specs.Log.{CertifiedItem, IsPlaced, certified_call_after, is_commit};
+ghost use Rattle.log_model.specs.Entries.{CertifiedEntries, item_of, with_entry};
+ghost use Rattle.log_entry.specs.Kind.{entry_of};
+ghost use Rattle.stored_procedures.specs.Held.{AreForTables};
 ghost use Rattle.certify.specs.Kept.{StandsFor};
-ghost use Rattle.replica.specs.Replica.{FitTables, certification_after};
-ghost use Rattle.replica.specs.Delivery.{HasSameVersions};
+ghost use Rattle.replica.specs.Replica.{FitTables, IsForTables, IsNamed, certification_after, certification_next, writes_in};
+ghost use Rattle.replica.specs.Delivery.{HasSameVersions, KeepsCertified};
 
+use crate::addition::take_addition;
 use crate::certification::Certification;
+use crate::laws::additions_are_taken_in;
 use certify::Certifier;
-use log_entry::Entry;
+use log_entry::{Entry, ExecutedCall};
 use log_model::Verdict;
 use row_sets::WriteSet;
 use rows_mv::{Versions, answers_after_pruning};
 use std::alloc::{AllocError, Allocator};
+use stored_procedures::StoredProcedures;
 
 /// Installs the writes of a call that commits and enters its certification. Where memory is refused each key has the
 /// versions that it had.
@@ -47,27 +54,27 @@ fn install<A: Allocator + Copy, B: Allocator + Copy>(
     Ok(())
 }
 
-/// Takes one entry in at the next position. Where memory is refused the certifier and the certifications are as before,
+/// Takes a call in at the next position. Where memory is refused the certifier and the certifications are as before,
 /// and each key has the versions that it had.
-pub(crate) fn take_entry<A: Allocator + Copy, B: Allocator + Copy>(
+fn take_call<A: Allocator + Copy, B: Allocator + Copy>(
     certifier: &mut Certifier<A>,
     versions: &mut Versions<A>,
     certifications: &mut Vec<Certification, A>,
     position: u32,
-    entry: &Entry<B>,
+    call: &ExecutedCall<B>,
 ) -> Result<Certification, AllocError>
     requires next { position ≡ certifier.old.memory.count + 1 }
-    requires snapshot { entry.now.call.snapshot < position }
-    requires fit { FitTables versions.old entry.now.writes }
-    ensures certified { IfOk result (λ c. (past : List CertifiedCall) → StandsFor certifier.old.memory past
-        → c ≡ certification_after certifier.old.memory.window past entry.now.call entry.now.looks) }
-    ensures memory { IfOk result (λ c. (past : List CertifiedCall) → StandsFor certifier.old.memory past
-        → StandsFor certifier.new.memory (past ++ record { writes = entry.now.writes; verdict = c.verdict } ∷ [])) }
+    requires snapshot { call.now.call.snapshot < position }
+    requires fit { FitTables versions.old call.now.writes }
+    ensures certified { IfOk result (λ c. (past : List CertifiedItem) → StandsFor certifier.old.memory past
+        → c ≡ certification_after certifier.old.memory.window past call.now.call call.now.looks) }
+    ensures memory { OnOk result ((past : List CertifiedItem) → StandsFor certifier.old.memory past
+        → StandsFor certifier.new.memory (past ++ certified_call_after certifier.old.memory.window past call.now.call call.now.looks call.now.writes ∷ [])) }
     ensures window { certifier.new.memory.window ≡ certifier.old.memory.window }
     ensures taken { OnOk result (certifier.new.memory.count ≡ position) }
     ensures same_memory { OnErr result (certifier.new.memory ≡ certifier.old.memory) }
     ensures installs { IfOk result (λ c. is_commit c.verdict ≡ true
-        → IsInstalled position entry.now.writes versions.old.tables versions.new.tables) }
+        → IsInstalled position call.now.writes versions.old.tables versions.new.tables) }
     ensures refuses { IfOk result (λ c. is_commit c.verdict ≡ false
         → HasSameVersions versions.old.tables versions.new.tables) }
     ensures same_versions { OnErr result (HasSameVersions versions.old.tables versions.new.tables) }
@@ -77,21 +84,66 @@ pub(crate) fn take_entry<A: Allocator + Copy, B: Allocator + Copy>(
     ensures tables { length versions.new.tables ≡ length versions.old.tables }
     ensures horizon { versions.new.horizon ≡ versions.old.horizon }
 {
-    let verdict = certifier.verdict(entry, position);
+    let verdict = certifier.verdict(call, position);
     let certification = Certification {
         verdict,
         compared: certifier.compared(),
     };
-    let prepared = certifier.prepare(entry)?;
+    let prepared = certifier.prepare(call)?;
     install(
         versions,
         certifications,
         certification,
         position,
-        &entry.writes,
+        &call.writes,
     )?;
     certifier.keep(position, verdict, prepared);
     Ok(certification)
+}
+
+/// Takes an entry in at the next position. Where memory is refused the certifier, the certifications and the procedures are
+/// as before, and each key has the versions that it had.
+pub(crate) fn take_entry<A: Allocator + Copy, P: Allocator + Copy>(
+    certifier: &mut Certifier<A>,
+    versions: &mut Versions<A>,
+    procedures: &mut StoredProcedures<A, P>,
+    certifications: &mut Vec<Certification, A>,
+    position: u32,
+    entry: &Entry<P>,
+) -> Result<Certification, AllocError>
+    requires next { position ≡ certifier.old.memory.count + 1 }
+    requires placed { IsPlaced (position - 1) (item_of (entry_of entry.now)) }
+    requires fit { FitTables versions.old (writes_in (entry_of entry.now)) }
+    requires named { IsNamed (entry_of entry.now) }
+    ensures certified { IfOk result (λ c. (past : CertifiedEntries) → KeepsCertified certifier.old.memory procedures.old past
+        → c ≡ certification_next certifier.old.memory.window past (entry_of entry.now)) }
+    ensures kept { OnOk result ((past : CertifiedEntries) → KeepsCertified certifier.old.memory procedures.old past
+        → KeepsCertified certifier.new.memory procedures.new
+        (with_entry certifier.old.memory.window past (entry_of entry.now))) }
+    ensures window { certifier.new.memory.window ≡ certifier.old.memory.window }
+    ensures taken { OnOk result (certifier.new.memory.count ≡ position) }
+    ensures same_memory { OnErr result (certifier.new.memory ≡ certifier.old.memory) }
+    ensures same_procedures { OnErr result (procedures.new ≡ procedures.old) }
+    ensures for_tables { (tables : Tables) → AreForTables tables procedures.old → IsForTables tables entry.now
+        → AreForTables tables procedures.new }
+    ensures installs { IfOk result (λ c. is_commit c.verdict ≡ true
+        → IsInstalled position (writes_in (entry_of entry.now)) versions.old.tables versions.new.tables) }
+    ensures refuses { IfOk result (λ c. is_commit c.verdict ≡ false
+        → HasSameVersions versions.old.tables versions.new.tables) }
+    ensures same_versions { OnErr result (HasSameVersions versions.old.tables versions.new.tables) }
+    ensures entered { IfOk result (λ c. certifications.new.items ≡ certifications.old.items ++ c ∷ []) }
+    ensures same_certifications { OnErr result (certifications.new.items ≡ certifications.old.items) }
+    ensures widths { (t : ℕ) → width_of versions.new.tables t ≡ width_of versions.old.tables t }
+    ensures tables { length versions.new.tables ≡ length versions.old.tables }
+    ensures horizon { versions.new.horizon ≡ versions.old.horizon }
+{
+    additions_are_taken_in();
+    match entry {
+        Entry::Call(call) => take_call(certifier, versions, certifications, position, call),
+        Entry::Addition(added) => {
+            take_addition(certifier, procedures, certifications, position, added)
+        }
+    }
 }
 
 /// At least as many keys as there are, where they are fewer than 2^32.

@@ -5,12 +5,18 @@ ghost use Rattle.std.specs.FinMap.{empty};
 ghost use Rattle.schema.specs.Schema.{Tables};
 ghost use Rattle.schema.specs.Rows.{Rows, Writes, AreWrites, after_writes};
 ghost use Rattle.rows_mv.specs.Versions.{Versions, AnswersFrom, HaveTables, width_of};
-ghost use Rattle.log_model.specs.Log.{Setting, is_commit, verdict_after, verdict_of, if_commits, rows_after};
-ghost use Rattle.log_model.specs.Entries.{Entry, calls_of, certified_calls_of};
+ghost use Rattle.log_model.specs.declared.verdict.Verdict.{Verdict};
+ghost use Rattle.log_model.specs.Log.{Catalogue, CertifiedItem, Setting, is_commit, verdict_of, if_commits, rows_after, procedures_after};
+ghost use Rattle.log_model.specs.Log.{certified_addition, verdict_on_addition};
+ghost use Rattle.certify.specs.Kept as certifier;
+ghost use Rattle.certify.specs.Kept.{Memory};
+ghost use Rattle.rows_mv.specs.Versions.{IsInstalled};
+ghost use Rattle.stored_procedures.specs.Held.{ListedProcedure, AreForTables, stored, stored_procedures};
+ghost use Rattle.log_model.specs.Entries.{Entry, AdditionEntry, CertifiedEntries, items_of, certified_entry, with_entry, certified_entries_of};
 ghost use Rattle.key_table.specs.Table.{Table};
 ghost use Rattle.replica.specs.declared.certification.Certification.{Certification};
 ghost use Rattle.replica.specs.Replica.{AreEntriesOf, FitTables, Replica, StandsFor, rows_kept};
-ghost use Rattle.replica.specs.Delivery.{IsDelivered, IsRefusedDelivery};
+ghost use Rattle.replica.specs.Delivery.{IsDelivered, IsRefusedDelivery, KeepsCertified};
 
 use log_model::entries_suffice;
 use row_model::map_after_each_write_set;
@@ -26,46 +32,65 @@ pub fn tables_take_the_schemas_writes()
 
 /// No rows at first; one more entry lays its writes on where it commits, from its own position on.
 pub fn rows_of_each_delivery()
-    ensures later { (window s : ℕ) (entries : List Entry) (e : Entry) → suc (length entries) ≤ s
-        → rows_kept window (entries ++ e ∷ []) s
-        ≡ if_commits (verdict_after window (certified_calls_of window entries) e.call e.looks)
-        (after_writes e.writes (rows_kept window entries s)) (rows_kept window entries s) }
-    ensures before { (window s : ℕ) (entries : List Entry) (e : Entry) → s ≤ length entries
-        → rows_kept window (entries ++ e ∷ []) s ≡ rows_kept window entries s }
+    ensures later { (window s : ℕ) (base : Catalogue) (entries : List Entry) (e : Entry) → suc (length entries) ≤ s
+        → rows_kept window base (entries ++ e ∷ []) s
+        ≡ if_commits (certified_entry window (certified_entries_of window base entries) e).verdict
+        (after_writes (certified_entry window (certified_entries_of window base entries) e).writes
+        (rows_kept window base entries s)) (rows_kept window base entries s) }
+    ensures before { (window s : ℕ) (base : Catalogue) (entries : List Entry) (e : Entry) → s ≤ length entries
+        → rows_kept window base (entries ++ e ∷ []) s ≡ rows_kept window base entries s }
 {
     map_after_each_write_set();
 }
 
 /// A replica goes on standing for what it delivered, and where a delivery is refused it stands for the same.
 pub(crate) fn deliveries_are_kept()
-    ensures delivered { (old new : Replica) (e : Entry) (c : Certification) (installed : List Table) (entries : List Entry)
-        → IsDelivered old new e c installed → StandsFor old entries → StandsFor new (entries ++ e ∷ []) }
-    ensures refused { (old new : Replica) (entries : List Entry)
-        → IsRefusedDelivery old new → StandsFor old entries → StandsFor new entries }
+    ensures delivered { (base : Catalogue) (old new : Replica) (e : Entry) (c : Certification) (installed : List Table)
+        (entries : List Entry)
+        → IsDelivered old new e c installed → StandsFor base old entries → StandsFor base new (entries ++ e ∷ []) }
+    ensures refused { (base : Catalogue) (old new : Replica) (entries : List Entry)
+        → IsRefusedDelivery old new → StandsFor base old entries → StandsFor base new entries }
 {
     map_after_each_write_set();
     answers_after_an_install();
 }
 
+/// What an addition that is taken in leaves, in words of the entries: it installs nothing.
+pub(crate) fn additions_are_taken_in()
+    ensures kept { (window : ℕ) (old new : Memory) (before after : List ListedProcedure) (l : ListedProcedure)
+        → ((past : List CertifiedItem) → certifier.StandsFor old past
+        → certifier.StandsFor new (past ++ certified_addition (stored_procedures before) (stored l) ∷ []))
+        → after ≡ if_commits (verdict_on_addition (stored_procedures before) (stored l)) (before ++ l ∷ []) before
+        → (past : CertifiedEntries) → KeepsCertified old before past
+        → KeepsCertified new after (with_entry window past (AdditionEntry (stored l))) }
+    ensures for_tables { (tables : Tables) (v : Verdict) (before : List ListedProcedure) (l : ListedProcedure)
+        → AreForTables tables before → l.accepted.tables ≡ tables
+        → AreForTables tables (if_commits v (before ++ l ∷ []) before) }
+    ensures installs { (position : ℕ) (tables : List Table) → IsInstalled position empty tables tables }
+{}
+
 /// At first there are no rows at any position.
 pub(crate) fn no_rows_at_first()
-    ensures { (window s : ℕ) → rows_kept window [] s ≡ empty }
+    ensures { (window s : ℕ) (base : Catalogue) → rows_kept window base [] s ≡ empty }
 {
     map_after_each_write_set();
 }
 
 /// Where the delivered entries are a log's and carry their runs, a replica's verdicts are those of the log, and the rows of
-/// the positions within its window are the log's.
+/// the positions within its window and its procedures are the log's.
 pub fn replicas_follow_the_log()
     ensures verdicts { (w : Setting) (r : Replica) (entries : List Entry) (before : ℕ) (c : Certification)
-        → w.window ≡ r.window → StandsFor r entries → AreEntriesOf w entries
-        → slice_get r.certifications before ≡ Some c → verdict_of w (calls_of entries) (before + 1) ≡ Some c.verdict }
+        → w.window ≡ r.window → StandsFor w.catalogue r entries → AreEntriesOf w entries
+        → slice_get r.certifications before ≡ Some c → verdict_of w (items_of entries) (before + 1) ≡ Some c.verdict }
     ensures rows { (w : Setting) (r : Replica) (entries : List Entry) (s : ℕ)
-        → w.window ≡ r.window → StandsFor r entries → AreEntriesOf w entries → s ≤ r.position → r.position - s ≤ r.window
-        → AnswersFrom r.versions.tables s (rows_after w (calls_of entries) s) }
+        → w.window ≡ r.window → StandsFor w.catalogue r entries → AreEntriesOf w entries → s ≤ r.position → r.position - s ≤ r.window
+        → AnswersFrom r.versions.tables s (rows_after w (items_of entries) s) }
+    ensures procedures { (w : Setting) (r : Replica) (entries : List Entry)
+        → w.window ≡ r.window → StandsFor w.catalogue r entries → AreEntriesOf w entries
+        → stored_procedures r.procedures ≡ procedures_after w (items_of entries) r.position }
     ensures next { (w : Setting) (entries : List Entry) (e : Entry) → AreEntriesOf w (entries ++ e ∷ [])
-        → verdict_of w (calls_of (entries ++ e ∷ [])) (length entries + 1)
-        ≡ Some (verdict_after w.window (certified_calls_of w.window entries) e.call e.looks) }
+        → verdict_of w (items_of (entries ++ e ∷ [])) (length entries + 1)
+        ≡ Some (certified_entry w.window (certified_entries_of w.window w.catalogue entries) e).verdict }
 {
     entries_suffice();
 }

@@ -7,10 +7,14 @@ ghost use Rattle.std.specs.Prelude.{All, IfOk, OnOk, OnErr};
 ghost use Rattle.std.specs.Prelude.{IsSome};
 ghost use Rattle.std.specs.FinMap as map;
 ghost use Rattle.schema.specs.Rows.{Key};
-ghost use Rattle.log_model.specs.Log.{IsLog, Setting, rows_after, verdict_after, verdict_of};
-ghost use Rattle.log_model.specs.Entries.{Entry as Delivered, calls_of, certified_calls_of};
+ghost use Rattle.schema.specs.Schema.{Tables};
+ghost use Rattle.log_model.specs.Log.{Catalogue as Procedures, IsLog, IsPlaced, Setting, procedures_after, rows_after, verdict_of};
+ghost use Rattle.log_model.specs.Entries.{Entry as Delivered, item_of, items_of, certified_entry, certified_entries_of};
+ghost use Rattle.log_entry.specs.Kind.{entry_of};
+ghost use Rattle.stored_procedures.specs.Held.{AreForTables, stored_procedures};
 ghost use Rattle.rows_mv.specs.Versions.{AnswersFrom, HaveTables, width_of};
-ghost use Rattle.replica.specs.Replica.{AreEntriesOf, FitTables, StandsFor, certification_of, rows_kept};
+ghost use Rattle.replica.specs.Replica.{AreEntriesOf, FitTables, IsForTables, IsNamed, StandsFor, certification_of};
+ghost use Rattle.replica.specs.Replica.{entries_of, rows_kept, writes_in};
 
 use crate::at::At;
 use crate::certification::Certification;
@@ -26,11 +30,13 @@ use row_values::Row;
 use rows_mv::{Versions, empty_versions_answer_from_no_rows};
 use std::alloc::{AllocError, Allocator, Global};
 use std::marker::Model;
+use stored_procedures::StoredProcedures;
 use txn_view::Store;
 
-/// A replica of the database. Contracts see what it keeps of the calls that were delivered to it.
+/// A replica of the database. Contracts see what it keeps of the entries that were delivered to it. Programs, in the memory
+/// of `P`, are shared with the catalogue and with the entries that added them.
 #[derive(Drop)]
-pub struct Replica<A: Allocator + Copy = Global> {
+pub struct Replica<A: Allocator + Copy = Global, P: Allocator + Copy = A> {
     alloc: A,
     window: u32,
     position: u32,
@@ -38,11 +44,12 @@ pub struct Replica<A: Allocator + Copy = Global> {
     certifications: Vec<Certification, A>,
     certifier: Certifier<A>,
     versions: Versions<A>,
+    procedures: StoredProcedures<A, P>,
     /// The position from which versions are dropped next.
     next_prune: u32,
 }
 
-impl<A: Allocator + Copy> Model for Replica<A> {
+impl<A: Allocator + Copy, P: Allocator + Copy> Model for Replica<A, P> {
     ghost use Rattle.std.specs.Prelude.{◌≡◌, ◌≤◌, ◌-◌};
     ghost use Rattle.replica.specs.Replica.{Replica, IsReplica};
     ghost use Rattle.replica.specs.Codes.{replica_code};
@@ -58,6 +65,7 @@ impl<A: Allocator + Copy> Model for Replica<A> {
       certifications = r.certifications.items;
       memory = r.certifier.memory;
       versions = r.versions;
+      procedures = r.procedures;
     } };
 
     ghost invariant = { λ r. IsReplica (record {
@@ -67,26 +75,25 @@ impl<A: Allocator + Copy> Model for Replica<A> {
       certifications = r.certifications.items;
       memory = r.certifier.memory;
       versions = r.versions;
+      procedures = r.procedures;
     }) };
 }
 
-impl<A: Allocator + Copy> Replica<A> {
-    /// One to which nothing was delivered, for the tables of a catalogue. Calls of which more than a window were delivered
+impl<A: Allocator + Copy, P: Allocator + Copy> Replica<A, P> {
+    /// One to which nothing was delivered, for the tables and with the procedures of a catalogue. Calls of which more than a window were delivered
     /// since their snapshot find its rows no more.
-    pub fn new<B: Allocator + Copy>(
-        alloc: A,
-        window: u32,
-        catalogue: &Catalogue<B>,
-    ) -> Result<Replica<A>, AllocError>
-        ensures stands { IfOk result (λ r. StandsFor r []) }
+    pub fn new(alloc: A, window: u32, catalogue: &Catalogue<P>) -> Result<Replica<A, P>, AllocError>
+        ensures stands { IfOk result (λ r. StandsFor catalogue.now.procedures r []) }
         ensures window { IfOk result (λ r. r.window ≡ window) }
         ensures running { IfOk result (λ r. r.stopped ≡ false) }
         ensures tables { IfOk result (λ r. HaveTables catalogue.now.tables r.versions.tables) }
+        ensures for_tables { IfOk result (λ r. AreForTables catalogue.now.tables r.procedures) }
     {
         empty_versions_answer_from_no_rows();
         no_rows_at_first();
         let certifier = Certifier::new(alloc, window)?;
         let versions = Versions::new(alloc, catalogue.schema())?;
+        let procedures = catalogue.procedures().share(alloc)?;
         Ok(Replica {
             alloc,
             window,
@@ -95,11 +102,12 @@ impl<A: Allocator + Copy> Replica<A> {
             certifications: Vec::new(alloc),
             certifier,
             versions,
+            procedures,
             next_prune: window,
         })
     }
 
-    /// How many calls were delivered.
+    /// How many entries were delivered.
     pub fn position(&self) -> u32
         ensures { result ≡ self.now.position }
     {
@@ -127,11 +135,18 @@ impl<A: Allocator + Copy> Replica<A> {
         self.position
     }
 
+    /// Its procedures, at its position.
+    pub fn procedures(&self) -> &StoredProcedures<A, P>
+        ensures { result.now ≡ self.now.procedures }
+    {
+        &self.procedures
+    }
+
     /// The rows at a position that was reached. They are gone where it is out of the window.
     pub fn at<'a>(&'a self, position: u32) -> At<'a, A>
         requires { position ≤ self.now.position }
-        ensures answers { (entries : List Delivered) → StandsFor self.now entries
-            → ⟦<At<'a, A> as Store>⟧.answers_from result (rows_kept self.now.window entries position) }
+        ensures answers { (base : Procedures) (entries : List Delivered) → StandsFor base self.now entries
+            → ⟦<At<'a, A> as Store>⟧.answers_from result (rows_kept self.now.window base entries position) }
         ensures gone { ⟦<At<'a, A> as Store>⟧.is_gone result ≡ nat_lt self.now.window (self.now.position - position) }
     {
         At {
@@ -143,31 +158,41 @@ impl<A: Allocator + Copy> Replica<A> {
 
     /// The rows after the last position, in the order of tables and keys.
     pub fn rows<B: Allocator + Copy>(&self, alloc: B) -> Result<Vec<Row<B>, B>, AllocError>
-        ensures { IfOk result (λ list. (entries : List Delivered) → StandsFor self.now entries
-            → ((k : Key) → IsSome (map.get (rows_kept self.now.window entries self.now.position) k) → k.1 < 2 ^ 64)
-            → list.items ≡ map.entries (rows_kept self.now.window entries self.now.position)) }
+        ensures { IfOk result (λ list. (base : Procedures) (entries : List Delivered) → StandsFor base self.now entries
+            → ((k : Key) → IsSome (map.get (rows_kept self.now.window base entries self.now.position) k) → k.1 < 2 ^ 64)
+            → list.items ≡ map.entries (rows_kept self.now.window base entries self.now.position)) }
     {
         self.versions.rows_at(alloc, self.position)
     }
 
-    /// Takes the next call in and tells its verdict. Where there is no memory the replica stops, and the rows at each
-    /// position stay as they were.
-    pub fn deliver<B: Allocator + Copy>(&mut self, entry: &Entry<B>) -> Result<Verdict, Stopped>
-        requires snapshot { entry.now.call.snapshot ≤ self.old.position }
+    /// Takes the next entry in and tells its verdict. Where there is no memory the replica stops, and its procedures and the
+    /// rows at each position stay as they were.
+    pub fn deliver(&mut self, entry: &Entry<P>) -> Result<Verdict, Stopped>
+        requires placed { IsPlaced self.old.position (item_of (entry_of entry.now)) }
         requires room { self.old.position + 1 < 2 ^ 32 }
-        requires fit { FitTables self.old.versions entry.now.writes }
-        ensures verdict { IfOk result (λ v. (entries : List Delivered) → StandsFor self.old entries
-            → v ≡ verdict_after self.old.window (certified_calls_of self.old.window entries) entry.now.call entry.now.looks) }
-        ensures stands { OnOk result ((entries : List Delivered) → StandsFor self.old entries
-            → StandsFor self.new (entries ++ entry.now ∷ [])) }
+        requires fit { FitTables self.old.versions (writes_in (entry_of entry.now)) }
+        requires named { IsNamed (entry_of entry.now) }
+        ensures verdict { IfOk result (λ v. (base : Procedures) (entries : List Delivered) → StandsFor base self.old entries
+            → v ≡ (certified_entry self.old.window (certified_entries_of self.old.window base entries)
+            (entry_of entry.now)).verdict) }
+        ensures stands { OnOk result ((base : Procedures) (entries : List Delivered) → StandsFor base self.old entries
+            → StandsFor base self.new (entries ++ entry_of entry.now ∷ [])) }
         ensures log_verdict { IfOk result (λ v. (w : Setting) (entries : List Delivered) → w.window ≡ self.old.window
-            → StandsFor self.old entries → AreEntriesOf w (entries ++ entry.now ∷ [])
-            → verdict_of w (calls_of (entries ++ entry.now ∷ [])) self.new.position ≡ Some v) }
+            → StandsFor w.catalogue self.old entries → AreEntriesOf w (entries ++ entry_of entry.now ∷ [])
+            → verdict_of w (items_of (entries ++ entry_of entry.now ∷ [])) self.new.position ≡ Some v) }
         ensures log_rows { OnOk result ((w : Setting) (entries : List Delivered) → w.window ≡ self.old.window
-            → StandsFor self.old entries → AreEntriesOf w (entries ++ entry.now ∷ [])
+            → StandsFor w.catalogue self.old entries → AreEntriesOf w (entries ++ entry_of entry.now ∷ [])
             → AnswersFrom self.new.versions.tables self.new.position
-            (rows_after w (calls_of (entries ++ entry.now ∷ [])) self.new.position)) }
-        ensures still { OnErr result ((entries : List Delivered) → StandsFor self.old entries → StandsFor self.new entries) }
+            (rows_after w (items_of (entries ++ entry_of entry.now ∷ [])) self.new.position)) }
+        ensures log_procedures { OnOk result ((w : Setting) (entries : List Delivered) → w.window ≡ self.old.window
+            → StandsFor w.catalogue self.old entries → AreEntriesOf w (entries ++ entry_of entry.now ∷ [])
+            → stored_procedures self.new.procedures
+            ≡ procedures_after w (items_of (entries ++ entry_of entry.now ∷ [])) self.new.position) }
+        ensures for_tables { (tables : Tables) → AreForTables tables self.old.procedures → IsForTables tables entry.now
+            → AreForTables tables self.new.procedures }
+        ensures same_procedures { OnErr result (self.new.procedures ≡ self.old.procedures) }
+        ensures still { OnErr result ((base : Procedures) (entries : List Delivered)
+            → StandsFor base self.old entries → StandsFor base self.new entries) }
         ensures next { OnOk result (self.new.position ≡ self.old.position + 1) }
         ensures same_position { OnErr result (self.new.position ≡ self.old.position) }
         ensures stopped { self.new.stopped ≡ is_err result }
@@ -185,6 +210,7 @@ impl<A: Allocator + Copy> Replica<A> {
         let taken = take_entry(
             &mut self.certifier,
             &mut self.versions,
+            &mut self.procedures,
             &mut self.certifications,
             position,
             entry,
@@ -198,20 +224,23 @@ impl<A: Allocator + Copy> Replica<A> {
         Ok(certification.verdict)
     }
 
-    /// Takes all calls in anew, from the first on. The replica changes only where that is done.
-    pub fn rebuild<B: Allocator + Copy, C: Allocator + Copy>(
+    /// Takes all entries in anew, from the first on. The replica changes only where that is done.
+    pub fn rebuild(
         &mut self,
-        catalogue: &Catalogue<B>,
-        entries: &[Entry<C>],
+        catalogue: &Catalogue<P>,
+        entries: &[Entry<P>],
     ) -> Result<u32, AllocError>
         requires few { length entries.now < 2 ^ 32 }
-        requires log { IsLog (calls_of entries.now) }
-        requires fit { All (λ e. AreWrites catalogue.now.tables e.writes) entries.now }
-        ensures stands { OnOk result (StandsFor self.new entries.now) }
+        requires log { IsLog (items_of (entries_of entries.now)) }
+        requires fit { All (λ e. AreWrites catalogue.now.tables (writes_in (entry_of e))) entries.now }
+        requires named { All (λ e. IsNamed (entry_of e)) entries.now }
+        requires for_tables { All (λ e. IsForTables catalogue.now.tables e) entries.now }
+        ensures stands { OnOk result (StandsFor catalogue.now.procedures self.new (entries_of entries.now)) }
         ensures position { IfOk result (λ p. p ≡ length entries.now) }
         ensures running { OnOk result (self.new.stopped ≡ false) }
         ensures window { self.new.window ≡ self.old.window }
         ensures tables { OnOk result (HaveTables catalogue.now.tables self.new.versions.tables) }
+        ensures procedures { OnOk result (AreForTables catalogue.now.tables self.new.procedures) }
         ensures unchanged { OnErr result (self.new ≡ self.old) }
     {
         let fresh = replica_of(self.alloc, self.window, catalogue, entries)?;
@@ -220,13 +249,13 @@ impl<A: Allocator + Copy> Replica<A> {
         Ok(position)
     }
 
-    /// What became of the call at a position that was reached, from 1 on.
+    /// What became of the entry at a position that was reached, from 1 on.
     pub fn verdict_at(&self, position: u32) -> Certification
         requires from { 1 ≤ position }
         requires to { position ≤ self.now.position }
-        ensures { (entries : List Delivered) (e : Delivered) → StandsFor self.now entries
+        ensures { (base : Procedures) (entries : List Delivered) (e : Delivered) → StandsFor base self.now entries
             → slice_get entries (position - 1) ≡ Some e
-            → result ≡ certification_of self.now.window entries (position - 1) e }
+            → result ≡ certification_of self.now.window base entries (position - 1) e }
     {
         self.certifications[position as usize - 1]
     }

@@ -33,7 +33,10 @@ pub const NEXT: &str = "7916100000000000 7912000000000000 7913080000000000 bfa40
 /// Removes the row at a key.
 pub const DELETE: &str = "7912000000000000 b701000001000000 8500000003000000 9500000000000000";
 
-/// Their numbers, each with how many words it takes.
+/// Replies 1, and takes no arguments; none of the procedures that are there at first.
+pub const ONE: &str = "b700000001000000 9500000000000000";
+
+/// The numbers of those that are there at first, each with how many words it takes.
 pub static PROCEDURES: [(u16, &str, usize); 6] = [
     (1, ADD, 2),
     (2, SKEW, 2),

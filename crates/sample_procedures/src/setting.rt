@@ -28,23 +28,31 @@ pub fn args_of(alloc: Global, words: &[u64]) -> Result<Vec<u8>, Fail> {
     Ok(args)
 }
 
-/// A procedure of so many words, which goes without a name.
-fn procedure_of(
+/// The digit of a number below 10, the name under which a catalogue has a procedure of that number.
+pub fn digit_of(number: u16) -> [u8; 1] {
+    [u8::try_from(number).unwrap_or(0).wrapping_add(b'0')]
+}
+
+/// A procedure of so many words, in the catalogue or to be added.
+pub fn procedure_of(
     alloc: Global,
+    name: &[u8],
     number: u16,
     hex: &str,
     words: usize,
 ) -> Result<PlainProcedure, Fail> {
     let code = decode(alloc, &bytes_of(alloc, hex)?)?;
     let args_len = u16::try_from(words).unwrap_or(0).wrapping_mul(8);
-    Ok(PlainProcedure::new(Vec::new(alloc), number, code, args_len))
+    let name = Vec::from_slice(alloc, name)?;
+    Ok(PlainProcedure::new(name, number, code, args_len))
 }
 
-/// All of them, under a window.
+/// All of them, each with its digit as its name, under a window.
 pub fn setting_of(alloc: Global, window: u32) -> Result<PlainSetting, Fail> {
     let mut catalogue = Vec::new(alloc);
     for (number, hex, words) in &PROCEDURES {
-        catalogue.push(procedure_of(alloc, *number, hex, *words)?)?;
+        let name = digit_of(*number);
+        catalogue.push(procedure_of(alloc, &name, *number, hex, *words)?)?;
     }
     let schema = Schema::new(alloc, &TABLES)?;
     Ok(PlainSetting::new(schema, catalogue, window))

@@ -19,7 +19,7 @@ use Rattle.bpf_semantics.proofs.LookLemmas.{execute_looks}
 use Rattle.bpf_semantics.proofs.MomentLemmas.{from_its_length_on}
 use Rattle.bpf_vm.specs.Turns.{MachineState, MayWantMemory}
 use Rattle.bpf_vm.specs.Run.{Effects, HasRun, HasEnded, IsStaleAt, AfterTurn}
-use Rattle.log_model.specs.Log.{StoredProcedure, Setting, Call, Log, by_number, or_idle, run_of_procedure, run_of_call, rows_after, run_in, moment_of, moment_at}
+use Rattle.log_model.specs.Log.{StoredProcedure, Setting, Call, Log, or_idle, run_of_procedure, run_of_call, rows_after, run_in, moment_of, moment_at, procedure_of}
 use Rattle.dsm_model.specs.World.{OpenCall, makes_look, is_row_helper, calls_row_helper, at_row_helper}
 use Rattle.catalogue.specs.Catalogue.{accepted_of}
 use Rattle.bpf_vm.specs.declared.turn.Turn.{Turn}
@@ -31,17 +31,17 @@ just x = Some x
 
 -- ---- the run
 
-pub run_is : (w : Setting) (log : Log) (call : Call) (p : StoredProcedure) (r : Run) → by_number w.catalogue call.procedure ≡ Some p → run p.program w.tables call.args (rows_after w log call.snapshot) ≡ Some r → run_in w log call ≡ r
+pub run_is : (w : Setting) (log : Log) (call : Call) (p : StoredProcedure) (r : Run) → procedure_of w log call ≡ Some p → run p.program w.tables call.args (rows_after w log call.snapshot) ≡ Some r → run_in w log call ≡ r
 unfolding run_of_call
 run_is w log call p r known e =
     ap (λ (o : Option StoredProcedure). or_idle (rows_after w log call.snapshot) (run_of_procedure w.tables o call.args (rows_after w log call.snapshot))) known
     ∙ ap (or_idle (rows_after w log call.snapshot)) e
 
-pub moment_is : (w : Setting) (log : Log) (call : Call) (p : StoredProcedure) (k : ℕ) → by_number w.catalogue call.procedure ≡ Some p → moment_at w log call k ≡ moment p.program w.tables k (entry_state call.args (rows_after w log call.snapshot))
+pub moment_is : (w : Setting) (log : Log) (call : Call) (p : StoredProcedure) (k : ℕ) → procedure_of w log call ≡ Some p → moment_at w log call k ≡ moment p.program w.tables k (entry_state call.args (rows_after w log call.snapshot))
 unfolding moment_at
-moment_is w log call p k known = ap (λ (o : Option StoredProcedure). moment_of w o call.args (rows_after w log call.snapshot) k) known
+moment_is w log call p k known = ap (λ (o : Option StoredProcedure). moment_of w.tables o call.args (rows_after w log call.snapshot) k) known
 
-one_further : (w : Setting) (log : Log) (call : Call) (p : StoredProcedure) (k : ℕ) → by_number w.catalogue call.procedure ≡ just p → moment_at w log call (k + 1) ≡ next_moment (step p.program w.tables) (moment_at w log call k)
+one_further : (w : Setting) (log : Log) (call : Call) (p : StoredProcedure) (k : ℕ) → procedure_of w log call ≡ just p → moment_at w log call (k + 1) ≡ next_moment (step p.program w.tables) (moment_at w log call k)
 unfolding moment
 one_further w log call p k known =
     let one : k + 1 ≡ suc k = omega arith in
@@ -73,7 +73,7 @@ one_more : (xs : List Look) (x : Look) (ys : List Look) → ys ≡ xs ++ x ∷ [
 one_more xs x ys e = let count = ap (λ (l : List Look). length l) e ∙ length-append xs (x ∷ []) in omega arith
 
 -- where what a turn would look at isn't gone, the next instruction doesn't look at what is gone
-pub looks_at_kept : (w : Setting) (log : Log) (o : OpenCall) (p : StoredProcedure) (gone : Bool) (s : State) (m : Moment) → by_number w.catalogue o.call.procedure ≡ just p → moment_at w log o.call o.turns ≡ Going s
+pub looks_at_kept : (w : Setting) (log : Log) (o : OpenCall) (p : StoredProcedure) (gone : Bool) (s : State) (m : Moment) → procedure_of w log o.call ≡ just p → moment_at w log o.call o.turns ≡ Going s
     → step p.program w.tables s ≡ m → (m ≡ Stuck → ⊥) → (IsStaleAt (accepted_of w.tables p) gone s → ⊥) → looks_at_gone w log gone o ≡ false
 looks_at_kept w log o p gone s (Going t) known now is apart fresh =
     let runs = step_runs p.program w.tables s (Going t) is (going_runs t) in
@@ -88,7 +88,7 @@ looks_at_kept w log o p gone s (Ended r t) known now is apart fresh =
     both (makes_look w log o) gone (λ h g. no_more w log o (ap looks_of next ∙ ap (λ (x : State). x.looks) (sym (exit_is w.tables runs.0 s r t runs.2)) ∙ sym (ap looks_of now)) h)
 looks_at_kept w log o p gone s Stuck known now is apart fresh = absurd (apart refl)
 
-pub looks_at_nothing_at_its_end : (w : Setting) (log : Log) (o : OpenCall) (p : StoredProcedure) (gone : Bool) (reply : ℕ) (s : State) → by_number w.catalogue o.call.procedure ≡ just p → moment_at w log o.call o.turns ≡ Ended reply s → looks_at_gone w log gone o ≡ false
+pub looks_at_nothing_at_its_end : (w : Setting) (log : Log) (o : OpenCall) (p : StoredProcedure) (gone : Bool) (reply : ℕ) (s : State) → procedure_of w log o.call ≡ just p → moment_at w log o.call o.turns ≡ Ended reply s → looks_at_gone w log gone o ≡ false
 looks_at_nothing_at_its_end w log o p gone reply s known now =
     let next = one_further w log o.call p o.turns known ∙ ap (next_moment (step p.program w.tables)) now in
     both (makes_look w log o) gone (λ h g. no_more w log o (ap looks_of next ∙ sym (ap looks_of now)) h)
@@ -98,7 +98,7 @@ both_true true true h g = refl
 both_true true false h g = absurd cc
 both_true false b h g = absurd cc
 
-pub looks_at_what_is_gone : (w : Setting) (log : Log) (o : OpenCall) (p : StoredProcedure) (gone : Bool) (s : State) → by_number w.catalogue o.call.procedure ≡ just p → moment_at w log o.call o.turns ≡ Going s
+pub looks_at_what_is_gone : (w : Setting) (log : Log) (o : OpenCall) (p : StoredProcedure) (gone : Bool) (s : State) → procedure_of w log o.call ≡ just p → moment_at w log o.call o.turns ≡ Going s
     → IsStaleAt (accepted_of w.tables p) gone s → looks_at_gone w log gone o ≡ true
 looks_at_what_is_gone w log o p gone s known now stale =
     let next = one_further w log o.call p o.turns known ∙ ap (next_moment (step p.program w.tables)) now ∙ stale.1 in
@@ -130,8 +130,8 @@ wants (Some (LongJump a)) h = absurd h
 wants (Some (Branch a b c d f)) h = absurd h
 wants (Some ExitInstruction) h = absurd h
 
-pub at_row_helper_is : (w : Setting) (log : Log) (o : OpenCall) (p : StoredProcedure) (s : State) → by_number w.catalogue o.call.procedure ≡ just p → moment_at w log o.call o.turns ≡ Going s
-    → MayWantMemory (instruction_at p.program s.slot) → at_row_helper (by_number w.catalogue o.call.procedure) (moment_at w log o.call o.turns) ≡ true
+pub at_row_helper_is : (w : Setting) (log : Log) (o : OpenCall) (p : StoredProcedure) (s : State) → procedure_of w log o.call ≡ just p → moment_at w log o.call o.turns ≡ Going s
+    → MayWantMemory (instruction_at p.program s.slot) → at_row_helper (procedure_of w log o.call) (moment_at w log o.call o.turns) ≡ true
 at_row_helper_is w log o p s known now h =
     ap (λ (q : Option StoredProcedure). at_row_helper q (moment_at w log o.call o.turns)) known ∙ ap (λ (m : Moment). at_row_helper (just p) m) now ∙ wants (instruction_at p.program s.slot) h
 
@@ -139,7 +139,7 @@ at_row_helper_is w log o p s known now h =
 
 -- an accepted procedure's run of the call, which isn't stuck
 pub record HasCallRun (w : Setting) (log : Log) (o : OpenCall) (p : StoredProcedure) : Type 0 where
-  pub known : by_number w.catalogue o.call.procedure ≡ just p
+  pub known : procedure_of w log o.call ≡ just p
   pub r : Run
   pub is_run : run p.program w.tables o.call.args (rows_after w log o.call.snapshot) ≡ Some r
   pub not_stuck : moment p.program w.tables (o.turns + 1) (entry_state o.call.args (rows_after w log o.call.snapshot)) ≡ Stuck → ⊥
@@ -200,7 +200,7 @@ turn_is w log o p gone NoMemory m n before after c h a =
 -- ---- the end
 
 -- a call at its end answers the same again
-pub turn_at_its_end : (w : Setting) (log : Log) (o : OpenCall) (p : StoredProcedure) (gone : Bool) (reply : ℕ) (effects : Effects) → by_number w.catalogue o.call.procedure ≡ just p
+pub turn_at_its_end : (w : Setting) (log : Log) (o : OpenCall) (p : StoredProcedure) (gone : Bool) (reply : ℕ) (effects : Effects) → procedure_of w log o.call ≡ just p
     → HasEnded (accepted_of w.tables p) o.call.args (rows_after w log o.call.snapshot) o.turns reply effects → IsTurn w log gone o (Exit reply) o
 turn_at_its_end w log o p gone reply effects known a =
     let same = run_is w log o.call p a.r known a.is_run in

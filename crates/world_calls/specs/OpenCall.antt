@@ -7,7 +7,7 @@ use Rattle.bpf_vm.specs.declared.turn.Turn.{Turn}
 use Rattle.bpf_vm.specs.declared.turn.Turn.TheVariants.{More, Exit, Stale, NoMemory}
 use Rattle.bpf_vm.specs.Turns.{MachineState}
 use Rattle.bpf_vm.specs.Run.{Effects, IsAcceptedProcedure, HasRun, HasEnded, own_effects}
-use Rattle.log_model.specs.Log.{Setting, Call, Log, by_number, rows_after, run_in, moment_at}
+use Rattle.log_model.specs.Log.{Setting, Call, Log, rows_after, run_in, moment_at, procedure_of}
 use Rattle.log_model.specs.Entries.{CarriesRun}
 use Rattle.log_model.specs.Fit.{IsCall}
 use Rattle.dsm_model.specs.World.{OpenCall, makes_look, at_row_helper}
@@ -19,7 +19,7 @@ use Rattle.world_calls.specs.declared.completion.Completion.TheVariants.{Cancell
 -- ---- as the world's definitions see it
 
 abbrev pub call_of : {A : Type 0} → OpenCallState A → Call
-call_of c = record { number = c.number; procedure = c.procedure; args = c.args; snapshot = c.snapshot }
+call_of c = record { number = c.number; procedure = c.procedure; args = c.args; snapshot = c.snapshot; request = c.request }
 
 abbrev pub open_call_of : {A : Type 0} → OpenCallState A → OpenCall
 open_call_of c = record { replica = c.replica; call = call_of c; turns = c.turns }
@@ -35,7 +35,7 @@ HasCome p args rows turns _ m effects = ⊥
 -- a call of an accepted procedure of the setting's catalogue that has come as many instructions of its run on the rows of its
 -- snapshot as it has turns
 pub record Follows {A : Type 0} (w : Setting) (log : Log) (c : OpenCallState A) : Type 0 where
-  pub is_call : IsCall w (call_of c)
+  pub is_call : IsCall w log (call_of c)
   pub accepted : IsAcceptedProcedure (accepted_of w.tables is_call.procedure)
   pub rows : AreRows w.tables (rows_after w log c.snapshot)
   pub so_far : HasCome (accepted_of w.tables is_call.procedure) c.args (rows_after w log c.snapshot) c.turns c.machine.last c.machine
@@ -64,7 +64,7 @@ IsTurn w log gone o (Exit reply) after =
 IsTurn w log gone o Stale after = looks_at_gone w log gone o ≡ true
 IsTurn w log gone o NoMemory after =
     (looks_at_gone w log gone o ≡ false)
-    × (at_row_helper (by_number w.catalogue o.call.procedure) (moment_at w log o.call o.turns) ≡ true)
+    × (at_row_helper (procedure_of w log o.call) (moment_at w log o.call o.turns) ≡ true)
 
 -- a turn after which the call isn't over
 abbrev pub stays_open : Turn → Bool

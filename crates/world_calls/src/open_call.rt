@@ -2,7 +2,7 @@
 
 ghost use Rattle.std.specs.Prelude.{◌≡◌, ℕ, true, length, Some, IfOk, IfSome};
 ghost use Rattle.schema.specs.Rows.{AreRows};
-ghost use Rattle.log_model.specs.Log.{Setting, Log, StoredProcedure, by_number, rows_after};
+ghost use Rattle.log_model.specs.Log.{Setting, Log, StoredProcedure, by_number, procedures_after, rows_after};
 ghost use Rattle.catalogue.specs.Catalogue.{accepted_of};
 ghost use Rattle.bpf_vm.specs.declared.turn.Turn.TheVariants.{More, Exit};
 ghost use Rattle.world_calls.specs.OpenCall.{open_call_of, Follows, CanGoOn, IsTurn, stays_open, call_of, IsReplyOf, IsCompletion};
@@ -12,7 +12,8 @@ use acceptance::accepted_programs_never_go_wrong;
 use bpf_semantics::states_fit;
 use bpf_verify::Accepted;
 use bpf_vm::{Machine, Turn, open_calls_can_turn};
-use log_entry::Entry;
+use log_model::RequestId;
+use log_entry::ExecutedCall;
 use row_values::Bytes;
 use std::alloc::{AllocError, Allocator, Global};
 use std::mem;
@@ -30,6 +31,7 @@ pub struct OpenCall<A: Allocator + Copy = Global> {
     pub args: Bytes<A>,
     /// The position whose rows it reads.
     pub snapshot: u32,
+    pub request: RequestId,
     /// How many instructions it has run.
     pub turns: u32,
     pub machine: Machine,
@@ -57,15 +59,16 @@ impl<A: Allocator + Copy> OpenCall<A> {
         accepted: &Accepted<P, Q>,
         args: &[u8],
         snapshot: u32,
+        request: RequestId,
     ) -> Result<OpenCall<A>, AllocError>
         requires { length args.now ≡ accepted.now.args_len }
         ensures begun { IfOk result (λ c. open_call_of c ≡ record {
           replica = replica;
-          call = record { number = number; procedure = procedure; args = args.now; snapshot = snapshot };
+          call = record { number = number; procedure = procedure; args = args.now; snapshot = snapshot; request = request };
           turns = 0;
         }) }
         ensures follows { IfOk result (λ c. (w : Setting) (log : Log) (p : StoredProcedure)
-            → by_number w.catalogue procedure ≡ Some p → accepted.now ≡ accepted_of w.tables p
+            → by_number (procedures_after w log snapshot) procedure ≡ Some p → accepted.now ≡ accepted_of w.tables p
             → AreRows w.tables (rows_after w log snapshot) → Follows w log c) }
     {
         let Ok(machine) = Machine::start(accepted, args) else {
@@ -77,6 +80,7 @@ impl<A: Allocator + Copy> OpenCall<A> {
             procedure,
             args: Bytes::new(Vec::from_slice(alloc, args)?),
             snapshot,
+            request,
             turns: 0,
             machine,
             own: Own::new(alloc),
@@ -164,11 +168,12 @@ impl<A: Allocator + Copy> OpenCall<A> {
                 reply,
             };
         }
-        Completion::Wrote(Entry {
+        Completion::Wrote(ExecutedCall {
             call: self.number,
             procedure: self.procedure,
             args: self.args,
             snapshot: self.snapshot,
+            request: self.request,
             reads,
             writes,
             reply,

@@ -13,54 +13,67 @@ ghost use Rattle.schema.specs.declared.helper.Helper.TheVariants.{Cancel};
 ghost use Rattle.schema.specs.Helper.{helper_of};
 ghost use Rattle.bpf_semantics.specs.State.{State};
 ghost use Rattle.bpf_semantics.specs.Step.{Going, Ended};
+ghost use Rattle.bpf_code.specs.Program.{Program};
+ghost use Rattle.log_model.specs.declared.request.RequestId.{RequestId};
 ghost use Rattle.log_model.specs.declared.verdict.Verdict.{Verdict};
+ghost use Rattle.dsm_model.specs.declared.outcome.ProgramFault.{ProgramFault};
 ghost use Rattle.dsm_model.specs.declared.outcome.StepRefusal.TheVariants.{NoReplica, NoProcedure, ArgumentsLength, NoCall};
-ghost use Rattle.dsm_model.specs.declared.outcome.StepRefusal.TheVariants.{NotAtExit, NothingToDeliver, ReplicaStopped};
-ghost use Rattle.dsm_model.specs.declared.outcome.StepRefusal.TheVariants.{LogFull, OutOfMemory, TooManyCalls};
+ghost use Rattle.dsm_model.specs.declared.outcome.StepRefusal.TheVariants.{NotAtExit, NothingToDeliver, ReplicaStopped, LogFull, OutOfMemory, TooManyCalls, ArgumentsLimit, ProgramRefused, NameShape, ZeroInRequest};
 ghost use Rattle.dsm_model.specs.declared.outcome.Outcome.{Outcome};
 ghost use Rattle.dsm_model.specs.declared.outcome.Outcome.TheVariants.{Begun, More, Exit, Stale, NoMemory, Ordered, Read};
-ghost use Rattle.dsm_model.specs.declared.outcome.Outcome.TheVariants.{Cancelled, Delivered, Rebuilt, Refused};
-ghost use Rattle.log_model.specs.Log.{StoredProcedure, Setting, by_number, run_in, verdict_of};
+ghost use Rattle.dsm_model.specs.declared.outcome.Outcome.TheVariants.{Cancelled, Delivered, Rebuilt, Added, Refused};
+ghost use Rattle.log_model.specs.Log.{StoredProcedure, Setting, CallItem, AdditionItem, by_number, procedures_after, procedure_of, run_in, verdict_of};
+ghost use Rattle.log_model.specs.Name.{is_name};
 ghost use Rattle.log_model.specs.Fit.{HasSafeProcedures};
 ghost use Rattle.dsm_model.specs.Sound.{IsWorld};
 ghost use Rattle.dsm_model.specs.World.{World, Replica, OpenCall, Step, Begin, Turn, Order, Deliver, Rebuild, max_calls};
+ghost use Rattle.dsm_model.specs.World.{Checked, Passed, Failed, Add, call_count, or_none, has_zero};
 ghost use Rattle.dsm_model.specs.World.{is_answer, numbered, position_of, open_call, with_open_call, with_replica};
 ghost use Rattle.log_model.specs.Log.{moment_at};
 ghost use Rattle.dsm_model.specs.World.{makes_look, at_row_helper, IsStep};
 
 /// A call begins as the next of the world's, at the position of its replica, with no instruction run. It doesn't where
-/// there is no such replica; else, where there is no such procedure; else, where the arguments have another length than
-/// the procedure's; else, where the world has had all its calls.
+/// there is no such replica; else, where there is no such procedure at its position; else, where the arguments have another
+/// length than the procedure's; else, where its request has a 0; else, where the world has had all its calls and additions.
 pub fn calls_begin_where_their_replica_is()
-    ensures begun { (w : Setting) (before : World) (r procedure : ℕ) (args : List ℕ) (c snapshot : ℕ) (after : World)
-        → IsStep w before (Begin r procedure args) (Begun c snapshot) after
+    ensures begun { (w : Setting) (before : World) (r procedure : ℕ) (args : List ℕ) (request : Option RequestId)
+        (c snapshot : ℕ) (after : World)
+        → IsStep w before (Begin r procedure args request) (Begun c snapshot) after
         → (replica : Replica) × (stored : StoredProcedure)
-        × (numbered before.replicas r ≡ Some replica) × (by_number w.catalogue procedure ≡ Some stored)
-        × (length args ≡ stored.args_len) × (length before.calls < max_calls)
+        × (numbered before.replicas r ≡ Some replica)
+        × (by_number (procedures_after w before.log replica.position) procedure ≡ Some stored)
+        × (length args ≡ stored.args_len) × (has_zero request ≡ false) × (call_count before < max_calls)
         × (c ≡ length before.calls + 1) × (snapshot ≡ replica.position)
         × (after ≡ record {
           log = before.log;
           replicas = before.replicas;
           calls = before.calls ++ Some (record {
             replica = r;
-            call = record { number = c; procedure = procedure; args = args; snapshot = snapshot };
+            call = record { number = c; procedure = procedure; args = args; snapshot = snapshot; request = or_none request };
             turns = 0;
           }) ∷ [];
         }) }
-    ensures no_replica { (w : Setting) (before : World) (r procedure : ℕ) (args : List ℕ) (after : World)
-        → IsStep w before (Begin r procedure args) (Refused NoReplica) after → numbered before.replicas r ≡ None }
-    ensures no_procedure { (w : Setting) (before : World) (r procedure : ℕ) (args : List ℕ) (after : World)
-        → IsStep w before (Begin r procedure args) (Refused NoProcedure) after
-        → IsSome (numbered before.replicas r) × (by_number w.catalogue procedure ≡ None) }
-    ensures arguments { (w : Setting) (before : World) (r procedure : ℕ) (args : List ℕ) (after : World)
-        → IsStep w before (Begin r procedure args) (Refused ArgumentsLength) after
-        → IsSome (numbered before.replicas r)
-        × (stored : StoredProcedure) × (by_number w.catalogue procedure ≡ Some stored) × (length args ≢ stored.args_len) }
-    ensures many { (w : Setting) (before : World) (r procedure : ℕ) (args : List ℕ) (after : World)
-        → IsStep w before (Begin r procedure args) (Refused TooManyCalls) after
-        → IsSome (numbered before.replicas r)
-        × (stored : StoredProcedure) × (by_number w.catalogue procedure ≡ Some stored)
-        × (length args ≡ stored.args_len) × (max_calls ≤ length before.calls) }
+    ensures no_replica { (w : Setting) (before : World) (r procedure : ℕ) (args : List ℕ) (request : Option RequestId) (after : World)
+        → IsStep w before (Begin r procedure args request) (Refused NoReplica) after → numbered before.replicas r ≡ None }
+    ensures no_procedure { (w : Setting) (before : World) (r procedure : ℕ) (args : List ℕ) (request : Option RequestId) (after : World)
+        → IsStep w before (Begin r procedure args request) (Refused NoProcedure) after
+        → (replica : Replica) × (numbered before.replicas r ≡ Some replica)
+        × (by_number (procedures_after w before.log replica.position) procedure ≡ None) }
+    ensures arguments { (w : Setting) (before : World) (r procedure : ℕ) (args : List ℕ) (request : Option RequestId) (after : World)
+        → IsStep w before (Begin r procedure args request) (Refused ArgumentsLength) after
+        → (replica : Replica) × (stored : StoredProcedure) × (numbered before.replicas r ≡ Some replica)
+        × (by_number (procedures_after w before.log replica.position) procedure ≡ Some stored)
+        × (length args ≢ stored.args_len) }
+    ensures zero { (w : Setting) (before : World) (r procedure : ℕ) (args : List ℕ) (request : Option RequestId) (after : World)
+        → IsStep w before (Begin r procedure args request) (Refused ZeroInRequest) after
+        → (replica : Replica) × (stored : StoredProcedure) × (numbered before.replicas r ≡ Some replica)
+        × (by_number (procedures_after w before.log replica.position) procedure ≡ Some stored)
+        × (length args ≡ stored.args_len) × (has_zero request ≡ true) }
+    ensures many { (w : Setting) (before : World) (r procedure : ℕ) (args : List ℕ) (request : Option RequestId) (after : World)
+        → IsStep w before (Begin r procedure args request) (Refused TooManyCalls) after
+        → (replica : Replica) × (stored : StoredProcedure) × (numbered before.replicas r ≡ Some replica)
+        × (by_number (procedures_after w before.log replica.position) procedure ≡ Some stored)
+        × (length args ≡ stored.args_len) × (has_zero request ≡ false) × (max_calls ≤ call_count before) }
 {}
 
 /// A turn is one instruction of the call's run on the rows of its snapshot: more, while there is a next one; else Exit
@@ -93,7 +106,7 @@ pub fn turns_follow_the_run()
     ensures memory { (w : Setting) (before : World) (c : ℕ) (after : World)
         → IsStep w before (Turn c) NoMemory after
         → (o : OpenCall) × (open_call before c ≡ Some o)
-        × IsTrue (at_row_helper (by_number w.catalogue o.call.procedure) (moment_at w before.log o.call o.turns))
+        × IsTrue (at_row_helper (procedure_of w before.log o.call) (moment_at w before.log o.call o.turns))
         × (after ≡ with_open_call before c None) }
     ensures no_call { (w : Setting) (before : World) (c : ℕ) (after : World)
         → IsStep w before (Turn c) (Refused NoCall) after → open_call before c ≡ None }
@@ -108,7 +121,7 @@ pub fn calls_are_ordered_at_their_end()
         → (o : OpenCall) × (open_call before c ≡ Some o) × ((run_in w before.log o.call).steps ≤ o.turns)
         × ((run_in w before.log o.call).cancel_code ≡ None) × (len (run_in w before.log o.call).writes ≢ 0)
         × (position ≡ length before.log + 1) × (length before.log < max_calls)
-        × (after ≡ with_open_call (record { log = before.log ++ o.call ∷ []; replicas = before.replicas; calls = before.calls }) c None) }
+        × (after ≡ with_open_call (record { log = before.log ++ CallItem o.call ∷ []; replicas = before.replicas; calls = before.calls }) c None) }
     ensures full { (w : Setting) (before : World) (c : ℕ) (after : World)
         → IsStep w before (Order c) (Refused LogFull) after
         → (o : OpenCall) × (open_call before c ≡ Some o) × ((run_in w before.log o.call).steps ≤ o.turns)
@@ -161,6 +174,35 @@ pub fn rebuilt_replicas_are_at_the_end()
         → IsStep w before (Rebuild r) (Refused NoReplica) after → numbered before.replicas r ≡ None }
 {}
 
+/// An addition is appended to the log at once, and its position answered. It isn't where the world has had all its calls
+/// and additions; else, where its arguments would be longer than 256 bytes; else, where its program didn't pass the check;
+/// else, where its name isn't one.
+pub fn additions_are_appended_at_once()
+    ensures added { (w : Setting) (before : World) (name : List ℕ) (number args_len : ℕ) (checked : Checked) (position : ℕ)
+        (after : World) → IsStep w before (Add name number args_len checked) (Added position) after
+        → (program : Program) × (checked ≡ Passed program) × (call_count before < max_calls) × (args_len ≤ 256)
+        × (is_name name ≡ true) × (position ≡ length before.log + 1)
+        × (after ≡ record {
+          log = before.log ++ AdditionItem (record { name = name; number = number; program = program; args_len = args_len }) ∷ [];
+          replicas = before.replicas;
+          calls = before.calls;
+        }) }
+    ensures many { (w : Setting) (before : World) (name : List ℕ) (number args_len : ℕ) (checked : Checked) (after : World)
+        → IsStep w before (Add name number args_len checked) (Refused TooManyCalls) after
+        → max_calls ≤ call_count before }
+    ensures long { (w : Setting) (before : World) (name : List ℕ) (number args_len : ℕ) (checked : Checked) (after : World)
+        → IsStep w before (Add name number args_len checked) (Refused ArgumentsLimit) after
+        → (call_count before < max_calls) × (256 < args_len) }
+    ensures program { (w : Setting) (before : World) (name : List ℕ) (number args_len : ℕ) (checked : Checked)
+        (fault : ProgramFault) (after : World)
+        → IsStep w before (Add name number args_len checked) (Refused (ProgramRefused fault)) after
+        → (call_count before < max_calls) × (args_len ≤ 256) × (checked ≡ Failed fault) }
+    ensures name { (w : Setting) (before : World) (name : List ℕ) (number args_len : ℕ) (checked : Checked) (after : World)
+        → IsStep w before (Add name number args_len checked) (Refused NameShape) after
+        → (program : Program) × (checked ≡ Passed program) × (call_count before < max_calls) × (args_len ≤ 256)
+        × (is_name name ≡ false) }
+{}
+
 /// A step answers nothing but its own answers.
 pub fn each_step_has_its_answers()
     ensures { (w : Setting) (before : World) (step : Step) (outcome : Outcome) (after : World)
@@ -169,10 +211,10 @@ pub fn each_step_has_its_answers()
 
 /// Memory is wanted only in place of an answer that takes some.
 pub fn memory_is_wanted_in_place_of_an_answer()
-    ensures begin { (w : Setting) (before : World) (r procedure : ℕ) (args : List ℕ) (after : World)
-        → IsStep w before (Begin r procedure args) (Refused OutOfMemory) after
+    ensures begin { (w : Setting) (before : World) (r procedure : ℕ) (args : List ℕ) (request : Option RequestId) (after : World)
+        → IsStep w before (Begin r procedure args request) (Refused OutOfMemory) after
         → (c : ℕ) × (snapshot : ℕ) × (other : World)
-        × IsStep w before (Begin r procedure args) (Begun c snapshot) other }
+        × IsStep w before (Begin r procedure args request) (Begun c snapshot) other }
     ensures order { (w : Setting) (before : World) (c : ℕ) (after : World)
         → IsStep w before (Order c) (Refused OutOfMemory) after
         → (position : ℕ) × (other : World) × IsStep w before (Order c) (Ordered position) other }
@@ -183,6 +225,9 @@ pub fn memory_is_wanted_in_place_of_an_answer()
     ensures rebuild { (w : Setting) (before : World) (r : ℕ) (after : World)
         → IsStep w before (Rebuild r) (Refused OutOfMemory) after
         → (position : ℕ) × (other : World) × IsStep w before (Rebuild r) (Rebuilt position) other }
+    ensures add { (w : Setting) (before : World) (name : List ℕ) (number args_len : ℕ) (checked : Checked) (after : World)
+        → IsStep w before (Add name number args_len checked) (Refused OutOfMemory) after
+        → (call_count before < max_calls) × (args_len ≤ 256) }
 {}
 
 /// The next instruction of an open call looks exactly where its run goes on over it with one look more, so never at its

@@ -1,27 +1,27 @@
 //! Laws of the world: over every list of steps, refused ones and want of memory among them.
 
-ghost use Rattle.std.specs.Prelude.{◌≡◌, ◌<◌, ℕ, List, slice_get, Some};
+ghost use Rattle.std.specs.Prelude.{◌≡◌, ◌<◌, ℕ, List, slice_get, Some, Option, ◌≢◌, ◌⊎◌, ◌≤◌, false, length, None, IsSome};
 ghost use Rattle.std.specs.List.{AllByRecursion};
+ghost use Rattle.log_model.specs.declared.request.RequestId.{RequestId};
 ghost use Rattle.log_model.specs.declared.verdict.Verdict.{Verdict};
 ghost use Rattle.log_model.specs.declared.verdict.Verdict.TheVariants.{Commit};
 ghost use Rattle.dsm_model.specs.declared.outcome.Outcome.{Outcome};
-ghost use Rattle.dsm_model.specs.declared.outcome.Outcome.TheVariants.{Exit, Ordered, Delivered};
-ghost use Rattle.log_model.specs.Log.{Setting, verdict_of};
+ghost use Rattle.dsm_model.specs.declared.outcome.Outcome.TheVariants.{Exit, Ordered, Delivered, Stale, NoMemory, Refused};
+ghost use Rattle.log_model.specs.Log.{Setting, verdict_of, procedure_of, StoredProcedure, Log, run_in};
+ghost use Rattle.bpf_semantics.specs.Path.{longest_path};
 ghost use Rattle.log_model.specs.Fit.{HasSafeProcedures};
-ghost use Rattle.dsm_model.specs.World.{World, OpenCall, Step, Turn, Order};
-ghost use Rattle.dsm_model.specs.World.{first_world};
-ghost use Rattle.dsm_model.specs.World.{open_call, IsStep, AreSteps};
-ghost use Rattle.dsm_model.specs.Sound.{HasByteArguments, IsWorld, IsSound, IsSerialReply};
+ghost use Rattle.dsm_model.specs.World.{World, OpenCall, Step, Turn, Order, first_world, open_call, IsStep, AreSteps, Checked, Add, Replica, Begin, Deliver, Rebuild, max_calls, numbered, with_open_call, with_replica};
+ghost use Rattle.dsm_model.specs.Sound.{IsWorld, IsSound, IsSerialReply, IsGiven, AreGiven, IsOpenCall};
 
-/// Every list of steps leads from the first world to one in which the log is a log of the catalogue's calls, no replica
+/// Every list of steps leads from the first world to one in which the log is a log of calls of its procedures and of safe additions, no replica
 /// is past its end, and each open call is one whose replica has come as far as its snapshot.
 pub fn steps_keep_a_world()
     ensures first { (w : Setting) (replicas : ℕ) → IsWorld w (first_world replicas) }
     ensures step { (w : Setting) (before : World) (step : Step) (outcome : Outcome) (after : World)
-        → HasByteArguments step → IsStep w before step outcome after → IsWorld w before → IsWorld w after }
+        → IsGiven w step outcome → IsStep w before step outcome after → IsWorld w before → IsWorld w after }
     ensures steps { (w : Setting) (before : World) (steps : List Step) (outcomes : List Outcome)
         (after : World)
-        → AllByRecursion HasByteArguments steps → AreSteps w before steps outcomes after → IsWorld w before
+        → AreGiven w steps outcomes → AreSteps w before steps outcomes after → IsWorld w before
         → IsWorld w after }
 {}
 
@@ -37,7 +37,7 @@ pub fn open_calls_are_sound()
 pub fn replies_are_serial()
     ensures { (w : Setting) (before : World) (steps : List Step) (outcomes : List Outcome)
         (after : World) (c i j position reply : ℕ)
-        → HasSafeProcedures w → AllByRecursion HasByteArguments steps → IsWorld w before
+        → HasSafeProcedures w → AreGiven w steps outcomes → IsWorld w before
         → AreSteps w before steps outcomes after
         → slice_get steps i ≡ Some (Turn c) → slice_get outcomes i ≡ Some (Exit reply)
         → slice_get steps j ≡ Some (Order c) → slice_get outcomes j ≡ Some (Ordered position)

@@ -1,19 +1,27 @@
 //! A log that is drawn: what commits in it ran alike on the rows just before it.
 
-use super::{rows_text, run_text, short};
-use bpf_code::decode;
-use dsm_replayer::{CallReport, CompletedReplay, PlainCall, replay_log};
-use log_model::Verdict;
+use super::{addition_of, call_of, rows_text, run_text, short};
+use dsm_replayer::{
+    CompletedReplay, ItemReport, PlainCall, PlainItem, PlainItemKind, PlainSetting,
+    procedure_by_number, replay_log,
+};
+use log_model::{Identifier, RequestId, Verdict};
 use plain_runner::{Row, run_program};
 use rand_core::utils::NextWord;
 use rand_pcg::Pcg32;
-use sample_procedures::{PROCEDURES, TABLES, args_of, bytes_of, setting_of};
-use schema::Schema;
+use sample_procedures::{PROCEDURES, PUT, setting_of};
 use std::alloc::Global;
 use std::test::Fail;
 
-/// How many calls there are.
-const CALLS: u32 = 40;
+/// How many items there are.
+const ITEMS: u32 = 200;
+
+/// The names and the numbers of additions, of which each is drawn apart.
+const NAMES: [&str; 3] = ["set", "put", "3"];
+
+/// What becomes of items: a call that commits, conflicts, is stale or repeated; an addition that commits, and one whose
+/// name or number is taken; and last a call of an added procedure that commits and writes.
+const OUTCOMES: usize = 8;
 
 /// A number below the end.
 fn draw(generator: &mut Pcg32, end: u32) -> u32 {
@@ -25,133 +33,146 @@ fn draw_key(generator: &mut Pcg32) -> u64 {
     5 + u64::from(draw(generator, 5)).min(5)
 }
 
-/// Which of the procedures a call calls, on which words, and its snapshot.
-#[derive(Clone, Copy)]
-struct Drawn {
-    place: usize,
-    words: [u64; 3],
-    snapshot: u32,
+/// The number of a procedure: of the sample procedures or of those that are added, with how many words it takes.
+fn draw_procedure(generator: &mut Pcg32) -> (u16, usize) {
+    match PROCEDURES.get(draw(generator, 8) as usize) {
+        Some((number, _program, words)) => (*number, *words),
+        None => (7, 2),
+    }
+}
+
+/// Of every third call one of a few requests, of the others none.
+fn draw_request(generator: &mut Pcg32) -> RequestId {
+    let drawn = draw(generator, 3 * 16);
+    if drawn < 16 {
+        RequestId {
+            session: 1 + drawn % 2,
+            sequence: 1 + drawn / 2,
+        }
+    } else {
+        RequestId {
+            session: 0,
+            sequence: 0,
+        }
+    }
 }
 
 /// A call after so many, with a snapshot up to 3 positions back.
-fn draw_call(generator: &mut Pcg32, before: u32) -> Drawn {
-    let place = draw(generator, 6) as usize;
+fn draw_call(alloc: Global, generator: &mut Pcg32, before: u32) -> Result<PlainItem, Fail> {
+    let (procedure, count) = draw_procedure(generator);
     let words = [
         draw_key(generator),
         draw_key(generator),
         draw_key(generator),
     ];
     let snapshot = before.saturating_sub(draw(generator, 4));
-    Drawn {
-        place,
-        words,
-        snapshot,
-    }
+    let request = draw_request(generator);
+    let words = words.get(..count).unwrap_or(&[]);
+    call_of(alloc, procedure, words, snapshot, request)
 }
 
-fn drawn_calls(alloc: Global) -> Result<Vec<Drawn>, Fail> {
+fn draw_addition(alloc: Global, generator: &mut Pcg32) -> Result<PlainItem, Fail> {
+    let name = NAMES.get(draw(generator, 3) as usize).unwrap_or(&"set");
+    let number = 6 + u16::try_from(draw(generator, 3)).unwrap_or(0).min(3);
+    addition_of(alloc, name, number, PUT, 2)
+}
+
+/// Of twenty items one is an addition.
+fn drawn_log(alloc: Global) -> Result<Vec<PlainItem>, Fail> {
     let mut generator = Pcg32::new(2026, 15);
-    let mut calls = Vec::new(alloc);
-    for before in 0..CALLS {
-        calls.push(draw_call(&mut generator, before))?;
-    }
-    Ok(calls)
-}
-
-/// The procedure's number, its program, and the arguments.
-fn call_parts(alloc: Global, call: &Drawn) -> Result<(u16, &'static str, Vec<u8>), Fail> {
-    let (number, program, count) = match PROCEDURES.get(call.place) {
-        Some(procedure) => *procedure,
-        None => (0, "", 0),
-    };
-    let words = call.words.get(..count).unwrap_or(&[]);
-    let args = args_of(alloc, words)?;
-    Ok((number, program, args))
-}
-
-fn drawn_log(alloc: Global, calls: &[Drawn]) -> Result<Vec<PlainCall>, Fail> {
     let mut log = Vec::new(alloc);
-    for call in calls {
-        let (number, _program, args) = call_parts(alloc, call)?;
-        log.push(PlainCall::new(0, number, args, call.snapshot))?;
+    for before in 0..ITEMS {
+        let item = if draw(&mut generator, 20) == 0 {
+            draw_addition(alloc, &mut generator)?
+        } else {
+            draw_call(alloc, &mut generator, before)?
+        };
+        log.push(item)?;
     }
     Ok(log)
 }
 
-/// A run of a call on rows, in a line.
-fn rerun(alloc: Global, call: &Drawn, rows: &[Row]) -> Result<String, Fail> {
-    let (_number, program, args) = call_parts(alloc, call)?;
-    let code = decode(alloc, &bytes_of(alloc, program)?)?;
-    let schema = Schema::new(alloc, &TABLES)?;
-    match run_program(alloc, &code, &schema, &args, rows)? {
+/// A run of a call on rows, in a line: of the procedure that its number has at its snapshot.
+fn rerun(
+    alloc: Global,
+    setting: &PlainSetting,
+    log: &[PlainItem],
+    reports: &[ItemReport],
+    call: &PlainCall,
+    rows: &[Row],
+) -> Result<String, Fail> {
+    let before = reports.get(..call.snapshot()).unwrap_or(&[]);
+    let Some(procedure) = procedure_by_number(setting, log, before, call.procedure()) else {
+        return run_text(alloc, 0, &[], &[]);
+    };
+    match run_program(alloc, procedure.code(), setting.schema(), call.args(), rows)? {
         Some(run) => run_text(alloc, run.reply(), run.looks(), run.writes()),
         None => Ok(String::new(alloc)),
     }
 }
 
-fn reported(alloc: Global, report: &CallReport) -> Result<String, Fail> {
-    run_text(alloc, report.reply(), report.looks(), report.writes())
-}
-
-/// What is kept by a call: where it commits, its run on the rows just before it; else these rows.
-fn kept(alloc: Global, call: &Drawn, verdict: Verdict, rows: &[Row]) -> Result<String, Fail> {
-    match verdict {
-        Verdict::Commit => rerun(alloc, call, rows),
-        Verdict::Conflict(_) | Verdict::Stale => rows_text(alloc, rows),
-    }
-}
-
-/// The same, as the replay has it.
-fn kept_in_replay(alloc: Global, report: &CallReport, after: &[Row]) -> Result<String, Fail> {
-    match report.verdict() {
-        Verdict::Commit => reported(alloc, report),
-        Verdict::Conflict(_) | Verdict::Stale => rows_text(alloc, after),
-    }
-}
-
-/// What is kept by the call after so many, as the replay has it, and what is expected of it.
+/// What is kept by the item after so many, as the replay has it, and what is expected of it: where a call commits, its
+/// run on the rows just before it; else these rows.
 fn compared(
     alloc: Global,
-    call: &Drawn,
-    report: &CallReport,
+    setting: &PlainSetting,
+    log: &[PlainItem],
     replay: &CompletedReplay,
     before: usize,
 ) -> Result<(String, String), Fail> {
     let rows = replay.rows(before).unwrap_or(&[]);
+    if let (Some(item), Some(report)) = (log.get(before), replay.reports().get(before)) {
+        if let (PlainItemKind::Call(call), Verdict::Commit) = (&item.kind, report.verdict()) {
+            let wanted = rerun(alloc, setting, log, replay.reports(), call, rows)?;
+            let found = run_text(alloc, report.reply(), report.looks(), report.writes())?;
+            return Ok((found, wanted));
+        }
+    }
     let after = replay.rows(before.wrapping_add(1)).unwrap_or(&[]);
-    let wanted = kept(alloc, call, report.verdict(), rows)?;
-    let found = kept_in_replay(alloc, report, after)?;
-    Ok((found, wanted))
+    Ok((rows_text(alloc, after)?, rows_text(alloc, rows)?))
+}
+
+/// Which of `OUTCOMES` became of an item.
+fn outcome_of(item: &PlainItem, report: &ItemReport) -> usize {
+    match (report.verdict(), &item.kind) {
+        (Verdict::Commit, PlainItemKind::Addition(_)) => 4,
+        (Verdict::Commit, PlainItemKind::Call(call)) => {
+            if call.procedure() >= 7 && !report.writes().is_empty() {
+                7
+            } else {
+                0
+            }
+        }
+        (Verdict::Conflict(_), _) => 1,
+        (Verdict::Stale, _) => 2,
+        (Verdict::Repeated(_), _) => 3,
+        (Verdict::Taken(Identifier::Name), _) => 5,
+        (Verdict::Taken(Identifier::Number), _) => 6,
+    }
+}
+
+/// How often each of `OUTCOMES` came.
+fn outcomes_of(log: &[PlainItem], replay: &CompletedReplay) -> [u32; OUTCOMES] {
+    let mut outcomes = [0u32; OUTCOMES];
+    for (item, report) in log.iter().zip(replay.reports()) {
+        if let Some(count) = outcomes.get_mut(outcome_of(item, report)) {
+            *count = count.wrapping_add(1);
+        }
+    }
+    outcomes
 }
 
 #[test]
 fn committed_calls_run_alike_on_the_rows_before_them(rt: HostRuntime) -> Result<(), Fail> {
     let alloc = rt.alloc();
-    let calls = drawn_calls(alloc)?;
-    let log = drawn_log(alloc, &calls)?;
-    let replay = replay_log(alloc, &setting_of(alloc, 2)?, short(&log))?;
-    let mut verdicts = [0u32; 3];
-    let mut before = 0usize;
-    for (call, report) in calls.iter().zip(replay.reports()) {
-        let (found, wanted) = compared(alloc, call, report, &replay, before)?;
-        assert_eq!(rt; found.as_str(), wanted.as_str(), "after {before} calls");
-        count(&mut verdicts, report.verdict());
-        before = before.wrapping_add(1);
+    let log = drawn_log(alloc)?;
+    let setting = setting_of(alloc, 2)?;
+    let replay = replay_log(alloc, &setting, short(&log))?;
+    for before in 0..ITEMS as usize {
+        let (found, wanted) = compared(alloc, &setting, &log, &replay, before)?;
+        assert_eq!(rt; found.as_str(), wanted.as_str(), "after {before} items");
     }
-    assert_eq!(rt; before, CALLS as usize);
-    let [commits, conflicts, stale] = verdicts;
-    assert!(rt; commits > 0 && conflicts > 0 && stale > 0);
+    let outcomes = outcomes_of(&log, &replay);
+    assert!(rt; outcomes.iter().all(|count| *count > 0), "{outcomes:?}");
     Ok(())
-}
-
-/// Counts a verdict among the commits, the conflicts or the stale ones.
-fn count(verdicts: &mut [u32; 3], verdict: Verdict) {
-    let place = match verdict {
-        Verdict::Commit => 0,
-        Verdict::Conflict(_) => 1,
-        Verdict::Stale => 2,
-    };
-    if let Some(count) = verdicts.get_mut(place) {
-        *count = count.wrapping_add(1);
-    }
 }

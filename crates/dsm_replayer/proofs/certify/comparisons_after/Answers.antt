@@ -1,17 +1,19 @@
-use Rattle.std.proofs.Common.{◌∙◌, ◌+◌, sym, ap, map}
+use Rattle.std.proofs.Common.{◌∙◌, ap, map}
 use Rattle.std.proofs.lemmas.Result.{IfOk-weaker}
-use Rattle.log_model.specs.Comparisons.{comparisons_from}
-use Rattle.dsm_replayer.specs.Replay.{certified_call}
-use Rattle.dsm_replayer.proofs.CertifyLemmas.{stale_comparisons, recent_comparisons}
+use Rattle.log_model.specs.declared.request.RequestId.{RequestId}
+use Rattle.log_model.specs.Log.{repeats, first_position}
+use Rattle.dsm_replayer.specs.Replay.{certified_of}
+use Rattle.dsm_replayer.proofs.CertifyLemmas.{comparisons_by_first}
 use Rattle.dsm_replayer.proofs.certify.comparisons_after.Goals as goal
 
-pub returns-then-is_recent : goal.returns-then-is_recent
-returns-then-is_recent g c = IfOk-weaker c.comparisons_from.result _ _
-    (λ list is.
-    is ∙ ap (comparisons_from c.args.looks.now (c.snapshot-snapshot.result + 1)) c.since.ensures.certified
-    ∙ recent_comparisons c.args.window (map certified_call c.args.past.now) c.args.call.now c.args.looks.now c.snapshot-snapshot.result c.snapshot-snapshot.ensures.snapshot (sym c.is_recent.ensures ∙ c.if-is_recent.true))
-    c.comparisons_from.ensures
+pub returns-in-Some : goal.returns-in-Some
+returns-in-Some g c = c.new.ensures.items
+    ∙ comparisons_by_first c.args.window (map certified_of c.args.past.now) c.args.call.now c.args.looks.now _
+    (c.in-Some.ensures ∙ ap (λ (r : RequestId). first_position (repeats r) 1 (map certified_of c.args.past.now)) c.request.ensures)
 
-pub returns-else-is_recent : goal.returns-else-is_recent
-returns-else-is_recent g c = c.new.ensures.items
-    ∙ stale_comparisons c.args.window (map certified_call c.args.past.now) c.args.call.now c.args.looks.now c.snapshot-snapshot.result c.snapshot-snapshot.ensures.snapshot (sym c.is_recent.ensures ∙ c.if-is_recent.false)
+pub returns-in-None : goal.returns-in-None
+returns-in-None g c = IfOk-weaker c.comparisons_on_new.result _ _
+    (λ list is.
+    is ∙ comparisons_by_first c.args.window (map certified_of c.args.past.now) c.args.call.now c.args.looks.now _
+    (c.in-None.ensures ∙ ap (λ (r : RequestId). first_position (repeats r) 1 (map certified_of c.args.past.now)) c.request.ensures))
+    c.comparisons_on_new.ensures

@@ -1,6 +1,6 @@
 use Rattle.std.proofs.Common.{◌∙◌, sym, ap, ℕ, map, drop}
 use Rattle.std.proofs.lemmas.List.{drop-map}
-use Rattle.dsm_replayer.specs.Replay.{certified_call}
+use Rattle.dsm_replayer.specs.Replay.{certified_of}
 use Rattle.dsm_replayer.proofs.CertifyLemmas.{drop_min}
 use Rattle.dsm_replayer.proofs.certify.since.Goals as goal
 
@@ -12,5 +12,5 @@ returns-clause-later g c =
 
 pub returns-clause-certified : goal.returns-clause-certified
 returns-clause-certified g c =
-    ap (map certified_call) (returns-clause-later g c)
-    ∙ sym (drop-map certified_call c.args.position c.args.past.now)
+    ap (map certified_of) (returns-clause-later g c)
+    ∙ sym (drop-map certified_of c.args.position c.args.past.now)

@@ -1,9 +1,9 @@
-use Rattle.std.proofs.Common.{◌≡◌, ◌+◌, map, option_map, refl, sym, ap, subst, ◌∙◌, arith}
+use Rattle.std.proofs.Common.{◌≡◌, ◌+◌, None, map, option_map, refl, sym, ap, subst, ◌∙◌, arith}
 use Rattle.bpf_verify.specs.Flow.{Procedure}
 use Rattle.dsm_model.specs.declared.outcome.StepRefusal.TheVariants.{OutOfMemory}
 use Rattle.dsm_model.specs.declared.outcome.Outcome.TheVariants.{Begun, Refused}
-use Rattle.log_model.specs.Log.{by_number}
-use Rattle.log_model.specs.Entries.{calls_of}
+use Rattle.log_model.specs.Log.{by_number, no_request, procedures_after}
+use Rattle.log_model.specs.Entries.{items_of}
 use Rattle.dsm_model.specs.World.{Begin, IsStep}
 use Rattle.catalogue.specs.Catalogue.{accepted_of}
 use Rattle.world_calls.specs.OpenCall.{open_call_of}
@@ -11,10 +11,9 @@ use Rattle.dsm_world.specs.System.{setting_of, progress_of, world_of}
 use Rattle.dsm_world.specs.Holdings.{system_of, call_slots, IsTogether}
 use Rattle.dsm_model.specs.Sound.{IsWorld}
 use Rattle.world_calls.proofs.CallLemmas.{each_byte}
-use Rattle.dsm_world.proofs.Numbered.{get_within}
-use Rattle.dsm_world.proofs.EntryLemmas.{calls_count}
+use Rattle.dsm_world.proofs.EntryLemmas.{items_count}
 use Rattle.dsm_world.proofs.StepLemmas.{begin_no_replica, begin_no_procedure, begin_other_length, begin_too_many, begin_without_memory}
-use Rattle.dsm_world.proofs.ReplicaLemmas.{replica_at, get_is, no_replica, has_reached, unknown, known}
+use Rattle.dsm_world.proofs.ReplicaLemmas.{replica_at, get_is, no_replica, has_reached, unknown, known, found_at, in_procedures}
 use Rattle.dsm_world.proofs.CallLemmas.{with_slots, map_count, calls_are, begins, call_entered}
 use Rattle.dsm_world.proofs.begin.begin.Goals as goal
 
@@ -30,9 +29,11 @@ returns-in_default-by_number-clause-step g c =
     let count = c.len.ensures in
     let at = c.in-Some.at in
     let lt = place.1 in
-    let old = get_within s.replicas at (omega arith) in
-    begin_no_procedure (setting_of s) (world_of s) c.args.replica c.args.procedure c.args.args.now (progress_of old.0) (replica_at s c.args.replica at old.0 place.0 old.1)
-    (unknown (accepted_of s.catalogue.tables) (by_number s.catalogue.procedures c.args.procedure) c.in_default-by_number.ensures)
+    let old = c.index-held.result.now in
+    let there = get_is s.replicas at old (omega arith) c.index-held.ensures in
+    let found = in_procedures c.args.procedure c.procedures.result.now old.procedures c.procedures.ensures ∙ found_at s (call_slots c.args.world.now) at c.args.procedure old c.replicas_follow_the_log.ensures.procedures c.requires.together there in
+    begin_no_procedure (setting_of s) (world_of s) c.args.replica c.args.procedure c.args.args.now (progress_of old) (replica_at s c.args.replica at old place.0 there)
+    (unknown (accepted_of s.catalogue.tables) (by_number (procedures_after (setting_of s) (world_of s).log old.position) c.args.procedure) (c.in_default-by_number.ensures ∙ found))
 
 pub returns-then-args-from-clause-step : goal.returns-then-args-from-clause-step
 returns-then-args-from-clause-step g c =
@@ -41,25 +42,30 @@ returns-then-args-from-clause-step g c =
     let count = c.len.ensures in
     let at = c.in-Some.at in
     let lt = place.1 in
-    let old = get_within s.replicas at (omega arith) in
-    let p = known (accepted_of s.catalogue.tables) (by_number s.catalogue.procedures c.args.procedure) c.in-Some-by_number.accepted.now c.in-Some-by_number.ensures in
-    begin_other_length (setting_of s) (world_of s) c.args.replica c.args.procedure c.args.args.now (progress_of old.0) p.0 (replica_at s c.args.replica at old.0 place.0 old.1) p.1
+    let old = c.index-held.result.now in
+    let there = get_is s.replicas at old (omega arith) c.index-held.ensures in
+    let found = in_procedures c.args.procedure c.procedures.result.now old.procedures c.procedures.ensures ∙ found_at s (call_slots c.args.world.now) at c.args.procedure old c.replicas_follow_the_log.ensures.procedures c.requires.together there in
+    let p = known (accepted_of s.catalogue.tables) (by_number (procedures_after (setting_of s) (world_of s).log old.position) c.args.procedure) c.in-Some-by_number.accepted.now (c.in-Some-by_number.ensures ∙ found) in
+    begin_other_length (setting_of s) (world_of s) c.args.replica c.args.procedure c.args.args.now (progress_of old) p.0 (replica_at s c.args.replica at old place.0 there) p.1
     (λ same. c.if-args-from.true (same ∙ sym (ap (λ (q : Procedure). q.args_len) p.2) ∙ sym c.args_len.ensures.length ∙ sym c.from.ensures))
 
-pub returns-then-len-ge-MAX_CALLS-clause-step : goal.returns-then-len-ge-MAX_CALLS-clause-step
-returns-then-len-ge-MAX_CALLS-clause-step g c =
+pub returns-then-len-world-ge-MAX_CALLS-clause-step : goal.returns-then-len-world-ge-MAX_CALLS-clause-step
+returns-then-len-world-ge-MAX_CALLS-clause-step g c =
     let s = system_of c.args.world.now in
     let place = c.in-Some.ensures.there in
     let count = c.len.ensures in
     let at = c.in-Some.at in
     let lt = place.1 in
-    let old = get_within s.replicas at (omega arith) in
-    let p = known (accepted_of s.catalogue.tables) (by_number s.catalogue.procedures c.args.procedure) c.in-Some-by_number.accepted.now c.in-Some-by_number.ensures in
-    let many = c.if-len-ge-MAX_CALLS.true in
+    let old = c.index-held.result.now in
+    let there = get_is s.replicas at old (omega arith) c.index-held.ensures in
+    let found = in_procedures c.args.procedure c.procedures.result.now old.procedures c.procedures.ensures ∙ found_at s (call_slots c.args.world.now) at c.args.procedure old c.replicas_follow_the_log.ensures.procedures c.requires.together there in
+    let p = known (accepted_of s.catalogue.tables) (by_number (procedures_after (setting_of s) (world_of s).log old.position) c.args.procedure) c.in-Some-by_number.accepted.now (c.in-Some-by_number.ensures ∙ found) in
+    let many = c.if-len-world-ge-MAX_CALLS.true in
     let calls = c.len-2.ensures in
     let slots = map_count (λ slot. option_map (λ b. b.value) slot) c.args.world.now.calls.items in
-    let all = calls_are s (call_slots c.args.world.now) c.requires in
-    begin_too_many (setting_of s) (world_of s) c.args.replica c.args.procedure c.args.args.now (progress_of old.0) p.0 (replica_at s c.args.replica at old.0 place.0 old.1) p.1
+    let all = calls_are s (call_slots c.args.world.now) c.requires.together in
+    let additions = c.requires.additions in
+    begin_too_many (setting_of s) (world_of s) c.args.replica c.args.procedure c.args.args.now (progress_of old) p.0 (replica_at s c.args.replica at old place.0 there) p.1
     (c.if-args-from.false ∙ c.from.ensures ∙ c.args_len.ensures.length ∙ ap (λ (q : Procedure). q.args_len) p.2) (omega arith)
 
 pub returns-in_default-begun-clause-step : goal.returns-in_default-begun-clause-step
@@ -69,13 +75,16 @@ returns-in_default-begun-clause-step g c =
     let count = c.len.ensures in
     let at = c.in-Some.at in
     let lt = place.1 in
-    let old = get_within s.replicas at (omega arith) in
-    let p = known (accepted_of s.catalogue.tables) (by_number s.catalogue.procedures c.args.procedure) c.in-Some-by_number.accepted.now c.in-Some-by_number.ensures in
-    let few = c.if-len-ge-MAX_CALLS.false in
+    let old = c.index-held.result.now in
+    let there = get_is s.replicas at old (omega arith) c.index-held.ensures in
+    let found = in_procedures c.args.procedure c.procedures.result.now old.procedures c.procedures.ensures ∙ found_at s (call_slots c.args.world.now) at c.args.procedure old c.replicas_follow_the_log.ensures.procedures c.requires.together there in
+    let p = known (accepted_of s.catalogue.tables) (by_number (procedures_after (setting_of s) (world_of s).log old.position) c.args.procedure) c.in-Some-by_number.accepted.now (c.in-Some-by_number.ensures ∙ found) in
+    let few = c.if-len-world-ge-MAX_CALLS.false in
     let calls = c.len-2.ensures in
     let slots = map_count (λ slot. option_map (λ b. b.value) slot) c.args.world.now.calls.items in
-    let all = calls_are s (call_slots c.args.world.now) c.requires in
-    begin_without_memory (setting_of s) (world_of s) c.args.replica c.args.procedure c.args.args.now (progress_of old.0) p.0 (replica_at s c.args.replica at old.0 place.0 old.1) p.1
+    let all = calls_are s (call_slots c.args.world.now) c.requires.together in
+    let additions = c.requires.additions in
+    begin_without_memory (setting_of s) (world_of s) c.args.replica c.args.procedure c.args.args.now (progress_of old) p.0 (replica_at s c.args.replica at old place.0 there) p.1
     (c.if-args-from.false ∙ c.from.ensures ∙ c.args_len.ensures.length ∙ ap (λ (q : Procedure). q.args_len) p.2) (omega arith)
 
 pub returns-in-Ok-enter-clause-step : goal.returns-in-Ok-enter-clause-step
@@ -86,20 +95,21 @@ returns-in-Ok-enter-clause-step g c =
     let count = c.len.ensures in
     let at = c.in-Some.at in
     let lt = place.1 in
-    let old = c.index.result.now in
-    let there = get_is s.replicas at old (omega arith) c.index.ensures in
-    let p = known (accepted_of s.catalogue.tables) (by_number s.catalogue.procedures c.args.procedure) c.in-Some-by_number.accepted.now c.in-Some-by_number.ensures in
-    let few = c.if-len-ge-MAX_CALLS.false in
+    let old = c.index-held.result.now in
+    let there = get_is s.replicas at old (omega arith) c.index-held.ensures in
+    let found = in_procedures c.args.procedure c.procedures.result.now old.procedures c.procedures.ensures ∙ found_at s slots at c.args.procedure old c.replicas_follow_the_log.ensures.procedures c.requires.together there in
+    let p = known (accepted_of s.catalogue.tables) (by_number (procedures_after (setting_of s) (world_of s).log old.position) c.args.procedure) c.in-Some-by_number.accepted.now (c.in-Some-by_number.ensures ∙ found) in
+    let few = c.if-len-world-ge-MAX_CALLS.false in
     let calls = c.len-2.ensures in
     let calls_3 = c.len-3.ensures in
     let all = map_count (λ slot. option_map (λ b. b.value) slot) c.args.world.now.calls.items in
     let snapshot = c.begin-snapshot.ensures in
     let number = c.len-3.result + 1 in
-    subst (λ n. IsStep (setting_of s) (world_of s) (Begin c.args.replica c.args.procedure c.args.args.now) (Begun number n) (world_of (with_slots s (map (λ slot. option_map (λ b. b.value) slot) c.enter.new.calls.items)))) (sym snapshot)
-    (subst (λ xs. IsStep (setting_of s) (world_of s) (Begin c.args.replica c.args.procedure c.args.args.now) (Begun number old.position) (world_of (with_slots s xs))) (sym c.in-Ok-enter.ensures.entered)
-    (begins s slots c.args.replica at c.args.procedure c.args.args.now old p.0 c.in-Ok.open_call number c.requires place.0 there p.1
-    (c.if-args-from.false ∙ c.from.ensures ∙ c.args_len.ensures.length ∙ ap (λ (q : Procedure). q.args_len) p.2) (omega arith) (omega arith)
-    (subst (λ n. open_call_of c.in-Ok.open_call ≡ record { replica = c.args.replica; call = record { number = number; procedure = c.args.procedure; args = c.args.args.now; snapshot = n }; turns = 0 }) snapshot c.in-Ok.ensures.begun)))
+    subst (λ n. IsStep (setting_of s) (world_of s) (Begin c.args.replica c.args.procedure c.args.args.now None) (Begun number n) (world_of (with_slots s (map (λ slot. option_map (λ b. b.value) slot) c.enter.new.calls.items)))) (sym snapshot)
+    (subst (λ xs. IsStep (setting_of s) (world_of s) (Begin c.args.replica c.args.procedure c.args.args.now None) (Begun number old.position) (world_of (with_slots s xs))) (sym c.in-Ok-enter.ensures.entered)
+    (begins s slots c.args.replica at c.args.procedure c.args.args.now old p.0 c.in-Ok.open_call number c.requires.together place.0 there p.1
+    (c.if-args-from.false ∙ c.from.ensures ∙ c.args_len.ensures.length ∙ ap (λ (q : Procedure). q.args_len) p.2) (let additions = c.requires.additions in let counted = calls_are s slots c.requires.together in omega arith) (omega arith)
+    (subst (λ n. open_call_of c.in-Ok.open_call ≡ record { replica = c.args.replica; call = record { number = number; procedure = c.args.procedure; args = c.args.args.now; snapshot = n; request = no_request }; turns = 0 }) snapshot c.in-Ok.ensures.begun)))
 
 pub returns-in-Ok-enter-clause-consistent : goal.returns-in-Ok-enter-clause-consistent
 returns-in-Ok-enter-clause-consistent g c =
@@ -109,16 +119,21 @@ returns-in-Ok-enter-clause-consistent g c =
     let count = c.len.ensures in
     let at = c.in-Some.at in
     let lt = place.1 in
-    let old = c.index.result.now in
-    let there = get_is s.replicas at old (omega arith) c.index.ensures in
-    let p = known (accepted_of s.catalogue.tables) (by_number s.catalogue.procedures c.args.procedure) c.in-Some-by_number.accepted.now c.in-Some-by_number.ensures in
-    let reached = has_reached s slots at old c.requires there in
+    let old = c.index-held.result.now in
+    let there = get_is s.replicas at old (omega arith) c.index-held.ensures in
+    let found = in_procedures c.args.procedure c.procedures.result.now old.procedures c.procedures.ensures ∙ found_at s slots at c.args.procedure old c.replicas_follow_the_log.ensures.procedures c.requires.together there in
+    let p = known (accepted_of s.catalogue.tables) (by_number (procedures_after (setting_of s) (world_of s).log old.position) c.args.procedure) c.in-Some-by_number.accepted.now (c.in-Some-by_number.ensures ∙ found) in
+    let reached = has_reached s slots at old c.requires.together there in
     let snapshot = c.begin-snapshot.ensures in
-    let log = calls_count s.entries in
-    let rows = c.rows_fit_the_schema.ensures (setting_of s) (calls_of s.entries) c.begin-snapshot.result c.requires.entries.procedures c.requires.entries.log c.requires.entries.calls (omega arith) in
-    let world = c.steps_keep_a_world.ensures.step (setting_of s) (world_of s) (Begin c.args.replica c.args.procedure c.args.args.now) _ _ (each_byte c.args.args.now (λ i. let f = c.type_inv.args i in omega (arith, f))) (returns-in-Ok-enter-clause-step g c) c.requires.world in
-    subst (λ xs. IsTogether (with_slots s xs) xs) (sym c.in-Ok-enter.ensures.entered)
-    (call_entered s slots c.in-Ok.open_call c.requires (c.in-Ok.ensures.follows (setting_of s) (calls_of s.entries) p.0 p.1 p.2 rows) (subst (λ xs. IsWorld (setting_of s) (world_of (with_slots s xs))) c.in-Ok-enter.ensures.entered world))
+    let log = items_count s.entries in
+    let rows = c.rows_fit_the_schema.ensures (setting_of s) (items_of s.entries) c.begin-snapshot.result c.requires.together.entries.procedures c.requires.together.entries.log c.requires.together.entries.items (omega arith) in
+    let world = c.steps_keep_a_world.ensures.step (setting_of s) (world_of s) (Begin c.args.replica c.args.procedure c.args.args.now None) _ _ (each_byte c.args.args.now (λ i. let f = c.type_inv.args i in omega (arith, f))) (returns-in-Ok-enter-clause-step g c) c.requires.together.world in
+    record {
+      together = subst (λ xs. IsTogether (with_slots s xs) xs) (sym c.in-Ok-enter.ensures.entered)
+          (call_entered s slots c.in-Ok.open_call c.requires.together (c.in-Ok.ensures.follows (setting_of s) (items_of s.entries) p.0 (ap (λ n. by_number (procedures_after (setting_of s) (items_of s.entries) n) c.args.procedure) snapshot ∙ p.1) p.2 rows) (subst (λ xs. IsWorld (setting_of s) (world_of (with_slots s xs))) c.in-Ok-enter.ensures.entered world));
+      for_tables = c.requires.for_tables;
+      additions = c.requires.additions;
+    }
 
 pub returns-in-Err-clause-step : goal.returns-in-Err-clause-step
 returns-in-Err-clause-step g c =
@@ -127,12 +142,15 @@ returns-in-Err-clause-step g c =
     let count = c.len.ensures in
     let at = c.in-Some.at in
     let lt = place.1 in
-    let old = get_within s.replicas at (omega arith) in
-    let p = known (accepted_of s.catalogue.tables) (by_number s.catalogue.procedures c.args.procedure) c.in-Some-by_number.accepted.now c.in-Some-by_number.ensures in
-    let few = c.if-len-ge-MAX_CALLS.false in
+    let old = c.index-held.result.now in
+    let there = get_is s.replicas at old (omega arith) c.index-held.ensures in
+    let found = in_procedures c.args.procedure c.procedures.result.now old.procedures c.procedures.ensures ∙ found_at s (call_slots c.args.world.now) at c.args.procedure old c.replicas_follow_the_log.ensures.procedures c.requires.together there in
+    let p = known (accepted_of s.catalogue.tables) (by_number (procedures_after (setting_of s) (world_of s).log old.position) c.args.procedure) c.in-Some-by_number.accepted.now (c.in-Some-by_number.ensures ∙ found) in
+    let few = c.if-len-world-ge-MAX_CALLS.false in
     let calls = c.len-2.ensures in
     let slots = map_count (λ slot. option_map (λ b. b.value) slot) c.args.world.now.calls.items in
-    let all = calls_are s (call_slots c.args.world.now) c.requires in
-    subst (λ xs. IsStep (setting_of s) (world_of s) (Begin c.args.replica c.args.procedure c.args.args.now) (Refused OutOfMemory) (world_of (with_slots s (map (λ slot. option_map (λ b. b.value) slot) xs)))) (sym c.in-Err.ensures.unchanged)
-    (begin_without_memory (setting_of s) (world_of s) c.args.replica c.args.procedure c.args.args.now (progress_of old.0) p.0 (replica_at s c.args.replica at old.0 place.0 old.1) p.1
+    let all = calls_are s (call_slots c.args.world.now) c.requires.together in
+    let additions = c.requires.additions in
+    subst (λ xs. IsStep (setting_of s) (world_of s) (Begin c.args.replica c.args.procedure c.args.args.now None) (Refused OutOfMemory) (world_of (with_slots s (map (λ slot. option_map (λ b. b.value) slot) xs)))) (sym c.in-Err.ensures.unchanged)
+    (begin_without_memory (setting_of s) (world_of s) c.args.replica c.args.procedure c.args.args.now (progress_of old) p.0 (replica_at s c.args.replica at old place.0 there) p.1
     (c.if-args-from.false ∙ c.from.ensures ∙ c.args_len.ensures.length ∙ ap (λ (q : Procedure). q.args_len) p.2) (omega arith))

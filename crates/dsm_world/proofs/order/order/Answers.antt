@@ -1,10 +1,10 @@
 use Rattle.std.proofs.Common.{◌-◌, List, length, map, option_map, slice_set, Option, Some, None, refl, sym, ap, subst, ◌∙◌, arith}
 use Rattle.dsm_model.specs.declared.outcome.StepRefusal.TheVariants.{NotAtExit}
 use Rattle.dsm_model.specs.declared.outcome.Outcome.TheVariants.{Cancelled, Read, Refused}
-use Rattle.log_model.specs.Entries.{calls_of}
+use Rattle.log_model.specs.Entries.{items_of}
 use Rattle.dsm_model.specs.World.{Order, IsStep}
 use Rattle.dsm_model.specs.Sound.{IsWorld}
-use Rattle.replica.specs.Replica.{Replica}
+use Rattle.replica.specs.Replica.{Replica, entries_of}
 use Rattle.world_calls.specs.OpenCall.{call_of, open_call_of, Follows, IsReplyOf, IsCompletion}
 use Rattle.world_calls.specs.declared.completion.Completion.TheVariants as completion
 use Rattle.world_calls.specs.declared.open_call.OpenCall.{OpenCall as OpenCallState}
@@ -12,7 +12,7 @@ use Rattle.dsm_world.specs.System.{setting_of, world_of}
 use Rattle.dsm_world.specs.Holdings.{system_of, call_slots, IsTogether}
 use Rattle.dsm_world.proofs.Numbered.{get_lt}
 use Rattle.dsm_world.proofs.StepLemmas.{order_no_call}
-use Rattle.dsm_world.proofs.CallLemmas.{with_slots, no_call, slot_changed, open_facts, call_replica, map_count, set_count, put_back, early, cancelled, read, IsToAppend, with_entries, append_steps, appended_together}
+use Rattle.dsm_world.proofs.CallLemmas.{with_slots, no_call, slot_changed, open_facts, call_replica, map_count, set_count, put_back, early, cancelled, read, IsToAppend, with_entries, append_steps, appended_together, one_more_for, same_additions}
 use Rattle.dsm_world.proofs.order.order.Goals as goal
 
 pub returns-in_default-clause-step : goal.returns-in_default-clause-step
@@ -35,11 +35,11 @@ returns-in_default-reply-clause-step g c =
     let s = system_of c.args.world.now in
     let slots = call_slots c.args.world.now in
     let o = c.in-Some.open_call.value in
-    let f = open_facts s slots c.args.call c.in-Some.at o c.requires c.in-Some.ensures.place c.in-Some.ensures.stood in
+    let f = open_facts s slots c.args.call c.in-Some.at o c.requires.together c.in-Some.ensures.place c.in-Some.ensures.stood in
     let put = c.put_call.ensures ∙ ap (λ xs. slice_set xs c.in-Some.at (Some o)) c.in-Some.ensures.taken ∙ put_back slots c.in-Some.at o c.in-Some.ensures.stood in
-    let follows = subst (λ (x : OpenCallState _). Follows (setting_of s) (calls_of s.entries) x) (sym c.deref.ensures) f.follows in
-    let before = subst (λ (x : OpenCallState _). IsReplyOf (setting_of s) (calls_of s.entries) (open_call_of x) None) c.deref.ensures
-    (subst (λ reply. IsReplyOf (setting_of s) (calls_of s.entries) (open_call_of c.deref.result.now) reply) c.in_default-reply.is (c.reply.ensures.run (setting_of s) (calls_of s.entries) follows)) in
+    let follows = subst (λ (x : OpenCallState _). Follows (setting_of s) (items_of s.entries) x) (sym c.deref.ensures) f.follows in
+    let before = subst (λ (x : OpenCallState _). IsReplyOf (setting_of s) (items_of s.entries) (open_call_of x) None) c.deref.ensures
+    (subst (λ reply. IsReplyOf (setting_of s) (items_of s.entries) (open_call_of c.deref.result.now) reply) c.in_default-reply.is (c.reply.ensures.run (setting_of s) (items_of s.entries) follows)) in
     subst (λ xs. IsStep (setting_of s) (world_of s) (Order c.args.call) (Refused NotAtExit) (world_of (with_slots s xs))) (sym put)
     (early s c.args.call o f before)
 
@@ -49,19 +49,23 @@ returns-in_default-reply-clause-consistent g c =
     let slots = call_slots c.args.world.now in
     let o = c.in-Some.open_call.value in
     let put = c.put_call.ensures ∙ ap (λ xs. slice_set xs c.in-Some.at (Some o)) c.in-Some.ensures.taken ∙ put_back slots c.in-Some.at o c.in-Some.ensures.stood in
-    subst (λ xs. IsTogether (with_slots s xs) xs) (sym put) c.requires
+    record {
+      together = subst (λ xs. IsTogether (with_slots s xs) xs) (sym put) c.requires.together;
+      for_tables = c.requires.for_tables;
+      additions = c.requires.additions;
+    }
 
 pub overflow_sub-open_call : goal.overflow_sub-open_call
 overflow_sub-open_call g c =
     let s = system_of c.args.world.now in
-    let f = open_facts s (call_slots c.args.world.now) c.args.call c.in-Some.at c.in-Some.open_call.value c.requires c.in-Some.ensures.place c.in-Some.ensures.stood in
+    let f = open_facts s (call_slots c.args.world.now) c.args.call c.in-Some.at c.in-Some.open_call.value c.requires.together c.in-Some.ensures.place c.in-Some.ensures.stood in
     let place = ap (λ (x : OpenCallState _). x.replica) c.into_inner-open_call.ensures ∙ f.place in
     omega arith
 
 pub index-requires : goal.index-requires
 index-requires g c =
     let s = system_of c.args.world.now in
-    let f = open_facts s (call_slots c.args.world.now) c.args.call c.in-Some.at c.in-Some.open_call.value c.requires c.in-Some.ensures.place c.in-Some.ensures.stood in
+    let f = open_facts s (call_slots c.args.world.now) c.args.call c.in-Some.at c.in-Some.open_call.value c.requires.together c.in-Some.ensures.place c.in-Some.ensures.stood in
     let place = ap (λ (x : OpenCallState _). x.replica) c.into_inner-open_call.ensures ∙ f.place in
     let lt = get_lt s.replicas f.j f.r f.stands in
     omega arith
@@ -70,7 +74,7 @@ pub at-store-requires : goal.at-store-requires
 at-store-requires g c =
     let s = system_of c.args.world.now in
     let o = c.in-Some.open_call.value in
-    let f = open_facts s (call_slots c.args.world.now) c.args.call c.in-Some.at o c.requires c.in-Some.ensures.place c.in-Some.ensures.stood in
+    let f = open_facts s (call_slots c.args.world.now) c.args.call c.in-Some.at o c.requires.together c.in-Some.ensures.place c.in-Some.ensures.stood in
     let at = ap (λ (x : OpenCallState _). x.replica) c.into_inner-open_call.ensures in
     let place = f.place in
     let lt = get_lt s.replicas f.j f.r f.stands in
@@ -88,69 +92,81 @@ returns-in-Cancelled-clause-step g c =
     let s = system_of c.args.world.now in
     let slots = call_slots c.args.world.now in
     let o = c.in-Some.open_call.value in
-    let f = open_facts s slots c.args.call c.in-Some.at o c.requires c.in-Some.ensures.place c.in-Some.ensures.stood in
-    let end = subst (λ (x : OpenCallState _). IsReplyOf (setting_of s) (calls_of s.entries) (open_call_of x) (Some c.in-Some-reply._reply)) c.deref.ensures
-    (c.in-Some-reply.ensures.run (setting_of s) (calls_of s.entries) (subst (λ (x : OpenCallState _). Follows (setting_of s) (calls_of s.entries) x) (sym c.deref.ensures) f.follows)) in
-    let done = subst (λ (x : OpenCallState _). IsCompletion {A = g.row.A.Denot} (setting_of s) (calls_of s.entries) (call_of x) (completion.Cancelled c.in-Cancelled.snapshot c.in-Cancelled.code)) c.into_inner-open_call.ensures
-    (c.in-Cancelled.ensures (setting_of s) (calls_of s.entries) (subst (λ (x : OpenCallState _). Follows (setting_of s) (calls_of s.entries) x) (sym c.into_inner-open_call.ensures) f.follows)) in
+    let f = open_facts s slots c.args.call c.in-Some.at o c.requires.together c.in-Some.ensures.place c.in-Some.ensures.stood in
+    let end = subst (λ (x : OpenCallState _). IsReplyOf (setting_of s) (items_of s.entries) (open_call_of x) (Some c.in-Some-reply._reply)) c.deref.ensures
+    (c.in-Some-reply.ensures.run (setting_of s) (items_of s.entries) (subst (λ (x : OpenCallState _). Follows (setting_of s) (items_of s.entries) x) (sym c.deref.ensures) f.follows)) in
+    let done = subst (λ (x : OpenCallState _). IsCompletion {A = g.row.A.Denot} (setting_of s) (items_of s.entries) (call_of x) (completion.Cancelled c.in-Cancelled.snapshot c.in-Cancelled.code)) c.into_inner-open_call.ensures
+    (c.in-Cancelled.ensures (setting_of s) (items_of s.entries) (subst (λ (x : OpenCallState _). Follows (setting_of s) (items_of s.entries) x) (sym c.into_inner-open_call.ensures) f.follows)) in
     subst (λ xs. IsStep (setting_of s) (world_of s) (Order c.args.call) (Cancelled c.in-Cancelled.snapshot c.in-Cancelled.code) (world_of (with_slots s xs))) (sym c.in-Some.ensures.taken)
-    (cancelled s slots c.args.call c.in-Some.at o c.in-Cancelled.snapshot c.in-Cancelled.code c.requires c.in-Some.ensures.place f end.0 done.0 done.1)
+    (cancelled s slots c.args.call c.in-Some.at o c.in-Cancelled.snapshot c.in-Cancelled.code c.requires.together c.in-Some.ensures.place f end.0 done.0 done.1)
 
 pub returns-in-Cancelled-clause-consistent : goal.returns-in-Cancelled-clause-consistent
 returns-in-Cancelled-clause-consistent g c =
     let s = system_of c.args.world.now in
     let slots = call_slots c.args.world.now in
-    let world = c.steps_keep_a_world.ensures.step (setting_of s) (world_of s) (Order c.args.call) _ _ tt (returns-in-Cancelled-clause-step g c) c.requires.world in
-    subst (λ xs. IsTogether (with_slots s xs) xs) (sym c.in-Some.ensures.taken)
-    (slot_changed s slots c.in-Some.at None c.requires (λ d bad. absurd cc) (subst (λ xs. IsWorld (setting_of s) (world_of (with_slots s xs))) c.in-Some.ensures.taken world))
+    let world = c.steps_keep_a_world.ensures.step (setting_of s) (world_of s) (Order c.args.call) _ _ tt (returns-in-Cancelled-clause-step g c) c.requires.together.world in
+    record {
+      together = subst (λ xs. IsTogether (with_slots s xs) xs) (sym c.in-Some.ensures.taken)
+          (slot_changed s slots c.in-Some.at None c.requires.together (λ d bad. absurd cc) (subst (λ xs. IsWorld (setting_of s) (world_of (with_slots s xs))) c.in-Some.ensures.taken world));
+      for_tables = c.requires.for_tables;
+      additions = c.requires.additions;
+    }
 
 pub returns-in-Read-clause-step : goal.returns-in-Read-clause-step
 returns-in-Read-clause-step g c =
     let s = system_of c.args.world.now in
     let slots = call_slots c.args.world.now in
     let o = c.in-Some.open_call.value in
-    let f = open_facts s slots c.args.call c.in-Some.at o c.requires c.in-Some.ensures.place c.in-Some.ensures.stood in
-    let end = subst (λ (x : OpenCallState _). IsReplyOf (setting_of s) (calls_of s.entries) (open_call_of x) (Some c.in-Some-reply._reply)) c.deref.ensures
-    (c.in-Some-reply.ensures.run (setting_of s) (calls_of s.entries) (subst (λ (x : OpenCallState _). Follows (setting_of s) (calls_of s.entries) x) (sym c.deref.ensures) f.follows)) in
-    let done = subst (λ (x : OpenCallState _). IsCompletion {A = g.row.A.Denot} (setting_of s) (calls_of s.entries) (call_of x) (completion.Read c.in-Read.snapshot c.in-Read.reply)) c.into_inner-open_call.ensures
-    (c.in-Read.ensures (setting_of s) (calls_of s.entries) (subst (λ (x : OpenCallState _). Follows (setting_of s) (calls_of s.entries) x) (sym c.into_inner-open_call.ensures) f.follows)) in
+    let f = open_facts s slots c.args.call c.in-Some.at o c.requires.together c.in-Some.ensures.place c.in-Some.ensures.stood in
+    let end = subst (λ (x : OpenCallState _). IsReplyOf (setting_of s) (items_of s.entries) (open_call_of x) (Some c.in-Some-reply._reply)) c.deref.ensures
+    (c.in-Some-reply.ensures.run (setting_of s) (items_of s.entries) (subst (λ (x : OpenCallState _). Follows (setting_of s) (items_of s.entries) x) (sym c.deref.ensures) f.follows)) in
+    let done = subst (λ (x : OpenCallState _). IsCompletion {A = g.row.A.Denot} (setting_of s) (items_of s.entries) (call_of x) (completion.Read c.in-Read.snapshot c.in-Read.reply)) c.into_inner-open_call.ensures
+    (c.in-Read.ensures (setting_of s) (items_of s.entries) (subst (λ (x : OpenCallState _). Follows (setting_of s) (items_of s.entries) x) (sym c.into_inner-open_call.ensures) f.follows)) in
     subst (λ xs. IsStep (setting_of s) (world_of s) (Order c.args.call) (Read c.in-Read.snapshot c.in-Read.reply) (world_of (with_slots s xs))) (sym c.in-Some.ensures.taken)
-    (read s slots c.args.call c.in-Some.at o c.in-Read.snapshot c.in-Read.reply c.requires c.in-Some.ensures.place f end.0 done.0 done.1 done.2 done.3)
+    (read s slots c.args.call c.in-Some.at o c.in-Read.snapshot c.in-Read.reply c.requires.together c.in-Some.ensures.place f end.0 done.0 done.1 done.2 done.3)
 
 pub returns-in-Read-clause-consistent : goal.returns-in-Read-clause-consistent
 returns-in-Read-clause-consistent g c =
     let s = system_of c.args.world.now in
     let slots = call_slots c.args.world.now in
-    let world = c.steps_keep_a_world.ensures.step (setting_of s) (world_of s) (Order c.args.call) _ _ tt (returns-in-Read-clause-step g c) c.requires.world in
-    subst (λ xs. IsTogether (with_slots s xs) xs) (sym c.in-Some.ensures.taken)
-    (slot_changed s slots c.in-Some.at None c.requires (λ d bad. absurd cc) (subst (λ xs. IsWorld (setting_of s) (world_of (with_slots s xs))) c.in-Some.ensures.taken world))
+    let world = c.steps_keep_a_world.ensures.step (setting_of s) (world_of s) (Order c.args.call) _ _ tt (returns-in-Read-clause-step g c) c.requires.together.world in
+    record {
+      together = subst (λ xs. IsTogether (with_slots s xs) xs) (sym c.in-Some.ensures.taken)
+          (slot_changed s slots c.in-Some.at None c.requires.together (λ d bad. absurd cc) (subst (λ xs. IsWorld (setting_of s) (world_of (with_slots s xs))) c.in-Some.ensures.taken world));
+      for_tables = c.requires.for_tables;
+      additions = c.requires.additions;
+    }
 
 pub returns-in-Wrote-clause-step : goal.returns-in-Wrote-clause-step
 returns-in-Wrote-clause-step g c =
     let s = system_of c.args.world.now in
     let slots = call_slots c.args.world.now in
     let o = c.in-Some.open_call.value in
-    let f = open_facts s slots c.args.call c.in-Some.at o c.requires c.in-Some.ensures.place c.in-Some.ensures.stood in
-    let end = subst (λ (x : OpenCallState _). IsReplyOf (setting_of s) (calls_of s.entries) (open_call_of x) (Some c.in-Some-reply._reply)) c.deref.ensures
-    (c.in-Some-reply.ensures.run (setting_of s) (calls_of s.entries) (subst (λ (x : OpenCallState _). Follows (setting_of s) (calls_of s.entries) x) (sym c.deref.ensures) f.follows)) in
-    let done = subst (λ (x : OpenCallState _). IsCompletion {A = g.row.A.Denot} (setting_of s) (calls_of s.entries) (call_of x) (completion.Wrote c.in-Wrote.entry)) c.into_inner-open_call.ensures
-    (c.in-Wrote.ensures (setting_of s) (calls_of s.entries) (subst (λ (x : OpenCallState _). Follows (setting_of s) (calls_of s.entries) x) (sym c.into_inner-open_call.ensures) f.follows)) in
-    let a : IsToAppend s o c.in-Wrote.entry = record { end = end.0; kept = done.0; some = done.1; call = done.2; carries = done.3; fits = done.4 } in
-    subst (λ xs. IsStep (setting_of s) (world_of s) (Order c.args.call) c.append.result (world_of (with_entries (with_slots s xs) c.append.new.entries.items))) (sym c.in-Some.ensures.taken)
-    (append_steps s slots c.args.call c.in-Some.at o c.in-Wrote.entry c.append.result c.append.new.entries.items c.requires c.in-Some.ensures.place f a c.append.ensures)
+    let f = open_facts s slots c.args.call c.in-Some.at o c.requires.together c.in-Some.ensures.place c.in-Some.ensures.stood in
+    let end = subst (λ (x : OpenCallState _). IsReplyOf (setting_of s) (items_of s.entries) (open_call_of x) (Some c.in-Some-reply._reply)) c.deref.ensures
+    (c.in-Some-reply.ensures.run (setting_of s) (items_of s.entries) (subst (λ (x : OpenCallState _). Follows (setting_of s) (items_of s.entries) x) (sym c.deref.ensures) f.follows)) in
+    let done = subst (λ (x : OpenCallState _). IsCompletion {A = g.row.A.Denot} (setting_of s) (items_of s.entries) (call_of x) (completion.Wrote c.in-Wrote.call)) c.into_inner-open_call.ensures
+    (c.in-Wrote.ensures (setting_of s) (items_of s.entries) (subst (λ (x : OpenCallState _). Follows (setting_of s) (items_of s.entries) x) (sym c.into_inner-open_call.ensures) f.follows)) in
+    let a : IsToAppend s o c.in-Wrote.call = record { end = end.0; kept = done.0; some = done.1; call = done.2; carries = done.3; fits = done.4 } in
+    subst (λ xs. IsStep (setting_of s) (world_of s) (Order c.args.call) c.append.result (world_of (with_entries (with_slots s xs) (entries_of c.append.new.entries.items)))) (sym c.in-Some.ensures.taken)
+    (append_steps s slots c.args.call c.in-Some.at o c.in-Wrote.call c.append.result (entries_of c.append.new.entries.items) c.requires.together c.in-Some.ensures.place f a c.append.ensures.appended)
 
 pub returns-in-Wrote-clause-consistent : goal.returns-in-Wrote-clause-consistent
 returns-in-Wrote-clause-consistent g c =
     let s = system_of c.args.world.now in
     let slots = call_slots c.args.world.now in
     let o = c.in-Some.open_call.value in
-    let f = open_facts s slots c.args.call c.in-Some.at o c.requires c.in-Some.ensures.place c.in-Some.ensures.stood in
-    let end = subst (λ (x : OpenCallState _). IsReplyOf (setting_of s) (calls_of s.entries) (open_call_of x) (Some c.in-Some-reply._reply)) c.deref.ensures
-    (c.in-Some-reply.ensures.run (setting_of s) (calls_of s.entries) (subst (λ (x : OpenCallState _). Follows (setting_of s) (calls_of s.entries) x) (sym c.deref.ensures) f.follows)) in
-    let done = subst (λ (x : OpenCallState _). IsCompletion {A = g.row.A.Denot} (setting_of s) (calls_of s.entries) (call_of x) (completion.Wrote c.in-Wrote.entry)) c.into_inner-open_call.ensures
-    (c.in-Wrote.ensures (setting_of s) (calls_of s.entries) (subst (λ (x : OpenCallState _). Follows (setting_of s) (calls_of s.entries) x) (sym c.into_inner-open_call.ensures) f.follows)) in
-    let a : IsToAppend s o c.in-Wrote.entry = record { end = end.0; kept = done.0; some = done.1; call = done.2; carries = done.3; fits = done.4 } in
-    let world = c.steps_keep_a_world.ensures.step (setting_of s) (world_of s) (Order c.args.call) _ _ tt (returns-in-Wrote-clause-step g c) c.requires.world in
-    subst (λ xs. IsTogether (with_entries (with_slots s xs) c.append.new.entries.items) xs) (sym c.in-Some.ensures.taken)
-    (appended_together s slots c.args.call c.in-Some.at o c.in-Wrote.entry c.append.result c.append.new.entries.items c.a_log_only_grows.ensures.rows c.one_more_entry_carries_its_run.ensures c.requires c.in-Some.ensures.place f a c.append.ensures
-    (subst (λ xs. IsWorld (setting_of s) (world_of (with_entries (with_slots s xs) c.append.new.entries.items))) c.in-Some.ensures.taken world))
+    let f = open_facts s slots c.args.call c.in-Some.at o c.requires.together c.in-Some.ensures.place c.in-Some.ensures.stood in
+    let end = subst (λ (x : OpenCallState _). IsReplyOf (setting_of s) (items_of s.entries) (open_call_of x) (Some c.in-Some-reply._reply)) c.deref.ensures
+    (c.in-Some-reply.ensures.run (setting_of s) (items_of s.entries) (subst (λ (x : OpenCallState _). Follows (setting_of s) (items_of s.entries) x) (sym c.deref.ensures) f.follows)) in
+    let done = subst (λ (x : OpenCallState _). IsCompletion {A = g.row.A.Denot} (setting_of s) (items_of s.entries) (call_of x) (completion.Wrote c.in-Wrote.call)) c.into_inner-open_call.ensures
+    (c.in-Wrote.ensures (setting_of s) (items_of s.entries) (subst (λ (x : OpenCallState _). Follows (setting_of s) (items_of s.entries) x) (sym c.into_inner-open_call.ensures) f.follows)) in
+    let a : IsToAppend s o c.in-Wrote.call = record { end = end.0; kept = done.0; some = done.1; call = done.2; carries = done.3; fits = done.4 } in
+    let world = c.steps_keep_a_world.ensures.step (setting_of s) (world_of s) (Order c.args.call) _ _ tt (returns-in-Wrote-clause-step g c) c.requires.together.world in
+    record {
+      together = subst (λ xs. IsTogether (with_entries (with_slots s xs) (entries_of c.append.new.entries.items)) xs) (sym c.in-Some.ensures.taken)
+          (appended_together s slots c.args.call c.in-Some.at o c.in-Wrote.call c.append.result (entries_of c.append.new.entries.items) c.one_more_entry_carries_its_run.ensures c.requires.together c.in-Some.ensures.place f a c.append.ensures.appended
+          (subst (λ xs. IsWorld (setting_of s) (world_of (with_entries (with_slots s xs) (entries_of c.append.new.entries.items)))) c.in-Some.ensures.taken world));
+      for_tables = one_more_for s.catalogue.tables c.args.world.now.entries.items c.append.new.entries.items c.in-Wrote.call c.append.ensures.left c.requires.for_tables;
+      additions = c.requires.additions ∙ sym (same_additions c.args.world.now.entries.items c.append.new.entries.items c.in-Wrote.call c.append.ensures.left);
+    }

@@ -1,10 +1,8 @@
 use Rattle.std.proofs.Common.{◌≡◌, ◌-◌, cond, true, false, List, length, map, option_map, slice_set, Option, Some, None, refl, sym, ap, subst, ◌∙◌, arith}
 use Rattle.dsm_model.specs.declared.outcome.Outcome.{Outcome}
-use Rattle.log_model.specs.Log.{by_number}
-use Rattle.log_model.specs.Entries.{calls_of}
+use Rattle.log_model.specs.Entries.{items_of}
 use Rattle.dsm_model.specs.World.{Turn as TurnStep, IsStep}
 use Rattle.dsm_model.specs.Sound.{IsWorld}
-use Rattle.catalogue.specs.Catalogue.{accepted_of}
 use Rattle.replica.specs.Replica.{Replica}
 use Rattle.rows_mv.specs.Versions.{AnswersFrom}
 use Rattle.world_calls.specs.OpenCall.{open_call_of, Follows, stays_open}
@@ -14,8 +12,8 @@ use Rattle.dsm_world.specs.Turned.{outcome_of}
 use Rattle.dsm_world.specs.Holdings.{system_of, call_slots, IsTogether}
 use Rattle.dsm_world.proofs.Numbered.{get_lt, set_twice}
 use Rattle.dsm_world.proofs.StepLemmas.{turn_no_call}
-use Rattle.dsm_world.proofs.ReplicaLemmas.{unknown}
-use Rattle.dsm_world.proofs.CallLemmas.{with_slots, no_call, slot_changed, open_facts, call_replica, can_turn, turn_steps, map_count, set_count, some_is}
+use Rattle.dsm_world.proofs.ReplicaLemmas.{in_procedures}
+use Rattle.dsm_world.proofs.CallLemmas.{with_slots, no_call, slot_changed, open_facts, call_replica, can_turn, turn_steps, map_count, set_count, some_is, found_here}
 use Rattle.dsm_world.proofs.turn.turn.Goals as goal
 
 pub returns-in_default-clause-step : goal.returns-in_default-clause-step
@@ -27,35 +25,40 @@ returns-in_default-clause-step g c =
 pub unreachable-requires : goal.unreachable-requires
 unreachable-requires g c =
     let s = system_of c.args.world.now in
-    let f = open_facts s (call_slots c.args.world.now) c.args.call c.in-Some.at c.in-Some.open_call.value c.requires c.in-Some.ensures.place c.in-Some.ensures.stood in
-    let none = unknown (accepted_of s.catalogue.tables) (by_number s.catalogue.procedures c.deref.result.now.procedure) c.in_default-by_number.ensures in
-    let some = ap (λ (o : OpenCallState _). by_number s.catalogue.procedures o.procedure) c.deref.ensures ∙ f.follows.is_call.known in
-    let bad = sym none ∙ some in
+    let slots = call_slots c.args.world.now in
+    let o = c.in-Some.open_call.value in
+    let f = open_facts s slots c.args.call c.in-Some.at o c.requires.together c.in-Some.ensures.place c.in-Some.ensures.stood in
+    let at = ap (λ (x : OpenCallState _). x.replica) c.deref.ensures in
+    let place = f.place in
+    let lt = get_lt s.replicas f.j f.r f.stands in
+    let same = call_replica s c.args.call o f (c.deref.result.now.replica - 1) c.index-replica.result.now (omega arith) (omega arith) c.index-replica.ensures in
+    let bad = c.in_default-by_number.ensures
+    ∙ found_here s slots c.args.call o f c.index-replica.result.now c.procedures.result.now c.deref-2.result.now.procedure c.replicas_follow_the_log.ensures.procedures c.requires.together same c.procedures.ensures (ap (λ (x : OpenCallState _). x.procedure) c.deref-2.ensures) in
     cc
 
 pub overflow_sub-deref : goal.overflow_sub-deref
 overflow_sub-deref g c =
     let s = system_of c.args.world.now in
-    let f = open_facts s (call_slots c.args.world.now) c.args.call c.in-Some.at c.in-Some.open_call.value c.requires c.in-Some.ensures.place c.in-Some.ensures.stood in
-    let place = ap (λ (o : OpenCallState _). o.replica) c.deref-2.ensures ∙ f.place in
+    let f = open_facts s (call_slots c.args.world.now) c.args.call c.in-Some.at c.in-Some.open_call.value c.requires.together c.in-Some.ensures.place c.in-Some.ensures.stood in
+    let place = ap (λ (o : OpenCallState _). o.replica) c.deref.ensures ∙ f.place in
     omega arith
 
-pub index-requires : goal.index-requires
-index-requires g c =
+pub index-replica-requires : goal.index-replica-requires
+index-replica-requires g c =
     let s = system_of c.args.world.now in
-    let f = open_facts s (call_slots c.args.world.now) c.args.call c.in-Some.at c.in-Some.open_call.value c.requires c.in-Some.ensures.place c.in-Some.ensures.stood in
-    let place = ap (λ (o : OpenCallState _). o.replica) c.deref-2.ensures ∙ f.place in
+    let f = open_facts s (call_slots c.args.world.now) c.args.call c.in-Some.at c.in-Some.open_call.value c.requires.together c.in-Some.ensures.place c.in-Some.ensures.stood in
+    let place = ap (λ (o : OpenCallState _). o.replica) c.deref.ensures ∙ f.place in
     let lt = get_lt s.replicas f.j f.r f.stands in
     omega arith
 
 pub at-store-requires : goal.at-store-requires
 at-store-requires g c =
     let s = system_of c.args.world.now in
-    let f = open_facts s (call_slots c.args.world.now) c.args.call c.in-Some.at c.in-Some.open_call.value c.requires c.in-Some.ensures.place c.in-Some.ensures.stood in
-    let at = ap (λ (o : OpenCallState _). o.replica) c.deref-2.ensures in
+    let f = open_facts s (call_slots c.args.world.now) c.args.call c.in-Some.at c.in-Some.open_call.value c.requires.together c.in-Some.ensures.place c.in-Some.ensures.stood in
+    let at = ap (λ (o : OpenCallState _). o.replica) c.deref.ensures in
     let place = f.place in
     let lt = get_lt s.replicas f.j f.r f.stands in
-    let same = call_replica s c.args.call c.in-Some.open_call.value f (c.deref-2.result.now.replica - 1) c.index.result.now (omega arith) (omega arith) c.index.ensures in
+    let same = call_replica s c.args.call c.in-Some.open_call.value f (c.deref.result.now.replica - 1) c.index-replica.result.now (omega arith) (omega arith) c.index-replica.ensures in
     let snapshot = ap (λ (o : OpenCallState _). o.snapshot) c.deref-3.ensures in
     let position = ap (λ (r : Replica). r.position) same in
     let begun = f.begun in
@@ -66,17 +69,17 @@ turn-answer-requires g c =
     let s = system_of c.args.world.now in
     let slots = call_slots c.args.world.now in
     let o = c.in-Some.open_call.value in
-    let f = open_facts s slots c.args.call c.in-Some.at o c.requires c.in-Some.ensures.place c.in-Some.ensures.stood in
-    let at = ap (λ (x : OpenCallState _). x.replica) c.deref-2.ensures in
+    let f = open_facts s slots c.args.call c.in-Some.at o c.requires.together c.in-Some.ensures.place c.in-Some.ensures.stood in
+    let at = ap (λ (x : OpenCallState _). x.replica) c.deref.ensures in
     let place = f.place in
     let lt = get_lt s.replicas f.j f.r f.stands in
-    let same = call_replica s c.args.call o f (c.deref-2.result.now.replica - 1) c.index.result.now (omega arith) (omega arith) c.index.ensures in (
+    let same = call_replica s c.args.call o f (c.deref.result.now.replica - 1) c.index-replica.result.now (omega arith) (omega arith) c.index-replica.ensures in (
       setting_of s,
-      calls_of s.entries,
+      items_of s.entries,
       can_turn s slots c.args.call o f c.in-Some-by_number.accepted.now
           (λ rows. c.at-store.result.gone ≡ false → AnswersFrom c.at-store.result.versions.now.tables c.at-store.result.position rows)
-          c.index.result.now c.deref-3.result.now.snapshot c.deref_mut.result.now c.deref.result.now c.a_log_only_grows.ensures.rows c.entries_suffice.ensures.rows c.requires
-          same (ap (λ (x : OpenCallState _). x.snapshot) c.deref-3.ensures) c.deref_mut.ensures.value c.deref.ensures c.in-Some-by_number.ensures c.at-store.ensures.answers,
+          c.index-replica.result.now c.deref-3.result.now.snapshot c.deref_mut.result.now c.deref-2.result.now c.entries_suffice.ensures.rows c.replicas_follow_the_log.ensures.procedures c.requires.together
+          same (ap (λ (x : OpenCallState _). x.snapshot) c.deref-3.ensures) c.deref_mut.ensures.value c.deref-2.ensures (c.in-Some-by_number.ensures ∙ in_procedures c.deref-2.result.now.procedure c.procedures.result.now c.index-replica.result.now.procedures c.procedures.ensures) c.at-store.ensures.answers,
     )
 
 pub returns-then-not-stays_open-clause-step : goal.returns-then-not-stays_open-clause-step
@@ -84,30 +87,34 @@ returns-then-not-stays_open-clause-step g c =
     let s = system_of c.args.world.now in
     let slots = call_slots c.args.world.now in
     let o = c.in-Some.open_call.value in
-    let f = open_facts s slots c.args.call c.in-Some.at o c.requires c.in-Some.ensures.place c.in-Some.ensures.stood in
-    let at = ap (λ (x : OpenCallState _). x.replica) c.deref-2.ensures in
+    let f = open_facts s slots c.args.call c.in-Some.at o c.requires.together c.in-Some.ensures.place c.in-Some.ensures.stood in
+    let at = ap (λ (x : OpenCallState _). x.replica) c.deref.ensures in
     let place = f.place in
     let lt = get_lt s.replicas f.j f.r f.stands in
-    let same = call_replica s c.args.call o f (c.deref-2.result.now.replica - 1) c.index.result.now (omega arith) (omega arith) c.index.ensures in
+    let same = call_replica s c.args.call o f (c.deref.result.now.replica - 1) c.index-replica.result.now (omega arith) (omega arith) c.index-replica.ensures in
     let snapshot = ap (λ (x : OpenCallState _). x.snapshot) c.deref-3.ensures in
     let can = can_turn s slots c.args.call o f c.in-Some-by_number.accepted.now
     (λ rows. c.at-store.result.gone ≡ false → AnswersFrom c.at-store.result.versions.now.tables c.at-store.result.position rows)
-    c.index.result.now c.deref-3.result.now.snapshot c.deref_mut.result.now c.deref.result.now c.a_log_only_grows.ensures.rows c.entries_suffice.ensures.rows c.requires
-    same snapshot c.deref_mut.ensures.value c.deref.ensures c.in-Some-by_number.ensures c.at-store.ensures.answers in
+    c.index-replica.result.now c.deref-3.result.now.snapshot c.deref_mut.result.now c.deref-2.result.now c.entries_suffice.ensures.rows c.replicas_follow_the_log.ensures.procedures c.requires.together
+    same snapshot c.deref_mut.ensures.value c.deref-2.ensures (c.in-Some-by_number.ensures ∙ in_procedures c.deref-2.result.now.procedure c.procedures.result.now c.index-replica.result.now.procedures c.procedures.ensures) c.at-store.ensures.answers in
     let over : stays_open c.turn-answer.result ≡ false = sym c.stays_open.ensures ∙ c.if-not-stays_open.true in
     subst (λ (x : Outcome). IsStep (setting_of s) (world_of s) (TurnStep c.args.call) x (world_of (with_slots s (map (λ slot. option_map (λ b. b.value) slot) c.take_call.new.calls.items)))) (sym c.outcome_of.ensures)
     (subst (λ xs. IsStep (setting_of s) (world_of s) (TurnStep c.args.call) (outcome_of c.turn-answer.result) (world_of (with_slots s xs))) (sym c.in-Some.ensures.taken)
-    (turn_steps s slots c.args.call c.in-Some.at o c.turn-answer.new.self f c.turn-answer.result None c.at-store.result.gone c.index.result.now c.deref-3.result.now.snapshot c.deref_mut.result.now c.requires c.in-Some.ensures.place
-    same snapshot c.deref_mut.ensures.value c.at-store.ensures.gone (c.turn-answer.ensures.turn (setting_of s) (calls_of s.entries) can)
+    (turn_steps s slots c.args.call c.in-Some.at o c.turn-answer.new.self f c.turn-answer.result None c.at-store.result.gone c.index-replica.result.now c.deref-3.result.now.snapshot c.deref_mut.result.now c.requires.together c.in-Some.ensures.place
+    same snapshot c.deref_mut.ensures.value c.at-store.ensures.gone (c.turn-answer.ensures.turn (setting_of s) (items_of s.entries) can)
     (ap (λ b. cond b (Some (open_call_of c.turn-answer.new.self)) None) (sym over))))
 
 pub returns-then-not-stays_open-clause-consistent : goal.returns-then-not-stays_open-clause-consistent
 returns-then-not-stays_open-clause-consistent g c =
     let s = system_of c.args.world.now in
     let slots = call_slots c.args.world.now in
-    let world = c.steps_keep_a_world.ensures.step (setting_of s) (world_of s) (TurnStep c.args.call) _ _ tt (returns-then-not-stays_open-clause-step g c) c.requires.world in
-    subst (λ xs. IsTogether (with_slots s xs) xs) (sym c.in-Some.ensures.taken)
-    (slot_changed s slots c.in-Some.at None c.requires (λ d bad. absurd cc) (subst (λ xs. IsWorld (setting_of s) (world_of (with_slots s xs))) c.in-Some.ensures.taken world))
+    let world = c.steps_keep_a_world.ensures.step (setting_of s) (world_of s) (TurnStep c.args.call) _ _ tt (returns-then-not-stays_open-clause-step g c) c.requires.together.world in
+    record {
+      together = subst (λ xs. IsTogether (with_slots s xs) xs) (sym c.in-Some.ensures.taken)
+          (slot_changed s slots c.in-Some.at None c.requires.together (λ d bad. absurd cc) (subst (λ xs. IsWorld (setting_of s) (world_of (with_slots s xs))) c.in-Some.ensures.taken world));
+      for_tables = c.requires.for_tables;
+      additions = c.requires.additions;
+    }
 
 pub put_call-requires : goal.put_call-requires
 put_call-requires g c =
@@ -124,22 +131,22 @@ returns-clause-step g c =
     let s = system_of c.args.world.now in
     let slots = call_slots c.args.world.now in
     let o = c.in-Some.open_call.value in
-    let f = open_facts s slots c.args.call c.in-Some.at o c.requires c.in-Some.ensures.place c.in-Some.ensures.stood in
-    let at = ap (λ (x : OpenCallState _). x.replica) c.deref-2.ensures in
+    let f = open_facts s slots c.args.call c.in-Some.at o c.requires.together c.in-Some.ensures.place c.in-Some.ensures.stood in
+    let at = ap (λ (x : OpenCallState _). x.replica) c.deref.ensures in
     let place = f.place in
     let lt = get_lt s.replicas f.j f.r f.stands in
-    let same = call_replica s c.args.call o f (c.deref-2.result.now.replica - 1) c.index.result.now (omega arith) (omega arith) c.index.ensures in
+    let same = call_replica s c.args.call o f (c.deref.result.now.replica - 1) c.index-replica.result.now (omega arith) (omega arith) c.index-replica.ensures in
     let snapshot = ap (λ (x : OpenCallState _). x.snapshot) c.deref-3.ensures in
     let can = can_turn s slots c.args.call o f c.in-Some-by_number.accepted.now
     (λ rows. c.at-store.result.gone ≡ false → AnswersFrom c.at-store.result.versions.now.tables c.at-store.result.position rows)
-    c.index.result.now c.deref-3.result.now.snapshot c.deref_mut.result.now c.deref.result.now c.a_log_only_grows.ensures.rows c.entries_suffice.ensures.rows c.requires
-    same snapshot c.deref_mut.ensures.value c.deref.ensures c.in-Some-by_number.ensures c.at-store.ensures.answers in
+    c.index-replica.result.now c.deref-3.result.now.snapshot c.deref_mut.result.now c.deref-2.result.now c.entries_suffice.ensures.rows c.replicas_follow_the_log.ensures.procedures c.requires.together
+    same snapshot c.deref_mut.ensures.value c.deref-2.ensures (c.in-Some-by_number.ensures ∙ in_procedures c.deref-2.result.now.procedure c.procedures.result.now c.index-replica.result.now.procedures c.procedures.ensures) c.at-store.ensures.answers in
     let stays : stays_open c.turn-answer.result ≡ true = sym c.stays_open.ensures ∙ c.if-not-stays_open.false in
     let put = c.put_call.ensures ∙ ap (λ xs. slice_set xs c.in-Some.at (Some c.turn-answer.new.self)) c.in-Some.ensures.taken ∙ set_twice slots c.in-Some.at None (Some c.turn-answer.new.self) in
     subst (λ (x : Outcome). IsStep (setting_of s) (world_of s) (TurnStep c.args.call) x (world_of (with_slots s (map (λ slot. option_map (λ b. b.value) slot) c.put_call.new.calls.items)))) (sym c.outcome_of-2.ensures)
     (subst (λ xs. IsStep (setting_of s) (world_of s) (TurnStep c.args.call) (outcome_of c.turn-answer.result) (world_of (with_slots s xs))) (sym put)
-    (turn_steps s slots c.args.call c.in-Some.at o c.turn-answer.new.self f c.turn-answer.result (Some c.turn-answer.new.self) c.at-store.result.gone c.index.result.now c.deref-3.result.now.snapshot c.deref_mut.result.now c.requires c.in-Some.ensures.place
-    same snapshot c.deref_mut.ensures.value c.at-store.ensures.gone (c.turn-answer.ensures.turn (setting_of s) (calls_of s.entries) can)
+    (turn_steps s slots c.args.call c.in-Some.at o c.turn-answer.new.self f c.turn-answer.result (Some c.turn-answer.new.self) c.at-store.result.gone c.index-replica.result.now c.deref-3.result.now.snapshot c.deref_mut.result.now c.requires.together c.in-Some.ensures.place
+    same snapshot c.deref_mut.ensures.value c.at-store.ensures.gone (c.turn-answer.ensures.turn (setting_of s) (items_of s.entries) can)
     (ap (λ b. cond b (Some (open_call_of c.turn-answer.new.self)) None) (sym stays))))
 
 pub returns-clause-consistent : goal.returns-clause-consistent
@@ -147,19 +154,23 @@ returns-clause-consistent g c =
     let s = system_of c.args.world.now in
     let slots = call_slots c.args.world.now in
     let o = c.in-Some.open_call.value in
-    let f = open_facts s slots c.args.call c.in-Some.at o c.requires c.in-Some.ensures.place c.in-Some.ensures.stood in
-    let at = ap (λ (x : OpenCallState _). x.replica) c.deref-2.ensures in
+    let f = open_facts s slots c.args.call c.in-Some.at o c.requires.together c.in-Some.ensures.place c.in-Some.ensures.stood in
+    let at = ap (λ (x : OpenCallState _). x.replica) c.deref.ensures in
     let place = f.place in
     let lt = get_lt s.replicas f.j f.r f.stands in
-    let same = call_replica s c.args.call o f (c.deref-2.result.now.replica - 1) c.index.result.now (omega arith) (omega arith) c.index.ensures in
+    let same = call_replica s c.args.call o f (c.deref.result.now.replica - 1) c.index-replica.result.now (omega arith) (omega arith) c.index-replica.ensures in
     let snapshot = ap (λ (x : OpenCallState _). x.snapshot) c.deref-3.ensures in
     let can = can_turn s slots c.args.call o f c.in-Some-by_number.accepted.now
     (λ rows. c.at-store.result.gone ≡ false → AnswersFrom c.at-store.result.versions.now.tables c.at-store.result.position rows)
-    c.index.result.now c.deref-3.result.now.snapshot c.deref_mut.result.now c.deref.result.now c.a_log_only_grows.ensures.rows c.entries_suffice.ensures.rows c.requires
-    same snapshot c.deref_mut.ensures.value c.deref.ensures c.in-Some-by_number.ensures c.at-store.ensures.answers in
+    c.index-replica.result.now c.deref-3.result.now.snapshot c.deref_mut.result.now c.deref-2.result.now c.entries_suffice.ensures.rows c.replicas_follow_the_log.ensures.procedures c.requires.together
+    same snapshot c.deref_mut.ensures.value c.deref-2.ensures (c.in-Some-by_number.ensures ∙ in_procedures c.deref-2.result.now.procedure c.procedures.result.now c.index-replica.result.now.procedures c.procedures.ensures) c.at-store.ensures.answers in
     let stays : stays_open c.turn-answer.result ≡ true = sym c.stays_open.ensures ∙ c.if-not-stays_open.false in
     let put = c.put_call.ensures ∙ ap (λ xs. slice_set xs c.in-Some.at (Some c.turn-answer.new.self)) c.in-Some.ensures.taken ∙ set_twice slots c.in-Some.at None (Some c.turn-answer.new.self) in
-    let follows = c.turn-answer.ensures.follows (setting_of s) (calls_of s.entries) can stays in
-    let world = c.steps_keep_a_world.ensures.step (setting_of s) (world_of s) (TurnStep c.args.call) _ _ tt (returns-clause-step g c) c.requires.world in
-    subst (λ xs. IsTogether (with_slots s xs) xs) (sym put)
-    (slot_changed s slots c.in-Some.at (Some c.turn-answer.new.self) c.requires (λ d e. subst (λ x. Follows (setting_of s) (calls_of s.entries) x) (some_is c.turn-answer.new.self d e) follows) (subst (λ xs. IsWorld (setting_of s) (world_of (with_slots s xs))) put world))
+    let follows = c.turn-answer.ensures.follows (setting_of s) (items_of s.entries) can stays in
+    let world = c.steps_keep_a_world.ensures.step (setting_of s) (world_of s) (TurnStep c.args.call) _ _ tt (returns-clause-step g c) c.requires.together.world in
+    record {
+      together = subst (λ xs. IsTogether (with_slots s xs) xs) (sym put)
+          (slot_changed s slots c.in-Some.at (Some c.turn-answer.new.self) c.requires.together (λ d e. subst (λ x. Follows (setting_of s) (items_of s.entries) x) (some_is c.turn-answer.new.self d e) follows) (subst (λ xs. IsWorld (setting_of s) (world_of (with_slots s xs))) put world));
+      for_tables = c.requires.for_tables;
+      additions = c.requires.additions;
+    }

@@ -1,4 +1,5 @@
 use Rattle.log_model.proofs.MeaningLemmas.{stale_means, conflict_means, commit_means}
+use Rattle.log_model.proofs.RepetitionLemmas.{repeated_means}
 use Rattle.log_model.proofs.laws.verdicts_in_words_of_the_log.Goals as goal
 
 pub returns-clause-stale : goal.returns-clause-stale
@@ -9,3 +10,6 @@ returns-clause-conflict c = conflict_means
 
 pub returns-clause-commit : goal.returns-clause-commit
 returns-clause-commit c = commit_means
+
+pub returns-clause-repeated : goal.returns-clause-repeated
+returns-clause-repeated c = repeated_means

@@ -1,4 +1,4 @@
-use Rattle.model_laws.proofs.RefusalLemmas.{refused_same, begin_memory, order_memory, deliver_memory, rebuild_memory}
+use Rattle.model_laws.proofs.RefusalLemmas.{refused_same, begin_memory, order_memory, deliver_memory, rebuild_memory, add_memory}
 use Rattle.model_laws.proofs.worlds.refused_steps_change_nothing.Goals as goal
 
 pub returns-clause-nothing : goal.returns-clause-nothing
@@ -15,3 +15,6 @@ returns-clause-deliver c = deliver_memory
 
 pub returns-clause-rebuild : goal.returns-clause-rebuild
 returns-clause-rebuild c = rebuild_memory
+
+pub returns-clause-add : goal.returns-clause-add
+returns-clause-add c = add_memory

@@ -1,18 +1,17 @@
-use Rattle.std.proofs.Common.{◌≡◌, ◌<◌, Some, slice_get, List, [], map, refl, sym, subst, ◌∙◌, arith}
+use Rattle.std.proofs.Common.{◌≡◌, ◌<◌, Some, slice_get, List, [], length, map, refl, sym, ap, subst, ◌∙◌, arith}
 use Rattle.std.proofs.lemmas.List.{take_more}
-use Rattle.std.specs.List.{AllByRecursion}
 use Rattle.dsm_model.specs.declared.outcome.Outcome.{Outcome}
 use Rattle.log_model.specs.declared.verdict.Verdict.TheVariants.{Commit}
 use Rattle.dsm_model.specs.declared.outcome.Outcome.TheVariants.{Exit, Ordered}
 use Rattle.log_model.specs.Log.{Setting, verdict_of}
 use Rattle.dsm_model.specs.World.{Turn as TurnStep, Order as OrderStep, IsStep, AreSteps}
-use Rattle.dsm_model.specs.Sound.{HasByteArguments, IsSerialReply}
+use Rattle.dsm_model.specs.Sound.{IsGiven, AreGiven, IsSerialReply}
 use Rattle.dsm_world.specs.System.{setting_of, world_of, step_of}
 use Rattle.std.specs.Prelude.{slice_index_or}
 use Rattle.dsm_world.specs.declared.step.Step.{Step}
 use Rattle.dsm_world.specs.declared.step.Step.TheVariants.{Begin}
 use Rattle.dsm_world.proofs.EntryLemmas.{take_all}
-use Rattle.dsm_world.proofs.RunLemmas.{no_steps, one_more_step, one_more_of_bytes}
+use Rattle.dsm_world.proofs.RunLemmas.{no_steps, one_more_step, one_more_given, one_more_answer}
 use Rattle.dsm_world.proofs.world.World.run.Goals as goal
 
 pub returns-in_err-outcomes-clause-sound : goal.returns-in_err-outcomes-clause-sound
@@ -22,7 +21,8 @@ returns-in_err-outcomes-clause-sound g c n o e =
 pub loop-step-init : goal.loop-step-init
 loop-step-init g c = record {
   done = subst (λ (xs : List Outcome). AreSteps (setting_of c.args.self.now) (world_of c.args.self.now) [] xs (world_of c.args.self.now)) (sym c.in_ok-outcomes.ensures.items) (no_steps (setting_of c.args.self.now) (world_of c.args.self.now));
-  bytes = tt;
+  given = tt;
+  answered = ap (λ (xs : List Outcome). length xs) (sym c.in_ok-outcomes.ensures.items);
   same = refl;
   count = (let e = c.in_ok-outcomes.ensures.len in omega arith);
   room = (let e = c.in_ok-outcomes.ensures.capacity in omega arith);
@@ -38,7 +38,9 @@ loop-step-preserved g c =
     record {
       done = one_more_step (setting_of s) (world_of s) c.args.steps.now n item c.loop-step.outcomes.items c.push_within.new.outcomes.items (world_of c.loop-step.self) c.step-outcome.result (world_of c.step-outcome.new.self)
           taken c.push_within.ensures.items c.loop-step.invariant.done stepped;
-      bytes = one_more_of_bytes c.args.steps.now n item taken c.loop-step.invariant.bytes c.step-outcome.ensures.bytes;
+      given = one_more_given (setting_of s) c.args.steps.now n item c.loop-step.outcomes.items c.push_within.new.outcomes.items c.step-outcome.result taken c.push_within.ensures.items c.loop-step.invariant.answered c.loop-step.invariant.given
+          (subst (λ (w : Setting). IsGiven w (step_of item) c.step-outcome.result) c.loop-step.invariant.same c.step-outcome.ensures.given);
+      answered = one_more_answer c.args.steps.now n item c.loop-step.outcomes.items c.push_within.new.outcomes.items c.step-outcome.result taken c.push_within.ensures.items c.loop-step.invariant.answered;
       same = c.step-outcome.ensures.setting ∙ c.loop-step.invariant.same;
       count = (let len = c.push_within.ensures.len in let count = c.loop-step.invariant.count in omega arith);
       room = (let grown = c.push_within.ensures.capacity in let room = c.loop-step.invariant.room in omega arith);
@@ -54,7 +56,7 @@ returns-clause-replies g c n i j position reply =
     let t = c.loop-step.self in
     let all = take_all c.args.steps.now c.loop-step.step-index c.loop-step-test.false in
     let done = subst (λ (xs : List Step). AreSteps (setting_of s) (world_of s) (map step_of xs) c.loop-step.outcomes.items (world_of t)) all c.loop-step.invariant.done in
-    let bytes = subst (λ (xs : List Step). AllByRecursion HasByteArguments (map step_of xs)) all c.loop-step.invariant.bytes in
+    let given = subst (λ (xs : List Step). AreGiven (setting_of s) (map step_of xs) c.loop-step.outcomes.items) all c.loop-step.invariant.given in
     subst (λ (w : Setting). slice_get (map step_of c.args.steps.now) i ≡ Some (TurnStep n) → slice_get c.loop-step.outcomes.items i ≡ Some (Exit reply) → slice_get (map step_of c.args.steps.now) j ≡ Some (OrderStep n) → slice_get c.loop-step.outcomes.items j ≡ Some (Ordered position) → i < j
     → verdict_of w (world_of t).log position ≡ Some Commit → IsSerialReply w (world_of t).log position reply) (sym c.loop-step.invariant.same)
-    (c.replies_are_serial.ensures (setting_of s) (world_of s) (map step_of c.args.steps.now) c.loop-step.outcomes.items (world_of t) n i j position reply c.keeps_what_was_delivered.ensures.procedures bytes c.keeps_what_was_delivered.ensures.world done)
+    (c.replies_are_serial.ensures (setting_of s) (world_of s) (map step_of c.args.steps.now) c.loop-step.outcomes.items (world_of t) n i j position reply c.keeps_what_was_delivered.ensures.procedures given c.keeps_what_was_delivered.ensures.world done)

@@ -1,0 +1,185 @@
+-- The requests of committed calls.
+use Rattle.std.proofs.Common.{◌≡◌, ◌⊎◌, inl, inr, ℕ, ◌+◌, ◌*◌, ◌<◌, ◌^◌, Bool, true, false, not, cond, ◌&&◌, nat_eq, List, [], ◌∷◌, ◌++◌, length, Option, Some, None, is_some, refl, sym, ap, subst, ◌∙◌, arith}
+use Rattle.std.specs.Map.{lookup}
+use Rattle.std.proofs.lemmas.Bool.Decides.{nat_tests}
+use Rattle.log_model.specs.declared.request.RequestId.{RequestId}
+use Rattle.log_model.specs.declared.verdict.Verdict.{Verdict}
+use Rattle.log_model.specs.Log.{CertifiedItem, is_commit, same_request, repeats, first_position}
+use Rattle.certify.specs.Kept.{key_of, IsRequest, KeepsRequests}
+
+abbrev just : {X : Type 0} → X → Option X
+just x = Some x
+
+abbrev pub or_else : Option ℕ → Option ℕ → Option ℕ
+or_else (Some x) other = Some x
+or_else None other = other
+
+-- the first of one more
+pub first_one_more : (test : CertifiedItem → Bool) (n : ℕ) (past : List CertifiedItem) (c : CertifiedItem) → first_position test n (past ++ c ∷ []) ≡ or_else (first_position test n past) (cond (test c) (just (n + length past)) None)
+unfolding first_position
+first_one_more test n [] c = elim (test c) as (λ b. cond b (just n) None ≡ cond b (just (n + 0)) None) [
+  | true ↦ ap just (let same : n ≡ n + 0 = omega arith in same)
+  | false ↦ refl
+]
+first_one_more test n (x ∷ past) c = elim (test x) as (λ b. cond b (just n) (first_position test (n + 1) (past ++ c ∷ [])) ≡ or_else (cond b (just n) (first_position test (n + 1) past)) (cond (test c) (just (n + length (x ∷ past))) None)) [
+  | true ↦ refl
+  | false ↦
+      first_one_more test (n + 1) past c
+      ∙ ap (λ (k : ℕ). or_else (first_position test (n + 1) past) (cond (test c) (just k) None)) (let same : n + 1 + length past ≡ n + length (x ∷ past) = omega arith in same)
+]
+
+-- what doesn't pass changes nothing
+pub first_unless : (test : CertifiedItem → Bool) (n : ℕ) (past : List CertifiedItem) (c : CertifiedItem) → test c ≡ false → first_position test n (past ++ c ∷ []) ≡ first_position test n past
+first_unless test n past c e = first_one_more test n past c ∙ ap (λ b. or_else (first_position test n past) (cond b (just (n + length past)) None)) e ∙ by (first_position test n past)
+  where
+    by : (o : Option ℕ) → or_else o None ≡ o
+    by (Some x) = refl
+    by None = refl
+
+no_commit : (a b : Bool) → a ≡ false → (a && b) ≡ false
+no_commit true b e = absurd cc
+no_commit false b e = refl
+
+-- ---- keys
+
+same_key : (r s : RequestId) → IsRequest r → IsRequest s → nat_eq (key_of r) (key_of s) ≡ (nat_eq r.session s.session && nat_eq r.sequence s.sequence)
+same_key r s is other =
+    let a = is.session in
+    let b = is.sequence in
+    let c = other.session in
+    let d = other.sequence in
+    elim (nat_eq r.session s.session) as (λ x. nat_eq r.session s.session ≡ x → nat_eq (key_of r) (key_of s) ≡ (x && nat_eq r.sequence s.sequence)) [
+      | false ↦ λ e. apart (key_of r) (key_of s) (λ f. let same : r.session ≡ s.session = omega arith in differ r.session s.session e same)
+      | true ↦ λ e. elim (nat_eq r.sequence s.sequence) as (λ y. nat_eq r.sequence s.sequence ≡ y → nat_eq (key_of r) (key_of s) ≡ y) [
+        | true ↦ λ f. equal (key_of r) (key_of s) (ap (λ (n : ℕ). n * 2 ^ 32 + r.sequence) (is_eq r.session s.session e) ∙ ap (λ (n : ℕ). s.session * 2 ^ 32 + n) (is_eq r.sequence s.sequence f))
+        | false ↦ λ f. apart (key_of r) (key_of s) (λ g.
+            let first = is_eq r.session s.session e in
+            let same : r.sequence ≡ s.sequence = omega arith in
+            differ r.sequence s.sequence f same)
+      ] refl
+    ] refl
+  where
+    is_eq : (m n : ℕ) → nat_eq m n ≡ true → m ≡ n
+    is_eq m n e = grind (arith, nat_tests)
+
+    equal : (m n : ℕ) → m ≡ n → nat_eq m n ≡ true
+    equal m n e = grind (arith, nat_tests)
+
+    differ : (m n : ℕ) → nat_eq m n ≡ false → m ≡ n → ⊥
+    differ m n e f = grind (arith, nat_tests)
+
+    apart : (m n : ℕ) → (m ≡ n → ⊥) → nat_eq m n ≡ false
+    apart m n f = elim (nat_eq m n) as (λ b. nat_eq m n ≡ b → b ≡ false) [ true ↦ λ e. absurd (f (is_eq m n e)) | false ↦ λ e. refl ] refl
+
+and_true : (b : Bool) → (b && true) ≡ b
+and_true true = refl
+and_true false = refl
+
+-- of two requests that there are
+pub same_by_key : (r s : RequestId) → IsRequest r → IsRequest s → same_request r s ≡ nat_eq (key_of r) (key_of s)
+same_by_key r s is other =
+    ap (λ b. (nat_eq r.session s.session && nat_eq r.sequence s.sequence) && b) is.one ∙ and_true (nat_eq r.session s.session && nat_eq r.sequence s.sequence) ∙ sym (same_key r s is other)
+
+-- a request isn't the same as none
+pub never_none : (r s : RequestId) → IsRequest r → not (nat_eq s.session 0 && nat_eq s.sequence 0) ≡ false → same_request r s ≡ false
+never_none r s is none = by (same_request r s) refl
+  where
+    two : (a b : Bool) → (a && b) ≡ true → (a ≡ true) × (b ≡ true)
+    two true b e = (refl, e)
+    two false b e = absurd cc
+
+    is_eq : (m n : ℕ) → nat_eq m n ≡ true → m ≡ n
+    is_eq m n e = grind (arith, nat_tests)
+
+    contradiction : (b : Bool) → b ≡ true → b ≡ false → ⊥
+    contradiction true e f = cc
+    contradiction false e f = cc
+
+    by : (b : Bool) → same_request r s ≡ b → same_request r s ≡ false
+    by false e = e
+    by true e =
+        let parts = two (nat_eq r.session s.session && nat_eq r.sequence s.sequence) (not (nat_eq r.session 0 && nat_eq r.sequence 0)) e in
+        let eqs = two (nat_eq r.session s.session) (nat_eq r.sequence s.sequence) parts.0 in
+        absurd (contradiction (not (nat_eq r.session 0 && nat_eq r.sequence 0)) is.one
+        (ap (λ (m : ℕ). not (nat_eq m 0 && nat_eq r.sequence 0)) (is_eq r.session s.session eqs.0) ∙ ap (λ (n : ℕ). not (nat_eq s.session 0 && nat_eq n 0)) (is_eq r.sequence s.sequence eqs.1) ∙ none))
+
+-- ---- one more item
+
+pub not_kept : (entries : List (ℕ × ℕ)) (past : List CertifiedItem) (c : CertifiedItem) → ((r : RequestId) → IsRequest r → repeats r c ≡ false) → KeepsRequests entries past → KeepsRequests entries (past ++ c ∷ [])
+not_kept entries past c none keeps r is = keeps r is ∙ sym (first_unless (repeats r) 1 past c (none r is))
+
+pub of_refused : (c : CertifiedItem) (r : RequestId) → is_commit c.verdict ≡ false → repeats r c ≡ false
+of_refused c r e = no_commit (is_commit c.verdict) (same_request r c.request) e
+
+pub of_none : (c : CertifiedItem) (r : RequestId) → IsRequest r → not (nat_eq c.request.session 0 && nat_eq c.request.sequence 0) ≡ false → repeats r c ≡ false
+of_none c r is none = ap (λ b. is_commit c.verdict && b) (never_none r c.request is none) ∙ by (is_commit c.verdict)
+  where
+    by : (b : Bool) → (b && false) ≡ false
+    by true = refl
+    by false = refl
+
+committed_repeats : (c : CertifiedItem) (r : RequestId) → is_commit c.verdict ≡ true → IsRequest r → IsRequest c.request → repeats r c ≡ nat_eq (key_of r) (key_of c.request)
+committed_repeats c r e is other = ap (λ b. b && same_request r c.request) e ∙ same_by_key r c.request is other
+
+-- where the key is there already, an earlier one stays
+pub kept_before : (entries : List (ℕ × ℕ)) (past : List CertifiedItem) (c : CertifiedItem) → is_commit c.verdict ≡ true → IsRequest c.request → is_some (lookup (nat_eq (key_of c.request)) entries) ≡ true → KeepsRequests entries past → KeepsRequests entries (past ++ c ∷ [])
+kept_before entries past c commit is there keeps r one =
+    elim (nat_eq (key_of r) (key_of c.request)) as (λ b. nat_eq (key_of r) (key_of c.request) ≡ b → lookup (nat_eq (key_of r)) entries ≡ first_position (repeats r) 1 (past ++ c ∷ [])) [
+      | false ↦ λ e. keeps r one ∙ sym (first_unless (repeats r) 1 past c (committed_repeats c r commit one is ∙ e))
+      | true ↦ λ e.
+          let same : key_of c.request ≡ key_of r = is_eq (key_of r) (key_of c.request) e in
+          by (lookup (nat_eq (key_of r)) entries) refl (ap (λ (k : ℕ). is_some (lookup (nat_eq k) entries)) (sym same) ∙ there)
+    ] refl
+  where
+    is_eq : (m n : ℕ) → nat_eq m n ≡ true → n ≡ m
+    is_eq m n e = grind (arith, nat_tests)
+
+    by : (o : Option ℕ) → lookup (nat_eq (key_of r)) entries ≡ o → is_some (lookup (nat_eq (key_of r)) entries) ≡ true → lookup (nat_eq (key_of r)) entries ≡ first_position (repeats r) 1 (past ++ c ∷ [])
+    by None e h = absurd (let bad : false ≡ true = ap is_some (sym e) ∙ h in cc)
+    by (Some x) e h =
+        e ∙ sym (first_one_more (repeats r) 1 past c ∙ ap (λ (o : Option ℕ). or_else o (cond (repeats r c) (just (1 + length past)) None)) (sym (keeps r one) ∙ e))
+
+lookup_last : (test : ℕ → Bool) (entries : List (ℕ × ℕ)) (k v : ℕ) → lookup test (entries ++ (k, v) ∷ []) ≡ or_else (lookup test entries) (cond (test k) (just v) None)
+lookup_last test [] k v = refl
+lookup_last test (e ∷ entries) k v = elim (test e.0) as (λ b. cond b (just e.1) (lookup test (entries ++ (k, v) ∷ [])) ≡ or_else (cond b (just e.1) (lookup test entries)) (cond (test k) (just v) None)) [
+  | true ↦ refl
+  | false ↦ lookup_last test entries k v
+]
+
+-- where it isn't, it comes last
+pub kept_last : (entries : List (ℕ × ℕ)) (past : List CertifiedItem) (c : CertifiedItem) (position : ℕ) → length past + 1 ≡ position → is_commit c.verdict ≡ true → IsRequest c.request → KeepsRequests entries past → KeepsRequests (entries ++ (key_of c.request, position) ∷ []) (past ++ c ∷ [])
+kept_last entries past c position at commit is keeps r one =
+    lookup_last (nat_eq (key_of r)) entries (key_of c.request) position
+    ∙ ap (λ (o : Option ℕ). or_else o (cond (nat_eq (key_of r) (key_of c.request)) (just position) None)) (keeps r one)
+    ∙ ap (λ b. or_else (first_position (repeats r) 1 past) (cond b (just position) None)) (sym (committed_repeats c r commit one is))
+    ∙ ap (λ (n : ℕ). or_else (first_position (repeats r) 1 past) (cond (repeats r c) (just n) None)) (let same : position ≡ 1 + length past = omega arith in same)
+    ∙ sym (first_one_more (repeats r) 1 past c)
+
+-- none carries no request
+pub never_repeated : (r : RequestId) (n : ℕ) (past : List CertifiedItem) → (nat_eq r.session 0 && nat_eq r.sequence 0) ≡ true → first_position (repeats r) n past ≡ None
+unfolding first_position
+never_repeated r n [] none = refl
+never_repeated r n (c ∷ past) none =
+    ap (λ b. cond b (just n) (first_position (repeats r) (n + 1) past)) (ap (λ b. is_commit c.verdict && ((nat_eq r.session c.request.session && nat_eq r.sequence c.request.sequence) && not b)) none ∙ both_false (is_commit c.verdict) (nat_eq r.session c.request.session && nat_eq r.sequence c.request.sequence))
+    ∙ never_repeated r (n + 1) past none
+  where
+    both_false : (a b : Bool) → (a && (b && false)) ≡ false
+    both_false true true = refl
+    both_false true false = refl
+    both_false false b = refl
+
+pub no_keys : KeepsRequests [] []
+unfolding first_position
+no_keys r is = refl
+
+pub is_none_of : (o : Option ℕ) → is_some o ≡ false → o ≡ None
+is_none_of None e = refl
+is_none_of (Some x) e = absurd cc
+
+pub not_false : (b : Bool) → not b ≡ true → b ≡ false
+not_false true e = absurd cc
+not_false false e = refl
+
+pub not_true : (b : Bool) → not b ≡ false → b ≡ true
+not_true true e = refl
+not_true false e = absurd cc

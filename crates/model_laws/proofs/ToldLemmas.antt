@@ -1,0 +1,47 @@
+-- What is told of a call.
+use Rattle.std.proofs.Common.{◌≡◌, ◌≢◌, ℕ, suc, Option, Some, None, slice_get, refl, sym, ap, ◌∙◌}
+use Rattle.bpf_semantics.specs.Run.{Run}
+use Rattle.log_model.specs.declared.verdict.Verdict.{Verdict}
+use Rattle.log_model.specs.declared.verdict.Verdict.TheVariants.{Commit, Conflict, Stale, Repeated, Taken}
+use Rattle.log_model.specs.Log.{Setting, Call, Item, CallItem, Log, IsLog, verdict_of, run_in}
+use Rattle.log_model.specs.Fit.{HasSafeProcedures, AreItems}
+use Rattle.dsm_model.specs.World.{numbered}
+use Rattle.dsm_model.specs.Sound.{IsSerialReply, reply_of, told_by, told_reply}
+use Rattle.log_model.proofs.CallLemmas.{serial_run}
+use Rattle.log_model.proofs.RepetitionLemmas.{repeated_means}
+
+serial_reply : (w : Setting) (log : Log) (d : ℕ) (call : Call) → HasSafeProcedures w → IsLog log → AreItems w log → slice_get log d ≡ Some (CallItem call) → verdict_of w log (suc d) ≡ Some Commit → IsSerialReply w log (suc d) (run_in w log call).reply
+serial_reply w log d call safe below items at verdict = record {
+  before = d;
+  place = refl;
+  call = call;
+  stands = at;
+  serial = ap (λ (r : Run). r.reply) (serial_run w log d call safe below items at verdict);
+}
+
+pub committed_told : (w : Setting) (log : Log) (d : ℕ) (call : Call) → HasSafeProcedures w → IsLog log → AreItems w log → slice_get log d ≡ Some (CallItem call) → verdict_of w log (suc d) ≡ Some Commit
+    → (reply : ℕ) × (told_reply w log (suc d) ≡ Some reply) × IsSerialReply w log (suc d) reply
+committed_told w log d call safe below items at verdict =
+    ((run_in w log call).reply,
+    ap (told_by w log (suc d)) verdict ∙ ap (reply_of w log) at,
+    serial_reply w log d call safe below items at verdict)
+
+pub repeated_told : (w : Setting) (log : Log) (d : ℕ) (call : Call) (earlier : ℕ) → HasSafeProcedures w → IsLog log → AreItems w log → slice_get log d ≡ Some (CallItem call) → verdict_of w log (suc d) ≡ Some (Repeated earlier)
+    → (reply : ℕ) × (told_reply w log (suc d) ≡ Some reply) × IsSerialReply w log earlier reply
+repeated_told w log d call earlier safe below items at verdict =
+    let is = (repeated_means w log d call earlier below at).0 verdict in
+    let one = serial_reply w log is.before is.first safe below items is.stands (ap (verdict_of w log) (sym is.place) ∙ is.committed) in
+    ((run_in w log is.first).reply,
+    ap (told_by w log (suc d)) verdict ∙ ap (λ (n : ℕ). reply_of w log (numbered log n)) is.place ∙ ap (reply_of w log) is.stands,
+    record { before = is.before; place = is.place; call = is.first; stands = is.stands; serial = one.serial })
+
+untold_by : (w : Setting) (log : Log) (position : ℕ) (v : Option Verdict) → v ≢ Some Commit → ((earlier : ℕ) → v ≢ Some (Repeated earlier)) → told_by w log position v ≡ None
+untold_by w log position None f g = refl
+untold_by w log position (Some Commit) f g = absurd (f refl)
+untold_by w log position (Some (Conflict n)) f g = refl
+untold_by w log position (Some Stale) f g = refl
+untold_by w log position (Some (Repeated n)) f g = absurd (g n refl)
+untold_by w log position (Some (Taken n)) f g = refl
+
+pub untold : (w : Setting) (log : Log) (position : ℕ) → verdict_of w log position ≢ Some Commit → ((earlier : ℕ) → verdict_of w log position ≢ Some (Repeated earlier)) → told_reply w log position ≡ None
+untold w log position f g = untold_by w log position (verdict_of w log position) f g

@@ -1,0 +1,27 @@
+//! What the check of a program means.
+
+ghost use Rattle.std.specs.Prelude.{◌≡◌, ◌↔◌, ℕ, List, Ok, Err};
+ghost use Rattle.bpf_code.specs.declared.fault.DecodeFault.{DecodeFault};
+ghost use Rattle.bpf_code.specs.Program.{Program};
+ghost use Rattle.bpf_code.specs.Decoding.{program_of};
+ghost use Rattle.schema.specs.Schema.{Tables};
+ghost use Rattle.abs_cause.specs.declared.cause.Cause.{Cause};
+ghost use Rattle.bpf_verify.specs.Flow.{IsAccepted, IsRefused};
+ghost use Rattle.dsm_model.specs.declared.outcome.ProgramFault.TheVariants.{Bytes, Instruction};
+ghost use Rattle.dsm_model.specs.World.{Passed, Failed};
+ghost use Rattle.program_checks.specs.Check.{check_of};
+
+/// The check of a program comes to what decoding and the verifier answer: it passes exactly where the bytes are that
+/// program's and it is accepted, and else has their fault.
+pub fn programs_pass_where_they_are_accepted()
+    ensures passed { (tables : Tables) (args_len : ℕ) (bytes : List ℕ) (program : Program)
+        → (check_of tables args_len bytes ≡ Passed program)
+        ↔ ((program_of bytes ≡ Ok program)
+        × IsAccepted (record { program = program; tables = tables; args_len = args_len })) }
+    ensures refused { (tables : Tables) (args_len : ℕ) (bytes : List ℕ) (slot : ℕ) (cause : Cause)
+        → (check_of tables args_len bytes ≡ Failed (Instruction slot cause))
+        ↔ ((program : Program) × (program_of bytes ≡ Ok program)
+        × IsRefused (record { program = program; tables = tables; args_len = args_len }) slot cause) }
+    ensures undecoded { (tables : Tables) (args_len : ℕ) (bytes : List ℕ) (fault : DecodeFault)
+        → (check_of tables args_len bytes ≡ Failed (Bytes fault)) ↔ (program_of bytes ≡ Err fault) }
+{}

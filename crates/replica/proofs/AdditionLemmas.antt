@@ -1,0 +1,65 @@
+-- What an addition that is taken in leaves.
+use Rattle.std.proofs.Common.{◌≡◌, ℕ, cond, Option, Some, None, List, [], ◌∷◌, ◌++◌, refl, sym, ap, subst, ◌∙◌}
+use Rattle.std.specs.Prelude.{is_some, Result, Ok, Err, OnOk, IfOk}
+use Rattle.schema.specs.Schema.{Tables}
+use Rattle.log_model.specs.declared.verdict.Identifier.TheVariants.{Name, Number}
+use Rattle.log_model.specs.declared.verdict.Verdict.{Verdict}
+use Rattle.log_model.specs.declared.verdict.Verdict.TheVariants.{Commit, Conflict, Stale, Repeated, Taken}
+use Rattle.log_model.specs.Log.{StoredProcedure, Catalogue, CertifiedItem, certified_addition, by_name, by_number, if_commits, verdict_on_addition}
+use Rattle.log_model.specs.Entries.{AdditionEntry, CertifiedEntries, with_entry}
+use Rattle.std.specs.FinMap.{empty, get-empty}
+use Rattle.schema.specs.Rows.{key_cmp}
+use Rattle.key_table.specs.Table.{Table, versions_at}
+use Rattle.rows_mv.specs.Versions.{IsInstalled, slots_of, with_version}
+use Rattle.stored_procedures.specs.Held.{ListedProcedure, AreForTables, stored, stored_procedures}
+use Rattle.certify.specs.Kept as certifier
+use Rattle.replica.specs.Delivery.{KeepsCertified}
+
+one_more_stored : (procedures : List ListedProcedure) (l : ListedProcedure) → stored_procedures (procedures ++ l ∷ []) ≡ stored_procedures procedures ++ stored l ∷ []
+one_more_stored [] l = refl
+one_more_stored (q ∷ procedures) l = ap (λ ps. stored q ∷ ps) (one_more_stored procedures l)
+
+stored_if : (v : Verdict) (before : List ListedProcedure) (l : ListedProcedure) → stored_procedures (if_commits v (before ++ l ∷ []) before) ≡ if_commits v (stored_procedures before ++ stored l ∷ []) (stored_procedures before)
+stored_if Commit before l = one_more_stored before l
+stored_if (Conflict n) before l = refl
+stored_if Stale before l = refl
+stored_if (Repeated n) before l = refl
+stored_if (Taken n) before l = refl
+
+pub addition_kept : (window : ℕ) (old new : certifier.Memory) (before after : List ListedProcedure) (l : ListedProcedure)
+    → ((past : List CertifiedItem) → certifier.StandsFor old past → certifier.StandsFor new (past ++ certified_addition (stored_procedures before) (stored l) ∷ []))
+    → after ≡ if_commits (verdict_on_addition (stored_procedures before) (stored l)) (before ++ l ∷ []) before
+    → (past : CertifiedEntries) → KeepsCertified old before past → KeepsCertified new after (with_entry window past (AdditionEntry (stored l)))
+addition_kept window old new before after l memory is past keeps = record {
+  memory = subst (λ (ps : Catalogue). certifier.StandsFor new (past.certified ++ certified_addition ps (stored l) ∷ [])) keeps.procedures (memory past.certified keeps.memory);
+  procedures = ap stored_procedures is ∙ stored_if (verdict_on_addition (stored_procedures before) (stored l)) before l
+      ∙ ap (λ (ps : Catalogue). if_commits (verdict_on_addition ps (stored l)) (ps ++ stored l ∷ []) ps) keeps.procedures;
+}
+
+one_more_for : (tables : Tables) (before : List ListedProcedure) (l : ListedProcedure) → AreForTables tables before → l.accepted.tables ≡ tables → AreForTables tables (before ++ l ∷ [])
+one_more_for tables [] l all one = (one, tt)
+one_more_for tables (q ∷ before) l all one = (all.0, one_more_for tables before l all.1 one)
+
+pub addition_for : (tables : Tables) (v : Verdict) (before : List ListedProcedure) (l : ListedProcedure) → AreForTables tables before → l.accepted.tables ≡ tables → AreForTables tables (if_commits v (before ++ l ∷ []) before)
+addition_for tables Commit before l all one = one_more_for tables before l all one
+addition_for tables (Conflict n) before l all one = all
+addition_for tables Stale before l all one = all
+addition_for tables (Repeated n) before l all one = all
+addition_for tables (Taken n) before l all one = all
+
+pub nothing_installed : (position : ℕ) (tables : List Table) → IsInstalled position empty tables tables
+nothing_installed position tables k = ap (λ w. with_version position w (versions_at (slots_of tables k.0) k.1)) (sym (get-empty key_cmp k))
+
+-- an addition that commits is of a name and a number that are new
+pub commits_new : (procedures : Catalogue) (p : StoredProcedure) → verdict_on_addition procedures p ≡ Commit → (by_name procedures p.name ≡ None) × (by_number procedures p.number ≡ None)
+commits_new procedures p e = by (by_name procedures p.name) (by_number procedures p.number) e
+  where
+    by : (named numbered : Option StoredProcedure) → cond (is_some named) (Taken Name) (cond (is_some numbered) (Taken Number) Commit) ≡ Commit → (named ≡ None) × (numbered ≡ None)
+    by None None e = (refl, refl)
+    by None (Some q) e = absurd cc
+    by (Some q) numbered e = absurd cc
+
+-- where it is done, by what that says of the result
+pub where_done : {T E : Type 0} (r : Result T E) (P S : Type 0) (Q R : T → Type 0) → OnOk r P → IfOk r Q → IfOk r R → ((x : T) → P → Q x → R x → S) → OnOk r S
+where_done (Ok x) P S Q R p q r f = f x p q r
+where_done (Err e) P S Q R p q r f = tt
