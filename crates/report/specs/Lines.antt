@@ -4,17 +4,26 @@ use Rattle.std.specs.Fmt.{decimal}
 use Rattle.std.specs.Option.{option_map}
 use Rattle.hex.specs.Hex.{encode_lower}
 use Rattle.byte_output.specs.Column.{right_in}
+use Rattle.bpf_code.specs.Fault.{fault_text}
+use Rattle.bpf_verify.specs.Refusal.{refusal_text}
+use Rattle.bpf_verify.specs.declared.refusal.Refusal.TheVariants.{At}
+use Rattle.log_model.specs.declared.verdict.Identifier.{Identifier}
+use Rattle.log_model.specs.declared.verdict.Identifier.TheVariants.{Name, Number}
 use Rattle.log_model.specs.declared.verdict.Verdict.{Verdict}
 use Rattle.log_model.specs.declared.verdict.Verdict.TheVariants as verdict
+use Rattle.dsm_model.specs.declared.outcome.ProgramFault.{ProgramFault}
+use Rattle.dsm_model.specs.declared.outcome.ProgramFault.TheVariants.{Bytes, Instruction}
 use Rattle.dsm_model.specs.declared.outcome.StepRefusal.{StepRefusal}
-use Rattle.dsm_model.specs.declared.outcome.StepRefusal.TheVariants.{NoReplica, NoProcedure, ArgumentsLength, NoCall, NotAtExit, NothingToDeliver, ReplicaStopped, LogFull, OutOfMemory, TooManyCalls}
+use Rattle.dsm_model.specs.declared.outcome.StepRefusal.TheVariants.{NoReplica, NoProcedure, ArgumentsLength, NoCall, NotAtExit, NothingToDeliver, ReplicaStopped, LogFull, OutOfMemory, TooManyCalls, ArgumentsLimit, ProgramRefused, NameShape, ZeroInRequest}
 use Rattle.report.specs.declared.printed.CallReport.{CallReport}
 use Rattle.report.specs.declared.printed.CallReport.TheVariants as call
 use Rattle.report.specs.declared.printed.ReplicaReport.{ReplicaReport}
 use Rattle.report.specs.declared.printed.ReplicaReport.TheVariants as replica
+use Rattle.report.specs.declared.printed.DeliveredEntry.{DeliveredEntry}
+use Rattle.report.specs.declared.printed.DeliveredEntry.TheVariants as delivered
 use Rattle.report.specs.declared.printed.LoggedEntry.{LoggedEntry}
 use Rattle.report.specs.declared.printed.Line.{Line}
-use Rattle.report.specs.declared.printed.Line.TheVariants.{Begun, BeginRefused, Call, Replica, Row, Certified, Open, Log, Entry}
+use Rattle.report.specs.declared.printed.Line.TheVariants.{Begun, BeginRefused, Added, AddRefused, Call, Replica, Row, Certified, Open, Log, Entry}
 
 abbrev pub number_of_step_refusal : StepRefusal → ℕ
 number_of_step_refusal NoReplica = 1
@@ -27,10 +36,25 @@ number_of_step_refusal ReplicaStopped = 7
 number_of_step_refusal LogFull = 8
 number_of_step_refusal OutOfMemory = 9
 number_of_step_refusal TooManyCalls = 10
+number_of_step_refusal ArgumentsLimit = 11
+number_of_step_refusal (ProgramRefused fault) = 11
+number_of_step_refusal NameShape = 12
+number_of_step_refusal ZeroInRequest = 13
 
--- as `refused P2`
+-- as `B1 slot 0` or `V5 slot 6`
+abbrev pub program_fault_text : ProgramFault → List ℕ
+program_fault_text (Bytes fault) = fault_text fault
+program_fault_text (Instruction slot cause) = refusal_text (At slot cause)
+
+-- what is said besides the number
+abbrev pub cause_words : StepRefusal → List ℕ
+cause_words ArgumentsLimit = codes " args"
+cause_words (ProgramRefused fault) = codes " " ++ program_fault_text fault
+cause_words _ = []
+
+-- as `refused P2` or `refused P11 V5 slot 6`
 abbrev pub step_refusal_words : StepRefusal → List ℕ
-step_refusal_words refusal = codes "refused P" ++ decimal (number_of_step_refusal refusal)
+step_refusal_words refusal = codes "refused P" ++ decimal (number_of_step_refusal refusal) ++ cause_words refusal
 
 abbrev pub call_words : CallReport → List ℕ
 call_words call.More = codes "more"
@@ -46,24 +70,51 @@ abbrev pub verdict_words : Verdict → List ℕ
 verdict_words verdict.Commit = codes "commit"
 verdict_words (verdict.Conflict position) = codes "conflict " ++ decimal position
 verdict_words verdict.Stale = codes "stale"
+verdict_words (verdict.Repeated position) = codes "repeat " ++ decimal position
+verdict_words (verdict.Taken Name) = codes "taken C1"
+verdict_words (verdict.Taken Number) = codes "taken C2"
 
--- the reply is said where the call commits
-abbrev pub reply_words : Verdict → ℕ → List ℕ
-reply_words verdict.Commit reply = codes " reply " ++ decimal reply
-reply_words _ reply = []
+-- that of an addition that commits has a word of its own
+abbrev pub addition_words : Verdict → List ℕ
+addition_words verdict.Commit = codes "added"
+addition_words verdict = verdict_words verdict
+
+abbrev pub reply_words : Option ℕ → List ℕ
+reply_words (Some reply) = codes " reply " ++ decimal reply
+reply_words None = []
+
+-- the procedure is named where it is added
+abbrev pub added_words : Verdict → ℕ → List ℕ
+added_words verdict.Commit procedure = codes " " ++ decimal procedure
+added_words _ procedure = []
+
+-- as `commit reply 10`, `conflict 1`, `added 9` or `taken C1`
+abbrev pub delivered_words : Verdict → DeliveredEntry → List ℕ
+delivered_words verdict (delivered.Call reply) = verdict_words verdict ++ reply_words reply
+delivered_words verdict (delivered.Addition procedure) = addition_words verdict ++ added_words verdict procedure
 
 abbrev pub replica_words : ReplicaReport → List ℕ
-replica_words (replica.Delivered position verdict reply) =
-    codes "number " ++ decimal position ++ codes " " ++ verdict_words verdict ++ reply_words verdict reply
+replica_words (replica.Delivered position verdict entry) =
+    codes "number " ++ decimal position ++ codes " " ++ delivered_words verdict entry
 replica_words (replica.Rebuilt position) = codes "rebuilt " ++ decimal position
 replica_words (replica.Rows position rows) = codes "position " ++ decimal position ++ codes " rows " ++ decimal rows
 replica_words (replica.Refused refusal) = step_refusal_words refusal
+
+-- an addition has no snapshot
+abbrev pub snapshot_words : Option ℕ → List ℕ
+snapshot_words (Some snapshot) = decimal snapshot
+snapshot_words None = codes "-"
 
 -- the columns that an entry of the log has in any case
 abbrev pub entry_words : LoggedEntry → List ℕ
 entry_words e =
     right_in 7 (decimal e.position) ++ codes " " ++ right_in 5 (decimal e.procedure) ++ codes " "
-    ++ right_in 7 (decimal e.snapshot) ++ codes " " ++ right_in 5 (decimal e.writes) ++ codes " "
+    ++ right_in 7 (snapshot_words e.snapshot) ++ codes " " ++ right_in 5 (decimal e.writes) ++ codes " "
+
+-- the verdict on a call of this snapshot, or on an addition, which has none
+abbrev pub certified_words : Option ℕ → Verdict → List ℕ
+certified_words (Some snapshot) verdict = verdict_words verdict
+certified_words None verdict = addition_words verdict
 
 -- a row of a table
 abbrev pub row_words : ℕ → ℕ → List ℕ → List ℕ
@@ -79,10 +130,12 @@ unfoldable pub line_words : Line → List ℕ
 line_words (Begun call replica snapshot) =
     codes "call " ++ decimal call ++ codes " replica " ++ decimal replica ++ codes " snapshot " ++ decimal snapshot
 line_words (BeginRefused refusal) = codes "begin " ++ step_refusal_words refusal
+line_words (Added position) = codes "add number " ++ decimal position
+line_words (AddRefused refusal) = codes "add " ++ step_refusal_words refusal
 line_words (Call call report) = codes "call " ++ decimal call ++ codes " " ++ call_words report
 line_words (Replica replica report) = codes "replica " ++ decimal replica ++ codes " " ++ replica_words report
 line_words (Row table key bytes) = row_words table key bytes.now
-line_words (Certified entry compared verdict) = entry_words entry ++ right_in 5 (decimal compared) ++ codes " " ++ verdict_words verdict
+line_words (Certified entry compared verdict) = entry_words entry ++ right_in 5 (decimal compared) ++ codes " " ++ certified_words entry.snapshot verdict
 line_words (Open entry) = entry_words entry ++ right_in 5 (codes "-") ++ codes " open"
 line_words (Log entries) = codes "log " ++ decimal entries
 line_words (Entry position bytes) = bytes_words position (option_map (λ b. b.now) bytes)

@@ -1,10 +1,12 @@
 //! The lines of a world's answers.
 
-ghost use Rattle.std.specs.Prelude.{◌≡◌, ℕ, List, IfOk};
-ghost use Rattle.dsm_model.specs.World.{Begin, Turn, Order, Deliver, Rebuild};
+ghost use Rattle.std.specs.Prelude.{◌≡◌, ℕ, List, Option, IfOk};
+ghost use Rattle.log_model.specs.declared.request.RequestId.{RequestId};
+ghost use Rattle.dsm_model.specs.World.{Begin, Turn, Order, Deliver, Rebuild, Add, Checked};
+ghost use Rattle.report.specs.declared.printed.DeliveredEntry.{DeliveredEntry};
 ghost use Rattle.report.specs.Answers.{answer_line, text_of, call_report, replica_report};
 
-use crate::printed::{CallReport, Line, ReplicaReport};
+use crate::printed::{CallReport, DeliveredEntry, Line, ReplicaReport};
 use crate::text::line;
 use dsm_model::Outcome;
 use std::alloc::{AllocError, Allocator};
@@ -12,7 +14,8 @@ use std::alloc::{AllocError, Allocator};
 /// The line of what the beginning of a call at a replica answered; none of an answer that says neither that it began nor
 /// that it was refused.
 pub fn begin_line(replica: u32, outcome: Outcome) -> Option<Line<'static>>
-    ensures { (procedure : ℕ) (args : List ℕ) (reply : ℕ) → result ≡ answer_line (Begin replica procedure args) outcome reply }
+    ensures { (procedure : ℕ) (args : List ℕ) (request : Option RequestId) (entry : DeliveredEntry)
+        → result ≡ answer_line (Begin replica procedure args request) outcome entry }
 {
     match outcome {
         Outcome::Begun { call, snapshot } => Some(Line::Begun {
@@ -25,23 +28,36 @@ pub fn begin_line(replica: u32, outcome: Outcome) -> Option<Line<'static>>
     }
 }
 
+/// The line of what the addition of a procedure answered; none of an answer that says neither that it was appended nor
+/// that it was refused.
+pub fn add_line(outcome: Outcome) -> Option<Line<'static>>
+    ensures { (name : List ℕ) (number args_len : ℕ) (checked : Checked) (entry : DeliveredEntry)
+        → result ≡ answer_line (Add name number args_len checked) outcome entry }
+{
+    match outcome {
+        Outcome::Added { position } => Some(Line::Added { position }),
+        Outcome::Refused(refusal) => Some(Line::AddRefused(refusal)),
+        _ => None,
+    }
+}
+
 /// The line of what a turn of a call, or ordering it, answered: whatever either may answer has one. None of an answer that
 /// no call gets.
 pub fn call_line(call: u32, outcome: Outcome) -> Option<Line<'static>>
-    ensures turn { (reply : ℕ) → result ≡ answer_line (Turn call) outcome reply }
-    ensures order { (reply : ℕ) → result ≡ answer_line (Order call) outcome reply }
+    ensures turn { (entry : DeliveredEntry) → result ≡ answer_line (Turn call) outcome entry }
+    ensures order { (entry : DeliveredEntry) → result ≡ answer_line (Order call) outcome entry }
 {
     let report = call_report(outcome)?;
     Some(Line::Call { call, report })
 }
 
-/// The line of what a delivery to a replica, or rebuilding it, answered, with the reply of the delivered call: whatever
+/// The line of what a delivery to a replica, or rebuilding it, answered, with what is said of the delivered entry: whatever
 /// either may answer has one. None of an answer that no replica gets.
-pub fn replica_line(replica: u32, outcome: Outcome, reply: u64) -> Option<Line<'static>>
-    ensures deliver { result ≡ answer_line (Deliver replica) outcome reply }
-    ensures rebuild { result ≡ answer_line (Rebuild replica) outcome reply }
+pub fn replica_line(replica: u32, outcome: Outcome, entry: DeliveredEntry) -> Option<Line<'static>>
+    ensures deliver { result ≡ answer_line (Deliver replica) outcome entry }
+    ensures rebuild { result ≡ answer_line (Rebuild replica) outcome entry }
 {
-    let report = replica_report(outcome, reply)?;
+    let report = replica_report(outcome, entry)?;
     Some(Line::Replica { replica, report })
 }
 
@@ -74,14 +90,14 @@ fn call_report(outcome: Outcome) -> Option<CallReport>
     })
 }
 
-fn replica_report(outcome: Outcome, reply: u64) -> Option<ReplicaReport>
-    ensures { result ≡ replica_report outcome reply }
+fn replica_report(outcome: Outcome, entry: DeliveredEntry) -> Option<ReplicaReport>
+    ensures { result ≡ replica_report outcome entry }
 {
     Some(match outcome {
         Outcome::Delivered { position, verdict } => ReplicaReport::Delivered {
             position,
             verdict,
-            reply,
+            entry,
         },
         Outcome::Rebuilt { position } => ReplicaReport::Rebuilt { position },
         Outcome::Refused(refusal) => ReplicaReport::Refused(refusal),

@@ -1,9 +1,9 @@
 //! The lines that are printed of a world, one for each answer, row and entry.
 #![tactic(auto)]
 
-pub use answers::{answer, begin_line, call_line, replica_line};
+pub use answers::{add_line, answer, begin_line, call_line, replica_line};
 pub use laws::each_answer_has_a_line;
-pub use printed::{CallReport, Line, LoggedEntry, ReplicaReport};
+pub use printed::{CallReport, DeliveredEntry, Line, LoggedEntry, ReplicaReport};
 pub use refusal::step_refusal_number;
 pub use text::line;
 

@@ -14,6 +14,12 @@ pub enum Line<'a> {
     },
     /// No call began.
     BeginRefused(StepRefusal),
+    /// A procedure was appended to the log.
+    Added {
+        position: u32,
+    },
+    /// No procedure was appended.
+    AddRefused(StepRefusal),
     Call {
         call: u32,
         report: CallReport,
@@ -65,11 +71,11 @@ pub enum CallReport {
 /// What is said of a replica.
 #[derive(Clone, Copy)]
 pub enum ReplicaReport {
-    /// It delivered the entry at a position, with the reply of that call.
+    /// It delivered the entry at a position.
     Delivered {
         position: u32,
         verdict: Verdict,
-        reply: u64,
+        entry: DeliveredEntry,
     },
     Rebuilt {
         position: u32,
@@ -82,12 +88,22 @@ pub enum ReplicaReport {
     Refused(StepRefusal),
 }
 
+/// What is said of a delivered entry besides its verdict.
+#[derive(Clone, Copy)]
+pub enum DeliveredEntry {
+    /// Of a call: the reply that its caller is told, where it is told one.
+    Call { reply: Option<u64> },
+    /// Of an addition: the number of the procedure.
+    Addition { procedure: u16 },
+}
+
 /// What stands of an entry in the log's lines.
 #[derive(Clone, Copy)]
 pub struct LoggedEntry {
     pub position: u32,
     pub procedure: u16,
-    pub snapshot: u32,
+    /// Of a call; an addition has none.
+    pub snapshot: Option<u32>,
     /// How many keys it wrote.
     pub writes: usize,
 }

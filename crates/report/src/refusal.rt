@@ -5,7 +5,7 @@ ghost use Rattle.report.specs.Lines.{number_of_step_refusal};
 
 use dsm_model::StepRefusal;
 
-/// The number after the letter P in printed refusals, 1 to 10.
+/// The number after the letter P in printed refusals, 1 to 13.
 pub fn step_refusal_number(refusal: StepRefusal) -> u8
     ensures { result ≡ number_of_step_refusal refusal }
 {
@@ -20,5 +20,8 @@ pub fn step_refusal_number(refusal: StepRefusal) -> u8
         StepRefusal::LogFull => 8,
         StepRefusal::OutOfMemory => 9,
         StepRefusal::TooManyCalls => 10,
+        StepRefusal::ArgumentsLimit | StepRefusal::ProgramRefused(_) => 11,
+        StepRefusal::NameShape => 12,
+        StepRefusal::ZeroInRequest => 13,
     }
 }

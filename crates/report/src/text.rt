@@ -8,7 +8,9 @@ ghost use Rattle.byte_output.specs.Column.{right_in};
 ghost use Rattle.report.specs.Lines.{line_text};
 
 use crate::printed::Line;
-use crate::words::{begin_refused, begun, call, certified, log, no_entry, open, replica};
+use crate::words::{
+    add_refused, added, begin_refused, begun, call, certified, log, no_entry, open, replica,
+};
 use byte_output::line::{Line as Words, push, push_column, push_unsigned};
 use std::alloc::{AllocError, Allocator};
 
@@ -24,6 +26,8 @@ pub fn line<A: Allocator + Copy>(alloc: A, line: &Line) -> Result<Vec<u8, A>, Al
             snapshot,
         } => whole(alloc, begun(*call, *replica, *snapshot)),
         Line::BeginRefused(refusal) => whole(alloc, begin_refused(*refusal)),
+        Line::Added { position } => whole(alloc, added(*position)),
+        Line::AddRefused(refusal) => whole(alloc, add_refused(*refusal)),
         Line::Call {
             call: number,
             report,

@@ -2,21 +2,54 @@
 
 ghost use Rattle.std.specs.Prelude.{◌≡◌, ◌≤◌, ◌+◌, ◌++◌, codes, None};
 ghost use Rattle.arrayvec.specs.ArrayVec.{array_vec_len};
-ghost use Rattle.report.specs.Lines.{step_refusal_words, verdict_words, reply_words, call_words, replica_words, entry_words, line_words};
+ghost use Rattle.byte_output.specs.Column.{right_in};
+ghost use Rattle.report.specs.Lines.{program_fault_text, cause_words, step_refusal_words, verdict_words, addition_words, snapshot_words};
+ghost use Rattle.report.specs.Lines.{reply_words, added_words, delivered_words, certified_words, call_words, replica_words, entry_words, line_words};
 ghost use Rattle.report.specs.declared.printed.Line.TheVariants as line;
 
-use crate::printed::{CallReport, LoggedEntry, ReplicaReport};
+use crate::printed::{CallReport, DeliveredEntry, LoggedEntry, ReplicaReport};
 use crate::refusal::step_refusal_number;
 use byte_output::line::{Line as Words, push, push_column, push_right, push_unsigned};
-use dsm_model::StepRefusal;
-use log_model::Verdict;
+use dsm_model::{ProgramFault, StepRefusal};
+use log_model::{Identifier, Verdict};
 
 pub(crate) fn push_refused(words: &mut Words, refusal: StepRefusal)
-    requires { array_vec_len words.old ≤ 100 }
+    requires { array_vec_len words.old ≤ 60 }
     ensures items { words.new.items ≡ words.old.items ++ step_refusal_words refusal }
     ensures len { array_vec_len words.new ≤ 150 }
 {
     push_unsigned(words, "refused P", u64::from(step_refusal_number(refusal)));
+    push_cause(words, refusal);
+}
+
+/// What a refusal says besides its number.
+fn push_cause(words: &mut Words, refusal: StepRefusal)
+    requires { array_vec_len words.old ≤ 90 }
+    ensures items { words.new.items ≡ words.old.items ++ cause_words refusal }
+    ensures len { array_vec_len words.new ≤ array_vec_len words.old + 50 }
+{
+    match refusal {
+        StepRefusal::ArgumentsLimit => push(words, b" args"),
+        StepRefusal::ProgramRefused(fault) => {
+            push(words, b" ");
+            push_program_fault(words, fault);
+        }
+        _ => {}
+    }
+}
+
+/// As `B1 slot 0` or `V5 slot 6`.
+fn push_program_fault(words: &mut Words, fault: ProgramFault)
+    requires { array_vec_len words.old ≤ 91 }
+    ensures items { words.new.items ≡ words.old.items ++ program_fault_text fault }
+    ensures len { array_vec_len words.new ≤ array_vec_len words.old + 49 }
+{
+    let (letter, number, slot) = match fault {
+        ProgramFault::Bytes(fault) => ("B", fault.cause.number(), fault.slot),
+        ProgramFault::Instruction { slot, cause } => ("V", cause.number(), slot),
+    };
+    push_unsigned(words, letter, u64::from(number));
+    push_unsigned(words, " slot ", u64::from(slot));
 }
 
 pub(crate) fn push_call(words: &mut Words, report: CallReport)
@@ -51,16 +84,70 @@ fn push_verdict(words: &mut Words, verdict: Verdict)
         Verdict::Commit => push(words, b"commit"),
         Verdict::Conflict(position) => push_unsigned(words, "conflict ", u64::from(position)),
         Verdict::Stale => push(words, b"stale"),
+        Verdict::Repeated(position) => push_unsigned(words, "repeat ", u64::from(position)),
+        Verdict::Taken(Identifier::Name) => push(words, b"taken C1"),
+        Verdict::Taken(Identifier::Number) => push(words, b"taken C2"),
     }
 }
 
-fn push_reply(words: &mut Words, verdict: Verdict, reply: u64)
+fn push_addition(words: &mut Words, verdict: Verdict)
     requires { array_vec_len words.old ≤ 120 }
-    ensures items { words.new.items ≡ words.old.items ++ reply_words verdict reply }
+    ensures items { words.new.items ≡ words.old.items ++ addition_words verdict }
+    ensures len { array_vec_len words.new ≤ array_vec_len words.old + 30 }
+{
+    match verdict {
+        Verdict::Commit => push(words, b"added"),
+        _ => push_verdict(words, verdict),
+    }
+}
+
+fn push_reply(words: &mut Words, reply: Option<u64>)
+    requires { array_vec_len words.old ≤ 120 }
+    ensures items { words.new.items ≡ words.old.items ++ reply_words reply }
+    ensures len { array_vec_len words.new ≤ array_vec_len words.old + 30 }
+{
+    if let Some(reply) = reply {
+        push_unsigned(words, " reply ", reply);
+    }
+}
+
+/// The procedure of an addition, where it is added.
+fn push_added(words: &mut Words, verdict: Verdict, procedure: u16)
+    requires { array_vec_len words.old ≤ 120 }
+    ensures items { words.new.items ≡ words.old.items ++ added_words verdict procedure }
     ensures len { array_vec_len words.new ≤ array_vec_len words.old + 30 }
 {
     if matches!(verdict, Verdict::Commit) {
-        push_unsigned(words, " reply ", reply);
+        push_unsigned(words, " ", u64::from(procedure));
+    }
+}
+
+fn push_delivered(words: &mut Words, verdict: Verdict, entry: DeliveredEntry)
+    requires { array_vec_len words.old ≤ 90 }
+    ensures items { words.new.items ≡ words.old.items ++ delivered_words verdict entry }
+    ensures len { array_vec_len words.new ≤ 150 }
+{
+    match entry {
+        DeliveredEntry::Call { reply } => {
+            push_verdict(words, verdict);
+            push_reply(words, reply);
+        }
+        DeliveredEntry::Addition { procedure } => {
+            push_addition(words, verdict);
+            push_added(words, verdict, procedure);
+        }
+    }
+}
+
+/// The verdict on a call of this snapshot, or on an addition, which has none.
+fn push_certified(words: &mut Words, snapshot: Option<u32>, verdict: Verdict)
+    requires { array_vec_len words.old ≤ 120 }
+    ensures items { words.new.items ≡ words.old.items ++ certified_words snapshot verdict }
+    ensures len { array_vec_len words.new ≤ array_vec_len words.old + 30 }
+{
+    match snapshot {
+        Some(_) => push_verdict(words, verdict),
+        None => push_addition(words, verdict),
     }
 }
 
@@ -73,12 +160,11 @@ pub(crate) fn push_replica(words: &mut Words, report: ReplicaReport)
         ReplicaReport::Delivered {
             position,
             verdict,
-            reply,
+            entry,
         } => {
             push_unsigned(words, "number ", u64::from(position));
             push(words, b" ");
-            push_verdict(words, verdict);
-            push_reply(words, verdict, reply);
+            push_delivered(words, verdict, entry);
         }
         ReplicaReport::Rebuilt { position } => push_unsigned(
             words,
@@ -103,10 +189,21 @@ fn push_entry(words: &mut Words, entry: LoggedEntry)
     push(words, b" ");
     push_column(words, 5, u64::from(entry.procedure));
     push(words, b" ");
-    push_column(words, 7, u64::from(entry.snapshot));
+    push_snapshot(words, entry.snapshot);
     push(words, b" ");
     push_column(words, 5, entry.writes as u64);
     push(words, b" ");
+}
+
+fn push_snapshot(words: &mut Words, snapshot: Option<u32>)
+    requires { array_vec_len words.old ≤ 100 }
+    ensures items { words.new.items ≡ words.old.items ++ right_in 7 (snapshot_words snapshot) }
+    ensures len { array_vec_len words.new ≤ array_vec_len words.old + 20 }
+{
+    match snapshot {
+        Some(snapshot) => push_column(words, 7, u64::from(snapshot)),
+        None => push_right(words, 7, b"-"),
+    }
 }
 
 #[tactic(auto, unfolding(crate::specs::Lines::line_words))]
@@ -128,6 +225,27 @@ pub(crate) fn begin_refused(refusal: StepRefusal) -> Words
 {
     let mut words = Words::new();
     push(&mut words, b"begin ");
+    push_refused(&mut words, refusal);
+    words
+}
+
+#[tactic(auto, unfolding(crate::specs::Lines::line_words))]
+pub(crate) fn added(position: u32) -> Words
+    ensures items { result.items ≡ line_words (line.Added position) }
+    ensures len { array_vec_len result ≤ 150 }
+{
+    let mut words = Words::new();
+    push_unsigned(&mut words, "add number ", u64::from(position));
+    words
+}
+
+#[tactic(auto, unfolding(crate::specs::Lines::line_words))]
+pub(crate) fn add_refused(refusal: StepRefusal) -> Words
+    ensures items { result.items ≡ line_words (line.AddRefused refusal) }
+    ensures len { array_vec_len result ≤ 150 }
+{
+    let mut words = Words::new();
+    push(&mut words, b"add ");
     push_refused(&mut words, refusal);
     words
 }
@@ -165,7 +283,7 @@ pub(crate) fn certified(entry: LoggedEntry, compared: u64, verdict: Verdict) -> 
     push_entry(&mut words, entry);
     push_column(&mut words, 5, compared);
     push(&mut words, b" ");
-    push_verdict(&mut words, verdict);
+    push_certified(&mut words, entry.snapshot, verdict);
     words
 }
 

@@ -1,12 +1,13 @@
 -- What lines do, by what was done.
-use Rattle.std.proofs.Common.{◌≡◌, inl, ℕ, List, Option, Some, None, Result, Ok, Err, refl, sym, ap, subst}
+use Rattle.std.proofs.Common.{◌≡◌, inl, ℕ, List, Option, Some, None, Result, Ok, Err, refl, sym, ap, subst, ◌∙◌}
+use Rattle.std.specs.Prelude.{option_map}
 use Rattle.std.specs.List.{concat}
 use Rattle.byte_output.specs.declared.paged.PagedOutput.{PagedOutput}
 use Rattle.dsm_model.specs.declared.outcome.Outcome.{Outcome}
 use Rattle.dsm_model.specs.declared.outcome.Outcome.TheVariants.{Refused}
 use Rattle.dsm_model.specs.declared.outcome.StepRefusal.TheVariants.{NoReplica, NoProcedure}
-use Rattle.log_model.specs.Log.{Setting, by_number}
-use Rattle.dsm_model.specs.World.{World, Replica, Begin, Turn, Order, Deliver, Rebuild, IsStep, after_begin, after_step, numbered}
+use Rattle.log_model.specs.Log.{Setting, by_number, by_name, procedures_after}
+use Rattle.dsm_model.specs.World.{World, Replica, Begin, Turn, Order, Deliver, Rebuild, IsStep, after_begin, after_step, numbered, position_of}
 use Rattle.script.specs.declared.commands.Command.TheVariants as command
 use Rattle.script_actions.specs.Printed.{step_text, rows_text, log_text, entry_text}
 use Rattle.script_actions.specs.Actions.{Repeats, Begins, Does, is_more, is_delivery, longest_run, number_of_name}
@@ -22,29 +23,36 @@ pub rebuilds : (w : Setting) (before : World) (r : ℕ) (outcome : Outcome) (aft
 unfolding Does
 rebuilds w before r outcome after is = (outcome, is, refl)
 
-pub begins : (w : Setting) (before : World) (r : ℕ) (name args : List ℕ) (procedure : ℕ) (outcome : Outcome) (after : World) → number_of_name w name ≡ Some procedure → IsStep w before (Begin r procedure args) outcome after
-    → Does w before (command.Begin r name args) (step_text w after.log (Begin r procedure args) outcome) after
+pub begins : (w : Setting) (before : World) (r : ℕ) (name args : List ℕ) (procedure : ℕ) (outcome : Outcome) (after : World) → number_of_name w before r name ≡ Some procedure → IsStep w before (Begin r procedure args None) outcome after
+    → Does w before (command.Begin r name args) (step_text w after.log (Begin r procedure args None) outcome) after
 unfolding Does
-begins w before r name args procedure outcome after named is = subst (λ (o : Option ℕ). Begins w before r args o (step_text w after.log (Begin r procedure args) outcome) after) (sym named) (outcome, is, refl)
+begins w before r name args procedure outcome after named is = subst (λ (o : Option ℕ). Begins w before r args o (step_text w after.log (Begin r procedure args None) outcome) after) (sym named) (outcome, is, refl)
 
-pub begins_unnamed : (w : Setting) (before : World) (r : ℕ) (name args : List ℕ) (kept : Replica) → number_of_name w name ≡ None → numbered before.replicas r ≡ Some kept
-    → Does w before (command.Begin r name args) (step_text w before.log (Begin r 0 args) (Refused NoProcedure)) before
+pub begins_unnamed : (w : Setting) (before : World) (r : ℕ) (name args : List ℕ) (kept : Replica) → number_of_name w before r name ≡ None → numbered before.replicas r ≡ Some kept
+    → Does w before (command.Begin r name args) (step_text w before.log (Begin r 0 args None) (Refused NoProcedure)) before
 unfolding Does
 begins_unnamed w before r name args kept named there =
-    subst (λ (o : Option ℕ). Begins w before r args o (step_text w before.log (Begin r 0 args) (Refused NoProcedure)) before) (sym named)
-    (ap (λ (k : Option Replica). step_text w before.log (Begin r 0 args) (after_begin before r 0 args k None).0) (sym there), refl)
+    subst (λ (o : Option ℕ). Begins w before r args o (step_text w before.log (Begin r 0 args None) (Refused NoProcedure)) before) (sym named)
+    (ap (λ (k : Option Replica). step_text w before.log (Begin r 0 args None) (after_begin before r 0 args None k None).0) (sym there), refl)
 
-nowhere : (w : Setting) (before : World) (r procedure : ℕ) (args : List ℕ) → numbered before.replicas r ≡ None → after_step w before (Begin r procedure args) ≡ (Refused NoReplica, before)
+nowhere : (w : Setting) (before : World) (r procedure : ℕ) (args : List ℕ) → numbered before.replicas r ≡ None → after_step w before (Begin r procedure args None) ≡ (Refused NoReplica, before)
 unfolding after_step
-nowhere w before r procedure args none = ap (λ (k : Option Replica). after_begin before r procedure args k (by_number w.catalogue procedure)) none
+nowhere w before r procedure args none =
+    ap (λ (k : Option Replica). after_begin before r procedure args None k (by_number (procedures_after w before.log (position_of k)) procedure)) none
+
+-- the procedure of a name at a replica that there is
+pub named_at : (w : Setting) (world : World) (r : ℕ) (name : List ℕ) (kept : Replica) (o : Option ℕ) → numbered world.replicas r ≡ Some kept
+    → o ≡ option_map (λ p. p.number) (by_name (procedures_after w world.log kept.position) name) → number_of_name w world r name ≡ o
+named_at w world r name kept o there is =
+    ap (λ (k : Option Replica). option_map (λ p. p.number) (by_name (procedures_after w world.log (position_of k)) name)) there ∙ sym is
 
 pub begins_nowhere : (w : Setting) (before : World) (r : ℕ) (name args : List ℕ) → numbered before.replicas r ≡ None
-    → Does w before (command.Begin r name args) (step_text w before.log (Begin r 0 args) (Refused NoReplica)) before
+    → Does w before (command.Begin r name args) (step_text w before.log (Begin r 0 args None) (Refused NoReplica)) before
 unfolding Does
-begins_nowhere w before r name args none = go (number_of_name w name)
+begins_nowhere w before r name args none = go (number_of_name w before r name)
   where
-    go : (o : Option ℕ) → Begins w before r args o (step_text w before.log (Begin r 0 args) (Refused NoReplica)) before
-    go None = (ap (λ (k : Option Replica). step_text w before.log (Begin r 0 args) (after_begin before r 0 args k None).0) (sym none), refl)
+    go : (o : Option ℕ) → Begins w before r args o (step_text w before.log (Begin r 0 args None) (Refused NoReplica)) before
+    go None = (ap (λ (k : Option Replica). step_text w before.log (Begin r 0 args None) (after_begin before r 0 args None k None).0) (sym none), refl)
     go (Some p) = (Refused NoReplica, inl (nowhere w before r p args none), refl)
 
 pub delivers : (w : Setting) (before : World) (r most : ℕ) (lines : List (List ℕ)) (after : World) → Repeats w (Deliver r) is_delivery most before lines after → Does w before (command.Deliver r most) (concat lines) after

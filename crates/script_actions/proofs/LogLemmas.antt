@@ -1,22 +1,18 @@
 -- The lines of a log, by what replicas keep.
 use Rattle.std.proofs.Common.{◌≡◌, ℕ, suc, ◌+◌, ◌<◌, ◌≤◌, Bool, true, false, cond, ◌||◌, find, nat_lt, List, [], ◌∷◌, length, map, take, slice_get, Option, Some, None, refl, sym, ap, subst, ◌∙◌}
 use Rattle.std.specs.List.{list_any}
-use Rattle.std.specs.FinMap.{len}
-use Rattle.schema.specs.Rows.{Writes}
+use Rattle.std.specs.Prelude.{option_map}
 use Rattle.log_model.specs.declared.verdict.Verdict.{Verdict}
-use Rattle.log_model.specs.Log.{Call, run_in, verdict_of}
-use Rattle.log_model.specs.Comparisons.{comparisons_of}
-use Rattle.log_model.specs.Entries.{Entry, calls_of}
+use Rattle.log_model.specs.Log.{Item, verdict_of}
+use Rattle.log_model.specs.Entries.{Entry, item_of, items_of}
 use Rattle.dsm_model.specs.World.{Replica as Progress}
-use Rattle.replica.specs.Replica.{Replica, certification_of}
+use Rattle.replica.specs.Replica.{Replica, AreEntriesOf, certification_of}
 use Rattle.dsm_world.specs.System.{SystemWorld, setting_of, world_of, progress_of, KeepsDelivered}
 use Rattle.dsm_world.proofs.Numbered.{get_map}
-use Rattle.dsm_world.proofs.EntryLemmas.{RowsGrow}
-use Rattle.report.specs.declared.printed.LoggedEntry.{LoggedEntry}
 use Rattle.report.specs.declared.printed.Line.TheVariants as line
 use Rattle.report.specs.Lines.{line_text}
-use Rattle.script_actions.specs.Printed.{is_delivered, certified_line, logged_text}
-use Rattle.script_actions.proofs.PrintedLemmas.{carries, VerdictsGrow, VerdictsFollow, VerdictsSuffice, verdict_there, compared_there}
+use Rattle.script_actions.specs.Printed.{entry_of, logged_entry, compared_count, is_delivered, certified_line, logged_text}
+use Rattle.script_actions.proofs.PrintedLemmas.{is_entry, carries, VerdictsGrow, VerdictsFollow, VerdictsSuffice, verdict_there, compared_there}
 
 -- ---- whether some replica has come further
 
@@ -55,42 +51,38 @@ pub none_found : (before : ℕ) (replicas : List Replica) → find (further befo
 none_found before [] e = refl
 none_found before (x ∷ xs) e = none_case before x xs (none_found before xs) (nat_lt before x.position) refl e
 
--- ---- the line of a call
-
-abbrev pub logged_entry : ℕ → Call → ℕ → LoggedEntry
-logged_entry before call writes = record { position = before + 1; procedure = call.procedure; snapshot = call.snapshot; writes = writes }
+-- ---- the line of an entry
 
 same_some : {X : Type 0} (x y : X) → Some x ≡ Some y → x ≡ y
 same_some x y e = cc
 
-call_is : (entries : List Entry) (before : ℕ) (e : Entry) (call : Call) → slice_get entries before ≡ Some e → slice_get (calls_of entries) before ≡ Some call → e.call ≡ call
-call_is entries before e call at there = same_some e.call call (sym (get_map (λ (x : Entry). x.call) entries before ∙ ap (λ (o : Option Entry). Rattle.std.specs.Prelude.option_map (λ (x : Entry). x.call) o) at) ∙ there)
-
-writes_are : (s : SystemWorld) (before : ℕ) (e : Entry) → Rattle.replica.specs.Replica.AreEntriesOf (setting_of s) s.entries → slice_get s.entries before ≡ Some e → len e.writes ≡ len (run_in (setting_of s) (calls_of s.entries) e.call).writes
-writes_are s before e are at = ap (λ (m : Writes). len m) (carries (setting_of s) s.entries before e are at).writes
+item_is : (entries : List Entry) (before : ℕ) (e : Entry) (item : Item) → slice_get entries before ≡ Some e → slice_get (items_of entries) before ≡ Some item → item_of e ≡ item
+item_is entries before e item at there = same_some (item_of e) item (sym (get_map item_of entries before ∙ ap (λ (o : Option Entry). option_map item_of o) at) ∙ there)
 
 -- where no replica has delivered it
-pub open_line : (s : SystemWorld) (before : ℕ) (e : Entry) (call : Call) → Rattle.replica.specs.Replica.AreEntriesOf (setting_of s) s.entries → slice_get s.entries before ≡ Some e → slice_get (calls_of s.entries) before ≡ Some call
-    → is_delivered (world_of s) before ≡ false → line_text (line.Open (logged_entry before e.call (len e.writes))) ≡ logged_text (setting_of s) (world_of s) before call
-open_line s before e call are at there none =
+pub open_line : (s : SystemWorld) (before : ℕ) (e : Entry) (item : Item) → AreEntriesOf (setting_of s) s.entries → slice_get s.entries before ≡ Some e → slice_get (items_of s.entries) before ≡ Some item
+    → is_delivered (world_of s) before ≡ false → line_text (line.Open (logged_entry (before + 1) e)) ≡ logged_text (setting_of s) (world_of s) before item
+open_line s before e item are at there none =
     let w = setting_of s in
-    let log = calls_of s.entries in
-    subst (λ (c : Call). line_text (line.Open (logged_entry before e.call (len e.writes))) ≡ logged_text w (world_of s) before c) (call_is s.entries before e call at there)
-    (ap (λ (n : ℕ). line_text (line.Open (logged_entry before e.call n))) (writes_are s before e are at)
-    ∙ ap (λ (b : Bool). line_text (certified_line (logged_entry before e.call (len (run_in w log e.call).writes)) (length (comparisons_of w log before e.call)) (cond b (verdict_of w log (before + 1)) None))) (sym none))
+    let log = items_of s.entries in
+    let shipped = is_entry w log e (carries w s.entries before e are at) in
+    subst (λ (i : Item). line_text (line.Open (logged_entry (before + 1) e)) ≡ logged_text w (world_of s) before i) (item_is s.entries before e item at there)
+    (ap (λ (x : Entry). line_text (line.Open (logged_entry (before + 1) x))) shipped
+    ∙ ap (λ (b : Bool). line_text (certified_line (logged_entry (before + 1) (entry_of w log (item_of e))) (compared_count w log before (item_of e)) (cond b (verdict_of w log (before + 1)) None))) (sym none))
 
 -- where one has
-pub delivered_line : (s : SystemWorld) (r : Replica) (before : ℕ) (e : Entry) (call : Call) (keeps : KeepsDelivered s r) → r.position ≤ length s.entries → before < r.position → slice_get s.entries before ≡ Some e → slice_get (calls_of s.entries) before ≡ Some call
-    → is_delivered (world_of s) before ≡ true → RowsGrow → VerdictsGrow → VerdictsFollow → VerdictsSuffice
-    → line_text (line.Certified (logged_entry before e.call (len e.writes)) (certification_of r.window (take r.position s.entries) before e).compared (certification_of r.window (take r.position s.entries) before e).verdict)
-    ≡ logged_text (setting_of s) (world_of s) before call
-delivered_line s r before e call keeps within delivered at there some rows grow follow suffice =
+pub delivered_line : (s : SystemWorld) (r : Replica) (before : ℕ) (e : Entry) (item : Item) (keeps : KeepsDelivered s r) → r.position ≤ length s.entries → before < r.position → slice_get s.entries before ≡ Some e → slice_get (items_of s.entries) before ≡ Some item
+    → is_delivered (world_of s) before ≡ true → VerdictsGrow → VerdictsFollow → VerdictsSuffice
+    → line_text (line.Certified (logged_entry (before + 1) e) (certification_of r.window s.catalogue.procedures (take r.position s.entries) before e).compared (certification_of r.window s.catalogue.procedures (take r.position s.entries) before e).verdict)
+    ≡ logged_text (setting_of s) (world_of s) before item
+delivered_line s r before e item keeps within delivered at there some grow follow suffice =
     let w = setting_of s in
-    let log = calls_of s.entries in
-    let certification = certification_of r.window (take r.position s.entries) before e in
-    let entry = logged_entry before e.call (len (run_in w log e.call).writes) in
-    subst (λ (c : Call). line_text (line.Certified (logged_entry before e.call (len e.writes)) certification.compared certification.verdict) ≡ logged_text w (world_of s) before c) (call_is s.entries before e call at there)
-    (ap (λ (n : ℕ). line_text (line.Certified (logged_entry before e.call n) certification.compared certification.verdict)) (writes_are s before e keeps.entries at)
-    ∙ ap (λ (n : ℕ). line_text (certified_line entry n (Some certification.verdict))) (sym (compared_there s r before e keeps within delivered at suffice))
-    ∙ ap (λ (o : Option Verdict). line_text (certified_line entry (length (comparisons_of w log before e.call)) o)) (sym (verdict_there s r before e keeps within delivered at rows grow follow))
-    ∙ ap (λ (b : Bool). line_text (certified_line entry (length (comparisons_of w log before e.call)) (cond b (verdict_of w log (before + 1)) None))) (sym some))
+    let log = items_of s.entries in
+    let certification = certification_of r.window s.catalogue.procedures (take r.position s.entries) before e in
+    let shipped = is_entry w log e (carries w s.entries before e keeps.entries at) in
+    let entry = logged_entry (before + 1) (entry_of w log (item_of e)) in
+    subst (λ (i : Item). line_text (line.Certified (logged_entry (before + 1) e) certification.compared certification.verdict) ≡ logged_text w (world_of s) before i) (item_is s.entries before e item at there)
+    (ap (λ (x : Entry). line_text (line.Certified (logged_entry (before + 1) x) certification.compared certification.verdict)) shipped
+    ∙ ap (λ (n : ℕ). line_text (certified_line entry n (Some certification.verdict))) (sym (compared_there suffice s r before e keeps within delivered at))
+    ∙ ap (λ (o : Option Verdict). line_text (certified_line entry (compared_count w log before (item_of e)) o)) (sym (verdict_there s r before e keeps within delivered at grow follow))
+    ∙ ap (λ (b : Bool). line_text (certified_line entry (compared_count w log before (item_of e)) (cond b (verdict_of w log (before + 1)) None))) (sym some))

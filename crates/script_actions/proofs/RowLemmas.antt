@@ -9,18 +9,18 @@ use Rattle.byte_output.specs.Pending.{Passes}
 use Rattle.byte_output.proofs.PendingLemmas.{Passes-then}
 use Rattle.schema.specs.Rows.{Key, Rows, AreRows}
 use Rattle.schema.specs.Schema.{Tables}
-use Rattle.log_model.specs.Log.{Setting, Log, IsLog, rows_after}
-use Rattle.log_model.specs.Fit.{HasSafeProcedures, AreCalls}
-use Rattle.log_model.specs.Entries.{Entry, calls_of}
+use Rattle.log_model.specs.Log.{Catalogue, Setting, Log, IsLog, rows_after}
+use Rattle.log_model.specs.Fit.{HasSafeProcedures, AreItems}
+use Rattle.log_model.specs.Entries.{Entry, items_of}
 use Rattle.dsm_model.specs.World.{numbered}
 use Rattle.replica.specs.Replica.{Replica, StandsFor, rows_kept}
 use Rattle.dsm_world.specs.System.{SystemWorld, setting_of, world_of, progress_of, KeepsDelivered}
 use Rattle.dsm_world.proofs.Numbered.{numbered_map}
-use Rattle.dsm_world.proofs.EntryLemmas.{RowsGrow, take_all, take_next, calls_count}
+use Rattle.dsm_world.proofs.EntryLemmas.{take_all, take_next, items_count}
 use Rattle.script_actions.specs.Printed.{row_text, all_rows_text, rows_text}
 use Rattle.script_actions.specs.Doing.{PassesBeginning, Gives}
 use Rattle.script_actions.proofs.GivenLemmas.{beginning_then, beginning_more}
-use Rattle.script_actions.proofs.PrintedLemmas.{RowsSuffice, position_within, rows_are}
+use Rattle.script_actions.proofs.PrintedLemmas.{RowsGrow, RowsSuffice, position_within, rows_are}
 
 abbrev Row : Type 0
 Row = Key × List ℕ
@@ -56,8 +56,8 @@ row_breaks contents old mid new xs k x last at given this =
 
 -- what is printed of a replica that there is
 pub rows_shown : (s : SystemWorld) (n : ℕ) (r : Replica) → numbered s.replicas n ≡ Some r
-    → rows_text (setting_of s) (calls_of s.entries) n (numbered (world_of s).replicas n) ≡ all_rows_text n r.position (entries (rows_after (setting_of s) (calls_of s.entries) r.position))
-rows_shown s n r at = ap (rows_text (setting_of s) (calls_of s.entries) n) (numbered_map progress_of s.replicas n ∙ ap (λ (o : Option Replica). option_map progress_of o) at)
+    → rows_text (setting_of s) (items_of s.entries) n (numbered (world_of s).replicas n) ≡ all_rows_text n r.position (entries (rows_after (setting_of s) (items_of s.entries) r.position))
+rows_shown s n r at = ap (rows_text (setting_of s) (items_of s.entries) n) (numbered_map progress_of s.replicas n ∙ ap (λ (o : Option Replica). option_map progress_of o) at)
 
 pub none_shown : (s : SystemWorld) (n : ℕ) → numbered s.replicas n ≡ None → numbered (world_of s).replicas n ≡ None
 none_shown s n at = numbered_map progress_of s.replicas n ∙ ap (λ (o : Option Replica). option_map progress_of o) at
@@ -72,21 +72,21 @@ keys_fit tables rows are k is = let there = some_value (get rows k) is in (are k
 
 -- what the law of rows says
 abbrev pub RowsFit : Type 0
-RowsFit = (w : Setting) (log : Log) (position : ℕ) → HasSafeProcedures w → IsLog log → AreCalls w log → position ≤ length log → AreRows w.tables (rows_after w log position)
+RowsFit = (w : Setting) (log : Log) (position : ℕ) → HasSafeProcedures w → IsLog log → AreItems w log → position ≤ length log → AreRows w.tables (rows_after w log position)
 
 -- the rows that a replica lists are those that are printed
 pub rows_listed : RowsGrow → RowsSuffice → RowsFit → (s : SystemWorld) (n : ℕ) (r : Replica) (items : List Row) → numbered s.replicas n ≡ Some r → KeepsDelivered s r
-    → ((past : List Entry) → StandsFor r past → ((k : Key) → IsSome (get (rows_kept r.window past r.position) k) → k.1 < 2 ^ 64) → items ≡ entries (rows_kept r.window past r.position))
-    → rows_text (setting_of s) (calls_of s.entries) n (numbered (world_of s).replicas n) ≡ all_rows_text n r.position items
+    → ((base : Catalogue) (past : List Entry) → StandsFor base r past → ((k : Key) → IsSome (get (rows_kept r.window base past r.position) k) → k.1 < 2 ^ 64) → items ≡ entries (rows_kept r.window base past r.position))
+    → rows_text (setting_of s) (items_of s.entries) n (numbered (world_of s).replicas n) ≡ all_rows_text n r.position items
 rows_listed grow suffice fit s n r items at keeps list =
     let w = setting_of s in
-    let log = calls_of s.entries in
+    let log = items_of s.entries in
     let within = position_within s r keeps in
-    let count = calls_count s.entries in
+    let count = items_count s.entries in
     let same = rows_are grow suffice s r keeps within in
-    let are = fit w log r.position keeps.entries.procedures keeps.entries.log keeps.entries.calls (omega arith) in
-    let keys = λ (k : Key) (is : IsSome (get (rows_kept r.window (take r.position s.entries) r.position) k)). keys_fit w.tables (rows_after w log r.position) are k (subst (λ (rows : Rows). IsSome (get rows k)) same is) in
-    rows_shown s n r at ∙ ap (all_rows_text n r.position) (sym (list (take r.position s.entries) keeps.delivered keys ∙ ap entries same))
+    let are = fit w log r.position keeps.entries.procedures keeps.entries.log keeps.entries.items (omega arith) in
+    let keys = λ (k : Key) (is : IsSome (get (rows_kept r.window s.catalogue.procedures (take r.position s.entries) r.position) k)). keys_fit w.tables (rows_after w log r.position) are k (subst (λ (rows : Rows). IsSome (get rows k)) same is) in
+    rows_shown s n r at ∙ ap (all_rows_text n r.position) (sym (list s.catalogue.procedures (take r.position s.entries) keeps.delivered keys ∙ ap entries same))
 
 -- all rows, and then the last line
 pub rows_given : {W T E : Type 0} (contents : W → Option (List ℕ)) (old mid new : PagedOutput W) (result : Result T E) (xs : List Row) (k : ℕ) (last : List ℕ) → length xs ≤ k → Passes contents old mid (concat (map row_text (take k xs)))

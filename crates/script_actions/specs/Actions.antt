@@ -2,11 +2,10 @@
 use Rattle.std.specs.Prelude.{◌≡◌, ℕ, zero, suc, Bool, true, false, List, [], ◌∷◌, Option, Some, None, option_map}
 use Rattle.std.specs.List.{concat}
 use Rattle.bpf_code.specs.Program.{max_slots}
-use Rattle.catalogue.specs.Catalogue.{by_name}
 use Rattle.dsm_model.specs.declared.outcome.Outcome.{Outcome}
 use Rattle.dsm_model.specs.declared.outcome.Outcome.TheVariants.{More, Delivered}
-use Rattle.log_model.specs.Log.{Setting}
-use Rattle.dsm_model.specs.World.{World, Step, Begin, Turn, Order, Deliver, Rebuild, IsStep, after_begin, numbered}
+use Rattle.log_model.specs.Log.{Setting, by_name, procedures_after}
+use Rattle.dsm_model.specs.World.{World, Step, Begin, Turn, Order, Deliver, Rebuild, IsStep, after_begin, numbered, position_of}
 use Rattle.script.specs.Script.{ScriptCommand}
 use Rattle.script.specs.declared.commands.Command.TheVariants as command
 use Rattle.script_actions.specs.Printed.{step_text, rows_text, log_text, entry_text}
@@ -56,14 +55,17 @@ Deliveries w before r most text after =
 abbrev pub OneStep : Setting → World → Step → List ℕ → World → Type 0
 OneStep w before step text after = (outcome : Outcome) × IsStep w before step outcome after × (text ≡ step_text w after.log step outcome)
 
--- a name that isn't in the catalogue is refused as a number that isn't, and no step is taken
+-- a name that no procedure has at the replica's position is refused as a number that none has, and no step is taken
 abbrev pub Begins : Setting → World → ℕ → List ℕ → Option ℕ → List ℕ → World → Type 0
-Begins w before r args (Some procedure) text after = OneStep w before (Begin r procedure args) text after
+Begins w before r args (Some procedure) text after = OneStep w before (Begin r procedure args None) text after
 Begins w before r args None text after =
-    (text ≡ step_text w before.log (Begin r 0 args) (after_begin before r 0 args (numbered before.replicas r) None).0) × (before ≡ after)
+    (text ≡ step_text w before.log (Begin r 0 args None) (after_begin before r 0 args None (numbered before.replicas r) None).0)
+    × (before ≡ after)
 
-abbrev pub number_of_name : Setting → List ℕ → Option ℕ
-number_of_name w name = option_map (λ p. p.number) (by_name w.catalogue name)
+-- the procedure of a name at a replica's position, by its number
+abbrev pub number_of_name : Setting → World → ℕ → List ℕ → Option ℕ
+number_of_name w world r name =
+    option_map (λ p. p.number) (by_name (procedures_after w world.log (position_of (numbered world.replicas r))) name)
 
 -- ---- a line
 
@@ -73,7 +75,7 @@ longest_run = max_slots
 
 -- what a line that acts prints, and the world after it; `exec` runs a call to its end
 unfoldable pub Does : Setting → World → ScriptCommand → List ℕ → World → Type 0
-Does w before (command.Begin r name args) text after = Begins w before r args (number_of_name w name) text after
+Does w before (command.Begin r name args) text after = Begins w before r args (number_of_name w before r name) text after
 Does w before (command.Turn call most) text after = Turns w before call most text after
 Does w before (command.Exec call) text after = Turns w before call longest_run text after
 Does w before (command.Order call) text after = OneStep w before (Order call) text after

@@ -1,13 +1,14 @@
 //! Steps of a world, each with the line of its answer.
 
-ghost use Rattle.std.specs.Prelude.{◌≡◌, ◌≤◌, IfOk, OnErr};
+ghost use Rattle.std.specs.Prelude.{◌≡◌, ◌≤◌, Some, IfOk, OnErr};
 ghost use Rattle.byte_output.specs.Pending.{output_of, Passes};
 ghost use Rattle.dsm_model.specs.declared.outcome.Outcome.{Outcome as ModelOutcome};
-ghost use Rattle.dsm_model.specs.World.{IsStep, Turn as TurnStep};
+ghost use Rattle.dsm_model.specs.World.{IsStep, Turn as TurnStep, numbered};
+ghost use Rattle.dsm_model.specs.Sound.{reply_of, told_by};
 ghost use Rattle.dsm_world.specs.System.{setting_of, world_of, step_of};
 ghost use Rattle.report.specs.Answers.{answer_line};
 ghost use Rattle.script.specs.declared.commands.Command.TheVariants as command;
-ghost use Rattle.script_actions.specs.Printed.{delivered_reply, step_text};
+ghost use Rattle.script_actions.specs.Printed.{delivered_entry, step_text};
 ghost use Rattle.script_actions.specs.Actions.{is_more, is_delivery, Turns};
 ghost use Rattle.script_actions.specs.Doing.{PassesBeginning, HasDone};
 
@@ -16,7 +17,9 @@ use crate::output::put_answer;
 use byte_output::paged::PagedOutput;
 use dsm_model::{Outcome, StepRefusal};
 use dsm_world::{Step, World};
-use report::{Line, begin_line, call_line, replica_line};
+use log_entry::Entry;
+use log_model::Verdict;
+use report::{DeliveredEntry, Line, begin_line, call_line, replica_line};
 use std::alloc::Allocator;
 use std::io::Write;
 
@@ -39,35 +42,61 @@ fn step<A: Allocator + Copy, W: Write>(
         (step_text (setting_of world.old) (world_of world.new).log (step_of step.entry) outcome)) }
 {
     let outcome = world.step(step);
-    let reply = delivered_reply(world, outcome);
-    put_answer(alloc, output, answer_line(step, outcome, reply))?;
+    let entry = delivered_entry(world, outcome);
+    put_answer(alloc, output, answer_line(step, outcome, entry))?;
     Ok(outcome)
 }
 
 /// The line of a step's answer.
-fn answer_line(step: Step<'_>, outcome: Outcome, reply: u64) -> Option<Line<'static>>
-    ensures { result ≡ answer_line (step_of step.entry) outcome reply }
+fn answer_line(step: Step<'_>, outcome: Outcome, entry: DeliveredEntry) -> Option<Line<'static>>
+    ensures { result ≡ answer_line (step_of step.entry) outcome entry }
 {
     match step {
         Step::Begin { replica, .. } => begin_line(replica, outcome),
         Step::Turn { call } => call_line(call, outcome),
         Step::Order { call } => call_line(call, outcome),
-        Step::Deliver { replica } => replica_line(replica, outcome, reply),
-        Step::Rebuild { replica } => replica_line(replica, outcome, reply),
+        Step::Deliver { replica } => replica_line(replica, outcome, entry),
+        Step::Rebuild { replica } => replica_line(replica, outcome, entry),
     }
 }
 
-/// The reply of the delivered call.
-fn delivered_reply<A: Allocator + Copy>(world: &World<A>, outcome: Outcome) -> u64
-    ensures { result ≡ delivered_reply (setting_of world.now) (world_of world.now).log outcome }
+/// What is said of the delivered entry.
+fn delivered_entry<A: Allocator + Copy>(world: &World<A>, outcome: Outcome) -> DeliveredEntry
+    ensures { result ≡ delivered_entry (setting_of world.now) (world_of world.now).log outcome }
 {
-    world.keeps_what_was_delivered();
-    let Outcome::Delivered { position, .. } = outcome else {
-        return 0;
+    let Outcome::Delivered { position, verdict } = outcome else {
+        return DeliveredEntry::Call { reply: None };
     };
     match world.entry(position) {
-        Some(entry) => entry.reply,
-        None => 0,
+        Some(Entry::Addition(added)) => DeliveredEntry::Addition {
+            procedure: added.number,
+        },
+        _ => DeliveredEntry::Call {
+            reply: told_reply(world, position, verdict),
+        },
+    }
+}
+
+/// The reply that the caller of the call at a position is told, by its verdict: its own where it commits, that of the
+/// earlier call where it is repeated.
+fn told_reply<A: Allocator + Copy>(world: &World<A>, position: u32, verdict: Verdict) -> Option<u64>
+    ensures { result ≡ told_by (setting_of world.now) (world_of world.now).log position (Some verdict) }
+{
+    match verdict {
+        Verdict::Commit => reply_at(world, position),
+        Verdict::Repeated(earlier) => reply_at(world, earlier),
+        _ => None,
+    }
+}
+
+/// The reply of the call at a position.
+fn reply_at<A: Allocator + Copy>(world: &World<A>, position: u32) -> Option<u64>
+    ensures { result ≡ reply_of (setting_of world.now) (world_of world.now).log (numbered (world_of world.now).log position) }
+{
+    world.keeps_what_was_delivered();
+    match world.entry(position) {
+        Some(Entry::Call(call)) => Some(call.reply),
+        _ => None,
     }
 }
 

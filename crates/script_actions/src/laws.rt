@@ -1,9 +1,11 @@
 //! What follows from what a line does.
 
-ghost use Rattle.std.specs.Prelude.{◌≡◌, ℕ, List, false};
+ghost use Rattle.std.specs.Prelude.{◌≡◌, ℕ, List, slice_get, Some, false};
 ghost use Rattle.dsm_model.specs.declared.outcome.Outcome.{Outcome};
 ghost use Rattle.dsm_model.specs.World.{World as ModelWorld, Turn};
 ghost use Rattle.dsm_world.specs.System.{setting_of, world_of};
+ghost use Rattle.replica.specs.Replica.{Replica as ReplicaState};
+ghost use Rattle.stored_procedures.specs.Held.{AreStored};
 ghost use Rattle.script.specs.declared.commands.Command.TheVariants as command;
 ghost use Rattle.script_actions.specs.Printed.{step_text};
 ghost use Rattle.script_actions.specs.Actions.{Does, is_more};
@@ -11,7 +13,10 @@ ghost use Rattle.script_actions.specs.Actions.{Does, is_more};
 use bpf_semantics::runs_are_short;
 use dsm_model::{open_calls_are_sound, steps_keep_a_world, turns_follow_the_run};
 use dsm_world::World;
+use log_model::procedures_are_never_lost;
+use replica::Replica;
 use std::alloc::Allocator;
+use stored_procedures::stored_procedures_are_consistent;
 
 /// No program runs more instructions than it has slots, so a call that is executed comes to its end: what is printed is
 /// never that there is more.
@@ -25,5 +30,16 @@ pub fn executions_end<A: Allocator + Copy>(world: &World<A>)
     open_calls_are_sound();
     steps_keep_a_world();
     runs_are_short();
+    procedures_are_never_lost();
+    procedures_are_stored(world.replicas());
     world.keeps_what_was_delivered();
+}
+
+/// What is known of all stored procedures holds of those of each replica.
+fn procedures_are_stored<A: Allocator + Copy>(replicas: &[Replica<A>])
+    ensures { (k : ℕ) (r : ReplicaState) → slice_get replicas.now k ≡ Some r → AreStored r.procedures }
+{
+    for replica in replicas {
+        stored_procedures_are_consistent(replica.procedures());
+    }
 }

@@ -2,17 +2,18 @@
 
 ghost use Rattle.std.specs.Prelude.{◌≡◌, ◌<◌, find, length, nat_lt, option_map, slice_get, Some};
 ghost use Rattle.byte_output.specs.Pending.{output_of};
-ghost use Rattle.log_model.specs.Log.{Call};
+ghost use Rattle.log_model.specs.Log.{Item};
+ghost use Rattle.log_entry.specs.Kind.{entry_of};
 ghost use Rattle.dsm_world.specs.System.{setting_of, world_of};
 ghost use Rattle.report.specs.Lines.{line_text};
-ghost use Rattle.script_actions.specs.Printed.{logged_text, log_text, entry_text};
+ghost use Rattle.script_actions.specs.Printed.{logged_entry, logged_text, log_text, entry_text};
 ghost use Rattle.script_actions.specs.Doing.{Gives};
 
 use crate::failure::Failure;
 use crate::output::put_line;
 use byte_output::paged::PagedOutput;
 use dsm_world::World;
-use log_entry::to_bytes;
+use log_entry::{Entry, to_bytes};
 use log_model::{a_log_only_grows, entries_suffice};
 use replica::{Replica, replicas_follow_the_log};
 use report::{Line, LoggedEntry};
@@ -39,8 +40,8 @@ pub(crate) fn put_log<A: Allocator + Copy, W: Write>(
 /// The line of the entry that has so many before it.
 fn logged<A: Allocator + Copy>(world: &World<A>, before: u32) -> Line<'static>
     requires { before < length world.now.entries }
-    ensures { (call : Call) → slice_get (world_of world.now).log before ≡ Some call
-        → line_text result ≡ logged_text (setting_of world.now) (world_of world.now) before call }
+    ensures { (item : Item) → slice_get (world_of world.now).log before ≡ Some item
+        → line_text result ≡ logged_text (setting_of world.now) (world_of world.now) before item }
 {
     a_log_only_grows();
     entries_suffice();
@@ -49,12 +50,7 @@ fn logged<A: Allocator + Copy>(world: &World<A>, before: u32) -> Line<'static>
     let Some(entry) = world.entry(before + 1) else {
         unreachable!()
     };
-    let entry = LoggedEntry {
-        position: before + 1,
-        procedure: entry.procedure,
-        snapshot: entry.snapshot,
-        writes: entry.writes.len(),
-    };
+    let entry = logged_entry(before + 1, entry);
     let Some(kept) = further_than(world.replicas(), before) else {
         return Line::Open(entry);
     };
@@ -63,6 +59,26 @@ fn logged<A: Allocator + Copy>(world: &World<A>, before: u32) -> Line<'static>
         entry,
         compared: certification.compared,
         verdict: certification.verdict,
+    }
+}
+
+/// What its line has of the entry at a position.
+fn logged_entry<A: Allocator + Copy>(position: u32, entry: &Entry<A>) -> LoggedEntry
+    ensures { result ≡ logged_entry position (entry_of entry.now) }
+{
+    match entry {
+        Entry::Call(call) => LoggedEntry {
+            position,
+            procedure: call.procedure,
+            snapshot: Some(call.snapshot),
+            writes: call.writes.len(),
+        },
+        Entry::Addition(added) => LoggedEntry {
+            position,
+            procedure: added.number,
+            snapshot: None,
+            writes: 0,
+        },
     }
 }
 

@@ -25,9 +25,9 @@ one_can : (w : Setting) (before : World) (step : Step) → CanDo (OneStep w befo
 one_can w before step = (step_text w (after_step w before step).1.log step (after_step w before step).0, (after_step w before step).1, ((after_step w before step).0, inl refl, refl))
 
 begin_can : (w : Setting) (before : World) (r : ℕ) (args : List ℕ) (o : Option ℕ) → CanDo (Begins w before r args o)
-begin_can w before r args (Some procedure) = one_can w before (Begin r procedure args)
+begin_can w before r args (Some procedure) = one_can w before (Begin r procedure args None)
 begin_can w before r args None =
-    (step_text w before.log (Begin r 0 args) (after_begin before r 0 args (numbered before.replicas r) None).0, before, (refl, refl))
+    (step_text w before.log (Begin r 0 args None) (after_begin before r 0 args None (numbered before.replicas r) None).0, before, (refl, refl))
 
 turns_can : (w : Setting) (before : World) (call most : ℕ) → CanDo (Turns w before call most)
 turns_can w before call most = let way = repeats_can w (Turn call) is_more most before in (last_line way.0, way.1, (way.0, way.2, refl))
@@ -42,7 +42,7 @@ can_do w before (command.Window window) e = absurd cc
 can_do w before (command.Replicas replicas) e = absurd cc
 can_do w before (command.Table table width) e = absurd cc
 can_do w before (command.Procedure name number args_len program) e = absurd cc
-can_do w before (command.Begin r name args) e = begin_can w before r args (number_of_name w name)
+can_do w before (command.Begin r name args) e = begin_can w before r args (number_of_name w before r name)
 can_do w before (command.Turn call most) e = turns_can w before call most
 can_do w before (command.Exec call) e = turns_can w before call longest_run
 can_do w before (command.Order call) e = one_can w before (Order call)

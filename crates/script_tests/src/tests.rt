@@ -168,13 +168,13 @@ fn begins_with(whole: &[u8], front: &[u8]) -> bool {
 const SETTINGS: usize = 4;
 
 /// How many lines of it show an entry, and what each of them says and prints.
-const ENTRIES: usize = 28;
+const ENTRIES: usize = 25;
 
 const ENTRY_LINE: &[u8] = b"entry 1\n";
 
-/// How many bytes are printed before the line for which the page of 4,096 bytes has no room: three short ones, and 25 of
-/// 159 bytes.
-const FIRST_PAGE: usize = 59 + 25 * 159;
+/// How many bytes are printed before the line for which the page of 4,096 bytes has no room: three short ones, and 22 of
+/// 177 bytes.
+const FIRST_PAGE: usize = 59 + 22 * 177;
 
 /// How many bytes of the script stand behind that line.
 const BEHIND_FIRST_PAGE: usize = 2 * 8;

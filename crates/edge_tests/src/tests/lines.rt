@@ -1,6 +1,8 @@
-use dsm_model::{Outcome, StepRefusal};
-use log_model::Verdict;
-use report::{CallReport, Line, LoggedEntry, ReplicaReport, call_line, line};
+use abs_cause::Cause;
+use bpf_code::{DecodeCause, DecodeFault};
+use dsm_model::{Outcome, ProgramFault, StepRefusal};
+use log_model::{Identifier, Verdict};
+use report::{CallReport, DeliveredEntry, Line, LoggedEntry, ReplicaReport, add_line, call_line, line};
 use scarce::Scarce;
 use std::test::Fail;
 
@@ -17,8 +19,18 @@ fn logged(position: u32) -> LoggedEntry {
     LoggedEntry {
         position,
         procedure: 1,
-        snapshot: 0,
+        snapshot: Some(0),
         writes: 1,
+    }
+}
+
+/// The addition of procedure 9 at a position.
+fn logged_addition(position: u32) -> LoggedEntry {
+    LoggedEntry {
+        position,
+        procedure: 9,
+        snapshot: None,
+        writes: 0,
     }
 }
 
@@ -81,6 +93,10 @@ fn calls_have_their_lines(rt: HostRuntime) -> Result<(), Fail> {
             call(1, CallReport::Refused(StepRefusal::TooManyCalls)),
             "call 1 refused P10\n",
         ),
+        (
+            Line::BeginRefused(StepRefusal::ZeroInRequest),
+            "begin refused P13\n",
+        ),
     ];
     for (row, text) in rows {
         assert_eq!(rt; line(rt.alloc(), &row)?.as_slice(), text.as_bytes());
@@ -96,20 +112,41 @@ fn replicas_have_their_lines(rt: HostRuntime) -> Result<(), Fail> {
     let delivered = |position, verdict, reply| ReplicaReport::Delivered {
         position,
         verdict,
-        reply,
+        entry: DeliveredEntry::Call { reply },
+    };
+    let addition = |position, verdict| ReplicaReport::Delivered {
+        position,
+        verdict,
+        entry: DeliveredEntry::Addition { procedure: 9 },
     };
     let rows = [
         (
-            replica(1, delivered(1, Verdict::Commit, 10)),
+            replica(1, delivered(1, Verdict::Commit, Some(10))),
             "replica 1 number 1 commit reply 10\n",
         ),
         (
-            replica(1, delivered(2, Verdict::Conflict(1), 7)),
+            replica(1, delivered(2, Verdict::Conflict(1), None)),
             "replica 1 number 2 conflict 1\n",
         ),
         (
-            replica(1, delivered(4, Verdict::Stale, 7)),
+            replica(1, delivered(4, Verdict::Stale, None)),
             "replica 1 number 4 stale\n",
+        ),
+        (
+            replica(1, delivered(2, Verdict::Repeated(1), Some(10))),
+            "replica 1 number 2 repeat 1 reply 10\n",
+        ),
+        (
+            replica(1, addition(1, Verdict::Commit)),
+            "replica 1 number 1 added 9\n",
+        ),
+        (
+            replica(1, addition(2, Verdict::Taken(Identifier::Name))),
+            "replica 1 number 2 taken C1\n",
+        ),
+        (
+            replica(1, addition(3, Verdict::Taken(Identifier::Number))),
+            "replica 1 number 3 taken C2\n",
         ),
         (
             replica(2, ReplicaReport::Rebuilt { position: 2 }),
@@ -159,10 +196,15 @@ fn entries_have_their_lines(rt: HostRuntime) -> Result<(), Fail> {
         compared,
         verdict,
     };
+    let addition = |position, verdict| Line::Certified {
+        entry: logged_addition(position),
+        compared: 0,
+        verdict,
+    };
     let widest = LoggedEntry {
         position: 1_048_576,
         procedure: 65_535,
-        snapshot: 1_048_575,
+        snapshot: Some(1_048_575),
         writes: 100_000,
     };
     let rows = [
@@ -177,6 +219,22 @@ fn entries_have_their_lines(rt: HostRuntime) -> Result<(), Fail> {
         (
             certified(4, 0, Verdict::Stale),
             "      4     1       0     1     0 stale\n",
+        ),
+        (
+            certified(2, 0, Verdict::Repeated(1)),
+            "      2     1       0     1     0 repeat 1\n",
+        ),
+        (
+            addition(1, Verdict::Commit),
+            "      1     9       -     0     0 added\n",
+        ),
+        (
+            addition(2, Verdict::Taken(Identifier::Name)),
+            "      2     9       -     0     0 taken C1\n",
+        ),
+        (
+            Line::Open(logged_addition(1)),
+            "      1     9       -     0     - open\n",
         ),
         (
             Line::Open(logged(3)),
@@ -205,6 +263,47 @@ fn entries_have_their_lines(rt: HostRuntime) -> Result<(), Fail> {
     for (row, text) in rows {
         assert_eq!(rt; line(rt.alloc(), &row)?.as_slice(), text.as_bytes());
     }
+    Ok(())
+}
+
+#[test]
+fn additions_have_their_lines(rt: HostRuntime) -> Result<(), Fail> {
+    let bytes = DecodeFault {
+        cause: DecodeCause::Length,
+        slot: 0,
+    };
+    let instruction = ProgramFault::Instruction {
+        slot: 6,
+        cause: Cause::Uninitialised,
+    };
+    let rows = [
+        (Line::Added { position: 1 }, "add number 1\n"),
+        (
+            Line::AddRefused(StepRefusal::ArgumentsLimit),
+            "add refused P11 args\n",
+        ),
+        (
+            Line::AddRefused(StepRefusal::ProgramRefused(ProgramFault::Bytes(bytes))),
+            "add refused P11 B1 slot 0\n",
+        ),
+        (
+            Line::AddRefused(StepRefusal::ProgramRefused(instruction)),
+            "add refused P11 V5 slot 6\n",
+        ),
+        (
+            Line::AddRefused(StepRefusal::NameShape),
+            "add refused P12\n",
+        ),
+        (
+            Line::AddRefused(StepRefusal::OutOfMemory),
+            "add refused P9\n",
+        ),
+    ];
+    for (row, text) in rows {
+        assert_eq!(rt; line(rt.alloc(), &row)?.as_slice(), text.as_bytes());
+    }
+    assert!(rt; add_line(Outcome::Added { position: 1 }).is_some());
+    assert!(rt; add_line(Outcome::Rebuilt { position: 1 }).is_none());
     Ok(())
 }
 

@@ -1,9 +1,9 @@
 //! Worlds that are drawn from a seed: what was done to one, and what it answered.
 
 use super::{CANCEL_CODE, CANCEL_NUMBER, PROCEDURE_COUNT, READ_NUMBER, catalogue_of, procedure_at};
-use dsm_model::Outcome;
+use dsm_model::{Outcome, StepRefusal};
 use dsm_world::{Step, World};
-use log_model::Verdict;
+use log_model::{Identifier, Verdict};
 use rand_core::utils::NextWord;
 use rand_pcg::Pcg32;
 use scarce::Scarce;
@@ -11,7 +11,7 @@ use std::alloc::Global;
 use std::test::Fail;
 
 /// How many kinds of outcomes there are.
-pub(super) const KINDS: usize = 22;
+pub(super) const KINDS: usize = 29;
 
 /// Where an outcome is counted.
 fn kind_of(outcome: Outcome) -> usize {
@@ -22,15 +22,41 @@ fn kind_of(outcome: Outcome) -> usize {
         Outcome::Stale => 3,
         Outcome::NoMemory => 4,
         Outcome::Ordered { .. } => 5,
-        Outcome::Delivered { verdict, .. } => match verdict {
-            Verdict::Commit => 6,
-            Verdict::Conflict(_) => 7,
-            Verdict::Stale => 8,
-        },
-        Outcome::Rebuilt { .. } => 9,
-        Outcome::Read { .. } => 10,
-        Outcome::Cancelled { .. } => 11,
-        Outcome::Refused(refusal) => (refusal as usize).wrapping_add(12),
+        Outcome::Delivered { verdict, .. } => kind_of_verdict(verdict),
+        Outcome::Rebuilt { .. } => 12,
+        Outcome::Read { .. } => 13,
+        Outcome::Cancelled { .. } => 14,
+        Outcome::Added { .. } => 15,
+        Outcome::Refused(refusal) => kind_of_refusal(refusal),
+    }
+}
+
+fn kind_of_verdict(verdict: Verdict) -> usize {
+    match verdict {
+        Verdict::Commit => 6,
+        Verdict::Conflict(_) => 7,
+        Verdict::Stale => 8,
+        Verdict::Repeated(_) => 9,
+        Verdict::Taken(Identifier::Name) => 10,
+        Verdict::Taken(Identifier::Number) => 11,
+    }
+}
+
+fn kind_of_refusal(refusal: StepRefusal) -> usize {
+    match refusal {
+        StepRefusal::NoReplica => 16,
+        StepRefusal::NoProcedure => 17,
+        StepRefusal::ArgumentsLength => 18,
+        StepRefusal::NoCall => 19,
+        StepRefusal::NotAtExit => 20,
+        StepRefusal::NothingToDeliver => 21,
+        StepRefusal::ReplicaStopped => 22,
+        StepRefusal::LogFull => 23,
+        StepRefusal::OutOfMemory => 24,
+        StepRefusal::TooManyCalls => 25,
+        StepRefusal::ArgumentsLimit | StepRefusal::ProgramRefused(_) => 26,
+        StepRefusal::NameShape => 27,
+        StepRefusal::ZeroInRequest => 28,
     }
 }
 

@@ -3,13 +3,23 @@
 ghost use Rattle.std.specs.Prelude.{◌<◌, ◌^◌, length};
 
 use super::drawn::{DrawnWorld, History, KINDS, new_world};
-use dsm_replayer::{CallReport, CompletedReplay, PlainCall, Row, replay_log};
+use dsm_replayer::{
+    CompletedReplay, ItemReport, PlainCall, PlainItem, PlainItemKind, Row, replay_log,
+};
 use dsm_world::World;
+use log_entry::Entry;
+use log_model::RequestId;
 use replica::Replica;
 use sample_procedures::setting_of;
 use scarce::Scarce;
 use std::alloc::Global;
 use std::test::Fail;
+
+/// The request of a call that carries none.
+const NO_REQUEST: RequestId = RequestId {
+    session: 0,
+    sequence: 0,
+};
 
 /// How many worlds are drawn.
 const WORLDS: u64 = 320;
@@ -32,32 +42,38 @@ enum Difference {
 }
 
 /// The log, which is short in these tests.
-fn short(log: &[PlainCall]) -> &[PlainCall]
+fn short(log: &[PlainItem]) -> &[PlainItem]
     ensures { length result.now < 2 ^ 32 }
 {
     if log.len() < 10_000 { log } else { &[] }
 }
 
 /// The calls that were ordered, as the plain replayer takes them.
-fn log_of(alloc: Global, history: &History) -> Result<Vec<PlainCall>, Fail> {
+fn log_of(alloc: Global, history: &History) -> Result<Vec<PlainItem>, Fail> {
     let mut log = Vec::new(alloc);
     for number in &history.ordered {
         let Some(call) = history.call(*number) else {
             return Ok(log);
         };
         let args = Vec::from_slice(alloc, &call.args)?;
-        log.push(PlainCall::new(*number, call.procedure, args, call.snapshot))?;
+        let call = PlainCall::new(*number, call.procedure, args, call.snapshot, NO_REQUEST);
+        log.push(PlainItem {
+            kind: PlainItemKind::Call(call),
+        })?;
     }
     Ok(log)
 }
 
 /// Whether each ordered call answered the reply of its run in the replay, and stands with it in the world's log.
-fn has_replies(world: &World<&Scarce>, history: &History, reports: &[CallReport]) -> bool {
+fn has_replies(world: &World<&Scarce>, history: &History, reports: &[ItemReport]) -> bool {
     let mut position = 0u32;
     for (number, report) in history.ordered.iter().zip(reports) {
         position = position.wrapping_add(1);
         let reply = history.reply_of(*number);
-        let logged = world.entry(position).map(|entry| entry.reply);
+        let logged = match world.entry(position) {
+            Some(Entry::Call(call)) => Some(call.reply),
+            _ => None,
+        };
         if reply != Some(report.reply()) || logged != reply {
             return false;
         }
@@ -90,7 +106,7 @@ fn has_reads(history: &History, replay: &CompletedReplay) -> bool {
 }
 
 /// Whether each delivery told the verdict of the replay.
-fn has_verdicts(history: &History, reports: &[CallReport]) -> bool {
+fn has_verdicts(history: &History, reports: &[ItemReport]) -> bool {
     for (position, verdict) in &history.delivered {
         let report = reports.get((*position as usize).wrapping_sub(1));
         if report.map(|report| report.verdict()) != Some(*verdict) {
@@ -101,7 +117,7 @@ fn has_verdicts(history: &History, reports: &[CallReport]) -> bool {
 }
 
 /// Whether a replica is at the end of the log, and says of each call what the replay says.
-fn says_the_same(replica: &Replica<&Scarce>, reports: &[CallReport]) -> bool {
+fn says_the_same(replica: &Replica<&Scarce>, reports: &[ItemReport]) -> bool {
     let last = replica.position();
     let mut position = 0u32;
     for report in reports {
@@ -209,7 +225,7 @@ fn worlds_come_to_what_the_plain_replay_says(rt: HostRuntime) -> Result<(), Fail
         assert_eq!(rt; found, Difference::None, "seed {seed}");
     }
     let common = kinds.iter().filter(|count| **count > 100).count();
-    // All but a full log and too many calls.
-    assert_eq!(rt; common, KINDS - 2, "{kinds:?}");
+    // All but a full log and too many calls, and the seven kinds that only additions and requests have.
+    assert_eq!(rt; common, KINDS - 9, "{kinds:?}");
     Ok(())
 }

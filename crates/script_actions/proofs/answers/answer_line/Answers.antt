@@ -1,13 +1,13 @@
-use Rattle.std.proofs.Common.{[], sym, ap, ◌∙◌}
+use Rattle.std.proofs.Common.{[], None, sym, ap, ◌∙◌}
 use Rattle.dsm_world.specs.System.{step_of}
 use Rattle.report.specs.Answers.{answer_line}
 use Rattle.script_actions.proofs.answers.answer_line.Goals as goal
 
 pub returns-in-Begin : goal.returns-in-Begin
-returns-in-Begin c = c.begin_line.ensures 0 [] c.args.reply ∙ ap (λ s. answer_line (step_of s) c.args.outcome c.args.reply) (sym c.in-Begin.is)
+returns-in-Begin c = c.begin_line.ensures 0 [] None c.args.entry ∙ ap (λ s. answer_line (step_of s) c.args.outcome c.args.entry) (sym c.in-Begin.is)
 
 pub returns-in-Turn : goal.returns-in-Turn
-returns-in-Turn c = c.call_line.ensures.turn c.args.reply ∙ ap (λ s. answer_line (step_of s) c.args.outcome c.args.reply) (sym c.in-Turn.is)
+returns-in-Turn c = c.call_line.ensures.turn c.args.entry ∙ ap (λ s. answer_line (step_of s) c.args.outcome c.args.entry) (sym c.in-Turn.is)
 
 pub returns-in-Order : goal.returns-in-Order
-returns-in-Order c = c.call_line-in-Order.ensures.order c.args.reply ∙ ap (λ s. answer_line (step_of s) c.args.outcome c.args.reply) (sym c.in-Order.is)
+returns-in-Order c = c.call_line-in-Order.ensures.order c.args.entry ∙ ap (λ s. answer_line (step_of s) c.args.outcome c.args.entry) (sym c.in-Order.is)

@@ -6,12 +6,13 @@ use Rattle.dsm_world.specs.System.{setting_of, world_of, progress_of}
 use Rattle.dsm_world.proofs.Numbered.{numbered_map}
 use Rattle.replica.specs.Replica.{Replica as ReplicaState}
 use Rattle.report.specs.Answers.{text_of}
+use Rattle.report.specs.declared.printed.DeliveredEntry.TheVariants as delivered
 use Rattle.script.specs.declared.commands.Command.TheVariants as command
 use Rattle.script_actions.specs.Actions.{number_of_name}
 use Rattle.script_actions.specs.Printed.{step_text}
 use Rattle.script_actions.specs.Doing.{Gives}
 use Rattle.script_actions.proofs.GivenLemmas.{gives_done}
-use Rattle.script_actions.proofs.DoneLemmas.{begins, begins_unnamed, begins_nowhere}
+use Rattle.script_actions.proofs.DoneLemmas.{named_at, begins, begins_unnamed, begins_nowhere}
 use Rattle.script_actions.proofs.answers.begin.Goals as goal
 
 pub returns-in_default-clause-done : goal.returns-in_default-clause-done
@@ -21,27 +22,31 @@ returns-in_default-clause-done g c =
     let none = numbered_map progress_of c.args.world.now.replicas c.args.replica ∙ ap (λ (o : Option ReplicaState). option_map progress_of o) (sym c.in_default.ensures) in
     gives_done g.W.Write.contents w before (command.Begin c.args.replica c.args.name.now c.args.args.now) c.args.output.now c.put_answer.new.output c.put_answer.result before _
     (begins_nowhere w before c.args.replica c.args.name.now c.args.args.now none)
-    (subst (Gives g.W.Write.contents c.args.output.now c.put_answer.new.output c.put_answer.result) (ap text_of (c.begin_line.ensures 0 c.args.args.now 0)) c.put_answer.ensures.given)
+    (subst (Gives g.W.Write.contents c.args.output.now c.put_answer.new.output c.put_answer.result) (ap text_of (c.begin_line.ensures 0 c.args.args.now None (delivered.Call None))) c.put_answer.ensures.given)
 
 pub returns-in_default-by_name-clause-done : goal.returns-in_default-by_name-clause-done
 returns-in_default-by_name-clause-done g c =
     let w = setting_of c.args.world.now in
     let before = world_of c.args.world.now in
     let there = numbered_map progress_of c.args.world.now.replicas c.args.replica ∙ ap (λ (o : Option ReplicaState). option_map progress_of o) (sym c.in-Some.ensures) in
-    let named : number_of_name w c.args.name.now ≡ None = sym (c.in_default-by_name.ensures.there (subst IsSome c.in-Some.ensures refl)) in
+    let named : number_of_name w before c.args.replica c.args.name.now ≡ None =
+    named_at w before c.args.replica c.args.name.now _ None there (c.in_default-by_name.ensures.there c.in-Some.kept.now (sym c.in-Some.ensures)) in
     gives_done g.W.Write.contents w before (command.Begin c.args.replica c.args.name.now c.args.args.now) c.args.output.now c.put_answer-in_default-by_name.new.output c.put_answer-in_default-by_name.result before _
     (begins_unnamed w before c.args.replica c.args.name.now c.args.args.now _ named there)
-    (subst (Gives g.W.Write.contents c.args.output.now c.put_answer-in_default-by_name.new.output c.put_answer-in_default-by_name.result) (ap text_of (c.begin_line-in_default-by_name.ensures 0 c.args.args.now 0)) c.put_answer-in_default-by_name.ensures.given)
+    (subst (Gives g.W.Write.contents c.args.output.now c.put_answer-in_default-by_name.new.output c.put_answer-in_default-by_name.result) (ap text_of (c.begin_line-in_default-by_name.ensures 0 c.args.args.now None (delivered.Call None))) c.put_answer-in_default-by_name.ensures.given)
 
 pub returns-in_err-step-clause-done : goal.returns-in_err-step-clause-done
 returns-in_err-step-clause-done g c =
     let w = setting_of c.args.world.now in
     let after = world_of c.step.new.world in
     let f = c.in_err-step.ensures.failed in
-    let named : number_of_name w c.args.name.now ≡ Some c.in-Some-by_name.procedure = sym (c.in-Some-by_name.ensures.there (subst IsSome c.in-Some.ensures refl)) in
+    let before = world_of c.args.world.now in
+    let there = numbered_map progress_of c.args.world.now.replicas c.args.replica ∙ ap (λ (o : Option ReplicaState). option_map progress_of o) (sym c.in-Some.ensures) in
+    let named : number_of_name w before c.args.replica c.args.name.now ≡ Some c.in-Some-by_name.procedure =
+    named_at w before c.args.replica c.args.name.now _ (Some c.in-Some-by_name.procedure) there (c.in-Some-by_name.ensures.there c.in-Some.kept.now (sym c.in-Some.ensures)) in
     let q = err_from_is_err_and c.from_residual.result c.from_residual.ensures.1 in
     rw q.1 (
-      step_text w after.log (Begin c.args.replica c.in-Some-by_name.procedure c.args.args.now) f.0,
+      step_text w after.log (Begin c.args.replica c.in-Some-by_name.procedure c.args.args.now None) f.0,
       after,
       begins w (world_of c.args.world.now) c.args.replica c.args.name.now c.args.args.now c.in-Some-by_name.procedure f.0 after named f.1,
       f.2,
@@ -52,8 +57,11 @@ returns-clause-done g c =
     let w = setting_of c.args.world.now in
     let after = world_of c.step.new.world in
     let s = c.in_ok-step.ensures.stepped in
-    let named : number_of_name w c.args.name.now ≡ Some c.in-Some-by_name.procedure = sym (c.in-Some-by_name.ensures.there (subst IsSome c.in-Some.ensures refl)) in (
-      step_text w after.log (Begin c.args.replica c.in-Some-by_name.procedure c.args.args.now) c.in_ok-step.field-0,
+    let before = world_of c.args.world.now in
+    let there = numbered_map progress_of c.args.world.now.replicas c.args.replica ∙ ap (λ (o : Option ReplicaState). option_map progress_of o) (sym c.in-Some.ensures) in
+    let named : number_of_name w before c.args.replica c.args.name.now ≡ Some c.in-Some-by_name.procedure =
+    named_at w before c.args.replica c.args.name.now _ (Some c.in-Some-by_name.procedure) there (c.in-Some-by_name.ensures.there c.in-Some.kept.now (sym c.in-Some.ensures)) in (
+      step_text w after.log (Begin c.args.replica c.in-Some-by_name.procedure c.args.args.now None) c.in_ok-step.field-0,
       begins w (world_of c.args.world.now) c.args.replica c.args.name.now c.args.args.now c.in-Some-by_name.procedure c.in_ok-step.field-0 after named s.0,
       s.1,
     )

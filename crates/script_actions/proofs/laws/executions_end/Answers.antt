@@ -4,11 +4,13 @@ use Rattle.script_actions.proofs.laws.executions_end.Goals as goal
 
 pub returns : goal.returns
 returns g c = λ call text after does.
-    let w = setting_of c.args.world.now in
+    let s = c.args.world.now in
+    let w = setting_of s in
     let known = c.keeps_what_was_delivered.ensures in
     execution_ends w (record {
       keeps = c.steps_keep_a_world.ensures.step w;
       sound = λ world n o is e. c.open_calls_are_sound.ensures w world n o known.procedures is e;
       more = c.turns_follow_the_run.ensures.more w;
-      short = short_programs c.args.world.now.catalogue known.catalogue c.runs_are_short.ensures.instructions;
-    }) (world_of c.args.world.now) call text after known.world does
+      kept = c.procedures_are_never_lost.ensures w;
+    }) (world_of s) call text after known.world
+    (short_programs s c.procedures_are_stored.ensures known.replicas c.runs_are_short.ensures.instructions) does

@@ -2,7 +2,7 @@ use Rattle.std.proofs.Common.{subst, sym, ◌∙◌, refl, arith}
 use Rattle.std.proofs.lemmas.Result.{err_from_is_err_and}
 use Rattle.byte_output.specs.Pending.{Passes}
 use Rattle.dsm_world.specs.System.{setting_of, world_of}
-use Rattle.dsm_world.proofs.EntryLemmas.{calls_count}
+use Rattle.dsm_world.proofs.EntryLemmas.{items_count}
 use Rattle.dsm_world.proofs.Numbered.{get_within}
 use Rattle.script_actions.specs.Doing.{PassesBeginning, Gives}
 use Rattle.script_actions.proofs.PrintedLemmas.{no_lines, one_more_line, line_breaks, log_given}
@@ -16,7 +16,7 @@ loop-before-preserved g c =
     let w = setting_of c.args.world.now in
     let world = world_of c.args.world.now in
     let before = c.loop-before.before in
-    let count = calls_count c.args.world.now.entries in
+    let count = items_count c.args.world.now.entries in
     let len = c.log_len-entries.ensures in
     let there = get_within world.log before (omega arith) in (
       one_more_line g.W.Write.contents w world before there.0 c.args.output.now c.loop-before.output c.put_line.new.output c.loop-before.invariant.0 there.1
@@ -32,7 +32,7 @@ returns-in_err-put_line-clause-given g c =
     let w = setting_of c.args.world.now in
     let world = world_of c.args.world.now in
     let before = c.loop-before.before in
-    let count = calls_count c.args.world.now.entries in
+    let count = items_count c.args.world.now.entries in
     let len = c.log_len-entries.ensures in
     let there = get_within world.log before (omega arith) in
     let q = err_from_is_err_and c.from_residual.result c.from_residual.ensures.1 in
@@ -46,7 +46,7 @@ pub returns-clause-given : goal.returns-clause-given
 returns-clause-given g c =
     let w = setting_of c.args.world.now in
     let world = world_of c.args.world.now in
-    let count = calls_count c.args.world.now.entries in
+    let count = items_count c.args.world.now.entries in
     let len = c.log_len-entries.ensures in
     log_given g.W.Write.contents w world c.loop-before.before c.args.output.now c.loop-before.output c.put_line-2.new.output c.put_line-2.result c.loop-before.invariant.0 (omega arith)
     (subst (λ n. Gives g.W.Write.contents c.loop-before.output c.put_line-2.new.output c.put_line-2.result (Rattle.report.specs.Lines.line_text (Rattle.report.specs.declared.printed.Line.TheVariants.Log n))) (len ∙ sym count) c.put_line-2.ensures.given)

@@ -28,7 +28,7 @@ returns-in_err-put_line-clause-given g c =
     let keeps = c.keeps_what_was_delivered.ensures.replicas c.args.replica r at in
     let items = c.deref-row-items.result.now in
     let value = c.deref-row-items.ensures.value in
-    let listed = rows_listed c.a_log_only_grows.ensures.rows c.entries_suffice.ensures.rows c.rows_fit_the_schema.ensures s c.args.replica r items at keeps (λ past stands keys. value ∙ c.in_ok-rows.ensures past stands keys) in
+    let listed = rows_listed c.a_log_only_grows.ensures.rows c.entries_suffice.ensures.rows c.rows_fit_the_schema.ensures s c.args.replica r items at keeps (λ base past stands keys. value ∙ c.in_ok-rows.ensures base past stands keys) in
     let x = c.row-item.result in
     let there = get_is c.deref-row-items.result.now c.loop-row.row-index x c.loop-row-test.true c.row-item.is in
     let text : row_words c.table.result c.key.result c.bytes.result.now ++ codes "\n" ≡ row_text x =
@@ -58,7 +58,7 @@ returns-clause-given g c =
     let keeps = c.keeps_what_was_delivered.ensures.replicas c.args.replica r at in
     let items = c.deref-row-items.result.now in
     let value = c.deref-row-items.ensures.value in
-    let listed = rows_listed c.a_log_only_grows.ensures.rows c.entries_suffice.ensures.rows c.rows_fit_the_schema.ensures s c.args.replica r items at keeps (λ past stands keys. value ∙ c.in_ok-rows.ensures past stands keys) in
+    let listed = rows_listed c.a_log_only_grows.ensures.rows c.entries_suffice.ensures.rows c.rows_fit_the_schema.ensures s c.args.replica r items at keeps (λ base past stands keys. value ∙ c.in_ok-rows.ensures base past stands keys) in
     let count : c.len.result ≡ length items = (let len = c.len.ensures in let same = ap (λ (xs : List (Key × List ℕ)). length xs) value in omega arith) in
     let last : line_text (line.Replica c.args.replica (report.Rows c.position.result c.len.result)) ≡ line_text (line.Replica c.args.replica (report.Rows r.position (length items))) =
     ap (λ n. line_text (line.Replica c.args.replica (report.Rows n c.len.result))) c.position.ensures ∙ ap (λ n. line_text (line.Replica c.args.replica (report.Rows r.position n))) count in
