@@ -30,10 +30,10 @@ pub repeated_told : (w : Setting) (log : Log) (d : ℕ) (call : Call) (earlier :
     → (reply : ℕ) × (told_reply w log (suc d) ≡ Some reply) × IsSerialReply w log earlier reply
 repeated_told w log d call earlier safe below items at verdict =
     let is = (repeated_means w log d call earlier below at).0 verdict in
-    let one = serial_reply w log is.before is.first safe below items is.stands (ap (verdict_of w log) (sym is.place) ∙ is.committed) in
+    let run = serial_run w log is.before is.first safe below items is.stands (ap (verdict_of w log) (sym is.place) ∙ is.committed) in
     ((run_in w log is.first).reply,
     ap (told_by w log (suc d)) verdict ∙ ap (λ (n : ℕ). reply_of w log (numbered log n)) is.place ∙ ap (reply_of w log) is.stands,
-    record { before = is.before; place = is.place; call = is.first; stands = is.stands; serial = one.serial })
+    record { before = is.before; place = is.place; call = is.first; stands = is.stands; serial = ap (λ (r : Run). r.reply) run })
 
 untold_by : (w : Setting) (log : Log) (position : ℕ) (v : Option Verdict) → v ≢ Some Commit → ((earlier : ℕ) → v ≢ Some (Repeated earlier)) → told_by w log position v ≡ None
 untold_by w log position None f g = refl

@@ -1,5 +1,6 @@
 -- The lines of a log, by what replicas keep.
-use Rattle.std.proofs.Common.{◌≡◌, ℕ, suc, ◌+◌, ◌<◌, ◌≤◌, Bool, true, false, cond, ◌||◌, find, nat_lt, List, [], ◌∷◌, length, map, take, slice_get, Option, Some, None, refl, sym, ap, subst, ◌∙◌}
+use Rattle.std.proofs.Common.{◌≡◌, ℕ, suc, ◌+◌, ◌<◌, ◌≤◌, Bool, true, false, cond, ◌||◌, find, nat_lt, List, [], ◌∷◌, length, map, take, drop, slice_get, arith, Option, Some, None, refl, sym, ap, subst, ◌∙◌}
+use Rattle.std.proofs.lemmas.Bool.Decides.{nat_tests}
 use Rattle.std.specs.List.{list_any}
 use Rattle.std.specs.Prelude.{option_map}
 use Rattle.log_model.specs.declared.verdict.Verdict.{Verdict}
@@ -12,7 +13,7 @@ use Rattle.dsm_world.proofs.Numbered.{get_map}
 use Rattle.report.specs.declared.printed.Line.TheVariants as line
 use Rattle.report.specs.Lines.{line_text}
 use Rattle.script_actions.specs.Printed.{entry_of, logged_entry, compared_count, is_delivered, certified_line, logged_text}
-use Rattle.script_actions.proofs.PrintedLemmas.{is_entry, carries, VerdictsGrow, VerdictsFollow, VerdictsSuffice, verdict_there, compared_there}
+use Rattle.script_actions.proofs.PrintedLemmas.{drop_next, is_entry, carries, VerdictsGrow, VerdictsFollow, VerdictsSuffice, verdict_there, compared_there}
 
 -- ---- whether some replica has come further
 
@@ -21,6 +22,20 @@ further before r = nat_lt before r.position
 
 abbrev some_further : ℕ → List Replica → Bool
 some_further before replicas = list_any (λ (p : Progress). nat_lt before p.position) (map progress_of replicas)
+
+-- the first that has, of those from a place on
+pub found_next : (before : ℕ) (replicas : List Replica) (k : ℕ) (r : Replica) → slice_get replicas k ≡ Some r
+    → find (further before) (drop k replicas) ≡ cond (nat_lt before r.position) (Some r) (find (further before) (drop (k + 1) replicas))
+found_next before replicas k r at =
+    let next : suc k ≡ k + 1 = omega arith in
+    ap (λ (rs : List Replica). find (further before) rs) (drop_next replicas k r at)
+    ∙ ap (λ (n : ℕ). cond (nat_lt before r.position) (Some r) (find (further before) (drop n replicas))) next
+
+pub is_further : (m n : ℕ) → m < n → nat_lt m n ≡ true
+is_further m n lt = grind (arith, nat_tests)
+
+pub is_not_further : (m n : ℕ) → n ≤ m → nat_lt m n ≡ false
+is_not_further m n le = grind (arith, nat_tests)
 
 -- it is one of them, it has, and so some has
 pub record IsFurther (before : ℕ) (replicas : List Replica) (r : Replica) : Type 0 where

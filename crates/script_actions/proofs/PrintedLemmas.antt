@@ -198,7 +198,7 @@ pub record HaveLines {W : Type 0} (contents : W → Option (List ℕ)) (w : Sett
 pub no_lines : {W : Type 0} (contents : W → Option (List ℕ)) (w : Setting) (world : World) (old : PagedOutput W) → HaveLines contents w world 0 old old
 no_lines contents w world old = record { done = []; given = nothing_given contents old; all = refl }
 
-drop_next : {X : Type 0} (xs : List X) (k : ℕ) (x : X) → slice_get xs k ≡ Some x → drop k xs ≡ x ∷ drop (suc k) xs
+pub drop_next : {X : Type 0} (xs : List X) (k : ℕ) (x : X) → slice_get xs k ≡ Some x → drop k xs ≡ x ∷ drop (suc k) xs
 drop_next [] k x e = absurd cc
 drop_next (y ∷ xs) zero x e = cc
 drop_next (y ∷ xs) (suc k) x e = drop_next xs k x e

@@ -146,10 +146,10 @@ fewer_than_slots w laws before c after is short on =
     let sound = laws.sound after c (further on.0) is (still_open w before c after on) in
     let more = subst (λ (l : Log). on.0.turns + 1 < (run_in w l on.0.call).steps) log on.2 in
     let path = within_path w after.log (further on.0) sound more in
-    let open = is.open_calls c (further on.0) (still_open w before c after on) in
-    let found = laws.kept after.log on.0.call.snapshot open.replica.position on.0.call.procedure sound.is_call.procedure
-    is.log open.begun (is.positions on.0.replica open.replica open.stands) sound.is_call.known in
-    let few = short on.0.replica on.0.call.procedure open.replica sound.is_call.procedure open.stands found in
+    let here = is.open_calls c (further on.0) (still_open w before c after on) in
+    let found = laws.kept after.log on.0.call.snapshot here.replica.position on.0.call.procedure sound.is_call.procedure
+    is.log here.begun (is.positions on.0.replica here.replica here.stands) sound.is_call.known in
+    let few = short on.0.replica on.0.call.procedure here.replica sound.is_call.procedure here.stands found in
     omega arith
 
 -- ---- turns, as long as there is more

@@ -47,14 +47,15 @@ fn logged<A: Allocator + Copy>(world: &World<A>, before: u32) -> Line<'static>
     entries_suffice();
     replicas_follow_the_log();
     world.keeps_what_was_delivered();
-    let Some(entry) = world.entry(before + 1) else {
+    let position = before + 1;
+    let Some(entry) = world.entry(position) else {
         unreachable!()
     };
-    let entry = logged_entry(before + 1, entry);
+    let entry = logged_entry(position, entry);
     let Some(kept) = further_than(world.replicas(), before) else {
         return Line::Open(entry);
     };
-    let certification = kept.verdict_at(before + 1);
+    let certification = kept.verdict_at(position);
     Line::Certified {
         entry,
         compared: certification.compared,
@@ -86,7 +87,12 @@ fn logged_entry<A: Allocator + Copy>(position: u32, entry: &Entry<A>) -> LoggedE
 fn further_than<A: Allocator + Copy>(replicas: &[Replica<A>], position: u32) -> Option<&Replica<A>>
     ensures { option_map (λ kept. kept.now) result ≡ find (λ kept. nat_lt position kept.position) replicas.now }
 {
-    replicas.iter().find(|kept| kept.position() > position)
+    for kept in replicas {
+        if kept.position() > position {
+            return Some(kept);
+        }
+    }
+    None
 }
 
 /// Prints the bytes of the entry at a position.

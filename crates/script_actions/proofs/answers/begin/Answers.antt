@@ -30,7 +30,7 @@ returns-in_default-by_name-clause-done g c =
     let before = world_of c.args.world.now in
     let there = numbered_map progress_of c.args.world.now.replicas c.args.replica ∙ ap (λ (o : Option ReplicaState). option_map progress_of o) (sym c.in-Some.ensures) in
     let named : number_of_name w before c.args.replica c.args.name.now ≡ None =
-    named_at w before c.args.replica c.args.name.now _ None there (c.in_default-by_name.ensures.there c.in-Some.kept.now (sym c.in-Some.ensures)) in
+    named_at w before c.args.replica c.args.name.now _ None there (c.in_default-by_name.ensures.there c.in-Some._kept.now (sym c.in-Some.ensures)) in
     gives_done g.W.Write.contents w before (command.Begin c.args.replica c.args.name.now c.args.args.now) c.args.output.now c.put_answer-in_default-by_name.new.output c.put_answer-in_default-by_name.result before _
     (begins_unnamed w before c.args.replica c.args.name.now c.args.args.now _ named there)
     (subst (Gives g.W.Write.contents c.args.output.now c.put_answer-in_default-by_name.new.output c.put_answer-in_default-by_name.result) (ap text_of (c.begin_line-in_default-by_name.ensures 0 c.args.args.now None (delivered.Call None))) c.put_answer-in_default-by_name.ensures.given)
@@ -43,7 +43,7 @@ returns-in_err-step-clause-done g c =
     let before = world_of c.args.world.now in
     let there = numbered_map progress_of c.args.world.now.replicas c.args.replica ∙ ap (λ (o : Option ReplicaState). option_map progress_of o) (sym c.in-Some.ensures) in
     let named : number_of_name w before c.args.replica c.args.name.now ≡ Some c.in-Some-by_name.procedure =
-    named_at w before c.args.replica c.args.name.now _ (Some c.in-Some-by_name.procedure) there (c.in-Some-by_name.ensures.there c.in-Some.kept.now (sym c.in-Some.ensures)) in
+    named_at w before c.args.replica c.args.name.now _ (Some c.in-Some-by_name.procedure) there (c.in-Some-by_name.ensures.there c.in-Some._kept.now (sym c.in-Some.ensures)) in
     let q = err_from_is_err_and c.from_residual.result c.from_residual.ensures.1 in
     rw q.1 (
       step_text w after.log (Begin c.args.replica c.in-Some-by_name.procedure c.args.args.now None) f.0,
@@ -60,7 +60,7 @@ returns-clause-done g c =
     let before = world_of c.args.world.now in
     let there = numbered_map progress_of c.args.world.now.replicas c.args.replica ∙ ap (λ (o : Option ReplicaState). option_map progress_of o) (sym c.in-Some.ensures) in
     let named : number_of_name w before c.args.replica c.args.name.now ≡ Some c.in-Some-by_name.procedure =
-    named_at w before c.args.replica c.args.name.now _ (Some c.in-Some-by_name.procedure) there (c.in-Some-by_name.ensures.there c.in-Some.kept.now (sym c.in-Some.ensures)) in (
+    named_at w before c.args.replica c.args.name.now _ (Some c.in-Some-by_name.procedure) there (c.in-Some-by_name.ensures.there c.in-Some._kept.now (sym c.in-Some.ensures)) in (
       step_text w after.log (Begin c.args.replica c.in-Some-by_name.procedure c.args.args.now None) c.in_ok-step.field-0,
       begins w (world_of c.args.world.now) c.args.replica c.args.name.now c.args.args.now c.in-Some-by_name.procedure c.in_ok-step.field-0 after named s.0,
       s.1,

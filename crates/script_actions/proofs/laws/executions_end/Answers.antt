@@ -1,5 +1,7 @@
+use Rattle.std.proofs.Common.{List, subst}
 use Rattle.dsm_world.specs.System.{setting_of, world_of}
-use Rattle.script_actions.proofs.TurnLemmas.{short_programs, execution_ends}
+use Rattle.replica.specs.Replica.{Replica}
+use Rattle.script_actions.proofs.TurnLemmas.{AllStored, short_programs, execution_ends}
 use Rattle.script_actions.proofs.laws.executions_end.Goals as goal
 
 pub returns : goal.returns
@@ -13,4 +15,4 @@ returns g c = λ call text after does.
       more = c.turns_follow_the_run.ensures.more w;
       kept = c.procedures_are_never_lost.ensures w;
     }) (world_of s) call text after known.world
-    (short_programs s c.procedures_are_stored.ensures known.replicas c.runs_are_short.ensures.instructions) does
+    (short_programs s (subst (λ (rs : List Replica). AllStored rs) c.replicas.ensures c.procedures_are_stored.ensures) known.replicas c.runs_are_short.ensures.instructions) does
