@@ -21,19 +21,21 @@ serial_reply w log d call safe below items at verdict = record {
 
 pub committed_told : (w : Setting) (log : Log) (d : ℕ) (call : Call) → HasSafeProcedures w → IsLog log → AreItems w log → slice_get log d ≡ Some (CallItem call) → verdict_of w log (suc d) ≡ Some Commit
     → (reply : ℕ) × (told_reply w log (suc d) ≡ Some reply) × IsSerialReply w log (suc d) reply
-committed_told w log d call safe below items at verdict =
-    ((run_in w log call).reply,
-    ap (told_by w log (suc d)) verdict ∙ ap (reply_of w log) at,
-    serial_reply w log d call safe below items at verdict)
+committed_told w log d call safe below items at verdict = (
+  (run_in w log call).reply,
+  ap (told_by w log (suc d)) verdict ∙ ap (reply_of w log) at,
+  serial_reply w log d call safe below items at verdict,
+)
 
 pub repeated_told : (w : Setting) (log : Log) (d : ℕ) (call : Call) (earlier : ℕ) → HasSafeProcedures w → IsLog log → AreItems w log → slice_get log d ≡ Some (CallItem call) → verdict_of w log (suc d) ≡ Some (Repeated earlier)
     → (reply : ℕ) × (told_reply w log (suc d) ≡ Some reply) × IsSerialReply w log earlier reply
 repeated_told w log d call earlier safe below items at verdict =
     let is = (repeated_means w log d call earlier below at).0 verdict in
-    let run = serial_run w log is.before is.first safe below items is.stands (ap (verdict_of w log) (sym is.place) ∙ is.committed) in
-    ((run_in w log is.first).reply,
-    ap (told_by w log (suc d)) verdict ∙ ap (λ (n : ℕ). reply_of w log (numbered log n)) is.place ∙ ap (reply_of w log) is.stands,
-    record { before = is.before; place = is.place; call = is.first; stands = is.stands; serial = ap (λ (r : Run). r.reply) run })
+    let run = serial_run w log is.before is.first safe below items is.stands (ap (verdict_of w log) (sym is.place) ∙ is.committed) in (
+      (run_in w log is.first).reply,
+      ap (told_by w log (suc d)) verdict ∙ ap (λ (n : ℕ). reply_of w log (numbered log n)) is.place ∙ ap (reply_of w log) is.stands,
+      record { before = is.before; place = is.place; call = is.first; stands = is.stands; serial = ap (λ (r : Run). r.reply) run },
+    )
 
 untold_by : (w : Setting) (log : Log) (position : ℕ) (v : Option Verdict) → v ≢ Some Commit → ((earlier : ℕ) → v ≢ Some (Repeated earlier)) → told_by w log position v ≡ None
 untold_by w log position None f g = refl
