@@ -4,7 +4,7 @@ ghost use Rattle.std.specs.Prelude.{◌≡◌, IfOk};
 
 use crate::delivering::{key_of, put_of};
 use certify::Certifier;
-use log_entry::Entry;
+use log_entry::ExecutedCall;
 use log_model::Verdict;
 use std::alloc::{AllocError, Global};
 
@@ -25,7 +25,7 @@ fn full_certifier(alloc: Global, keys: u64) -> anyhow::Result<Certifier>
 }
 
 /// A call that looked at one key above all of these, on the oldest rows that a full window keeps.
-fn look_above(alloc: Global, keys: u64) -> anyhow::Result<Entry>
+fn look_above(alloc: Global, keys: u64) -> anyhow::Result<ExecutedCall>
     ensures { IfOk result (λ e. e.call.snapshot ≡ 0) }
 {
     let mut entry = put_of(alloc, 1, 0)?;

@@ -5,7 +5,8 @@ ghost use Rattle.std.specs.Prelude.{◌≡◌, IfOk};
 use anyhow::bail;
 use catalogue::Catalogue;
 use checked_replica::CheckedReplica;
-use log_entry::Entry;
+use log_entry::{Entry, ExecutedCall};
+use log_model::{RequestId, Verdict};
 use replica::Replica;
 use row_sets::{ReadSet, WriteSet};
 use row_values::Bytes;
@@ -14,16 +15,20 @@ use std::alloc::Global;
 use txn_view::Store;
 
 /// A put of a number at its own key of table 1, by a call that looked at nothing.
-pub(crate) fn put_of(alloc: Global, key: u64, snapshot: u32) -> anyhow::Result<Entry>
+pub(crate) fn put_of(alloc: Global, key: u64, snapshot: u32) -> anyhow::Result<ExecutedCall>
     ensures { IfOk result (λ e. e.call.snapshot ≡ snapshot) }
 {
     let mut writes = WriteSet::new(alloc);
     writes.put(1, key, &key.to_le_bytes())?;
-    Ok(Entry {
+    Ok(ExecutedCall {
         call: 0,
         procedure: 1,
         args: Bytes::new(Vec::new(alloc)),
         snapshot,
+        request: RequestId {
+            session: 0,
+            sequence: 0,
+        },
         reads: ReadSet::new(alloc),
         writes,
         reply: 0,
@@ -44,15 +49,21 @@ fn deliver_puts(
 ) -> anyhow::Result<()> {
     for number in 0..times {
         let snapshot = checked.replica().position();
-        let entry = put_of(alloc, key_of(number, keys), snapshot)?;
-        if !matches!(checked.deliver(&entry), Some(Ok(_))) {
-            bail!("a delivery was refused");
-        }
+        let call = put_of(alloc, key_of(number, keys), snapshot)?;
+        deliver(checked, &Entry::Call(call))?;
     }
     Ok(())
 }
 
-fn catalogue_of(alloc: Global) -> anyhow::Result<Catalogue> {
+/// Delivers an entry: what became of it.
+pub(crate) fn deliver(checked: &mut CheckedReplica, entry: &Entry) -> anyhow::Result<Verdict> {
+    match checked.deliver(entry) {
+        Some(Ok(verdict)) => Ok(verdict),
+        _ => bail!("a delivery was refused"),
+    }
+}
+
+pub(crate) fn catalogue_of(alloc: Global) -> anyhow::Result<Catalogue> {
     Ok(Catalogue::new(alloc, Schema::new(alloc, &[(1, 8)])?))
 }
 

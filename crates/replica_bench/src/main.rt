@@ -2,11 +2,17 @@
 //! is taken by whoever starts it (bench/replica does).
 #![tactic(auto)]
 
+ghost use Rattle.std.specs.Prelude.{◌<◌};
+
+mod adding;
 mod certifying;
 mod delivering;
+mod requesting;
 
+use crate::adding::{additions, stored, taken};
 use crate::certifying::{sum_words, verdicts};
 use crate::delivering::{deliveries, reads};
+use crate::requesting::requests;
 use anyhow::Context;
 use std::alloc::Global;
 use std::env;
@@ -23,6 +29,16 @@ enum Work {
     Verdicts,
     /// Sums of 512 KiB, as much as the signatures of a full window take.
     Memory,
+    /// Deliveries of additions, of new names and numbers, over so many stored procedures.
+    Additions,
+    /// The same of new names and numbers that are taken.
+    Taken,
+    /// Verdicts on calls that repeat one of so many.
+    Hits,
+    /// Verdicts on calls with new requests where so many are kept.
+    Misses,
+    /// So many additions that are delivered to so many replicas, which are kept.
+    Stored,
 }
 
 impl Work {
@@ -32,9 +48,21 @@ impl Work {
             "reads" => Some(Work::Reads),
             "verdicts" => Some(Work::Verdicts),
             "memory" => Some(Work::Memory),
+            "additions" => Some(Work::Additions),
+            "taken" => Some(Work::Taken),
+            "hits" => Some(Work::Hits),
+            "misses" => Some(Work::Misses),
+            "stored" => Some(Work::Stored),
             _ => None,
         }
     }
+}
+
+/// How many requests are kept: at most one less than there are positions.
+fn kept(keys: u64) -> u32
+    ensures { result < 4294967295 }
+{
+    u32::try_from(keys).unwrap_or(0).min(u32::MAX - 1)
 }
 
 /// Does the work over so many keys, so many times, and says what came of it.
@@ -45,6 +73,11 @@ fn report(rt: &HostRuntime, work: Work, keys: u64, times: u64) -> anyhow::Result
         Work::Reads => println!(rt; "found {}", reads(alloc, keys, times)?)?,
         Work::Verdicts => println!(rt; "comparisons {}", verdicts(alloc, keys, times)?)?,
         Work::Memory => println!(rt; "sum {}", sum_words(alloc, times)?)?,
+        Work::Additions => println!(rt; "stored {}", additions(alloc, keys, times)?)?,
+        Work::Taken => println!(rt; "taken {}", taken(alloc, keys, times)?)?,
+        Work::Hits => println!(rt; "repeated {}", requests(alloc, 1, kept(keys), times)?)?,
+        Work::Misses => println!(rt; "repeated {}", requests(alloc, 2, kept(keys), times)?)?,
+        Work::Stored => println!(rt; "stored {}", stored(alloc, keys, times)?)?,
     }
     Ok(())
 }
@@ -53,9 +86,11 @@ fn report(rt: &HostRuntime, work: Work, keys: u64, times: u64) -> anyhow::Result
 fn run(rt: &HostRuntime) -> anyhow::Result<()> {
     let words: Vec<String> = env::args(rt)?.collect(rt.alloc())?;
     let work = words.get(1).and_then(|word| Work::from_word(word));
-    let work = work.context("the first word is deliveries, reads, verdicts or memory")?;
+    let work = work.context(
+        "the first word is deliveries, reads, verdicts, memory, additions, taken, hits, misses or stored",
+    )?;
     let keys = words.get(2).and_then(|word| word.parse().ok());
-    let keys = keys.context("the second word is how many keys there are")?;
+    let keys = keys.context("the second word is how many keys, procedures or requests there are")?;
     let times = words.get(3).and_then(|word| word.parse().ok());
     let times = times.context("the third word is how many times it is done")?;
     report(rt, work, keys, times)

@@ -1,94 +1,195 @@
 //! Logs that are drawn from a seed, and the entries that they are shipped as.
 
-use dsm_replayer::{CallReport, PlainCall};
-use log_entry::Entry;
+use super::entries::{addition_of, idle_call};
+use dsm_replayer::{ItemReport, PlainCall, PlainItem, PlainItemKind, PlainProcedure};
+use log_entry::{Entry, ExecutedCall};
+use log_model::RequestId;
 use rand_core::utils::NextWord;
 use rand_pcg::Pcg32;
-use row_sets::{ReadSet, WriteSet};
 use row_values::Bytes;
-use sample_procedures::{PROCEDURES, args_of};
+use sample_procedures::{ONE, PROCEDURES, args_of, procedure_of};
+use schema::Schema;
 use std::alloc::Global;
 use std::test::Fail;
 
 /// Keys are drawn from as many from 1 on.
 pub(super) const KEYS: u32 = 40;
 
-/// A number below the end.
-fn draw(generator: &mut Pcg32, end: u32) -> u32 {
-    generator.next_word().checked_rem(end).unwrap_or(0)
+/// The numbers of additions, and those whose digits are their names, are drawn from as many from 1 on.
+pub(super) const NUMBERS: u32 = 150;
+
+/// The name of an addition, of three digits, or of one where it is below 10: the catalogue has some of these.
+pub(super) fn name_of(alloc: Global, number: u32) -> Result<String, Fail> {
+    Ok(format!(in alloc; "{number}")?)
 }
 
-fn draw_key(generator: &mut Pcg32) -> u64 {
-    u64::from(draw(generator, KEYS)).wrapping_add(1)
+/// The program of a number, in hex, and how many words it takes: of the sample procedures' numbers their own, of the others
+/// these in turn.
+fn program_of(number: u32) -> (&'static str, usize) {
+    match PROCEDURES.get((number.saturating_sub(1) % 6) as usize) {
+        Some((_number, program, words)) => (program, *words),
+        None => (ONE, 0),
+    }
 }
 
-/// A call after so many, with a snapshot mostly near, at times a little beyond the window.
+/// What a log is drawn from.
+#[derive(Drop)]
+struct Source {
+    generator: Pcg32,
+    /// How many requests were drawn.
+    requests: u32,
+}
+
+impl Source {
+    /// A number below the end.
+    fn draw(&mut self, end: u32) -> u32 {
+        self.generator.next_word().checked_rem(end).unwrap_or(0)
+    }
+
+    /// A key; every other one of the first few, which more calls share.
+    fn draw_key(&mut self) -> u64 {
+        let end = if self.draw(2) == 0 { 6 } else { KEYS };
+        u64::from(self.draw(end)).wrapping_add(1)
+    }
+
+    /// Which request a call carries: none, a new one, one of the latest eight, or any that was drawn.
+    fn draw_request(&mut self) -> RequestId {
+        let last = self.requests;
+        match self.draw(9) {
+            0 => {
+                self.requests = last.saturating_add(1);
+                request_of(self.requests)
+            }
+            1 => request_of(last.saturating_sub(self.draw(8.min(last)))),
+            2 => request_of(last.saturating_sub(self.draw(last))),
+            _ => request_of(0),
+        }
+    }
+
+    /// A snapshot mostly near, at times a little beyond the window or far beyond it.
+    fn draw_snapshot(&mut self, before: u32, window: u32) -> u32 {
+        let reach = match self.draw(8) {
+            0 => window.saturating_add(2),
+            1 => window.saturating_mul(2).saturating_add(2),
+            _ => window.min(6),
+        };
+        before.saturating_sub(self.draw(reach.saturating_add(1)))
+    }
+
+    /// The number of a procedure: mostly of the catalogue, at times of those that may be added.
+    fn draw_procedure(&mut self) -> u32 {
+        let end = if self.draw(4) == 0 { NUMBERS } else { 6 };
+        self.draw(end).saturating_add(1)
+    }
+}
+
+/// The request of a number, from 1 on; none of 0. With each there is one with session and sequence number exchanged.
+fn request_of(number: u32) -> RequestId {
+    if number == 0 {
+        return RequestId {
+            session: 0,
+            sequence: 0,
+        };
+    }
+    RequestId {
+        session: 1 + number % 40,
+        sequence: 1 + number / 40,
+    }
+}
+
+/// A call after so many items.
 fn draw_call(
     alloc: Global,
-    generator: &mut Pcg32,
+    source: &mut Source,
     before: u32,
     window: u32,
-) -> Result<PlainCall, Fail> {
-    let place = draw(generator, 6) as usize;
-    let Some((number, _program, count)) = PROCEDURES.get(place) else {
-        return Ok(PlainCall::new(0, 0, Vec::new(alloc), before));
-    };
-    let words = [
-        draw_key(generator),
-        draw_key(generator),
-        draw_key(generator),
-    ];
-    let args = args_of(alloc, words.get(..*count).unwrap_or(&[]))?;
-    let reach = match draw(generator, 8) {
-        0 => window.saturating_add(2),
-        _ => window.min(6),
-    };
-    let snapshot = before.saturating_sub(draw(generator, reach.saturating_add(1)));
-    Ok(PlainCall::new(before, *number, args, snapshot))
+) -> Result<PlainItem, Fail> {
+    let procedure = source.draw_procedure();
+    let (_program, count) = program_of(procedure);
+    let words = [source.draw_key(), source.draw_key(), source.draw_key()];
+    let snapshot = source.draw_snapshot(before, window);
+    let request = source.draw_request();
+    let args = args_of(alloc, words.get(..count).unwrap_or(&[]))?;
+    let number = u16::try_from(procedure).unwrap_or(0);
+    Ok(PlainItem {
+        kind: PlainItemKind::Call(PlainCall::new(before, number, args, snapshot, request)),
+    })
 }
 
-/// So many calls under a window.
-pub(super) fn drawn_log(alloc: Global, window: u32, count: u32) -> Result<Vec<PlainCall>, Fail> {
-    let mut generator = Pcg32::new(u64::from(window), 16);
+/// An addition, with name and number drawn apart.
+fn draw_addition(alloc: Global, source: &mut Source) -> Result<PlainItem, Fail> {
+    let name = name_of(alloc, source.draw(NUMBERS).saturating_add(1))?;
+    let number = source.draw(NUMBERS).saturating_add(1);
+    let (program, words) = program_of(number);
+    let number = u16::try_from(number).unwrap_or(0);
+    let procedure = procedure_of(alloc, name.as_bytes(), number, program, words)?;
+    Ok(PlainItem {
+        kind: PlainItemKind::Addition(procedure),
+    })
+}
+
+/// So many items under a window. Of twenty one is an addition.
+pub(super) fn drawn_log(alloc: Global, window: u32, count: u32) -> Result<Vec<PlainItem>, Fail> {
+    let mut source = Source {
+        generator: Pcg32::new(u64::from(window), 16),
+        requests: 0,
+    };
     let mut log = Vec::new(alloc);
     for before in 0..count {
-        log.push(draw_call(alloc, &mut generator, before, window)?)?;
+        let item = if source.draw(20) == 0 {
+            draw_addition(alloc, &mut source)?
+        } else {
+            draw_call(alloc, &mut source, before, window)?
+        };
+        log.push(item)?;
     }
     Ok(log)
 }
 
-fn reads_of(alloc: Global, report: &CallReport) -> Result<ReadSet, Fail> {
-    let mut reads = ReadSet::new(alloc);
+/// Adds what a call's run looked at and wrote.
+fn add_run(call: &mut ExecutedCall, report: &ItemReport) -> Result<(), Fail> {
     for look in report.looks() {
-        reads.add_range(*look)?;
+        call.reads.add_range(*look)?;
     }
-    Ok(reads)
-}
-
-fn writes_of(alloc: Global, report: &CallReport) -> Result<WriteSet, Fail> {
-    let mut writes = WriteSet::new(alloc);
     for write in report.writes() {
         match write.bytes() {
-            Some(bytes) => writes.put(write.table(), write.key(), bytes)?,
-            None => writes.remove(write.table(), write.key())?,
+            Some(bytes) => call.writes.put(write.table(), write.key(), bytes)?,
+            None => call.writes.remove(write.table(), write.key())?,
         }
     }
-    Ok(writes)
+    Ok(())
 }
 
 /// A call as it is shipped, with what its run looked at and wrote.
-pub(super) fn entry_of(
+fn executed_call(alloc: Global, call: &PlainCall, report: &ItemReport) -> Result<Entry, Fail> {
+    let args = Vec::from_slice(alloc, call.args())?;
+    let snapshot = call.snapshot() as u32;
+    let mut executed = idle_call(alloc, call.procedure(), snapshot, call.request());
+    executed.args = Bytes::new(args);
+    executed.reply = report.reply();
+    add_run(&mut executed, report)?;
+    Ok(Entry::Call(executed))
+}
+
+fn shipped_addition(
     alloc: Global,
-    call: &PlainCall,
-    report: &CallReport,
+    schema: &Schema,
+    procedure: &PlainProcedure,
 ) -> Result<Entry, Fail> {
-    Ok(Entry {
-        call: 0,
-        procedure: call.procedure(),
-        args: Bytes::new(Vec::from_slice(alloc, call.args())?),
-        snapshot: call.snapshot() as u32,
-        reads: reads_of(alloc, report)?,
-        writes: writes_of(alloc, report)?,
-        reply: report.reply(),
-    })
+    let number = procedure.number();
+    let (program, words) = program_of(u32::from(number));
+    addition_of(alloc, schema, procedure.name(), number, program, words)
+}
+
+/// An item as it is shipped.
+pub(super) fn shipped(
+    alloc: Global,
+    schema: &Schema,
+    item: &PlainItem,
+    report: &ItemReport,
+) -> Result<Entry, Fail> {
+    match &item.kind {
+        PlainItemKind::Call(call) => executed_call(alloc, call, report),
+        PlainItemKind::Addition(procedure) => shipped_addition(alloc, schema, procedure),
+    }
 }

@@ -1,6 +1,8 @@
-//! What stands where a growth is refused: each growth of a call in turn.
+//! What stands where a growth is refused: each growth of an install, of a rebuilding and of a list of the rows in turn.
 
-use super::{catalogue_of, certification_at, put_of, reads_of};
+use super::entries::{EntryCase, entries_of, small_catalogue};
+use super::states::{State, is_in};
+use catalogue::Catalogue;
 use checked_replica::{CheckedReplica, CheckedVersions};
 use log_entry::Entry;
 use log_model::Verdict;
@@ -9,10 +11,9 @@ use row_sets::WriteSet;
 use rows_mv::{Gone, Versions};
 use sample_procedures::TABLES;
 use scarce::Scarce;
-use schema::{Look, Schema};
+use schema::Schema;
 use std::alloc::{AllocError, Allocator, Global};
 use std::test::Fail;
-use txn_view::Store;
 
 /// More growths than any call of these tests makes: none of them is refused that often.
 const MOST: u64 = 200;
@@ -46,10 +47,10 @@ fn counts_at<A: Allocator + Copy>(versions: &Versions<A>, position: u32) -> Resu
     Ok(Counts { rows, own })
 }
 
-/// Puts of their own numbers at keys from 1 to this one.
-fn own_numbers(alloc: Global, last: u64) -> Result<WriteSet, Fail> {
+/// Puts of their own numbers at keys from 1 to 64.
+fn own_numbers(alloc: Global) -> Result<WriteSet, Fail> {
     let mut writes = WriteSet::new(alloc);
-    for key in 1..=last {
+    for key in 1..=64u64 {
         writes.put(1, key, &key.to_le_bytes())?;
     }
     Ok(writes)
@@ -64,49 +65,72 @@ fn further_writes(alloc: Global) -> Result<WriteSet, Fail> {
     Ok(writes)
 }
 
-/// What an install at position 2 over 64 rows of position 1 came to, and what is counted then.
+/// What installs at position 1 and, with a growth refused, at position 2 came to, and what is counted then.
 #[derive(Clone, Copy, Debug, PartialEq, Eq)]
 struct Attempt {
+    first: Result<bool, AllocError>,
     installed: Result<bool, AllocError>,
     before: Result<Counts, Gone>,
     after: Result<Counts, Gone>,
     pages: usize,
 }
 
-/// Installs with the growth of this number, from 1 on, refused.
-fn attempt_install(alloc: Global, refused: u64) -> Result<Attempt, Fail> {
-    let scarce = Scarce::new(alloc);
-    let schema = Schema::new(&scarce, &TABLES)?;
-    let mut checked = CheckedVersions::new(&scarce, &schema)?;
-    let _ = checked.install(1, &own_numbers(alloc, 64)?)?;
-    let writes = further_writes(alloc)?;
+/// Installs at positions 1 and 2, there with the growth of this number, from 1 on, refused.
+fn install_both<A: Allocator + Copy>(
+    scarce: &Scarce,
+    checked: &mut CheckedVersions<A>,
+    first: &WriteSet,
+    further: &WriteSet,
+    refused: u64,
+) -> Attempt {
+    let first = checked.install(1, first);
     scarce.refuse_nth(refused);
-    let installed = checked.install(2, &writes);
+    let installed = checked.install(2, further);
     scarce.refuse_nth(0);
-    Ok(Attempt {
+    Attempt {
+        first,
         installed,
         before: counts_at(checked.versions(), 1),
         after: counts_at(checked.versions(), 2),
         pages: checked.versions().pages(1),
-    })
+    }
+}
+
+fn attempt_install(
+    alloc: Global,
+    first: &WriteSet,
+    further: &WriteSet,
+    refused: u64,
+) -> Result<Attempt, Fail> {
+    let scarce = Scarce::new(alloc);
+    let schema = Schema::new(&scarce, &TABLES)?;
+    let mut checked = CheckedVersions::new(&scarce, &schema)?;
+    Ok(install_both(&scarce, &mut checked, first, further, refused))
+}
+
+/// What is expected of an attempt that was refused, and of one that wasn't.
+fn is_expected(came: Attempt) -> bool {
+    let old = Ok(Counts { rows: 64, own: 64 });
+    let new = Ok(Counts { rows: 66, own: 65 });
+    // A page that was split before the refusal stays split.
+    let left = match came.installed {
+        Ok(installed) => installed && came.after == new && came.pages == 2,
+        Err(_) => came.after == old && (came.pages == 1 || came.pages == 2),
+    };
+    left && came.before == old && came.first == Ok(true)
 }
 
 #[test]
 fn refused_room_leaves_versions_as_they_were(rt: HostRuntime) -> Result<(), Fail> {
-    let old = Counts { rows: 64, own: 64 };
-    let new = Counts { rows: 66, own: 65 };
+    let first = own_numbers(rt.alloc())?;
+    let further = further_writes(rt.alloc())?;
     let mut refused = 0;
     for growth in 1..MOST {
-        let came = attempt_install(rt.alloc(), growth)?;
-        assert_eq!(rt; came.before, Ok(old), "{growth}");
-        if came.installed == Ok(true) {
-            assert_eq!(rt; came.after, Ok(new));
-            assert_eq!(rt; came.pages, 2);
+        let came = attempt_install(rt.alloc(), &first, &further, growth)?;
+        assert!(rt; is_expected(came), "{growth}: {came:?}");
+        if came.installed.is_ok() {
             break;
         }
-        assert_eq!(rt; came.after, Ok(old), "{growth}");
-        // A page that was split before the refusal stays split.
-        assert!(rt; came.pages == 1 || came.pages == 2, "{growth}");
         refused = growth;
     }
     assert!(rt; refused > 4 && refused < MOST - 1, "{refused}");
@@ -115,114 +139,54 @@ fn refused_room_leaves_versions_as_they_were(rt: HostRuntime) -> Result<(), Fail
 
 // ---- replicas
 
-/// Entries: a key of table 1 with what is put there, the snapshot, and a key that was looked at.
-const DELIVERIES: [(u64, u8, u32, u64); 4] = [
-    (1, 10, 0, 9),
-    (1, 20, 0, 1),
-    (2, 30, 2, 1),
-    (2, 40, 2, 2),
+/// A log of entries of each kind, of which some come to nothing.
+const DELIVERIES: [EntryCase; 7] = [
+    EntryCase::Call(0, 9, 9, 1, Some(10)),
+    EntryCase::Call(0, 1, 1, 1, Some(20)),
+    EntryCase::Call(2, 1, 1, 2, Some(30)),
+    EntryCase::Call(2, 2, 2, 2, Some(40)),
+    EntryCase::Addition(b"one", 9),
+    EntryCase::Numbered(7, 1, 4, 9, 9, 3, Some(50)),
+    EntryCase::Numbered(7, 1, 0, 9, 9, 4, Some(60)),
 ];
 
-fn entries_of(alloc: Global) -> Result<Vec<Entry>, Fail> {
-    let mut entries = Vec::new(alloc);
-    for (key, value, snapshot, looked) in DELIVERIES {
-        let looked = Look {
-            table: 1,
-            lo: looked,
-            hi: looked,
-        };
-        let reads = reads_of(alloc, looked)?;
-        entries.push(put_of(alloc, reads, key, u64::from(value), snapshot)?)?;
-    }
-    Ok(entries)
-}
-
-/// What a replica says of itself: what became of each entry that it has, keys 1 and 2, and of the list of all rows how many
-/// there are and the sum of keys times numbers.
-#[derive(Clone, Copy, Debug, PartialEq, Eq)]
-struct State {
-    position: u32,
-    stopped: bool,
-    verdicts: [Option<Verdict>; 4],
-    first: Option<u8>,
-    second: Option<u8>,
-    listed: Option<(usize, u64)>,
-}
-
-/// After the first entry, stopped.
-const STOPPED: State = State {
-    position: 1,
-    stopped: true,
-    verdicts: [Some(Verdict::Commit), None, None, None],
+/// After the first entry.
+const FIRST: State = State {
+    verdicts: &[Verdict::Commit],
     first: Some(10),
     second: None,
-    listed: Some((1, 10)),
+    listed: (1, 10),
+    procedures: 1,
+    one: None,
 };
 
 /// After all entries.
-const RUNNING: State = State {
-    position: 4,
-    stopped: false,
-    verdicts: [
-        Some(Verdict::Commit),
-        Some(Verdict::Conflict(1)),
-        Some(Verdict::Commit),
-        Some(Verdict::Conflict(3)),
+const ALL: State = State {
+    verdicts: &[
+        Verdict::Commit,
+        Verdict::Conflict(1),
+        Verdict::Commit,
+        Verdict::Conflict(3),
+        Verdict::Commit,
+        Verdict::Commit,
+        Verdict::Repeated(6),
     ],
     first: Some(10),
     second: Some(30),
-    listed: Some((2, 70)),
+    listed: (3, 220),
+    procedures: 2,
+    one: Some(9),
 };
 
-/// The first byte of the row at a key now.
-fn value_now<A: Allocator + Copy>(replica: &Replica<A>, key: u64) -> Option<u8> {
-    let store = replica.at(replica.position());
-    let row = store.get(1, key);
-    match row {
-        Ok(Some(bytes)) => bytes.first().copied(),
-        _ => None,
-    }
-}
-
-fn listed_now<A: Allocator + Copy>(alloc: Global, replica: &Replica<A>) -> Option<(usize, u64)> {
-    let rows = replica.rows(alloc).ok()?;
-    let mut sum = 0u64;
-    for row in &rows {
-        let number = row.bytes().first().copied().unwrap_or(0);
-        sum = sum.wrapping_add(row.key().wrapping_mul(u64::from(number)));
-    }
-    Some((rows.len(), sum))
-}
-
-fn verdict_of<A: Allocator + Copy>(replica: &Replica<A>, position: u32) -> Option<Verdict> {
-    Some(certification_at(replica, position)?.verdict)
-}
-
-fn state_of<A: Allocator + Copy>(alloc: Global, replica: &Replica<A>) -> State {
-    State {
-        position: replica.position(),
-        stopped: replica.stopped(),
-        verdicts: [
-            verdict_of(replica, 1),
-            verdict_of(replica, 2),
-            verdict_of(replica, 3),
-            verdict_of(replica, 4),
-        ],
-        first: value_now(replica, 1),
-        second: value_now(replica, 2),
-        listed: listed_now(alloc, replica),
-    }
-}
-
 /// Whether a delivery found memory.
-fn delivers<A: Allocator + Copy>(checked: &mut CheckedReplica<A>, entry: &Entry) -> bool {
+fn delivers<A: Allocator + Copy>(checked: &mut CheckedReplica<A, Global>, entry: &Entry) -> bool {
     matches!(checked.deliver(entry), Some(Ok(_)))
 }
 
 /// Delivers the first entry, and the next one without memory.
 fn stop<A: Allocator + Copy>(
     scarce: &Scarce,
-    checked: &mut CheckedReplica<A>,
+    checked: &mut CheckedReplica<A, Global>,
     entries: &[Entry],
 ) -> Option<bool> {
     let delivered = delivers(checked, entries.first()?);
@@ -235,7 +199,7 @@ fn stop<A: Allocator + Copy>(
 /// The position after a rebuilding whose growth of this number is refused.
 fn rebuilt<A: Allocator + Copy>(
     scarce: &Scarce,
-    checked: &mut CheckedReplica<A>,
+    checked: &mut CheckedReplica<A, Global>,
     entries: &[Entry],
     refused: u64,
 ) -> Option<u32> {
@@ -245,39 +209,78 @@ fn rebuilt<A: Allocator + Copy>(
     rebuilt?.ok()
 }
 
+/// How many growths of a rebuilding were refused before one went through, and whether the replica was each time as it had
+/// stopped.
+fn refuse_rebuilding<A: Allocator + Copy>(
+    alloc: Global,
+    scarce: &Scarce,
+    checked: &mut CheckedReplica<A, Global>,
+    entries: &[Entry],
+) -> (u64, bool) {
+    for growth in 1..MOST {
+        if !is_in(alloc, checked.replica(), &FIRST, true) {
+            return (growth, false);
+        }
+        if rebuilt(scarce, checked, entries, growth) == Some(7) {
+            return (growth - 1, true);
+        }
+    }
+    (MOST, true)
+}
+
 /// Whether the rows are listed where the growth of this number is refused.
-fn lists<A: Allocator + Copy>(scarce: &Scarce, replica: &Replica<A>, refused: u64) -> bool {
+fn lists<A: Allocator + Copy>(scarce: &Scarce, replica: &Replica<A, Global>, refused: u64) -> bool {
     scarce.refuse_nth(refused);
     let listed = replica.rows(scarce).is_ok();
     scarce.refuse_nth(0);
     listed
 }
 
+/// The same of a list of the rows of a replica that has all entries.
+fn refuse_listing<A: Allocator + Copy>(
+    alloc: Global,
+    scarce: &Scarce,
+    replica: &Replica<A, Global>,
+) -> (u64, bool) {
+    for growth in 1..MOST {
+        if !is_in(alloc, replica, &ALL, false) {
+            return (growth, false);
+        }
+        if lists(scarce, replica, growth) {
+            return (growth - 1, true);
+        }
+    }
+    (MOST, true)
+}
+
+/// Of a rebuilding and of a list of the rows, how many growths were refused, and whether the replica was each time as before.
+fn refuse_each(
+    alloc: Global,
+    catalogue: &Catalogue,
+    entries: &[Entry],
+) -> Result<[(u64, bool); 2], Fail> {
+    let scarce = Scarce::new(alloc);
+    let mut checked = CheckedReplica::new(&scarce, 2, catalogue)?;
+    if stop(&scarce, &mut checked, entries) != Some(true) {
+        return Ok([(0, false), (0, false)]);
+    }
+    let rebuilding = refuse_rebuilding(alloc, &scarce, &mut checked, entries);
+    let listing = refuse_listing(alloc, &scarce, checked.replica());
+    Ok([rebuilding, listing])
+}
+
 #[test]
 fn a_refused_growth_leaves_the_replica_as_it_was(rt: HostRuntime) -> Result<(), Fail> {
-    let alloc = rt.alloc();
-    let scarce = Scarce::new(alloc);
-    let catalogue = catalogue_of(&scarce)?;
-    let mut checked = CheckedReplica::new(&scarce, 2, &catalogue)?;
-    let entries = entries_of(alloc)?;
-    assert_eq!(rt; stop(&scarce, &mut checked, &entries), Some(true));
-    let mut refused = 0;
-    for growth in 1..MOST {
-        assert_eq!(rt; state_of(alloc, checked.replica()), STOPPED, "{growth}");
-        if rebuilt(&scarce, &mut checked, &entries, growth) == Some(4) {
-            break;
-        }
-        refused = growth;
-    }
-    assert!(rt; refused > 10 && refused < MOST - 1, "{refused}");
-    refused = 0;
-    for growth in 1..MOST {
-        assert_eq!(rt; state_of(alloc, checked.replica()), RUNNING, "{growth}");
-        if lists(&scarce, checked.replica(), growth) {
-            break;
-        }
-        refused = growth;
-    }
-    assert!(rt; refused > 1 && refused < MOST - 1, "{refused}");
+    let catalogue = small_catalogue(rt.alloc())?;
+    let entries = entries_of(rt.alloc(), catalogue.schema(), &DELIVERIES)?;
+    let [rebuilding, listing] = refuse_each(rt.alloc(), &catalogue, &entries)?;
+    assert!(rt;
+        rebuilding.0 > 10 && rebuilding.0 < MOST && rebuilding.1,
+        "{rebuilding:?}"
+    );
+    assert!(rt;
+        listing.0 > 1 && listing.0 < MOST && listing.1,
+        "{listing:?}"
+    );
     Ok(())
 }

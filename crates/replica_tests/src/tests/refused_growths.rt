@@ -1,186 +1,355 @@
-//! Steps with the verdicts and rows that a program of another language told, and a replica that stops.
+//! A replica that finds no memory for an entry: each growth of a delivery is refused in turn.
 
-use super::{certification_at, reads_of};
+use super::entries::{EntryCase, addition_of, entries_of, entry_of, small_catalogue};
+use super::states::{State, is_in};
 use catalogue::Catalogue;
 use checked_replica::CheckedReplica;
 use log_entry::Entry;
-use log_model::Verdict;
+use log_model::{Identifier, Verdict};
 use replica::{Replica, Stopped};
-use row_sets::WriteSet;
-use row_values::Bytes;
+use sample_procedures::ONE;
 use scarce::Scarce;
-use schema::{Look, Schema};
+use schema::Schema;
 use std::alloc::{Allocator, Global};
 use std::test::Fail;
-use txn_view::Store;
 
-/// A call: its snapshot, from which key of table 1 to which it looked, and a key at which it puts one byte or removes it.
-type Step = (u32, u64, u64, u64, Option<u8>);
-
-fn writes_of(alloc: Global, key: u64, row: Option<u8>) -> Result<WriteSet, Fail> {
-    let mut writes = WriteSet::new(alloc);
-    match row {
-        Some(byte) => writes.put(1, key, &[byte])?,
-        None => writes.remove(1, key)?,
-    }
-    Ok(writes)
+#[test]
+fn a_refused_growth_makes_no_replica(rt: HostRuntime) -> Result<(), Fail> {
+    let catalogue = small_catalogue(rt.alloc())?;
+    let scarce = Scarce::new(rt.alloc());
+    let failed = scarce.refuse_each(|| Replica::new(&scarce, 2, &catalogue).is_ok());
+    assert!(rt; matches!(failed, Some(count) if count > 0));
+    Ok(())
 }
 
-fn entry_of(alloc: Global, step: Step) -> Result<Entry, Fail> {
-    let (snapshot, lo, hi, key, row) = step;
-    let writes = writes_of(alloc, key, row)?;
-    let reads = reads_of(alloc, Look { table: 1, lo, hi })?;
-    Ok(Entry {
-        call: 0,
-        procedure: 1,
-        args: Bytes::new(Vec::new(alloc)),
-        snapshot,
-        reads,
-        writes,
-        reply: 0,
-    })
+/// Entries, of which the last is delivered with a growth refused, and how many growths that has: six make room for the
+/// keys and rows of a write where there are none, four for requests or procedures where there is none, one for a name, and
+/// one at times for the verdict. And what the replica says of itself before the last and after it.
+struct RefusedCase {
+    entries: &'static [EntryCase],
+    growths: u64,
+    before: State,
+    after: State,
 }
 
-/// The byte at a key, where the position is reached and kept.
-fn byte_at<A: Allocator + Copy>(
-    replica: &Replica<A>,
-    position: u32,
-    key: u64,
-) -> Option<Option<u8>> {
-    if position > replica.position() {
-        return None;
-    }
-    match replica.at(position).get(1, key) {
-        Ok(Some(row)) => Some(row.first().copied()),
-        Ok(None) => Some(None),
-        Err(_) => None,
-    }
-}
+/// Before the first entry.
+const EMPTY: State = State {
+    verdicts: &[],
+    first: None,
+    second: None,
+    listed: (0, 0),
+    procedures: 1,
+    one: None,
+};
 
-/// Steps with their verdicts and comparisons, as a program of another language told them of a window of 2.
-const STEPS: [(Step, Verdict, u64); 8] = [
-    ((0, 5, 5, 5, Some(1)), Verdict::Commit, 0),
-    ((0, 5, 5, 5, Some(2)), Verdict::Conflict(1), 1),
-    ((1, 5, 5, 5, Some(3)), Verdict::Commit, 0),
-    ((1, 9, 9, 7, Some(4)), Verdict::Commit, 0),
-    ((2, 20, 99, 5, None), Verdict::Commit, 2),
-    ((2, 5, 5, 5, Some(6)), Verdict::Stale, 0),
-    ((5, 0, 3, 8, Some(7)), Verdict::Commit, 0),
-    ((6, 0, 30, 9, Some(8)), Verdict::Conflict(7), 1),
+/// After a put and an addition.
+const TWO: State = State {
+    verdicts: &[Verdict::Commit, Verdict::Commit],
+    first: Some(10),
+    second: None,
+    listed: (1, 10),
+    procedures: 2,
+    one: Some(9),
+};
+
+/// After one more put.
+const THREE: State = State {
+    verdicts: &[Verdict::Commit, Verdict::Commit, Verdict::Commit],
+    first: Some(10),
+    second: Some(20),
+    listed: (2, 50),
+    procedures: 2,
+    one: Some(9),
+};
+
+static CASES: [RefusedCase; 8] = [
+    RefusedCase {
+        entries: &[EntryCase::Call(0, 5, 5, 1, Some(10))],
+        growths: 6,
+        before: EMPTY,
+        after: State {
+            verdicts: &[Verdict::Commit],
+            first: Some(10),
+            second: None,
+            listed: (1, 10),
+            procedures: 1,
+            one: None,
+        },
+    },
+    RefusedCase {
+        entries: &[EntryCase::Numbered(7, 1, 0, 5, 5, 2, Some(10))],
+        growths: 10,
+        before: EMPTY,
+        after: State {
+            verdicts: &[Verdict::Commit],
+            first: None,
+            second: Some(10),
+            listed: (1, 20),
+            procedures: 1,
+            one: None,
+        },
+    },
+    RefusedCase {
+        entries: &[EntryCase::Addition(b"one", 9)],
+        growths: 2,
+        before: EMPTY,
+        after: State {
+            verdicts: &[Verdict::Commit],
+            first: None,
+            second: None,
+            listed: (0, 0),
+            procedures: 2,
+            one: Some(9),
+        },
+    },
+    RefusedCase {
+        entries: &[EntryCase::Addition(b"one", 1)],
+        growths: 1,
+        before: EMPTY,
+        after: State {
+            verdicts: &[Verdict::Taken(Identifier::Number)],
+            first: None,
+            second: None,
+            listed: (0, 0),
+            procedures: 1,
+            one: None,
+        },
+    },
+    RefusedCase {
+        entries: &[
+            EntryCase::Numbered(7, 1, 0, 5, 5, 1, Some(10)),
+            EntryCase::Addition(b"one", 9),
+            EntryCase::Call(2, 5, 5, 2, Some(20)),
+        ],
+        growths: 3,
+        before: TWO,
+        after: THREE,
+    },
+    RefusedCase {
+        entries: &[
+            EntryCase::Numbered(7, 1, 0, 5, 5, 1, Some(10)),
+            EntryCase::Addition(b"one", 9),
+            EntryCase::Numbered(7, 2, 2, 5, 5, 2, Some(20)),
+        ],
+        growths: 3,
+        before: TWO,
+        after: THREE,
+    },
+    // What a repeated call wrote is prepared, though it isn't installed.
+    RefusedCase {
+        entries: &[
+            EntryCase::Numbered(7, 1, 0, 5, 5, 1, Some(10)),
+            EntryCase::Addition(b"one", 9),
+            EntryCase::Numbered(7, 1, 0, 5, 5, 2, Some(20)),
+        ],
+        growths: 1,
+        before: TWO,
+        after: State {
+            verdicts: &[Verdict::Commit, Verdict::Commit, Verdict::Repeated(1)],
+            first: Some(10),
+            second: None,
+            listed: (1, 10),
+            procedures: 2,
+            one: Some(9),
+        },
+    },
+    RefusedCase {
+        entries: &[
+            EntryCase::Numbered(7, 1, 0, 5, 5, 1, Some(10)),
+            EntryCase::Addition(b"two", 10),
+            EntryCase::Addition(b"one", 9),
+        ],
+        growths: 1,
+        before: State {
+            verdicts: &[Verdict::Commit, Verdict::Commit],
+            first: Some(10),
+            second: None,
+            listed: (1, 10),
+            procedures: 2,
+            one: None,
+        },
+        after: State {
+            verdicts: &[Verdict::Commit, Verdict::Commit, Verdict::Commit],
+            first: Some(10),
+            second: None,
+            listed: (1, 10),
+            procedures: 3,
+            one: Some(9),
+        },
+    },
 ];
 
-/// Positions, keys, and what that program found there after all steps.
-const ROWS: [(u32, u64, Option<Option<u8>>); 7] = [
-    (5, 7, None),
-    (6, 5, Some(None)),
-    (6, 7, Some(Some(4))),
-    (6, 8, Some(None)),
-    (7, 8, Some(Some(7))),
-    (8, 8, Some(Some(7))),
-    (8, 9, Some(None)),
-];
+/// Whether a replica that stopped before the last entry has what it had, delivers no more, and has the entry once it is
+/// made anew.
+fn stays_stopped<A: Allocator + Copy>(
+    alloc: Global,
+    checked: &mut CheckedReplica<A, Global>,
+    entries: &[Entry],
+    last: &Entry,
+    case: &RefusedCase,
+) -> bool {
+    let left = is_in(alloc, checked.replica(), &case.before, true);
+    let again = checked.deliver(last) == Some(Err(Stopped));
+    let same = is_in(alloc, checked.replica(), &case.before, true);
+    let rebuilt = matches!(checked.rebuild(entries), Some(Ok(_)));
+    left && again && same && rebuilt && is_in(alloc, checked.replica(), &case.after, false)
+}
 
-/// Whether an entry is delivered with this verdict, by so many comparisons.
-fn comes_to(checked: &mut CheckedReplica, entry: &Entry, verdict: Verdict, compared: u64) -> bool {
-    let told = checked.deliver(entry);
-    let replica = checked.replica();
-    match certification_at(replica, replica.position()) {
-        Some(said) => {
-            told == Some(Ok(verdict)) && said.verdict == verdict && said.compared == compared
-        }
-        None => false,
+/// Delivers entries, the last with the growth of this number refused: whether it was delivered; none where something isn't
+/// as the case says.
+fn is_delivered<A: Allocator + Copy>(
+    alloc: Global,
+    scarce: &Scarce,
+    checked: &mut CheckedReplica<A, Global>,
+    entries: &[Entry],
+    case: &RefusedCase,
+    refused: u64,
+) -> Option<bool> {
+    let (last, before) = entries.split_last()?;
+    for entry in before {
+        let _told = checked.deliver(entry);
+    }
+    let begun = is_in(alloc, checked.replica(), &case.before, false);
+    scarce.refuse_nth(refused);
+    let told = checked.deliver(last)?;
+    scarce.refuse_nth(0);
+    let same = match told {
+        Ok(_) => is_in(alloc, checked.replica(), &case.after, false),
+        Err(_) => stays_stopped(alloc, checked, entries, last, case),
+    };
+    if begun && same {
+        Some(told.is_ok())
+    } else {
+        None
     }
 }
 
-/// The position of the first step with another verdict or count.
-fn first_wrong(alloc: Global, checked: &mut CheckedReplica) -> Result<Option<u32>, Fail> {
-    for (step, verdict, compared) in STEPS {
-        let entry = entry_of(alloc, step)?;
-        if !comes_to(checked, &entry, verdict, compared) {
-            return Ok(Some(checked.replica().position()));
+fn attempt(
+    alloc: Global,
+    catalogue: &Catalogue,
+    entries: &[Entry],
+    case: &RefusedCase,
+    refused: u64,
+) -> Result<Option<bool>, Fail> {
+    let scarce = Scarce::new(alloc);
+    let mut checked = CheckedReplica::new(&scarce, 2, catalogue)?;
+    Ok(is_delivered(alloc, &scarce, &mut checked, entries, case, refused))
+}
+
+/// How many growths were refused, each in turn, before the last entry was delivered; none where something isn't as the case
+/// says.
+fn refused_of(
+    alloc: Global,
+    catalogue: &Catalogue,
+    entries: &[Entry],
+    case: &RefusedCase,
+) -> Result<Option<u64>, Fail> {
+    for growth in 1..100u64 {
+        match attempt(alloc, catalogue, entries, case, growth)? {
+            Some(false) => (),
+            Some(true) => return Ok(Some(growth - 1)),
+            None => return Ok(None),
         }
     }
     Ok(None)
 }
 
 #[test]
-fn deliveries_have_verdicts_and_rows(rt: HostRuntime) -> Result<(), Fail> {
-    let alloc = rt.alloc();
-    let catalogue = Catalogue::new(alloc, Schema::new(alloc, &[(1, 1)])?);
-    let mut checked = CheckedReplica::new(alloc, 2, &catalogue)?;
-    assert_eq!(rt; first_wrong(alloc, &mut checked)?, None);
-    for (position, key, expected) in ROWS {
-        assert_eq!(rt;
-            byte_at(checked.replica(), position, key),
-            expected,
-            "{position} {key}"
-        );
-    }
-    Ok(())
-}
-
-#[test]
-fn a_refused_growth_makes_no_replica(rt: HostRuntime) -> Result<(), Fail> {
-    let scarce = Scarce::new(rt.alloc());
-    let catalogue = Catalogue::new(&scarce, Schema::new(&scarce, &[(1, 1)])?);
-    let failed = scarce.refuse_each(|| Replica::new(&scarce, 2, &catalogue).is_ok());
-    assert!(rt; matches!(failed, Some(count) if count > 0));
-    Ok(())
-}
-
-/// What a delivery comes to, and what the replica says of itself then.
-#[derive(Clone, Copy, Debug, PartialEq, Eq)]
-struct Attempt {
-    told: Option<Result<Verdict, Stopped>>,
-    stopped: bool,
-    position: u32,
-    row: Option<Option<u8>>,
-}
-
-const STOPPED: Attempt = Attempt {
-    told: Some(Err(Stopped)),
-    stopped: true,
-    position: 0,
-    row: Some(None),
-};
-
-/// Delivers an entry with the growth of this number refused; none where it is 0.
-fn deliver_with<A: Allocator + Copy>(
-    scarce: &Scarce,
-    checked: &mut CheckedReplica<A>,
-    entry: &Entry,
-    refused: u64,
-) -> Attempt {
-    scarce.refuse_nth(refused);
-    let told = checked.deliver(entry);
-    scarce.refuse_nth(0);
-    let replica = checked.replica();
-    Attempt {
-        told,
-        stopped: replica.stopped(),
-        position: replica.position(),
-        row: byte_at(replica, 0, 5),
-    }
-}
-
-/// Whether a replica goes on once it is made anew.
-fn goes_on<A: Allocator + Copy>(checked: &mut CheckedReplica<A>) -> bool {
-    checked.rebuild::<Global>(&[]) == Some(Ok(0)) && !checked.replica().stopped()
-}
-
-/// A replica that stops has what it had, delivers no more, and goes on once it is made anew.
-#[test]
 fn a_refused_growth_stops_the_replica(rt: HostRuntime) -> Result<(), Fail> {
-    let scarce = Scarce::new(rt.alloc());
-    let catalogue = Catalogue::new(&scarce, Schema::new(&scarce, &[(1, 1)])?);
-    let entry = entry_of(rt.alloc(), (0, 5, 5, 5, Some(1)))?;
-    for growth in 1..=3 {
-        let mut checked = CheckedReplica::new(&scarce, 2, &catalogue)?;
-        for refused in [growth, 0] {
-            let came = deliver_with(&scarce, &mut checked, &entry, refused);
-            assert_eq!(rt; came, STOPPED, "{growth}");
-        }
-        assert!(rt; goes_on(&mut checked), "{growth}");
+    let catalogue = small_catalogue(rt.alloc())?;
+    for case in &CASES {
+        let entries = entries_of(rt.alloc(), catalogue.schema(), case.entries)?;
+        let refused = refused_of(rt.alloc(), &catalogue, &entries, case)?;
+        assert_eq!(rt; refused, Some(case.growths));
     }
+    Ok(())
+}
+
+// ---- growths with kept requests and without
+
+/// How many times a call with a request, one without, and an addition are delivered in turn.
+const TURNS: u32 = 16;
+
+/// These in turn, with requests in the first of each three or without.
+fn probing_entries(alloc: Global, schema: &Schema, session: u32) -> Result<Vec<Entry>, Fail> {
+    let mut entries = Vec::new(alloc);
+    for turn in 0..TURNS {
+        add_turn(alloc, schema, session, turn.wrapping_mul(3), &mut entries)?;
+    }
+    Ok(entries)
+}
+
+/// Adds these once, when so many entries were added.
+fn add_turn(
+    alloc: Global,
+    schema: &Schema,
+    session: u32,
+    before: u32,
+    entries: &mut Vec<Entry>,
+) -> Result<(), Fail> {
+    let key = u64::from(before);
+    let sequence = if session == 0 { 0 } else { before.max(1) };
+    let first = EntryCase::Numbered(session, sequence, before, 99, 99, key, Some(1));
+    let second = EntryCase::Call(before, 99, 99, key.wrapping_add(1), Some(1));
+    let number = u16::try_from(before).unwrap_or(0);
+    let name = [b'a'.wrapping_add((number / 3).to_le_bytes()[0])];
+    entries.push(entry_of(alloc, schema, first)?)?;
+    entries.push(entry_of(alloc, schema, second)?)?;
+    entries.push(addition_of(alloc, schema, &name, number.wrapping_add(100), ONE, 0)?)?;
+    Ok(())
+}
+
+/// How many growths each of these deliveries makes; none where one doesn't commit.
+fn growths_in<A: Allocator + Copy>(
+    scarce: &Scarce,
+    checked: &mut CheckedReplica<A, Global>,
+    entries: &[Entry],
+) -> Option<[u64; 48]> {
+    let mut growths = [0u64; 48];
+    for (place, entry) in entries.iter().enumerate() {
+        let before = scarce.growths();
+        if checked.deliver(entry) != Some(Ok(Verdict::Commit)) {
+            return None;
+        }
+        *growths.get_mut(place)? = scarce.growths().wrapping_sub(before);
+    }
+    Some(growths)
+}
+
+fn growths_of(
+    alloc: Global,
+    catalogue: &Catalogue,
+    entries: &[Entry],
+) -> Result<Option<[u64; 48]>, Fail> {
+    let scarce = Scarce::new(alloc);
+    let mut checked = CheckedReplica::new(&scarce, 4, catalogue)?;
+    Ok(growths_in(&scarce, &mut checked, entries))
+}
+
+/// Growths of the first of each three together, and whether the others are as many.
+fn compared(with: [u64; 48], without: [u64; 48]) -> (u64, u64, bool) {
+    let (mut first, mut second, mut same) = (0u64, 0u64, true);
+    for place in 0..48usize {
+        if place % 3 == 0 {
+            first = first.wrapping_add(with[place]);
+            second = second.wrapping_add(without[place]);
+        } else if with[place] != without[place] {
+            same = false;
+        }
+    }
+    (first, second, same)
+}
+
+/// Only a call with a request makes room for it, also where the room is full.
+#[test]
+fn kept_requests_cost_other_entries_no_growth(rt: HostRuntime) -> Result<(), Fail> {
+    let catalogue = small_catalogue(rt.alloc())?;
+    let numbered = probing_entries(rt.alloc(), catalogue.schema(), 7)?;
+    let with = growths_of(rt.alloc(), &catalogue, &numbered)?;
+    let unnumbered = probing_entries(rt.alloc(), catalogue.schema(), 0)?;
+    let without = growths_of(rt.alloc(), &catalogue, &unnumbered)?;
+    assert!(rt; with.is_some() && without.is_some());
+    let (first, second, same) = compared(with.unwrap_or([0; 48]), without.unwrap_or([0; 48]));
+    assert!(rt; same && first > second, "{first}, {second}");
     Ok(())
 }

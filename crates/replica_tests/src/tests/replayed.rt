@@ -2,23 +2,28 @@
 
 ghost use Rattle.std.specs.Prelude.{◌<◌, ◌^◌, length};
 
-use super::drawn::{KEYS, drawn_log, entry_of};
-use super::{catalogue_of, certification_at};
+use super::certification_at;
+use super::drawn::{KEYS, NUMBERS, drawn_log, name_of, shipped};
+use super::entries::catalogue_of;
+use catalogue::Catalogue;
 use checked_replica::CheckedReplica;
-use dsm_replayer::{CallReport, CompletedReplay, PlainCall, Row, replay_log};
-use log_model::Verdict;
+use dsm_replayer::{
+    CompletedReplay, ItemReport, PlainCall, PlainItem, PlainItemKind, PlainSetting, Row,
+    procedure_by_name, procedure_by_number, replay_log,
+};
+use log_model::{Identifier, RequestId, Verdict};
 use replica::Replica;
-use sample_procedures::setting_of;
-use schema::Look;
+use sample_procedures::{PROCEDURES, TABLES, setting_of};
+use schema::{Look, Schema};
 use std::alloc::Global;
 use std::test::Fail;
 use txn_view::Store;
 
-/// How many calls a log has.
-const CALLS: u32 = 5_000;
+/// How many items a log has.
+const ITEMS: u32 = 5_000;
 
 /// The log, which is short in these tests.
-fn short(log: &[PlainCall]) -> &[PlainCall]
+fn short(log: &[PlainItem]) -> &[PlainItem]
     ensures { length result.now < 2 ^ 32 }
 {
     match u32::try_from(log.len()) {
@@ -26,6 +31,8 @@ fn short(log: &[PlainCall]) -> &[PlainCall]
         Err(_) => &[],
     }
 }
+
+// ---- rows and procedures
 
 /// All keys of table 1.
 const EVERYWHERE: Look = Look {
@@ -66,8 +73,159 @@ fn keeps_rows(replica: &Replica, replay: &CompletedReplay) -> bool {
     first == 0 || first > last || replica.at(first.saturating_sub(1)).get(1, 1).is_err()
 }
 
-/// Whether a replica says of the call at a position what a replay says of it.
-fn says_the_same(replica: &Replica, position: u32, report: &CallReport) -> bool {
+/// A log that was replayed.
+#[derive(Clone, Copy)]
+struct Replayed<'a> {
+    setting: &'a PlainSetting,
+    log: &'a [PlainItem],
+    replay: &'a CompletedReplay,
+}
+
+/// Whether a replica finds what the replay has under a number, and under the name of its digits.
+fn finds_procedure(
+    alloc: Global,
+    replica: &Replica,
+    replayed: &Replayed,
+    past: &[ItemReport],
+    number: u32,
+) -> Result<bool, Fail> {
+    let name = name_of(alloc, number)?;
+    let named = procedure_by_name(replayed.setting, replayed.log, past, name.as_bytes());
+    let named = named.map(|procedure| procedure.number());
+    let number = u16::try_from(number).unwrap_or(0);
+    let numbered = procedure_by_number(replayed.setting, replayed.log, past, number);
+    let numbered = numbered.map(|procedure| (procedure.args_len(), procedure.code().slots()));
+    let program = replica.procedures().by_number(number);
+    let program = program.map(|program| (program.args_len(), program.code().slots()));
+    Ok(replica.procedures().by_name(name.as_bytes()) == named && program == numbered)
+}
+
+/// Whether a replica has the procedures of the replay at its position.
+fn has_procedures(alloc: Global, replica: &Replica, replayed: &Replayed) -> Result<bool, Fail> {
+    let reports = replayed.replay.reports();
+    let past = reports.get(..replica.position() as usize).unwrap_or(&[]);
+    let mut count = 0usize;
+    for number in 0..NUMBERS + 2 {
+        if !finds_procedure(alloc, replica, replayed, past, number)? {
+            return Ok(false);
+        }
+        if procedure_by_number(replayed.setting, replayed.log, past, number as u16).is_some() {
+            count = count.wrapping_add(1);
+        }
+    }
+    Ok(replica.procedures().list().count() == count)
+}
+
+// ---- verdicts
+
+/// What became of items, by kinds.
+#[derive(Clone, Copy)]
+enum Kind {
+    Commit,
+    /// A call that commits though an earlier one with its request was refused by a conflict.
+    CommitAfterConflict,
+    /// The same where the last such one was stale.
+    CommitAfterStale,
+    Conflict,
+    Stale,
+    /// A call that repeats one within the window.
+    RepeatedNear,
+    /// One that repeats a call before the window.
+    RepeatedFar,
+    /// One that would be stale.
+    RepeatedPastWindow,
+    Addition,
+    NameTaken,
+    NumberTaken,
+}
+
+/// How many kinds there are.
+const KINDS: usize = 11;
+
+/// The verdict on the last call with this request, where there is one.
+fn last_verdict(past: &[ItemReport], request: RequestId) -> Option<Verdict> {
+    let mut last = None;
+    for report in past {
+        if report.request() == request {
+            last = Some(report.verdict());
+        }
+    }
+    last
+}
+
+fn kind_of_commit(past: &[ItemReport], call: &PlainCall) -> Kind {
+    if call.request().session == 0 {
+        return Kind::Commit;
+    }
+    match last_verdict(past, call.request()) {
+        Some(Verdict::Conflict(_)) => Kind::CommitAfterConflict,
+        Some(Verdict::Stale) => Kind::CommitAfterStale,
+        _ => Kind::Commit,
+    }
+}
+
+/// The kind of a call after so many items that repeats the one at a position.
+fn kind_of_repeat(window: u32, before: usize, call: &PlainCall, position: u32) -> Kind {
+    if before.saturating_sub(call.snapshot()) > window as usize {
+        Kind::RepeatedPastWindow
+    } else if before.saturating_sub(position as usize) > window as usize {
+        Kind::RepeatedFar
+    } else {
+        Kind::RepeatedNear
+    }
+}
+
+/// The kind of an item after these.
+fn kind_of(window: u32, past: &[ItemReport], item: &PlainItem, verdict: Verdict) -> Kind {
+    match (verdict, &item.kind) {
+        (Verdict::Commit, PlainItemKind::Call(call)) => kind_of_commit(past, call),
+        (Verdict::Commit, PlainItemKind::Addition(_)) => Kind::Addition,
+        (Verdict::Repeated(position), PlainItemKind::Call(call)) => {
+            kind_of_repeat(window, past.len(), call, position)
+        }
+        (Verdict::Conflict(_), _) => Kind::Conflict,
+        (Verdict::Taken(Identifier::Name), _) => Kind::NameTaken,
+        (Verdict::Taken(Identifier::Number), _) => Kind::NumberTaken,
+        _ => Kind::Stale,
+    }
+}
+
+/// What became of a drawn log: how many items of each kind, and after how many a replica doesn't come to what the plain replay
+/// says.
+#[derive(Clone, Copy)]
+struct Outcome {
+    counts: [u32; KINDS],
+    difference: Option<u32>,
+}
+
+impl Outcome {
+    const NONE: Outcome = Outcome {
+        counts: [0; KINDS],
+        difference: None,
+    };
+
+    fn add(&mut self, kind: Kind, more: u32) {
+        if let Some(count) = self.counts.get_mut(kind as usize) {
+            *count = count.wrapping_add(more);
+        }
+    }
+
+    fn of(&self, kind: Kind) -> u32 {
+        self.counts.get(kind as usize).copied().unwrap_or(0)
+    }
+
+    /// How many items there were.
+    fn items(&self) -> u32 {
+        let mut items = 0u32;
+        for count in self.counts {
+            items = items.wrapping_add(count);
+        }
+        items
+    }
+}
+
+/// Whether a replica says of the item at a position what a replay says of it.
+fn says_the_same(replica: &Replica, position: u32, report: &ItemReport) -> bool {
     match certification_at(replica, position) {
         Some(certification) => {
             certification.verdict == report.verdict()
@@ -77,82 +235,106 @@ fn says_the_same(replica: &Replica, position: u32, report: &CallReport) -> bool 
     }
 }
 
-/// What became of a drawn log: how many calls committed, conflicted and were stale, and the position at which a replica
-/// doesn't come to what the plain replay says, or 0.
-#[derive(Clone, Copy, Debug, PartialEq, Eq)]
-struct Outcome {
-    commits: u32,
-    conflicts: u32,
-    stale: u32,
-    difference: u32,
-}
-
-impl Outcome {
-    fn count(&mut self, verdict: Verdict) {
-        match verdict {
-            Verdict::Commit => self.commits = self.commits.wrapping_add(1),
-            Verdict::Conflict(_) => self.conflicts = self.conflicts.wrapping_add(1),
-            Verdict::Stale => self.stale = self.stale.wrapping_add(1),
-        }
-    }
-}
-
-/// Delivers a call as it is shipped: whether the replica says of it what the replay says.
+/// Delivers an item as it is shipped: whether the replica says of it what the replay says.
 fn delivers_the_same(
     alloc: Global,
+    schema: &Schema,
     checked: &mut CheckedReplica,
-    call: &PlainCall,
-    report: &CallReport,
+    item: &PlainItem,
+    report: &ItemReport,
 ) -> Result<bool, Fail> {
-    let entry = entry_of(alloc, call, report)?;
+    let entry = shipped(alloc, schema, item, report)?;
     let verdict = checked.deliver(&entry);
     let position = checked.replica().position();
     Ok(verdict == Some(Ok(report.verdict())) && says_the_same(checked.replica(), position, report))
 }
 
-fn outcome_of(alloc: Global, window: u32) -> Result<Outcome, Fail> {
-    let log = drawn_log(alloc, window, CALLS)?;
-    let setting = setting_of(alloc, window)?;
-    let replay = replay_log(alloc, &setting, short(&log))?;
-    let catalogue = catalogue_of(alloc)?;
-    let mut checked = CheckedReplica::new(alloc, window, &catalogue)?;
-    let mut outcome = Outcome {
-        commits: 0,
-        conflicts: 0,
-        stale: 0,
-        difference: 0,
-    };
-    for (call, report) in log.iter().zip(replay.reports()) {
-        let same = delivers_the_same(alloc, &mut checked, call, report)?;
-        let position = checked.replica().position();
-        if !same || position % 1_000 == 0 && !keeps_rows(checked.replica(), &replay) {
-            outcome.difference = position;
+/// Whether a replica, at each thousandth position, has the rows and the procedures of the replay.
+fn has_the_same(alloc: Global, replica: &Replica, replayed: &Replayed) -> Result<bool, Fail> {
+    if replica.position() % 1_000 != 0 {
+        return Ok(true);
+    }
+    Ok(keeps_rows(replica, replayed.replay) && has_procedures(alloc, replica, replayed)?)
+}
+
+fn deliver_all(
+    alloc: Global,
+    schema: &Schema,
+    checked: &mut CheckedReplica,
+    replayed: &Replayed,
+) -> Result<Outcome, Fail> {
+    let window = checked.replica().window();
+    let reports = replayed.replay.reports();
+    let mut outcome = Outcome::NONE;
+    for (item, report) in replayed.log.iter().zip(reports) {
+        let before = checked.replica().position();
+        let told = delivers_the_same(alloc, schema, checked, item, report)?;
+        if !told || !has_the_same(alloc, checked.replica(), replayed)? {
+            outcome.difference = Some(before);
             return Ok(outcome);
         }
-        outcome.count(report.verdict());
+        let past = reports.get(..before as usize).unwrap_or(&[]);
+        outcome.add(kind_of(window, past, item, report.verdict()), 1);
     }
     Ok(outcome)
 }
 
+fn outcome_of_replay(
+    alloc: Global,
+    catalogue: &Catalogue,
+    replayed: &Replayed,
+) -> Result<Outcome, Fail> {
+    let mut checked = CheckedReplica::new(alloc, replayed.setting.window(), catalogue)?;
+    deliver_all(alloc, catalogue.schema(), &mut checked, replayed)
+}
+
+fn outcome_of_log(
+    alloc: Global,
+    catalogue: &Catalogue,
+    setting: &PlainSetting,
+    log: &[PlainItem],
+) -> Result<Outcome, Fail> {
+    let replay = replay_log(alloc, setting, short(log))?;
+    let replay = &replay;
+    outcome_of_replay(
+        alloc,
+        catalogue,
+        &Replayed {
+            setting,
+            log,
+            replay,
+        },
+    )
+}
+
+fn outcome_of(alloc: Global, catalogue: &Catalogue, window: u32) -> Result<Outcome, Fail> {
+    let log = drawn_log(alloc, window, ITEMS)?;
+    let setting = setting_of(alloc, window)?;
+    outcome_of_log(alloc, catalogue, &setting, &log)
+}
+
+/// Whether a log had calls of the kinds that each window has; stale ones are few where the window is nearly as long as the
+/// log.
+fn is_varied(window: u32, outcome: &Outcome) -> bool {
+    outcome.of(Kind::Commit) > 1_000
+        && outcome.of(Kind::Conflict) > 50
+        && (outcome.of(Kind::Stale) > 0 || window == 4_096)
+}
+
 #[test]
 fn replicas_come_to_what_the_plain_replay_says(rt: HostRuntime) -> Result<(), Fail> {
+    let catalogue = catalogue_of(rt.alloc(), &TABLES, &PROCEDURES)?;
+    let mut all = [0u32; KINDS];
     for window in [1, 7, 8, 9, 4_096] {
-        let outcome = outcome_of(rt.alloc(), window)?;
-        let Outcome {
-            commits,
-            conflicts,
-            stale,
-            difference,
-        } = outcome;
-        assert_eq!(rt;
-            difference,
-            0,
-            "window {window}: {commits}, {conflicts}, {stale}"
-        );
-        let drawn = commits > 1_000 && conflicts > 50 && (stale > 0 || window == 4_096);
-        assert!(rt; drawn, "window {window}: {commits}, {conflicts}, {stale}");
-        let all = commits.wrapping_add(conflicts).wrapping_add(stale);
-        assert_eq!(rt; all, CALLS);
+        let outcome = outcome_of(rt.alloc(), &catalogue, window)?;
+        let counts = outcome.counts;
+        assert_eq!(rt; outcome.difference, None, "window {window}: {counts:?}");
+        assert!(rt; is_varied(window, &outcome), "window {window}: {counts:?}");
+        assert_eq!(rt; outcome.items(), ITEMS);
+        for (sum, count) in all.iter_mut().zip(counts) {
+            *sum = sum.wrapping_add(count);
+        }
     }
+    assert!(rt; all.iter().all(|count| *count > 100), "{all:?}");
     Ok(())
 }

@@ -1,13 +1,14 @@
 //! Rows at a position, while later calls are delivered.
 
-use super::{catalogue_of, put_of};
+use super::entries::{EntryCase, entry_of, small_catalogue};
+use catalogue::Catalogue;
 use checked_replica::CheckedReplica;
 use replica::Replica;
-use row_sets::ReadSet;
+use std::alloc::Global;
 use std::test::Fail;
 use txn_view::{Gone, Store};
 
-/// The first byte of the row at key 1 of table 1 after a position that was reached.
+/// The byte at key 1 of table 1 after a position that was reached.
 fn value_at(replica: &Replica, position: u32) -> Result<Option<u8>, Gone> {
     if position > replica.position() {
         return Err(Gone);
@@ -31,26 +32,44 @@ fn expected(window: u32, delivered: u32, position: u32) -> Result<Option<u8>, Go
     }
 }
 
+/// The first position that reads otherwise when so many calls were delivered.
+fn wrong_position(replica: &Replica, delivered: u32) -> Option<u32> {
+    if replica.begin() != delivered {
+        return Some(delivered);
+    }
+    for position in 0..=delivered {
+        if value_at(replica, position) != expected(replica.window(), delivered, position) {
+            return Some(position);
+        }
+    }
+    None
+}
+
+/// After how many calls, and where, a replica first reads otherwise.
+fn difference_of(
+    alloc: Global,
+    catalogue: &Catalogue,
+    window: u32,
+) -> Result<Option<(u32, u32)>, Fail> {
+    let mut checked = CheckedReplica::new(alloc, window, catalogue)?;
+    for delivered in 1..=30u32 {
+        let put = EntryCase::Call(delivered.saturating_sub(1), 9, 9, 1, Some(delivered as u8));
+        let entry = entry_of(alloc, catalogue.schema(), put)?;
+        let told = checked.deliver(&entry);
+        let wrong = wrong_position(checked.replica(), delivered);
+        if !matches!(told, Some(Ok(_))) || wrong.is_some() {
+            return Ok(Some((delivered, wrong.unwrap_or(0))));
+        }
+    }
+    Ok(None)
+}
+
 #[test]
 fn a_position_reads_alike_until_it_is_gone(rt: HostRuntime) -> Result<(), Fail> {
-    let alloc = rt.alloc();
-    let catalogue = catalogue_of(alloc)?;
+    let catalogue = small_catalogue(rt.alloc())?;
     for window in [1, 4, 8] {
-        let mut checked = CheckedReplica::new(alloc, window, &catalogue)?;
-        for delivered in 1..=30u32 {
-            let (value, snapshot) = (u64::from(delivered), delivered.saturating_sub(1));
-            let entry = put_of(alloc, ReadSet::new(alloc), 1, value, snapshot)?;
-            assert!(rt; matches!(checked.deliver(&entry), Some(Ok(_))));
-            assert_eq!(rt; checked.replica().begin(), delivered);
-            for position in 0..=delivered {
-                let value = value_at(checked.replica(), position);
-                assert_eq!(rt;
-                    value,
-                    expected(window, delivered, position),
-                    "{position} of {delivered}"
-                );
-            }
-        }
+        let difference = difference_of(rt.alloc(), &catalogue, window)?;
+        assert_eq!(rt; difference, None, "window {window}");
     }
     Ok(())
 }

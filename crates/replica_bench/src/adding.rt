@@ -1,0 +1,127 @@
+//! Deliveries of additions.
+
+use crate::delivering::{catalogue_of, deliver};
+use anyhow::Context;
+use bpf_code::decode;
+use bpf_verify::{Accepted, verify};
+use catalogue::Catalogue;
+use checked_replica::CheckedReplica;
+use log_entry::{AddedProcedure, Entry};
+use log_model::Verdict;
+use row_values::Bytes;
+use schema::Schema;
+use std::alloc::Global;
+use std::sync::Arc;
+
+/// Replies 1.
+const PROGRAM: [u8; 16] = [0xb7, 0, 0, 0, 1, 0, 0, 0, 0x95, 0, 0, 0, 0, 0, 0, 0];
+
+fn accepted_of(alloc: Global, schema: &Schema) -> anyhow::Result<Accepted> {
+    let code = decode(alloc, &PROGRAM)?;
+    Ok(verify(alloc, code, schema, 0)?)
+}
+
+/// An addition of a procedure under a number and a name that has another one's digits.
+fn addition_of(alloc: Global, schema: &Schema, named: u64, number: u64) -> anyhow::Result<Entry> {
+    let number = u16::try_from(number)
+        .ok()
+        .context("there are 65,536 numbers")?;
+    let accepted = Arc::new(alloc, accepted_of(alloc, schema)?)?;
+    let name = format!(in alloc; "procedure_{named}")?;
+    Ok(Entry::Addition(AddedProcedure {
+        name: Bytes::new(Vec::from_slice(alloc, name.as_bytes())?),
+        number,
+        accepted,
+    }))
+}
+
+/// Delivers additions of the numbers from one to another: how many commit.
+fn deliver_new(
+    alloc: Global,
+    checked: &mut CheckedReplica,
+    schema: &Schema,
+    from: u64,
+    to: u64,
+) -> anyhow::Result<u64> {
+    let mut commits = 0u64;
+    for number in from..to {
+        let entry = addition_of(alloc, schema, number, number)?;
+        if matches!(deliver(checked, &entry)?, Verdict::Commit) {
+            commits = commits.wrapping_add(1);
+        }
+    }
+    Ok(commits)
+}
+
+/// Adds so many procedures, and then so many others: how many are stored.
+pub(crate) fn additions(alloc: Global, stored: u64, times: u64) -> anyhow::Result<u64> {
+    let catalogue = catalogue_of(alloc)?;
+    let mut checked = CheckedReplica::new(alloc, 4_096, &catalogue)?;
+    let to = stored.saturating_add(times);
+    deliver_new(alloc, &mut checked, catalogue.schema(), 0, to)
+}
+
+/// Delivers so many additions under new names and numbers that are taken: how many are.
+fn deliver_taken(
+    alloc: Global,
+    checked: &mut CheckedReplica,
+    schema: &Schema,
+    stored: u64,
+    times: u64,
+) -> anyhow::Result<u64> {
+    let mut taken = 0u64;
+    for time in 0..times {
+        let number = time.checked_rem(stored).unwrap_or(0);
+        let entry = addition_of(alloc, schema, stored.saturating_add(time), number)?;
+        if matches!(deliver(checked, &entry)?, Verdict::Taken(_)) {
+            taken = taken.wrapping_add(1);
+        }
+    }
+    Ok(taken)
+}
+
+/// Adds so many procedures, and then so many times one whose number is taken: how often it was.
+pub(crate) fn taken(alloc: Global, stored: u64, times: u64) -> anyhow::Result<u64> {
+    let catalogue = catalogue_of(alloc)?;
+    let mut checked = CheckedReplica::new(alloc, 4_096, &catalogue)?;
+    let _added = deliver_new(alloc, &mut checked, catalogue.schema(), 0, stored)?;
+    deliver_taken(alloc, &mut checked, catalogue.schema(), stored, times)
+}
+
+/// So many additions, each with a program of its own.
+fn additions_of(alloc: Global, schema: &Schema, count: u64) -> anyhow::Result<Vec<Entry>> {
+    let mut entries = Vec::new(alloc);
+    for number in 0..count {
+        entries.push(addition_of(alloc, schema, number, number)?)?;
+    }
+    Ok(entries)
+}
+
+/// A replica to which the entries were delivered.
+fn replica_of<'a>(
+    alloc: Global,
+    catalogue: &'a Catalogue,
+    entries: &[Entry],
+) -> anyhow::Result<CheckedReplica<'a>> {
+    let mut checked = CheckedReplica::new(alloc, 4_096, catalogue)?;
+    for entry in entries {
+        let _verdict = deliver(&mut checked, entry)?;
+    }
+    Ok(checked)
+}
+
+/// Adds so many procedures to each of so many replicas, and keeps the replicas and the entries, so that their memory can be
+/// taken from outside: how many are stored at all of them.
+pub(crate) fn stored(alloc: Global, count: u64, replicas: u64) -> anyhow::Result<u64> {
+    let catalogue = catalogue_of(alloc)?;
+    let entries = additions_of(alloc, catalogue.schema(), count)?;
+    let mut kept = Vec::new(alloc);
+    for _ in 0..replicas {
+        kept.push(replica_of(alloc, &catalogue, &entries)?)?;
+    }
+    let mut sum = 0u64;
+    for checked in &kept {
+        sum = sum.wrapping_add(checked.replica().procedures().list().count() as u64);
+    }
+    Ok(sum)
+}

@@ -1,0 +1,49 @@
+//! Verdicts on calls with requests, of which many are kept.
+
+ghost use Rattle.std.specs.Prelude.{◌≡◌, ◌<◌, IfOk};
+
+use crate::delivering::put_of;
+use certify::Certifier;
+use log_entry::ExecutedCall;
+use log_model::{RequestId, Verdict};
+use std::alloc::Global;
+
+/// A put that commits, with the request of a number.
+fn numbered_put(alloc: Global, session: u32, sequence: u32) -> anyhow::Result<ExecutedCall>
+    ensures { IfOk result (λ e. e.call.snapshot ≡ 0) }
+{
+    let mut call = put_of(alloc, 1, 0)?;
+    call.request = RequestId { session, sequence };
+    Ok(call)
+}
+
+/// A certifier that has kept so many requests. Its window is short, so that a call without one of them is stale at once.
+fn certifier_with(alloc: Global, requests: u32) -> anyhow::Result<Certifier>
+    ensures { IfOk result (λ c. c.memory.count ≡ requests) }
+{
+    let mut certifier = Certifier::new(alloc, 1)?;
+    for before in 0..requests {
+        let call = numbered_put(alloc, 1, before)?;
+        let prepared = certifier.prepare(&call)?;
+        certifier.keep(before + 1, Verdict::Commit, prepared);
+    }
+    Ok(certifier)
+}
+
+/// Asks for so many verdicts on calls of a session, whose requests are spread over those that are kept of session 1: how
+/// many repeat one.
+pub(crate) fn requests(alloc: Global, session: u32, kept: u32, times: u64) -> anyhow::Result<u64> {
+    let mut certifier = certifier_with(alloc, kept)?;
+    let mut call = numbered_put(alloc, session, 0)?;
+    let mut repeated = 0u64;
+    for time in 0..times {
+        let sequence = time
+            .wrapping_mul(2_654_435_761)
+            .checked_rem(u64::from(kept));
+        call.request.sequence = sequence.unwrap_or(0) as u32;
+        if let Verdict::Repeated(_) = certifier.verdict(&call, kept + 1) {
+            repeated = repeated.wrapping_add(1);
+        }
+    }
+    Ok(repeated)
+}

@@ -1,0 +1,73 @@
+//! What a replica says of itself.
+
+use super::{byte_at, certification_at};
+use log_model::Verdict;
+use replica::Replica;
+use std::alloc::{Allocator, Global};
+
+/// What a replica is to say of itself: what became of each entry that it has; the bytes at keys 1 and 2; how many rows there
+/// are and the sum of keys times bytes; how many procedures it has, and the number of `one`.
+#[derive(Clone, Copy)]
+pub(super) struct State {
+    pub verdicts: &'static [Verdict],
+    pub first: Option<u8>,
+    pub second: Option<u8>,
+    pub listed: (usize, u64),
+    pub procedures: usize,
+    pub one: Option<u16>,
+}
+
+fn listed_now<A: Allocator + Copy>(
+    alloc: Global,
+    replica: &Replica<A, Global>,
+) -> Option<(usize, u64)> {
+    let rows = replica.rows(alloc).ok()?;
+    let mut sum = 0u64;
+    for row in &rows {
+        let byte = row.bytes().first().copied().unwrap_or(0);
+        sum = sum.wrapping_add(row.key().wrapping_mul(u64::from(byte)));
+    }
+    Some((rows.len(), sum))
+}
+
+/// Whether these became of the entries, and there are no more.
+fn has_verdicts<A: Allocator + Copy>(replica: &Replica<A, Global>, expected: &[Verdict]) -> bool {
+    let mut position = 0u32;
+    for verdict in expected {
+        position = position.wrapping_add(1);
+        match certification_at(replica, position) {
+            Some(certification) if certification.verdict == *verdict => (),
+            _ => return false,
+        }
+    }
+    replica.position() == position
+}
+
+/// Whether there are so many procedures, and `one` is found by its name and by its number, or by neither.
+fn has_procedures<A: Allocator + Copy>(
+    replica: &Replica<A, Global>,
+    count: usize,
+    one: Option<u16>,
+) -> bool {
+    let procedures = replica.procedures();
+    let numbered = procedures.by_number(9).is_some();
+    procedures.list().count() == count
+        && procedures.by_name(b"one") == one
+        && numbered == one.is_some()
+}
+
+/// Whether a replica, stopped or not, says this of itself.
+pub(super) fn is_in<A: Allocator + Copy>(
+    alloc: Global,
+    replica: &Replica<A, Global>,
+    state: &State,
+    stopped: bool,
+) -> bool {
+    let position = replica.position();
+    let rows = byte_at(replica, position, 1) == Some(state.first)
+        && byte_at(replica, position, 2) == Some(state.second)
+        && listed_now(alloc, replica) == Some(state.listed);
+    rows && replica.stopped() == stopped
+        && has_verdicts(replica, state.verdicts)
+        && has_procedures(replica, state.procedures, state.one)
+}
