@@ -6,8 +6,8 @@ ghost use Rattle.log_model.specs.Log.{CertifiedItem, is_commit, repeats, first_p
 ghost use Rattle.certify.specs.Kept.{key_of, IsGivenRequest, KeepsRequests};
 
 use crate::ring::is_commit;
-use log_model::{RequestId, Verdict};
 use indexmap::IndexMap;
+use log_model::{RequestId, Verdict};
 use std::alloc::Allocator;
 use std::hash::{BuildHasherDefault, FoldHasher};
 

@@ -12,7 +12,10 @@ use std::test::Fail;
 
 /// A procedure that replies 1.
 fn addition(alloc: Global) -> Result<Entry, Fail> {
-    let code = decode(alloc, &[0xb7, 0, 0, 0, 1, 0, 0, 0, 0x95, 0, 0, 0, 0, 0, 0, 0])?;
+    let code = decode(
+        alloc,
+        &[0xb7, 0, 0, 0, 1, 0, 0, 0, 0x95, 0, 0, 0, 0, 0, 0, 0],
+    )?;
     let accepted = verify(alloc, code, &Schema::new(alloc, &[(1, 8)])?, 0)?;
     Ok(Entry::Addition(AddedProcedure {
         name: Bytes::new(Vec::from_slice(alloc, b"one")?),

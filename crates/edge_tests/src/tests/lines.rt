@@ -2,7 +2,9 @@ use abs_cause::Cause;
 use bpf_code::{DecodeCause, DecodeFault};
 use dsm_model::{Outcome, ProgramFault, StepRefusal};
 use log_model::{Identifier, Verdict};
-use report::{CallReport, DeliveredEntry, Line, LoggedEntry, ReplicaReport, add_line, call_line, line};
+use report::{
+    CallReport, DeliveredEntry, Line, LoggedEntry, ReplicaReport, add_line, call_line, line,
+};
 use scarce::Scarce;
 use std::test::Fail;
 
