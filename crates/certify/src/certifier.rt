@@ -148,7 +148,8 @@ impl<A: Allocator + Copy> Certifier<A> {
         requires next { position ≡ self.old.memory.count + 1 }
         requires room { IsGivenRequest prepared.request → 0 < self.old.room }
         ensures stands { (past : List CertifiedItem) (c : CertifiedItem) → StandsFor self.old.memory past
-            → c.verdict ≡ verdict → c.request ≡ prepared.request → IsPreparedOf prepared c.writes → StandsFor self.new.memory (past ++ c ∷ []) }
+            → c.verdict ≡ verdict → c.request ≡ prepared.request → IsPreparedOf prepared c.writes
+            → StandsFor self.new.memory (past ++ c ∷ []) }
         ensures window { self.new.memory.window ≡ self.old.memory.window }
         ensures count { self.new.memory.count ≡ position }
         ensures compared { self.new.compared ≡ self.old.compared }

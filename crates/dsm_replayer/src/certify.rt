@@ -1,7 +1,8 @@
 //! Verdicts on calls and comparisons, by what became of the items before.
 
 ghost use Rattle.std.specs.Prelude.{◌≡◌, ◌+◌, ◌-◌, ◌<◌, ◌≤◌, ◌^◌, length, map, drop, nat_le, ◌++◌, IfOk, OnOk};
-ghost use Rattle.log_model.specs.Log.{is_commit, same_request, conflicts, repeats, first_position, unless_repeated, unless_conflict, verdict_after};
+ghost use Rattle.log_model.specs.Log.{is_commit, same_request, conflicts, repeats, first_position, unless_repeated};
+ghost use Rattle.log_model.specs.Log.{unless_conflict, verdict_after};
 ghost use Rattle.log_model.specs.Comparisons.{comparisons_from, comparisons_after};
 ghost use Rattle.dsm_replayer.specs.Replay.{certified_of, comparison_at, comparisons_on_new, verdict_on_new};
 

@@ -1,6 +1,7 @@
 //! Laws of the log: its verdicts, and the rows after each position.
 
-ghost use Rattle.std.specs.Prelude.{◌≡◌, ◌↔◌, ◌+◌, ◌-◌, ◌<◌, ◌≤◌, ℕ, suc, List, ◌++◌, length, slice_get, Some, None, IsSome, ◌==◌, IsTrue, [], ◌∷◌};
+ghost use Rattle.std.specs.Prelude.{◌≡◌, ◌↔◌, ◌+◌, ◌-◌, ◌<◌, ◌≤◌, ℕ, suc, List, ◌++◌, length, slice_get, Some, None, IsSome};
+ghost use Rattle.std.specs.Prelude.{◌==◌, IsTrue, [], ◌∷◌};
 ghost use Rattle.std.specs.List.{list_any};
 ghost use Rattle.schema.specs.declared.look.Look.{Look};
 ghost use Rattle.schema.specs.Rows.{AreRows};
@@ -9,7 +10,8 @@ ghost use Rattle.log_model.specs.declared.verdict.Verdict.TheVariants.{Commit, C
 ghost use Rattle.log_model.specs.declared.verdict.Identifier.TheVariants.{Name, Number};
 ghost use Rattle.log_model.specs.declared.verdict.Verdict.{Verdict};
 ghost use Rattle.log_model.specs.Comparisons.{comparisons_after, AreRising, IsCompared};
-ghost use Rattle.log_model.specs.Log.{StoredProcedure, CertifiedItem, Setting, Call, CallItem, AdditionItem, Log, IsPlaced, IsLog, same_request};
+ghost use Rattle.log_model.specs.Log.{StoredProcedure, CertifiedItem, Setting, Call, CallItem, AdditionItem, Log, IsPlaced};
+ghost use Rattle.log_model.specs.Log.{IsLog, same_request};
 ghost use Rattle.log_model.specs.Log.{by_number, by_name, if_commits, history, rows_after, procedures_after, verdict_of, run_on, run_in};
 ghost use Rattle.log_model.specs.Fit.{AreSafe, HasSafeProcedures, AreItems};
 ghost use Rattle.log_model.specs.Verdicts.{IsConflict, IsLeastConflict, IsRepetition, IsNew};

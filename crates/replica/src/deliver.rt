@@ -69,7 +69,8 @@ fn take_call<A: Allocator + Copy, B: Allocator + Copy>(
     ensures certified { IfOk result (λ c. (past : List CertifiedItem) → StandsFor certifier.old.memory past
         → c ≡ certification_after certifier.old.memory.window past call.now.call call.now.looks) }
     ensures memory { OnOk result ((past : List CertifiedItem) → StandsFor certifier.old.memory past
-        → StandsFor certifier.new.memory (past ++ certified_call_after certifier.old.memory.window past call.now.call call.now.looks call.now.writes ∷ [])) }
+        → StandsFor certifier.new.memory
+        (past ++ certified_call_after certifier.old.memory.window past call.now.call call.now.looks call.now.writes ∷ [])) }
     ensures window { certifier.new.memory.window ≡ certifier.old.memory.window }
     ensures taken { OnOk result (certifier.new.memory.count ≡ position) }
     ensures same_memory { OnErr result (certifier.new.memory ≡ certifier.old.memory) }

@@ -18,11 +18,14 @@ ghost use Rattle.log_model.specs.declared.request.RequestId.{RequestId};
 ghost use Rattle.log_model.specs.declared.verdict.Verdict.{Verdict};
 ghost use Rattle.dsm_model.specs.declared.outcome.ProgramFault.{ProgramFault};
 ghost use Rattle.dsm_model.specs.declared.outcome.StepRefusal.TheVariants.{NoReplica, NoProcedure, ArgumentsLength, NoCall};
-ghost use Rattle.dsm_model.specs.declared.outcome.StepRefusal.TheVariants.{NotAtExit, NothingToDeliver, ReplicaStopped, LogFull, OutOfMemory, TooManyCalls, ArgumentsLimit, ProgramRefused, NameShape, ZeroInRequest};
+ghost use Rattle.dsm_model.specs.declared.outcome.StepRefusal.TheVariants.{NotAtExit, NothingToDeliver, ReplicaStopped, LogFull};
+ghost use Rattle.dsm_model.specs.declared.outcome.StepRefusal.TheVariants.{OutOfMemory, TooManyCalls, ArgumentsLimit};
+ghost use Rattle.dsm_model.specs.declared.outcome.StepRefusal.TheVariants.{ProgramRefused, NameShape, ZeroInRequest};
 ghost use Rattle.dsm_model.specs.declared.outcome.Outcome.{Outcome};
 ghost use Rattle.dsm_model.specs.declared.outcome.Outcome.TheVariants.{Begun, More, Exit, Stale, NoMemory, Ordered, Read};
 ghost use Rattle.dsm_model.specs.declared.outcome.Outcome.TheVariants.{Cancelled, Delivered, Rebuilt, Added, Refused};
-ghost use Rattle.log_model.specs.Log.{StoredProcedure, Setting, CallItem, AdditionItem, by_number, procedures_after, procedure_of, run_in, verdict_of};
+ghost use Rattle.log_model.specs.Log.{StoredProcedure, Setting, CallItem, AdditionItem, by_number, procedures_after};
+ghost use Rattle.log_model.specs.Log.{procedure_of, run_in, verdict_of};
 ghost use Rattle.log_model.specs.Name.{is_name};
 ghost use Rattle.log_model.specs.Fit.{HasSafeProcedures};
 ghost use Rattle.dsm_model.specs.Sound.{IsWorld};
@@ -121,7 +124,8 @@ pub fn calls_are_ordered_at_their_end()
         → (o : OpenCall) × (open_call before c ≡ Some o) × ((run_in w before.log o.call).steps ≤ o.turns)
         × ((run_in w before.log o.call).cancel_code ≡ None) × (len (run_in w before.log o.call).writes ≢ 0)
         × (position ≡ length before.log + 1) × (length before.log < max_calls)
-        × (after ≡ with_open_call (record { log = before.log ++ CallItem o.call ∷ []; replicas = before.replicas; calls = before.calls }) c None) }
+        × (after ≡ with_open_call
+        (record { log = before.log ++ CallItem o.call ∷ []; replicas = before.replicas; calls = before.calls }) c None) }
     ensures full { (w : Setting) (before : World) (c : ℕ) (after : World)
         → IsStep w before (Order c) (Refused LogFull) after
         → (o : OpenCall) × (open_call before c ≡ Some o) × ((run_in w before.log o.call).steps ≤ o.turns)

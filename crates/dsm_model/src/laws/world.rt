@@ -10,11 +10,13 @@ ghost use Rattle.dsm_model.specs.declared.outcome.Outcome.TheVariants.{Exit, Ord
 ghost use Rattle.log_model.specs.Log.{Setting, verdict_of, procedure_of, StoredProcedure, Log, run_in};
 ghost use Rattle.bpf_semantics.specs.Path.{longest_path};
 ghost use Rattle.log_model.specs.Fit.{HasSafeProcedures};
-ghost use Rattle.dsm_model.specs.World.{World, OpenCall, Step, Turn, Order, first_world, open_call, IsStep, AreSteps, Checked, Add, Replica, Begin, Deliver, Rebuild, max_calls, numbered, with_open_call, with_replica};
+ghost use Rattle.dsm_model.specs.World.{World, OpenCall, Step, Turn, Order, first_world, open_call, IsStep, AreSteps, Checked};
+ghost use Rattle.dsm_model.specs.World.{Add, Replica, Begin, Deliver, Rebuild, max_calls, numbered, with_open_call, with_replica};
 ghost use Rattle.dsm_model.specs.Sound.{IsWorld, IsSound, IsSerialReply, IsGiven, AreGiven, IsOpenCall};
 
-/// Every list of steps leads from the first world to one in which the log is a log of calls of its procedures and of safe additions, no replica
-/// is past its end, and each open call is one whose replica has come as far as its snapshot.
+/// Every list of steps leads from the first world to one in which the log is a log of calls of its procedures and of
+/// safe additions, no replica is past its end, and each open call is one whose replica has come as far as its
+/// snapshot.
 pub fn steps_keep_a_world()
     ensures first { (w : Setting) (replicas : ℕ) → IsWorld w (first_world replicas) }
     ensures step { (w : Setting) (before : World) (step : Step) (outcome : Outcome) (after : World)
