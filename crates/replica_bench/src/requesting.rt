@@ -32,7 +32,9 @@ fn certifier_with(alloc: Global, requests: u32) -> anyhow::Result<Certifier>
 
 /// Asks for so many verdicts on calls of a session, whose requests are spread over those that are kept of session 1: how
 /// many repeat one.
-pub(crate) fn requests(alloc: Global, session: u32, kept: u32, times: u64) -> anyhow::Result<u64> {
+pub(crate) fn requests(alloc: Global, session: u32, kept: u32, times: u64) -> anyhow::Result<u64>
+    requires { kept < 4294967295 }
+{
     let mut certifier = certifier_with(alloc, kept)?;
     let mut call = numbered_put(alloc, session, 0)?;
     let mut repeated = 0u64;
