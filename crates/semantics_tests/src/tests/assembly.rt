@@ -1,11 +1,11 @@
-//! Programs slot by slot. Each is followed by EXIT, and its reply tells that the last step was made.
+//! Programs as lists of steps, one a slot. Each is followed by EXIT, and its reply tells that the last step was made.
 
+use super::same;
 use bpf_code::decode;
 use plain_runner::{CompletedRun, Row, run_program};
 use schema::Schema;
 use std::alloc::Global;
 use std::process::Abort;
-use std::test::Fail;
 
 /// EXIT.
 const EXIT: [u8; 8] = [0x95, 0, 0, 0, 0, 0, 0, 0];
@@ -13,8 +13,97 @@ const EXIT: [u8; 8] = [0x95, 0, 0, 0, 0, 0, 0, 0];
 /// The argument block.
 const ARGS: [u8; 8] = [0x81, 0x82, 0x83, 0x84, 0x85, 0x86, 0x87, 0x88];
 
+/// A slot of a program.
+#[derive(Clone, Copy)]
+pub(super) enum Step {
+    /// Sets a register to a number.
+    Set(u8, i32),
+    /// Copies the second register to the first.
+    Copy(u8, u8),
+    /// Adds a number to a register.
+    Add(u8, i32),
+    /// Stores a number in eight bytes of the stack.
+    Push(i16, i32),
+    /// Loads eight bytes from the stack.
+    Pull(u8, i16),
+    /// Calls a helper.
+    Call(i32),
+    /// The first and the second slot of a wide load of a number.
+    Low(u8, u64),
+    High(u64),
+    /// Opcode, destination, source, offset and immediate.
+    Slot(u8, u8, u8, i16, i32),
+    /// A slot that the form decides.
+    Tried(Part),
+}
+
+/// A slot that depends on the form that is tried, so that one list of programs tries many forms.
+#[derive(Clone, Copy)]
+pub(super) enum Part {
+    /// Sets a register to an operand by a move, which has its low half, and by a wide load.
+    SetLeft(u8),
+    SetRight(u8),
+    LowLeft(u8),
+    HighLeft,
+    LowRight(u8),
+    HighRight,
+    /// The form on a register and its immediate, and on two registers.
+    Immediate(u8),
+    Register(u8, u8),
+    /// The form with one operand: its destination, and its source where it has one.
+    Operand(u8, u8),
+    /// A load: destination, source and offset; and to r0, with the offset less the count.
+    Load(u8, u8, i16),
+    LoadBack(u8, i16),
+    /// A store: destination and offset; and on the stack with the offset less the count.
+    Store(u8, i16),
+    StoreBack(i16),
+}
+
+/// The form that is tried, and what its programs reply.
+#[derive(Clone, Copy)]
+pub(super) struct Form {
+    pub(super) opcode: u8,
+    /// Its opcode with a source register.
+    pub(super) register: u8,
+    /// The source register of a store.
+    pub(super) src: u8,
+    pub(super) offset: i16,
+    pub(super) number: i32,
+    /// How many bytes are loaded or stored.
+    pub(super) count: i16,
+    pub(super) left: u64,
+    pub(super) right: u64,
+    pub(super) replies: [Option<u64>; 3],
+}
+
+/// Where no form is tried.
+pub(super) const NO_FORM: Form = Form {
+    opcode: 0,
+    register: 0,
+    src: 0,
+    offset: 0,
+    number: 0,
+    count: 0,
+    left: 0,
+    right: 0,
+    replies: [None, None, None],
+};
+
+/// What comes of a program: it is stuck, replies a number, or replies what the form says in one of three places.
+pub(super) enum Wanted {
+    Stuck,
+    Gives(u64),
+    First,
+    Second,
+    Third,
+}
+
+/// A program without its EXIT, and what comes of it on no rows.
+pub(super) type Case = (&'static [Step], Wanted);
+
 /// A slot by its fields (RFC 9669 section 3).
-pub(super) fn slot(opcode: u8, dst: u8, src: u8, offset: i16, immediate: i32) -> [u8; 8] {
+fn slot(opcode: u8, dst: u8, src: u8, offset: i16, immediate: i32) -> [u8; 8] {
     let [offset_low, offset_high] = offset.to_le_bytes();
     let [a, b, c, d] = immediate.to_le_bytes();
     [
@@ -29,56 +118,127 @@ pub(super) fn slot(opcode: u8, dst: u8, src: u8, offset: i16, immediate: i32) ->
     ]
 }
 
-/// Sets a register to a number.
-pub(super) fn set(dst: u8, number: i32) -> [u8; 8] {
-    slot(0xb7, dst, 0, 0, number)
+/// A slot with the low half of a number, and the second slot of a wide load.
+fn low(opcode: u8, dst: u8, number: u64) -> [u8; 8] {
+    let [a, b, c, d, _, _, _, _] = number.to_le_bytes();
+    [opcode, dst, 0, 0, a, b, c, d]
 }
 
-/// Sets a register to a number of 64 bits by a wide load, which has two slots.
-pub(super) fn wide(dst: u8, number: u64) -> [[u8; 8]; 2] {
-    let [a, b, c, d, e, f, g, h] = number.to_le_bytes();
-    [[0x18, dst, 0, 0, a, b, c, d], [0, 0, 0, 0, e, f, g, h]]
+fn high(number: u64) -> [u8; 8] {
+    let [_, _, _, _, a, b, c, d] = number.to_le_bytes();
+    [0, 0, 0, 0, a, b, c, d]
 }
 
-/// Copies a register.
-pub(super) fn copy(dst: u8, src: u8) -> [u8; 8] {
-    slot(0xbf, dst, src, 0, 0)
-}
-
-/// Adds a number to a register.
-pub(super) fn add(dst: u8, number: i32) -> [u8; 8] {
-    slot(0x07, dst, 0, 0, number)
-}
-
-/// Stores eight bytes on the stack.
-pub(super) fn push(offset: i16, number: i32) -> [u8; 8] {
-    slot(0x7a, 10, 0, offset, number)
-}
-
-/// Loads eight bytes from the stack.
-pub(super) fn pull(dst: u8, offset: i16) -> [u8; 8] {
-    slot(0x79, dst, 10, offset, 0)
-}
-
-pub(super) fn call(helper: i32) -> [u8; 8] {
-    slot(0x85, 0, 0, 0, helper)
-}
-
-/// A program without its EXIT, and its reply on no rows; none where it is stuck.
-pub(super) type Case<'a> = (&'a [[u8; 8]], Option<u64>);
-
-/// Runs each program, followed by EXIT, and compares its reply.
-pub(super) fn replies(rt: &impl Abort, alloc: Global, cases: &[Case<'_>]) -> Result<(), Fail> {
-    for (slots, expected) in cases {
-        let mut program = Vec::new(alloc);
-        for slot in *slots {
-            program.extend_from_slice(slot)?;
-        }
-        program.extend_from_slice(&EXIT)?;
-        let run = run(alloc, &program, &ARGS, &[])?;
-        assert_eq!(rt; run.map(|run| run.reply()), *expected, "{slots:?}");
+fn slot_of(step: &Step, form: &Form) -> [u8; 8] {
+    match step {
+        Step::Set(dst, number) => slot(0xb7, *dst, 0, 0, *number),
+        Step::Copy(dst, src) => slot(0xbf, *dst, *src, 0, 0),
+        Step::Add(dst, number) => slot(0x07, *dst, 0, 0, *number),
+        Step::Push(offset, number) => slot(0x7a, 10, 0, *offset, *number),
+        Step::Pull(dst, offset) => slot(0x79, *dst, 10, *offset, 0),
+        Step::Call(helper) => slot(0x85, 0, 0, 0, *helper),
+        Step::Low(dst, number) => low(0x18, *dst, *number),
+        Step::High(number) => high(*number),
+        Step::Slot(opcode, dst, src, offset, number) => slot(*opcode, *dst, *src, *offset, *number),
+        Step::Tried(part) => slot_of_part(part, form),
     }
-    Ok(())
+}
+
+fn slot_of_part(part: &Part, form: &Form) -> [u8; 8] {
+    match part {
+        Part::SetLeft(dst) => low(0xb7, *dst, form.left),
+        Part::SetRight(dst) => low(0xb7, *dst, form.right),
+        Part::LowLeft(dst) => low(0x18, *dst, form.left),
+        Part::HighLeft => high(form.left),
+        Part::LowRight(dst) => low(0x18, *dst, form.right),
+        Part::HighRight => high(form.right),
+        Part::Immediate(dst) => slot(form.opcode, *dst, 0, form.offset, form.number),
+        Part::Register(dst, src) => slot(form.register, *dst, *src, form.offset, 0),
+        Part::Operand(dst, src) => {
+            let src = if form.offset == 0 { 0 } else { *src };
+            slot(form.opcode, *dst, src, form.offset, form.number)
+        }
+        Part::Load(dst, src, offset) => slot(form.opcode, *dst, *src, *offset, 0),
+        Part::LoadBack(src, offset) => {
+            slot(form.opcode, 0, *src, offset.wrapping_sub(form.count), 0)
+        }
+        Part::Store(dst, offset) => slot(form.opcode, *dst, form.src, *offset, form.number),
+        Part::StoreBack(offset) => {
+            slot(
+                form.opcode,
+                10,
+                form.src,
+                offset.wrapping_sub(form.count),
+                form.number,
+            )
+        }
+    }
+}
+
+/// A program with its EXIT.
+pub(super) fn program_of(rt: &impl Abort, alloc: Global, form: &Form, steps: &[Step]) -> Vec<u8> {
+    let mut program = Vec::new(alloc);
+    for step in steps {
+        append(rt, &mut program, slot_of(step, form));
+    }
+    append(rt, &mut program, EXIT);
+    program
+}
+
+fn append(rt: &impl Abort, program: &mut Vec<u8>, slot: [u8; 8]) {
+    program.extend_from_slice(&slot).expect(rt, "a slot");
+}
+
+/// Puts a step in place of another.
+pub(super) fn replace(program: &mut [u8], at: usize, step: &Step) {
+    let start = at.wrapping_mul(8);
+    if let Some(slot) = program.get_mut(start..start.wrapping_add(8)) {
+        slot.copy_from_slice(&slot_of(step, &NO_FORM));
+    }
+}
+
+/// What a program replies on no rows; none where it is stuck.
+pub(super) fn reply_of(rt: &impl Abort, alloc: Global, program: &[u8]) -> Option<u64> {
+    match run(rt, alloc, program, &ARGS, &[]) {
+        Some(run) => Some(run.reply()),
+        None => None,
+    }
+}
+
+fn wanted_of(wanted: &Wanted, form: &Form) -> Option<u64> {
+    match wanted {
+        Wanted::Stuck => None,
+        Wanted::Gives(reply) => Some(*reply),
+        Wanted::First => form.replies[0],
+        Wanted::Second => form.replies[1],
+        Wanted::Third => form.replies[2],
+    }
+}
+
+/// Asserts that each program replies what is wanted. A form is told by its opcode and its operands.
+pub(super) fn replies(rt: &impl Abort, alloc: Global, form: &Form, cases: &[Case]) {
+    for (index, (steps, wanted)) in cases.iter().enumerate() {
+        let found = try_steps(rt, alloc, form, steps);
+        let told = (
+            index,
+            form.opcode,
+            form.offset,
+            form.number,
+            form.left,
+            form.right,
+        );
+        same(
+            rt,
+            "case, opcode and operands, reply",
+            (told, found),
+            (told, wanted_of(wanted, form)),
+        );
+    }
+}
+
+fn try_steps(rt: &impl Abort, alloc: Global, form: &Form, steps: &[Step]) -> Option<u64> {
+    let program = program_of(rt, alloc, form, steps);
+    reply_of(rt, alloc, &program)
 }
 
 /// Table 1 of width 8, and table 2 of width 2.
@@ -87,29 +247,35 @@ pub(super) const TABLES: [(u8, u16); 2] = [(1, 8), (2, 2)];
 /// The run of a program on arguments and rows, which are table, key and value: 2 bytes of it in
 /// table 2, and 8 in the others. None where it is stuck.
 pub(super) fn run(
+    rt: &impl Abort,
     alloc: Global,
     program: &[u8],
     args: &[u8],
     rows: &[(u8, u64, u64)],
-) -> Result<Option<CompletedRun>, Fail> {
-    let list = rows_of(alloc, rows)?;
-    let code = decode(alloc, program)?;
-    let schema = Schema::new(alloc, &TABLES)?;
-    Ok(run_program(alloc, &code, &schema, args, &list)?)
+) -> Option<CompletedRun> {
+    let list = rows_of(rt, alloc, rows);
+    let code = decode(alloc, program).expect(rt, "the program");
+    let schema = Schema::new(alloc, &TABLES).expect(rt, "the schema");
+    run_program(alloc, &code, &schema, args, &list).expect(rt, "the run")
 }
 
 /// A row of table, key and value: 2 bytes of it in table 2, and 8 in the others.
-fn row_of(alloc: Global, table: u8, key: u64, value: u64) -> Result<Row, Fail> {
+pub(super) fn row_of(rt: &impl Abort, alloc: Global, table: u8, key: u64, value: u64) -> Row {
     let width = if table == 2 { 2 } else { 8 };
     let bytes = value.to_le_bytes();
     let (front, _) = bytes.split_at(width);
-    Ok(Row::new(table, key, Vec::from_slice(alloc, front)?))
+    Row::new(
+        table,
+        key,
+        Vec::from_slice(alloc, front).expect(rt, "a row"),
+    )
 }
 
-fn rows_of(alloc: Global, rows: &[(u8, u64, u64)]) -> Result<Vec<Row>, Fail> {
+fn rows_of(rt: &impl Abort, alloc: Global, rows: &[(u8, u64, u64)]) -> Vec<Row> {
     let mut list = Vec::new(alloc);
     for &(table, key, value) in rows {
-        list.push(row_of(alloc, table, key, value)?)?;
+        let row = row_of(rt, alloc, table, key, value);
+        list.push(row).expect(rt, "room for the row");
     }
-    Ok(list)
+    list
 }

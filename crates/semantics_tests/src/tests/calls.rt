@@ -1,245 +1,362 @@
 //! Each helper: a call that is made, and for each argument calls that can't be.
 
-use super::assembly::{add, call, copy, push, replies, set};
+use super::assembly::Step::{Add, Call, Copy, Push, Set};
+use super::assembly::Wanted::{Gives, Stuck};
+use super::assembly::{Case, NO_FORM, Step, program_of, replace, replies, reply_of};
+use super::same;
 use std::alloc::Global;
 use std::process::Abort;
-use std::test::Fail;
 
 /// A call with all that leads to it, and where in it the arguments are set: the table in one slot,
 /// each number in one, and each buffer of the stack in two.
-#[derive(Clone, Copy)]
-struct Call<'a> {
-    slots: &'a [[u8; 8]],
+struct HelperCall {
+    slots: &'static [Step],
     table: usize,
-    numbers: &'a [(usize, u8)],
-    buffers: &'a [(usize, u8)],
+    numbers: &'static [(usize, Others)],
+    buffers: &'static [(usize, Others)],
 }
 
-/// The slots with others from one on.
-fn changed(
+static CALLS: [HelperCall; 5] = [
+    HelperCall {
+        slots: &[Set(2, 5), Copy(3, 10), Add(3, -8), Set(1, 1), Call(1)],
+        table: 3,
+        numbers: &[(0, NO_NUMBERS_IN_R2)],
+        buffers: &[(1, NO_BUFFERS_IN_R3)],
+    },
+    HelperCall {
+        slots: &[
+            Push(-8, 1),
+            Set(2, 5),
+            Copy(3, 10),
+            Add(3, -8),
+            Set(1, 1),
+            Call(2),
+        ],
+        table: 4,
+        numbers: &[(1, NO_NUMBERS_IN_R2)],
+        buffers: &[(2, NO_BUFFERS_IN_R3)],
+    },
+    HelperCall {
+        slots: &[Set(2, 5), Set(1, 1), Call(3)],
+        table: 1,
+        numbers: &[(0, NO_NUMBERS_IN_R2)],
+        buffers: &[],
+    },
+    HelperCall {
+        slots: &[Set(2, 5), Set(3, 9), Set(1, 1), Call(4)],
+        table: 2,
+        numbers: &[(0, NO_NUMBERS_IN_R2), (1, NO_NUMBERS_IN_R3)],
+        buffers: &[],
+    },
+    HelperCall {
+        slots: &[
+            Set(2, 5),
+            Set(3, 9),
+            Copy(4, 10),
+            Add(4, -16),
+            Copy(5, 10),
+            Add(5, -8),
+            Set(1, 1),
+            Call(5),
+        ],
+        table: 6,
+        numbers: &[(0, NO_NUMBERS_IN_R2), (1, NO_NUMBERS_IN_R3)],
+        buffers: &[(2, NO_BUFFERS_IN_R4), (4, NO_BUFFERS_IN_R5)],
+    },
+];
+
+/// Others by name, and the slots that they take.
+type Others = &'static [(&'static str, &'static [Step])];
+
+/// At entry r1 is a place in the arguments.
+static NO_TABLES: [(&str, &[Step]); 5] = [
+    ("table 0", &[Set(1, 0)]),
+    ("table 3", &[Set(1, 3)]),
+    ("table 257", &[Set(1, 257)]),
+    ("a place on the stack", &[Copy(1, 10)]),
+    ("nothing", &[Set(9, 0)]),
+];
+
+const NO_NUMBERS_IN_R2: Others = &[
+    ("nothing", &[Set(9, 0)]),
+    ("a place in the arguments", &[Copy(2, 1)]),
+    ("a place on the stack", &[Copy(2, 10)]),
+];
+
+const NO_NUMBERS_IN_R3: Others = &[
+    ("nothing", &[Set(9, 0)]),
+    ("a place in the arguments", &[Copy(3, 1)]),
+    ("a place on the stack", &[Copy(3, 10)]),
+];
+
+const NO_BUFFERS_IN_R3: Others = &[
+    ("nothing", &[Set(9, 0), Set(9, 0)]),
+    ("a number", &[Set(3, 0), Set(9, 0)]),
+    ("a place in the arguments", &[Copy(3, 1), Set(9, 0)]),
+    ("past the stack", &[Copy(3, 10), Add(3, -7)]),
+    ("before the stack", &[Copy(3, 10), Add(3, -513)]),
+];
+
+const NO_BUFFERS_IN_R4: Others = &[
+    ("nothing", &[Set(9, 0), Set(9, 0)]),
+    ("a number", &[Set(4, 0), Set(9, 0)]),
+    ("a place in the arguments", &[Copy(4, 1), Set(9, 0)]),
+    ("past the stack", &[Copy(4, 10), Add(4, -7)]),
+    ("before the stack", &[Copy(4, 10), Add(4, -513)]),
+];
+
+const NO_BUFFERS_IN_R5: Others = &[
+    ("nothing", &[Set(9, 0), Set(9, 0)]),
+    ("a number", &[Set(5, 0), Set(9, 0)]),
+    ("a place in the arguments", &[Copy(5, 1), Set(9, 0)]),
+    ("past the stack", &[Copy(5, 10), Add(5, -7)]),
+    ("before the stack", &[Copy(5, 10), Add(5, -513)]),
+];
+
+/// What a call replies with others in place of some slots of it.
+fn reply_with(
+    rt: &impl Abort,
     alloc: Global,
-    slots: &[[u8; 8]],
+    call: &HelperCall,
     at: usize,
-    others: &[[u8; 8]],
-) -> Result<Vec<[u8; 8]>, Fail> {
-    let mut list = Vec::from_slice(alloc, slots)?;
+    others: &[Step],
+) -> Option<u64> {
+    let mut program = program_of(rt, alloc, &NO_FORM, call.slots);
     for (index, other) in others.iter().enumerate() {
-        if let Some(slot) = list.get_mut(at.wrapping_add(index)) {
-            *slot = *other;
+        replace(&mut program, at.wrapping_add(index), other);
+    }
+    reply_of(rt, alloc, &program)
+}
+
+/// The call is stuck with these in place of some slots. It is told by the slot of its table.
+fn is_stuck_with(
+    rt: &impl Abort,
+    alloc: Global,
+    call: &HelperCall,
+    at: usize,
+    others: &(&str, &[Step]),
+) {
+    let found = reply_with(rt, alloc, call, at, others.1);
+    same(
+        rt,
+        others.0,
+        (call.table, at, found),
+        (call.table, at, None),
+    );
+}
+
+fn asks_for_a_table(rt: &impl Abort, alloc: Global, call: &HelperCall) {
+    for other in &NO_TABLES {
+        is_stuck_with(rt, alloc, call, call.table, other);
+    }
+}
+
+fn asks_for_numbers(rt: &impl Abort, alloc: Global, call: &HelperCall) {
+    for (at, others) in call.numbers {
+        for other in *others {
+            is_stuck_with(rt, alloc, call, *at, other);
         }
     }
-    Ok(list)
+}
+
+fn asks_for_buffers(rt: &impl Abort, alloc: Global, call: &HelperCall) {
+    for (at, others) in call.buffers {
+        for other in *others {
+            is_stuck_with(rt, alloc, call, *at, other);
+        }
+    }
 }
 
 /// The call is made, and isn't with a wrong argument in place of each.
-fn asks_for_its_arguments(rt: &impl Abort, alloc: Global, call: &Call<'_>) -> Result<(), Fail> {
-    let none = set(9, 0);
-    replies(rt, alloc, &[(call.slots, Some(0))])?;
-    // At entry r1 is a place in the arguments.
-    for other in [set(1, 0), set(1, 3), set(1, 257), copy(1, 10), none] {
-        let slots = changed(alloc, call.slots, call.table, &[other])?;
-        replies(rt, alloc, &[(&slots, None)])?;
-    }
-    for &(at, register) in call.numbers {
-        for other in [none, copy(register, 1), copy(register, 10)] {
-            let slots = changed(alloc, call.slots, at, &[other])?;
-            replies(rt, alloc, &[(&slots, None)])?;
-        }
-    }
-    for &(at, register) in call.buffers {
-        for others in [
-            [none, none],
-            [set(register, 0), none],
-            [copy(register, 1), none],
-            [copy(register, 10), add(register, -7)],
-            [copy(register, 10), add(register, -513)],
-        ] {
-            let slots = changed(alloc, call.slots, at, &others)?;
-            replies(rt, alloc, &[(&slots, None)])?;
-        }
-    }
-    Ok(())
+fn asks_for_its_arguments(rt: &impl Abort, alloc: Global, call: &HelperCall) {
+    let made = reply_with(rt, alloc, call, 0, &[]);
+    same(
+        rt,
+        "table, reply",
+        (call.table, made),
+        (call.table, Some(0)),
+    );
+    asks_for_a_table(rt, alloc, call);
+    asks_for_numbers(rt, alloc, call);
+    asks_for_buffers(rt, alloc, call);
 }
 
 #[test]
-fn arguments(rt: HostRuntime) -> Result<(), Fail> {
-    let calls = [
-        Call {
-            slots: &[set(2, 5), copy(3, 10), add(3, -8), set(1, 1), call(1)],
-            table: 3,
-            numbers: &[(0, 2)],
-            buffers: &[(1, 3)],
-        },
-        Call {
-            slots: &[
-                push(-8, 1),
-                set(2, 5),
-                copy(3, 10),
-                add(3, -8),
-                set(1, 1),
-                call(2),
-            ],
-            table: 4,
-            numbers: &[(1, 2)],
-            buffers: &[(2, 3)],
-        },
-        Call {
-            slots: &[set(2, 5), set(1, 1), call(3)],
-            table: 1,
-            numbers: &[(0, 2)],
-            buffers: &[],
-        },
-        Call {
-            slots: &[set(2, 5), set(3, 9), set(1, 1), call(4)],
-            table: 2,
-            numbers: &[(0, 2), (1, 3)],
-            buffers: &[],
-        },
-        Call {
-            slots: &[
-                set(2, 5),
-                set(3, 9),
-                copy(4, 10),
-                add(4, -16),
-                copy(5, 10),
-                add(5, -8),
-                set(1, 1),
-                call(5),
-            ],
-            table: 6,
-            numbers: &[(0, 2), (1, 3)],
-            buffers: &[(2, 4), (4, 5)],
-        },
-    ];
-    for call in &calls {
-        asks_for_its_arguments(&rt, rt.alloc(), call)?;
+fn arguments(rt: HostRuntime) {
+    for call in &CALLS {
+        asks_for_its_arguments(&rt, rt.alloc(), call);
     }
-    Ok(())
 }
 
 /// Rows of table 1 have eight bytes, those of table 2 two.
-#[test]
-fn buffers_have_the_tables_width(rt: HostRuntime) -> Result<(), Fail> {
-    let (key, table, three) = (set(2, 5), set(1, 2), copy(3, 10));
-    let (hi, four, five) = (set(3, 9), copy(4, 10), copy(5, 10));
-    replies(
-        &rt,
-        rt.alloc(),
+static BUFFERS: [Case; 9] = [
+    (
+        &[Set(2, 5), Copy(3, 10), Add(3, -512), Set(1, 1), Call(1)],
+        Gives(0),
+    ),
+    (
+        &[Set(2, 5), Copy(3, 10), Add(3, -2), Set(1, 2), Call(1)],
+        Gives(0),
+    ),
+    (
+        &[Set(2, 5), Copy(3, 10), Add(3, -1), Set(1, 2), Call(1)],
+        Stuck,
+    ),
+    // A put reads bytes that were stored, all of them.
+    (
         &[
-            (&[key, three, add(3, -512), set(1, 1), call(1)], Some(0)),
-            (&[key, three, add(3, -2), table, call(1)], Some(0)),
-            (&[key, three, add(3, -1), table, call(1)], None),
-            // A put reads bytes that were stored, all of them.
-            (
-                &[push(-8, 1), key, three, add(3, -2), table, call(2)],
-                Some(0),
-            ),
-            (
-                &[push(-16, 1), key, three, add(3, -8), set(1, 1), call(2)],
-                None,
-            ),
-            (
-                &[push(-8, 1), key, three, add(3, -9), set(1, 1), call(2)],
-                None,
-            ),
-            // A next has eight bytes for the key and the table's width for the row.
-            (
-                &[key, hi, four, add(4, -8), five, add(5, -2), table, call(5)],
-                Some(0),
-            ),
-            (
-                &[key, hi, four, add(4, -7), five, add(5, -2), table, call(5)],
-                None,
-            ),
-            (
-                &[key, hi, four, add(4, -8), five, add(5, -1), table, call(5)],
-                None,
-            ),
+            Push(-8, 1),
+            Set(2, 5),
+            Copy(3, 10),
+            Add(3, -2),
+            Set(1, 2),
+            Call(2),
         ],
-    )
-}
+        Gives(0),
+    ),
+    (
+        &[
+            Push(-16, 1),
+            Set(2, 5),
+            Copy(3, 10),
+            Add(3, -8),
+            Set(1, 1),
+            Call(2),
+        ],
+        Stuck,
+    ),
+    (
+        &[
+            Push(-8, 1),
+            Set(2, 5),
+            Copy(3, 10),
+            Add(3, -9),
+            Set(1, 1),
+            Call(2),
+        ],
+        Stuck,
+    ),
+    // A next has eight bytes for the key and the table's width for the row.
+    (
+        &[
+            Set(2, 5),
+            Set(3, 9),
+            Copy(4, 10),
+            Add(4, -8),
+            Copy(5, 10),
+            Add(5, -2),
+            Set(1, 2),
+            Call(5),
+        ],
+        Gives(0),
+    ),
+    (
+        &[
+            Set(2, 5),
+            Set(3, 9),
+            Copy(4, 10),
+            Add(4, -7),
+            Copy(5, 10),
+            Add(5, -2),
+            Set(1, 2),
+            Call(5),
+        ],
+        Stuck,
+    ),
+    (
+        &[
+            Set(2, 5),
+            Set(3, 9),
+            Copy(4, 10),
+            Add(4, -8),
+            Copy(5, 10),
+            Add(5, -1),
+            Set(1, 2),
+            Call(5),
+        ],
+        Stuck,
+    ),
+];
 
 #[test]
-fn cancels_and_unknown_helpers(rt: HostRuntime) -> Result<(), Fail> {
-    // After a call r1 is nothing.
-    let (code, gone, one) = (set(1, 9), call(6), set(0, 1));
-    let (key, hi) = (set(2, 5), set(3, 9));
-    let (four, five) = (copy(4, 10), copy(5, 10));
-    replies(
-        &rt,
-        rt.alloc(),
-        &[
-            (&[code, gone], Some(0)),
-            (&[code, gone, gone], None),
-            (&[gone, one], None),
-            (&[copy(1, 10), gone, one], None),
-            // No table.
-            (
-                &[
-                    code,
-                    gone,
-                    push(-8, 1),
-                    key,
-                    copy(3, 10),
-                    add(3, -8),
-                    call(1),
-                ],
-                None,
-            ),
-            (
-                &[
-                    code,
-                    gone,
-                    push(-8, 1),
-                    key,
-                    copy(3, 10),
-                    add(3, -8),
-                    call(2),
-                ],
-                None,
-            ),
-            (&[code, gone, key, call(3)], None),
-            (&[code, gone, key, hi, call(4)], None),
-            (
-                &[
-                    code,
-                    gone,
-                    key,
-                    hi,
-                    four,
-                    add(4, -16),
-                    five,
-                    add(5, -8),
-                    call(5),
-                ],
-                None,
-            ),
-            // No helper.
-            (&[set(1, 1), call(0), one], None),
-            (&[set(1, 1), call(7), one], None),
-            (&[set(1, 1), call(-1), one], None),
-            (&[set(1, 1), call(257), one], None),
-            // r10 stays.
-            (&[set(1, 1), gone, push(-8, 7), set(0, 7)], Some(7)),
-        ],
-    )
+fn buffers_have_the_tables_width(rt: HostRuntime) {
+    replies(&rt, rt.alloc(), &NO_FORM, &BUFFERS);
 }
 
+/// After a call r1 is nothing.
+static CANCELS: [Case; 14] = [
+    (&[Set(1, 9), Call(6)], Gives(0)),
+    (&[Set(1, 9), Call(6), Call(6)], Stuck),
+    (&[Call(6), Set(0, 1)], Stuck),
+    (&[Copy(1, 10), Call(6), Set(0, 1)], Stuck),
+    // No table.
+    (
+        &[
+            Set(1, 9),
+            Call(6),
+            Push(-8, 1),
+            Set(2, 5),
+            Copy(3, 10),
+            Add(3, -8),
+            Call(1),
+        ],
+        Stuck,
+    ),
+    (
+        &[
+            Set(1, 9),
+            Call(6),
+            Push(-8, 1),
+            Set(2, 5),
+            Copy(3, 10),
+            Add(3, -8),
+            Call(2),
+        ],
+        Stuck,
+    ),
+    (&[Set(1, 9), Call(6), Set(2, 5), Call(3)], Stuck),
+    (&[Set(1, 9), Call(6), Set(2, 5), Set(3, 9), Call(4)], Stuck),
+    (
+        &[
+            Set(1, 9),
+            Call(6),
+            Set(2, 5),
+            Set(3, 9),
+            Copy(4, 10),
+            Add(4, -16),
+            Copy(5, 10),
+            Add(5, -8),
+            Call(5),
+        ],
+        Stuck,
+    ),
+    // No helper.
+    (&[Set(1, 1), Call(0), Set(0, 1)], Stuck),
+    (&[Set(1, 1), Call(7), Set(0, 1)], Stuck),
+    (&[Set(1, 1), Call(-1), Set(0, 1)], Stuck),
+    (&[Set(1, 1), Call(257), Set(0, 1)], Stuck),
+    // r10 stays.
+    (&[Set(1, 1), Call(6), Push(-8, 7), Set(0, 7)], Gives(7)),
+];
+
 #[test]
-fn registers_after_a_call(rt: HostRuntime) -> Result<(), Fail> {
-    for (register, kept) in [
-        (1, None),
-        (2, None),
-        (3, None),
-        (4, None),
-        (5, None),
-        (6, Some(7)),
-        (7, Some(7)),
-        (8, Some(7)),
-        (9, Some(7)),
-    ] {
-        let slots = [set(register, 7), set(1, 1), call(6), copy(0, register)];
-        replies(&rt, rt.alloc(), &[(&slots, kept)])?;
-    }
-    Ok(())
+fn cancels_and_unknown_helpers(rt: HostRuntime) {
+    replies(&rt, rt.alloc(), &NO_FORM, &CANCELS);
+}
+
+static AFTER_A_CALL: [Case; 9] = [
+    (&[Set(1, 7), Set(1, 1), Call(6), Copy(0, 1)], Stuck),
+    (&[Set(2, 7), Set(1, 1), Call(6), Copy(0, 2)], Stuck),
+    (&[Set(3, 7), Set(1, 1), Call(6), Copy(0, 3)], Stuck),
+    (&[Set(4, 7), Set(1, 1), Call(6), Copy(0, 4)], Stuck),
+    (&[Set(5, 7), Set(1, 1), Call(6), Copy(0, 5)], Stuck),
+    (&[Set(6, 7), Set(1, 1), Call(6), Copy(0, 6)], Gives(7)),
+    (&[Set(7, 7), Set(1, 1), Call(6), Copy(0, 7)], Gives(7)),
+    (&[Set(8, 7), Set(1, 1), Call(6), Copy(0, 8)], Gives(7)),
+    (&[Set(9, 7), Set(1, 1), Call(6), Copy(0, 9)], Gives(7)),
+];
+
+#[test]
+fn registers_after_a_call(rt: HostRuntime) {
+    replies(&rt, rt.alloc(), &NO_FORM, &AFTER_A_CALL);
 }

@@ -1,13 +1,18 @@
 //! Each form of instruction: states where it steps, and for each reason one where it is stuck. A wide
 //! load and both jumps have no reason to be stuck that a decoded program can reach, but for a write to r10.
 
-use super::assembly::{Case, add, copy, pull, push, replies, set, slot, wide};
+use super::assembly::Part::{
+    HighLeft, HighRight, Immediate, Load, LoadBack, LowLeft, LowRight, Operand, Register, SetLeft,
+    SetRight, Store, StoreBack,
+};
+use super::assembly::Step::{Add, Copy, High, Low, Pull, Push, Set, Slot, Tried};
+use super::assembly::Wanted::{First, Gives, Second, Stuck, Third};
+use super::assembly::{Case, Form, NO_FORM, replies};
 use std::alloc::Global;
 use std::process::Abort;
-use std::test::Fail;
 
 /// Loads by opcode: how many bytes, and what the first and the last such bytes of the arguments give.
-const LOADS: [(u8, i16, u64, u64); 7] = [
+static LOADS: [(u8, i16, u64, u64); 7] = [
     (0x71, 1, 0x81, 0x88),
     (0x69, 2, 0x8281, 0x8887),
     (0x61, 4, 0x8483_8281, 0x8887_8685),
@@ -17,83 +22,95 @@ const LOADS: [(u8, i16, u64, u64); 7] = [
     (0x81, 4, 0xffff_ffff_8483_8281, 0xffff_ffff_8887_8685),
 ];
 
+/// The first reply is of the first bytes, the second of the last.
+static OF_LOADS: [Case; 13] = [
+    (&[Tried(Load(0, 1, 0))], First),
+    (&[Tried(LoadBack(1, 8))], Second),
+    (&[Push(-8, 1), Tried(Load(0, 10, -8))], Gives(1)),
+    (&[Push(-512, 1), Tried(Load(0, 10, -512))], Gives(1)),
+    // From nothing, and from a number.
+    (&[Tried(Load(0, 2, 0))], Stuck),
+    (&[Set(2, 0), Tried(Load(0, 2, 0))], Stuck),
+    // Before and behind the arguments, and the stack.
+    (&[Tried(Load(0, 1, -1))], Stuck),
+    (&[Tried(LoadBack(1, 9))], Stuck),
+    (&[Push(-512, 1), Tried(Load(0, 10, -513))], Stuck),
+    (&[Push(-8, 1), Tried(LoadBack(10, 1))], Stuck),
+    // Of bytes that were never stored.
+    (&[Tried(Load(0, 10, -8))], Stuck),
+    (&[Push(-16, 1), Tried(LoadBack(10, -7))], Stuck),
+    // To r10.
+    (&[Tried(Load(10, 1, 0)), Set(0, 1)], Stuck),
+];
+
 #[test]
-fn loads(rt: HostRuntime) -> Result<(), Fail> {
-    for (opcode, count, first, last) in LOADS {
-        let load = |src: u8, offset: i16| slot(opcode, 0, src, offset, 0);
-        let back = 0i16.wrapping_sub(count);
-        replies(
-            &rt,
-            rt.alloc(),
-            &[
-                (&[load(1, 0)], Some(first)),
-                (&[load(1, back.wrapping_add(8))], Some(last)),
-                (&[push(-8, 1), load(10, -8)], Some(1)),
-                (&[push(-512, 1), load(10, -512)], Some(1)),
-                // From nothing, and from a number.
-                (&[load(2, 0)], None),
-                (&[set(2, 0), load(2, 0)], None),
-                // Before and behind the arguments, and the stack.
-                (&[load(1, -1)], None),
-                (&[load(1, back.wrapping_add(9))], None),
-                (&[push(-512, 1), load(10, -513)], None),
-                (&[push(-8, 1), load(10, back.wrapping_add(1))], None),
-                // Of bytes that were never stored.
-                (&[load(10, -8)], None),
-                (&[push(-16, 1), load(10, back.wrapping_add(-7))], None),
-                // To r10.
-                (&[slot(opcode, 10, 1, 0, 0), set(0, 1)], None),
-            ],
-        )?;
+fn loads(rt: HostRuntime) {
+    for (opcode, count, first, last) in &LOADS {
+        let form = Form {
+            opcode: *opcode,
+            count: *count,
+            replies: [Some(*first), Some(*last), None],
+            ..NO_FORM
+        };
+        replies(&rt, rt.alloc(), &form, &OF_LOADS);
     }
-    Ok(())
 }
 
 /// Stores of an immediate and of a register by opcode: how many bytes, and what the bytes of -2 leave
 /// where zeros stood.
-const STORES: [(u8, u8, i16, u64); 4] = [
+type StoreRow = (u8, u8, i16, u64);
+
+static STORES: [StoreRow; 4] = [
     (0x72, 0x73, 1, 0xfe),
     (0x6a, 0x6b, 2, 0xfffe),
     (0x62, 0x63, 4, 0xffff_fffe),
     (0x7a, 0x7b, 8, 0xffff_ffff_ffff_fffe),
 ];
 
+/// The first reply is what is left.
+static OF_STORES: [Case; 10] = [
+    (
+        &[Set(3, -2), Push(-8, 0), Tried(Store(10, -8)), Pull(0, -8)],
+        First,
+    ),
+    (&[Set(3, -2), Tried(Store(10, -512)), Set(0, 1)], Gives(1)),
+    // To nothing, to a number, and to the arguments.
+    (&[Set(3, -2), Tried(Store(2, -8)), Set(0, 1)], Stuck),
+    (&[Set(3, -2), Tried(Store(3, -8)), Set(0, 1)], Stuck),
+    (&[Set(3, -2), Tried(Store(1, 0)), Set(0, 1)], Stuck),
+    // Before and behind the stack.
+    (&[Set(3, -2), Tried(Store(10, -513)), Set(0, 1)], Stuck),
+    (&[Set(3, -2), Tried(StoreBack(1)), Set(0, 1)], Stuck),
+    // Of nothing, and of places.
+    (&[Tried(Register(10, 3)), Set(0, 1)], Stuck),
+    (&[Tried(Register(10, 1)), Set(0, 1)], Stuck),
+    (&[Tried(Register(10, 10)), Set(0, 1)], Stuck),
+];
+
+fn try_store(rt: &impl Abort, alloc: Global, opcode: u8, src: u8, number: i32, row: &StoreRow) {
+    let form = Form {
+        opcode,
+        register: row.1,
+        src,
+        offset: -8,
+        number,
+        count: row.2,
+        replies: [Some(row.3), None, None],
+        ..NO_FORM
+    };
+    replies(rt, alloc, &form, &OF_STORES);
+}
+
 #[test]
-fn stores(rt: HostRuntime) -> Result<(), Fail> {
-    for (immediate, register, count, left) in STORES {
-        let behind = 1i16.wrapping_sub(count);
-        for (opcode, src, number) in [(immediate, 0, -2), (register, 3, 0)] {
-            let store = |dst: u8, offset: i16| slot(opcode, dst, src, offset, number);
-            let (three, one) = (set(3, -2), set(0, 1));
-            replies(
-                &rt,
-                rt.alloc(),
-                &[
-                    (
-                        &[three, push(-8, 0), store(10, -8), pull(0, -8)],
-                        Some(left),
-                    ),
-                    (&[three, store(10, -512), one], Some(1)),
-                    // To nothing, to a number, and to the arguments.
-                    (&[three, store(2, -8), one], None),
-                    (&[three, store(3, -8), one], None),
-                    (&[three, store(1, 0), one], None),
-                    // Before and behind the stack.
-                    (&[three, store(10, -513), one], None),
-                    (&[three, store(10, behind), one], None),
-                    // Of nothing, and of places.
-                    (&[slot(register, 10, 3, -8, 0), one], None),
-                    (&[slot(register, 10, 1, -8, 0), one], None),
-                    (&[slot(register, 10, 10, -8, 0), one], None),
-                ],
-            )?;
-        }
+fn stores(rt: HostRuntime) {
+    for row in &STORES {
+        try_store(&rt, rt.alloc(), row.0, 0, -2, row);
+        try_store(&rt, rt.alloc(), row.1, 3, 0, row);
     }
-    Ok(())
 }
 
 /// Arithmetic by the high four bits of its opcode, the offset that is asked for, and what 12 and 5 give.
-const ARITHMETIC: [(u8, i16, u64); 14] = [
+static ARITHMETIC: [(u8, i16, u64); 14] = [
     (0x00, 0, 17),
     (0x10, 0, 7),
     (0x20, 0, 60),
@@ -110,95 +127,89 @@ const ARITHMETIC: [(u8, i16, u64); 14] = [
     (0xc0, 0, 0),
 ];
 
-/// The two arithmetic classes.
-const CLASSES: [u8; 2] = [0x04, 0x07];
+/// The first reply is what a move gives, the second what comes of copying a place, the third of moving one.
+static OF_KINDS: [Case; 15] = [
+    // With nothing.
+    (&[Set(0, 12), Tried(Register(0, 3)), Set(0, 1)], Stuck),
+    (&[Tried(Immediate(2)), Copy(0, 2)], First),
+    (&[Set(3, 5), Tried(Register(2, 3)), Copy(0, 2)], First),
+    (&[Copy(4, 1), Tried(Register(4, 3)), Set(0, 1)], Stuck),
+    (&[Copy(4, 10), Tried(Register(4, 3)), Set(0, 1)], Stuck),
+    // With places.
+    (&[Copy(4, 1), Tried(Immediate(4)), Set(0, 1)], Third),
+    (&[Copy(4, 10), Tried(Immediate(4)), Set(0, 1)], Third),
+    (
+        &[Copy(4, 1), Set(3, 5), Tried(Register(4, 3)), Set(0, 1)],
+        Third,
+    ),
+    (
+        &[Copy(4, 10), Set(3, 5), Tried(Register(4, 3)), Set(0, 1)],
+        Third,
+    ),
+    (
+        &[Copy(4, 1), Set(3, 5), Tried(Register(3, 4)), Set(0, 1)],
+        Second,
+    ),
+    (
+        &[Copy(4, 10), Set(3, 5), Tried(Register(3, 4)), Set(0, 1)],
+        Second,
+    ),
+    (
+        &[Copy(4, 1), Copy(3, 4), Tried(Register(3, 4)), Set(0, 1)],
+        Second,
+    ),
+    (
+        &[Copy(4, 10), Copy(3, 4), Tried(Register(3, 4)), Set(0, 1)],
+        Second,
+    ),
+    // r10 is read only: a move alone, and at 64 bits an addition and a subtraction, would have a step.
+    (&[Tried(Immediate(10)), Set(0, 1)], Stuck),
+    (&[Set(3, 5), Tried(Register(10, 3)), Set(0, 1)], Stuck),
+];
 
-/// An operation on a register and 5.
-fn with_five(opcode: u8, offset: i16, dst: u8) -> [u8; 8] {
-    slot(opcode, dst, 0, offset, 5)
+/// The first reply is the result.
+static OF_TWELVE: [Case; 2] = [
+    (&[Set(0, 12), Tried(Immediate(0))], First),
+    (&[Set(0, 12), Set(3, 5), Tried(Register(0, 3))], First),
+];
+
+fn with_five(opcode: u8, offset: i16, replies: [Option<u64>; 3]) -> Form {
+    Form {
+        opcode,
+        register: opcode | 0x08,
+        offset,
+        number: 5,
+        replies,
+        ..NO_FORM
+    }
 }
 
-/// The same operation on two registers.
-fn with_register(opcode: u8, offset: i16, dst: u8, src: u8) -> [u8; 8] {
-    slot(opcode | 0x08, dst, src, offset, 0)
+/// A move doesn't read its destination, and at 64 bits copies a place. Such an addition or subtraction moves one.
+fn of_kinds(high: u8, class: u8) -> [Option<u64>; 3] {
+    let is_move = high == 0xb0;
+    let copies = is_move && class == 0x07;
+    let moves = is_move || class == 0x07 && high <= 0x10;
+    [
+        if is_move { Some(5) } else { None },
+        if copies { Some(1) } else { None },
+        if moves { Some(1) } else { None },
+    ]
+}
+
+fn try_kinds(rt: &impl Abort, alloc: Global, class: u8, row: &(u8, i16, u64)) {
+    let (high, offset, result) = *row;
+    let form = with_five(high | class, offset, [Some(result), None, None]);
+    replies(rt, alloc, &form, &OF_TWELVE);
+    let form = with_five(high | class, offset, of_kinds(high, class));
+    replies(rt, alloc, &form, &OF_KINDS);
 }
 
 #[test]
-fn arithmetic_of_kinds(rt: HostRuntime) -> Result<(), Fail> {
-    for (high, offset, result) in ARITHMETIC {
-        for class in CLASSES {
-            let opcode = high | class;
-            let (one, five, twelve) = (set(0, 1), set(3, 5), set(0, 12));
-            // A move doesn't read its destination, and at 64 bits copies a place. Such an addition or
-            // subtraction moves one.
-            let is_move = high == 0xb0;
-            let moved = if is_move { Some(5) } else { None };
-            let copied = if is_move && class == 0x07 {
-                Some(1)
-            } else {
-                None
-            };
-            let on_place = if is_move || class == 0x07 && high <= 0x10 {
-                Some(1)
-            } else {
-                None
-            };
-            let args = copy(4, 1);
-            let stack = copy(4, 10);
-            replies(
-                &rt,
-                rt.alloc(),
-                &[
-                    (&[twelve, with_five(opcode, offset, 0)], Some(result)),
-                    (
-                        &[twelve, five, with_register(opcode, offset, 0, 3)],
-                        Some(result),
-                    ),
-                    // With nothing.
-                    (&[twelve, with_register(opcode, offset, 0, 3), one], None),
-                    (&[with_five(opcode, offset, 2), copy(0, 2)], moved),
-                    (
-                        &[five, with_register(opcode, offset, 2, 3), copy(0, 2)],
-                        moved,
-                    ),
-                    (&[args, with_register(opcode, offset, 4, 3), one], None),
-                    (&[stack, with_register(opcode, offset, 4, 3), one], None),
-                    // With places.
-                    (&[args, with_five(opcode, offset, 4), one], on_place),
-                    (&[stack, with_five(opcode, offset, 4), one], on_place),
-                    (
-                        &[args, five, with_register(opcode, offset, 4, 3), one],
-                        on_place,
-                    ),
-                    (
-                        &[stack, five, with_register(opcode, offset, 4, 3), one],
-                        on_place,
-                    ),
-                    (
-                        &[args, five, with_register(opcode, offset, 3, 4), one],
-                        copied,
-                    ),
-                    (
-                        &[stack, five, with_register(opcode, offset, 3, 4), one],
-                        copied,
-                    ),
-                    (
-                        &[args, copy(3, 4), with_register(opcode, offset, 3, 4), one],
-                        copied,
-                    ),
-                    (
-                        &[stack, copy(3, 4), with_register(opcode, offset, 3, 4), one],
-                        copied,
-                    ),
-                    // r10 is read only: a move alone, and at 64 bits an addition and a subtraction, would
-                    // have a step.
-                    (&[with_five(opcode, offset, 10), one], None),
-                    (&[five, with_register(opcode, offset, 10, 3), one], None),
-                ],
-            )?;
-        }
+fn arithmetic_of_kinds(rt: HostRuntime) {
+    for row in &ARITHMETIC {
+        try_kinds(&rt, rt.alloc(), 0x04, row);
+        try_kinds(&rt, rt.alloc(), 0x07, row);
     }
-    Ok(())
 }
 
 /// A number with the high bit of each byte set, and with no two bytes the same.
@@ -216,7 +227,9 @@ const MINUS_13: u64 = 0xffff_ffff_ffff_fff3;
 
 /// Arithmetic on two registers: the high four bits of its opcode, the offset, the operands, and what
 /// they give at 32 and at 64 bits.
-const OF_REGISTERS: [(u8, i16, u64, u64, u64, u64); 40] = [
+type RegisterRow = (u8, i16, u64, u64, u64, u64);
+
+static OF_REGISTERS: [RegisterRow; 40] = [
     (0x00, 0, 0x1_ffff_ffff, 0x1_0000_0001, 0, 0x3_0000_0000),
     (0x00, 0, ONES, 2, 1, 1),
     (0x10, 0, 0, 1, 0xffff_ffff, ONES),
@@ -295,7 +308,9 @@ const OF_REGISTERS: [(u8, i16, u64, u64, u64, u64); 40] = [
 ];
 
 /// The same on a register and an immediate.
-const OF_IMMEDIATES: [(u8, i16, u64, i32, u64, u64); 22] = [
+type ImmediateRow = (u8, i16, u64, i32, u64, u64);
+
+static OF_IMMEDIATES: [ImmediateRow; 22] = [
     (0x00, 0, 0x9_0000_0007, -3, 4, 0x9_0000_0004),
     (0x10, 0, 0x9_0000_0007, -3, 10, 0x9_0000_000a),
     (
@@ -348,33 +363,65 @@ const OF_IMMEDIATES: [(u8, i16, u64, i32, u64, u64); 22] = [
     (0xc0, 0, MIXED, -31, 0xc2c3_43c4, 0xffff_ffff_c0c1_41c2),
 ];
 
+/// The first reply is the result.
+static WITH_REGISTER: [Case; 1] = [(
+    &[
+        Tried(LowLeft(0)),
+        Tried(HighLeft),
+        Tried(LowRight(3)),
+        Tried(HighRight),
+        Tried(Register(0, 3)),
+    ],
+    First,
+)];
+
+static WITH_IMMEDIATE: [Case; 1] = [(
+    &[Tried(LowLeft(0)), Tried(HighLeft), Tried(Immediate(0))],
+    First,
+)];
+
+fn try_registers(rt: &impl Abort, alloc: Global, class: u8, row: &RegisterRow, reply: u64) {
+    let form = Form {
+        register: row.0 | 0x08 | class,
+        offset: row.1,
+        left: row.2,
+        right: row.3,
+        replies: [Some(reply), None, None],
+        ..NO_FORM
+    };
+    replies(rt, alloc, &form, &WITH_REGISTER);
+}
+
+fn try_immediate(rt: &impl Abort, alloc: Global, class: u8, row: &ImmediateRow, reply: u64) {
+    let form = Form {
+        opcode: row.0 | class,
+        offset: row.1,
+        left: row.2,
+        number: row.3,
+        replies: [Some(reply), None, None],
+        ..NO_FORM
+    };
+    replies(rt, alloc, &form, &WITH_IMMEDIATE);
+}
+
 #[test]
-fn arithmetic_of_numbers(rt: HostRuntime) -> Result<(), Fail> {
-    for (high, offset, a, b, at_32, at_64) in OF_REGISTERS {
-        let [a_low, a_high] = wide(0, a);
-        let [b_low, b_high] = wide(3, b);
-        for (class, result) in [(0x04, at_32), (0x07, at_64)] {
-            let register = slot(high | 0x08 | class, 0, 3, offset, 0);
-            let slots = [a_low, a_high, b_low, b_high, register];
-            replies(&rt, rt.alloc(), &[(&slots, Some(result))])?;
-        }
+fn arithmetic_of_registers(rt: HostRuntime) {
+    for row in &OF_REGISTERS {
+        try_registers(&rt, rt.alloc(), 0x04, row, row.4);
+        try_registers(&rt, rt.alloc(), 0x07, row, row.5);
     }
-    for (high, offset, a, number, at_32, at_64) in OF_IMMEDIATES {
-        let [a_low, a_high] = wide(0, a);
-        for (class, result) in [(0x04, at_32), (0x07, at_64)] {
-            let immediate = slot(high | class, 0, 0, offset, number);
-            replies(
-                &rt,
-                rt.alloc(),
-                &[(&[a_low, a_high, immediate], Some(result))],
-            )?;
-        }
+}
+
+#[test]
+fn arithmetic_of_immediates(rt: HostRuntime) {
+    for row in &OF_IMMEDIATES {
+        try_immediate(&rt, rt.alloc(), 0x04, row, row.4);
+        try_immediate(&rt, rt.alloc(), 0x07, row, row.5);
     }
-    Ok(())
 }
 
 /// Forms of one operand: opcode, offset and immediate, and what `MIXED` gives.
-const UNARY: [(u8, i16, i32, u64); 16] = [
+static UNARY: [(u8, i16, i32, u64); 16] = [
     (0x84, 0, 0, 0x7a79_7878),
     (0x87, 0, 0, 0x7e7d_7c7b_7a79_7878),
     (0xbc, 8, 0, 0xffff_ff88),
@@ -393,109 +440,173 @@ const UNARY: [(u8, i16, i32, u64); 16] = [
     (0xd7, 0, 64, 0x8887_8685_8483_8281),
 ];
 
+/// The first reply is the result, the second what it gives of another register than its destination: a
+/// sign-extending move reads its source, the others their destination.
+static OF_OPERANDS: [Case; 6] = [
+    (
+        &[Low(2, MIXED), High(MIXED), Tried(Operand(2, 2)), Copy(0, 2)],
+        First,
+    ),
+    (&[Low(2, MIXED), High(MIXED), Tried(Operand(0, 2))], Second),
+    (&[Tried(Operand(2, 2)), Set(0, 1)], Stuck),
+    (&[Tried(Operand(1, 1)), Set(0, 1)], Stuck),
+    (&[Copy(4, 10), Tried(Operand(4, 4)), Set(0, 1)], Stuck),
+    // r10 is read only; the forms but the move are stuck on a place in any case.
+    (
+        &[Low(2, MIXED), High(MIXED), Tried(Operand(10, 2)), Set(0, 1)],
+        Stuck,
+    ),
+];
+
 #[test]
-fn one_operand(rt: HostRuntime) -> Result<(), Fail> {
-    let [low, high] = wide(2, MIXED);
-    for (opcode, offset, immediate, result) in UNARY {
-        // A sign-extending move reads its source, the others their destination.
-        let of = |dst: u8, register: u8| {
-            let src = if offset != 0 { register } else { 0 };
-            slot(opcode, dst, src, offset, immediate)
+fn one_operand(rt: HostRuntime) {
+    for (opcode, offset, number, result) in &UNARY {
+        let other = if *offset != 0 { Some(*result) } else { None };
+        let form = Form {
+            opcode: *opcode,
+            offset: *offset,
+            number: *number,
+            replies: [Some(*result), other, None],
+            ..NO_FORM
         };
-        let other = if offset != 0 { Some(result) } else { None };
-        let one = set(0, 1);
-        replies(
-            &rt,
-            rt.alloc(),
-            &[
-                (&[low, high, of(2, 2), copy(0, 2)], Some(result)),
-                (&[low, high, of(0, 2)], other),
-                (&[of(2, 2), one], None),
-                (&[of(1, 1), one], None),
-                (&[copy(4, 10), of(4, 4), one], None),
-                // r10 is read only; the forms but the move are stuck on a place in any case.
-                (&[low, high, of(10, 2), one], None),
-            ],
-        )?;
+        replies(&rt, rt.alloc(), &form, &OF_OPERANDS);
     }
-    Ok(())
 }
 
-#[test]
-fn wide_loads_and_places(rt: HostRuntime) -> Result<(), Fail> {
-    let first = slot(0x71, 0, 1, 0, 0);
-    let sub = |number: i32| slot(0x17, 1, 0, 0, number);
-    let add_register = slot(0x0f, 1, 2, 0, 0);
-    let sub_register = slot(0x1f, 1, 2, 0, 0);
-    let [low, high] = wide(2, LEAST);
-    let one = set(0, 1);
-    let load = slot(0x79, 0, 2, -8, 0);
-    let stack = |far: i32, back: i32| [push(-8, 1), copy(2, 10), add(2, far), add(2, back), load];
-    replies(
-        &rt,
-        rt.alloc(),
+/// Wide loads, and places that move.
+static WIDE_AND_PLACES: [Case; 22] = [
+    // A wide load sets a number, of which neither half is sign-extended.
+    (
+        &[Slot(0x18, 0, 0, 0, 1), Slot(0, 0, 0, 0, 2)],
+        Gives(0x2_0000_0001),
+    ),
+    (
+        &[Slot(0x18, 0, 0, 0, -2), Slot(0, 0, 0, 0, 3)],
+        Gives(0x3_ffff_fffe),
+    ),
+    (
+        &[Slot(0x18, 0, 0, 0, 3), Slot(0, 0, 0, 0, -2)],
+        Gives(0xffff_fffe_0000_0003),
+    ),
+    (
+        &[Slot(0x18, 10, 0, 0, 1), Slot(0, 0, 0, 0, 0), Set(0, 1)],
+        Stuck,
+    ),
+    // Places move.
+    (&[Copy(2, 1), Slot(0x71, 0, 2, 0, 0)], Gives(0x81)),
+    (&[Add(1, 7), Slot(0x71, 0, 1, 0, 0)], Gives(0x88)),
+    (
+        &[Add(1, 7), Slot(0x17, 1, 0, 0, 1), Slot(0x71, 0, 1, 0, 0)],
+        Gives(0x87),
+    ),
+    (
+        &[Set(2, 2), Slot(0x0f, 1, 2, 0, 0), Slot(0x71, 0, 1, 0, 0)],
+        Gives(0x83),
+    ),
+    (
+        &[Set(2, -2), Slot(0x1f, 1, 2, 0, 0), Slot(0x71, 0, 1, 0, 0)],
+        Gives(0x83),
+    ),
+    (
+        &[Push(-8, 1), Copy(2, 10), Add(2, -8), Slot(0x79, 0, 2, 0, 0)],
+        Gives(1),
+    ),
+    // As far as a place may be, and past that.
+    (
+        &[Add(1, 65_536), Add(1, -65_536), Slot(0x71, 0, 1, 0, 0)],
+        Gives(0x81),
+    ),
+    (
+        &[Add(1, -65_536), Add(1, 65_536), Slot(0x71, 0, 1, 0, 0)],
+        Gives(0x81),
+    ),
+    (&[Add(1, 65_537), Set(0, 1)], Stuck),
+    (&[Slot(0x17, 1, 0, 0, 65_537), Set(0, 1)], Stuck),
+    (
         &[
-            // A wide load sets a number, of which neither half is sign-extended.
-            (
-                &[slot(0x18, 0, 0, 0, 1), slot(0, 0, 0, 0, 2)],
-                Some(0x2_0000_0001),
-            ),
-            (
-                &[slot(0x18, 0, 0, 0, -2), slot(0, 0, 0, 0, 3)],
-                Some(0x3_ffff_fffe),
-            ),
-            (
-                &[slot(0x18, 0, 0, 0, 3), slot(0, 0, 0, 0, -2)],
-                Some(0xffff_fffe_0000_0003),
-            ),
-            (&[slot(0x18, 10, 0, 0, 1), slot(0, 0, 0, 0, 0), one], None),
-            // Places move.
-            (&[copy(2, 1), slot(0x71, 0, 2, 0, 0)], Some(0x81)),
-            (&[add(1, 7), first], Some(0x88)),
-            (&[add(1, 7), sub(1), first], Some(0x87)),
-            (&[set(2, 2), add_register, first], Some(0x83)),
-            (&[set(2, -2), sub_register, first], Some(0x83)),
-            (
-                &[push(-8, 1), copy(2, 10), add(2, -8), slot(0x79, 0, 2, 0, 0)],
-                Some(1),
-            ),
-            // As far as a place may be, and past that.
-            (&[add(1, 65_536), add(1, -65_536), first], Some(0x81)),
-            (&[add(1, -65_536), add(1, 65_536), first], Some(0x81)),
-            (&[add(1, 65_537), one], None),
-            (&[sub(65_537), one], None),
-            (&[low, high, sub_register, one], None),
-            (&[low, high, add_register, one], None),
-            (&stack(65_536, -65_536), Some(1)),
-            (&stack(-65_536, 65_536), Some(1)),
-            (&stack(65_537, -65_537), None),
-            (&stack(-65_537, 65_537), None),
-            (&[copy(2, 10), add(2, 65_537), one], None),
-            (&[copy(2, 10), add(2, -65_537), one], None),
+            Low(2, LEAST),
+            High(LEAST),
+            Slot(0x1f, 1, 2, 0, 0),
+            Set(0, 1),
         ],
-    )
-}
+        Stuck,
+    ),
+    (
+        &[
+            Low(2, LEAST),
+            High(LEAST),
+            Slot(0x0f, 1, 2, 0, 0),
+            Set(0, 1),
+        ],
+        Stuck,
+    ),
+    (
+        &[
+            Push(-8, 1),
+            Copy(2, 10),
+            Add(2, 65_536),
+            Add(2, -65_536),
+            Slot(0x79, 0, 2, -8, 0),
+        ],
+        Gives(1),
+    ),
+    (
+        &[
+            Push(-8, 1),
+            Copy(2, 10),
+            Add(2, -65_536),
+            Add(2, 65_536),
+            Slot(0x79, 0, 2, -8, 0),
+        ],
+        Gives(1),
+    ),
+    (
+        &[
+            Push(-8, 1),
+            Copy(2, 10),
+            Add(2, 65_537),
+            Add(2, -65_537),
+            Slot(0x79, 0, 2, -8, 0),
+        ],
+        Stuck,
+    ),
+    (
+        &[
+            Push(-8, 1),
+            Copy(2, 10),
+            Add(2, -65_537),
+            Add(2, 65_537),
+            Slot(0x79, 0, 2, -8, 0),
+        ],
+        Stuck,
+    ),
+    (&[Copy(2, 10), Add(2, 65_537), Set(0, 1)], Stuck),
+    (&[Copy(2, 10), Add(2, -65_537), Set(0, 1)], Stuck),
+];
 
 #[test]
-fn jumps_and_exits(rt: HostRuntime) -> Result<(), Fail> {
-    replies(
-        &rt,
-        rt.alloc(),
-        &[
-            (&[set(0, 1), slot(0x05, 0, 0, 1, 0), set(0, 2)], Some(1)),
-            (&[set(0, 1), slot(0x05, 0, 0, 0, 0), set(0, 2)], Some(2)),
-            (&[set(0, 1), slot(0x06, 0, 0, 0, 1), set(0, 2)], Some(1)),
-            (&[set(0, 1), slot(0x06, 0, 0, 0, 0), set(0, 2)], Some(2)),
-            (&[set(0, 7)], Some(7)),
-            (&[], None),
-            (&[copy(0, 10)], None),
-            (&[copy(0, 1)], None),
-        ],
-    )
+fn wide_loads_and_places(rt: HostRuntime) {
+    replies(&rt, rt.alloc(), &NO_FORM, &WIDE_AND_PLACES);
+}
+
+static JUMPS: [Case; 8] = [
+    (&[Set(0, 1), Slot(0x05, 0, 0, 1, 0), Set(0, 2)], Gives(1)),
+    (&[Set(0, 1), Slot(0x05, 0, 0, 0, 0), Set(0, 2)], Gives(2)),
+    (&[Set(0, 1), Slot(0x06, 0, 0, 0, 1), Set(0, 2)], Gives(1)),
+    (&[Set(0, 1), Slot(0x06, 0, 0, 0, 0), Set(0, 2)], Gives(2)),
+    (&[Set(0, 7)], Gives(7)),
+    (&[], Stuck),
+    (&[Copy(0, 10)], Stuck),
+    (&[Copy(0, 1)], Stuck),
+];
+
+#[test]
+fn jumps_and_exits(rt: HostRuntime) {
+    replies(&rt, rt.alloc(), &NO_FORM, &JUMPS);
 }
 
 /// Conditions by the high four bits of the opcode: a pair of which it holds, and one of which it doesn't.
-const CONDITIONS: [(u8, [i32; 2], [i32; 2]); 11] = [
+static CONDITIONS: [(u8, [i32; 2], [i32; 2]); 11] = [
     (0x10, [5, 5], [5, 6]),
     (0x20, [-1, 1], [5, 5]),
     (0x30, [5, 5], [4, 5]),
@@ -511,7 +622,9 @@ const CONDITIONS: [(u8, [i32; 2], [i32; 2]); 11] = [
 
 /// Conditions on 64 bits and on their low 32: the operands, and the high four bits of the opcode of
 /// each condition that holds of them, at 32 and at 64 bits.
-const WIDTHS: [(u64, i32, &[u8], &[u8]); 6] = [
+type WidthRow = (u64, i32, &'static [u8], &'static [u8]);
+
+static WIDTHS: [WidthRow; 6] = [
     // Equal at 32 bits, greater at 64.
     (
         0x1_0000_0005,
@@ -556,85 +669,130 @@ const WIDTHS: [(u64, i32, &[u8], &[u8]); 6] = [
     ),
 ];
 
-/// A jump over one slot, by a number or by a register.
-fn by_number(opcode: u8, dst: u8, number: i32) -> [u8; 8] {
-    slot(opcode, dst, 0, 1, number)
+/// Of two numbers: the first reply says whether the jump is taken over one slot.
+static OF_NUMBERS: [Case; 2] = [
+    (
+        &[Set(0, 1), Tried(SetLeft(2)), Tried(Immediate(2)), Set(0, 2)],
+        First,
+    ),
+    (
+        &[
+            Set(0, 1),
+            Tried(SetLeft(2)),
+            Tried(SetRight(3)),
+            Tried(Register(2, 3)),
+            Set(0, 2),
+        ],
+        First,
+    ),
+];
+
+/// Of nothing, and of places.
+static OF_NO_NUMBERS: [Case; 9] = [
+    (&[Tried(Immediate(2)), Set(0, 1), Set(0, 1)], Stuck),
+    (&[Tried(Immediate(1)), Set(0, 1), Set(0, 1)], Stuck),
+    (&[Tried(Immediate(10)), Set(0, 1), Set(0, 1)], Stuck),
+    (
+        &[Set(3, 5), Tried(Register(2, 3)), Set(0, 1), Set(0, 1)],
+        Stuck,
+    ),
+    (
+        &[Set(3, 5), Tried(Register(1, 3)), Set(0, 1), Set(0, 1)],
+        Stuck,
+    ),
+    (
+        &[Set(3, 5), Tried(Register(10, 3)), Set(0, 1), Set(0, 1)],
+        Stuck,
+    ),
+    (
+        &[Set(3, 5), Tried(Register(3, 2)), Set(0, 1), Set(0, 1)],
+        Stuck,
+    ),
+    (
+        &[Set(3, 5), Tried(Register(3, 1)), Set(0, 1), Set(0, 1)],
+        Stuck,
+    ),
+    (
+        &[Set(3, 5), Tried(Register(3, 10)), Set(0, 1), Set(0, 1)],
+        Stuck,
+    ),
+];
+
+/// A jump over one slot, by a number or by a register, that is taken or isn't.
+fn over_one(opcode: u8, left: u64, number: i32, is_taken: bool) -> Form {
+    Form {
+        opcode,
+        register: opcode | 0x08,
+        offset: 1,
+        number,
+        left,
+        right: i64::from(number).cast_unsigned(),
+        replies: [Some(if is_taken { 1 } else { 2 }), None, None],
+        ..NO_FORM
+    }
 }
 
-fn by_register(opcode: u8, dst: u8, src: u8) -> [u8; 8] {
-    slot(opcode, dst, src, 1, 0)
+fn try_branch(rt: &impl Abort, alloc: Global, opcode: u8, pair: [i32; 2], is_taken: bool) {
+    let [left, right] = pair;
+    let left = i64::from(left).cast_unsigned();
+    let form = over_one(opcode, left, right, is_taken);
+    replies(rt, alloc, &form, &OF_NUMBERS);
 }
 
-/// A condition that holds of the first numbers and not of the others, and never of nothing or of places.
-fn try_branches(
-    rt: &impl Abort,
-    alloc: Global,
-    number: u8,
-    register: u8,
-    numbers: [i32; 4],
-) -> Result<(), Fail> {
-    let [a, b, c, d] = numbers;
-    let (one, two, five) = (set(0, 1), set(0, 2), set(3, 5));
-    let cases: [Case<'_>; 13] = [
-        (&[one, set(2, a), by_number(number, 2, b), two], Some(1)),
-        (
-            &[one, set(2, a), set(3, b), by_register(register, 2, 3), two],
-            Some(1),
-        ),
-        (&[one, set(2, c), by_number(number, 2, d), two], Some(2)),
-        (
-            &[one, set(2, c), set(3, d), by_register(register, 2, 3), two],
-            Some(2),
-        ),
-        // Of nothing, and of places.
-        (&[by_number(number, 2, 5), one, one], None),
-        (&[by_number(number, 1, 5), one, one], None),
-        (&[by_number(number, 10, 5), one, one], None),
-        (&[five, by_register(register, 2, 3), one, one], None),
-        (&[five, by_register(register, 1, 3), one, one], None),
-        (&[five, by_register(register, 10, 3), one, one], None),
-        (&[five, by_register(register, 3, 2), one, one], None),
-        (&[five, by_register(register, 3, 1), one, one], None),
-        (&[five, by_register(register, 3, 10), one, one], None),
-    ];
-    replies(rt, alloc, &cases)
+fn try_branches(rt: &impl Abort, alloc: Global, opcode: u8, holds: [i32; 2], fails: [i32; 2]) {
+    try_branch(rt, alloc, opcode, holds, true);
+    try_branch(rt, alloc, opcode, fails, false);
+    let form = over_one(opcode, 0, 5, true);
+    replies(rt, alloc, &form, &OF_NO_NUMBERS);
 }
 
 #[test]
-fn branches(rt: HostRuntime) -> Result<(), Fail> {
-    for (high, [a, b], [c, d]) in CONDITIONS {
-        for class in [0x05, 0x06] {
-            let (number, register) = (high | class, high | 0x08 | class);
-            try_branches(&rt, rt.alloc(), number, register, [a, b, c, d])?;
-        }
+fn branches(rt: HostRuntime) {
+    for (high, holds, fails) in &CONDITIONS {
+        try_branches(&rt, rt.alloc(), *high | 0x05, *holds, *fails);
+        try_branches(&rt, rt.alloc(), *high | 0x06, *holds, *fails);
     }
-    Ok(())
+}
+
+static AT_WIDTHS: [Case; 2] = [
+    (
+        &[
+            Set(0, 1),
+            Tried(LowLeft(2)),
+            Tried(HighLeft),
+            Tried(Immediate(2)),
+            Set(0, 2),
+        ],
+        First,
+    ),
+    (
+        &[
+            Set(0, 1),
+            Tried(LowLeft(2)),
+            Tried(HighLeft),
+            Tried(SetRight(3)),
+            Tried(Register(2, 3)),
+            Set(0, 2),
+        ],
+        First,
+    ),
+];
+
+fn try_width(rt: &impl Abort, alloc: Global, opcode: u8, row: &WidthRow, is_taken: bool) {
+    let form = over_one(opcode, row.0, row.1, is_taken);
+    replies(rt, alloc, &form, &AT_WIDTHS);
+}
+
+fn try_widths(rt: &impl Abort, alloc: Global, row: &WidthRow) {
+    for (condition, _, _) in &CONDITIONS {
+        try_width(rt, alloc, *condition | 0x06, row, row.2.contains(condition));
+        try_width(rt, alloc, *condition | 0x05, row, row.3.contains(condition));
+    }
 }
 
 #[test]
-fn branches_at_both_widths(rt: HostRuntime) -> Result<(), Fail> {
-    for (a, b, at_32, at_64) in WIDTHS {
-        let [low, high] = wide(2, a);
-        for (condition, _, _) in CONDITIONS {
-            for (class, holding) in [(0x06, at_32), (0x05, at_64)] {
-                let left = if holding.contains(&condition) {
-                    Some(1)
-                } else {
-                    Some(2)
-                };
-                let (one, two) = (set(0, 1), set(0, 2));
-                let by_number = slot(condition | class, 2, 0, 1, b);
-                let by_register = slot(condition | 0x08 | class, 2, 3, 1, 0);
-                replies(
-                    &rt,
-                    rt.alloc(),
-                    &[
-                        (&[one, low, high, by_number, two], left),
-                        (&[one, low, high, set(3, b), by_register, two], left),
-                    ],
-                )?;
-            }
-        }
+fn branches_at_both_widths(rt: HostRuntime) {
+    for row in &WIDTHS {
+        try_widths(&rt, rt.alloc(), row);
     }
-    Ok(())
 }

@@ -1,13 +1,14 @@
 //! Whole programs, with what comes of them.
 
-use super::assembly::{TABLES, run};
-use bpf_code::decode;
+use super::assembly::{TABLES, row_of, run};
+use super::same;
+use bpf_code::{Code, decode};
 use plain_runner::{CompletedRun, Row, Write, run_program};
 use scarce::Scarce;
-use schema::Schema;
-use std::alloc::{AllocError, Allocator, Global};
+use schema::{Look, Schema};
+use std::alloc::Global;
 use std::fmt::Write as _;
-use std::test::Fail;
+use std::process::Abort;
 
 /// A program in hex, its arguments, the rows before it (table, key and value), and what comes of it:
 /// the reply and how many instructions were run, then the looks, the writes, the cancel code and the
@@ -509,104 +510,151 @@ static CASES: [Case; 57] = [
 ];
 
 /// The bytes of a program in hex.
-fn bytes_of(alloc: Global, hex: &str) -> Result<Vec<u8>, Fail> {
+fn bytes_of(rt: &impl Abort, alloc: Global, hex: &str) -> Vec<u8> {
     let mut digits = String::new(alloc);
     for slot in hex.split_whitespace() {
-        digits.push_str(slot)?;
+        digits.push_str(slot).expect(rt, "the digits");
     }
-    Ok(hex::decode(alloc, digits.as_str())?)
+    hex::decode(alloc, digits.as_str()).expect(rt, "the bytes")
 }
 
 /// What came of a run, in a line.
-fn described(alloc: Global, run: Option<&CompletedRun>) -> Result<String, Fail> {
-    let Some(run) = run else {
-        return Ok(String::from_str(alloc, "stuck")?);
-    };
-    let mut text = format!(in alloc; "{} in {}", run.reply(), run.steps())?;
+fn described(rt: &impl Abort, alloc: Global, run: &CompletedRun) -> String {
+    let mut text = String::new(alloc);
+    write!(text, "{} in {}", run.reply(), run.steps()).expect(rt, "the reply");
     for look in run.looks() {
-        write!(text, " look {}:{}-{}", look.table, look.lo, look.hi)?;
+        describe_look(rt, &mut text, *look);
     }
     for write in run.writes() {
-        describe_write(alloc, &mut text, write)?;
+        describe_write(rt, alloc, &mut text, write);
     }
-    if let Some(code) = run.cancel_code() {
-        write!(text, " cancelled {code}")?;
-    }
+    describe_code(rt, &mut text, run.cancel_code());
     for row in run.rows() {
-        describe_row(alloc, &mut text, row)?;
+        describe_row(rt, alloc, &mut text, row);
     }
-    Ok(text)
+    text
 }
 
-fn describe_write(alloc: Global, text: &mut String, write: &Write) -> Result<(), Fail> {
-    let Some(bytes) = write.bytes() else {
-        return Ok(write!(text, " remove {}:{}", write.table(), write.key())?);
-    };
-    let bytes = hex::encode(alloc, bytes)?;
-    Ok(write!(text, " put {}:{}={bytes}", write.table(), write.key())?)
+fn describe_look(rt: &impl Abort, text: &mut String, look: Look) {
+    let Look { table, lo, hi } = look;
+    write!(text, " look {table}:{lo}-{hi}").expect(rt, "a look");
 }
 
-fn describe_row(alloc: Global, text: &mut String, row: &Row) -> Result<(), Fail> {
-    let bytes = hex::encode(alloc, row.bytes())?;
-    Ok(write!(text, " row {}:{}={bytes}", row.table(), row.key())?)
+fn describe_code(rt: &impl Abort, text: &mut String, code: Option<u64>) {
+    if let Some(code) = code {
+        write!(text, " cancelled {code}").expect(rt, "the code");
+    }
+}
+
+fn describe_write(rt: &impl Abort, alloc: Global, text: &mut String, write: &Write) {
+    match write.bytes() {
+        Some(bytes) => describe_bytes(rt, alloc, text, "put", (write.table(), write.key()), bytes),
+        None => {
+            write!(text, " remove {}:{}", write.table(), write.key()).expect(rt, "a removal");
+        }
+    }
+}
+
+fn describe_row(rt: &impl Abort, alloc: Global, text: &mut String, row: &Row) {
+    describe_bytes(
+        rt,
+        alloc,
+        text,
+        "row",
+        (row.table(), row.key()),
+        row.bytes(),
+    );
+}
+
+fn describe_bytes(
+    rt: &impl Abort,
+    alloc: Global,
+    text: &mut String,
+    name: &str,
+    place: (u8, u64),
+    bytes: &[u8],
+) {
+    let (table, key) = place;
+    let hex = hex::encode(alloc, bytes).expect(rt, "the digits");
+    write!(text, " {name} {table}:{key}={hex}").expect(rt, "the bytes");
 }
 
 /// The bytes of arguments.
-fn args_of(alloc: Global, words: &[u64]) -> Result<Vec<u8>, Fail> {
+fn args_of(rt: &impl Abort, alloc: Global, words: &[u64]) -> Vec<u8> {
     let mut args = Vec::new(alloc);
     for word in words {
-        args.extend_from_slice(&word.to_le_bytes())?;
+        append_word(rt, &mut args, *word);
     }
-    Ok(args)
+    args
 }
 
-/// What comes of a program in hex, in a line.
+fn append_word(rt: &impl Abort, args: &mut Vec<u8>, word: u64) {
+    args.extend_from_slice(&word.to_le_bytes())
+        .expect(rt, "a word");
+}
+
+/// What comes of a program, in a line.
 fn outcome_of(
+    rt: &impl Abort,
     alloc: Global,
-    program: &str,
+    program: &[u8],
     args: &[u8],
     rows: &[(u8, u64, u64)],
-) -> Result<String, Fail> {
-    let program = bytes_of(alloc, program)?;
-    let found = run(alloc, &program, args, rows)?;
-    described(alloc, found.as_ref())
+) -> String {
+    match run(rt, alloc, program, args, rows) {
+        Some(run) => described(rt, alloc, &run),
+        None => String::from_str(alloc, "stuck").expect(rt, "the outcome"),
+    }
+}
+
+fn comes_to(rt: &impl Abort, alloc: Global, case: &Case) {
+    let program = bytes_of(rt, alloc, case.program);
+    let args = args_of(rt, alloc, case.args);
+    let text = outcome_of(rt, alloc, &program, &args, case.rows);
+    same(rt, case.program, text.as_str(), case.outcome);
 }
 
 #[test]
-fn programs_do_what_they_are_to_do(rt: HostRuntime) -> Result<(), Fail> {
-    let alloc = rt.alloc();
+fn programs_do_what_they_are_to_do(rt: HostRuntime) {
     for case in &CASES {
-        let args = args_of(alloc, case.args)?;
-        let text = outcome_of(alloc, case.program, &args, case.rows)?;
-        assert_eq!(rt; text.as_str(), case.outcome, "{}", case.program);
+        comes_to(&rt, rt.alloc(), case);
     }
-    Ok(())
+}
+
+/// A program, the first word of its arguments, and what comes of it.
+static ENDS: [(&str, u64, &str); 5] = [
+    (INDEX, 248, "31 in 5"),
+    (INDEX, 249, "0 in 4"),
+    (INDEX_TOO_FAR, 248, "31 in 5"),
+    (INDEX_TOO_FAR, 249, "stuck"),
+    (INDEX_TOO_FAR, 250, "0 in 4"),
+];
+
+/// What is behind the first word: each word is its number.
+static REST: [u64; 31] = [
+    1, 2, 3, 4, 5, 6, 7, 8, 9, 10, 11, 12, 13, 14, 15, 16, 17, 18, 19, 20, 21, 22, 23, 24, 25, 26,
+    27, 28, 29, 30, 31,
+];
+
+fn ends_so(rt: &impl Abort, alloc: Global, program: &str, first: u64, outcome: &str) {
+    let mut args = args_of(rt, alloc, &[first]);
+    for word in &REST {
+        append_word(rt, &mut args, *word);
+    }
+    let text = outcome_of(rt, alloc, &bytes_of(rt, alloc, program), &args, &[]);
+    same(rt, program, (first, text.as_str()), (first, outcome));
 }
 
 #[test]
-fn arguments_end_at_their_last_byte(rt: HostRuntime) -> Result<(), Fail> {
-    let alloc = rt.alloc();
-    for (program, first, outcome) in [
-        (INDEX, 248u64, "31 in 5"),
-        (INDEX, 249, "0 in 4"),
-        (INDEX_TOO_FAR, 248, "31 in 5"),
-        (INDEX_TOO_FAR, 249, "stuck"),
-        (INDEX_TOO_FAR, 250, "0 in 4"),
-    ] {
-        // 256 bytes: the first word, and then each word its number.
-        let mut args = Vec::from_slice(alloc, &first.to_le_bytes())?;
-        for word in 1..32u64 {
-            args.extend_from_slice(&word.to_le_bytes())?;
-        }
-        let text = outcome_of(alloc, program, &args, &[])?;
-        assert_eq!(rt; text.as_str(), outcome, "{program} {first}");
+fn arguments_end_at_their_last_byte(rt: HostRuntime) {
+    for (program, first, outcome) in &ENDS {
+        ends_so(&rt, rt.alloc(), program, *first, outcome);
     }
-    Ok(())
 }
 
 /// Programs to be run with little memory: the key of the row that stands, of arguments that begin
 /// with 10, and whether the program gets to its end.
-const SCARCE: [(&str, u64, bool); 12] = [
+static SCARCE: [(&str, u64, bool); 12] = [
     (ADD, 12, true),
     (ADD, 10, true),
     (SKEW, 12, true),
@@ -621,28 +669,49 @@ const SCARCE: [(&str, u64, bool); 12] = [
     (PUT_AND_STICK, 12, false),
 ];
 
-#[test]
-fn each_refused_growth_is_want_of_memory(rt: HostRuntime) -> Result<(), Fail> {
-    let alloc = rt.alloc();
-    let schema = Schema::new(alloc, &TABLES)?;
-    let args = [
-        10, 0, 0, 0, 0, 0, 0, 0, 20, 0, 0, 0, 0, 0, 0, 0, 101, 0, 0, 0, 0, 0, 0, 0,
-    ];
-    for (program, key, ends) in SCARCE {
-        let code = decode(alloc, &bytes_of(alloc, program)?)?;
-        let row = Row::new(1, key, Vec::from_slice(alloc, &[1; 8])?);
-        let rows = [row];
-        let scarce = Scarce::new(alloc);
-        let succeeds = || match run_program(&scarce, &code, &schema, &args, &rows) {
-            Ok(run) => {
-                assert_eq!(rt; run.is_some(), ends);
-                true
-            }
-            Err(AllocError) => false,
-        };
-        assert!(rt; succeeds());
-        let growths = scarce.growths();
-        assert_eq!(rt; scarce.refuse_each(succeeds), Some(growths));
+/// 10, 20 and 101.
+static WORDS: [u8; 24] = [
+    10, 0, 0, 0, 0, 0, 0, 0, 20, 0, 0, 0, 0, 0, 0, 0, 101, 0, 0, 0, 0, 0, 0, 0,
+];
+
+/// Whether memory was enough. Where it was, the program gets to its end or it doesn't.
+fn has_run(
+    rt: &impl Abort,
+    scarce: &Scarce,
+    code: &Code,
+    schema: &Schema,
+    rows: &[Row],
+    ends: bool,
+) -> bool {
+    match run_program(scarce, code, schema, &WORDS, rows) {
+        Ok(run) => {
+            assert!(rt; run.is_some() == ends);
+            true
+        }
+        Err(_) => false,
     }
-    Ok(())
+}
+
+fn refuse_growths(rt: &impl Abort, alloc: Global, case: &(&str, u64, bool)) {
+    let (program, key, ends) = *case;
+    let code = decode(alloc, &bytes_of(rt, alloc, program)).expect(rt, program);
+    let rows = [row_of(rt, alloc, 1, key, 0x0101_0101_0101_0101)];
+    let scarce = Scarce::new(alloc);
+    let schema = Schema::new(alloc, &TABLES).expect(rt, "the schema");
+    same(
+        rt,
+        program,
+        has_run(rt, &scarce, &code, &schema, &rows, ends),
+        true,
+    );
+    let growths = scarce.growths();
+    let failed = scarce.refuse_each(|| has_run(rt, &scarce, &code, &schema, &rows, ends));
+    same(rt, program, failed, Some(growths));
+}
+
+#[test]
+fn each_refused_growth_is_want_of_memory(rt: HostRuntime) {
+    for case in &SCARCE {
+        refuse_growths(&rt, rt.alloc(), case);
+    }
 }

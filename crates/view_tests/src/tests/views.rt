@@ -1,39 +1,61 @@
 //! Reads and writes through a view of a plain store.
 
-use plain_rows::{KeyMap, Row};
+use super::same;
+use plain_rows::{Bytes, KeyMap, Row};
 use plain_store::PlainStore;
 use scarce::Scarce;
 use schema::Look;
-use std::alloc::Allocator;
-use std::test::Fail;
+use std::alloc::{Allocator, Global};
+use std::process::Abort;
 use txn_view::{Own, ReadFault, Store, View, count_rows, next_row, read_row};
 
 /// The first byte of a row of table 1.
-fn row<S: Store, A: Allocator + Copy>(
+fn has_row<S: Store, A: Allocator + Copy>(
+    rt: &impl Abort,
     view: &mut View<S, A>,
     key: u64,
-) -> Result<Option<u8>, ReadFault> {
+    wanted: Result<Option<u8>, ReadFault>,
+) {
     let own = &mut view.own;
-    let found = read_row(&view.store, &own.writes, &mut own.looks, 1, key)?;
-    Ok(found.and_then(|bytes| bytes.first().copied()))
+    let found = read_row(&view.store, &own.writes, &mut own.looks, 1, key);
+    let byte = match found {
+        Ok(Some(bytes)) => Ok(bytes.first().copied()),
+        Ok(None) => Ok(None),
+        Err(fault) => Err(fault),
+    };
+    same(rt, "row", (key, byte), (key, wanted));
 }
 
-fn count<S: Store, A: Allocator + Copy>(
+fn has_count<S: Store, A: Allocator + Copy>(
+    rt: &impl Abort,
     view: &mut View<S, A>,
     look: Look,
-) -> Result<u64, ReadFault> {
+    wanted: Result<u64, ReadFault>,
+) {
     let own = &mut view.own;
-    count_rows(&view.store, &own.writes, &mut own.looks, look)
+    let found = count_rows(&view.store, &own.writes, &mut own.looks, look);
+    same(rt, "count", (look, found), (look, wanted));
 }
 
 /// The key of the first row, and its first byte.
-fn first<S: Store, A: Allocator + Copy>(
+fn has_first<S: Store, A: Allocator + Copy>(
+    rt: &impl Abort,
     view: &mut View<S, A>,
     look: Look,
-) -> Result<Option<(u64, Option<u8>)>, ReadFault> {
+    wanted: Result<Option<(u64, Option<u8>)>, ReadFault>,
+) {
     let own = &mut view.own;
-    let found = next_row(&view.store, &own.writes, &mut own.looks, look)?;
-    Ok(found.map(|(key, bytes)| (key, bytes.first().copied())))
+    let found = next_row(&view.store, &own.writes, &mut own.looks, look);
+    let first = match found {
+        Ok(Some((key, bytes))) => Ok(Some((key, bytes.first().copied()))),
+        Ok(None) => Ok(None),
+        Err(fault) => Err(fault),
+    };
+    same(rt, "first", (look, first), (look, wanted));
+}
+
+fn has_looks<S: Store, A: Allocator + Copy>(rt: &impl Abort, view: &View<S, A>, looks: &[Look]) {
+    same(rt, "looks", view.own.looks.looks(), looks);
 }
 
 const FROM_10: Look = Look {
@@ -54,107 +76,142 @@ const EMPTY: Look = Look {
     hi: 10,
 };
 
-#[test]
-fn own_writes_stand_over_the_store(rt: HostRuntime) -> Result<(), Fail> {
-    let mut listed = Vec::new(rt.alloc());
-    for key in [9, 12, 15] {
-        listed.push(Row::new(1, key, Vec::from_slice(rt.alloc(), &[key as u8])?))?;
-    }
-    let rows = KeyMap::from_rows(rt.alloc(), &listed)?;
-    let store = PlainStore {
-        rows: &rows,
-        gone: false,
-    };
-    let mut view = View::over(store, Own::new(rt.alloc()));
+type Rows = KeyMap<Bytes<Global>, Global>;
 
-    assert_eq!(rt; count(&mut view, FROM_10), Ok(2));
-    assert_eq!(rt; first(&mut view, FROM_10), Ok(Some((12, Some(12)))));
+fn row_at(rt: &impl Abort, alloc: Global, key: u8) -> Row {
+    let bytes = Vec::from_slice(alloc, &[key]).expect(rt, "a row");
+    Row::new(1, u64::from(key), bytes)
+}
 
-    view.put(1, 11, &[1])?;
-    view.remove(1, 12)?;
-    view.remove(1, 13)?;
-    view.put(1, 20, &[2])?;
-    assert_eq!(rt; count(&mut view, FROM_10), Ok(3));
-    assert_eq!(rt; first(&mut view, FROM_10), Ok(Some((11, Some(1)))));
-    assert_eq!(rt; first(&mut view, FROM_12), Ok(Some((15, Some(15)))));
-    assert_eq!(rt; row(&mut view, 12), Ok(None));
-    assert_eq!(rt; row(&mut view, 9), Ok(Some(9)));
-    assert_eq!(rt; count(&mut view, EMPTY), Ok(0));
-
-    let look = |lo, hi| Look { table: 1, lo, hi };
-    let looks = [
-        look(10, 20),
-        look(10, 12),
-        look(10, 20),
-        look(10, 11),
-        look(12, 15),
-        look(9, 9),
+/// Rows of table 1, each of one byte, its key.
+fn some_rows(rt: &impl Abort, alloc: Global) -> Rows {
+    let rows = [
+        row_at(rt, alloc, 9),
+        row_at(rt, alloc, 12),
+        row_at(rt, alloc, 15),
     ];
-    assert_eq!(rt; view.own.looks.looks(), looks.as_slice());
-    Ok(())
+    KeyMap::from_rows(alloc, &rows).expect(rt, "the rows")
+}
+
+fn view_of<A: Allocator + Copy>(
+    alloc: A,
+    rows: &Rows,
+    gone: bool,
+) -> View<PlainStore<'_, Global>, A> {
+    View::over(PlainStore { rows, gone }, Own::new(alloc))
+}
+
+fn write_over<S: Store>(rt: &impl Abort, view: &mut View<S>) {
+    view.put(1, 11, &[1]).expect(rt, "a put");
+    view.remove(1, 12).expect(rt, "a removal");
+    view.remove(1, 13).expect(rt, "a removal of no row");
+    view.put(1, 20, &[2]).expect(rt, "a put at the end");
+}
+
+/// The looks of the test below: each as far as what was found, and none of an empty range.
+static LOOKS: [Look; 6] = [
+    FROM_10,
+    Look {
+        table: 1,
+        lo: 10,
+        hi: 12,
+    },
+    FROM_10,
+    Look {
+        table: 1,
+        lo: 10,
+        hi: 11,
+    },
+    Look {
+        table: 1,
+        lo: 12,
+        hi: 15,
+    },
+    Look {
+        table: 1,
+        lo: 9,
+        hi: 9,
+    },
+];
+
+fn stand_over_the_store<S: Store>(rt: &impl Abort, view: &mut View<S>) {
+    has_count(rt, view, FROM_10, Ok(3));
+    has_first(rt, view, FROM_10, Ok(Some((11, Some(1)))));
+    has_first(rt, view, FROM_12, Ok(Some((15, Some(15)))));
+    has_row(rt, view, 12, Ok(None));
+    has_row(rt, view, 9, Ok(Some(9)));
+    has_count(rt, view, EMPTY, Ok(0));
+    has_looks(rt, view, &LOOKS);
 }
 
 #[test]
-fn a_store_that_is_gone_is_told(rt: HostRuntime) -> Result<(), Fail> {
-    let listed: [Row; 0] = [];
-    let rows = KeyMap::from_rows(rt.alloc(), &listed)?;
-    let store = PlainStore {
-        rows: &rows,
-        gone: true,
-    };
-    let mut view = View::over(store, Own::new(rt.alloc()));
-    view.put(1, 5, &[7])?;
-    assert_eq!(rt; row(&mut view, 5), Ok(Some(7)));
+fn own_writes_stand_over_the_store(rt: HostRuntime) {
+    let rows = some_rows(&rt, rt.alloc());
+    let mut view = view_of(rt.alloc(), &rows, false);
+    has_count(&rt, &mut view, FROM_10, Ok(2));
+    has_first(&rt, &mut view, FROM_10, Ok(Some((12, Some(12)))));
+    write_over(&rt, &mut view);
+    stand_over_the_store(&rt, &mut view);
+}
+
+fn is_told<S: Store>(rt: &impl Abort, view: &mut View<S>) {
     let gone = ReadFault::Gone;
-    assert_eq!(rt; row(&mut view, 6), Err(gone));
-    assert_eq!(rt; count(&mut view, FROM_10), Err(gone));
-    assert_eq!(rt; first(&mut view, FROM_10), Err(gone));
-    assert_eq!(rt; first(&mut view, EMPTY), Ok(None));
-    assert_eq!(rt; view.own.looks.looks().len(), 0);
-    Ok(())
+    has_row(rt, view, 5, Ok(Some(7)));
+    has_row(rt, view, 6, Err(gone));
+    has_count(rt, view, FROM_10, Err(gone));
+    has_first(rt, view, FROM_10, Err(gone));
+    has_first(rt, view, EMPTY, Ok(None));
+    has_looks(rt, view, &[]);
 }
 
 #[test]
-fn a_refused_look_leaves_the_call_as_it_was(rt: HostRuntime) -> Result<(), Fail> {
-    let scarce = Scarce::new(rt.alloc());
-    let listed: [Row; 0] = [];
-    let rows = KeyMap::from_rows(rt.alloc(), &listed)?;
-    let store = PlainStore {
-        rows: &rows,
-        gone: false,
-    };
-    let mut view = View::over(store, Own::new(&scarce));
+fn a_store_that_is_gone_is_told(rt: HostRuntime) {
+    let rows = Rows::new(rt.alloc());
+    let mut view = view_of(rt.alloc(), &rows, true);
+    view.put(1, 5, &[7]).expect(&rt, "a put");
+    is_told(&rt, &mut view);
+}
+
+fn is_as_it_was<S: Store>(rt: &impl Abort, scarce: &Scarce, view: &mut View<S, &Scarce>) {
     scarce.refuse_nth(1);
-    let wanted = ReadFault::NoMemory;
-    assert_eq!(rt; row(&mut view, 5), Err(wanted));
-    assert_eq!(rt; view.own.looks.looks().len(), 0);
-    assert_eq!(rt; row(&mut view, 5), Ok(None));
-    assert_eq!(rt; view.own.looks.looks().len(), 1);
-    Ok(())
+    has_row(rt, view, 5, Err(ReadFault::NoMemory));
+    has_looks(rt, view, &[]);
+    has_row(rt, view, 5, Ok(None));
+    same(rt, "looks", view.own.looks.looks().len(), 1);
 }
 
 #[test]
-fn a_cancelled_call_has_written_nothing(rt: HostRuntime) -> Result<(), Fail> {
-    let listed: [Row; 0] = [];
-    let rows = KeyMap::from_rows(rt.alloc(), &listed)?;
-    for cancel in [false, true] {
-        let store = PlainStore {
-            rows: &rows,
-            gone: false,
-        };
-        let mut view = View::over(store, Own::new(rt.alloc()));
-        view.put(1, 5, &[7])?;
-        if cancel {
-            view.cancel(3);
-        }
-        let again = PlainStore {
-            rows: &rows,
-            gone: false,
-        };
-        let (looks, writes, code) = View::over(again, view.pause()).finish();
-        assert_eq!(rt; looks.looks().len(), 0);
-        assert_eq!(rt; writes.is_empty(), cancel);
-        assert_eq!(rt; code, cancel.then_some(3));
+fn a_refused_look_leaves_the_call_as_it_was(rt: HostRuntime) {
+    let scarce = Scarce::new(rt.alloc());
+    let rows = Rows::new(rt.alloc());
+    is_as_it_was(&rt, &scarce, &mut view_of(&scarce, &rows, false));
+}
+
+/// What a call has after a put, paused and taken up again.
+fn has_written(rt: &impl Abort, rows: &Rows, own: Own, cancel: bool) {
+    let store = PlainStore { rows, gone: false };
+    let (looks, writes, code) = View::over(store, own).finish();
+    let found = (looks.looks().len(), writes.is_empty(), code);
+    same(
+        rt,
+        "looks, no writes, code",
+        found,
+        (0, cancel, cancel.then_some(3)),
+    );
+}
+
+fn call(rt: &impl Abort, alloc: Global, rows: &Rows, cancel: bool) -> Own {
+    let mut view = view_of(alloc, rows, false);
+    view.put(1, 5, &[7]).expect(rt, "a put");
+    if cancel {
+        view.cancel(3);
     }
-    Ok(())
+    view.pause()
+}
+
+#[test]
+fn a_cancelled_call_has_written_nothing(rt: HostRuntime) {
+    let rows = Rows::new(rt.alloc());
+    has_written(&rt, &rows, call(&rt, rt.alloc(), &rows, false), false);
+    has_written(&rt, &rows, call(&rt, rt.alloc(), &rows, true), true);
 }
