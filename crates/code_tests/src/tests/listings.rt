@@ -1,9 +1,11 @@
-use bpf_code::decode;
+use super::{bytes_of, same};
+use bpf_code::{Code, decode};
 use bpf_list::{listing, put_listing};
 use byte_output::paged::PagedOutput;
+use std::alloc::Global;
 use std::io;
 use std::io::{ErrorKind, Write};
-use std::test::Fail;
+use std::process::Abort;
 
 /// The first slot of a program that EXIT follows, and how its line goes on: one for each opcode and
 /// each value that changes the name.
@@ -147,37 +149,49 @@ static ROWS: [&str; 135] = [
 
 const EXIT: [u8; 8] = [0x95, 0, 0, 0, 0, 0, 0, 0];
 
-fn listed(rt: &HostRuntime, program: &[u8]) -> Result<Vec<u8>, Fail> {
-    let code = decode(rt.alloc(), program)?;
-    let mut text = Vec::new(rt.alloc());
-    listing(&code, &mut text)?;
-    Ok(text)
+fn code_of(rt: &impl Abort, alloc: Global, program: &[u8]) -> Code {
+    decode(alloc, program).expect(rt, "the program")
+}
+
+fn is_listed(rt: &impl Abort, alloc: Global, program: &[u8], expected: &str) {
+    let code = code_of(rt, alloc, program);
+    let mut text = Vec::new(alloc);
+    listing(&code, &mut text).expect(rt, expected);
+    assert_eq!(rt; text.as_slice(), expected.as_bytes());
+}
+
+/// The first slot of the row's program, and EXIT.
+fn program_of(rt: &impl Abort, alloc: Global, row: &str) -> Vec<u8> {
+    let digits = row.split_whitespace().next().expect(rt, "sixteen digits");
+    let mut program = bytes_of(rt, alloc, digits);
+    program.extend_from_slice(&EXIT).expect(rt, "the exit");
+    program
+}
+
+fn has_its_line(rt: &impl Abort, alloc: Global, row: &str) {
+    let program = program_of(rt, alloc, row);
+    let expected = format!(in alloc;
+        "   0 {row}\n   1 9500000000000000 exit dst 0 src 0 off 0 imm 0\n"
+    );
+    is_listed(rt, alloc, &program, &expected.expect(rt, "the lines"));
 }
 
 #[test]
-fn each_instruction_has_its_line(rt: HostRuntime) -> Result<(), Fail> {
+fn each_instruction_has_its_line(rt: HostRuntime) {
     for row in &ROWS {
-        let digits = row.as_bytes().get(..16).ok_or("sixteen digits")?;
-        let mut program = hex::decode(rt.alloc(), digits)?;
-        program.extend_from_slice(&EXIT)?;
-        let expected = format!(in rt.alloc();
-            "   0 {row}\n   1 9500000000000000 exit dst 0 src 0 off 0 imm 0\n"
-        )?;
-        assert_eq!(rt; listed(&rt, &program)?.as_slice(), expected.as_bytes());
+        has_its_line(&rt, rt.alloc(), row);
     }
-    Ok(())
 }
 
+static WIDE: [u8; 24] = [
+    0x18, 0, 0, 0, 1, 0, 0, 0, 0, 0, 0, 0, 2, 0, 0, 0, 0x95, 0, 0, 0, 0, 0, 0, 0,
+];
+
 #[test]
-fn a_wide_load_is_one_line(rt: HostRuntime) -> Result<(), Fail> {
-    let program = hex::decode(
-        rt.alloc(),
-        "180000000100000000000000020000009500000000000000",
-    )?;
+fn a_wide_load_is_one_line(rt: HostRuntime) {
     let expected =
         "   0 18000000010000000000000002000000 lddw dst 0 src 0 off 0 imm 8589934593\n   2 9500000000000000 exit dst 0 src 0 off 0 imm 0\n";
-    assert_eq!(rt; listed(&rt, &program)?.as_slice(), expected.as_bytes());
-    Ok(())
+    is_listed(&rt, rt.alloc(), &WIDE, expected);
 }
 
 /// Takes so many bytes, then fails.
@@ -201,26 +215,44 @@ impl Write for Failing {
     }
 }
 
+fn is_given(code: &Code, room: usize) -> bool {
+    let mut failing = Failing { room };
+    let mut output = PagedOutput::new(&mut failing);
+    put_listing(code, &mut output).is_ok()
+}
+
+fn is_written(code: &Code, room: usize) -> bool {
+    listing(code, &mut Failing { room }).is_ok()
+}
+
+/// So many bytes, whether the lines are given to a page, and whether they are written.
+static ROOMS: [(usize, bool, bool); 5] = [
+    (0, false, false),
+    (4079, false, false),
+    (4080, true, false),
+    (4130, true, false),
+    (4131, true, true),
+];
+
+fn exits(rt: &impl Abort, alloc: Global, count: usize) -> Vec<u8> {
+    let mut program = Vec::new(alloc);
+    for _ in 0..count {
+        program.extend_from_slice(&EXIT).expect(rt, "an exit");
+    }
+    program
+}
+
 /// Eighty lines of 51 bytes fit a page, which leaves for the next line.
 #[test]
-fn a_failed_write_ends_the_listing(rt: HostRuntime) -> Result<(), Fail> {
-    let mut program = Vec::new(rt.alloc());
-    for _ in 0..81 {
-        program.extend_from_slice(&EXIT)?;
+fn a_failed_write_ends_the_listing(rt: HostRuntime) {
+    let code = code_of(&rt, rt.alloc(), &exits(&rt, rt.alloc(), 81));
+    for (room, given, written) in &ROOMS {
+        let found = (*room, is_given(&code, *room), is_written(&code, *room));
+        same(
+            &rt,
+            "room, given, written",
+            found,
+            (*room, *given, *written),
+        );
     }
-    let code = decode(rt.alloc(), &program)?;
-    for (room, is_given, is_written) in [
-        (0, false, false),
-        (4079, false, false),
-        (4080, true, false),
-        (4130, true, false),
-        (4131, true, true),
-    ] {
-        let mut failing = Failing { room };
-        let mut output = PagedOutput::new(&mut failing);
-        assert_eq!(rt; put_listing(&code, &mut output).is_ok(), is_given);
-        let mut failing = Failing { room };
-        assert_eq!(rt; listing(&code, &mut failing).is_ok(), is_written);
-    }
-    Ok(())
 }

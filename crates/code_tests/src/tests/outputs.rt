@@ -1,8 +1,10 @@
+use super::same;
 use byte_output::paged::{PAGE_BYTES, PagedOutput};
 use byte_output::{line, put};
+use std::alloc::Global;
 use std::io;
 use std::io::{ErrorKind, Write};
-use std::test::Fail;
+use std::process::Abort;
 
 /// What a write answers in turn: so many bytes, an interruption or a failure.
 #[derive(Clone, Copy)]
@@ -42,39 +44,44 @@ impl Write for Scripted {
 }
 
 /// The turns are given from the last to the first.
-fn output_of(rt: &HostRuntime, turns: &[Turn]) -> Result<Scripted, Fail> {
-    Ok(Scripted {
-        turns: turns.to_vec(rt.alloc())?,
-        held: Vec::new(rt.alloc()),
+fn output_of(rt: &impl Abort, alloc: Global, turns: &[Turn]) -> Scripted {
+    Scripted {
+        turns: turns.to_vec(alloc).expect(rt, "the turns"),
+        held: Vec::new(alloc),
         flushes: true,
-    })
+    }
+}
+
+fn holds(rt: &impl Abort, output: &Scripted, wanted: &[u8]) {
+    assert_eq!(rt; output.held.as_slice(), wanted);
+}
+
+/// Whether a text was written. The output then holds so much of it.
+fn writes(rt: &impl Abort, alloc: Global, turns: &[Turn], held: &[u8]) -> io::Result<()> {
+    let mut output = output_of(rt, alloc, turns);
+    let answer = put(&mut output, b"hello");
+    holds(rt, &output, held);
+    answer
+}
+
+static GOES_ON: [Turn; 3] = [Turn::Takes(9), Turn::Interrupted, Turn::Takes(2)];
+
+static FAILS: [Turn; 2] = [Turn::Fails, Turn::Takes(2)];
+
+static TAKES_NOTHING: [Turn; 3] = [Turn::Takes(9), Turn::Takes(0), Turn::Takes(2)];
+
+fn takes_nothing(answer: io::Result<()>) -> bool {
+    match answer {
+        Ok(()) => false,
+        Err(error) => matches!(error.kind(), ErrorKind::WriteZero),
+    }
 }
 
 #[test]
-fn short_and_interrupted_writes_go_on(rt: HostRuntime) -> Result<(), Fail> {
-    let mut output = output_of(&rt, &[Turn::Takes(9), Turn::Interrupted, Turn::Takes(2)])?;
-    put(&mut output, b"hello")?;
-    assert_eq!(rt; output.held.as_slice(), b"hello".as_slice());
-    Ok(())
-}
-
-#[test]
-fn a_failure_leaves_a_beginning(rt: HostRuntime) -> Result<(), Fail> {
-    let mut output = output_of(&rt, &[Turn::Fails, Turn::Takes(2)])?;
-    assert!(rt; put(&mut output, b"hello").is_err());
-    assert_eq!(rt; output.held.as_slice(), b"he".as_slice());
-    Ok(())
-}
-
-#[test]
-fn a_write_that_takes_nothing_is_a_failure(rt: HostRuntime) -> Result<(), Fail> {
-    let mut output = output_of(&rt, &[Turn::Takes(9), Turn::Takes(0), Turn::Takes(2)])?;
-    let Err(error) = put(&mut output, b"hello") else {
-        panic!(rt; "the write took nothing");
-    };
-    assert!(rt; matches!(error.kind(), ErrorKind::WriteZero));
-    assert_eq!(rt; output.held.as_slice(), b"he".as_slice());
-    Ok(())
+fn short_writes_go_on_and_failures_leave_a_beginning(rt: HostRuntime) {
+    assert!(rt; writes(&rt, rt.alloc(), &GOES_ON, b"hello").is_ok());
+    assert!(rt; writes(&rt, rt.alloc(), &FAILS, b"he").is_err());
+    assert!(rt; takes_nothing(writes(&rt, rt.alloc(), &TAKES_NOTHING, b"he")));
 }
 
 #[test]
@@ -89,40 +96,64 @@ fn a_line_has_its_labels_and_numbers(rt: HostRuntime) {
     );
 }
 
+static SHORT: [u8; 1000] = [7; 1000];
+
+static PAGE: [u8; PAGE_BYTES] = [7; PAGE_BYTES];
+
+static LONG: [u8; PAGE_BYTES + 1] = [7; PAGE_BYTES + 1];
+
+static FIVE: [Turn; 5] = [Turn::Takes(usize::MAX); 5];
+
+fn repeated(rt: &impl Abort, alloc: Global, text: &[u8], times: usize) -> Vec<u8> {
+    let mut all = Vec::new(alloc);
+    for _ in 0..times {
+        all.extend_from_slice(text).expect(rt, "a text");
+    }
+    all
+}
+
+fn give(rt: &impl Abort, output: &mut Scripted, text: &[u8], times: usize) {
+    let mut pages = PagedOutput::new(output);
+    for _ in 0..times {
+        pages.put(text).expect(rt, "a text");
+    }
+    pages.finish().expect(rt, "the end");
+}
+
+/// A text that is given so many times leaves so many of five writes.
+fn leaves(rt: &impl Abort, alloc: Global, text: &[u8], times: usize, left: usize) {
+    let mut output = output_of(rt, alloc, &FIVE);
+    give(rt, &mut output, text, times);
+    holds(rt, &output, &repeated(rt, alloc, text, times));
+    let len = text.len();
+    same(
+        rt,
+        "length, writes left",
+        (len, output.turns.len()),
+        (len, left),
+    );
+}
+
 /// Small texts leave in one write, and one that is longer than a page by itself.
 #[test]
-fn a_page_is_kept_in_front_of_the_output(rt: HostRuntime) -> Result<(), Fail> {
-    let long = [7u8; PAGE_BYTES + 1];
-    // A text, how often it is given, and how many of five writes are then left.
-    let rows: [(&[u8], usize, usize); 5] = [
-        (b"", 3, 5),
-        (b"abc", 3, 4),
-        (&[7; 1000], 5, 3),
-        (&[7; PAGE_BYTES], 2, 3),
-        (&long, 2, 3),
-    ];
-    for (text, times, left) in rows {
-        let mut output = output_of(&rt, &[Turn::Takes(usize::MAX); 5])?;
-        let mut expected = Vec::new(rt.alloc());
-        let mut pages = PagedOutput::new(&mut output);
-        for _ in 0..times {
-            pages.put(text)?;
-            expected.extend_from_slice(text)?;
-        }
-        pages.finish()?;
-        assert_eq!(rt; output.held.as_slice(), expected.as_slice());
-        assert_eq!(rt; output.turns.len(), left);
-    }
-    Ok(())
+fn a_page_is_kept_in_front_of_the_output(rt: HostRuntime) {
+    leaves(&rt, rt.alloc(), b"", 3, 5);
+    leaves(&rt, rt.alloc(), b"abc", 3, 4);
+    leaves(&rt, rt.alloc(), &SHORT, 5, 3);
+    leaves(&rt, rt.alloc(), &PAGE, 2, 3);
+    leaves(&rt, rt.alloc(), &LONG, 2, 3);
+}
+
+fn is_finished(rt: &impl Abort, output: &mut Scripted) -> bool {
+    let mut pages = PagedOutput::new(output);
+    pages.put(b"hello").expect(rt, "a text");
+    pages.finish().is_ok()
 }
 
 #[test]
-fn a_flush_that_fails_is_a_failure(rt: HostRuntime) -> Result<(), Fail> {
-    let mut output = output_of(&rt, &[Turn::Takes(9)])?;
+fn a_flush_that_fails_is_a_failure(rt: HostRuntime) {
+    let mut output = output_of(&rt, rt.alloc(), &[Turn::Takes(9)]);
     output.flushes = false;
-    let mut pages = PagedOutput::new(&mut output);
-    pages.put(b"hello")?;
-    assert!(rt; pages.finish().is_err());
-    assert_eq!(rt; output.held.as_slice(), b"hello".as_slice());
-    Ok(())
+    assert!(rt; !is_finished(&rt, &mut output));
+    holds(&rt, &output, b"hello");
 }

@@ -1,12 +1,13 @@
 // What no clause says: that the definitions are the format's, what is printed, and that each call succeeds.
+use super::{bytes_of, same};
 use bpf_code::{
-    DecodeCause, DecodeFault, Instruction, Opcode, Register, SignExtendingMove, Size, Source, Uses,
-    Width, decode, encode,
+    Code, DecodeCause, DecodeFault, Instruction, Opcode, Register, SignExtendingMove, Size, Source,
+    Uses, Width, decode, encode,
 };
 use bpf_words::{BinaryOperation, ByteOrder, Condition, EndWidth};
 use scarce::Scarce;
-use std::alloc::{Allocator, Global};
-use std::test::Fail;
+use std::alloc::Global;
+use std::process::Abort;
 
 // A row has opcodes in hex, what they are, with `_` for each one's name, the names, the fields that they use, and the
 // seven bytes behind the opcode in one slot that is defined. The source of a wide load and of a call counts as used: it
@@ -255,44 +256,61 @@ const OUT_OF_MEMORY: DecodeFault = DecodeFault {
     slot: 0,
 };
 
-// The bytes of words in hex.
-fn bytes_of<A: Allocator + Copy>(alloc: A, text: &str) -> Result<Vec<u8, A>, Fail> {
-    let mut digits = String::new(alloc);
-    for word in text.split_whitespace() {
-        digits.push_str(word)?;
+fn code_of(rt: &impl Abort, alloc: Global, bytes: &[u8]) -> Code {
+    decode(alloc, bytes).expect(rt, "the program")
+}
+
+fn fault_of(alloc: Global, bytes: &[u8]) -> Option<DecodeFault> {
+    match decode(alloc, bytes) {
+        Ok(_) => None,
+        Err(fault) => Some(fault),
     }
-    Ok(hex::decode(alloc, digits.as_str())?)
+}
+
+// The fault as it is printed, and by its parts.
+fn is_printed_as(rt: &impl Abort, alloc: Global, fault: DecodeFault, expected: &str) {
+    let printed = format!(in alloc; "{fault}").expect(rt, expected);
+    same(rt, "printed", printed.as_str(), expected);
+    let parts = format!(in alloc; "B{} slot {}", fault.cause.number(), fault.slot);
+    same(rt, "parts", parts.expect(rt, expected).as_str(), expected);
+}
+
+fn is_faulty(rt: &impl Abort, alloc: Global, expected: &str, text: &str) {
+    let bytes = bytes_of(rt, alloc, text);
+    let fault = fault_of(alloc, &bytes).expect(rt, text);
+    is_printed_as(rt, alloc, fault, expected);
 }
 
 #[test]
-fn faults(rt: HostRuntime) -> Result<(), Fail> {
+fn faults(rt: HostRuntime) {
     for [expected, text] in &FAULTS {
-        let bytes = bytes_of(rt.alloc(), text)?;
-        let Err(fault) = decode(rt.alloc(), bytes.as_slice()) else {
-            panic!(rt; "no fault in {text}");
-        };
-        let printed = format!(in rt.alloc(); "{fault}")?;
-        assert_eq!(rt; printed.as_str(), *expected, "{text}");
-        let parts = format!(in rt.alloc(); "B{} slot {}", fault.cause.number(), fault.slot)?;
-        assert_eq!(rt; parts.as_str(), *expected, "{text}");
+        is_faulty(&rt, rt.alloc(), expected, text);
     }
-    // The longest program, and one slot more.
-    let exit = bytes_of(rt.alloc(), EXIT)?;
-    let mut bytes = Vec::new(rt.alloc());
-    for _ in 0..4096 {
-        bytes.extend_from_slice(exit.as_slice())?;
-    }
-    assert_eq!(rt; decode(rt.alloc(), bytes.as_slice())?.slots(), 4096);
-    bytes.extend_from_slice(exit.as_slice())?;
-    let Err(fault) = decode(rt.alloc(), bytes.as_slice()) else {
-        panic!(rt; "no fault");
-    };
-    assert_eq!(rt; (fault.cause.number(), fault.slot), (2, 0));
-    Ok(())
 }
 
-fn is_printed_so(alloc: Global, opcode: Opcode, text: &str) -> Result<bool, Fail> {
-    Ok(format!(in alloc; "{opcode:?}")?.as_str() == text)
+fn append(rt: &impl Abort, bytes: &mut Vec<u8>, more: &[u8]) {
+    bytes
+        .extend_from_slice(more)
+        .expect(rt, "room for a program");
+}
+
+fn exits(rt: &impl Abort, alloc: Global, count: usize) -> Vec<u8> {
+    let exit = bytes_of(rt, alloc, EXIT);
+    let mut bytes = Vec::new(alloc);
+    for _ in 0..count {
+        append(rt, &mut bytes, &exit);
+    }
+    bytes
+}
+
+// The longest program, and one slot more.
+#[test]
+fn the_longest_program(rt: HostRuntime) {
+    let code = code_of(&rt, rt.alloc(), &exits(&rt, rt.alloc(), 4096));
+    same(&rt, "slots", code.slots(), 4096);
+    let fault = fault_of(rt.alloc(), &exits(&rt, rt.alloc(), 4097));
+    let fault = fault.expect(&rt, "no fault");
+    same(&rt, "fault", (fault.cause.number(), fault.slot), (2, 0));
 }
 
 // Whether a slot of this opcode is refused since there is no such.
@@ -303,144 +321,183 @@ fn is_unknown(alloc: Global, opcode: u8) -> bool {
     }
 }
 
-#[test]
-fn opcodes(rt: HostRuntime) -> Result<(), Fail> {
-    let mut known = Vec::new(rt.alloc());
-    for [opcodes, form, names, used, _] in &OPCODES {
-        let uses = Uses {
-            dst: used.contains("dst"),
-            src: used.contains("src"),
-            offset: used.contains("off"),
-            immediate: used.contains("imm"),
-        };
-        let (before, after) = form.split_once('_').ok_or("no place for the name")?;
-        let bytes = bytes_of(rt.alloc(), opcodes)?;
-        assert_eq!(rt; bytes.len(), names.split_whitespace().count(), "{opcodes}");
-        for (byte, name) in bytes.iter().zip(names.split_whitespace()) {
-            let opcode = Opcode::from_byte(*byte).ok_or("unknown")?;
-            let expected = format!(in rt.alloc(); "{before}{name}{after}")?;
-            assert!(rt; is_printed_so(rt.alloc(), opcode, expected.as_str())?);
-            assert_eq!(rt; (opcode.byte(), opcode.uses()), (*byte, uses), "{name}");
-        }
-        known.extend_from_slice(bytes.as_slice())?;
+fn uses_of(used: &str) -> Uses {
+    Uses {
+        dst: used.contains("dst"),
+        src: used.contains("src"),
+        offset: used.contains("off"),
+        immediate: used.contains("imm"),
     }
-    assert_eq!(rt; known.len(), 117);
+}
+
+// The form with a name in its place.
+fn named(rt: &impl Abort, alloc: Global, form: &str, name: &str) -> String {
+    let (before, after) = form.split_once('_').expect(rt, "no place for the name");
+    format!(in alloc; "{before}{name}{after}").expect(rt, name)
+}
+
+fn is_opcode(rt: &impl Abort, alloc: Global, byte: u8, expected: &str, uses: Uses) {
+    let opcode = Opcode::from_byte(byte).expect(rt, expected);
+    let printed = format!(in alloc; "{opcode:?}").expect(rt, expected);
+    same(rt, "opcode", printed.as_str(), expected);
+    same(rt, expected, (opcode.byte(), opcode.uses()), (byte, uses));
+}
+
+fn has_opcodes(rt: &impl Abort, alloc: Global, row: &[&str; 5], bytes: &[u8]) {
+    let uses = uses_of(row[3]);
+    same(rt, row[0], bytes.len(), row[2].split_whitespace().count());
+    for (byte, name) in bytes.iter().zip(row[2].split_whitespace()) {
+        is_opcode(rt, alloc, *byte, &named(rt, alloc, row[1], name), uses);
+    }
+}
+
+fn are_known_or_refused(rt: &impl Abort, alloc: Global, known: &[u8]) {
+    same(rt, "opcodes", known.len(), 117);
     for byte in 0..=255 {
-        assert_eq!(rt;
-            is_unknown(rt.alloc(), byte),
-            !known.contains(&byte),
-            "{byte}"
+        let found = (byte, is_unknown(alloc, byte));
+        same(rt, "unknown", found, (byte, !known.contains(&byte)));
+    }
+}
+
+#[test]
+fn opcodes(rt: HostRuntime) {
+    let mut known = Vec::new(rt.alloc());
+    for row in &OPCODES {
+        let bytes = bytes_of(&rt, rt.alloc(), row[0]);
+        has_opcodes(&rt, rt.alloc(), row, &bytes);
+        append(&rt, &mut known, &bytes);
+    }
+    are_known_or_refused(&rt, rt.alloc(), &known);
+}
+
+fn come_back(rt: &impl Abort, alloc: Global, bytes: &[u8], slots: usize) {
+    let code = code_of(rt, alloc, bytes);
+    same(rt, "slots", code.slots(), slots);
+    let again = encode(alloc, &code).expect(rt, "the bytes");
+    assert_eq!(rt; again.as_slice(), bytes);
+}
+
+// The second half of the wide load.
+static HALF: [u8; 8] = [0, 0, 0, 0, 0xf0, 0xde, 0xbc, 0x9a];
+
+// Each opcode of a row with the rest of its slot.
+fn append_row(rt: &impl Abort, all: &mut Vec<u8>, opcodes: &[u8], rest: &[u8]) {
+    for opcode in opcodes {
+        append(rt, all, &[*opcode]);
+        append(rt, all, rest);
+        if *opcode == 0x18 {
+            append(rt, all, &HALF);
+        }
+    }
+}
+
+#[test]
+fn bytes_come_back(rt: HostRuntime) {
+    let mut bytes = bytes_of(&rt, rt.alloc(), VALUES);
+    for row in &OPCODES {
+        let opcodes = bytes_of(&rt, rt.alloc(), row[0]);
+        let rest = bytes_of(&rt, rt.alloc(), row[4]);
+        append_row(&rt, &mut bytes, &opcodes, &rest);
+    }
+    // the values, the opcodes and the second half of the wide load
+    come_back(&rt, rt.alloc(), &bytes, 19 + 117 + 1);
+    come_back(&rt, rt.alloc(), &bytes_of(&rt, rt.alloc(), ADD), 17);
+}
+
+// A comparison, moves, stores, a byte swap and both jumps, then the wide load of 0x2_0000_0001.
+static LISTED: &str =
+    "bf19100000000000 7a0af8ffffffffff dc01000040000000 9f32010000000000 a6020400feffffff \
+    0500000000000000 0600000000000000 180a000001000000 0000000002000000 9500000000000000";
+
+static INSTRUCTIONS: [Option<Instruction>; 11] = [
+    Some(Instruction::MoveSignExtended {
+        kind: SignExtendingMove::From16To64,
+        dst: Register::R9,
+        src: Register::R1,
+    }),
+    Some(Instruction::StoreImmediate {
+        size: Size::DoubleWord,
+        dst: Register::R10,
+        offset: -8,
+        immediate: -1,
+    }),
+    Some(Instruction::End {
+        order: ByteOrder::Big,
+        width: EndWidth::Low64,
+        dst: Register::R1,
+    }),
+    Some(Instruction::Arithmetic {
+        width: Width::Bits64,
+        operation: BinaryOperation::Smod,
+        dst: Register::R2,
+        source: Source::Register(Register::R3),
+    }),
+    Some(Instruction::Branch {
+        width: Width::Bits32,
+        condition: Condition::Lt,
+        dst: Register::R2,
+        source: Source::Immediate(-2),
+        distance: 4,
+    }),
+    Some(Instruction::Jump { distance: 0 }),
+    Some(Instruction::LongJump { distance: 0 }),
+    Some(Instruction::LoadWide {
+        dst: Register::R10,
+        value: 0x2_0000_0001,
+    }),
+    None,
+    Some(Instruction::Exit),
+    None,
+];
+
+#[test]
+fn instructions(rt: HostRuntime) {
+    let code = code_of(&rt, rt.alloc(), &bytes_of(&rt, rt.alloc(), LISTED));
+    same(&rt, "slots", code.slots(), 10);
+    for (slot, instruction) in INSTRUCTIONS.iter().enumerate() {
+        same(
+            &rt,
+            "slot, instruction",
+            (slot, code.at(slot)),
+            (slot, *instruction),
         );
     }
-    Ok(())
+    same(&rt, "no slot", code.at(usize::MAX), None);
 }
 
-#[test]
-fn bytes_come_back(rt: HostRuntime) -> Result<(), Fail> {
-    let mut bytes = bytes_of(rt.alloc(), VALUES)?;
-    for [opcodes, _, _, _, rest] in &OPCODES {
-        for opcode in bytes_of(rt.alloc(), opcodes)? {
-            bytes.push(opcode)?;
-            bytes.extend_from_slice(bytes_of(rt.alloc(), rest)?.as_slice())?;
-            if opcode == 0x18 {
-                bytes.extend_from_slice(&[0, 0, 0, 0, 0xf0, 0xde, 0xbc, 0x9a])?;
-            }
-        }
-    }
-    let code = decode(rt.alloc(), bytes.as_slice())?;
-    // the values, the opcodes and the second half of the wide load
-    assert_eq!(rt; code.slots(), 19 + 117 + 1);
-    assert_eq!(rt; encode(rt.alloc(), &code)?.as_slice(), bytes.as_slice());
-
-    let bytes = bytes_of(rt.alloc(), ADD)?;
-    let code = decode(rt.alloc(), bytes.as_slice())?;
-    assert_eq!(rt; code.slots(), 17);
-    assert_eq!(rt; encode(rt.alloc(), &code)?.as_slice(), bytes.as_slice());
-    Ok(())
-}
-
-#[test]
-fn instructions(rt: HostRuntime) -> Result<(), Fail> {
-    // a comparison, moves, stores, a byte swap and both jumps, then the wide load of 0x2_0000_0001
-    let text =
-        "bf19100000000000 7a0af8ffffffffff dc01000040000000 9f32010000000000 a6020400feffffff \
-        0500000000000000 0600000000000000 180a000001000000 0000000002000000 9500000000000000";
-    let code = decode(rt.alloc(), bytes_of(rt.alloc(), text)?.as_slice())?;
-    let expected = [
-        Some(Instruction::MoveSignExtended {
-            kind: SignExtendingMove::From16To64,
-            dst: Register::R9,
-            src: Register::R1,
-        }),
-        Some(Instruction::StoreImmediate {
-            size: Size::DoubleWord,
-            dst: Register::R10,
-            offset: -8,
-            immediate: -1,
-        }),
-        Some(Instruction::End {
-            order: ByteOrder::Big,
-            width: EndWidth::Low64,
-            dst: Register::R1,
-        }),
-        Some(Instruction::Arithmetic {
-            width: Width::Bits64,
-            operation: BinaryOperation::Smod,
-            dst: Register::R2,
-            source: Source::Register(Register::R3),
-        }),
-        Some(Instruction::Branch {
-            width: Width::Bits32,
-            condition: Condition::Lt,
-            dst: Register::R2,
-            source: Source::Immediate(-2),
-            distance: 4,
-        }),
-        Some(Instruction::Jump { distance: 0 }),
-        Some(Instruction::LongJump { distance: 0 }),
-        Some(Instruction::LoadWide {
-            dst: Register::R10,
-            value: 0x2_0000_0001,
-        }),
-        None,
-        Some(Instruction::Exit),
-        None,
-    ];
-    assert_eq!(rt; code.slots(), 10);
-    for (slot, instruction) in expected.iter().enumerate() {
-        assert_eq!(rt; code.at(slot), *instruction, "slot {slot}");
-    }
-    assert_eq!(rt; code.at(usize::MAX), None);
-    Ok(())
-}
-
-#[test]
-fn refused_growths(rt: HostRuntime) -> Result<(), Fail> {
-    let bytes = bytes_of(rt.alloc(), ADD)?;
-    let code = decode(rt.alloc(), bytes.as_slice())?;
-    let scarce = Scarce::new(rt.alloc());
-    let refused = scarce.refuse_each(|| match decode(&scarce, bytes.as_slice()) {
+// Whether the program was decoded. Where it wasn't, memory was refused.
+fn is_decoded(rt: &impl Abort, scarce: &Scarce, bytes: &[u8]) -> bool {
+    match decode(scarce, bytes) {
         Ok(code) => {
-            assert_eq!(rt; code.slots(), 17);
+            same(rt, "slots", code.slots(), 17);
             true
         }
         Err(fault) => {
-            assert_eq!(rt; fault, OUT_OF_MEMORY);
+            same(rt, "fault", fault, OUT_OF_MEMORY);
             false
         }
-    });
-    // one growth in the call that was refused it, and one in the other
-    assert_eq!(rt; (refused, scarce.growths()), (Some(1), 2));
-    assert_eq!(rt; OUT_OF_MEMORY.cause.number(), 12);
+    }
+}
 
-    let scarce = Scarce::new(rt.alloc());
-    let refused = scarce.refuse_each(|| match encode(&scarce, &code) {
+fn is_encoded(rt: &impl Abort, scarce: &Scarce, code: &Code, bytes: &[u8]) -> bool {
+    match encode(scarce, code) {
         Ok(again) => {
-            assert_eq!(rt; again.as_slice(), bytes.as_slice());
+            assert_eq!(rt; again.as_slice(), bytes);
             true
         }
         Err(_) => false,
-    });
-    assert_eq!(rt; (refused, scarce.growths()), (Some(1), 2));
-    Ok(())
+    }
+}
+
+// Each makes one growth in the call that is refused it, and one in the other.
+#[test]
+fn refused_growths(rt: HostRuntime) {
+    let bytes = bytes_of(&rt, rt.alloc(), ADD);
+    let scarce = Scarce::new(rt.alloc());
+    let refused = scarce.refuse_each(|| is_decoded(&rt, &scarce, &bytes));
+    same(&rt, "decoding", (refused, scarce.growths()), (Some(1), 2));
+    same(&rt, "cause", OUT_OF_MEMORY.cause.number(), 12);
+    let code = code_of(&rt, rt.alloc(), &bytes);
+    let refused = scarce.refuse_each(|| is_encoded(&rt, &scarce, &code, &bytes));
+    same(&rt, "encoding", (refused, scarce.growths()), (Some(1), 4));
 }

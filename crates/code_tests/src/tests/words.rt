@@ -1,3 +1,4 @@
+use super::same;
 use bpf_words::BinaryOperation::{
     Add, And, Arsh, Div, Lsh, Mod, Mov, Mul, Or, Rsh, Sdiv, Smod, Sub, Xor,
 };
@@ -12,12 +13,32 @@ use std::process::Abort;
 #[test]
 fn worked_examples(rt: HostRuntime) {
     let minus_one = 18_446_744_073_709_551_615;
-    assert_eq!(rt; alu64(Binary(Div), minus_one, minus_one), 1);
-    assert_eq!(rt; alu64(Binary(Smod), MINUS_13, 3), minus_one);
-    assert_eq!(rt; alu32(Binary(Mod), 0x1_0000_0005, 0), 5);
-    assert_eq!(rt; alu64(Binary(Mod), 0x1_0000_0005, 0), 0x1_0000_0005);
-    assert_eq!(rt; end(Big, Low16, BYTES), 0x8877);
-    assert_eq!(rt; end(Swap, Low64, BYTES), 0x8877_6655_4433_2211);
+    same(&rt, "division", alu64(Binary(Div), minus_one, minus_one), 1);
+    same(
+        &rt,
+        "signed rest",
+        alu64(Binary(Smod), MINUS_13, 3),
+        minus_one,
+    );
+    same(
+        &rt,
+        "rest by 0 at 32",
+        alu32(Binary(Mod), 0x1_0000_0005, 0),
+        5,
+    );
+    same(
+        &rt,
+        "rest by 0",
+        alu64(Binary(Mod), 0x1_0000_0005, 0),
+        0x1_0000_0005,
+    );
+    same(&rt, "big 16", end(Big, Low16, BYTES), 0x8877);
+    same(
+        &rt,
+        "swap 64",
+        end(Swap, Low64, BYTES),
+        0x8877_6655_4433_2211,
+    );
 }
 
 #[test]
@@ -67,23 +88,27 @@ fn swaps(rt: HostRuntime) {
 // A row has two operands, and what the operation gives on 64 and on 32 bits.
 fn gives(rt: &impl Abort, op: Operation, rows: &[[u64; 4]]) {
     for [a, b, wide, narrow] in rows {
-        assert_eq!(rt; alu64(op, *a, *b), *wide, "{op:?} of {a} and {b}");
-        assert_eq!(rt; alu32(op, *a, *b), *narrow, "{op:?} of {a} and {b} at 32");
+        let found = (op, *a, *b, alu64(op, *a, *b), alu32(op, *a, *b));
+        same(
+            rt,
+            "operation, operands, results",
+            found,
+            (op, *a, *b, *wide, *narrow),
+        );
     }
 }
 
 // A row has two operands, and 1 or 0: whether the condition holds on 64 and on 32 bits.
 fn compares(rt: &impl Abort, condition: Condition, rows: &[[u64; 4]]) {
     for [a, b, wide, narrow] in rows {
-        assert_eq!(rt;
-            holds64(condition, *a, *b),
-            *wide == 1,
-            "{condition:?} of {a} and {b}"
-        );
-        assert_eq!(rt;
-            holds32(condition, *a, *b),
-            *narrow == 1,
-            "{condition:?} of {a} and {b} at 32"
+        let holds = (holds64(condition, *a, *b), holds32(condition, *a, *b));
+        let wanted = (*wide == 1, *narrow == 1);
+        let told = (condition, *a, *b);
+        same(
+            rt,
+            "condition and operands, whether it holds",
+            (told, holds),
+            (told, wanted),
         );
     }
 }
@@ -91,9 +116,18 @@ fn compares(rt: &impl Abort, condition: Condition, rows: &[[u64; 4]]) {
 // A row has an operand, and what is given of its low 16, 32 and 64 bits.
 fn keeps_or_reverses(rt: &impl Abort, order: ByteOrder, rows: &[[u64; 4]]) {
     for [a, low16, low32, low64] in rows {
-        assert_eq!(rt; end(order, Low16, *a), *low16, "{order:?} 16 of {a}");
-        assert_eq!(rt; end(order, Low32, *a), *low32, "{order:?} 32 of {a}");
-        assert_eq!(rt; end(order, Low64, *a), *low64, "{order:?} 64 of {a}");
+        let found = (
+            end(order, Low16, *a),
+            end(order, Low32, *a),
+            end(order, Low64, *a),
+        );
+        let wanted = (*low16, *low32, *low64);
+        same(
+            rt,
+            "order and operand, results",
+            (order, *a, found),
+            (order, *a, wanted),
+        );
     }
 }
 
