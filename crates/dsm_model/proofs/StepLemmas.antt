@@ -1,5 +1,5 @@
 -- What each answer of a step says, and what it leaves.
-use Rattle.std.proofs.Common.{◌≡◌, ◌⊎◌, inl, inr, ℕ, zero, suc, ◌+◌, ◌-◌, ◌≤◌, ◌<◌, Bool, true, false, not, ◌&&◌, List, length, nat_eq, nat_le, nat_lt, Option, Some, None, IsSome, IsTrue, refl, sym, ap, ◌∙◌, arith}
+use Rattle.std.proofs.Common.{◌≡◌, ◌⊎◌, ◌↔◌, ◌||◌, IsTrue, inl, inr, ℕ, zero, suc, ◌+◌, ◌-◌, ◌≤◌, ◌<◌, Bool, true, false, not, ◌&&◌, List, length, nat_eq, nat_le, nat_lt, Option, Some, None, IsSome, IsTrue, refl, sym, ap, ◌∙◌, arith}
 use Rattle.std.specs.FinMap.{len}
 use Rattle.std.proofs.lemmas.Bool.Decides.{nat_tests}
 use Rattle.bpf_code.specs.Program.{Program}
@@ -717,3 +717,25 @@ misnamed_by before name number args_len checked outcome after is (Appends progra
 
 pub adds_misnamed : (w : Setting) (before : World) (name : List ℕ) (number args_len : ℕ) (checked : Checked) (after : World) → IsStep w before (Add name number args_len checked) (Refused NameShape) after → (program : Program) × (checked ≡ Passed program) × (call_count before < max_calls) × (args_len ≤ 256) × (is_name name ≡ false)
 adds_misnamed w before name number args_len checked after h = misnamed_by before name number args_len checked (Refused NameShape) after refl (way_of_add w before name number args_len checked (Refused NameShape) after (λ x. cc) (λ x. cc) h)
+
+-- ---- requests
+
+zero_in : (m n : ℕ) → (nat_eq m 0 || nat_eq n 0) ≡ true → (m ≡ 0) ⊎ (n ≡ 0)
+zero_in m n e = elim (nat_eq m 0) as (λ (b : Bool). nat_eq m 0 ≡ b → (b || nat_eq n 0) ≡ true → (m ≡ 0) ⊎ (n ≡ 0)) [
+  | true ↦ λ f g. inl (is_zero m f)
+  | false ↦ λ f g. inr (is_zero n g)
+] refl e
+  where
+    is_zero : (k : ℕ) → nat_eq k 0 ≡ true → k ≡ 0
+    is_zero k f = grind (arith, nat_tests)
+
+in_zero : (m n : ℕ) → (m ≡ 0) ⊎ (n ≡ 0) → (nat_eq m 0 || nat_eq n 0) ≡ true
+in_zero m n (inl e) = ap (λ (k : ℕ). nat_eq k 0 || nat_eq n 0) e
+in_zero m n (inr e) = ap (λ (k : ℕ). nat_eq m 0 || nat_eq k 0) e ∙ or_true (nat_eq m 0)
+  where
+    or_true : (b : Bool) → (b || true) ≡ true
+    or_true true = refl
+    or_true false = refl
+
+pub zero_in_words : (request : RequestId) → IsTrue (has_zero (Some request)) ↔ ((request.session ≡ 0) ⊎ (request.sequence ≡ 0))
+zero_in_words request = (zero_in request.session request.sequence, in_zero request.session request.sequence)

@@ -3,7 +3,7 @@
 
 pub use laws::steps::{
     additions_are_appended_at_once, calls_are_ordered_at_their_end,
-    calls_begin_where_their_replica_is, each_step_has_its_answers,
+    calls_begin_where_their_replica_is, calls_carry_their_requests, each_step_has_its_answers,
     memory_is_wanted_in_place_of_an_answer, rebuilt_replicas_are_at_the_end,
     replicas_deliver_in_order, turns_follow_the_run, what_the_next_instruction_does,
 };

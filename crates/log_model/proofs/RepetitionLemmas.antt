@@ -1,9 +1,9 @@
 -- No two committed calls carry one request.
-use Rattle.std.proofs.Common.{◌≡◌, ◌⊎◌, inl, inr, ◌↔◌, ℕ, suc, ◌-◌, ◌<◌, cond, Bool, true, false, not, ◌&&◌, nat_eq, nat_le, IsTrue, Option, Some, None, slice_get, refl, sym, ap, ◌∙◌, arith}
+use Rattle.std.proofs.Common.{◌≡◌, ◌≢◌, ◌⊎◌, inl, inr, ◌↔◌, ℕ, suc, ◌-◌, ◌<◌, cond, Bool, true, false, not, ◌&&◌, nat_eq, nat_le, IsTrue, Option, Some, None, slice_get, refl, sym, ap, ◌∙◌, arith}
 use Rattle.std.proofs.lemmas.Bool.Decides.{nat_tests}
 use Rattle.log_model.specs.declared.request.RequestId.{RequestId}
 use Rattle.log_model.specs.declared.verdict.Verdict.TheVariants.{Commit, Stale, Repeated}
-use Rattle.log_model.specs.Log.{Setting, Call, CallItem, Log, IsLog, same_request, unless_repeated, unless_conflict, verdict_of}
+use Rattle.log_model.specs.Log.{Setting, Call, CallItem, Log, IsLog, no_request, same_request, unless_repeated, unless_conflict, verdict_of}
 use Rattle.log_model.specs.Verdicts.{IsRepetition}
 use Rattle.log_model.proofs.RunLemmas.{just}
 use Rattle.log_model.proofs.MeaningLemmas.{first_of_log, verdict_known, repeated_in, first_is_repeated, none_is_new, repeated_of, commit_is}
@@ -37,6 +37,33 @@ is_same : (a b : RequestId) → Same a b → same_request a b ≡ true
 is_same a b s =
     and_both (nat_eq a.session b.session && nat_eq a.sequence b.sequence) (not (nat_eq a.session 0 && nat_eq a.sequence 0))
     (and_both (nat_eq a.session b.session) (nat_eq a.sequence b.sequence) (eq_is a.session b.session s.session) (eq_is a.sequence b.sequence s.sequence)) s.one
+
+equal : (a b : RequestId) → a.session ≡ b.session → a.sequence ≡ b.sequence → a ≡ b
+equal a b e f = ap (λ (n : ℕ). with_numbers n a.sequence) e ∙ ap (λ (n : ℕ). with_numbers b.session n) f
+  where
+    with_numbers : ℕ → ℕ → RequestId
+    with_numbers m n = record { session = m; sequence = n }
+
+abbrev is_none : RequestId → Bool
+is_none a = nat_eq a.session 0 && nat_eq a.sequence 0
+
+not_none : (a : RequestId) → not (is_none a) ≡ true → a ≢ no_request
+not_none a one e = absurd (let bad = sym one ∙ ap (λ (r : RequestId). not (is_none r)) e in cc)
+
+is_one : (a : RequestId) → a ≢ no_request → not (is_none a) ≡ true
+is_one a other = by (is_none a) refl
+  where
+    by : (b : Bool) → is_none a ≡ b → not b ≡ true
+    by false e = refl
+    by true e =
+        let parts = both (nat_eq a.session 0) (nat_eq a.sequence 0) e in
+        absurd (other (equal a no_request (is_eq a.session 0 parts.0) (is_eq a.sequence 0 parts.1)))
+
+pub same_in_words : (a b : RequestId) → IsTrue (same_request a b) ↔ ((a ≡ b) × (a ≢ no_request))
+same_in_words a b = (
+  λ e. let s = same_is a b e in (equal a b s.session s.sequence, not_none a s.one),
+  λ h. is_same a b (record { session = ap (λ (r : RequestId). r.session) h.0; sequence = ap (λ (r : RequestId). r.sequence) h.0; one = is_one a h.1 }),
+)
 
 turned : (a b : RequestId) → same_request a b ≡ true → same_request b a ≡ true
 turned a b e =

@@ -1,6 +1,6 @@
 //! Laws of the log: its verdicts, and the rows after each position.
 
-ghost use Rattle.std.specs.Prelude.{◌≡◌, ◌↔◌, ◌+◌, ◌-◌, ◌<◌, ◌≤◌, ℕ, suc, List, ◌++◌, length, slice_get, Some, None, IsSome};
+ghost use Rattle.std.specs.Prelude.{◌≡◌, ◌≢◌, ◌↔◌, ◌+◌, ◌-◌, ◌<◌, ◌≤◌, ℕ, suc, List, ◌++◌, length, slice_get, Some, None, IsSome};
 ghost use Rattle.std.specs.Prelude.{◌==◌, IsTrue, [], ◌∷◌};
 ghost use Rattle.std.specs.List.{list_any};
 ghost use Rattle.schema.specs.declared.look.Look.{Look};
@@ -11,7 +11,8 @@ ghost use Rattle.log_model.specs.declared.verdict.Identifier.TheVariants.{Name, 
 ghost use Rattle.log_model.specs.declared.verdict.Verdict.{Verdict};
 ghost use Rattle.log_model.specs.Comparisons.{comparisons_after, AreRising, IsCompared};
 ghost use Rattle.log_model.specs.Log.{StoredProcedure, CertifiedItem, Setting, Call, CallItem, AdditionItem, Log, IsPlaced};
-ghost use Rattle.log_model.specs.Log.{IsLog, same_request};
+ghost use Rattle.log_model.specs.declared.request.RequestId.{RequestId};
+ghost use Rattle.log_model.specs.Log.{IsLog, no_request, same_request};
 ghost use Rattle.log_model.specs.Log.{by_number, by_name, if_commits, history, rows_after, procedures_after, verdict_of, run_on, run_in};
 ghost use Rattle.log_model.specs.Fit.{AreSafe, HasSafeProcedures, AreItems};
 ghost use Rattle.log_model.specs.Verdicts.{IsConflict, IsLeastConflict, IsRepetition, IsNew};
@@ -32,9 +33,8 @@ pub fn procedures_after_each_item()
 {}
 
 /// A verdict on a call in words of the log: repeated where an earlier committed call carries the same request, however
-/// long ago; else stale where more calls than the window came since the snapshot; else in
-/// conflict with the least since then that committed and wrote a key that the call looked at; and where there
-/// is none, the call commits.
+/// long ago; else stale where more items than the window came since the snapshot; else in conflict with the least since
+/// then that committed and wrote a key that the call looked at; and where there is none, the call commits.
 pub fn verdicts_in_words_of_the_log()
     ensures repeated { (w : Setting) (log : Log) (d : ℕ) (call : Call) (position : ℕ)
         → IsLog log → slice_get log d ≡ Some (CallItem call)
@@ -51,6 +51,11 @@ pub fn verdicts_in_words_of_the_log()
         → (verdict_of w log (suc d) ≡ Some Commit)
         ↔ (IsNew w log call (suc d) × (d - call.snapshot ≤ w.window)
         × ((position : ℕ) → IsConflict w log call position (suc d) → ⊥)) }
+{}
+
+/// Two requests are the same where they are equal and aren't the one that stands for none.
+pub fn requests_are_the_same_where_they_are_equal()
+    ensures { (a b : RequestId) → IsTrue (same_request a b) ↔ ((a ≡ b) × (a ≢ no_request)) }
 {}
 
 /// No two committed calls carry one request.

@@ -2,7 +2,7 @@
 //! suffices, the conditions of a step's answers exclude each other, so that each is given exactly there; want of memory
 //! comes only in place of an answer that takes some.
 
-ghost use Rattle.std.specs.Prelude.{◌≡◌, ◌≢◌, ◌↔◌, ◌+◌, ◌<◌, ◌≤◌, ℕ, ℤ, true, false};
+ghost use Rattle.std.specs.Prelude.{◌≡◌, ◌≢◌, ◌⊎◌, ◌↔◌, ◌+◌, ◌<◌, ◌≤◌, ℕ, ℤ, true, false};
 ghost use Rattle.std.specs.Prelude.{List, [], ◌∷◌, ◌++◌, length, Option, Some, None, IsSome, IsTrue};
 ghost use Rattle.std.specs.FinMap.{len};
 ghost use Rattle.bpf_code.specs.declared.instruction.Instruction.TheVariants.{Call as CallInstruction};
@@ -25,7 +25,7 @@ ghost use Rattle.dsm_model.specs.declared.outcome.Outcome.{Outcome};
 ghost use Rattle.dsm_model.specs.declared.outcome.Outcome.TheVariants.{Begun, More, Exit, Stale, NoMemory, Ordered, Read};
 ghost use Rattle.dsm_model.specs.declared.outcome.Outcome.TheVariants.{Cancelled, Delivered, Rebuilt, Added, Refused};
 ghost use Rattle.log_model.specs.Log.{StoredProcedure, Setting, CallItem, AdditionItem, by_number, procedures_after};
-ghost use Rattle.log_model.specs.Log.{procedure_of, run_in, verdict_of};
+ghost use Rattle.log_model.specs.Log.{no_request, procedure_of, run_in, verdict_of};
 ghost use Rattle.log_model.specs.Name.{is_name};
 ghost use Rattle.log_model.specs.Fit.{HasSafeProcedures};
 ghost use Rattle.dsm_model.specs.Sound.{IsWorld};
@@ -77,6 +77,16 @@ pub fn calls_begin_where_their_replica_is()
         → (replica : Replica) × (stored : StoredProcedure) × (numbered before.replicas r ≡ Some replica)
         × (by_number (procedures_after w before.log replica.position) procedure ≡ Some stored)
         × (length args ≡ stored.args_len) × (has_zero request ≡ false) × (max_calls ≤ call_count before) }
+{}
+
+/// A call carries the request that it is begun with, and where it is begun without one that which stands for none. A request
+/// has a 0 where its session or its sequence number is 0.
+pub fn calls_carry_their_requests()
+    ensures carried { (request : RequestId) → or_none (Some request) ≡ request }
+    ensures none { or_none None ≡ no_request }
+    ensures zero { (request : RequestId)
+        → IsTrue (has_zero (Some request)) ↔ ((request.session ≡ 0) ⊎ (request.sequence ≡ 0)) }
+    ensures without { has_zero None ≡ false }
 {}
 
 /// A turn is one instruction of the call's run on the rows of its snapshot: more, while there is a next one; else Exit
