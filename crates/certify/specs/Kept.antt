@@ -1,4 +1,4 @@
--- What a certifier keeps, and the delivered calls for which it stands.
+-- What a certifier keeps, and the delivered items for which it stands.
 use Rattle.std.specs.Prelude.{◌≡◌, ℕ, ◌+◌, ◌*◌, ◌/◌, ◌%◌, ◌<◌, ◌≤◌, ◌^◌, ◌==◌, ◌&&◌, not, true, List, [], length, slice_get, slice_index_or, Some, nat_eq}
 use Rattle.std.specs.Map.{lookup}
 use Rattle.std.specs.FinMap.{empty}
@@ -23,7 +23,7 @@ pub record IsPreparedOf (p : PreparedCall) (writes : Writes) : Type 0 where
   pub signature : (bit : ℕ) → bit < 1024 → has_bit p.signature bit ≡ writes_set_bit writes bit
   pub keys : ShareAlike p.writes writes
 
--- the places of the latest calls, each used again in turn: blocks of eight signatures, and the writes
+-- the places of the latest items, each used again in turn: blocks of eight signatures, and the writes
 pub record Ring : Type 0 where
   pub blocks : List (List (List ℕ))
   pub writes : List Writes
@@ -32,7 +32,7 @@ pub record HasPlaces (ring : Ring) : Type 0 where
   pub some : 0 < length ring.blocks
   pub eight : length ring.writes ≡ length ring.blocks * 8
 
--- the call after so many has this place
+-- the item after so many has this place
 abbrev pub place_of : Ring → ℕ → ℕ
 place_of ring before = before % length ring.writes
 
@@ -42,12 +42,12 @@ signature_of ring before = signature_at (slice_index_or ring.blocks (place_of ri
 abbrev pub writes_of : Ring → ℕ → Writes
 writes_of ring before = slice_index_or ring.writes (place_of ring before) empty
 
--- the signature is the call's, where it committed, and else has no bits
+-- the signature is that of the item's writes, where it committed, and else has no bits
 pub record IsKept (ring : Ring) (before : ℕ) (c : CertifiedItem) : Type 0 where
   pub signature : (bit : ℕ) → bit < 1024 → has_bit (signature_of ring before) bit ≡ (is_commit c.verdict && writes_set_bit c.writes bit)
   pub keys : ShareAlike (writes_of ring before) c.writes
 
--- as many of the latest calls as there are places
+-- as many of the latest items as there are places
 abbrev pub Keeps : Ring → List CertifiedItem → Type 0
 Keeps ring past = (before : ℕ) (c : CertifiedItem) → slice_get past before ≡ Some c → length past ≤ before + length ring.writes → IsKept ring before c
 

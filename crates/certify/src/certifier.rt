@@ -57,7 +57,7 @@ impl<A: Allocator + Copy> Model for Certifier<A> {
 }
 
 impl<A: Allocator + Copy> Certifier<A> {
-    /// A certifier that has kept no calls. A call is stale where more calls than the window came since its snapshot.
+    /// A certifier that has kept nothing. A call is stale where more items than the window came since its snapshot.
     pub fn new(alloc: A, window: u32) -> Result<Certifier<A>, AllocError>
         ensures stands { IfOk result (λ c. StandsFor c.memory []) }
         ensures window { IfOk result (λ c. c.memory.window ≡ window) }

@@ -1,5 +1,5 @@
 -- Steps of a call: what they answer by the definitions, and that all still fits together.
-use Rattle.std.proofs.Common.{◌≡◌, ◌≢◌, ◌⊎◌, get_or, ℕ, zero, suc, ◌+◌, ◌-◌, ◌<◌, ◌≤◌, Bool, cond, List, [], ◌∷◌, ◌++◌, length, map, take, drop, slice_get, slice_set, nat_lt, Option, Some, None, option_map, refl, sym, ap, subst, ◌∙◌, arith, inl, inr}
+use Rattle.std.proofs.Common.{◌≡◌, ◌≢◌, ◌⊎◌, get_or, ℕ, zero, suc, ◌+◌, ◌-◌, ◌<◌, ◌≤◌, Bool, false, cond, List, [], ◌∷◌, ◌++◌, length, map, take, drop, slice_get, slice_set, nat_lt, Option, Some, None, option_map, refl, sym, ap, subst, ◌∙◌, arith, inl, inr}
 use Rattle.std.specs.FinMap.{len}
 use Rattle.schema.specs.Rows.{Rows, AreWrites}
 use Rattle.row_model.specs.InstalledWrites.{map_after}
@@ -8,7 +8,8 @@ use Rattle.bpf_vm.specs.declared.turn.Turn.{Turn as TurnAnswer}
 use Rattle.dsm_model.specs.declared.outcome.StepRefusal.TheVariants.{NoReplica, NoProcedure, ArgumentsLength, NoCall, NotAtExit, NothingToDeliver, ReplicaStopped, LogFull, OutOfMemory, TooManyCalls, ArgumentsLimit, ProgramRefused, NameShape, ZeroInRequest}
 use Rattle.dsm_model.specs.declared.outcome.Outcome.{Outcome}
 use Rattle.dsm_model.specs.declared.outcome.Outcome.TheVariants.{Begun, More, Exit, Stale, NoMemory, Ordered, Read, Cancelled, Delivered, Rebuilt, Added, Refused}
-use Rattle.log_model.specs.Log.{StoredProcedure, Catalogue, Setting, Call, CallItem, Log, IsLog, by_number, no_request, procedures_after, rows_after, run_in}
+use Rattle.log_model.specs.declared.request.RequestId.{RequestId}
+use Rattle.log_model.specs.Log.{StoredProcedure, Catalogue, Setting, Call, CallItem, Log, IsLog, by_number, procedures_after, rows_after, run_in}
 use Rattle.log_model.specs.Fit.{HasSafeProcedures, AreItems, IsCall}
 use Rattle.log_model.specs.Entries.{ExecutedCall, Entry, CallEntry, items_of, CarryRuns, CarriesRun, certified_entries_of, installed_from}
 use Rattle.log_model.proofs.GrowthLemmas.{rows_grown, procedure_stays}
@@ -18,7 +19,7 @@ use Rattle.schema.specs.Schema.{Tables}
 use Rattle.log_entry.specs.declared.entry.Entry.{Entry as LogEntry}
 use Rattle.log_entry.specs.declared.entry.Entry.TheVariants.{Call as LogCall, Addition as LogAddition}
 use Rattle.dsm_model.specs.World as model
-use Rattle.dsm_model.specs.World.{World, OpenCall, Step, Begin, Turn, Order, numbered, with_numbered, flatten, open_call, with_open_call, without_call, with_ordered, with_begun, new_call, position_of, max_calls, addition_count, call_count, IsStep}
+use Rattle.dsm_model.specs.World.{World, OpenCall, Step, Begin, Turn, Order, numbered, with_numbered, flatten, open_call, with_open_call, without_call, with_ordered, with_begun, new_call, has_zero, or_none, position_of, max_calls, addition_count, call_count, IsStep}
 use Rattle.dsm_model.specs.Sound.{IsWorld}
 use Rattle.bpf_verify.specs.Flow.{Procedure}
 use Rattle.catalogue.specs.Catalogue.{accepted_of}
@@ -222,6 +223,19 @@ appended s slots n k c e position h place f a few is =
     (subst (λ (m : ℕ). IsStep (setting_of s) (world_of s) (Order n) (Ordered m) (with_ordered (world_of s) n (call_of c))) number
     (order_new (setting_of s) (world_of s) n (open_call_of c) f.is_open a.end a.kept a.some (omega arith)))
 
+-- a replica has delivered a beginning of more entries too
+pub replica_grown : {A : Type 0} (s : SystemWorld) (slots : List (Option (OpenCallState A))) (j : ℕ) (r : Replica) (e : Entry) → IsTogether s slots → slice_get s.replicas j ≡ Some r → IsReplicaOf s.catalogue s.window (s.entries ++ e ∷ []) r
+replica_grown s slots j r e h at =
+    let is = h.replicas j r at in
+    let far = h.world.positions (j + 1) (progress_of r) (numbered_at (map progress_of s.replicas) (j + 1) j refl ∙ get_map progress_of s.replicas j ∙ ap (option_map progress_of) at) in
+    let count = log_count s in
+    record {
+      stands = subst (StandsFor s.catalogue.procedures r) (sym (take_first s.entries (e ∷ []) r.position (omega arith))) is.stands;
+      same_window = is.same_window;
+      have = is.have;
+      for_tables = is.for_tables;
+    }
+
 pub entry_entered : {A : Type 0} (s : SystemWorld) (slots : List (Option (OpenCallState A))) (n k : ℕ) (c : OpenCallState A) (e : ExecutedCall) → OneMore → IsTogether s slots → n ≡ k + 1 → (f : OpenFacts s n c) → IsToAppend s c e
     → IsWorld (setting_of s) (world_of (with_entry (with_slots s (slice_set slots k None)) (CallEntry e))) → IsTogether (with_entry (with_slots s (slice_set slots k None)) (CallEntry e)) (slice_set slots k None)
 entry_entered s slots n k c e one h place f a world =
@@ -237,15 +251,7 @@ entry_entered s slots n k c e one h place f a world =
       writes = all_snoc (λ x. AreWrites s.catalogue.tables (writes_in x)) s.entries (CallEntry e) h.writes a.fits;
       named = all_snoc IsNamed s.entries (CallEntry e) h.named tt;
       world = world;
-      replicas = λ j r at.
-          let is = h.replicas j r at in
-          let far = h.world.positions (j + 1) (progress_of r) (numbered_at (map progress_of s.replicas) (j + 1) j refl ∙ get_map progress_of s.replicas j ∙ ap (option_map progress_of) at) in
-          record {
-            stands = subst (StandsFor s.catalogue.procedures r) (sym (take_first s.entries (CallEntry e ∷ []) r.position (omega arith))) is.stands;
-            same_window = is.same_window;
-            have = is.have;
-            for_tables = is.for_tables;
-          };
+      replicas = λ j r at. replica_grown s slots j r (CallEntry e) h at;
       calls = refl;
       open_calls = λ j d at. elim (get_set slots k j None) [
         | inl same ↦
@@ -271,19 +277,19 @@ map_count f (x ∷ xs) = ap suc (map_count f xs)
 pub calls_are : {A : Type 0} (s : SystemWorld) (slots : List (Option (OpenCallState A))) → IsTogether s slots → length s.calls ≡ length slots
 calls_are s slots h = ap (λ (x : List (Option OpenCall)). length x) h.calls ∙ map_count (λ (slot : Option (OpenCallState _)). option_map open_call_of slot) slots
 
-pub begins : {A : Type 0} (s : SystemWorld) (slots : List (Option (OpenCallState A))) (r k p : ℕ) (args : List ℕ) (old : Replica) (q : StoredProcedure) (c : OpenCallState A) (number : ℕ) → IsTogether s slots → r ≡ k + 1 → slice_get s.replicas k ≡ Some old → by_number (procedures_after (setting_of s) (world_of s).log old.position) p ≡ Some q
-    → length args ≡ q.args_len → call_count (world_of s) < max_calls → number ≡ length slots + 1 → open_call_of c ≡ record { replica = r; call = record { number = number; procedure = p; args = args; snapshot = old.position; request = no_request }; turns = 0 }
-    → IsStep (setting_of s) (world_of s) (Begin r p args None) (Begun number old.position) (world_of (with_slots s (slots ++ Some c ∷ [])))
-begins s slots r k p args old q c number h place at known long few is same =
+pub begins : {A : Type 0} (s : SystemWorld) (slots : List (Option (OpenCallState A))) (r k p : ℕ) (args : List ℕ) (request : Option RequestId) (old : Replica) (q : StoredProcedure) (c : OpenCallState A) (number : ℕ) → IsTogether s slots → r ≡ k + 1 → slice_get s.replicas k ≡ Some old → by_number (procedures_after (setting_of s) (world_of s).log old.position) p ≡ Some q
+    → length args ≡ q.args_len → has_zero request ≡ false → call_count (world_of s) < max_calls → number ≡ length slots + 1 → open_call_of c ≡ record { replica = r; call = record { number = number; procedure = p; args = args; snapshot = old.position; request = or_none request }; turns = 0 }
+    → IsStep (setting_of s) (world_of s) (Begin r p args request) (Begun number old.position) (world_of (with_slots s (slots ++ Some c ∷ [])))
+begins s slots r k p args request old q c number h place at known long some few is same =
     let count = calls_are s slots h in
     let n : length s.calls + 1 ≡ number = omega arith in
-    let entered : s.calls ++ Some (record { replica = r; call = new_call (world_of s) p args None old.position; turns = 0 }) ∷ [] ≡ open_calls_of (slots ++ Some c ∷ []) =
-    ap (λ (m : ℕ). s.calls ++ Some (record { replica = r; call = record { number = m; procedure = p; args = args; snapshot = old.position; request = no_request }; turns = 0 }) ∷ []) n
+    let entered : s.calls ++ Some (record { replica = r; call = new_call (world_of s) p args request old.position; turns = 0 }) ∷ [] ≡ open_calls_of (slots ++ Some c ∷ []) =
+    ap (λ (m : ℕ). s.calls ++ Some (record { replica = r; call = record { number = m; procedure = p; args = args; snapshot = old.position; request = or_none request }; turns = 0 }) ∷ []) n
     ∙ ap (λ (o : OpenCall). s.calls ++ Some o ∷ []) (sym same) ∙ ap (λ (calls : List (Option OpenCall)). calls ++ Some (open_call_of c) ∷ []) h.calls ∙ sym (append_map (λ (slot : Option (OpenCallState _)). option_map open_call_of slot) slots (Some c)) in
     let leaves = ap (λ (calls : List (Option OpenCall)). record { log = items_of s.entries; replicas = map progress_of s.replicas; calls = calls }) entered in
-    subst (λ (x : World). IsStep (setting_of s) (world_of s) (Begin r p args None) (Begun number old.position) x) leaves
-    (subst (λ (m : ℕ). IsStep (setting_of s) (world_of s) (Begin r p args None) (Begun m old.position) (with_begun (world_of s) r (new_call (world_of s) p args None old.position))) n
-    (begin_new (setting_of s) (world_of s) r p args (progress_of old) q (numbered_at (map progress_of s.replicas) r k place ∙ get_map progress_of s.replicas k ∙ ap (option_map progress_of) at) known long few))
+    subst (λ (x : World). IsStep (setting_of s) (world_of s) (Begin r p args request) (Begun number old.position) x) leaves
+    (subst (λ (m : ℕ). IsStep (setting_of s) (world_of s) (Begin r p args request) (Begun m old.position) (with_begun (world_of s) r (new_call (world_of s) p args request old.position))) n
+    (begin_new (setting_of s) (world_of s) r p args request (progress_of old) q (numbered_at (map progress_of s.replicas) r k place ∙ get_map progress_of s.replicas k ∙ ap (option_map progress_of) at) known long some few))
 
 pub call_entered : {A : Type 0} (s : SystemWorld) (slots : List (Option (OpenCallState A))) (c : OpenCallState A) → IsTogether s slots → Follows (setting_of s) (items_of s.entries) c → IsWorld (setting_of s) (world_of (with_slots s (slots ++ Some c ∷ []))) → IsTogether (with_slots s (slots ++ Some c ∷ [])) (slots ++ Some c ∷ [])
 call_entered s slots c h follows world = record {

@@ -3,4 +3,5 @@ pub mod StepLemmas
 pub mod EntryLemmas
 pub mod ReplicaLemmas
 pub mod CallLemmas
+pub mod AddLemmas
 pub mod RunLemmas

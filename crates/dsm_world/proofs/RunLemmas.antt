@@ -63,13 +63,13 @@ keeps_delivered s slots n r law procedures h e = go n e
           procedures = procedures_held s slots k r procedures h e;
         }
 
-pub one_more_step : (w : Setting) (before : World) (steps : List GivenStep) (n : ℕ) (item : GivenStep) (outcomes more : List Outcome) (between : World) (outcome : Outcome) (after : World) → take (n + 1) steps ≡ take n steps ++ item ∷ [] → more ≡ outcomes ++ outcome ∷ [] → AreSteps w before (map step_of (take n steps)) outcomes between
-    → IsStep w between (step_of item) outcome after → AreSteps w before (map step_of (take (n + 1) steps)) more after
+pub one_more_step : (w : Setting) (before : World) (steps : List GivenStep) (n : ℕ) (item : GivenStep) (outcomes more : List Outcome) (between : World) (outcome : Outcome) (after : World) → take (n + 1) steps ≡ take n steps ++ item ∷ [] → more ≡ outcomes ++ outcome ∷ [] → AreSteps w before (map (step_of w) (take n steps)) outcomes between
+    → IsStep w between (step_of w item) outcome after → AreSteps w before (map (step_of w) (take (n + 1) steps)) more after
 one_more_step w before steps n item outcomes more between outcome after taken answered done is =
-    let all = ap (λ (xs : List GivenStep). map step_of xs) taken ∙ append_map step_of (take n steps) item in
-    subst (λ (os : List Outcome). AreSteps w before (map step_of (take (n + 1) steps)) os after) (sym answered)
+    let all = ap (λ (xs : List GivenStep). map (step_of w) xs) taken ∙ append_map (step_of w) (take n steps) item in
+    subst (λ (os : List Outcome). AreSteps w before (map (step_of w) (take (n + 1) steps)) os after) (sym answered)
     (subst (λ (xs : List Step). AreSteps w before xs (outcomes ++ outcome ∷ []) after) (sym all)
-    (steps_snoc w before (map step_of (take n steps)) outcomes between (step_of item) outcome after done is))
+    (steps_snoc w before (map (step_of w) (take n steps)) outcomes between (step_of w item) outcome after done is))
 
 given_snoc : (w : Setting) (steps : List Step) (outcomes : List Outcome) (step : Step) (outcome : Outcome) → length steps ≡ length outcomes → AreGiven w steps outcomes → IsGiven w step outcome → AreGiven w (steps ++ step ∷ []) (outcomes ++ outcome ∷ [])
 given_snoc w [] [] step outcome count all is = (is, tt)
@@ -77,16 +77,16 @@ given_snoc w [] (o ∷ outcomes) step outcome count all is = absurd cc
 given_snoc w (s ∷ steps) [] step outcome count all is = absurd cc
 given_snoc w (s ∷ steps) (o ∷ outcomes) step outcome count all is = (all.0, given_snoc w steps outcomes step outcome (let c = count in omega arith) all.1 is)
 
-pub one_more_given : (w : Setting) (steps : List GivenStep) (n : ℕ) (item : GivenStep) (outcomes more : List Outcome) (outcome : Outcome) → take (n + 1) steps ≡ take n steps ++ item ∷ [] → more ≡ outcomes ++ outcome ∷ [] → length (map step_of (take n steps)) ≡ length outcomes
-    → AreGiven w (map step_of (take n steps)) outcomes → IsGiven w (step_of item) outcome → AreGiven w (map step_of (take (n + 1) steps)) more
+pub one_more_given : (w : Setting) (steps : List GivenStep) (n : ℕ) (item : GivenStep) (outcomes more : List Outcome) (outcome : Outcome) → take (n + 1) steps ≡ take n steps ++ item ∷ [] → more ≡ outcomes ++ outcome ∷ [] → length (map (step_of w) (take n steps)) ≡ length outcomes
+    → AreGiven w (map (step_of w) (take n steps)) outcomes → IsGiven w (step_of w item) outcome → AreGiven w (map (step_of w) (take (n + 1) steps)) more
 one_more_given w steps n item outcomes more outcome taken answered count done is =
-    let all = ap (λ (xs : List GivenStep). map step_of xs) taken ∙ append_map step_of (take n steps) item in
-    subst (λ (os : List Outcome). AreGiven w (map step_of (take (n + 1) steps)) os) (sym answered)
-    (subst (λ (xs : List Step). AreGiven w xs (outcomes ++ outcome ∷ [])) (sym all) (given_snoc w (map step_of (take n steps)) outcomes (step_of item) outcome count done is))
+    let all = ap (λ (xs : List GivenStep). map (step_of w) xs) taken ∙ append_map (step_of w) (take n steps) item in
+    subst (λ (os : List Outcome). AreGiven w (map (step_of w) (take (n + 1) steps)) os) (sym answered)
+    (subst (λ (xs : List Step). AreGiven w xs (outcomes ++ outcome ∷ [])) (sym all) (given_snoc w (map (step_of w) (take n steps)) outcomes (step_of w item) outcome count done is))
 
-pub one_more_answer : (steps : List GivenStep) (n : ℕ) (item : GivenStep) (outcomes more : List Outcome) (outcome : Outcome) → take (n + 1) steps ≡ take n steps ++ item ∷ [] → more ≡ outcomes ++ outcome ∷ [] → length (map step_of (take n steps)) ≡ length outcomes → length (map step_of (take (n + 1) steps)) ≡ length more
-one_more_answer steps n item outcomes more outcome taken answered count =
-    ap (λ (xs : List GivenStep). length (map step_of xs)) taken ∙ ap (λ (xs : List Step). length xs) (append_map step_of (take n steps) item) ∙ length-append (map step_of (take n steps)) (step_of item ∷ [])
+pub one_more_answer : (w : Setting) (steps : List GivenStep) (n : ℕ) (item : GivenStep) (outcomes more : List Outcome) (outcome : Outcome) → take (n + 1) steps ≡ take n steps ++ item ∷ [] → more ≡ outcomes ++ outcome ∷ [] → length (map (step_of w) (take n steps)) ≡ length outcomes → length (map (step_of w) (take (n + 1) steps)) ≡ length more
+one_more_answer w steps n item outcomes more outcome taken answered count =
+    ap (λ (xs : List GivenStep). length (map (step_of w) xs)) taken ∙ ap (λ (xs : List Step). length xs) (append_map (step_of w) (take n steps) item) ∙ length-append (map (step_of w) (take n steps)) (step_of w item ∷ [])
     ∙ ap (λ (m : ℕ). m + 1) count ∙ sym (length-append outcomes (outcome ∷ [])) ∙ ap (λ (xs : List Outcome). length xs) (sym answered)
 
 -- ---- at first

@@ -5,38 +5,39 @@ use Rattle.std.specs.FinMap.{len}
 use Rattle.bpf_vm.specs.declared.turn.Turn.{Turn as TurnAnswer}
 use Rattle.bpf_vm.specs.declared.turn.Turn.TheVariants as answer
 use Rattle.log_model.specs.declared.verdict.Verdict.{Verdict}
-use Rattle.dsm_model.specs.declared.outcome.StepRefusal.TheVariants.{NoReplica, NoProcedure, ArgumentsLength, NoCall, NotAtExit, NothingToDeliver, ReplicaStopped, LogFull, OutOfMemory, TooManyCalls}
+use Rattle.dsm_model.specs.declared.outcome.StepRefusal.TheVariants.{NoReplica, NoProcedure, ArgumentsLength, NoCall, NotAtExit, NothingToDeliver, ReplicaStopped, LogFull, OutOfMemory, TooManyCalls, ZeroInRequest}
 use Rattle.dsm_model.specs.declared.outcome.Outcome.{Outcome}
 use Rattle.dsm_model.specs.declared.outcome.Outcome.TheVariants.{Begun, More, Exit, Ordered, Read, Cancelled, Delivered, Rebuilt, Refused}
+use Rattle.log_model.specs.declared.request.RequestId.{RequestId}
 use Rattle.log_model.specs.Log.{StoredProcedure, Setting, by_number, procedures_after, procedure_of, run_in, verdict_of, moment_at}
-use Rattle.dsm_model.specs.World.{World, Replica, OpenCall, Begin, Turn, Order, Deliver, Rebuild, max_calls, call_count, numbered, position_of, open_call, without_call, with_open_call, with_replica, with_begun, new_call, after_begin, is_stale, after_turn_by_run, after_turn, with_ordered, after_order_by_run, after_order, after_deliver_next, after_deliver, after_rebuild, after_step, at_row_helper, after_turn_without_memory, after_refused_memory, after_step_without_memory, with_stopped, IsStep}
+use Rattle.dsm_model.specs.World.{World, Replica, OpenCall, Begin, Turn, Order, Deliver, Rebuild, max_calls, call_count, numbered, position_of, open_call, without_call, with_open_call, with_replica, with_begun, new_call, has_zero, after_begin, is_stale, after_turn_by_run, after_turn, with_ordered, after_order_by_run, after_order, after_deliver_next, after_deliver, after_rebuild, after_step, at_row_helper, after_turn_without_memory, after_refused_memory, after_step_without_memory, with_stopped, IsStep}
 use Rattle.world_calls.specs.OpenCall.{IsTurn, stays_open}
 use Rattle.dsm_world.specs.Turned.{outcome_of}
 
 abbrev just : {X : Type 0} → X → Option X
 just x = Some x
 
-abbrev Done : Type 0
+abbrev pub Done : Type 0
 Done = Outcome × World
 
-yes : {X : Type 0} (b : Bool) (x y : X) → b ≡ true → cond b x y ≡ x
+pub yes : {X : Type 0} (b : Bool) (x y : X) → b ≡ true → cond b x y ≡ x
 yes true x y e = refl
 yes false x y e = absurd cc
 
-no : {X : Type 0} (b : Bool) (x y : X) → b ≡ false → cond b x y ≡ y
+pub no : {X : Type 0} (b : Bool) (x y : X) → b ≡ false → cond b x y ≡ y
 no false x y e = refl
 no true x y e = absurd cc
 
-is_le : (m n : ℕ) → m ≤ n → nat_le m n ≡ true
+pub is_le : (m n : ℕ) → m ≤ n → nat_le m n ≡ true
 is_le m n le = grind (arith, nat_tests)
 
-not_le : (m n : ℕ) → n < m → nat_le m n ≡ false
+pub not_le : (m n : ℕ) → n < m → nat_le m n ≡ false
 not_le m n lt = grind (arith, nat_tests)
 
-is_lt : (m n : ℕ) → m < n → nat_lt m n ≡ true
+pub is_lt : (m n : ℕ) → m < n → nat_lt m n ≡ true
 is_lt m n lt = grind (arith, nat_tests)
 
-not_lt : (m n : ℕ) → n ≤ m → nat_lt m n ≡ false
+pub not_lt : (m n : ℕ) → n ≤ m → nat_lt m n ≡ false
 not_lt m n le = grind (arith, nat_tests)
 
 same_number : (m n : ℕ) → m ≡ n → not (nat_eq m n) ≡ false
@@ -53,40 +54,48 @@ one_number m n e = grind (arith, nat_tests)
 
 -- ---- Begin
 
-begins : (w : Setting) (world : World) (r p : ℕ) (args : List ℕ) (o : Option Replica) (q : Option StoredProcedure) → numbered world.replicas r ≡ o → by_number (procedures_after w world.log (position_of o)) p ≡ q → after_step w world (Begin r p args None) ≡ after_begin world r p args None o q
+begins : (w : Setting) (world : World) (r p : ℕ) (args : List ℕ) (request : Option RequestId) (o : Option Replica) (q : Option StoredProcedure) → numbered world.replicas r ≡ o → by_number (procedures_after w world.log (position_of o)) p ≡ q → after_step w world (Begin r p args request) ≡ after_begin world r p args request o q
 unfolding after_step
-begins w world r p args o q e f = ap (λ x. after_begin world r p args None x (by_number (procedures_after w world.log (position_of x)) p)) e ∙ ap (after_begin world r p args None o) f
+begins w world r p args request o q e f = ap (λ x. after_begin world r p args request x (by_number (procedures_after w world.log (position_of x)) p)) e ∙ ap (after_begin world r p args request o) f
 
-pub begin_no_replica : (w : Setting) (world : World) (r p : ℕ) (args : List ℕ) → numbered world.replicas r ≡ None → IsStep w world (Begin r p args None) (Refused NoReplica) world
-begin_no_replica w world r p args e = inl (begins w world r p args None _ e refl)
+pub begin_no_replica : (w : Setting) (world : World) (r p : ℕ) (args : List ℕ) (request : Option RequestId) → numbered world.replicas r ≡ None → IsStep w world (Begin r p args request) (Refused NoReplica) world
+begin_no_replica w world r p args request e = inl (begins w world r p args request None _ e refl)
 
-pub begin_no_procedure : (w : Setting) (world : World) (r p : ℕ) (args : List ℕ) (k : Replica) → numbered world.replicas r ≡ Some k → by_number (procedures_after w world.log k.position) p ≡ None → IsStep w world (Begin r p args None) (Refused NoProcedure) world
-begin_no_procedure w world r p args k e f = inl (begins w world r p args (just k) None e f)
+pub begin_no_procedure : (w : Setting) (world : World) (r p : ℕ) (args : List ℕ) (request : Option RequestId) (k : Replica) → numbered world.replicas r ≡ Some k → by_number (procedures_after w world.log k.position) p ≡ None → IsStep w world (Begin r p args request) (Refused NoProcedure) world
+begin_no_procedure w world r p args request k e f = inl (begins w world r p args request (just k) None e f)
 
-pub begin_other_length : (w : Setting) (world : World) (r p : ℕ) (args : List ℕ) (k : Replica) (q : StoredProcedure) → numbered world.replicas r ≡ Some k → by_number (procedures_after w world.log k.position) p ≡ Some q → length args ≢ q.args_len
-    → IsStep w world (Begin r p args None) (Refused ArgumentsLength) world
-begin_other_length w world r p args k q e f other = inl (begins w world r p args (just k) (just q) e f ∙ yes (not (nat_eq (length args) q.args_len)) _ _ (other_number (length args) q.args_len other))
+pub begin_other_length : (w : Setting) (world : World) (r p : ℕ) (args : List ℕ) (request : Option RequestId) (k : Replica) (q : StoredProcedure) → numbered world.replicas r ≡ Some k → by_number (procedures_after w world.log k.position) p ≡ Some q → length args ≢ q.args_len
+    → IsStep w world (Begin r p args request) (Refused ArgumentsLength) world
+begin_other_length w world r p args request k q e f other = inl (begins w world r p args request (just k) (just q) e f ∙ yes (not (nat_eq (length args) q.args_len)) _ _ (other_number (length args) q.args_len other))
 
-begun_or_many : (w : Setting) (world : World) (r p : ℕ) (args : List ℕ) (k : Replica) (q : StoredProcedure) → numbered world.replicas r ≡ just k → by_number (procedures_after w world.log k.position) p ≡ just q → length args ≡ q.args_len → after_step w world (Begin r p args None)
-    ≡ cond (nat_le max_calls (call_count world)) (Refused TooManyCalls, world) (Begun (length world.calls + 1) k.position, with_begun world r (new_call world p args None k.position))
-begun_or_many w world r p args k q e f long = begins w world r p args (just k) (just q) e f ∙ no (not (nat_eq (length args) q.args_len)) _ _ (same_number (length args) q.args_len long)
+begun_or_zero : (w : Setting) (world : World) (r p : ℕ) (args : List ℕ) (request : Option RequestId) (k : Replica) (q : StoredProcedure) → numbered world.replicas r ≡ just k → by_number (procedures_after w world.log k.position) p ≡ just q → length args ≡ q.args_len → after_step w world (Begin r p args request)
+    ≡ cond (has_zero request) (Refused ZeroInRequest, world) (cond (nat_le max_calls (call_count world)) (Refused TooManyCalls, world) (Begun (length world.calls + 1) k.position, with_begun world r (new_call world p args request k.position)))
+begun_or_zero w world r p args request k q e f long = begins w world r p args request (just k) (just q) e f ∙ no (not (nat_eq (length args) q.args_len)) _ _ (same_number (length args) q.args_len long)
 
-pub begin_too_many : (w : Setting) (world : World) (r p : ℕ) (args : List ℕ) (k : Replica) (q : StoredProcedure) → numbered world.replicas r ≡ Some k → by_number (procedures_after w world.log k.position) p ≡ Some q → length args ≡ q.args_len → max_calls ≤ call_count world
-    → IsStep w world (Begin r p args None) (Refused TooManyCalls) world
-begin_too_many w world r p args k q e f long many = inl (begun_or_many w world r p args k q e f long ∙ yes (nat_le max_calls (call_count world)) _ _ (is_le max_calls (call_count world) many))
+pub begin_zero : (w : Setting) (world : World) (r p : ℕ) (args : List ℕ) (request : Option RequestId) (k : Replica) (q : StoredProcedure) → numbered world.replicas r ≡ Some k → by_number (procedures_after w world.log k.position) p ≡ Some q → length args ≡ q.args_len → has_zero request ≡ true
+    → IsStep w world (Begin r p args request) (Refused ZeroInRequest) world
+begin_zero w world r p args request k q e f long has = inl (begun_or_zero w world r p args request k q e f long ∙ yes (has_zero request) _ _ has)
 
-begins_new : (w : Setting) (world : World) (r p : ℕ) (args : List ℕ) (k : Replica) (q : StoredProcedure) → numbered world.replicas r ≡ just k → by_number (procedures_after w world.log k.position) p ≡ just q → length args ≡ q.args_len → call_count world < max_calls
-    → after_step w world (Begin r p args None) ≡ (Begun (length world.calls + 1) k.position, with_begun world r (new_call world p args None k.position))
-begins_new w world r p args k q e f long few = begun_or_many w world r p args k q e f long ∙ no (nat_le max_calls (call_count world)) _ _ (not_le max_calls (call_count world) few)
+begun_or_many : (w : Setting) (world : World) (r p : ℕ) (args : List ℕ) (request : Option RequestId) (k : Replica) (q : StoredProcedure) → numbered world.replicas r ≡ just k → by_number (procedures_after w world.log k.position) p ≡ just q → length args ≡ q.args_len → has_zero request ≡ false → after_step w world (Begin r p args request)
+    ≡ cond (nat_le max_calls (call_count world)) (Refused TooManyCalls, world) (Begun (length world.calls + 1) k.position, with_begun world r (new_call world p args request k.position))
+begun_or_many w world r p args request k q e f long some = begun_or_zero w world r p args request k q e f long ∙ no (has_zero request) _ _ some
 
-pub begin_new : (w : Setting) (world : World) (r p : ℕ) (args : List ℕ) (k : Replica) (q : StoredProcedure) → numbered world.replicas r ≡ Some k → by_number (procedures_after w world.log k.position) p ≡ Some q → length args ≡ q.args_len → call_count world < max_calls
-    → IsStep w world (Begin r p args None) (Begun (length world.calls + 1) k.position) (with_begun world r (new_call world p args None k.position))
-begin_new w world r p args k q e f long few = inl (begins_new w world r p args k q e f long few)
+pub begin_too_many : (w : Setting) (world : World) (r p : ℕ) (args : List ℕ) (request : Option RequestId) (k : Replica) (q : StoredProcedure) → numbered world.replicas r ≡ Some k → by_number (procedures_after w world.log k.position) p ≡ Some q → length args ≡ q.args_len → has_zero request ≡ false → max_calls ≤ call_count world
+    → IsStep w world (Begin r p args request) (Refused TooManyCalls) world
+begin_too_many w world r p args request k q e f long some many = inl (begun_or_many w world r p args request k q e f long some ∙ yes (nat_le max_calls (call_count world)) _ _ (is_le max_calls (call_count world) many))
 
-pub begin_without_memory : (w : Setting) (world : World) (r p : ℕ) (args : List ℕ) (k : Replica) (q : StoredProcedure) → numbered world.replicas r ≡ Some k → by_number (procedures_after w world.log k.position) p ≡ Some q → length args ≡ q.args_len → call_count world < max_calls
-    → IsStep w world (Begin r p args None) (Refused OutOfMemory) world
+begins_new : (w : Setting) (world : World) (r p : ℕ) (args : List ℕ) (request : Option RequestId) (k : Replica) (q : StoredProcedure) → numbered world.replicas r ≡ just k → by_number (procedures_after w world.log k.position) p ≡ just q → length args ≡ q.args_len → has_zero request ≡ false → call_count world < max_calls
+    → after_step w world (Begin r p args request) ≡ (Begun (length world.calls + 1) k.position, with_begun world r (new_call world p args request k.position))
+begins_new w world r p args request k q e f long some few = begun_or_many w world r p args request k q e f long some ∙ no (nat_le max_calls (call_count world)) _ _ (not_le max_calls (call_count world) few)
+
+pub begin_new : (w : Setting) (world : World) (r p : ℕ) (args : List ℕ) (request : Option RequestId) (k : Replica) (q : StoredProcedure) → numbered world.replicas r ≡ Some k → by_number (procedures_after w world.log k.position) p ≡ Some q → length args ≡ q.args_len → has_zero request ≡ false → call_count world < max_calls
+    → IsStep w world (Begin r p args request) (Begun (length world.calls + 1) k.position) (with_begun world r (new_call world p args request k.position))
+begin_new w world r p args request k q e f long some few = inl (begins_new w world r p args request k q e f long some few)
+
+pub begin_without_memory : (w : Setting) (world : World) (r p : ℕ) (args : List ℕ) (request : Option RequestId) (k : Replica) (q : StoredProcedure) → numbered world.replicas r ≡ Some k → by_number (procedures_after w world.log k.position) p ≡ Some q → length args ≡ q.args_len → has_zero request ≡ false → call_count world < max_calls
+    → IsStep w world (Begin r p args request) (Refused OutOfMemory) world
 unfolding after_step_without_memory
-begin_without_memory w world r p args k q e f long few = inr (ap (λ (d : Done). after_refused_memory world (Begin r p args None) d.0) (begins_new w world r p args k q e f long few))
+begin_without_memory w world r p args request k q e f long some few = inr (ap (λ (d : Done). after_refused_memory world (Begin r p args request) d.0) (begins_new w world r p args request k q e f long some few))
 
 -- ---- Turn
 

@@ -1,5 +1,5 @@
 -- A world of replicas as contracts see it, and the world of the definitions that it is.
-use Rattle.std.specs.Prelude.{◌≡◌, ℕ, ◌-◌, ◌≤◌, not, List, map, take, Option, None}
+use Rattle.std.specs.Prelude.{◌≡◌, ℕ, ◌-◌, ◌≤◌, not, List, map, take, Option, Some, None}
 use Rattle.catalogue.specs.Catalogue.{SystemCatalogue}
 use Rattle.rows_mv.specs.Versions.{AnswersFrom}
 use Rattle.replica.specs.Replica.{Replica, StandsFor, AreEntriesOf}
@@ -8,8 +8,10 @@ use Rattle.stored_procedures.specs.Held.{stored_procedures}
 use Rattle.log_model.specs.Entries.{Entry, items_of}
 use Rattle.dsm_model.specs.World as model
 use Rattle.dsm_model.specs.World.{World, OpenCall}
+-- what the check of a program that is added comes to
+pub use Rattle.program_checks.specs.Check.{check_of}
 use Rattle.dsm_world.specs.declared.step.Step.{Step}
-use Rattle.dsm_world.specs.declared.step.Step.TheVariants.{Begin, Turn, Order, Deliver, Rebuild}
+use Rattle.dsm_world.specs.declared.step.Step.TheVariants.{Begin, BeginNumbered, Turn, Order, Deliver, Rebuild, Add}
 
 -- what all replicas have in common, what was ordered, what each replica keeps, and the calls, of which those that are over
 -- are None
@@ -30,13 +32,16 @@ progress_of r = record { position = r.position; running = not r.stopped }
 abbrev pub world_of : SystemWorld → World
 world_of s = record { log = items_of s.entries; replicas = map progress_of s.replicas; calls = s.calls }
 
--- a step, as it is asked for
-abbrev pub step_of : Step → model.Step
-step_of (Begin replica procedure args) = model.Begin replica procedure args.now None
-step_of (Turn call) = model.Turn call
-step_of (Order call) = model.Order call
-step_of (Deliver replica) = model.Deliver replica
-step_of (Rebuild replica) = model.Rebuild replica
+-- a step, as it is asked for; a program that is added is checked for the tables
+abbrev pub step_of : Setting → Step → model.Step
+step_of w (Begin replica procedure args) = model.Begin replica procedure args.now None
+step_of w (BeginNumbered replica procedure args session sequence) =
+    model.Begin replica procedure args.now (Some (record { session = session; sequence = sequence }))
+step_of w (Turn call) = model.Turn call
+step_of w (Order call) = model.Order call
+step_of w (Deliver replica) = model.Deliver replica
+step_of w (Rebuild replica) = model.Rebuild replica
+step_of w (Add name number args_len bytes) = model.Add name.now number args_len (check_of w.tables args_len bytes.now)
 
 -- what a replica keeps is of the entries as far as it has come: its verdicts, rows and procedures are those of the log
 pub record KeepsDelivered (s : SystemWorld) (r : Replica) : Type 0 where

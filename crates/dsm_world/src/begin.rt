@@ -1,7 +1,7 @@
 //! A call begins.
 
-ghost use Rattle.std.specs.Prelude.{◌≡◌, ◌<◌, All, None};
-ghost use Rattle.dsm_model.specs.World.{Begin, IsStep};
+ghost use Rattle.std.specs.Prelude.{◌≡◌, ◌<◌, All};
+ghost use Rattle.dsm_model.specs.World.{Begin, IsStep, has_zero, or_none};
 ghost use Rattle.dsm_world.specs.System.{setting_of, world_of};
 ghost use Rattle.dsm_world.specs.Holdings.{system_of, AreConsistentHoldings};
 
@@ -23,15 +23,16 @@ const NO_REQUEST: RequestId = RequestId {
 /// The most calls and additions of a world, and entries of its log.
 pub(crate) const MAX_CALLS: usize = 1_048_576;
 
-/// Begins a call of a procedure at a replica.
+/// Begins a call of a procedure at a replica, with a request or without one.
 pub(crate) fn begin<A: Allocator + Copy>(
     world: &mut Holdings<A>,
     replica: u32,
     procedure: u16,
     args: &[u8],
+    request: Option<RequestId>,
 ) -> Outcome
     requires { AreConsistentHoldings world.old }
-    ensures step { IsStep (setting_of (system_of world.old)) (world_of (system_of world.old)) (Begin replica procedure args.now None)
+    ensures step { IsStep (setting_of (system_of world.old)) (world_of (system_of world.old)) (Begin replica procedure args.now request)
         result (world_of (system_of world.new)) }
     ensures setting { setting_of (system_of world.new) ≡ setting_of (system_of world.old) }
     ensures consistent { AreConsistentHoldings world.new }
@@ -51,14 +52,18 @@ pub(crate) fn begin<A: Allocator + Copy>(
     if args.len() != usize::from(accepted.args_len()) {
         return Outcome::Refused(StepRefusal::ArgumentsLength);
     }
+    if has_zero(request) {
+        return Outcome::Refused(StepRefusal::ZeroInRequest);
+    }
     if world.calls.len() + world.additions as usize >= MAX_CALLS {
         return Outcome::Refused(StepRefusal::TooManyCalls);
     }
     let alloc = world.alloc;
     let call = world.calls.len() as u32 + 1;
     let snapshot = held.begin();
+    let request = or_none(request);
     let begun = OpenCall::begin(
-        alloc, replica, call, procedure, accepted, args, snapshot, NO_REQUEST,
+        alloc, replica, call, procedure, accepted, args, snapshot, request,
     );
     let Ok(open_call) = begun else {
         return Outcome::Refused(StepRefusal::OutOfMemory);
@@ -66,5 +71,25 @@ pub(crate) fn begin<A: Allocator + Copy>(
     match enter(&mut world.calls, alloc, open_call) {
         Ok(()) => Outcome::Begun { call, snapshot },
         Err(_) => Outcome::Refused(StepRefusal::OutOfMemory),
+    }
+}
+
+/// Whether the session or the number of a request is 0.
+fn has_zero(request: Option<RequestId>) -> bool
+    ensures { result ≡ has_zero request }
+{
+    match request {
+        Some(request) => request.session == 0 || request.sequence == 0,
+        None => false,
+    }
+}
+
+/// The request that a call carries.
+fn or_none(request: Option<RequestId>) -> RequestId
+    ensures { result ≡ or_none request }
+{
+    match request {
+        Some(request) => request,
+        None => NO_REQUEST,
     }
 }

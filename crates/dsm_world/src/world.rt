@@ -16,6 +16,7 @@ ghost use Rattle.catalogue.specs.Catalogue.{IsCatalogue};
 ghost use Rattle.dsm_world.specs.System.{setting_of, world_of, step_of, progress_of, KeepsDelivered};
 ghost use Rattle.dsm_world.specs.Holdings.{system_of, AreConsistentHoldings, IsReplicaOf};
 
+use crate::add::add;
 use crate::begin::begin;
 use crate::deliver::deliver;
 use crate::holdings::Holdings;
@@ -30,7 +31,7 @@ use dsm_model::{
     steps_keep_a_world,
 };
 use log_entry::Entry;
-use log_model::a_log_only_grows;
+use log_model::{RequestId, a_log_only_grows};
 use replica::{Replica, replicas_follow_the_log};
 use std::alloc::{AllocError, Allocator, Global};
 use std::marker::Model;
@@ -59,22 +60,38 @@ impl<A: Allocator + Copy> Model for World<A> {
 /// One step.
 fn take_step<A: Allocator + Copy>(world: &mut Holdings<A>, step: Step<'_>) -> Outcome
     requires { AreConsistentHoldings world.old }
-    ensures step { IsStep (setting_of (system_of world.old)) (world_of (system_of world.old)) (step_of step.entry) result
-        (world_of (system_of world.new)) }
+    ensures step { IsStep (setting_of (system_of world.old)) (world_of (system_of world.old))
+        (step_of (setting_of (system_of world.old)) step.entry) result (world_of (system_of world.new)) }
     ensures setting { setting_of (system_of world.new) ≡ setting_of (system_of world.old) }
     ensures consistent { AreConsistentHoldings world.new }
-    ensures given { IsGiven (setting_of (system_of world.old)) (step_of step.entry) result }
+    ensures given { IsGiven (setting_of (system_of world.old)) (step_of (setting_of (system_of world.old)) step.entry) result }
 {
     match step {
         Step::Begin {
             replica,
             procedure,
             args,
-        } => begin(world, replica, procedure, args),
+        } => begin(world, replica, procedure, args, None),
+        Step::BeginNumbered {
+            replica,
+            procedure,
+            args,
+            session,
+            sequence,
+        } => {
+            let request = RequestId { session, sequence };
+            begin(world, replica, procedure, args, Some(request))
+        }
         Step::Turn { call } => turn(world, call),
         Step::Order { call } => order(world, call),
         Step::Deliver { replica } => deliver(world, replica),
         Step::Rebuild { replica } => rebuild(world, replica),
+        Step::Add {
+            name,
+            number,
+            args_len,
+            bytes,
+        } => add(world, name, number, args_len, bytes),
     }
 }
 
@@ -145,10 +162,11 @@ impl<A: Allocator + Copy> World<A> {
 
     /// One step: what it answers, as the definitions of the world say.
     pub fn step(&mut self, step: Step<'_>) -> Outcome
-        ensures step { IsStep (setting_of self.old) (world_of self.old) (step_of step.entry) result (world_of self.new) }
+        ensures step { IsStep (setting_of self.old) (world_of self.old) (step_of (setting_of self.old) step.entry)
+            result (world_of self.new) }
         ensures setting { setting_of self.new ≡ setting_of self.old }
-        // What their type says of the arguments.
-        ensures given { IsGiven (setting_of self.old) (step_of step.entry) result }
+        // What their type says of the arguments, and the verifier of a program that is added.
+        ensures given { IsGiven (setting_of self.old) (step_of (setting_of self.old) step.entry) result }
     {
         take_step(&mut self.holdings, step)
     }
@@ -158,11 +176,11 @@ impl<A: Allocator + Copy> World<A> {
     ///
     /// Whatever the steps are, and whichever of them find no memory: they go on as the definitions of the world say; each
     /// open call is sound; each ordered call is committed exactly where the written test says so; what a replica keeps are
-    /// the verdicts and rows of the log as far as it has come; and a reply that was answered is that of the call run in its
-    /// turn, where it commits.
+    /// the verdicts, rows and procedures of the log as far as it has come; and a reply that was answered is that of the call
+    /// run in its turn, where it commits.
     pub fn run(&mut self, steps: &[Step<'_>]) -> Result<Vec<Outcome, A>, AllocError>
-        ensures steps { IfOk result (λ outcomes. AreSteps (setting_of self.old) (world_of self.old) (map step_of steps.now)
-            outcomes.items (world_of self.new)) }
+        ensures steps { IfOk result (λ outcomes. AreSteps (setting_of self.old) (world_of self.old)
+            (map (step_of (setting_of self.old)) steps.now) outcomes.items (world_of self.new)) }
         ensures sound { (c : ℕ) (o : ModelCall) → open_call (world_of self.new) c ≡ Some o
             → IsSound (setting_of self.new) (world_of self.new).log o }
         ensures verdicts { IfOk result (λ outcomes. (j position : ℕ) (v : ModelVerdict)
@@ -170,8 +188,10 @@ impl<A: Allocator + Copy> World<A> {
             → verdict_of (setting_of self.new) (world_of self.new).log position ≡ Some v) }
         ensures rows { (r : ℕ) (k : ReplicaState) → numbered self.new.replicas r ≡ Some k → KeepsDelivered self.new k }
         ensures replies { IfOk result (λ outcomes. (c i j position reply : ℕ)
-            → slice_get (map step_of steps.now) i ≡ Some (TurnStep c) → slice_get outcomes.items i ≡ Some (Exit reply)
-            → slice_get (map step_of steps.now) j ≡ Some (OrderStep c) → slice_get outcomes.items j ≡ Some (Ordered position)
+            → slice_get (map (step_of (setting_of self.old)) steps.now) i ≡ Some (TurnStep c)
+            → slice_get outcomes.items i ≡ Some (Exit reply)
+            → slice_get (map (step_of (setting_of self.old)) steps.now) j ≡ Some (OrderStep c)
+            → slice_get outcomes.items j ≡ Some (Ordered position)
             → i < j → verdict_of (setting_of self.new) (world_of self.new).log position ≡ Some Commit
             → IsSerialReply (setting_of self.new) (world_of self.new).log position reply) }
         ensures setting { setting_of self.new ≡ setting_of self.old }
@@ -191,8 +211,8 @@ impl<A: Allocator + Copy> World<A> {
     }
 
     /// What is known of every world: steps lead to such a one, its catalogue's procedures were accepted and are safe, its
-    /// entries are those of a log and carry their runs, and what each replica keeps are the verdicts and rows of the log as
-    /// far as it has come.
+    /// entries are those of a log and carry their runs, and what each replica keeps are the verdicts, rows and procedures of
+    /// the log as far as it has come.
     pub fn keeps_what_was_delivered(&self)
         ensures world { IsWorld (setting_of self.now) (world_of self.now) }
         ensures catalogue { IsCatalogue self.now.catalogue }

@@ -80,8 +80,8 @@ impl<A: Allocator + Copy, P: Allocator + Copy> Model for Replica<A, P> {
 }
 
 impl<A: Allocator + Copy, P: Allocator + Copy> Replica<A, P> {
-    /// One to which nothing was delivered, for the tables and with the procedures of a catalogue. Calls of which more
-    /// than a window were delivered since their snapshot find its rows no more.
+    /// One to which nothing was delivered, for the tables and with the procedures of a catalogue. A call finds
+    /// its rows no more where more entries than the window were delivered since its snapshot.
     pub fn new(alloc: A, window: u32, catalogue: &Catalogue<P>) -> Result<Replica<A, P>, AllocError>
         ensures stands { IfOk result (λ r. StandsFor catalogue.now.procedures r []) }
         ensures window { IfOk result (λ r. r.window ≡ window) }

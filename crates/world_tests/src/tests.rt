@@ -11,6 +11,7 @@ use std::fmt::Write as _;
 use std::test::Fail;
 
 mod drawn;
+mod events;
 mod increments;
 mod refused;
 mod replayed;
@@ -32,12 +33,13 @@ const CANCEL: &str = "7912000000000000 7914080000000000 7b4af8ff00000000 bfa3000
 
 const CANCEL_CODE: u64 = 9;
 
-const READ_NUMBER: u16 = 8;
-
-const CANCEL_NUMBER: u16 = 9;
-
 /// Procedures that are never ordered: their numbers, each with how many words it takes.
-static UNORDERED: [(u16, &str, usize); 2] = [(READ_NUMBER, READ, 1), (CANCEL_NUMBER, CANCEL, 2)];
+static UNORDERED: [(u16, &str, usize); 2] = [(8, READ, 1), (9, CANCEL, 2)];
+
+/// Their places among all procedures.
+const READ_PLACE: usize = 6;
+
+const CANCEL_PLACE: usize = 7;
 
 const PROCEDURE_COUNT: usize = 8;
 
@@ -47,6 +49,21 @@ fn procedure_at(place: usize) -> Option<&'static (u16, &'static str, usize)> {
         Some(found) => Some(found),
         None => UNORDERED.get(place.wrapping_sub(PROCEDURES.len())),
     }
+}
+
+/// The place in the catalogue of the procedure of a number.
+fn catalogue_place(number: u16) -> Option<usize> {
+    (0..PROCEDURE_COUNT).find(|place| procedure_at(*place).is_some_and(|it| it.0 == number))
+}
+
+fn is_of_catalogue(number: u16) -> bool {
+    catalogue_place(number).is_some()
+}
+
+/// The place of the procedure whose program a number has: its own, and where the catalogue has none of it one of them in turn,
+/// so that a number tells the program of a procedure that is added too.
+fn place_of(number: u16) -> usize {
+    catalogue_place(number).unwrap_or(usize::from(number % 8))
 }
 
 fn accepted_of<A: Allocator + Copy>(

@@ -1,17 +1,30 @@
 //! Worlds that are drawn from a seed: what was done to one, and what it answered.
 
-use super::{CANCEL_CODE, CANCEL_NUMBER, PROCEDURE_COUNT, READ_NUMBER, catalogue_of, procedure_at};
+use super::events::{Event, Events};
+use super::{
+    CANCEL_CODE, CANCEL_PLACE, PROCEDURE_COUNT, READ_PLACE, catalogue_of, place_of, procedure_at,
+};
 use dsm_model::{Outcome, StepRefusal};
 use dsm_world::{Step, World};
-use log_model::{Identifier, Verdict};
+use log_model::{Identifier, RequestId, Verdict};
 use rand_core::utils::NextWord;
 use rand_pcg::Pcg32;
+use sample_procedures::bytes_of;
 use scarce::Scarce;
 use std::alloc::Global;
 use std::test::Fail;
 
 /// How many kinds of outcomes there are.
-pub(super) const KINDS: usize = 29;
+pub(super) const KINDS: usize = 30;
+
+/// The request of a call that carries none.
+const NO_REQUEST: RequestId = RequestId {
+    session: 0,
+    sequence: 0,
+};
+
+/// The numbers of additions, and those whose digits are their names, are drawn from as many from 1 on.
+const NUMBERS: u32 = 60;
 
 /// Where an outcome is counted.
 fn kind_of(outcome: Outcome) -> usize {
@@ -54,7 +67,8 @@ fn kind_of_refusal(refusal: StepRefusal) -> usize {
         StepRefusal::LogFull => 23,
         StepRefusal::OutOfMemory => 24,
         StepRefusal::TooManyCalls => 25,
-        StepRefusal::ArgumentsLimit | StepRefusal::ProgramRefused(_) => 26,
+        StepRefusal::ArgumentsLimit => 29,
+        StepRefusal::ProgramRefused(_) => 26,
         StepRefusal::NameShape => 27,
         StepRefusal::ZeroInRequest => 28,
     }
@@ -66,7 +80,26 @@ pub(super) struct Call {
     pub(super) procedure: u16,
     pub(super) args: Vec<u8>,
     pub(super) snapshot: u32,
+    pub(super) request: RequestId,
     pub(super) reply: Option<u64>,
+}
+
+/// What stands in the log.
+#[derive(Drop)]
+pub(super) enum Ordered {
+    /// A call, by its number.
+    Call(u32),
+    /// A procedure, whose program its number tells.
+    Addition { name: String, number: u16 },
+}
+
+/// A procedure that was called where its replica had none of its number.
+#[derive(Clone, Copy)]
+pub(super) struct UnknownProcedure {
+    pub(super) number: u16,
+    /// That of the replica, and whether that was stopped.
+    pub(super) position: u32,
+    pub(super) stopped: bool,
 }
 
 /// What was done to a world, and what it answered.
@@ -79,8 +112,15 @@ pub(super) struct History {
     calls: Vec<Call>,
     /// The numbers of those that came to their end and weren't drawn to be ordered since.
     ended: Vec<u32>,
-    /// The numbers of those that were ordered, in the order of the log.
-    pub(super) ordered: Vec<u32>,
+    /// What was ordered, in the order of the log.
+    pub(super) ordered: Vec<Ordered>,
+    /// How many requests were drawn.
+    requests: u32,
+    /// The requests of calls that were told to be in conflict or stale.
+    refused: Vec<RequestId>,
+    pub(super) unknown: Vec<UnknownProcedure>,
+    /// How often what is counted besides came, in worlds before too.
+    pub(super) events: Events,
     /// The numbers of those that only read, and so weren't ordered.
     pub(super) read: Vec<u32>,
     /// The positions and verdicts that were told of deliveries.
@@ -90,10 +130,14 @@ pub(super) struct History {
 }
 
 impl History {
-    fn new(alloc: Global, kinds: [u32; KINDS]) -> History {
+    fn new(alloc: Global, kinds: [u32; KINDS], events: Events) -> History {
         History {
             steps: 0,
             kinds,
+            events,
+            requests: 0,
+            refused: Vec::new(alloc),
+            unknown: Vec::new(alloc),
             calls: Vec::new(alloc),
             ended: Vec::new(alloc),
             ordered: Vec::new(alloc),
@@ -108,11 +152,30 @@ impl History {
         self.calls.get((number as usize).checked_sub(1)?)
     }
 
-    /// Whether a call was begun with a procedure at a snapshot.
-    fn is_of(&self, number: u32, procedure: u16, snapshot: u32) -> bool {
+    /// Whether a call was begun at a snapshot, with the program that stands at a place.
+    fn is_of(&self, number: u32, place: usize, snapshot: u32) -> bool {
         match self.call(number) {
-            Some(call) => call.procedure == procedure && call.snapshot == snapshot,
+            Some(call) => place_of(call.procedure) == place && call.snapshot == snapshot,
             None => false,
+        }
+    }
+
+    /// The number of the procedure that is added at a position.
+    pub(super) fn addition_at(&self, position: u32) -> Option<u16> {
+        match self.ordered.get((position as usize).checked_sub(1)?)? {
+            Ordered::Addition { number, .. } => Some(*number),
+            Ordered::Call(_) => None,
+        }
+    }
+
+    /// The request of the call at a position.
+    fn request_at(&self, position: u32) -> RequestId {
+        let ordered = self.ordered.get((position as usize).wrapping_sub(1));
+        match ordered {
+            Some(Ordered::Call(number)) => {
+                self.call(*number).map_or(NO_REQUEST, |call| call.request)
+            }
+            _ => NO_REQUEST,
         }
     }
 
@@ -155,21 +218,68 @@ fn draw(generator: &mut Pcg32, end: u32) -> u32 {
     generator.next_word().checked_rem(end).unwrap_or(0)
 }
 
-/// A procedure's number and arguments of words from 1 to 12; at times no procedure's, or a word too many.
-fn draw_call(alloc: Global, generator: &mut Pcg32) -> Result<(u16, Vec<u8>), Fail> {
+/// The number of a procedure of the catalogue.
+fn draw_listed(generator: &mut Pcg32) -> u16 {
     let place = draw(generator, PROCEDURE_COUNT as u32) as usize;
-    let (number, words) = match procedure_at(place) {
-        Some((number, _program, words)) => (*number, *words),
-        None => (0, 0),
-    };
-    let wrong = draw(generator, 32);
-    let more = if wrong == 0 { 1 } else { 0 };
+    procedure_at(place).map_or(0, |procedure| procedure.0)
+}
+
+/// A number that the catalogue may have or not.
+fn draw_number(generator: &mut Pcg32) -> u16 {
+    let number = draw(generator, NUMBERS).wrapping_add(1);
+    u16::try_from(number).unwrap_or(0)
+}
+
+/// How many words the program of a number takes, and the program in hex.
+pub(super) fn program_of(number: u16) -> (usize, &'static str) {
+    match procedure_at(place_of(number)) {
+        Some((_number, program, words)) => (*words, program),
+        None => (0, ""),
+    }
+}
+
+/// A word from 1 to 12; every other one is of the first three, which more calls share.
+fn draw_word(generator: &mut Pcg32) -> u64 {
+    let end = if draw(generator, 2) == 0 { 3 } else { 12 };
+    u64::from(draw(generator, end)).wrapping_add(1)
+}
+
+/// Arguments for the procedure of a number, at times a word too many.
+fn draw_args(alloc: Global, generator: &mut Pcg32, number: u16) -> Result<Vec<u8>, Fail> {
+    let (words, _program) = program_of(number);
+    let more = if draw(generator, 32) == 0 { 1 } else { 0 };
     let mut args = Vec::new(alloc);
     for _ in 0..words.wrapping_add(more) {
-        let word = u64::from(draw(generator, 12)).wrapping_add(1);
+        let word = draw_word(generator);
         args.extend_from_slice(&word.to_le_bytes())?;
     }
-    Ok((if wrong == 1 { 7 } else { number }, args))
+    Ok(args)
+}
+
+/// The request of a number from 1 on: of few sessions.
+fn request_of(number: u32) -> RequestId {
+    RequestId {
+        session: 1 + number % 4,
+        sequence: 1 + number / 4,
+    }
+}
+
+/// The beginning of a call, with a request or without one.
+fn begin_step(replica: u32, procedure: u16, args: &[u8], request: Option<RequestId>) -> Step<'_> {
+    match request {
+        None => Step::Begin {
+            replica,
+            procedure,
+            args,
+        },
+        Some(RequestId { session, sequence }) => Step::BeginNumbered {
+            replica,
+            procedure,
+            args,
+            session,
+            sequence,
+        },
+    }
 }
 
 /// A world of a seed, with what was done to it.
@@ -190,6 +300,7 @@ pub(super) fn new_world<'s>(
     scarce: &'s Scarce,
     seed: u64,
     kinds: [u32; KINDS],
+    events: Events,
 ) -> Result<DrawnWorld<'s>, Fail> {
     let mut generator = Pcg32::new(seed, 17);
     let replicas = draw(&mut generator, 7).wrapping_add(2).clamp(1, 8);
@@ -206,7 +317,7 @@ pub(super) fn new_world<'s>(
         replicas,
         window,
         world,
-        history: History::new(alloc, kinds),
+        history: History::new(alloc, kinds, events),
     })
 }
 
@@ -245,27 +356,111 @@ impl<'s> DrawnWorld<'s> {
         Some(self.world.replica(replica)?.position())
     }
 
+    /// Which request a call carries: none, a new one, one of the latest three, any that was drawn, that of a call
+    /// which was refused, or at times one with a 0.
+    fn draw_request(&mut self) -> Option<RequestId> {
+        let last = self.history.requests;
+        match draw(&mut self.generator, 72) {
+            0 => Some(RequestId {
+                session: last % 2,
+                sequence: 1 - last % 2,
+            }),
+            1..=6 => {
+                self.history.requests = last.wrapping_add(1);
+                Some(request_of(last.wrapping_add(1)))
+            }
+            7..=18 => Some(request_of(last.saturating_sub(draw(&mut self.generator, 3.min(last))))),
+            19..=24 => Some(request_of(last.saturating_sub(draw(&mut self.generator, last)))),
+            25..=36 => self.history.refused.pop(),
+            _ => None,
+        }
+    }
+
+    /// The number of a procedure: mostly of the catalogue, at times of one of the latest additions, or any.
+    fn draw_procedure(&mut self) -> u16 {
+        let last = self.world.log_len();
+        let recent = last.saturating_sub(draw(&mut self.generator, 24));
+        match (
+            draw(&mut self.generator, 8),
+            self.history.addition_at(recent),
+        ) {
+            (0, _) => draw_number(&mut self.generator),
+            (1..=3, Some(number)) => number,
+            _ => draw_listed(&mut self.generator),
+        }
+    }
+
     /// Begins a call.
     fn begin(&mut self, replica: u32) -> Result<(), Fail> {
-        let (procedure, args) = draw_call(self.alloc, &mut self.generator)?;
-        let outcome = self.take(Step::Begin {
-            replica,
-            procedure,
-            args: &args,
-        });
+        let procedure = self.draw_procedure();
+        let args = draw_args(self.alloc, &mut self.generator, procedure)?;
+        let request = self.draw_request();
+        let outcome = self.take(begin_step(replica, procedure, &args, request));
         let Outcome::Begun { call, snapshot } = outcome else {
-            return Ok(());
+            return self.see_refused(replica, procedure, outcome);
         };
         self.history.calls.push(Call {
             procedure,
             args,
             snapshot,
+            request: request.unwrap_or(NO_REQUEST),
             reply: None,
         })?;
         let is_next = call as usize == self.history.calls.len();
         let is_now = self.position_of(replica) == Some(snapshot);
         self.history.expect(is_next && is_now);
         Ok(())
+    }
+
+    /// Takes down a call that didn't begin, where its replica has no such procedure.
+    fn see_refused(&mut self, at: u32, procedure: u16, outcome: Outcome) -> Result<(), Fail> {
+        let Some(replica) = self.world.replica(at) else {
+            return Ok(());
+        };
+        if outcome == Outcome::Refused(StepRefusal::NoProcedure) {
+            self.history.unknown.push(UnknownProcedure {
+                number: procedure,
+                position: replica.position(),
+                stopped: replica.stopped(),
+            })?;
+        }
+        Ok(())
+    }
+
+    /// Adds a procedure, at times one with arguments that are too long, a program that isn't accepted, or no name.
+    fn add(&mut self) -> Result<(), Fail> {
+        let named = draw(&mut self.generator, NUMBERS).wrapping_add(1);
+        let number = draw_number(&mut self.generator);
+        let (words, program) = program_of(number);
+        let bytes = bytes_of(self.alloc, program)?;
+        let long = u16::try_from(words).unwrap_or(0).wrapping_mul(8);
+        let (mark, args_len) = match draw(&mut self.generator, 16) {
+            0 => ("", 257),
+            1 => ("", 0),
+            2 => ("-", long),
+            _ => ("", long),
+        };
+        let name = format!(in self.alloc; "{named}{mark}")?;
+        let outcome = self.take(Step::Add {
+            name: name.as_bytes(),
+            number,
+            args_len,
+            bytes: &bytes,
+        });
+        if let Outcome::Added { position } = outcome {
+            self.history
+                .ordered
+                .push(Ordered::Addition { name, number })?;
+            self.expect_last(position);
+        }
+        Ok(())
+    }
+
+    /// A position that was answered is that of what was ordered last.
+    fn expect_last(&mut self, position: u32) {
+        let is_next = position as usize == self.history.ordered.len();
+        let is_last = position == self.world.log_len();
+        self.history.expect(is_next && is_last);
     }
 
     /// Runs a call further.
@@ -291,19 +486,17 @@ impl<'s> DrawnWorld<'s> {
         };
         match self.take(Step::Order { call }) {
             Outcome::Ordered { position } => {
-                self.history.ordered.push(call)?;
-                let is_next = position as usize == self.history.ordered.len();
-                let is_last = position == self.world.log_len();
-                self.history.expect(is_next && is_last);
+                self.history.ordered.push(Ordered::Call(call))?;
+                self.expect_last(position);
             }
             Outcome::Read { snapshot, reply } => {
                 self.history.read.push(call)?;
-                let is_read = self.history.is_of(call, READ_NUMBER, snapshot);
+                let is_read = self.history.is_of(call, READ_PLACE, snapshot);
                 let is_told = self.history.reply_of(call) == Some(reply);
                 self.history.expect(is_read && is_told);
             }
             Outcome::Cancelled { snapshot, code } => {
-                let is_cancelled = self.history.is_of(call, CANCEL_NUMBER, snapshot);
+                let is_cancelled = self.history.is_of(call, CANCEL_PLACE, snapshot);
                 self.history.expect(is_cancelled && code == CANCEL_CODE);
             }
             _ => {}
@@ -315,11 +508,28 @@ impl<'s> DrawnWorld<'s> {
     fn deliver(&mut self, replica: u32) -> Result<(), Fail> {
         let before = self.position_of(replica);
         let outcome = self.take(Step::Deliver { replica });
+        let next = before.map_or(0, |position| position.wrapping_add(1));
+        let wanted = outcome == Outcome::Refused(StepRefusal::OutOfMemory);
+        if wanted && self.history.addition_at(next).is_some() {
+            self.history.events.count(Event::AdditionWithoutMemory);
+        }
         if let Outcome::Delivered { position, verdict } = outcome {
             self.history.delivered.push((position, verdict))?;
+            self.see_delivered(position, verdict)?;
             let is_next = before == position.checked_sub(1);
             let is_now = self.position_of(replica) == Some(position);
             self.history.expect(is_next && is_now);
+        }
+        Ok(())
+    }
+
+    /// Takes down the request of a call that was refused.
+    fn see_delivered(&mut self, position: u32, verdict: Verdict) -> Result<(), Fail> {
+        if matches!(verdict, Verdict::Conflict(_) | Verdict::Stale) {
+            let request = self.history.request_at(position);
+            if request != NO_REQUEST {
+                self.history.refused.push(request)?;
+            }
         }
         Ok(())
     }
@@ -341,7 +551,8 @@ impl<'s> DrawnWorld<'s> {
             0..=5 => self.begin(replica),
             6..=19 => self.turn(),
             20..=26 => self.order(),
-            27..=61 => self.deliver(replica),
+            27..=57 => self.deliver(replica),
+            58..=61 => self.add(),
             _ => {
                 self.rebuild(replica);
                 Ok(())

@@ -3,7 +3,8 @@
 use super::{
     ADD_SEVEN, ADD_TEN, Script, catalogue_of, described, run_script, steps_of, two_replicas,
 };
-use dsm_model::{Outcome, StepRefusal};
+use abs_cause::Cause;
+use dsm_model::{Outcome, ProgramFault, StepRefusal};
 use dsm_world::{Step, World};
 use log_model::Verdict;
 use scarce::Scarce;
@@ -189,9 +190,100 @@ const BEGIN: Step<'static> = Step::Begin {
 
 const NO_MEMORY: Outcome = Outcome::Refused(StepRefusal::OutOfMemory);
 
+const NOTHING_LEFT: Outcome = Outcome::Refused(StepRefusal::NothingToDeliver);
+
 const NO_CALL: Outcome = Outcome::Refused(StepRefusal::NoCall);
 
-static CASES: [Case; 5] = [
+/// Replies 1: a mov of 1, and EXIT.
+const ONE: [u8; 16] = [0xb7, 0, 0, 0, 1, 0, 0, 0, 0x95, 0, 0, 0, 0, 0, 0, 0];
+
+/// EXIT alone, whose reply is nothing.
+const NOTHING: [u8; 8] = [0x95, 0, 0, 0, 0, 0, 0, 0];
+
+/// A procedure under a number that the catalogue doesn't have.
+const ADD_ONE: Step<'static> = Step::Add {
+    name: b"one",
+    number: 7,
+    args_len: 0,
+    bytes: &ONE,
+};
+
+const ADD_NOTHING: Step<'static> = Step::Add {
+    name: b"one",
+    number: 7,
+    args_len: 0,
+    bytes: &NOTHING,
+};
+
+const ADD_UNNAMED: Step<'static> = Step::Add {
+    name: b"a-b",
+    number: 7,
+    args_len: 256,
+    bytes: &ONE,
+};
+
+static CASES: [Case; 10] = [
+    Case {
+        before: &[],
+        step: Step::BeginNumbered {
+            replica: 1,
+            procedure: 1,
+            args: &ADD_TEN,
+            session: 7,
+            sequence: 1,
+        },
+        answer: Outcome::Begun {
+            call: 1,
+            snapshot: 0,
+        },
+        refused: NO_MEMORY,
+        next: Step::Turn { call: 1 },
+        left: NO_CALL,
+    },
+    Case {
+        before: &[],
+        step: ADD_ONE,
+        answer: Outcome::Added { position: 1 },
+        refused: NO_MEMORY,
+        next: Step::Deliver { replica: 1 },
+        left: NOTHING_LEFT,
+    },
+    // A program can't be checked without memory.
+    Case {
+        before: &[],
+        step: ADD_NOTHING,
+        answer: Outcome::Refused(StepRefusal::ProgramRefused(ProgramFault::Instruction {
+            slot: 0,
+            cause: Cause::HoldsNothing,
+        })),
+        refused: NO_MEMORY,
+        next: Step::Deliver { replica: 1 },
+        left: NOTHING_LEFT,
+    },
+    Case {
+        before: &[],
+        step: ADD_UNNAMED,
+        answer: Outcome::Refused(StepRefusal::NameShape),
+        refused: NO_MEMORY,
+        next: Step::Deliver { replica: 1 },
+        left: NOTHING_LEFT,
+    },
+    // Its procedure isn't there where it found no memory.
+    Case {
+        before: &[(ADD_ONE, 1)],
+        step: Step::Deliver { replica: 1 },
+        answer: Outcome::Delivered {
+            position: 1,
+            verdict: Verdict::Commit,
+        },
+        refused: NO_MEMORY,
+        next: Step::Begin {
+            replica: 1,
+            procedure: 7,
+            args: &[],
+        },
+        left: Outcome::Refused(StepRefusal::NoProcedure),
+    },
     Case {
         before: &[],
         step: BEGIN,
@@ -279,5 +371,40 @@ fn each_step_may_find_no_memory(rt: HostRuntime) -> Result<(), Fail> {
         }
         assert!(rt; refused > 0 && refused < MOST - 1, "{at} {refused}");
     }
+    Ok(())
+}
+
+/// Beginnings of calls of which more than one refusal holds: replica, procedure, arguments, session and sequence number, and
+/// the refusal that is given.
+static BEGINNINGS: [(u32, u16, &[u8], u32, u32, StepRefusal); 5] = [
+    (3, 7, &ONE, 0, 0, StepRefusal::NoReplica),
+    (1, 7, &ONE, 0, 0, StepRefusal::NoProcedure),
+    (1, 1, &[], 0, 1, StepRefusal::ArgumentsLength),
+    (1, 1, &ADD_TEN, 0, 1, StepRefusal::ZeroInRequest),
+    (1, 1, &ADD_TEN, 1, 0, StepRefusal::ZeroInRequest),
+];
+
+#[test]
+fn the_lowest_refusal_is_given(rt: HostRuntime) -> Result<(), Fail> {
+    let scarce = Scarce::new(rt.alloc());
+    let mut world = two_replicas(rt.alloc(), &scarce)?;
+    for (replica, procedure, args, session, sequence, refusal) in &BEGINNINGS {
+        let told = world.step(Step::BeginNumbered {
+            replica: *replica,
+            procedure: *procedure,
+            args,
+            session: *session,
+            sequence: *sequence,
+        });
+        assert_eq!(rt; told, Outcome::Refused(*refusal));
+    }
+    // Neither its program nor its name would do.
+    let long = world.step(Step::Add {
+        name: b"a-b",
+        number: 7,
+        args_len: 257,
+        bytes: &NOTHING,
+    });
+    assert_eq!(rt; long, Outcome::Refused(StepRefusal::ArgumentsLimit));
     Ok(())
 }

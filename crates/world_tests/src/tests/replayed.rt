@@ -2,24 +2,20 @@
 
 ghost use Rattle.std.specs.Prelude.{◌<◌, ◌^◌, length};
 
-use super::drawn::{DrawnWorld, History, KINDS, new_world};
+use super::drawn::{DrawnWorld, History, KINDS, Ordered, new_world, program_of};
+use super::events::Events;
+use super::{PROCEDURE_COUNT, procedure_at};
 use dsm_replayer::{
-    CompletedReplay, ItemReport, PlainCall, PlainItem, PlainItemKind, Row, replay_log,
+    CompletedReplay, ItemReport, PlainCall, PlainItem, PlainItemKind, PlainSetting, Row, replay_log,
 };
 use dsm_world::World;
 use log_entry::Entry;
-use log_model::RequestId;
 use replica::Replica;
-use sample_procedures::setting_of;
+use sample_procedures::{TABLES, digit_of, procedure_of};
 use scarce::Scarce;
+use schema::Schema;
 use std::alloc::Global;
 use std::test::Fail;
-
-/// The request of a call that carries none.
-const NO_REQUEST: RequestId = RequestId {
-    session: 0,
-    sequence: 0,
-};
 
 /// How many worlds are drawn.
 const WORLDS: u64 = 320;
@@ -48,33 +44,66 @@ fn short(log: &[PlainItem]) -> &[PlainItem]
     if log.len() < 10_000 { log } else { &[] }
 }
 
-/// The calls that were ordered, as the plain replayer takes them.
+/// What was ordered, as the plain replayer takes it: an addition with the program that was asked for.
+fn item_of(
+    alloc: Global,
+    history: &History,
+    ordered: &Ordered,
+) -> Result<Option<PlainItemKind>, Fail> {
+    match ordered {
+        Ordered::Addition { name, number } => {
+            let (words, program) = program_of(*number);
+            let added = procedure_of(alloc, name.as_bytes(), *number, program, words)?;
+            Ok(Some(PlainItemKind::Addition(added)))
+        }
+        Ordered::Call(number) => {
+            let Some(call) = history.call(*number) else {
+                return Ok(None);
+            };
+            let args = Vec::from_slice(alloc, &call.args)?;
+            let (procedure, snapshot) = (call.procedure, call.snapshot);
+            let call = PlainCall::new(*number, procedure, args, snapshot, call.request);
+            Ok(Some(PlainItemKind::Call(call)))
+        }
+    }
+}
+
 fn log_of(alloc: Global, history: &History) -> Result<Vec<PlainItem>, Fail> {
     let mut log = Vec::new(alloc);
-    for number in &history.ordered {
-        let Some(call) = history.call(*number) else {
-            return Ok(log);
-        };
-        let args = Vec::from_slice(alloc, &call.args)?;
-        let call = PlainCall::new(*number, call.procedure, args, call.snapshot, NO_REQUEST);
-        log.push(PlainItem {
-            kind: PlainItemKind::Call(call),
-        })?;
+    for ordered in &history.ordered {
+        if let Some(kind) = item_of(alloc, history, ordered)? {
+            log.push(PlainItem { kind })?;
+        }
     }
     Ok(log)
 }
 
-/// Whether each ordered call answered the reply of its run in the replay, and stands with it in the world's log.
+/// Whether what stands at a position of the world's log is what was ordered, a call with the reply that it answered, which is
+/// that of its run in the replay.
+fn is_logged(
+    entry: Option<&Entry<&Scarce>>,
+    history: &History,
+    ordered: &Ordered,
+    report: &ItemReport,
+) -> bool {
+    match (entry, ordered) {
+        (Some(Entry::Call(call)), Ordered::Call(number)) => {
+            let reply = history.reply_of(*number);
+            call.call == *number && reply == Some(call.reply) && reply == Some(report.reply())
+        }
+        (Some(Entry::Addition(added)), Ordered::Addition { name, number }) => {
+            added.number == *number && added.name.as_slice() == name.as_bytes()
+        }
+        _ => false,
+    }
+}
+
+/// Whether all that was ordered stands in the world's log.
 fn has_replies(world: &World<&Scarce>, history: &History, reports: &[ItemReport]) -> bool {
     let mut position = 0u32;
-    for (number, report) in history.ordered.iter().zip(reports) {
+    for (ordered, report) in history.ordered.iter().zip(reports) {
         position = position.wrapping_add(1);
-        let reply = history.reply_of(*number);
-        let logged = match world.entry(position) {
-            Some(Entry::Call(call)) => Some(call.reply),
-            _ => None,
-        };
-        if reply != Some(report.reply()) || logged != reply {
+        if !is_logged(world.entry(position), history, ordered, report) {
             return false;
         }
     }
@@ -181,6 +210,19 @@ fn difference_of_answers(drawn: &DrawnWorld<'_>, replay: &CompletedReplay) -> Di
     }
 }
 
+/// The catalogue and the window as the plain replayer takes them.
+fn setting_of(alloc: Global, window: u32) -> Result<PlainSetting, Fail> {
+    let mut catalogue = Vec::new(alloc);
+    for place in 0..PROCEDURE_COUNT {
+        if let Some((number, program, words)) = procedure_at(place) {
+            let name = digit_of(*number);
+            catalogue.push(procedure_of(alloc, &name, *number, program, *words)?)?;
+        }
+    }
+    let schema = Schema::new(alloc, &TABLES)?;
+    Ok(PlainSetting::new(schema, catalogue, window))
+}
+
 /// The replay of a world's log.
 fn replay_of(alloc: Global, drawn: &DrawnWorld<'_>) -> Result<CompletedReplay, Fail> {
     let log = log_of(alloc, &drawn.history)?;
@@ -198,6 +240,9 @@ fn find_difference(alloc: Global, drawn: &mut DrawnWorld<'_>) -> Result<Differen
     if !have_rows(alloc, drawn.world.replicas(), &replay)? {
         return Ok(Difference::LastRows);
     }
+    let mut events = drawn.history.events;
+    events.count_all(&drawn.history, drawn.window, replay.reports());
+    drawn.history.events = events;
     Ok(difference_of_answers(drawn, &replay))
 }
 
@@ -208,11 +253,17 @@ fn run_and_compare(alloc: Global, drawn: &mut DrawnWorld<'_>) -> Result<Differen
 }
 
 /// Draws a world of a seed and compares it. Its outcomes are added by their kinds.
-fn compare(alloc: Global, seed: u64, kinds: &mut [u32; KINDS]) -> Result<Difference, Fail> {
+fn compare(
+    alloc: Global,
+    seed: u64,
+    kinds: &mut [u32; KINDS],
+    events: &mut Events,
+) -> Result<Difference, Fail> {
     let scarce = Scarce::new(alloc);
-    let mut drawn = new_world(alloc, &scarce, seed, *kinds)?;
+    let mut drawn = new_world(alloc, &scarce, seed, *kinds, *events)?;
     let found = run_and_compare(alloc, &mut drawn);
     *kinds = drawn.history.kinds;
+    *events = drawn.history.events;
     found
 }
 
@@ -220,12 +271,14 @@ fn compare(alloc: Global, seed: u64, kinds: &mut [u32; KINDS]) -> Result<Differe
 fn worlds_come_to_what_the_plain_replay_says(rt: HostRuntime) -> Result<(), Fail> {
     let alloc = rt.alloc();
     let mut kinds = [0; KINDS];
+    let mut events = Events::new();
     for seed in 0..WORLDS {
-        let found = compare(alloc, seed, &mut kinds)?;
+        let found = compare(alloc, seed, &mut kinds, &mut events)?;
         assert_eq!(rt; found, Difference::None, "seed {seed}");
     }
     let common = kinds.iter().filter(|count| **count > 100).count();
-    // All but a full log and too many calls, and the seven kinds that only additions and requests have.
-    assert_eq!(rt; common, KINDS - 9, "{kinds:?}");
+    // All but a full log and too many calls.
+    assert_eq!(rt; common, KINDS - 2, "{kinds:?}");
+    assert!(rt; events.all_above(50), "{events:?}");
     Ok(())
 }

@@ -34,13 +34,13 @@ loop-step-preserved g c =
     let n = c.loop-step.step-index in
     let item = slice_index_or c.args.steps.now n (Begin 0 0 (record { ref_ptr = (0, 0); now = [] })) in
     let taken = take_more c.args.steps.now n (Begin 0 0 (record { ref_ptr = (0, 0); now = [] })) c.loop-step-test.true in
-    let stepped = subst (λ (w : Setting). IsStep w (world_of c.loop-step.self) (step_of item) c.step-outcome.result (world_of c.step-outcome.new.self)) c.loop-step.invariant.same c.step-outcome.ensures.step in
+    let stepped = subst (λ (w : Setting). IsStep w (world_of c.loop-step.self) (step_of w item) c.step-outcome.result (world_of c.step-outcome.new.self)) c.loop-step.invariant.same c.step-outcome.ensures.step in
     record {
       done = one_more_step (setting_of s) (world_of s) c.args.steps.now n item c.loop-step.outcomes.items c.push_within.new.outcomes.items (world_of c.loop-step.self) c.step-outcome.result (world_of c.step-outcome.new.self)
           taken c.push_within.ensures.items c.loop-step.invariant.done stepped;
       given = one_more_given (setting_of s) c.args.steps.now n item c.loop-step.outcomes.items c.push_within.new.outcomes.items c.step-outcome.result taken c.push_within.ensures.items c.loop-step.invariant.answered c.loop-step.invariant.given
-          (subst (λ (w : Setting). IsGiven w (step_of item) c.step-outcome.result) c.loop-step.invariant.same c.step-outcome.ensures.given);
-      answered = one_more_answer c.args.steps.now n item c.loop-step.outcomes.items c.push_within.new.outcomes.items c.step-outcome.result taken c.push_within.ensures.items c.loop-step.invariant.answered;
+          (subst (λ (w : Setting). IsGiven w (step_of w item) c.step-outcome.result) c.loop-step.invariant.same c.step-outcome.ensures.given);
+      answered = one_more_answer (setting_of s) c.args.steps.now n item c.loop-step.outcomes.items c.push_within.new.outcomes.items c.step-outcome.result taken c.push_within.ensures.items c.loop-step.invariant.answered;
       same = c.step-outcome.ensures.setting ∙ c.loop-step.invariant.same;
       count = (let len = c.push_within.ensures.len in let count = c.loop-step.invariant.count in omega arith);
       room = (let grown = c.push_within.ensures.capacity in let room = c.loop-step.invariant.room in omega arith);
@@ -55,8 +55,8 @@ returns-clause-replies g c n i j position reply =
     let s = c.args.self.now in
     let t = c.loop-step.self in
     let all = take_all c.args.steps.now c.loop-step.step-index c.loop-step-test.false in
-    let done = subst (λ (xs : List Step). AreSteps (setting_of s) (world_of s) (map step_of xs) c.loop-step.outcomes.items (world_of t)) all c.loop-step.invariant.done in
-    let given = subst (λ (xs : List Step). AreGiven (setting_of s) (map step_of xs) c.loop-step.outcomes.items) all c.loop-step.invariant.given in
-    subst (λ (w : Setting). slice_get (map step_of c.args.steps.now) i ≡ Some (TurnStep n) → slice_get c.loop-step.outcomes.items i ≡ Some (Exit reply) → slice_get (map step_of c.args.steps.now) j ≡ Some (OrderStep n) → slice_get c.loop-step.outcomes.items j ≡ Some (Ordered position) → i < j
+    let done = subst (λ (xs : List Step). AreSteps (setting_of s) (world_of s) (map (step_of (setting_of s)) xs) c.loop-step.outcomes.items (world_of t)) all c.loop-step.invariant.done in
+    let given = subst (λ (xs : List Step). AreGiven (setting_of s) (map (step_of (setting_of s)) xs) c.loop-step.outcomes.items) all c.loop-step.invariant.given in
+    subst (λ (w : Setting). slice_get (map (step_of (setting_of s)) c.args.steps.now) i ≡ Some (TurnStep n) → slice_get c.loop-step.outcomes.items i ≡ Some (Exit reply) → slice_get (map (step_of (setting_of s)) c.args.steps.now) j ≡ Some (OrderStep n) → slice_get c.loop-step.outcomes.items j ≡ Some (Ordered position) → i < j
     → verdict_of w (world_of t).log position ≡ Some Commit → IsSerialReply w (world_of t).log position reply) (sym c.loop-step.invariant.same)
-    (c.replies_are_serial.ensures (setting_of s) (world_of s) (map step_of c.args.steps.now) c.loop-step.outcomes.items (world_of t) n i j position reply c.keeps_what_was_delivered.ensures.procedures given c.keeps_what_was_delivered.ensures.world done)
+    (c.replies_are_serial.ensures (setting_of s) (world_of s) (map (step_of (setting_of s)) c.args.steps.now) c.loop-step.outcomes.items (world_of t) n i j position reply c.keeps_what_was_delivered.ensures.procedures given c.keeps_what_was_delivered.ensures.world done)

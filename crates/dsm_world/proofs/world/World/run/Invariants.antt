@@ -6,9 +6,9 @@ use Rattle.dsm_world.proofs.world.World.run.Given as goal
 
 abbrev pub invariant-loop-step : goal.invariant-loop-step
 invariant-loop-step g l = record {
-  done : AreSteps (setting_of l.fn.self) (world_of l.fn.self) (map step_of (take l.step-index l.steps)) l.outcomes.items (world_of l.self);
-  given : AreGiven (setting_of l.fn.self) (map step_of (take l.step-index l.steps)) l.outcomes.items;
-  answered : length (map step_of (take l.step-index l.steps)) ≡ length l.outcomes.items;
+  done : AreSteps (setting_of l.fn.self) (world_of l.fn.self) (map (step_of (setting_of l.fn.self)) (take l.step-index l.steps)) l.outcomes.items (world_of l.self);
+  given : AreGiven (setting_of l.fn.self) (map (step_of (setting_of l.fn.self)) (take l.step-index l.steps)) l.outcomes.items;
+  answered : length (map (step_of (setting_of l.fn.self)) (take l.step-index l.steps)) ≡ length l.outcomes.items;
   same : setting_of l.self ≡ setting_of l.fn.self;
   count : vec_len l.outcomes ≡ l.step-index;
   room : length l.steps ≤ vec_capacity l.outcomes;

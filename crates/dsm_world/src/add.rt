@@ -1,0 +1,148 @@
+//! A procedure is added.
+
+ghost use Rattle.std.specs.Prelude.{◌≡◌, ◌⊎◌, ◌≤◌, ◌++◌, [], ◌∷◌, IfOk, IfErr, OnOk, OnErr};
+ghost use Rattle.bpf_code.specs.Program.{IsProgram};
+ghost use Rattle.bpf_verify.specs.Flow.{IsAccepted};
+ghost use Rattle.dsm_model.specs.declared.outcome.ProgramFault.{ProgramFault};
+ghost use Rattle.dsm_model.specs.declared.outcome.StepRefusal.TheVariants.{OutOfMemory, ProgramRefused};
+ghost use Rattle.dsm_model.specs.Sound.{IsGiven};
+ghost use Rattle.dsm_model.specs.World.{Add, Passed, Failed, IsStep};
+ghost use Rattle.log_entry.specs.declared.entry.Entry.TheVariants.{Addition};
+ghost use Rattle.program_checks.specs.Check.{check_of};
+ghost use Rattle.dsm_world.specs.System.{setting_of, world_of};
+ghost use Rattle.dsm_world.specs.Holdings.{system_of, AreConsistentHoldings};
+ghost use Rattle.dsm_world.specs.Turned.{IsRefusedFor};
+
+use crate::begin::MAX_CALLS;
+use crate::holdings::Holdings;
+use accepted_calls::accepted_procedures_are_safe;
+use bpf_code::{Code, DecodeCause, decode};
+use bpf_verify::{Accepted, Refusal, verify};
+use catalogue::each_catalogue_is_consistent;
+use dsm_model::{Outcome, ProgramFault, StepRefusal, steps_keep_a_world};
+use log_entry::{AddedProcedure, Entry};
+use log_model::{a_log_only_grows, one_more_entry_carries_its_run};
+use program_checks::programs_pass_where_they_are_accepted;
+use row_values::Bytes;
+use schema::Schema;
+use std::alloc::{AllocError, Allocator};
+use std::sync::Arc;
+use stored_procedures::is_name;
+
+/// The most bytes that the arguments of a procedure have.
+const MAX_ARGS: u16 = 256;
+
+/// Appends a procedure to the log, where its program is accepted for the tables.
+pub(crate) fn add<A: Allocator + Copy>(
+    world: &mut Holdings<A>,
+    name: &[u8],
+    number: u16,
+    args_len: u16,
+    bytes: &[u8],
+) -> Outcome
+    requires { AreConsistentHoldings world.old }
+    ensures step { IsStep (setting_of (system_of world.old)) (world_of (system_of world.old))
+        (Add name.now number args_len (check_of world.old.catalogue.tables args_len bytes.now))
+        result (world_of (system_of world.new)) }
+    ensures setting { setting_of (system_of world.new) ≡ setting_of (system_of world.old) }
+    ensures consistent { AreConsistentHoldings world.new }
+    ensures given { IsGiven (setting_of (system_of world.old))
+        (Add name.now number args_len (check_of world.old.catalogue.tables args_len bytes.now)) result }
+{
+    a_log_only_grows();
+    accepted_procedures_are_safe();
+    each_catalogue_is_consistent(&world.catalogue);
+    one_more_entry_carries_its_run();
+    steps_keep_a_world();
+    if world.calls.len() + world.additions as usize >= MAX_CALLS {
+        return Outcome::Refused(StepRefusal::TooManyCalls);
+    }
+    if args_len > MAX_ARGS {
+        return Outcome::Refused(StepRefusal::ArgumentsLimit);
+    }
+    let alloc = world.alloc;
+    let accepted = match checked(alloc, bytes, world.catalogue.schema(), args_len) {
+        Ok(accepted) => accepted,
+        Err(refusal) => return Outcome::Refused(refusal),
+    };
+    if !is_name(name) {
+        return Outcome::Refused(StepRefusal::NameShape);
+    }
+    let position = world.entries.len() as u32 + 1;
+    match append(&mut world.entries, alloc, name, number, accepted) {
+        Ok(()) => {
+            world.additions += 1;
+            Outcome::Added { position }
+        }
+        Err(_) => Outcome::Refused(StepRefusal::OutOfMemory),
+    }
+}
+
+/// The program of some bytes, where the verifier accepts it for these tables and arguments of so many bytes.
+fn checked<A: Allocator + Copy>(
+    alloc: A,
+    bytes: &[u8],
+    schema: &Schema<A>,
+    args_len: u16,
+) -> Result<Accepted<A, A>, StepRefusal>
+    requires { args_len ≤ 256 }
+    ensures given { IfOk result (λ accepted. (accepted.tables ≡ schema.now) × (accepted.args_len ≡ args_len)) }
+    ensures passed { IfOk result (λ accepted. check_of schema.now args_len bytes.now ≡ Passed accepted.program) }
+    ensures accepted { IfOk result (λ accepted. IsProgram accepted.program × IsAccepted accepted) }
+    ensures refused { IfErr result (λ refusal. (refusal ≡ OutOfMemory)
+        ⊎ ((fault : ProgramFault) × (refusal ≡ ProgramRefused fault) × (check_of schema.now args_len bytes.now ≡ Failed fault))) }
+{
+    programs_pass_where_they_are_accepted();
+    match decode(alloc, bytes) {
+        Ok(code) => verified(alloc, code, schema, args_len),
+        Err(fault) => match fault.cause {
+            DecodeCause::OutOfMemory => Err(StepRefusal::OutOfMemory),
+            _ => Err(StepRefusal::ProgramRefused(ProgramFault::Bytes(fault))),
+        },
+    }
+}
+
+/// A program, where the verifier accepts it.
+fn verified<A: Allocator + Copy>(
+    alloc: A,
+    code: Code<A>,
+    schema: &Schema<A>,
+    args_len: u16,
+) -> Result<Accepted<A, A>, StepRefusal>
+    requires { args_len ≤ 256 }
+    ensures given { IfOk result (λ accepted. accepted ≡ record { program = code; tables = schema.now; args_len = args_len }) }
+    ensures accepted { IfOk result IsAccepted }
+    ensures refused { IfErr result (λ refusal. (refusal ≡ OutOfMemory)
+        ⊎ ((fault : ProgramFault) × (refusal ≡ ProgramRefused fault)
+        × IsRefusedFor (record { program = code; tables = schema.now; args_len = args_len }) fault)) }
+{
+    match verify(alloc, code, schema, args_len) {
+        Ok(accepted) => Ok(accepted),
+        Err(Refusal::OutOfMemory) => Err(StepRefusal::OutOfMemory),
+        Err(Refusal::At { slot, cause }) => Err(StepRefusal::ProgramRefused(
+            ProgramFault::Instruction { slot, cause },
+        )),
+    }
+}
+
+/// Puts an accepted program behind the other entries.
+fn append<A: Allocator + Copy>(
+    entries: &mut Vec<Entry<A>, A>,
+    alloc: A,
+    name: &[u8],
+    number: u16,
+    accepted: Accepted<A, A>,
+) -> Result<(), AllocError>
+    ensures appended { OnOk result (entries.new.items
+        ≡ entries.old.items ++ Addition (record { name = name.now; number = number; accepted = accepted }) ∷ []) }
+    ensures unchanged { OnErr result (entries.new.items ≡ entries.old.items) }
+{
+    let name = Bytes::new(Vec::from_slice(alloc, name)?);
+    let accepted = Arc::new(alloc, accepted)?;
+    entries.push(Entry::Addition(AddedProcedure {
+        name,
+        number,
+        accepted,
+    }))?;
+    Ok(())
+}
