@@ -14,6 +14,12 @@ begin with #, are skipped. Settings, which print nothing:
 Lines that act, each with what it prints:
   begin R NAME HEX         a call begins at replica R, with these arguments
     call C replica R snapshot S     its number; it reads the rows at position S
+  begin R NAME HEX SESSION SEQ
+                           the same with a request, which commits once at most:
+                           the numbers of its caller and of what is asked for
+  add NAME NUMBER ARGSLEN HEX
+                           a procedure is appended to the log; fields as in proc
+    add number D                    its position in the log
   turn C N                 the call runs at most N instructions
     call C more                     there is more to run
     call C exit V                   it is at its end, with reply V
@@ -29,11 +35,15 @@ Lines that act, each with what it prints:
                                     its writes are done
     replica R number D conflict E   entry E wrote what it had looked at
     replica R number D stale        its snapshot is too far behind
+    replica R number D repeat E reply V
+                                    entry E has done its request, and replied V
+    replica R number D added N      from here on there is procedure N
+    replica R number D taken C1     a procedure has its name, or (C2) number
   rows R                   each row of replica R: table, key, bytes; and then
     replica R position P rows N     how far it has come, and how many rows
-  log                      each entry: number, procedure, snapshot, writes,
-                           comparisons, verdict, or - open where no replica
-                           has delivered it yet; and then
+  log                      each entry: number, procedure, snapshot (- of an
+                           addition), writes, comparisons, verdict, or - open
+                           where no replica has delivered it yet; and then
     log N                           how many there are
   entry D                  the bytes of an entry of the log
     entry D HEX, entry D none
@@ -42,11 +52,14 @@ Lines that act, each with what it prints:
 
 HEX is an even number of digits, at least two, or - for no bytes. Window and
 replicas are set once each before the first line that acts, which ends the
-settings; tables stand before procedures.
-A step that is refused prints begin refused P2, call 1 refused P5 or
-replica 1 refused P6 (rows of no replica: P1), and the script goes on; deliver
-ends there, also after entries. A line at fault ends the script, as
-line 4: L7 V5 slot 6 on standard error. docs/REFUSALS.md explains the numbers.
+settings; tables stand before procedures. A NAME of begin is that of a proc, or
+of a procedure that was added up to the replica's position. SESSION and SEQ are
+at least 1.
+A step that is refused prints begin refused P2, add refused P11 V1 slot 0,
+call 1 refused P5 or replica 1 refused P6 (rows of no replica: P1), and the
+script goes on; deliver ends there, also after entries. A line at fault ends the
+script, as line 4: L7 V5 slot 6 on standard error. docs/REFUSALS.md explains the
+numbers.
 
 Exit status: 0 done, 1 a line at fault, 2 a command line that can't be read,
 3 a file, a stream or memory.";

@@ -4,7 +4,8 @@ ghost use Rattle.std.specs.Prelude.{◌≡◌, [], codes, Some, IfOk, map};
 ghost use Rattle.std.specs.Option.{unwrap_or};
 ghost use Rattle.clap.specs.Words.{all_of, app_of, found_of, rows_of, rule_of, subcommand_of, subcommand_rows_of};
 ghost use Rattle.engines.specs.Number.{table_word};
-ghost use Rattle.command_line.specs.Plan.{args_rule, check_line, command_line, explain_line, file_rule, list_line, number_rule, replay_line, script_rule, table_rule};
+ghost use Rattle.command_line.specs.Plan.{args_rule, check_line, command_line, explain_line, file_rule, list_line};
+ghost use Rattle.command_line.specs.Plan.{number_rule, replay_line, script_rule, table_rule};
 ghost use Rattle.command_line.specs.Plan.{IsPlanOf, IsListOf, IsCheckOf, IsReplayOf, IsExplainOf, HasLength};
 
 use crate::help::SCRIPT_HELP;

@@ -5,7 +5,8 @@ use Rattle.std.specs.Str.{bytes_eq}
 use Rattle.script.specs.declared.fault.LineFault.{LineFault}
 use Rattle.script.specs.declared.fault.LineFault.TheVariants as fault
 use Rattle.script.specs.declared.commands.Command.{Command}
-use Rattle.script.specs.declared.commands.Command.TheVariants.{Window, Replicas, Table, Procedure, Begin, Turn, Exec, Order, Deliver, Rows, Log, Entry, Rebuild}
+use Rattle.script.specs.declared.commands.Command.TheVariants.{Window, Replicas, Table, Procedure, Begin, BeginNumbered, Add, Turn, Exec}
+use Rattle.script.specs.declared.commands.Command.TheVariants.{Order, Deliver, Rows, Log, Entry, Rebuild}
 use Rattle.script.specs.declared.word.Word.{Word}
 use Rattle.script.specs.declared.word.Word.TheVariants as word
 use Rattle.script.specs.Text.{is_readable, is_skipped, fields_of, number_of, u8_of, u16_of, u32_of, count_of, bytes_of_hex}
@@ -27,6 +28,7 @@ setting_word_of text =
 abbrev pub step_word_of : List ℕ → Option Word
 step_word_of text =
     if bytes_eq text (codes "begin") then Some word.Begin
+    else if bytes_eq text (codes "add") then Some word.Add
     else if bytes_eq text (codes "turn") then Some word.Turn
     else if bytes_eq text (codes "exec") then Some word.Exec
     else if bytes_eq text (codes "order") then Some word.Order
@@ -58,14 +60,27 @@ abbrev pub three : {X Y Z : Type 0} → (X → Y → Z → ScriptCommand) → Op
 three make (Some x) (Some y) (Some z) = Ok (make x y z)
 three make _ _ _ = Err fault.Field
 
+abbrev pub four : {X Y Z V : Type 0} → (X → Y → Z → V → ScriptCommand)
+    → Option X → Option Y → Option Z → Option V → Result ScriptCommand LineFault
+four make (Some x) (Some y) (Some z) (Some v) = Ok (make x y z v)
+four make _ _ _ _ = Err fault.Field
+
+-- a command by the fields of a procedure
+abbrev pub of_procedure : (List ℕ → ℕ → ℕ → List ℕ → ScriptCommand) → List (List ℕ) → Result ScriptCommand LineFault
+of_procedure make (name ∷ number ∷ args_len ∷ program ∷ []) =
+    three (make name) (u16_of number) (number_of 0 256 args_len) (bytes_of_hex program)
+of_procedure make _ = Err fault.FieldCount
+
 -- what a word says of the fields behind it
 unfoldable pub said : Word → List (List ℕ) → Result ScriptCommand LineFault
 said word.Window (n ∷ []) = one Window (number_of 1 4096 n)
 said word.Replicas (n ∷ []) = one Replicas (number_of 1 8 n)
 said word.Table (table ∷ width ∷ []) = two Table (u8_of table) (u16_of width)
-said word.Proc (name ∷ number ∷ args_len ∷ program ∷ []) =
-    three (Procedure name) (u16_of number) (number_of 0 256 args_len) (bytes_of_hex program)
+said word.Proc fields = of_procedure Procedure fields
 said word.Begin (replica ∷ name ∷ args ∷ []) = two (λ r bytes. Begin r name bytes) (u32_of replica) (bytes_of_hex args)
+said word.Begin (replica ∷ name ∷ args ∷ session ∷ sequence ∷ []) =
+    four (λ r bytes. BeginNumbered r name bytes) (u32_of replica) (bytes_of_hex args) (count_of session) (count_of sequence)
+said word.Add fields = of_procedure Add fields
 said word.Turn (call ∷ most ∷ []) = two Turn (u32_of call) (count_of most)
 said word.Exec (call ∷ []) = one Exec (u32_of call)
 said word.Order (call ∷ []) = one Order (u32_of call)
@@ -100,6 +115,8 @@ abbrev pub IsWithinLimits : ScriptCommand → Type 0
 IsWithinLimits (Window window) = (1 ≤ window) × (window ≤ 4096)
 IsWithinLimits (Replicas replicas) = (1 ≤ replicas) × (replicas ≤ 8)
 IsWithinLimits (Procedure name number args_len program) = args_len ≤ 256
+IsWithinLimits (BeginNumbered replica name args session sequence) = (1 ≤ session) × (1 ≤ sequence)
+IsWithinLimits (Add name number args_len program) = args_len ≤ 256
 IsWithinLimits (Turn call most) = 1 ≤ most
 IsWithinLimits (Deliver replica most) = 1 ≤ most
 IsWithinLimits _ = Unit {0}

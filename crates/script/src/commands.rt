@@ -24,6 +24,22 @@ pub enum Command<B> {
         name: B,
         args: B,
     },
+    /// A call that carries a request, whose session and sequence number are at least 1.
+    BeginNumbered {
+        replica: u32,
+        name: B,
+        args: B,
+        session: u32,
+        sequence: u32,
+    },
+    /// A procedure for the log.
+    Add {
+        name: B,
+        number: u16,
+        /// 0 to 256.
+        args_len: u16,
+        program: B,
+    },
     /// At most so many instructions of a call, at least one.
     Turn {
         call: u32,

@@ -1,8 +1,8 @@
 //! Reading what a line says.
 
-ghost use Rattle.std.specs.Prelude.{◌≡◌, ◌⊎◌, ◌==◌, ◌||◌, length, slice_index, map, Ok, Err, IfOk, IfErr, IfSome};
+ghost use Rattle.std.specs.Prelude.{◌≡◌, ◌≤◌, ◌⊎◌, ◌==◌, ◌||◌, ℕ, List, [], ◌∷◌, length, slice_index, map, Ok, Err, IfOk, IfErr, IfSome};
 ghost use Rattle.script.specs.Text.{is_skipped};
-ghost use Rattle.script.specs.Script.{command_of, said, line_says, IsWithinLimits};
+ghost use Rattle.script.specs.Script.{ScriptCommand, of_procedure, command_of, said, line_says, IsWithinLimits};
 ghost use Rattle.script.specs.declared.fault.LineFault.TheVariants.{OutOfMemory};
 ghost use Rattle.script.specs.declared.word.Word.TheVariants as word;
 
@@ -78,6 +78,7 @@ fn said<A: Allocator + Copy>(
         Word::Table => table(fields),
         Word::Proc => procedure(alloc, fields),
         Word::Begin => begin(alloc, fields),
+        Word::Add => add(alloc, fields),
         Word::Turn => turn(fields),
         Word::Exec => exec(fields),
         Word::Order => order(fields),
@@ -247,9 +248,27 @@ fn begin<A: Allocator + Copy>(alloc: A, fields: &[&str]) -> Result<Command<Bytes
     ensures fault { IfErr result (λ fault. (fault ≡ OutOfMemory) ⊎ (said word.Begin (map (λ field. field.now) fields.now) ≡ Err fault)) }
     ensures limits { IfOk result IsWithinLimits }
 {
-    let [replica, name, args] = fields else {
-        return Err(LineFault::FieldCount);
-    };
+    match fields {
+        [replica, name, args] => begin_plain(alloc, replica, name, args),
+        [replica, name, args, session, sequence] => {
+            begin_numbered(alloc, replica, name, args, session, sequence)
+        }
+        _ => Err(LineFault::FieldCount),
+    }
+}
+
+#[tactic(auto, unfolding(crate::specs::Script::said))]
+fn begin_plain<A: Allocator + Copy>(
+    alloc: A,
+    replica: &str,
+    name: &str,
+    args: &str,
+) -> Result<Command<Bytes<A>>, LineFault>
+    ensures exact { IfOk result (λ command. said word.Begin (replica.now ∷ name.now ∷ args.now ∷ []) ≡ Ok command) }
+    ensures fault { IfErr result (λ fault. (fault ≡ OutOfMemory)
+        ⊎ (said word.Begin (replica.now ∷ name.now ∷ args.now ∷ []) ≡ Err fault)) }
+    ensures limits { IfOk result IsWithinLimits }
+{
     let Some(replica) = read_u32(replica) else {
         return Err(LineFault::Field);
     };
@@ -263,10 +282,88 @@ fn begin<A: Allocator + Copy>(alloc: A, fields: &[&str]) -> Result<Command<Bytes
 }
 
 #[tactic(auto, unfolding(crate::specs::Script::said))]
+fn begin_numbered<A: Allocator + Copy>(
+    alloc: A,
+    replica: &str,
+    name: &str,
+    args: &str,
+    session: &str,
+    sequence: &str,
+) -> Result<Command<Bytes<A>>, LineFault>
+    ensures exact { IfOk result (λ command.
+        said word.Begin (replica.now ∷ name.now ∷ args.now ∷ session.now ∷ sequence.now ∷ []) ≡ Ok command) }
+    ensures fault { IfErr result (λ fault. (fault ≡ OutOfMemory)
+        ⊎ (said word.Begin (replica.now ∷ name.now ∷ args.now ∷ session.now ∷ sequence.now ∷ []) ≡ Err fault)) }
+    ensures limits { IfOk result IsWithinLimits }
+{
+    let (Some(replica), Some(session), Some(sequence)) = (
+        read_u32(replica),
+        read_count(session),
+        read_count(sequence),
+    ) else {
+        return Err(LineFault::Field);
+    };
+    let args = read_hex(alloc, args)?;
+    let name = owned(alloc, name)?;
+    Ok(Command::BeginNumbered {
+        replica,
+        name,
+        args,
+        session,
+        sequence,
+    })
+}
+
+#[tactic(auto, unfolding(crate::specs::Script::said))]
 fn procedure<A: Allocator + Copy>(alloc: A, fields: &[&str]) -> Result<Command<Bytes<A>>, LineFault>
     ensures exact { IfOk result (λ command. said word.Proc (map (λ field. field.now) fields.now) ≡ Ok command) }
     ensures fault { IfErr result (λ fault. (fault ≡ OutOfMemory) ⊎ (said word.Proc (map (λ field. field.now) fields.now) ≡ Err fault)) }
     ensures limits { IfOk result IsWithinLimits }
+{
+    let fields = procedure_fields(alloc, fields)?;
+    Ok(Command::Procedure {
+        name: fields.name,
+        number: fields.number,
+        args_len: fields.args_len,
+        program: fields.program,
+    })
+}
+
+#[tactic(auto, unfolding(crate::specs::Script::said))]
+fn add<A: Allocator + Copy>(alloc: A, fields: &[&str]) -> Result<Command<Bytes<A>>, LineFault>
+    ensures exact { IfOk result (λ command. said word.Add (map (λ field. field.now) fields.now) ≡ Ok command) }
+    ensures fault { IfErr result (λ fault. (fault ≡ OutOfMemory) ⊎ (said word.Add (map (λ field. field.now) fields.now) ≡ Err fault)) }
+    ensures limits { IfOk result IsWithinLimits }
+{
+    let fields = procedure_fields(alloc, fields)?;
+    Ok(Command::Add {
+        name: fields.name,
+        number: fields.number,
+        args_len: fields.args_len,
+        program: fields.program,
+    })
+}
+
+/// The fields of a line that gives a procedure.
+#[derive(Drop)]
+struct ProcedureFields<B> {
+    name: B,
+    number: u16,
+    /// 0 to 256.
+    args_len: u16,
+    program: B,
+}
+
+fn procedure_fields<A: Allocator + Copy>(
+    alloc: A,
+    fields: &[&str],
+) -> Result<ProcedureFields<Bytes<A>>, LineFault>
+    ensures exact { IfOk result (λ procedure. (make : List ℕ → ℕ → ℕ → List ℕ → ScriptCommand)
+        → of_procedure make (map (λ field. field.now) fields.now)
+        ≡ Ok (make procedure.name procedure.number procedure.args_len procedure.program)) }
+    ensures fault { IfErr result (λ fault. (fault ≡ OutOfMemory)
+        ⊎ ((make : List ℕ → ℕ → ℕ → List ℕ → ScriptCommand) → of_procedure make (map (λ field. field.now) fields.now) ≡ Err fault)) }
+    ensures limits { IfOk result (λ procedure. procedure.args_len ≤ 256) }
 {
     let [name, number, args_len, program] = fields else {
         return Err(LineFault::FieldCount);
@@ -276,7 +373,7 @@ fn procedure<A: Allocator + Copy>(alloc: A, fields: &[&str]) -> Result<Command<B
     };
     let program = read_hex(alloc, program)?;
     let name = owned(alloc, name)?;
-    Ok(Command::Procedure {
+    Ok(ProcedureFields {
         name,
         number,
         args_len: args_len as u16,

@@ -11,6 +11,7 @@ pub(crate) enum Word {
     Table,
     Proc,
     Begin,
+    Add,
     Turn,
     Exec,
     Order,
@@ -48,6 +49,8 @@ fn step_word(text: &str) -> Option<Word>
 {
     Some(if text == "begin" {
         Word::Begin
+    } else if text == "add" {
+        Word::Add
     } else if text == "turn" {
         Word::Turn
     } else if text == "exec" {

@@ -6,11 +6,13 @@ use Rattle.byte_output.specs.declared.paged.PagedOutput.{PagedOutput}
 use Rattle.dsm_model.specs.declared.outcome.Outcome.{Outcome}
 use Rattle.dsm_model.specs.declared.outcome.Outcome.TheVariants.{Refused}
 use Rattle.dsm_model.specs.declared.outcome.StepRefusal.TheVariants.{NoReplica, NoProcedure}
+use Rattle.log_model.specs.declared.request.RequestId.{RequestId}
+use Rattle.dsm_world.specs.System.{check_of}
 use Rattle.log_model.specs.Log.{Setting, by_number, by_name, procedures_after}
-use Rattle.dsm_model.specs.World.{World, Replica, Begin, Turn, Order, Deliver, Rebuild, IsStep, after_begin, after_step, numbered, position_of}
+use Rattle.dsm_model.specs.World.{World, Replica, Begin, Turn, Order, Deliver, Rebuild, Add, IsStep, after_begin, after_step, numbered, position_of}
 use Rattle.script.specs.declared.commands.Command.TheVariants as command
 use Rattle.script_actions.specs.Printed.{step_text, rows_text, log_text, entry_text}
-use Rattle.script_actions.specs.Actions.{Repeats, Begins, Does, is_more, is_delivery, longest_run, number_of_name}
+use Rattle.script_actions.specs.Actions.{Repeats, Begins, Does, begin_command, is_more, is_delivery, longest_run, number_of_name}
 use Rattle.script_actions.specs.Doing.{Gives, HasDone}
 use Rattle.script_actions.proofs.GivenLemmas.{gives_done}
 use Rattle.script_actions.proofs.RepeatLemmas.{AllRan}
@@ -23,22 +25,28 @@ pub rebuilds : (w : Setting) (before : World) (r : ℕ) (outcome : Outcome) (aft
 unfolding Does
 rebuilds w before r outcome after is = (outcome, is, refl)
 
-pub begins : (w : Setting) (before : World) (r : ℕ) (name args : List ℕ) (procedure : ℕ) (outcome : Outcome) (after : World) → number_of_name w before r name ≡ Some procedure → IsStep w before (Begin r procedure args None) outcome after
-    → Does w before (command.Begin r name args) (step_text w after.log (Begin r procedure args None) outcome) after
+-- a line that begins a call with a request, or without one, is done by cases of that
+does_begin : (w : Setting) (before : World) (r : ℕ) (name args : List ℕ) (request : Option RequestId) (text : List ℕ) (after : World) → Begins w before r args request (number_of_name w before r name) text after
+    → Does w before (begin_command r name args request) text after
 unfolding Does
-begins w before r name args procedure outcome after named is = subst (λ (o : Option ℕ). Begins w before r args o (step_text w after.log (Begin r procedure args None) outcome) after) (sym named) (outcome, is, refl)
+does_begin w before r name args None text after begins = begins
+does_begin w before r name args (Some request) text after begins = begins
 
-pub begins_unnamed : (w : Setting) (before : World) (r : ℕ) (name args : List ℕ) (kept : Replica) → number_of_name w before r name ≡ None → numbered before.replicas r ≡ Some kept
-    → Does w before (command.Begin r name args) (step_text w before.log (Begin r 0 args None) (Refused NoProcedure)) before
-unfolding Does
-begins_unnamed w before r name args kept named there =
-    subst (λ (o : Option ℕ). Begins w before r args o (step_text w before.log (Begin r 0 args None) (Refused NoProcedure)) before) (sym named)
-    (ap (λ (k : Option Replica). step_text w before.log (Begin r 0 args None) (after_begin before r 0 args None k None).0) (sym there), refl)
+pub begins : (w : Setting) (before : World) (r : ℕ) (name args : List ℕ) (request : Option RequestId) (procedure : ℕ) (outcome : Outcome) (after : World) → number_of_name w before r name ≡ Some procedure → IsStep w before (Begin r procedure args request) outcome after
+    → Does w before (begin_command r name args request) (step_text w after.log (Begin r procedure args request) outcome) after
+begins w before r name args request procedure outcome after named is = does_begin w before r name args request _ after
+    (subst (λ (o : Option ℕ). Begins w before r args request o (step_text w after.log (Begin r procedure args request) outcome) after) (sym named) (outcome, is, refl))
 
-nowhere : (w : Setting) (before : World) (r procedure : ℕ) (args : List ℕ) → numbered before.replicas r ≡ None → after_step w before (Begin r procedure args None) ≡ (Refused NoReplica, before)
+pub begins_unnamed : (w : Setting) (before : World) (r : ℕ) (name args : List ℕ) (request : Option RequestId) (kept : Replica) → number_of_name w before r name ≡ None → numbered before.replicas r ≡ Some kept
+    → Does w before (begin_command r name args request) (step_text w before.log (Begin r 0 args request) (Refused NoProcedure)) before
+begins_unnamed w before r name args request kept named there = does_begin w before r name args request _ before
+    (subst (λ (o : Option ℕ). Begins w before r args request o (step_text w before.log (Begin r 0 args request) (Refused NoProcedure)) before) (sym named)
+    (ap (λ (k : Option Replica). step_text w before.log (Begin r 0 args request) (after_begin before r 0 args request k None).0) (sym there), refl))
+
+nowhere : (w : Setting) (before : World) (r procedure : ℕ) (args : List ℕ) (request : Option RequestId) → numbered before.replicas r ≡ None → after_step w before (Begin r procedure args request) ≡ (Refused NoReplica, before)
 unfolding after_step
-nowhere w before r procedure args none =
-    ap (λ (k : Option Replica). after_begin before r procedure args None k (by_number (procedures_after w before.log (position_of k)) procedure)) none
+nowhere w before r procedure args request none =
+    ap (λ (k : Option Replica). after_begin before r procedure args request k (by_number (procedures_after w before.log (position_of k)) procedure)) none
 
 -- the procedure of a name at a replica that there is
 pub named_at : (w : Setting) (world : World) (r : ℕ) (name : List ℕ) (kept : Replica) (o : Option ℕ) → numbered world.replicas r ≡ Some kept
@@ -46,14 +54,18 @@ pub named_at : (w : Setting) (world : World) (r : ℕ) (name : List ℕ) (kept :
 named_at w world r name kept o there is =
     ap (λ (k : Option Replica). option_map (λ p. p.number) (by_name (procedures_after w world.log (position_of k)) name)) there ∙ sym is
 
-pub begins_nowhere : (w : Setting) (before : World) (r : ℕ) (name args : List ℕ) → numbered before.replicas r ≡ None
-    → Does w before (command.Begin r name args) (step_text w before.log (Begin r 0 args None) (Refused NoReplica)) before
-unfolding Does
-begins_nowhere w before r name args none = go (number_of_name w before r name)
+pub begins_nowhere : (w : Setting) (before : World) (r : ℕ) (name args : List ℕ) (request : Option RequestId) → numbered before.replicas r ≡ None
+    → Does w before (begin_command r name args request) (step_text w before.log (Begin r 0 args request) (Refused NoReplica)) before
+begins_nowhere w before r name args request none = does_begin w before r name args request _ before (go (number_of_name w before r name))
   where
-    go : (o : Option ℕ) → Begins w before r args o (step_text w before.log (Begin r 0 args None) (Refused NoReplica)) before
-    go None = (ap (λ (k : Option Replica). step_text w before.log (Begin r 0 args None) (after_begin before r 0 args None k None).0) (sym none), refl)
-    go (Some p) = (Refused NoReplica, inl (nowhere w before r p args none), refl)
+    go : (o : Option ℕ) → Begins w before r args request o (step_text w before.log (Begin r 0 args request) (Refused NoReplica)) before
+    go None = (ap (λ (k : Option Replica). step_text w before.log (Begin r 0 args request) (after_begin before r 0 args request k None).0) (sym none), refl)
+    go (Some p) = (Refused NoReplica, inl (nowhere w before r p args request none), refl)
+
+pub adds : (w : Setting) (before : World) (name : List ℕ) (number args_len : ℕ) (program : List ℕ) (outcome : Outcome) (after : World) → IsStep w before (Add name number args_len (check_of w.tables args_len program)) outcome after
+    → Does w before (command.Add name number args_len program) (step_text w after.log (Add name number args_len (check_of w.tables args_len program)) outcome) after
+unfolding Does
+adds w before name number args_len program outcome after is = (outcome, is, refl)
 
 pub delivers : (w : Setting) (before : World) (r most : ℕ) (lines : List (List ℕ)) (after : World) → Repeats w (Deliver r) is_delivery most before lines after → Does w before (command.Deliver r most) (concat lines) after
 unfolding Does

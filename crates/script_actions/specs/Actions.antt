@@ -5,7 +5,9 @@ use Rattle.bpf_code.specs.Program.{max_slots}
 use Rattle.dsm_model.specs.declared.outcome.Outcome.{Outcome}
 use Rattle.dsm_model.specs.declared.outcome.Outcome.TheVariants.{More, Delivered}
 use Rattle.log_model.specs.Log.{Setting, by_name, procedures_after}
-use Rattle.dsm_model.specs.World.{World, Step, Begin, Turn, Order, Deliver, Rebuild, IsStep, after_begin, numbered, position_of}
+use Rattle.log_model.specs.declared.request.RequestId.{RequestId}
+use Rattle.dsm_world.specs.System.{check_of}
+use Rattle.dsm_model.specs.World.{World, Step, Begin, Add, Turn, Order, Deliver, Rebuild, IsStep, after_begin, numbered, position_of}
 use Rattle.script.specs.Script.{ScriptCommand}
 use Rattle.script.specs.declared.commands.Command.TheVariants as command
 use Rattle.script_actions.specs.Printed.{step_text, rows_text, log_text, entry_text}
@@ -56,10 +58,10 @@ abbrev pub OneStep : Setting → World → Step → List ℕ → World → Type 
 OneStep w before step text after = (outcome : Outcome) × IsStep w before step outcome after × (text ≡ step_text w after.log step outcome)
 
 -- a name that no procedure has at the replica's position is refused as a number that none has, and no step is taken
-abbrev pub Begins : Setting → World → ℕ → List ℕ → Option ℕ → List ℕ → World → Type 0
-Begins w before r args (Some procedure) text after = OneStep w before (Begin r procedure args None) text after
-Begins w before r args None text after =
-    (text ≡ step_text w before.log (Begin r 0 args None) (after_begin before r 0 args None (numbered before.replicas r) None).0)
+abbrev pub Begins : Setting → World → ℕ → List ℕ → Option RequestId → Option ℕ → List ℕ → World → Type 0
+Begins w before r args request (Some procedure) text after = OneStep w before (Begin r procedure args request) text after
+Begins w before r args request None text after =
+    (text ≡ step_text w before.log (Begin r 0 args request) (after_begin before r 0 args request (numbered before.replicas r) None).0)
     × (before ≡ after)
 
 -- the procedure of a name at a replica's position, by its number
@@ -69,13 +71,22 @@ number_of_name w world r name =
 
 -- ---- a line
 
+-- the line that begins a call with a request, or without one
+abbrev pub begin_command : ℕ → List ℕ → List ℕ → Option RequestId → ScriptCommand
+begin_command r name args None = command.Begin r name args
+begin_command r name args (Some request) = command.BeginNumbered r name args request.session request.sequence
+
 -- no program runs more instructions than it has slots, of which there are at most so many
 abbrev pub longest_run : ℕ
 longest_run = max_slots
 
 -- what a line that acts prints, and the world after it; `exec` runs a call to its end
 unfoldable pub Does : Setting → World → ScriptCommand → List ℕ → World → Type 0
-Does w before (command.Begin r name args) text after = Begins w before r args (number_of_name w before r name) text after
+Does w before (command.Begin r name args) text after = Begins w before r args None (number_of_name w before r name) text after
+Does w before (command.BeginNumbered r name args session sequence) text after =
+    Begins w before r args (Some (record { session = session; sequence = sequence })) (number_of_name w before r name) text after
+Does w before (command.Add name number args_len program) text after =
+    OneStep w before (Add name number args_len (check_of w.tables args_len program)) text after
 Does w before (command.Turn call most) text after = Turns w before call most text after
 Does w before (command.Exec call) text after = Turns w before call longest_run text after
 Does w before (command.Order call) text after = OneStep w before (Order call) text after

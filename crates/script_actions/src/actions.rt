@@ -7,13 +7,14 @@ ghost use Rattle.script.specs.Script.{IsWithinLimits};
 ghost use Rattle.script_settings.specs.Settings.{is_setting};
 ghost use Rattle.script_actions.specs.Doing.{HasDone};
 
-use crate::answers::{begin, deliver, order, rebuild, turn};
+use crate::answers::{add, begin, deliver, order, rebuild, turn};
 use crate::failure::Failure;
 use crate::log::{put_entry, put_log};
 use crate::rows::put_rows;
 use bpf_code::MAX_SLOTS;
 use byte_output::paged::PagedOutput;
 use dsm_world::World;
+use log_model::RequestId;
 use row_values::Bytes;
 use script::Command;
 use std::alloc::Allocator;
@@ -47,14 +48,30 @@ pub fn act<A: Allocator + Copy, W: Write>(
             replica,
             name,
             args,
-        } => begin(
-            alloc,
-            world,
-            output,
-            *replica,
-            name.as_slice(),
-            args.as_slice(),
-        ),
+        } => {
+            let (name, args) = (name.as_slice(), args.as_slice());
+            begin(alloc, world, output, *replica, name, args, None)
+        }
+        Command::BeginNumbered {
+            replica,
+            name,
+            args,
+            session,
+            sequence,
+        } => {
+            let request = Some(request_of(*session, *sequence));
+            let (name, args) = (name.as_slice(), args.as_slice());
+            begin(alloc, world, output, *replica, name, args, request)
+        }
+        Command::Add {
+            name,
+            number,
+            args_len,
+            program,
+        } => {
+            let (name, bytes) = (name.as_slice(), program.as_slice());
+            add(alloc, world, output, name, *number, *args_len, bytes)
+        }
         Command::Turn { call, most } => turn(alloc, world, output, *call, *most),
         Command::Exec { call } => turn(alloc, world, output, *call, LONGEST_RUN),
         Command::Order { call } => order(alloc, world, output, *call),
@@ -64,4 +81,10 @@ pub fn act<A: Allocator + Copy, W: Write>(
         Command::Entry { position } => put_entry(alloc, world, output, *position),
         Command::Rebuild { replica } => rebuild(alloc, world, output, *replica),
     }
+}
+
+fn request_of(session: u32, sequence: u32) -> RequestId
+    ensures { result ≡ record { session = session; sequence = sequence } }
+{
+    RequestId { session, sequence }
 }

@@ -3,13 +3,14 @@
 ghost use Rattle.std.specs.Prelude.{◌≡◌, ◌≤◌, Some, IfOk, OnErr};
 ghost use Rattle.byte_output.specs.Pending.{output_of, Passes};
 ghost use Rattle.dsm_model.specs.declared.outcome.Outcome.{Outcome as ModelOutcome};
-ghost use Rattle.dsm_model.specs.World.{IsStep, Turn as TurnStep, numbered};
+ghost use Rattle.dsm_model.specs.World.{IsStep, Begin as BeginStep, Turn as TurnStep, numbered};
 ghost use Rattle.dsm_model.specs.Sound.{reply_of, told_by};
+ghost use Rattle.log_model.specs.Log.{Setting};
 ghost use Rattle.dsm_world.specs.System.{setting_of, world_of, step_of};
 ghost use Rattle.report.specs.Answers.{answer_line};
 ghost use Rattle.script.specs.declared.commands.Command.TheVariants as command;
 ghost use Rattle.script_actions.specs.Printed.{delivered_entry, step_text};
-ghost use Rattle.script_actions.specs.Actions.{is_more, is_delivery, Turns};
+ghost use Rattle.script_actions.specs.Actions.{begin_command, is_more, is_delivery, Turns};
 ghost use Rattle.script_actions.specs.Doing.{PassesBeginning, HasDone};
 
 use crate::failure::Failure;
@@ -18,8 +19,8 @@ use byte_output::paged::PagedOutput;
 use dsm_model::{Outcome, StepRefusal};
 use dsm_world::{Step, World};
 use log_entry::Entry;
-use log_model::Verdict;
-use report::{DeliveredEntry, Line, begin_line, call_line, replica_line};
+use log_model::{RequestId, Verdict};
+use report::{DeliveredEntry, Line, add_line, begin_line, call_line, replica_line};
 use std::alloc::Allocator;
 use std::io::Write;
 
@@ -33,13 +34,13 @@ fn step<A: Allocator + Copy, W: Write>(
     ensures same_output { (output_of output.new).ghost_name ≡ (output_of output.old).ghost_name }
     ensures setting { setting_of world.new ≡ setting_of world.old }
     ensures stepped { IfOk result (λ outcome.
-        IsStep (setting_of world.old) (world_of world.old) (step_of step.entry) outcome (world_of world.new)
+        IsStep (setting_of world.old) (world_of world.old) (step_of (setting_of world.old) step.entry) outcome (world_of world.new)
         × Passes W.contents output.old output.new
-        (step_text (setting_of world.old) (world_of world.new).log (step_of step.entry) outcome)) }
+        (step_text (setting_of world.old) (world_of world.new).log (step_of (setting_of world.old) step.entry) outcome)) }
     ensures failed { OnErr result ((outcome : ModelOutcome)
-        × IsStep (setting_of world.old) (world_of world.old) (step_of step.entry) outcome (world_of world.new)
+        × IsStep (setting_of world.old) (world_of world.old) (step_of (setting_of world.old) step.entry) outcome (world_of world.new)
         × PassesBeginning W.contents output.old output.new
-        (step_text (setting_of world.old) (world_of world.new).log (step_of step.entry) outcome)) }
+        (step_text (setting_of world.old) (world_of world.new).log (step_of (setting_of world.old) step.entry) outcome)) }
 {
     let outcome = world.step(step);
     let entry = delivered_entry(world, outcome);
@@ -49,14 +50,16 @@ fn step<A: Allocator + Copy, W: Write>(
 
 /// The line of a step's answer.
 fn answer_line(step: Step<'_>, outcome: Outcome, entry: DeliveredEntry) -> Option<Line<'static>>
-    ensures { result ≡ answer_line (step_of step.entry) outcome entry }
+    ensures { (w : Setting) → result ≡ answer_line (step_of w step.entry) outcome entry }
 {
     match step {
         Step::Begin { replica, .. } => begin_line(replica, outcome),
+        Step::BeginNumbered { replica, .. } => begin_line(replica, outcome),
         Step::Turn { call } => call_line(call, outcome),
         Step::Order { call } => call_line(call, outcome),
         Step::Deliver { replica } => replica_line(replica, outcome, entry),
         Step::Rebuild { replica } => replica_line(replica, outcome, entry),
+        Step::Add { .. } => add_line(outcome),
     }
 }
 
@@ -100,7 +103,7 @@ fn reply_at<A: Allocator + Copy>(world: &World<A>, position: u32) -> Option<u64>
     }
 }
 
-/// A call begins, of the procedure of a name.
+/// A call begins, of the procedure of a name, with a request or without one.
 pub(crate) fn begin<A: Allocator + Copy, W: Write>(
     alloc: A,
     world: &mut World<A>,
@@ -108,10 +111,11 @@ pub(crate) fn begin<A: Allocator + Copy, W: Write>(
     replica: u32,
     name: &[u8],
     args: &[u8],
+    request: Option<RequestId>,
 ) -> Result<(), Failure>
     ensures same_output { (output_of output.new).ghost_name ≡ (output_of output.old).ghost_name }
     ensures setting { setting_of world.new ≡ setting_of world.old }
-    ensures done { HasDone W.contents (setting_of world.old) (world_of world.old) (command.Begin replica name.now args.now)
+    ensures done { HasDone W.contents (setting_of world.old) (world_of world.old) (begin_command replica name.now args.now request)
         output.old output.new result (world_of world.new) }
 {
     let Some(_kept) = world.replica(replica) else {
@@ -122,12 +126,62 @@ pub(crate) fn begin<A: Allocator + Copy, W: Write>(
         let refused = Outcome::Refused(StepRefusal::NoProcedure);
         return put_answer(alloc, output, begin_line(replica, refused));
     };
-    let begin = Step::Begin {
-        replica,
-        procedure,
-        args,
+    step(
+        alloc,
+        world,
+        output,
+        begin_step(replica, procedure, args, request),
+    )?;
+    Ok(())
+}
+
+/// The step of a call that begins.
+fn begin_step<'a>(
+    replica: u32,
+    procedure: u16,
+    args: &'a [u8],
+    request: Option<RequestId>,
+) -> Step<'a>
+    ensures { (w : Setting) → step_of w result ≡ BeginStep replica procedure args.now request }
+{
+    match request {
+        None => Step::Begin {
+            replica,
+            procedure,
+            args,
+        },
+        Some(RequestId { session, sequence }) => Step::BeginNumbered {
+            replica,
+            procedure,
+            args,
+            session,
+            sequence,
+        },
+    }
+}
+
+/// A procedure is added.
+pub(crate) fn add<A: Allocator + Copy, W: Write>(
+    alloc: A,
+    world: &mut World<A>,
+    output: &mut PagedOutput<'_, W>,
+    name: &[u8],
+    number: u16,
+    args_len: u16,
+    bytes: &[u8],
+) -> Result<(), Failure>
+    ensures same_output { (output_of output.new).ghost_name ≡ (output_of output.old).ghost_name }
+    ensures setting { setting_of world.new ≡ setting_of world.old }
+    ensures done { HasDone W.contents (setting_of world.old) (world_of world.old) (command.Add name.now number args_len bytes.now)
+        output.old output.new result (world_of world.new) }
+{
+    let add = Step::Add {
+        name,
+        number,
+        args_len,
+        bytes,
     };
-    step(alloc, world, output, begin)?;
+    step(alloc, world, output, add)?;
     Ok(())
 }
 

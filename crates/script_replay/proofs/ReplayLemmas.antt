@@ -1,6 +1,7 @@
 -- What a script may print from a stage on.
 use Rattle.std.proofs.Common.{◌≡◌, inl, ℕ, ◌+◌, Bool, true, false, List, [], ◌∷◌, ◌++◌, Option, Some, None, Result, Ok, Err, refl, sym, subst, ◌∙◌}
 use Rattle.std.specs.List.{concat}
+use Rattle.log_model.specs.declared.request.RequestId.{RequestId}
 use Rattle.log_model.specs.Log.{Setting}
 use Rattle.dsm_model.specs.World.{World, Step, Begin, Turn, Order, Deliver, Rebuild, after_step, after_begin, numbered}
 use Rattle.script.specs.declared.fault.LineFault.{LineFault}
@@ -24,10 +25,10 @@ CanDo P = (text : List ℕ) × (after : World) × P text after
 one_can : (w : Setting) (before : World) (step : Step) → CanDo (OneStep w before step)
 one_can w before step = (step_text w (after_step w before step).1.log step (after_step w before step).0, (after_step w before step).1, ((after_step w before step).0, inl refl, refl))
 
-begin_can : (w : Setting) (before : World) (r : ℕ) (args : List ℕ) (o : Option ℕ) → CanDo (Begins w before r args o)
-begin_can w before r args (Some procedure) = one_can w before (Begin r procedure args None)
-begin_can w before r args None =
-    (step_text w before.log (Begin r 0 args None) (after_begin before r 0 args None (numbered before.replicas r) None).0, before, (refl, refl))
+begin_can : (w : Setting) (before : World) (r : ℕ) (args : List ℕ) (request : Option RequestId) (o : Option ℕ) → CanDo (Begins w before r args request o)
+begin_can w before r args request (Some procedure) = one_can w before (Begin r procedure args request)
+begin_can w before r args request None =
+    (step_text w before.log (Begin r 0 args request) (after_begin before r 0 args request (numbered before.replicas r) None).0, before, (refl, refl))
 
 turns_can : (w : Setting) (before : World) (call most : ℕ) → CanDo (Turns w before call most)
 turns_can w before call most = let way = repeats_can w (Turn call) is_more most before in (last_line way.0, way.1, (way.0, way.2, refl))
@@ -42,7 +43,10 @@ can_do w before (command.Window window) e = absurd cc
 can_do w before (command.Replicas replicas) e = absurd cc
 can_do w before (command.Table table width) e = absurd cc
 can_do w before (command.Procedure name number args_len program) e = absurd cc
-can_do w before (command.Begin r name args) e = begin_can w before r args (number_of_name w before r name)
+can_do w before (command.Begin r name args) e = begin_can w before r args None (number_of_name w before r name)
+can_do w before (command.BeginNumbered r name args session sequence) e =
+    begin_can w before r args (Some (record { session = session; sequence = sequence })) (number_of_name w before r name)
+can_do w before (command.Add name number args_len program) e = one_can w before _
 can_do w before (command.Turn call most) e = turns_can w before call most
 can_do w before (command.Exec call) e = turns_can w before call longest_run
 can_do w before (command.Order call) e = one_can w before (Order call)

@@ -2,6 +2,10 @@
 #![tactic(auto)]
 
 #[cfg(test)]
+mod additions;
+#[cfg(test)]
+mod requests;
+#[cfg(test)]
 mod stories;
 #[cfg(test)]
 mod streams;

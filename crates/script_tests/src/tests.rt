@@ -1,4 +1,6 @@
-use crate::stories::{ADD_ENTRY, INCREMENT, STOPS, STORIES, TWO_INCREMENTS};
+use crate::additions::{ADDED, ADDITIONS};
+use crate::requests::{REQUESTS, SENT_TWICE};
+use crate::stories::{ADD_ENTRY, INCREMENT, STOPS, STORIES, Story, TWO_INCREMENTS};
 use crate::streams::{Full, Input, Output};
 use scarce::Scarce;
 use script_replay::replay_over;
@@ -48,7 +50,12 @@ fn tells(alloc: Global, lines: &[&str], prints: &[&str], fault: &str) -> Result<
 
 #[test]
 fn stories_print_what_they_should(rt: HostRuntime) -> Result<(), Fail> {
-    for (at, story) in STORIES.iter().enumerate() {
+    for (at, story) in STORIES
+        .iter()
+        .chain(&ADDITIONS)
+        .chain(&REQUESTS)
+        .enumerate()
+    {
         let told = tells(rt.alloc(), story.lines, story.prints, story.fault)?;
         assert!(rt; told, "story {at}");
     }
@@ -58,12 +65,19 @@ fn stories_print_what_they_should(rt: HostRuntime) -> Result<(), Fail> {
 const ONE: &str = "proc one 9 0 b7000000010000009500000000000000";
 
 /// Lines, what they print, and the fault of the last.
-const FAULTS: [(&[&str], &[&str], &str); 22] = [
+const FAULTS: [(&[&str], &[&str], &str); 29] = [
     (&["window\t4"], &[], "line 1: L1"),
     (&["jump 1"], &[], "line 1: L2"),
     (&["window"], &[], "line 1: L3"),
+    (&["begin 1 one - 7"], &[], "line 1: L3"),
+    (&["add one 9 0"], &[], "line 1: L3"),
     (&["window 0"], &[], "line 1: L4"),
+    (&["begin 1 one - 0 1"], &[], "line 1: L4"),
+    (&["begin 1 one - 7 0"], &[], "line 1: L4"),
+    (&["add one 9 257 -"], &[], "line 1: L4"),
     (&["deliver 1 1"], &[], "line 1: L5"),
+    (&["begin 1 one - 7 1"], &[], "line 1: L5"),
+    (&["add one 9 0 -"], &[], "line 1: L5"),
     (&["table 0 8"], &[], "line 1: L6 S1"),
     (&["proc x 1 0 -"], &[], "line 1: L7 B1 slot 0"),
     (
@@ -348,30 +362,37 @@ fn course_of(status: u8, output: &[u8], faults: &[u8], prints: &[u8]) -> Option<
 /// More growths than any replay of these tests makes.
 const MOST: u64 = 2_000;
 
+/// Replays a story with each growth refused in turn, up to the first that it doesn't make: whether each course is one that it may
+/// take, and some growth ends it behind what it printed, and some refuses a step.
+fn goes_well(alloc: Global, scarce: &Scarce, story: &Story) -> Result<bool, Fail> {
+    let script = joined(alloc, story.lines)?;
+    let prints = joined(alloc, story.prints)?;
+    let before = scarce.refused();
+    let (mut ended_late, mut went_on) = (false, false);
+    for nth in 1..MOST {
+        scarce.refuse_nth(nth);
+        let (status, output, faults) = replayed(scarce, alloc, &script);
+        if scarce.refused() < before.saturating_add(nth) {
+            scarce.refuse_nth(0);
+            return Ok(ended_late && went_on);
+        }
+        let course = course_of(status, &output, &faults, &prints);
+        if course.is_none() {
+            return Ok(false);
+        }
+        ended_late = ended_late || (course == Some(Course::Ended) && !output.is_empty());
+        went_on = went_on || course == Some(Course::WentOn);
+    }
+    Ok(false)
+}
+
 /// Each growth of a replay is refused in turn. Some of them end the script, and some refuse a step.
 #[test]
 fn growths_are_refused_in_turn(rt: HostRuntime) -> Result<(), Fail> {
-    let alloc = rt.alloc();
-    let script = joined(alloc, TWO_INCREMENTS.lines)?;
-    let prints = joined(alloc, TWO_INCREMENTS.prints)?;
-    let scarce = Scarce::new(alloc);
-    let mut ended_late = false;
-    let mut went_on = false;
-    let mut refused = 0;
-    for nth in 1..MOST {
-        scarce.refuse_nth(nth);
-        let (status, output, faults) = replayed(&scarce, alloc, &script);
-        if scarce.refused() < nth {
-            break;
-        }
-        let course = course_of(status, &output, &faults, &prints);
-        assert!(rt; course.is_some(), "growth {nth}");
-        ended_late = ended_late || (course == Some(Course::Ended) && !output.is_empty());
-        went_on = went_on || course == Some(Course::WentOn);
-        refused = nth;
+    let scarce = Scarce::new(rt.alloc());
+    for (at, story) in [TWO_INCREMENTS, ADDED, SENT_TWICE].iter().enumerate() {
+        assert!(rt; goes_well(rt.alloc(), &scarce, story)?, "story {at}");
     }
-    assert!(rt; ended_late && went_on);
-    assert!(rt; refused < MOST - 1);
     Ok(())
 }
 

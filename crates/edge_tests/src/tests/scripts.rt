@@ -7,7 +7,7 @@ use std::io::{BufRead, ErrorKind, Read};
 use std::test::Fail;
 
 /// A line, and the number of its fault; 0 where it says something.
-const LINES: [(&[u8], u8); 54] = [
+const LINES: [(&[u8], u8); 76] = [
     (b"window\t4", 1),
     (b"# \t", 1),
     (b"log\r", 1),
@@ -23,6 +23,13 @@ const LINES: [(&[u8], u8); 54] = [
     (b"log ", 3),
     (b"proc x 1 0", 3),
     (b"begin 1 add", 3),
+    (b"begin 1 one - 7", 3),
+    (b"begin 0 one - 7", 3),
+    (b"begin 1 one - 7 1 ", 3),
+    (b"add", 3),
+    (b"add one 9 0", 3),
+    (b"add one 9 257", 3),
+    (b"add one 9 0 - -", 3),
     (b"window 0", 4),
     (b"window 4097", 4),
     (b"window 04", 4),
@@ -40,6 +47,17 @@ const LINES: [(&[u8], u8); 54] = [
     (b"begin 1 add 0g", 4),
     (b"begin 1 add ", 4),
     (b"begin 4294967296 add -", 4),
+    (b"begin 1 one - 0 1", 4),
+    (b"begin 1 one - 7 0", 4),
+    (b"begin 1 one - 4294967296 1", 4),
+    (b"begin 1 one - 7 4294967296", 4),
+    (b"begin 1 one - 07 1", 4),
+    (b"begin 1 one  7 1", 4),
+    (b"begin 4294967296 one - 7 1", 4),
+    (b"add one 65536 0 -", 4),
+    (b"add one 9 257 -", 4),
+    (b"add one 9 0 b", 4),
+    (b"add one 9 0 ", 4),
     (b"turn 1 0", 4),
     (b"deliver 1 0", 4),
     (b"deliver 1 -1", 4),
@@ -53,6 +71,10 @@ const LINES: [(&[u8], u8); 54] = [
     (b"proc a-b 65535 256 b7000000010000009500000000000000", 0),
     (b"begin 1 add 05000000000000000A00000000000000", 0),
     (b"begin 0  -", 0),
+    (b"begin 1 one - 7 1", 0),
+    (b"begin 0  - 4294967295 4294967295", 0),
+    (b"add one 9 0 -", 0),
+    (b"add a-b 65535 256 b7000000010000009500000000000000", 0),
     (b"turn 1 4294967295", 0),
     (b"exec 4294967295", 0),
     (b"order 0", 0),
@@ -94,35 +116,70 @@ fn the_longest_lines(rt: HostRuntime) -> Result<(), Fail> {
     Ok(())
 }
 
-/// The name and the arguments of a line that begins a call.
-fn begun<A: Allocator>(command: &Command<Bytes<A>>) -> Option<(&[u8], &[u8])> {
+/// What a line gives: a name, bytes, and numbers.
+type Given<'a> = (&'a [u8], &'a [u8], [u32; 3]);
+
+const GIVEN: [(&[u8], Given<'static>); 3] = [
+    (b"begin 1 add 05FF", (b"add", &[5, 255], [1, 0, 0])),
+    (b"begin 2 one - 7 1", (b"one", &[], [2, 7, 1])),
+    (b"add two 9 16 b7fF", (b"two", &[183, 255], [0, 9, 16])),
+];
+
+/// The replica of a line that begins a call, and the request that it carries; or what a line that adds a procedure gives.
+fn given<A: Allocator>(command: &Command<Bytes<A>>) -> Option<Given<'_>> {
     match command {
-        Command::Begin { name, args, .. } => Some((name.as_slice(), args.as_slice())),
+        Command::Begin {
+            replica,
+            name,
+            args,
+        } => Some((name.as_slice(), args.as_slice(), [*replica, 0, 0])),
+        Command::BeginNumbered {
+            replica,
+            name,
+            args,
+            session,
+            sequence,
+        } => Some((
+            name.as_slice(),
+            args.as_slice(),
+            [*replica, *session, *sequence],
+        )),
+        Command::Add {
+            name,
+            number,
+            args_len,
+            program,
+        } => Some((
+            name.as_slice(),
+            program.as_slice(),
+            [0, u32::from(*number), u32::from(*args_len)],
+        )),
         _ => None,
     }
 }
 
 #[test]
 fn growths_are_refused_in_turn(rt: HostRuntime) {
-    let scarce = Scarce::new(rt.alloc());
-    let mut failed = 0;
-    for growth in 1..100 {
-        scarce.refuse_nth(growth);
-        match command(&scarce, b"begin 1 add 05FF") {
-            Ok(said) => {
-                let expected: (&[u8], &[u8]) = (b"add", &[5, 255]);
-                assert_eq!(rt; said.as_ref().and_then(|said| begun(said)), Some(expected));
+    for (line, expected) in GIVEN {
+        let scarce = Scarce::new(rt.alloc());
+        let mut failed = 0;
+        for growth in 1..100 {
+            scarce.refuse_nth(growth);
+            match command(&scarce, line) {
+                Ok(said) => {
+                    assert_eq!(rt; said.as_ref().and_then(|said| given(said)), Some(expected));
+                }
+                Err(fault) => {
+                    assert_eq!(rt; fault, LineFault::OutOfMemory);
+                    failed = growth;
+                }
             }
-            Err(fault) => {
-                assert_eq!(rt; fault, LineFault::OutOfMemory);
-                failed = growth;
+            if scarce.refused() < growth {
+                break;
             }
         }
-        if scarce.refused() < growth {
-            break;
-        }
+        assert!(rt; failed > 0 && failed < 99, "{failed}");
     }
-    assert!(rt; failed > 0 && failed < 99, "{failed}");
 }
 
 /// Shows so many bytes at a time, interrupts each look once, and fails where it is at its end.

@@ -1,4 +1,4 @@
-use Rattle.std.proofs.Common.{◌≡◌, ◌+◌, cond, Bool, true, false, Some, drop, sym, ap, ◌∙◌, arith}
+use Rattle.std.proofs.Common.{◌+◌, cond, Bool, Some, drop, sym, ap, ◌∙◌, arith}
 use Rattle.std.specs.List.{find}
 use Rattle.dsm_world.proofs.ReplicaLemmas.{get_is}
 use Rattle.script_actions.proofs.LogLemmas.{further, found_next, is_further, is_not_further}
