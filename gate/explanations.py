@@ -4,6 +4,7 @@
 """
 import re
 import sys
+import textwrap
 
 import workspace
 
@@ -30,7 +31,9 @@ def tables():
 
 
 def text(words):
-    return '"' + words.replace("\\", "\\\\").replace('"', '\\"') + '"'
+    """A string of Rust, over as many lines as it needs."""
+    whole = words.replace("\\", "\\\\").replace('"', '\\"')
+    return '"' + " \\\n            ".join(textwrap.wrap(whole, 100, break_long_words=False, break_on_hyphens=False) or [""]) + '"'
 
 
 def row(cells):

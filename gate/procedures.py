@@ -30,10 +30,10 @@ def text_of(path):
 
 
 def accepts(program, script):
-    """Whether the programs beside a script are those of its `proc` lines, and are accepted for its tables."""
+    """Whether the programs beside a script are those of its `proc` and `add` lines, and are accepted for its tables."""
     lines = [it.split() for it in text_of(script).splitlines()]
     tables = [f"{it[1]}:{it[2]}" for it in lines if it[:1] == ["table"]]
-    stored = [it for it in lines if it[:1] == ["proc"]]
+    stored = [it for it in lines if it[:1] in (["proc"], ["add"])]
     for _, name, _, args_len, code in stored:
         path = f"{os.path.dirname(script)}/{name}.bpf"
         with open(path, "rb") as file:
