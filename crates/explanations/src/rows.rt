@@ -3,7 +3,7 @@
 use crate::explanation::Explanation;
 
 /// Each refusal once.
-pub const EXPLANATIONS: [Explanation; 52] = [
+pub const EXPLANATIONS: [Explanation; 55] = [
     Explanation {
         number: "B1",
         cause: "the length is 0, or no multiple of 8",
@@ -30,7 +30,8 @@ pub const EXPLANATIONS: [Explanation; 52] = [
     },
     Explanation {
         number: "B5",
-        cause: "a field that the opcode doesn't use isn't zero; in the second slot of a wide load, anything but its immediate",
+        cause: "a field that the opcode doesn't use isn't zero; in the second slot of a wide load, anything but its \
+            immediate",
         cure: "write zero there",
         in_c: "",
     },
@@ -114,13 +115,16 @@ pub const EXPLANATIONS: [Explanation; 52] = [
     },
     Explanation {
         number: "V3",
-        cause: "a pointer stands where only a number may (a comparison, a value that is stored, arithmetic other than a 64-bit move or adding a number to it or subtracting one in 64 bits), or it is moved too far",
+        cause: "a pointer stands where only a number may (a comparison, a value that is stored, arithmetic other \
+            than a 64-bit move or adding a number to it or subtracting one in 64 bits), or it is moved too far",
         cure: "keep pointers in registers; bound the number that is added",
-        in_c: "an index that wasn't tested just before (`if (i >= 8) return cancel(CODE);`) or may be below zero (take `u64`), or a pointer that is compared, stored or kept over a call",
+        in_c: "an index that wasn't tested just before (`if (i >= 8) return cancel(CODE);`) or may be below zero \
+            (take `u64`), or a pointer that is compared, stored or kept over a call",
     },
     Explanation {
         number: "V4",
-        cause: "a load or a store at a number, or a byte of it may lie outside the stack of 512 bytes or outside the arguments",
+        cause: "a load or a store at a number, or a byte of it may lie outside the stack of 512 bytes or outside the \
+            arguments",
         cure: "test the index before; state the length of the arguments that the program reads",
         in_c: "an index that may be too large: take `u64`, and test it just before its use",
     },
@@ -150,7 +154,8 @@ pub const EXPLANATIONS: [Explanation; 52] = [
     },
     Explanation {
         number: "V9",
-        cause: "a buffer isn't at one place of the stack, or isn't whole inside: it has the table's width, or 8 bytes for a key",
+        cause: "a buffer isn't at one place of the stack, or isn't whole inside: it has the table's width, or 8 \
+            bytes for a key",
         cure: "point to the buffer's lowest byte, with as much room above it as the width",
         in_c: "a row that is one or the other (call once for each, not by `condition ? &a : &b`), or no row at all",
     },
@@ -174,14 +179,14 @@ pub const EXPLANATIONS: [Explanation; 52] = [
     },
     Explanation {
         number: "C1",
-        cause: "an earlier procedure has the name",
-        cure: "choose another name",
+        cause: "an earlier procedure has the name; of an addition that is delivered, `taken C1`",
+        cure: "choose another name, and add it again",
         in_c: "",
     },
     Explanation {
         number: "C2",
-        cause: "an earlier procedure has the number",
-        cure: "choose another number",
+        cause: "an earlier procedure has the number; of an addition that is delivered, `taken C2`",
+        cure: "choose another number, and add it again",
         in_c: "",
     },
     Explanation {
@@ -210,19 +215,21 @@ pub const EXPLANATIONS: [Explanation; 52] = [
     },
     Explanation {
         number: "P2",
-        cause: "there is no such procedure",
-        cure: "name one that a `proc` line stored",
+        cause: "there is no such procedure at this replica's position",
+        cure: "name one of a `proc` line; or deliver the entry that adds it to this replica first, where `log` says \
+            `added` and not `taken`",
         in_c: "",
     },
     Explanation {
         number: "P3",
         cause: "the arguments haven't the procedure's length",
-        cure: "give as many bytes as its `proc` line says",
+        cure: "give as many bytes as its `proc` or `add` line says",
         in_c: "",
     },
     Explanation {
         number: "P4",
-        cause: "there is no such call, or it is over: ordering it was answered otherwise than by P5, or a turn answered `stale` or `no memory`",
+        cause: "there is no such call, or it is over: ordering it was answered otherwise than by P5, or a turn \
+            answered `stale` or `no memory`",
         cure: "begin another",
         in_c: "",
     },
@@ -235,7 +242,7 @@ pub const EXPLANATIONS: [Explanation; 52] = [
     Explanation {
         number: "P6",
         cause: "there is no entry to deliver, also where the replica is stopped",
-        cure: "order a call first",
+        cure: "order a call or add a procedure first",
         in_c: "",
     },
     Explanation {
@@ -253,18 +260,40 @@ pub const EXPLANATIONS: [Explanation; 52] = [
     Explanation {
         number: "P9",
         cause: "out of memory; a turn that finds none says `no memory` instead",
-        cure: "at a delivery: rebuild the replica when there is memory; else ask again, or begin the call again where it was to be ordered",
+        cure: "at a delivery: rebuild the replica when there is memory; else ask again, or begin the call again \
+            where it was to be ordered",
         in_c: "",
     },
     Explanation {
         number: "P10",
-        cause: "there are too many calls: 1,048,576 were begun",
-        cure: "begin a new world: in this one the calls that were begun go on, but no more begin",
+        cause: "there are too many calls: 1,048,576 calls were begun and procedures added, taken ones too",
+        cure: "begin a new world: in this one the calls that were begun go on, but no more begin, and no more \
+            procedures are added",
+        in_c: "",
+    },
+    Explanation {
+        number: "P11",
+        cause: "the program of an addition is refused, with its B or V behind it, or `args`: its arguments would be \
+            longer than 256 bytes (a script has L4 there)",
+        cure: "see B and V; of `args`: pass fewer bytes, and keep the others in rows",
+        in_c: "",
+    },
+    Explanation {
+        number: "P12",
+        cause: "an addition's name isn't 1 to 32 letters, digits of ASCII or `_`",
+        cure: "choose such a name",
+        in_c: "",
+    },
+    Explanation {
+        number: "P13",
+        cause: "a session or sequence number of a request is 0 (a script has L4 there)",
+        cure: "number both from 1",
         in_c: "",
     },
     Explanation {
         number: "L1",
-        cause: "a byte of the line isn't printable ASCII (0x20 to 0x7E), also of a comment, or the line has more than 70,000 bytes",
+        cause: "a byte of the line isn't printable ASCII (0x20 to 0x7E), also of a comment, or the line has more \
+            than 70,000 bytes",
         cure: "take out tabs, CRs and letters that aren't ASCII",
         in_c: "",
     },
@@ -276,19 +305,24 @@ pub const EXPLANATIONS: [Explanation; 52] = [
     },
     Explanation {
         number: "L3",
-        cause: "the word asks for more fields, or for fewer; two spaces next to each other have an empty field between them",
+        cause: "the word asks for more fields, or for fewer; two spaces next to each other have an empty field \
+            between them",
         cure: "one space between fields, none at the end",
         in_c: "",
     },
     Explanation {
         number: "L4",
-        cause: "a field can't be read or is outside its limits; of a `table` only numbers over 255 and widths over 65,535, for the others are L6",
-        cure: "decimal without sign or leading zero; HEX of an even number of digits, or `-`; the limits of FORMATS.md",
+        cause: "a field can't be read or is outside its limits, as a session or sequence number of 0; of a `table` \
+            only numbers over 255 and widths over 65,535, for the others are L6",
+        cure: "decimal without sign or leading zero; HEX of an even number of digits, or `-`; the limits of \
+            FORMATS.md",
         in_c: "",
     },
     Explanation {
         number: "L5",
-        cause: "the line doesn't stand where it may: a second `window` or `replicas`, a `table` behind a `proc`, a setting behind the first line that acts, a line that acts before `window` and `replicas` are both set",
+        cause: "the line doesn't stand where it may: a second `window` or `replicas`, a `table` behind a `proc`, a \
+            setting behind the first line that acts (so a `proc` behind an `add`), a line that acts before \
+            `window` and `replicas` are both set",
         cure: "settings first: window and replicas once each, tables, then procedures",
         in_c: "",
     },
@@ -300,19 +334,22 @@ pub const EXPLANATIONS: [Explanation; 52] = [
     },
     Explanation {
         number: "L7",
-        cause: "the program is refused: B1 to B11, or V1 to V11",
+        cause: "the program of a `proc` line is refused: B1 to B11, or V1 to V11; that of an `add` line is P11, and \
+            the script goes on",
         cure: "see B and V; `dsmdb list` and `check` tell of the program alone",
         in_c: "",
     },
     Explanation {
         number: "L8",
-        cause: "the procedure can't be stored: C1, C2 or C4",
+        cause: "the procedure of a `proc` line can't be stored: C1, C2 or C4; an `add` line has P12 for its name, \
+            and where it is delivered `taken C1` or `taken C2`",
         cure: "see C",
         in_c: "",
     },
     Explanation {
         number: "L9",
-        cause: "out of memory: S4, B12, V12 and C3 too; also where there is none for what a line prints: the step that it would tell of has then been taken",
+        cause: "out of memory: S4, B12, V12 and C3 too; also where there is none for what a line prints: the step \
+            that it would tell of has then been taken",
         cure: "give the process more memory, and run the script again from its first line: its world ended with it",
         in_c: "",
     },

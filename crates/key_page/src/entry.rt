@@ -24,24 +24,28 @@ impl<A: Allocator> Model for Entry<A> {
 }
 
 impl<A: Allocator> Entry<A> {
+    /// Its key.
     pub fn key(&self) -> u64
         ensures { result ≡ self.now.key }
     {
         self.key
     }
 
+    /// The row after a position; none where there is none.
     pub fn row(&self, position: u32) -> Option<&[u8]>
         ensures { option_copied result ≡ row_up_to position self.now.chain.versions }
     {
         self.chain.at(position)
     }
 
+    /// Whether it has no versions.
     pub fn is_empty(&self) -> bool
         ensures { result ≡ (length self.now.chain.versions == 0) }
     {
         self.chain.is_empty()
     }
 
+    /// Whether there is a row after a position.
     pub fn shows(&self, position: u32) -> bool
         ensures { result ≡ is_some (row_up_to position self.now.chain.versions) }
     {
@@ -50,6 +54,7 @@ impl<A: Allocator> Entry<A> {
 }
 
 impl<A: Allocator> Entry<A> {
+    /// One of a key that has no versions yet, for rows of so many bytes.
     pub fn new(alloc: A, width: usize, key: u64) -> Entry<A>
     where
         A: Copy,
@@ -63,6 +68,7 @@ impl<A: Allocator> Entry<A> {
         }
     }
 
+    /// Makes room for one version more. An error is want of memory; then nothing has changed.
     pub fn reserve(&mut self) -> Result<(), AllocError>
         ensures key { self.new.key ≡ self.old.key }
         ensures versions { self.new.chain.versions ≡ self.old.chain.versions }
@@ -73,6 +79,7 @@ impl<A: Allocator> Entry<A> {
         self.chain.reserve()
     }
 
+    /// Adds a version after a position, in room that there is: a row, or none where it was removed.
     pub fn push(&mut self, position: u32, row: Option<&[u8]>)
         requires room { HasRoom self.old.chain }
         requires width { IfSome row (λ r. length r.now ≡ self.old.chain.width) }
@@ -84,6 +91,7 @@ impl<A: Allocator> Entry<A> {
         self.chain.push(position, row);
     }
 
+    /// Drops the versions that no position from the horizon on sees.
     pub fn prune(&mut self, horizon: u32)
         ensures key { self.new.key ≡ self.old.key }
         ensures versions { self.new.chain.versions ≡ needed_versions horizon self.old.chain.versions }

@@ -47,13 +47,24 @@ fn args_of(alloc: Global, words: &[u64]) -> Result<Vec<u8>, Fail> {
     Ok(args)
 }
 
-/// Rows from table, key and value: 2 bytes of it in table 2, and 8 in table 1.
+/// A procedure that the verifier accepts, and its argument block of words.
+fn procedure_of(alloc: Global, program: &str, words: &[u64]) -> Result<(Accepted, Vec<u8>), Fail> {
+    let args = args_of(alloc, words)?;
+    let procedure = accepted(alloc, &bytes_of(alloc, program)?, args.len())?;
+    Ok((procedure, args))
+}
+
+/// A row from table, key and value: 2 bytes of it in table 2, and 8 in table 1.
+fn row_of(alloc: Global, table: u8, key: u64, value: u64) -> Result<Row, Fail> {
+    let width = if table == 2 { 2 } else { 8 };
+    let bytes = Vec::from_slice(alloc, value.to_le_bytes().get(..width).unwrap_or(&[]))?;
+    Ok(Row::new(table, key, bytes))
+}
+
 fn rows_of(alloc: Global, rows: &[(u8, u64, u64)]) -> Result<Vec<Row>, Fail> {
     let mut list = Vec::new(alloc);
-    for &(table, key, value) in rows {
-        let width = if table == 2 { 2 } else { 8 };
-        let bytes = Vec::from_slice(alloc, &value.to_le_bytes()[..width])?;
-        list.push(Row::new(table, key, bytes))?;
+    for (table, key, value) in rows {
+        list.push(row_of(alloc, *table, *key, *value)?)?;
     }
     Ok(list)
 }
@@ -90,15 +101,20 @@ fn append_code(text: &mut String, code: Option<u64>) -> Result<(), Fail> {
     Ok(())
 }
 
+/// The last answer of a call, and the turn that gave it.
+fn described_turn(alloc: Global, last: Turn, turns: u32) -> Result<String, Fail> {
+    let word = match last {
+        Turn::Exit(reply) => return Ok(format!(in alloc; "{reply} in {turns}")?),
+        Turn::Stale => "stale",
+        Turn::NoMemory => "no memory",
+        Turn::More => "more",
+    };
+    Ok(format!(in alloc; "{word} in {turns}")?)
+}
+
 /// What a call came to, in a line: its last answer and the turn that gave it, then looks, writes and cancel code.
 fn described<A: Allocator + Copy>(alloc: Global, run: SiteRun<A>) -> Result<String, Fail> {
-    let turns = run.turns;
-    let mut text = match run.last {
-        Turn::Exit(reply) => format!(in alloc; "{reply} in {turns}")?,
-        Turn::Stale => format!(in alloc; "stale in {turns}")?,
-        Turn::NoMemory => format!(in alloc; "no memory in {turns}")?,
-        Turn::More => format!(in alloc; "more in {turns}")?,
-    };
+    let mut text = described_turn(alloc, run.last, run.turns)?;
     let rows = KeyMap::new(alloc);
     let store = PlainStore {
         rows: &rows,

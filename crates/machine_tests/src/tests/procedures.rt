@@ -1,8 +1,6 @@
 //! Whole calls of procedures, and stores that are gone.
 
-use super::{
-    NEVER, accepted, args_of, bytes_of, described, described_call, described_run, rows_of,
-};
+use super::{NEVER, args_of, described, described_call, described_run, procedure_of, rows_of};
 use bpf_verify::Accepted;
 use plain_rows::Row;
 use plain_runner::{CompletedRun, run_program};
@@ -236,9 +234,8 @@ fn plain_run(
 
 /// Asserts that a call comes to its outcome on the machine, both ways, and by the definition.
 fn assert_outcome(rt: &impl Abort, alloc: Global, case: &Case) -> Result<(), Fail> {
-    let args = args_of(alloc, case.args)?;
     let rows = rows_of(alloc, case.rows)?;
-    let procedure = accepted(alloc, &bytes_of(alloc, case.program)?, args.len())?;
+    let (procedure, args) = procedure_of(alloc, case.program, case.args)?;
     let run = plain_run(alloc, &procedure, &args, &rows)?;
     let turns = line_of_turns(alloc, &procedure, &args, &rows)?;
     let call = line_of_call(alloc, &procedure, &args, &rows, run.steps())?;
@@ -293,19 +290,18 @@ static GONE: [GoneCase; 12] = [
     (PUT_AND_GET, &[], 1, "3 in 13 put 1:5=0300000000000000"),
 ];
 
+/// What a call comes to over a store without rows, which is gone from a turn on.
+fn line_where_gone(alloc: Global, program: &str, words: &[u64], from: u32) -> Result<String, Fail> {
+    let (procedure, args) = procedure_of(alloc, program, words)?;
+    let no_rows: [Row; 0] = [];
+    described(alloc, run_call(alloc, &procedure, &args, &no_rows, from)?)
+}
+
 #[test]
 fn looks_at_a_store_that_is_gone_are_stale(rt: HostRuntime) -> Result<(), Fail> {
-    let alloc = rt.alloc();
-    let no_rows = rows_of(alloc, &[])?;
-    for (program, args, from, outcome) in &GONE {
-        let args = args_of(alloc, args)?;
-        let procedure = accepted(alloc, &bytes_of(alloc, program)?, args.len())?;
-        let run = run_call(alloc, &procedure, &args, &no_rows, *from)?;
-        assert_eq!(rt;
-            described(alloc, run)?.as_str(),
-            *outcome,
-            "{program} from {from}"
-        );
+    for (program, words, from, outcome) in &GONE {
+        let line = line_where_gone(rt.alloc(), program, words, *from)?;
+        assert_eq!(rt; line.as_str(), *outcome, "{program} from {from}");
     }
     Ok(())
 }
@@ -317,7 +313,7 @@ fn fault_of_put(
     behind: &[u8],
     rows: &[Row],
 ) -> Result<Option<SiteFault>, Fail> {
-    let procedure = accepted(alloc, &bytes_of(alloc, PUT)?, 16)?;
+    let (procedure, _args) = procedure_of(alloc, PUT, &[7, 2])?;
     let mut args = args_of(alloc, words)?;
     args.extend_from_slice(behind)?;
     Ok(run_call(alloc, &procedure, &args, rows, NEVER).err())

@@ -1,10 +1,13 @@
 //! Refused memory at each helper.
 
 use super::procedures::{ADD, COUNT, DELETE, NEXT, PUT, SKEW};
-use super::{NEVER, accepted, args_of, bytes_of, described, rows_of};
+use super::{NEVER, described, procedure_of, rows_of};
+use bpf_verify::Accepted;
 use bpf_vm::Turn;
+use plain_rows::Row;
 use scarce::Scarce;
 use single_site::{SiteFault, run_call};
+use std::alloc::Global;
 use std::test::Fail;
 
 /// A program, its arguments, which growth is refused, and what comes of it: what the call has looked at and written by
@@ -25,22 +28,28 @@ static REFUSED: [RefusedCase; 11] = [
     (NEXT, &[10, 20, 101], 3, "no memory in 14 look 1:10-20"),
 ];
 
+/// What a call comes to over no rows, where a growth is refused.
+fn line_where_refused(
+    alloc: Global,
+    scarce: &Scarce,
+    program: &str,
+    words: &[u64],
+    growth: u64,
+) -> Result<String, Fail> {
+    let (procedure, args) = procedure_of(alloc, program, words)?;
+    scarce.refuse_nth(growth);
+    let no_rows: [Row; 0] = [];
+    described(alloc, run_call(scarce, &procedure, &args, &no_rows, NEVER)?)
+}
+
 /// After the refused growth memory is there again, so what the call has done stays as that turn left it.
 #[test]
 fn refused_growths_end_a_call(rt: HostRuntime) -> Result<(), Fail> {
     let alloc = rt.alloc();
-    let no_rows = rows_of(alloc, &[])?;
-    for (program, args, growth, outcome) in &REFUSED {
-        let args = args_of(alloc, args)?;
-        let procedure = accepted(alloc, &bytes_of(alloc, program)?, args.len())?;
+    for (program, words, growth, outcome) in &REFUSED {
         let scarce = Scarce::new(alloc);
-        scarce.refuse_nth(*growth);
-        let run = run_call(&scarce, &procedure, &args, &no_rows, NEVER)?;
-        assert_eq!(rt;
-            described(alloc, run)?.as_str(),
-            *outcome,
-            "{program}, growth {growth}"
-        );
+        let line = line_where_refused(alloc, &scarce, program, words, *growth)?;
+        assert_eq!(rt; line.as_str(), *outcome, "{program}, growth {growth}");
         assert_eq!(rt; scarce.refused(), 1, "{program}, growth {growth}");
     }
     Ok(())
@@ -57,21 +66,25 @@ static GROWTHS: [GrowthCase; 4] = [
     (NEXT, &[10, 20, 101], &[(1, 12, 1)], 5),
 ];
 
+/// What the last turn of a call answers, whose rows are copied first.
+fn last_turn(scarce: &Scarce, procedure: &Accepted, args: &[u8], rows: &[Row]) -> Turn {
+    match run_call(scarce, procedure, args, rows, NEVER) {
+        Ok(run) => run.last,
+        Err(SiteFault::OutOfMemory) => Turn::NoMemory,
+        Err(_) => Turn::Stale,
+    }
+}
+
 /// Each growth is refused in turn, until the call comes to its end. Where a row gets no memory the call doesn't begin.
 #[test]
 fn each_refused_growth_ends_a_call(rt: HostRuntime) -> Result<(), Fail> {
     let alloc = rt.alloc();
-    for (program, args, rows, growths) in &GROWTHS {
-        let args = args_of(alloc, args)?;
+    for (program, words, rows, growths) in &GROWTHS {
         let rows = rows_of(alloc, rows)?;
-        let procedure = accepted(alloc, &bytes_of(alloc, program)?, args.len())?;
+        let (procedure, args) = procedure_of(alloc, program, words)?;
         let scarce = Scarce::new(alloc);
         let failed = scarce.refuse_each(|| {
-            let last = match run_call(&scarce, &procedure, &args, &rows, NEVER) {
-                Ok(run) => run.last,
-                Err(SiteFault::OutOfMemory) => Turn::NoMemory,
-                Err(_) => Turn::Stale,
-            };
+            let last = last_turn(&scarce, &procedure, &args, &rows);
             let has_ended = matches!(last, Turn::Exit(_));
             assert!(rt; has_ended || last == Turn::NoMemory, "{program}");
             has_ended
