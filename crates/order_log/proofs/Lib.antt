@@ -1,0 +1,4 @@
+mod Attempts
+mod Facts
+mod Places
+mod Prefixes

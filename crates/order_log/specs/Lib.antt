@@ -1,0 +1,4 @@
+pub mod Attempts
+pub mod Cells
+pub mod Codes
+pub mod Facts
