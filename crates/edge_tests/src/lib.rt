@@ -1,4 +1,4 @@
-//! Tests of the edge: the command line, the engines of `list` and `check`, printed lines, lines of scripts, settings.
+//! Tests of the edge: the command line, the engines of `list` and `check`, what `explain` prints.
 #![tactic(auto)]
 
 #[cfg(test)]

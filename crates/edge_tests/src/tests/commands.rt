@@ -79,18 +79,26 @@ fn listed(
     (status, output.held)
 }
 
-/// So many instructions, and their listing.
-fn exits(rt: &HostRuntime, count: usize) -> Result<(Vec<u8>, String), Fail> {
-    let mut program = Vec::new(rt.alloc());
-    let mut text = String::new(rt.alloc());
-    for slot in 0..count {
+/// So many instructions.
+fn exits(alloc: Global, count: usize) -> Result<Vec<u8>, Fail> {
+    let mut program = Vec::new(alloc);
+    for _ in 0..count {
         program.extend_from_slice(&EXIT)?;
-        let line = format!(in rt.alloc();
-            "{slot:>4} 9500000000000000 exit dst 0 src 0 off 0 imm 0\n"
-        )?;
-        text.push_str(line.as_str())?;
     }
-    Ok((program, text))
+    Ok(program)
+}
+
+fn exit_line(alloc: Global, slot: usize) -> Result<String, Fail> {
+    Ok(format!(in alloc; "{slot:>4} 9500000000000000 exit dst 0 src 0 off 0 imm 0\n")?)
+}
+
+/// Their listing.
+fn listed_exits(alloc: Global, count: usize) -> Result<String, Fail> {
+    let mut text = String::new(alloc);
+    for slot in 0..count {
+        text.push_str(exit_line(alloc, slot)?.as_str())?;
+    }
+    Ok(text)
 }
 
 fn whole(left: &[u8]) -> Input<'_> {
@@ -107,7 +115,8 @@ fn a_program_is_listed(rt: HostRuntime) -> Result<(), Fail> {
         (500, 1),
         (500, 4095),
     ] {
-        let (program, expected) = exits(&rt, count)?;
+        let program = exits(rt.alloc(), count)?;
+        let expected = listed_exits(rt.alloc(), count)?;
         let mut output = Output::new(rt.alloc(), usize::MAX);
         output.at_once = at_once;
         let (status, text) = listed(&rt, rt.alloc(), whole(&program), output);
@@ -120,7 +129,8 @@ fn a_program_is_listed(rt: HostRuntime) -> Result<(), Fail> {
 /// Wherever the output fails, it holds the text as far as it had room.
 #[test]
 fn a_failing_output_answers_3(rt: HostRuntime) -> Result<(), Fail> {
-    let (program, expected) = exits(&rt, 90)?;
+    let program = exits(rt.alloc(), 90)?;
+    let expected = listed_exits(rt.alloc(), 90)?;
     for room in 0..expected.len() {
         let (status, text) = listed(
             &rt,
@@ -153,7 +163,7 @@ fn a_failing_output_answers_3(rt: HostRuntime) -> Result<(), Fail> {
 
 #[test]
 fn a_refusal_is_one_line(rt: HostRuntime) -> Result<(), Fail> {
-    let (mut long, _) = exits(&rt, 4097)?;
+    let mut long = exits(rt.alloc(), 4097)?;
     let (status, text) = listed(&rt, rt.alloc(), whole(&long), Output::new(rt.alloc(), 1000));
     assert_eq!(rt; status, 1);
     assert_eq!(rt; text.as_slice(), b"refused B2 slot 0\n".as_slice());
@@ -383,8 +393,8 @@ const NUMBERS: [(&str, Option<u16>); 15] = [
 
 #[test]
 fn numbers_are_words(rt: HostRuntime) {
-    for (word, number) in NUMBERS {
-        assert_eq!(rt; number_in(word, 0, 256), number, "{word}");
+    for (word, number) in &NUMBERS {
+        assert_eq!(rt; number_in(word, 0, 256), *number, "{word}");
     }
 }
 
@@ -410,7 +420,7 @@ const PAIRS: [(&str, Option<(u8, u16)>); 16] = [
 
 #[test]
 fn tables_are_words(rt: HostRuntime) {
-    for (word, pair) in PAIRS {
-        assert_eq!(rt; table(word), pair, "{word}");
+    for (word, pair) in &PAIRS {
+        assert_eq!(rt; table(word), *pair, "{word}");
     }
 }

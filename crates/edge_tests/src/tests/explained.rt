@@ -1,4 +1,5 @@
 use explanations::explain;
+use std::alloc::Global;
 use std::test::Fail;
 
 /// The letters of refusals, and how many numbers each has from 1 on.
@@ -11,17 +12,29 @@ const LETTERS: [(&str, u32); 6] = [
     ("L", 9),
 ];
 
+fn is_explained(alloc: Global, letter: &str, number: u32) -> Result<bool, Fail> {
+    let word = format!(in alloc; "{letter}{number}")?;
+    Ok(explain(word.as_str()).is_some())
+}
+
+/// Words that are no refusal's number.
+const NO_NUMBERS: [&str; 7] = ["", "V", "v5", "V05", "V0", "5", "V5 "];
+
 #[test]
 fn every_refusal_is_explained(rt: HostRuntime) -> Result<(), Fail> {
-    for (letter, count) in LETTERS {
-        for number in 1..=count {
-            let word = format!(in rt.alloc(); "{letter}{number}")?;
-            assert!(rt; explain(word.as_str()).is_some(), "{letter}{number}");
+    for (letter, count) in &LETTERS {
+        for number in 1..=*count {
+            assert!(rt;
+                is_explained(rt.alloc(), letter, number)?,
+                "{letter}{number}"
+            );
         }
-        let word = format!(in rt.alloc(); "{letter}{}", count.wrapping_add(1))?;
-        assert!(rt; explain(word.as_str()).is_none(), "{letter}");
+        assert!(rt;
+            !is_explained(rt.alloc(), letter, count.wrapping_add(1))?,
+            "{letter}"
+        );
     }
-    for word in ["", "V", "v5", "V05", "V0", "5", "V5 "] {
+    for word in &NO_NUMBERS {
         assert!(rt; explain(word).is_none(), "{word}");
     }
     Ok(())
@@ -44,11 +57,11 @@ const PRINTED: [(&str, &str); 2] = [
 
 #[test]
 fn an_explanation_is_printed(rt: HostRuntime) -> Result<(), Fail> {
-    for (word, text) in PRINTED {
+    for (word, text) in &PRINTED {
         let Some(explanation) = explain(word) else {
             panic!(rt; "no row");
         };
-        assert_eq!(rt; explanation.to_string(rt.alloc())?.as_str(), text);
+        assert_eq!(rt; explanation.to_string(rt.alloc())?.as_str(), *text);
     }
     Ok(())
 }

@@ -1,9 +1,10 @@
 use row_values::Bytes;
 use scarce::Scarce;
 use script::{Command, LineFault, MAX_LINE, Next, command, next_line};
-use std::alloc::Allocator;
+use std::alloc::{Allocator, Global};
 use std::io;
 use std::io::{BufRead, ErrorKind, Read};
+use std::process::Abort;
 use std::test::Fail;
 
 /// A line, and the number of its fault; 0 where it says something.
@@ -86,14 +87,18 @@ const LINES: [(&[u8], u8); 76] = [
     (b"# window 0", 0),
 ];
 
+/// The number of a line's fault; 0 where it says something.
+fn fault_number<A: Allocator + Copy>(alloc: A, line: &[u8]) -> u8 {
+    match command(alloc, line) {
+        Ok(_) => 0,
+        Err(fault) => fault.number(),
+    }
+}
+
 #[test]
 fn lines_have_their_first_fault(rt: HostRuntime) {
-    for (line, number) in LINES {
-        let fault = match command(rt.alloc(), line) {
-            Ok(_) => 0,
-            Err(fault) => fault.number(),
-        };
-        assert_eq!(rt; fault, number);
+    for (line, number) in &LINES {
+        assert_eq!(rt; fault_number(rt.alloc(), line), *number);
     }
 }
 
@@ -106,11 +111,7 @@ fn the_longest_lines(rt: HostRuntime) -> Result<(), Fail> {
     ] {
         let mut line = vec![in rt.alloc(); b'0'; len]?;
         line[0] = first;
-        let fault = match command(rt.alloc(), &line) {
-            Ok(_) => 0,
-            Err(fault) => fault.number(),
-        };
-        assert_eq!(rt; fault, number);
+        assert_eq!(rt; fault_number(rt.alloc(), &line), number);
     }
     assert!(rt; matches!(command(rt.alloc(), b""), Ok(None)));
     Ok(())
@@ -158,21 +159,29 @@ fn given<A: Allocator>(command: &Command<Bytes<A>>) -> Option<Given<'_>> {
     }
 }
 
+/// Whether the line is read as what it gives; where it isn't, it was for want of memory.
+fn is_read(rt: &impl Abort, alloc: &Scarce, line: &[u8], expected: &Given<'_>) -> bool {
+    match command(alloc, line) {
+        Ok(said) => {
+            assert!(rt; said.as_ref().and_then(|said| given(said)).as_ref() == Some(expected));
+            true
+        }
+        Err(fault) => {
+            assert_eq!(rt; fault, LineFault::OutOfMemory);
+            false
+        }
+    }
+}
+
 #[test]
 fn growths_are_refused_in_turn(rt: HostRuntime) {
-    for (line, expected) in GIVEN {
+    for (line, expected) in &GIVEN {
         let scarce = Scarce::new(rt.alloc());
         let mut failed = 0;
         for growth in 1..100 {
             scarce.refuse_nth(growth);
-            match command(&scarce, line) {
-                Ok(said) => {
-                    assert_eq!(rt; said.as_ref().and_then(|said| given(said)), Some(expected));
-                }
-                Err(fault) => {
-                    assert_eq!(rt; fault, LineFault::OutOfMemory);
-                    failed = growth;
-                }
+            if !is_read(&rt, &scarce, line, expected) {
+                failed = growth;
             }
             if scarce.refused() < growth {
                 break;
@@ -214,42 +223,45 @@ impl BufRead for Input<'_> {
     }
 }
 
+/// Inputs, the lines of one that ends, and those of one that fails at its end: a last line is known to be whole by its LF.
+const INPUTS: [(&[u8], &[&[u8]], &[&[u8]]); 5] = [
+    (b"", &[], &[]),
+    (b"a", &[b"a"], &[]),
+    (b"ab\ncd\n", &[b"ab", b"cd"], &[b"ab", b"cd"]),
+    (b"\n\n", &[b"", b""], &[b"", b""]),
+    (b"log\nrows 1", &[b"log", b"rows 1"], &[b"log"]),
+];
+
+/// Reads these lines off an input, and then its end, or that it fails.
+fn read_all(rt: &impl Abort, alloc: Global, mut input: Input<'_>, lines: &[&[u8]]) {
+    let mut line = Vec::new(alloc);
+    for expected in lines {
+        let next = next_line(&mut input, &mut line);
+        assert!(rt; matches!(next, Ok(Next::Line)));
+        assert_eq!(rt; line.as_slice(), *expected);
+    }
+    let fails = input.fails;
+    let end = next_line(&mut input, &mut line);
+    assert_eq!(rt; end.is_err(), fails);
+    assert_eq!(rt; matches!(end, Ok(Next::AtEnd)), !fails);
+}
+
 #[test]
-fn lines_are_read_one_by_one(rt: HostRuntime) -> Result<(), Fail> {
-    let rows: [(&[u8], &[&[u8]]); 5] = [
-        (b"", &[]),
-        (b"a", &[b"a"]),
-        (b"ab\ncd\n", &[b"ab", b"cd"]),
-        (b"\n\n", &[b"", b""]),
-        (b"log\nrows 1", &[b"log", b"rows 1"]),
-    ];
-    for (bytes, lines) in rows {
+fn lines_are_read_one_by_one(rt: HostRuntime) {
+    for (bytes, ended, failed) in &INPUTS {
         for shown in [1, 4, 100] {
             for fails in [false, true] {
-                let mut input = Input {
+                let input = Input {
                     left: bytes,
                     shown,
                     interrupts: false,
                     fails,
                 };
-                let mut line = Vec::new(rt.alloc());
-                for (index, expected) in lines.iter().enumerate() {
-                    let next = next_line(&mut input, &mut line);
-                    // The last may lack its LF, and then it isn't known to be whole.
-                    if fails && index + 1 == lines.len() && !bytes.ends_with(b"\n") {
-                        assert!(rt; next.is_err());
-                    } else {
-                        assert!(rt; matches!(next, Ok(Next::Line)));
-                        assert_eq!(rt; line.as_slice(), *expected);
-                    }
-                }
-                let end = next_line(&mut input, &mut line);
-                assert_eq!(rt; end.is_err(), fails);
-                assert_eq!(rt; matches!(end, Ok(Next::AtEnd)), !fails);
+                let lines = if fails { *failed } else { *ended };
+                read_all(&rt, rt.alloc(), input, lines);
             }
         }
     }
-    Ok(())
 }
 
 /// Of a line that is too long no more is taken than a line may have.

@@ -1,7 +1,8 @@
 use scarce::Scarce;
 use script::command;
 use script_settings::{FaultCause, ScriptFault, Settings};
-use std::alloc::Allocator;
+use std::alloc::{Allocator, Global};
+use std::process::Abort;
 use std::test::Fail;
 
 /// Sets what a line says.
@@ -71,19 +72,23 @@ const FAULTS: [(&[&str], &str); 17] = [
     ),
 ];
 
+/// How the fault of lines is printed; empty where they have none.
+fn fault_of(alloc: Global, lines: &[&str]) -> Result<String, Fail> {
+    let mut settings = Settings::new(alloc)?;
+    match set_all(&mut settings, alloc, lines) {
+        Ok(()) => Ok(String::new(alloc)),
+        Err(fault) => Ok(fault.to_string(alloc)?),
+    }
+}
+
 #[test]
 fn faults_are_printed(rt: HostRuntime) -> Result<(), Fail> {
-    let alloc = rt.alloc();
-    for (lines, text) in FAULTS {
-        let mut settings = Settings::new(alloc)?;
-        let told = match set_all(&mut settings, alloc, lines) {
-            Ok(()) => String::from_str(alloc, "set")?,
-            Err(fault) => format!(in alloc; "{fault}")?,
-        };
-        assert_eq!(rt; told.as_str(), text);
+    for (lines, text) in &FAULTS {
+        let told = fault_of(rt.alloc(), lines)?;
+        assert_eq!(rt; told.as_str(), *text);
     }
     let cause = FaultCause::OutOfMemory;
-    let told = format!(in alloc; "{}", ScriptFault { line: 0, cause })?;
+    let told = ScriptFault { line: 0, cause }.to_string(rt.alloc())?;
     assert_eq!(rt; told.as_str(), "line 0: L9");
     Ok(())
 }
@@ -96,37 +101,48 @@ const LINES: [&str; 5] = [
     ONE,
 ];
 
-/// What the lines set.
-fn settings_of<A: Allocator + Copy>(alloc: A) -> Result<Settings<A>, FaultCause> {
-    let Ok(mut settings) = Settings::new(alloc) else {
-        return Err(FaultCause::OutOfMemory);
-    };
-    for text in LINES {
-        set(&mut settings, alloc, text)?;
+fn set_lines<A: Allocator + Copy>(settings: &mut Settings<A>, alloc: A) -> Result<(), FaultCause> {
+    for text in &LINES {
+        set(settings, alloc, text)?;
     }
-    Ok(settings)
+    Ok(())
 }
 
-/// What the lines set is there, and each growth that is refused is want of memory, unless it can be done without.
+/// Whether what the lines set is there.
+fn has_lines<A: Allocator + Copy>(settings: Settings<A>) -> bool {
+    let limits = settings.window() == Some(4096) && settings.replicas() == Some(8);
+    let catalogue = settings.into_catalogue();
+    let widths = [catalogue.schema().width(64), catalogue.schema().width(1)];
+    limits && catalogue.by_name(b"one") == Some(9) && widths == [Some(128), Some(8)]
+}
+
+/// Whether the lines are set; where they aren't, it was for want of memory.
+fn are_set(rt: &impl Abort, alloc: &Scarce) -> bool {
+    let Ok(mut settings) = Settings::new(alloc) else {
+        return false;
+    };
+    let told = set_lines(&mut settings, alloc);
+    match told {
+        Ok(()) => {
+            assert!(rt; has_lines(settings));
+            true
+        }
+        Err(cause) => {
+            assert!(rt; matches!(cause, FaultCause::OutOfMemory));
+            false
+        }
+    }
+}
+
+/// Each growth that is refused is want of memory, unless it can be done without.
 #[test]
 fn growths_are_refused_in_turn(rt: HostRuntime) {
     let scarce = Scarce::new(rt.alloc());
     let mut failed = 0;
     for growth in 1..500 {
         scarce.refuse_nth(growth);
-        match settings_of(&scarce) {
-            Ok(settings) => {
-                assert_eq!(rt; settings.window(), Some(4096));
-                assert_eq!(rt; settings.replicas(), Some(8));
-                let catalogue = settings.into_catalogue();
-                assert_eq!(rt; catalogue.by_name(b"one"), Some(9));
-                assert_eq!(rt; catalogue.schema().width(64), Some(128));
-                assert_eq!(rt; catalogue.schema().width(1), Some(8));
-            }
-            Err(cause) => {
-                assert!(rt; matches!(cause, FaultCause::OutOfMemory));
-                failed = growth;
-            }
+        if !are_set(&rt, &scarce) {
+            failed = growth;
         }
         if scarce.refused() < growth {
             break;
