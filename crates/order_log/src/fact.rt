@@ -40,6 +40,7 @@ impl<J: LogIdentity, F: Fact, A: Allocator + Copy> Model for EntryFact<J, F, A> 
 }
 
 impl<J: LogIdentity, F: Fact, A: Allocator + Copy> EntryFact<J, F, A> {
+    /// Of the last entry that was seen.
     pub fn new(seen: Seen<J, A>) -> EntryFact<J, F, A>
         requires { HasFact F.shows seen }
     {
@@ -69,6 +70,7 @@ pub struct FactGroup<J: LogIdentity, F: Fact, A: Allocator + Copy = Global> {
 }
 
 impl<J: LogIdentity, F: Fact, A: Allocator + Copy> FactGroup<J, F, A> {
+    /// A group of empty cells.
     pub fn new(alloc: Global) -> Result<Box<FactGroup<J, F, A>>, AllocError> {
         let mut cells = Vec::with_capacity(alloc, GROUP)?;
         for _ in 0..GROUP {
@@ -77,6 +79,7 @@ impl<J: LogIdentity, F: Fact, A: Allocator + Copy> FactGroup<J, F, A> {
         Ok(Box::new(alloc, FactGroup { cells })?)
     }
 
+    /// The cell at a place, from 0 on.
     pub fn at(&self, place: usize) -> &OnceBox<Option<EntryFact<J, F, A>>>
         requires { place < 1024 }
     {

@@ -4,11 +4,13 @@
 
 pub use cells::GroupCells;
 pub use fact::Fact;
-pub use log::{AppendFault, LIMIT, OrderLog};
+pub use fault::AppendFault;
+pub use log::{LIMIT, OrderLog};
 pub use seen::{LogIdentity, Seen};
 
 mod cells;
 mod fact;
+mod fault;
 mod group;
 mod log;
 mod seen;

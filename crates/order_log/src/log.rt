@@ -5,10 +5,11 @@ ghost use Rattle.log_entry.specs.declared.entry.Entry.{Entry as LogEntry};
 ghost use Rattle.once_cell.specs.Once.{cell_name};
 ghost use Rattle.order_log.specs.Attempts.{IsAttempt, IsPlacing};
 ghost use Rattle.order_log.specs.Facts.{HasFact, HasFactAfter, snapshot_of};
-ghost use Rattle.order_log.specs.declared.log.AppendFault.TheVariants.{Full, SnapshotUnseen};
+ghost use Rattle.order_log.specs.declared.fault.AppendFault.TheVariants.{Full, SnapshotUnseen};
 
 use crate::cells::GroupCells;
 use crate::fact::{EntryFact, Fact, FactGroup};
+use crate::fault::AppendFault;
 use crate::group::GROUP;
 use crate::seen::{LogIdentity, Seen};
 use known::Known;
@@ -18,16 +19,6 @@ use std::alloc::{AllocError, Allocator, Global};
 
 /// The most entries of a log.
 pub const LIMIT: u32 = 1_048_576;
-
-/// Why an entry was not added.
-#[derive(Clone, Copy, Debug, PartialEq, Eq)]
-pub enum AppendFault {
-    /// The log takes no more entries.
-    Full,
-    OutOfMemory,
-    /// The snapshot of a call is past what was seen.
-    SnapshotUnseen,
-}
 
 /// What came of an entry at the place after what was seen.
 enum Attempt<A: Allocator + Copy = Global> {
