@@ -1,12 +1,12 @@
 //! Logs that are drawn from a seed, and the entries that they are shipped as.
 
-use super::entries::{addition_of, idle_call};
 use dsm_replayer::{ItemReport, PlainCall, PlainItem, PlainItemKind, PlainProcedure};
 use log_entry::{Entry, ExecutedCall};
 use log_model::RequestId;
 use rand_core::utils::NextWord;
 use rand_pcg::Pcg32;
 use row_values::Bytes;
+use sample_entries::{addition_of, idle_call};
 use sample_procedures::{ONE, PROCEDURES, args_of, procedure_of};
 use schema::Schema;
 use std::alloc::Global;

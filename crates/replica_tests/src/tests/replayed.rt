@@ -2,9 +2,7 @@
 
 ghost use Rattle.std.specs.Prelude.{◌<◌, ◌^◌, length};
 
-use super::certification_at;
 use super::drawn::{KEYS, NUMBERS, drawn_log, name_of, shipped};
-use super::entries::catalogue_of;
 use catalogue::Catalogue;
 use checked_replica::CheckedReplica;
 use dsm_replayer::{
@@ -13,6 +11,7 @@ use dsm_replayer::{
 };
 use log_model::{Identifier, RequestId, Verdict};
 use replica::Replica;
+use sample_entries::{catalogue_of, certification_at};
 use sample_procedures::{PROCEDURES, TABLES, setting_of};
 use schema::{Look, Schema};
 use std::alloc::Global;

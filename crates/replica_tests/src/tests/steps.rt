@@ -1,12 +1,11 @@
 //! Logs that are written down, with the verdicts, rows and procedures that a replica comes to.
 
-use super::entries::{EntryCase, entry_of, small_catalogue};
-use super::{byte_at, certification_at};
 use catalogue::Catalogue;
 use checked_replica::CheckedReplica;
 use log_entry::Entry;
 use log_model::{Identifier, Verdict};
 use replica::Replica;
+use sample_entries::{EntryCase, byte_at, certification_at, entry_of, small_catalogue};
 use std::alloc::Global;
 use std::test::Fail;
 

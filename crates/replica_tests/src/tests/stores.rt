@@ -1,9 +1,9 @@
 //! Rows at a position, while later calls are delivered.
 
-use super::entries::{EntryCase, entry_of, small_catalogue};
 use catalogue::Catalogue;
 use checked_replica::CheckedReplica;
 use replica::Replica;
+use sample_entries::{EntryCase, entry_of, small_catalogue};
 use std::alloc::Global;
 use std::test::Fail;
 use txn_view::{Gone, Store};

@@ -1,12 +1,12 @@
 //! A replica that finds no memory for an entry: each growth of a delivery is refused in turn.
 
-use super::entries::{EntryCase, addition_of, entries_of, entry_of, small_catalogue};
 use super::states::{State, is_in};
 use catalogue::Catalogue;
 use checked_replica::CheckedReplica;
 use log_entry::Entry;
 use log_model::{Identifier, Verdict};
 use replica::{Replica, Stopped};
+use sample_entries::{EntryCase, addition_of, entries_of, entry_of, small_catalogue};
 use sample_procedures::ONE;
 use scarce::Scarce;
 use schema::Schema;

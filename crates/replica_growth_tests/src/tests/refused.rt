@@ -1,6 +1,5 @@
 //! What stands where a growth is refused: each growth of an install, of a rebuilding and of a list of the rows in turn.
 
-use super::entries::{EntryCase, entries_of, small_catalogue};
 use super::states::{State, is_in};
 use catalogue::Catalogue;
 use checked_replica::{CheckedReplica, CheckedVersions};
@@ -9,6 +8,7 @@ use log_model::Verdict;
 use replica::Replica;
 use row_sets::WriteSet;
 use rows_mv::{Gone, Versions};
+use sample_entries::{EntryCase, entries_of, small_catalogue};
 use sample_procedures::TABLES;
 use scarce::Scarce;
 use schema::Schema;

@@ -1,8 +1,8 @@
 //! What a replica says of itself.
 
-use super::{byte_at, certification_at};
 use log_model::Verdict;
 use replica::Replica;
+use sample_entries::{byte_at, certification_at};
 use std::alloc::{Allocator, Global};
 
 /// What a replica is to say of itself: what became of each entry that it has; the bytes at keys 1 and 2; how many rows there

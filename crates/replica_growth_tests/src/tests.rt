@@ -1,0 +1,4 @@
+mod pages;
+mod refused;
+mod refused_growths;
+mod states;
