@@ -93,6 +93,10 @@ addition_count (AdditionItem p ∷ later) = 1 + addition_count later
 abbrev pub call_count : World → ℕ
 call_count world = length world.calls + addition_count world.log
 
+-- no call can be begun and no procedure added any more
+abbrev pub is_full : World → Bool
+is_full world = nat_le max_calls (call_count world)
+
 abbrev pub position_of : Option Replica → ℕ
 position_of None = 0
 position_of (Some replica) = replica.position
@@ -121,7 +125,7 @@ after_begin world r procedure args request (Some replica) None = (Refused NoProc
 after_begin world r procedure args request (Some replica) (Some p) =
     if not (length args == p.args_len) then (Refused ArgumentsLength, world)
     else if has_zero request then (Refused ZeroInRequest, world)
-    else if nat_le max_calls (call_count world) then (Refused TooManyCalls, world)
+    else if is_full world then (Refused TooManyCalls, world)
     else (Begun (length world.calls + 1) replica.position, with_begun world r (new_call world procedure args request replica.position))
 
 -- ---- Turn
@@ -196,7 +200,7 @@ after_add_checked world name number args_len (Passed program) =
 
 abbrev pub after_add : World → List ℕ → ℕ → ℕ → Checked → Outcome × World
 after_add world name number args_len checked =
-    if nat_le max_calls (call_count world) then (Refused TooManyCalls, world)
+    if is_full world then (Refused TooManyCalls, world)
     else if nat_lt 256 args_len then (Refused ArgumentsLimit, world)
     else after_add_checked world name number args_len checked
 
