@@ -1,6 +1,7 @@
 //! The machine, its turns and its run.
 
 ghost use Rattle.std.specs.Prelude.{◌≡◌, ◌≢◌, ◌↔◌, ◌<◌, ◌≤◌, ℕ, List, length, IfOk, IsErr};
+ghost use Rattle.bpf_code.specs.Program.{instruction_at};
 ghost use Rattle.schema.specs.Rows.{Rows};
 ghost use Rattle.bpf_semantics.specs.State.{State};
 ghost use Rattle.bpf_semantics.specs.Path.{longest_path};
@@ -15,6 +16,7 @@ use crate::laws::{open_calls_can_turn, runs_go_on_or_end};
 use crate::step::step;
 use crate::turn::Turn;
 use acceptance::accepted_programs_never_go_wrong;
+use bpf_code::Instruction;
 use bpf_semantics::states_fit;
 use bpf_verify::Accepted;
 use std::alloc::Allocator;
@@ -70,6 +72,16 @@ impl Machine {
         ensures { result ≡ self.now.last }
     {
         self.last
+    }
+
+    /// The instruction that the next turn runs.
+    pub fn next<A: Allocator, B: Allocator>(
+        &self,
+        procedure: &Accepted<A, B>,
+    ) -> Option<Instruction>
+        ensures { result ≡ instruction_at procedure.now.program self.now.words.slot }
+    {
+        procedure.code().at(self.words.slot())
     }
 
     /// The next instruction. Where the last turn didn't answer that there is more, nothing is done, and it answers

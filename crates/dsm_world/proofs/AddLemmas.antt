@@ -25,7 +25,8 @@ use Rattle.world_calls.specs.declared.open_call.OpenCall.{OpenCall as OpenCallSt
 use Rattle.dsm_world.specs.System.{SystemWorld, setting_of, progress_of, world_of}
 use Rattle.dsm_world.specs.Holdings.{IsTogether}
 use Rattle.dsm_world.proofs.StepLemmas.{Done, yes, no, is_le, not_le, is_lt, not_lt}
-use Rattle.dsm_world.proofs.EntryLemmas.{OneMore, items_append, items_count, all_snoc, entries_snoc, follows_grown}
+use Rattle.replica.proofs.EntryLemmas.{OneMore, items_append, items_count, all_snoc, entries_snoc}
+use Rattle.dsm_world.proofs.EntryLemmas.{follows_grown}
 use Rattle.dsm_world.proofs.CallLemmas.{append_map, open_facts, replica_grown, with_entry}
 
 -- ---- results

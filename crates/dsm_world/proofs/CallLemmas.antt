@@ -30,7 +30,8 @@ use Rattle.dsm_world.specs.Turned.{outcome_of, IsAppended}
 use Rattle.dsm_world.specs.Holdings.{IsReplicaOf, IsTogether, open_calls_of}
 use Rattle.dsm_world.proofs.Numbered.{get_map, set_map, set_same, set_twice, get_set, get_snoc, numbered_map, numbered_at, with_numbered_at}
 use Rattle.dsm_world.proofs.StepLemmas.{is_gone, turn_on, order_early, order_cancelled, order_read, order_full, order_new, order_without_memory, begin_new}
-use Rattle.dsm_world.proofs.EntryLemmas.{OneMore, take_first, take_drop, take_count, items_append, items_count, all_snoc, entries_taken, entries_snoc, follows_grown}
+use Rattle.replica.proofs.EntryLemmas.{OneMore, take_first, take_drop, take_count, items_append, items_count, all_snoc, entries_taken, entries_snoc}
+use Rattle.dsm_world.proofs.EntryLemmas.{follows_grown}
 use Rattle.dsm_world.proofs.ReplicaLemmas.{ProceduresFollow, log_count, get_is, same_item, known, found_at, in_procedures}
 
 -- what the law of entries says of rows

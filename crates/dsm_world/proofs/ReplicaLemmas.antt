@@ -27,7 +27,7 @@ use Rattle.dsm_world.specs.System.{SystemWorld, setting_of, progress_of, world_o
 use Rattle.dsm_world.specs.Holdings.{IsReplicaOf, IsTogether, HasSameTables, HasDelivered, HasStopped}
 use Rattle.dsm_world.proofs.Numbered.{get_map, set_map, get_set, get_lt, numbered_map, numbered_at, with_numbered_at, numbered_none}
 use Rattle.dsm_world.proofs.StepLemmas.{deliver_nothing, deliver_stopped, deliver_new, deliver_without_memory, rebuild_new}
-use Rattle.dsm_world.proofs.EntryLemmas.{take_all, take_next, take_drop, take_count, items_append, items_count, all_at, placed_at, entries_taken}
+use Rattle.replica.proofs.EntryLemmas.{take_all, take_next, take_drop, take_count, items_append, items_count, all_at, placed_at, entries_taken}
 
 -- what laws of the model and of replicas say
 abbrev pub Keeps : Type 0

@@ -17,7 +17,7 @@ use Rattle.dsm_world.specs.declared.step.Step.{Step as GivenStep}
 use Rattle.dsm_world.specs.System.{SystemWorld, setting_of, world_of, step_of, progress_of, KeepsDelivered}
 use Rattle.dsm_world.specs.Holdings.{IsReplicaOf, IsTogether}
 use Rattle.dsm_world.proofs.Numbered.{get_snoc}
-use Rattle.dsm_world.proofs.EntryLemmas.{take_drop, take_count, items_append, items_count, entries_taken}
+use Rattle.replica.proofs.EntryLemmas.{take_drop, take_count, items_append, items_count, entries_taken}
 use Rattle.dsm_world.proofs.CallLemmas.{append_map}
 use Rattle.dsm_world.proofs.ReplicaLemmas.{has_reached, ProceduresFollow, procedures_held}
 

@@ -37,8 +37,7 @@ pub(crate) fn order<A: Allocator + Copy>(world: &mut Holdings<A>, call: u32) -> 
         return Outcome::Refused(StepRefusal::NotAtExit);
     };
     let open_call = Box::into_inner(open_call);
-    let store = world.replicas[open_call.replica as usize - 1].at(open_call.snapshot);
-    match open_call.complete(store) {
+    match open_call.complete() {
         Completion::Cancelled { snapshot, code } => Outcome::Cancelled { snapshot, code },
         Completion::Read { snapshot, reply } => Outcome::Read { snapshot, reply },
         Completion::Wrote(call) => append(&mut world.entries, call),

@@ -16,6 +16,15 @@ carries_grown w log more e le is =
       reply = is.reply ∙ ap (λ (r : Run). r.reply) same;
     }
 
+pub carries_before : (w : Setting) (log more : Log) (e : ExecutedCall) → e.call.snapshot ≤ length log → CarriesRun w (log ++ more) e → CarriesRun w log e
+carries_before w log more e le is =
+    let same = run_grown w log more e.call le in
+    record {
+      looks = is.looks ∙ ap (λ r. r.looks) same;
+      writes = is.writes ∙ ap (λ r. r.writes) same;
+      reply = is.reply ∙ ap (λ r. r.reply) same;
+    }
+
 carried_grown : (w : Setting) (log more : Log) (n : ℕ) (e : Entry) → IsPlaced n (item_of e) → n ≤ length log → IsCarried w log e → IsCarried w (log ++ more) e
 carried_grown w log more n (CallEntry e) below le is = carries_grown w log more e (omega arith) is
 carried_grown w log more n (AdditionEntry p) below le is = tt

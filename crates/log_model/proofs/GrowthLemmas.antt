@@ -65,6 +65,9 @@ is_log_snoc n (first ∷ log) item below le =
 pub is_call_grown : (w : Setting) (log more : Log) (call : Call) → call.snapshot ≤ length log → IsCall w log call → IsCall w (log ++ more) call
 is_call_grown w log more call le is = subst (λ (ps : Catalogue). IsCallOf ps call) (sym (procedures_grown w log more call.snapshot le)) is
 
+pub is_call_before : (w : Setting) (log more : Log) (call : Call) → call.snapshot ≤ length log → IsCall w (log ++ more) call → IsCall w log call
+is_call_before w log more call le is = subst (λ (ps : Catalogue). IsCallOf ps call) (procedures_grown w log more call.snapshot le) is
+
 is_item_grown : (w : Setting) (log more : Log) (n : ℕ) (item : Item) → IsPlaced n item → n ≤ length log → IsItem w log item → IsItem w (log ++ more) item
 is_item_grown w log more n (CallItem call) below le is = is_call_grown w log more call (omega arith) is
 is_item_grown w log more n (AdditionItem p) below le is = is

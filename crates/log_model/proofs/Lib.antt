@@ -10,4 +10,4 @@ pub mod RepetitionLemmas
 mod AdditionLemmas
 mod ComparisonLemmas
 pub mod EntryLemmas
-mod CarryLemmas
+pub mod CarryLemmas

@@ -14,9 +14,10 @@ ghost use Rattle.log_model.specs.Log.{StoredProcedure, CertifiedItem, Setting, C
 ghost use Rattle.log_model.specs.declared.request.RequestId.{RequestId};
 ghost use Rattle.log_model.specs.Log.{IsLog, no_request, same_request};
 ghost use Rattle.log_model.specs.Log.{by_number, by_name, if_commits, history, rows_after, procedures_after, verdict_of, run_on, run_in};
-ghost use Rattle.log_model.specs.Fit.{AreSafe, HasSafeProcedures, AreItems};
+ghost use Rattle.log_model.specs.Fit.{AreSafe, HasSafeProcedures, IsCall, AreItems};
 ghost use Rattle.log_model.specs.Verdicts.{IsConflict, IsLeastConflict, IsRepetition, IsNew};
-ghost use Rattle.log_model.specs.Entries.{Entry, item_of, items_of, IsCarried, CarryRuns, certified_entries_of, installed_from};
+ghost use Rattle.log_model.specs.Entries.{Entry, ExecutedCall, item_of, items_of, CarriesRun, IsCarried, CarryRuns};
+ghost use Rattle.log_model.specs.Entries.{certified_entries_of, installed_from};
 ghost use Rattle.log_model.specs.Log.{moment_at};
 
 /// The procedures after each position: the catalogue's at first; a call leaves them; an addition that commits
@@ -148,6 +149,14 @@ pub fn entries_suffice()
         → position ≤ length entries
         → map_after (installed_from 1 (certified_entries_of w.window w.catalogue entries).certified) position
         ≡ rows_after w (items_of entries) position }
+{}
+
+/// What a call asks of the log it asks of the items up to its snapshot alone: that it is one, and that an entry carries its run.
+pub fn calls_ask_up_to_their_snapshots()
+    ensures is_call { (w : Setting) (log more : Log) (call : Call) → call.snapshot ≤ length log
+        → (IsCall w (log ++ more) call ↔ IsCall w log call) }
+    ensures run { (w : Setting) (log more : Log) (e : ExecutedCall) → e.call.snapshot ≤ length log
+        → (CarriesRun w (log ++ more) e ↔ CarriesRun w log e) }
 {}
 
 /// A procedure that is found at a position is found at each later one.

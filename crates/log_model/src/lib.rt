@@ -3,11 +3,11 @@
 #![tactic(auto)]
 
 pub use laws::{
-    a_log_only_grows, comparisons_in_words_of_the_log, each_call_has_a_verdict,
-    each_request_commits_once, entries_suffice, one_more_entry_carries_its_run,
-    procedures_after_each_item, procedures_are_never_lost, procedures_stay_safe,
-    requests_are_the_same_where_they_are_equal, rows_are_installed_writes, rows_fit_the_schema,
-    verdicts_in_words_of_the_log, verdicts_on_additions_in_words_of_the_log,
+    a_log_only_grows, calls_ask_up_to_their_snapshots, comparisons_in_words_of_the_log,
+    each_call_has_a_verdict, each_request_commits_once, entries_suffice,
+    one_more_entry_carries_its_run, procedures_after_each_item, procedures_are_never_lost,
+    procedures_stay_safe, requests_are_the_same_where_they_are_equal, rows_are_installed_writes,
+    rows_fit_the_schema, verdicts_in_words_of_the_log, verdicts_on_additions_in_words_of_the_log,
 };
 pub use request::RequestId;
 pub use verdict::{Identifier, Verdict};

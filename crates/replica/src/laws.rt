@@ -7,19 +7,20 @@ ghost use Rattle.schema.specs.Rows.{Rows, Writes, AreWrites, after_writes};
 ghost use Rattle.rows_mv.specs.Versions.{Versions, AnswersFrom, HaveTables, width_of};
 ghost use Rattle.log_model.specs.declared.verdict.Verdict.{Verdict};
 ghost use Rattle.log_model.specs.Log.{Catalogue, CertifiedItem, Setting, is_commit, verdict_of, if_commits, rows_after, procedures_after};
-ghost use Rattle.log_model.specs.Log.{certified_addition, verdict_on_addition};
+ghost use Rattle.log_model.specs.Log.{IsPlaced, certified_addition, verdict_on_addition};
+ghost use Rattle.log_model.specs.Fit.{IsItem};
 ghost use Rattle.certify.specs.Kept as certifier;
 ghost use Rattle.certify.specs.Kept.{Memory};
 ghost use Rattle.rows_mv.specs.Versions.{IsInstalled};
 ghost use Rattle.stored_procedures.specs.Held.{ListedProcedure, AreForTables, stored, stored_procedures};
-ghost use Rattle.log_model.specs.Entries.{Entry, AdditionEntry, CertifiedEntries, items_of, certified_entry, with_entry};
+ghost use Rattle.log_model.specs.Entries.{Entry, AdditionEntry, CertifiedEntries, item_of, items_of, IsCarried, certified_entry, with_entry};
 ghost use Rattle.log_model.specs.Entries.{certified_entries_of};
 ghost use Rattle.key_table.specs.Table.{Table};
 ghost use Rattle.replica.specs.declared.certification.Certification.{Certification};
 ghost use Rattle.replica.specs.Replica.{AreEntriesOf, FitTables, Replica, StandsFor, rows_kept};
 ghost use Rattle.replica.specs.Delivery.{IsDelivered, IsRefusedDelivery, KeepsCertified};
 
-use log_model::entries_suffice;
+use log_model::{entries_suffice, one_more_entry_carries_its_run};
 use row_model::map_after_each_write_set;
 use rows_mv::answers_after_an_install;
 
@@ -94,4 +95,12 @@ pub fn replicas_follow_the_log()
         ≡ Some (certified_entry w.window (certified_entries_of w.window w.catalogue entries) e).verdict }
 {
     entries_suffice();
+}
+
+/// One more entry behind those of a log is of that log too, where it is placed there, is an item of the log and carries its run.
+pub fn one_more_entry()
+    ensures { (w : Setting) (entries : List Entry) (e : Entry) → AreEntriesOf w entries → IsPlaced (length entries) (item_of e)
+        → IsItem w (items_of entries) (item_of e) → IsCarried w (items_of entries) e → AreEntriesOf w (entries ++ e ∷ []) }
+{
+    one_more_entry_carries_its_run();
 }

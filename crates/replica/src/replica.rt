@@ -253,10 +253,14 @@ impl<A: Allocator + Copy, P: Allocator + Copy> Replica<A, P> {
     pub fn verdict_at(&self, position: u32) -> Certification
         requires from { 1 ≤ position }
         requires to { position ≤ self.now.position }
-        ensures { (base : Procedures) (entries : List Delivered) (e : Delivered) → StandsFor base self.now entries
+        ensures kept { (base : Procedures) (entries : List Delivered) (e : Delivered) → StandsFor base self.now entries
             → slice_get entries (position - 1) ≡ Some e
             → result ≡ certification_of self.now.window base entries (position - 1) e }
+        ensures log_verdict { (w : Setting) (entries : List Delivered) → w.window ≡ self.now.window
+            → StandsFor w.catalogue self.now entries → AreEntriesOf w entries
+            → verdict_of w (items_of entries) position ≡ Some result.verdict }
     {
+        replicas_follow_the_log();
         self.certifications[position as usize - 1]
     }
 }

@@ -3,7 +3,7 @@
 
 pub use fault::ReadFault;
 pub use read::{count_rows, next_row, read_row};
-pub use store::{Gone, Store};
+pub use store::{Gone, NoStore, Store};
 pub use view::{Own, View};
 
 mod fault;

@@ -39,3 +39,27 @@ pub trait Store {
             IfSome found (λ row. (look.lo ≤ row.0) × (row.0 ≤ look.hi))) }
         ensures gone { is_err result ≡ is_gone self.now };
 }
+
+/// Rows that are gone, whatever they are: what an instruction that looks at none can do without a store.
+#[derive(Clone, Copy, Debug, PartialEq, Eq, Drop)]
+pub struct NoStore;
+
+impl Store for NoStore {
+    ghost use Rattle.std.specs.Prelude.{true};
+
+    ghost answers_from = { λ _ _. Unit {0} };
+
+    ghost is_gone = { λ _. true };
+
+    fn get(&self, _table: u8, _key: u64) -> Result<Option<&[u8]>, Gone> {
+        Err(Gone)
+    }
+
+    fn count(&self, _look: Look) -> Result<u64, Gone> {
+        Err(Gone)
+    }
+
+    fn next(&self, _look: Look) -> Result<Option<(u64, &[u8])>, Gone> {
+        Err(Gone)
+    }
+}

@@ -39,6 +39,24 @@ impl<A: Allocator + Copy> Own<A> {
             cancel_code: None,
         }
     }
+
+    /// What the call has looked at, what it has written, and its cancel code. A call that cancelled has
+    /// written nothing. Takes no memory.
+    pub fn finish(self) -> (ReadSet<A>, WriteSet<A>, Option<u64>)
+        ensures looks { result.0 ≡ self.looks }
+        ensures writes { result.1 ≡ unless_cancelled self.cancel_code self.writes empty }
+        ensures cancelled { result.2 ≡ self.cancel_code }
+    {
+        let Own {
+            looks,
+            mut writes,
+            cancel_code,
+        } = self;
+        if cancel_code.is_some() {
+            writes.clear();
+        }
+        (looks, writes, cancel_code)
+    }
 }
 
 impl<S: Store, A: Allocator + Copy> View<S, A> {
@@ -59,8 +77,7 @@ impl<S: Store, A: Allocator + Copy> View<S, A> {
         self.own
     }
 
-    /// What the call has looked at, what it has written, and its cancel code. A call that cancelled has
-    /// written nothing. Takes no memory.
+    /// As `Own::finish`.
     pub fn finish(self) -> (ReadSet<A>, WriteSet<A>, Option<u64>)
     where
         S: Drop,
@@ -68,15 +85,7 @@ impl<S: Store, A: Allocator + Copy> View<S, A> {
         ensures writes { result.1 ≡ unless_cancelled self.own.cancel_code self.own.writes empty }
         ensures cancelled { result.2 ≡ self.own.cancel_code }
     {
-        let Own {
-            looks,
-            mut writes,
-            cancel_code,
-        } = self.pause();
-        if cancel_code.is_some() {
-            writes.clear();
-        }
-        (looks, writes, cancel_code)
+        self.pause().finish()
     }
 
     /// The row becomes these bytes.

@@ -97,8 +97,8 @@ impl<A: Allocator + Copy> OpenCall<A> {
         requires { (w : Setting) × (log : Log) × CanGoOn w log accepted.now (S.answers_from store) self.old }
         ensures turn { (w : Setting) (log : Log) → CanGoOn w log accepted.now (S.answers_from store) self.old
             → IsTurn w log (S.is_gone store) (open_call_of self.old) result (open_call_of self.new) }
-        ensures follows { (w : Setting) (log : Log) → CanGoOn w log accepted.now (S.answers_from store) self.old
-            → stays_open result ≡ true → Follows w log self.new }
+        ensures goes_on { (w : Setting) (log : Log) → CanGoOn w log accepted.now (S.answers_from store) self.old
+            → stays_open result ≡ true → CanGoOn w log accepted.now (S.answers_from store) self.new }
     {
         match self.machine.last() {
             Turn::More => self.advance(alloc, accepted, store),
@@ -117,8 +117,8 @@ impl<A: Allocator + Copy> OpenCall<A> {
         requires can { (w : Setting) × (log : Log) × CanGoOn w log accepted.now (S.answers_from store) self.old }
         ensures turn { (w : Setting) (log : Log) → CanGoOn w log accepted.now (S.answers_from store) self.old
             → IsTurn w log (S.is_gone store) (open_call_of self.old) result (open_call_of self.new) }
-        ensures follows { (w : Setting) (log : Log) → CanGoOn w log accepted.now (S.answers_from store) self.old
-            → stays_open result ≡ true → Follows w log self.new }
+        ensures goes_on { (w : Setting) (log : Log) → CanGoOn w log accepted.now (S.answers_from store) self.old
+            → stays_open result ≡ true → CanGoOn w log accepted.now (S.answers_from store) self.new }
     {
         accepted_programs_never_go_wrong();
         // So that the count of turns is known to fit.
@@ -147,7 +147,7 @@ impl<A: Allocator + Copy> OpenCall<A> {
     }
 
     /// What comes of a call that is at its end.
-    pub fn complete<S: Store + Drop>(self, store: S) -> Completion<A>
+    pub fn complete(self) -> Completion<A>
         requires { (reply : ℕ) × (self.machine.last ≡ Exit reply) }
         ensures { (w : Setting) (log : Log) → Follows w log self → IsCompletion w log (call_of self) result }
     {
@@ -155,7 +155,7 @@ impl<A: Allocator + Copy> OpenCall<A> {
         let Turn::Exit(reply) = self.machine.last() else {
             unreachable!()
         };
-        let (reads, writes, cancel_code) = View::over(store, self.own).finish();
+        let (reads, writes, cancel_code) = self.own.finish();
         if let Some(code) = cancel_code {
             return Completion::Cancelled {
                 snapshot: self.snapshot,

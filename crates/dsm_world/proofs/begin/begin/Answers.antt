@@ -11,7 +11,7 @@ use Rattle.dsm_world.specs.System.{setting_of, progress_of, world_of}
 use Rattle.dsm_world.specs.Holdings.{system_of, call_slots, IsTogether}
 use Rattle.dsm_model.specs.Sound.{IsWorld}
 use Rattle.world_calls.proofs.CallLemmas.{each_byte}
-use Rattle.dsm_world.proofs.EntryLemmas.{items_count}
+use Rattle.replica.proofs.EntryLemmas.{items_count}
 use Rattle.dsm_world.proofs.StepLemmas.{begin_no_replica, begin_no_procedure, begin_other_length, begin_too_many, begin_without_memory, begin_zero}
 use Rattle.dsm_world.proofs.ReplicaLemmas.{replica_at, get_is, no_replica, has_reached, unknown, known, found_at, in_procedures}
 use Rattle.dsm_world.proofs.CallLemmas.{with_slots, map_count, calls_are, begins, call_entered}

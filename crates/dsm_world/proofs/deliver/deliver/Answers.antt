@@ -2,7 +2,7 @@ use Rattle.std.proofs.Common.{◌+◌, length, refl, sym, ap, subst, ◌∙◌, 
 use Rattle.dsm_model.specs.declared.outcome.Outcome.TheVariants.{Delivered}
 use Rattle.log_entry.specs.Kind.{entry_of}
 use Rattle.std.proofs.lemmas.List.{length-map}
-use Rattle.dsm_world.proofs.EntryLemmas.{all_at}
+use Rattle.replica.proofs.EntryLemmas.{all_at}
 use Rattle.dsm_model.specs.World.{Deliver, IsStep}
 use Rattle.replica.specs.Replica.{Replica, IsForTables, writes_in}
 use Rattle.dsm_world.specs.System.{setting_of, world_of}

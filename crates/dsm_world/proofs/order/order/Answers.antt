@@ -1,10 +1,10 @@
-use Rattle.std.proofs.Common.{◌-◌, List, length, map, option_map, slice_set, Option, Some, None, refl, sym, ap, subst, ◌∙◌, arith}
+use Rattle.std.proofs.Common.{List, length, map, option_map, slice_set, Option, Some, None, refl, sym, ap, subst, ◌∙◌, arith}
 use Rattle.dsm_model.specs.declared.outcome.StepRefusal.TheVariants.{NotAtExit}
 use Rattle.dsm_model.specs.declared.outcome.Outcome.TheVariants.{Cancelled, Read, Refused}
 use Rattle.log_model.specs.Entries.{items_of}
 use Rattle.dsm_model.specs.World.{Order, IsStep}
 use Rattle.dsm_model.specs.Sound.{IsWorld}
-use Rattle.replica.specs.Replica.{Replica, entries_of}
+use Rattle.replica.specs.Replica.{entries_of}
 use Rattle.world_calls.specs.OpenCall.{call_of, open_call_of, Follows, IsReplyOf, IsCompletion}
 use Rattle.world_calls.specs.declared.completion.Completion.TheVariants as completion
 use Rattle.world_calls.specs.declared.open_call.OpenCall.{OpenCall as OpenCallState}
@@ -12,7 +12,7 @@ use Rattle.dsm_world.specs.System.{setting_of, world_of}
 use Rattle.dsm_world.specs.Holdings.{system_of, call_slots, IsTogether}
 use Rattle.dsm_world.proofs.Numbered.{get_lt}
 use Rattle.dsm_world.proofs.StepLemmas.{order_no_call}
-use Rattle.dsm_world.proofs.CallLemmas.{with_slots, no_call, slot_changed, open_facts, call_replica, map_count, set_count, put_back, early, cancelled, read, IsToAppend, with_entries, append_steps, appended_together, one_more_for, same_additions}
+use Rattle.dsm_world.proofs.CallLemmas.{with_slots, no_call, slot_changed, open_facts, map_count, set_count, put_back, early, cancelled, read, IsToAppend, with_entries, append_steps, appended_together, one_more_for, same_additions}
 use Rattle.dsm_world.proofs.order.order.Goals as goal
 
 pub returns-in_default-clause-step : goal.returns-in_default-clause-step
@@ -54,35 +54,6 @@ returns-in_default-reply-clause-consistent g c =
       for_tables = c.requires.for_tables;
       additions = c.requires.additions;
     }
-
-pub overflow_sub-open_call : goal.overflow_sub-open_call
-overflow_sub-open_call g c =
-    let s = system_of c.args.world.now in
-    let f = open_facts s (call_slots c.args.world.now) c.args.call c.in-Some.at c.in-Some.open_call.value c.requires.together c.in-Some.ensures.place c.in-Some.ensures.stood in
-    let place = ap (λ (x : OpenCallState _). x.replica) c.into_inner-open_call.ensures ∙ f.place in
-    omega arith
-
-pub index-requires : goal.index-requires
-index-requires g c =
-    let s = system_of c.args.world.now in
-    let f = open_facts s (call_slots c.args.world.now) c.args.call c.in-Some.at c.in-Some.open_call.value c.requires.together c.in-Some.ensures.place c.in-Some.ensures.stood in
-    let place = ap (λ (x : OpenCallState _). x.replica) c.into_inner-open_call.ensures ∙ f.place in
-    let lt = get_lt s.replicas f.j f.r f.stands in
-    omega arith
-
-pub at-store-requires : goal.at-store-requires
-at-store-requires g c =
-    let s = system_of c.args.world.now in
-    let o = c.in-Some.open_call.value in
-    let f = open_facts s (call_slots c.args.world.now) c.args.call c.in-Some.at o c.requires.together c.in-Some.ensures.place c.in-Some.ensures.stood in
-    let at = ap (λ (x : OpenCallState _). x.replica) c.into_inner-open_call.ensures in
-    let place = f.place in
-    let lt = get_lt s.replicas f.j f.r f.stands in
-    let same = call_replica s c.args.call o f (c.into_inner-open_call.result.replica - 1) c.index.result.now (omega arith) (omega arith) c.index.ensures in
-    let snapshot = ap (λ (x : OpenCallState _). x.snapshot) c.into_inner-open_call.ensures in
-    let position = ap (λ (r : Replica). r.position) same in
-    let begun = f.begun in
-    omega arith
 
 pub complete-requires : goal.complete-requires
 complete-requires g c = (c.in-Some-reply._reply, ap (λ (x : OpenCallState _). x.machine.last) (c.into_inner-open_call.ensures ∙ sym c.deref.ensures) ∙ c.in-Some-reply.ensures.exit)

@@ -166,7 +166,7 @@ returns-clause-consistent g c =
     same snapshot c.deref_mut.ensures.value c.deref-2.ensures (c.in-Some-by_number.ensures ∙ in_procedures c.deref-2.result.now.procedure c.procedures.result.now c.index-replica.result.now.procedures c.procedures.ensures) c.at-store.ensures.answers in
     let stays : stays_open c.turn-answer.result ≡ true = sym c.stays_open.ensures ∙ c.if-not-stays_open.false in
     let put = c.put_call.ensures ∙ ap (λ xs. slice_set xs c.in-Some.at (Some c.turn-answer.new.self)) c.in-Some.ensures.taken ∙ set_twice slots c.in-Some.at None (Some c.turn-answer.new.self) in
-    let follows = c.turn-answer.ensures.follows (setting_of s) (items_of s.entries) can stays in
+    let follows = (c.turn-answer.ensures.goes_on (setting_of s) (items_of s.entries) can stays).follows in
     let world = c.steps_keep_a_world.ensures.step (setting_of s) (world_of s) (TurnStep c.args.call) _ _ tt (returns-clause-step g c) c.requires.together.world in
     record {
       together = subst (λ xs. IsTogether (with_slots s xs) xs) (sym put)

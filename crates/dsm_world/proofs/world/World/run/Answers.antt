@@ -10,7 +10,7 @@ use Rattle.dsm_world.specs.System.{setting_of, world_of, step_of}
 use Rattle.std.specs.Prelude.{slice_index_or}
 use Rattle.dsm_world.specs.declared.step.Step.{Step}
 use Rattle.dsm_world.specs.declared.step.Step.TheVariants.{Begin}
-use Rattle.dsm_world.proofs.EntryLemmas.{take_all}
+use Rattle.replica.proofs.EntryLemmas.{take_all}
 use Rattle.dsm_world.proofs.RunLemmas.{no_steps, one_more_step, one_more_given, one_more_answer}
 use Rattle.dsm_world.proofs.world.World.run.Goals as goal
 
