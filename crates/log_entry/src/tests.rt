@@ -7,6 +7,7 @@ use row_values::Bytes;
 use scarce::Scarce;
 use schema::{Look, Schema};
 use std::alloc::Global;
+use std::process::Abort;
 use std::sync::Arc;
 use std::test::Fail;
 
@@ -87,28 +88,33 @@ const SEVERAL: &str = "010700000002010000\
 const ADDITION: &str = "020900000003\
     6f6e6510000000b7000000010000009500000000000000";
 
+/// Asserts that an entry has these bytes, in hex.
+fn has_bytes(rt: &impl Abort, alloc: Global, entry: &Entry, expected: &str) -> Result<(), Fail> {
+    let bytes = to_bytes(alloc, entry)?;
+    let hex = hex::encode(alloc, &bytes)?;
+    assert_eq!(rt; hex.as_str(), expected);
+    Ok(())
+}
+
 #[test]
 fn entries_have_their_bytes(rt: HostRuntime) -> Result<(), Fail> {
     let alloc = rt.alloc();
-    let entries = [
-        (increment(alloc)?, INCREMENT),
-        (several(alloc)?, SEVERAL),
-        (addition(alloc)?, ADDITION),
-    ];
-    for (entry, expected) in &entries {
-        let bytes = to_bytes(alloc, entry)?;
-        assert_eq!(rt; hex::encode(alloc, &bytes)?.as_str(), *expected);
-    }
-    Ok(())
+    has_bytes(&rt, alloc, &increment(alloc)?, INCREMENT)?;
+    has_bytes(&rt, alloc, &several(alloc)?, SEVERAL)?;
+    has_bytes(&rt, alloc, &addition(alloc)?, ADDITION)
+}
+
+/// Whether each refused growth of an entry's bytes is want of memory, and there is one.
+fn may_want_memory(alloc: Global, entry: &Entry) -> bool {
+    let scarce = Scarce::new(alloc);
+    let failed = scarce.refuse_each(|| to_bytes(&scarce, entry).is_ok());
+    failed.is_some_and(|count| count > 0)
 }
 
 #[test]
 fn each_growth_refused_is_want_of_memory(rt: HostRuntime) -> Result<(), Fail> {
     let alloc = rt.alloc();
-    for entry in [increment(alloc)?, addition(alloc)?] {
-        let scarce = Scarce::new(alloc);
-        let failed = scarce.refuse_each(|| to_bytes(&scarce, &entry).is_ok());
-        assert!(rt; failed.is_some_and(|count| count > 0));
-    }
+    assert!(rt; may_want_memory(alloc, &increment(alloc)?));
+    assert!(rt; may_want_memory(alloc, &addition(alloc)?));
     Ok(())
 }

@@ -15,7 +15,7 @@ use Rattle.replica.specs.Replica.{Replica, AreEntriesOf, StandsFor, rows_kept, c
 use Rattle.replica.proofs.KeepsLemmas.{certified_more, certified_count}
 use Rattle.dsm_world.specs.System.{SystemWorld, setting_of, KeepsDelivered}
 use Rattle.dsm_world.proofs.Numbered.{numbered_map}
-use Rattle.dsm_world.proofs.EntryLemmas.{take_all, take_first, take_drop, items_append, items_count, take_count, all_at, entries_taken}
+use Rattle.replica.proofs.EntryLemmas.{take_all, take_first, take_drop, items_append, items_count, take_count, all_at, entries_taken}
 use Rattle.byte_output.specs.declared.paged.PagedOutput.{PagedOutput}
 use Rattle.byte_output.specs.Pending.{Passes}
 use Rattle.byte_output.proofs.PendingLemmas.{Passes-then}

@@ -16,7 +16,7 @@ use Rattle.dsm_model.specs.World.{numbered}
 use Rattle.replica.specs.Replica.{Replica, StandsFor, rows_kept}
 use Rattle.dsm_world.specs.System.{SystemWorld, setting_of, world_of, progress_of, KeepsDelivered}
 use Rattle.dsm_world.proofs.Numbered.{numbered_map}
-use Rattle.dsm_world.proofs.EntryLemmas.{take_all, take_next, items_count}
+use Rattle.replica.proofs.EntryLemmas.{take_all, take_next, items_count}
 use Rattle.script_actions.specs.Printed.{row_text, all_rows_text, rows_text}
 use Rattle.script_actions.specs.Doing.{PassesBeginning, Gives}
 use Rattle.script_actions.proofs.GivenLemmas.{beginning_then, beginning_more}

@@ -1,9 +1,11 @@
-use bpf_code::decode;
-use bpf_verify::{Refusal, verify};
+use bpf_code::{Code, decode};
+use bpf_verify::{Accepted, Refusal, verify};
 use plain_runner::{Row, run_program};
 use scarce::Scarce;
 use schema::Schema;
 use std::alloc::Global;
+use std::fmt::Debug;
+use std::process::Abort;
 use std::test::Fail;
 
 mod bounds;
@@ -12,6 +14,12 @@ mod ranges;
 mod refinements;
 
 use programs::{CAUSES, PROGRAMS};
+
+/// Asserts that a value is the one that is wanted. It stands in a function of its own, since a proof of many
+/// comparisons in one function beside values to be dropped takes long.
+fn same<T: PartialEq + Debug + Copy>(rt: &impl Abort, case: &str, found: T, wanted: T) {
+    assert_eq!(rt; found, wanted, "{case}");
+}
 
 /// A program in hex, how many bytes its arguments have, the tables, and what the verifier, or the decoder before it,
 /// says.
@@ -50,115 +58,149 @@ fn verdict(
     }
 }
 
+/// Asserts what is said of a case.
+fn is_said(rt: &impl Abort, alloc: Global, case: &Case) -> Result<(), Fail> {
+    let bytes = bytes_of(alloc, case.program)?;
+    let text = verdict(alloc, &bytes, case.args_len, case.tables)?;
+    let said = (case.program, case.args_len, text.as_str());
+    same(
+        rt,
+        "program, length, verdict",
+        said,
+        (case.program, case.args_len, case.verdict),
+    );
+    Ok(())
+}
+
 #[test]
 fn programs_are_accepted_or_refused(rt: HostRuntime) -> Result<(), Fail> {
-    let alloc = rt.alloc();
     for case in PROGRAMS.iter().chain(&CAUSES) {
-        let bytes = bytes_of(alloc, case.program)?;
-        let text = verdict(alloc, &bytes, case.args_len, case.tables)?;
-        assert_eq!(rt;
-            text.as_str(),
-            case.verdict,
-            "{} of {}",
-            case.program,
-            case.args_len
-        );
+        is_said(&rt, rt.alloc(), case)?;
     }
     Ok(())
 }
 
-/// The longest programs: one that ends at once, and one that jumps to the next instruction in every other slot.
+const SET: [u8; 8] = [0xb7, 0, 0, 0, 1, 0, 0, 0];
+
+const JUMP: [u8; 8] = [0x15, 0, 0, 0, 1, 0, 0, 0];
+
+const EXIT: [u8; 8] = [0x95, 0, 0, 0, 0, 0, 0, 0];
+
+/// The longest programs, and one that is too long: a first slot, two that follow 2,047 times, and the end.
+static LONGEST: [([u8; 8], [[u8; 8]; 2], &[[u8; 8]], &str); 3] = [
+    // It ends at once.
+    (SET, [EXIT, EXIT], &[EXIT], "accepted slots 4096 bound 2"),
+    // It jumps to the next instruction in every other slot.
+    (SET, [JUMP, SET], &[EXIT], "accepted slots 4096 bound 4096"),
+    (SET, [EXIT, EXIT], &[EXIT, EXIT], "B2 slot 0"),
+];
+
+fn longest(
+    alloc: Global,
+    first: &[u8; 8],
+    pair: &[[u8; 8]; 2],
+    end: &[[u8; 8]],
+) -> Result<Vec<u8>, Fail> {
+    let mut bytes = Vec::from_slice(alloc, first)?;
+    for _ in 0..2047 {
+        for slot in pair {
+            bytes.extend_from_slice(slot)?;
+        }
+    }
+    for slot in end {
+        bytes.extend_from_slice(slot)?;
+    }
+    Ok(bytes)
+}
+
 #[test]
 fn the_longest_programs_are_verified(rt: HostRuntime) -> Result<(), Fail> {
-    let alloc = rt.alloc();
-    let set = [0xb7, 0, 0, 0, 1, 0, 0, 0];
-    let jump = [0x15, 0, 0, 0, 1, 0, 0, 0];
-    let exit = [0x95, 0, 0, 0, 0, 0, 0, 0];
-    let mut ends = Vec::new(alloc);
-    let mut jumps = Vec::new(alloc);
-    ends.extend_from_slice(&set)?;
-    for _ in 0..2047 {
-        ends.extend_from_slice(&exit)?;
-        ends.extend_from_slice(&exit)?;
-        jumps.extend_from_slice(&set)?;
-        jumps.extend_from_slice(&jump)?;
+    for (first, pair, end, expected) in &LONGEST {
+        let bytes = longest(rt.alloc(), first, pair, end)?;
+        let text = verdict(rt.alloc(), &bytes, 0, &[])?;
+        same(&rt, "longest", text.as_str(), *expected);
     }
-    ends.extend_from_slice(&exit)?;
-    jumps.extend_from_slice(&set)?;
-    jumps.extend_from_slice(&exit)?;
-    assert_eq!(rt;
-        verdict(alloc, &ends, 0, &[])?.as_str(),
-        "accepted slots 4096 bound 2"
-    );
-    assert_eq!(rt;
-        verdict(alloc, &jumps, 0, &[])?.as_str(),
-        "accepted slots 4096 bound 4096"
-    );
-    ends.extend_from_slice(&exit)?;
-    assert_eq!(rt; verdict(alloc, &ends, 0, &[])?.as_str(), "B2 slot 0");
     Ok(())
+}
+
+/// Replies 1.
+const ONE: &str = "b700000001000000 9500000000000000";
+
+fn code_of(alloc: Global, program: &str) -> Result<Code, Fail> {
+    Ok(decode(alloc, &bytes_of(alloc, program)?)?)
+}
+
+fn is_as_given(rt: &impl Abort, accepted: &Accepted, schema: &Schema) {
+    assert!(rt; accepted.schema() == schema);
+    same(rt, "length of the arguments", accepted.args_len(), 256);
+    same(rt, "slots", accepted.code().slots(), 2);
+    same(rt, "bound", accepted.bound(), 2);
 }
 
 /// What was accepted is what was given, and the copy of the schema is its own.
 #[test]
 fn what_is_accepted_is_what_was_given(rt: HostRuntime) -> Result<(), Fail> {
-    let alloc = rt.alloc();
-    let code = decode(
-        alloc,
-        &bytes_of(alloc, "b700000001000000 9500000000000000")?,
-    )?;
-    let schema = Schema::new(alloc, &[(1, 8), (64, 128)])?;
-    let accepted = verify(alloc, code, &schema, 256)?;
-    assert!(rt; *accepted.schema() == schema);
-    assert_eq!(rt; accepted.args_len(), 256);
-    assert_eq!(rt; accepted.code().slots(), 2);
-    assert_eq!(rt; accepted.bound(), 2);
+    let code = code_of(rt.alloc(), ONE)?;
+    let schema = Schema::new(rt.alloc(), &[(1, 8), (64, 128)])?;
+    let accepted = verify(rt.alloc(), code, &schema, 256)?;
+    is_as_given(&rt, &accepted, &schema);
     Ok(())
+}
+
+/// Whether a program is accepted. Where it isn't, memory was refused.
+fn is_accepted(
+    rt: &impl Abort,
+    alloc: Global,
+    scarce: &Scarce,
+    schema: &Schema<&Scarce>,
+) -> Result<bool, Fail> {
+    let code = code_of(alloc, ONE)?;
+    let refusal = verify(scarce, code, schema, 0).err();
+    assert!(rt; refusal.is_none() || refusal == Some(Refusal::OutOfMemory));
+    Ok(refusal.is_none())
 }
 
 /// Verifying takes memory twice: for what is known before the slots, and for the copy of the schema.
 #[test]
 fn each_refused_growth_is_want_of_memory(rt: HostRuntime) -> Result<(), Fail> {
-    let alloc = rt.alloc();
-    let bytes = bytes_of(alloc, "b700000001000000 9500000000000000")?;
-    let scarce = Scarce::new(alloc);
+    let scarce = Scarce::new(rt.alloc());
     let schema = Schema::new(&scarce, &[(1, 8)])?;
-    let code = decode(alloc, &bytes)?;
-    scarce.refuse_nth(1);
-    assert!(rt;
-        verify(&scarce, code, &schema, 0).is_err_and(|refusal| refusal == Refusal::OutOfMemory)
-    );
-    let code = decode(alloc, &bytes)?;
-    scarce.refuse_nth(2);
-    assert!(rt;
-        verify(&scarce, code, &schema, 0).is_err_and(|refusal| refusal == Refusal::OutOfMemory)
-    );
-    let code = decode(alloc, &bytes)?;
-    scarce.refuse_nth(3);
-    assert!(rt; verify(&scarce, code, &schema, 0).is_ok());
+    for (growth, expected) in &[(1, false), (2, false), (3, true)] {
+        scarce.refuse_nth(*growth);
+        let found = is_accepted(&rt, rt.alloc(), &scarce, &schema)?;
+        same(&rt, "accepted", (*growth, found), (*growth, *expected));
+    }
     Ok(())
+}
+
+const STORES: &str =
+    "7112000000000000 5702000007000000 bfa3000000000000 0f23000000000000 7a0af8ff00000000 \
+    7203f8ff01000000 71a0f8ff00000000 9500000000000000";
+
+const SKIPS: &str = "b700000001000000 1500010001000000 bf60000000000000 9500000000000000";
+
+/// Programs, their one byte of arguments, what they reply, and in how many steps.
+static REPLIES: [(&str, u8, u64, usize); 3] = [
+    (STORES, 0, 1, 8),
+    (STORES, 3, 0, 8),
+    (SKIPS, 0, 1, 3),
+];
+
+/// The reply and the steps of a run without rows.
+fn run_of(alloc: Global, program: &str, args: &[u8]) -> Result<Option<(u64, usize)>, Fail> {
+    let code = code_of(alloc, program)?;
+    let schema = Schema::new(alloc, &[])?;
+    let no_rows: &[Row] = &[];
+    let run = run_program(alloc, &code, &schema, args, no_rows)?;
+    Ok(run.map(|run| (run.reply(), run.steps())))
 }
 
 /// What programs that are accepted reply, by the plain runner.
 #[test]
 fn accepted_programs_reply(rt: HostRuntime) -> Result<(), Fail> {
-    let alloc = rt.alloc();
-    let stores =
-        "7112000000000000 5702000007000000 bfa3000000000000 0f23000000000000 7a0af8ff00000000 \
-        7203f8ff01000000 71a0f8ff00000000 9500000000000000";
-    let skips = "b700000001000000 1500010001000000 bf60000000000000 9500000000000000";
-    let schema = Schema::new(alloc, &[])?;
-    let cases: [(&str, u8, u64, usize); 3] = [
-        (stores, 0, 1, 8),
-        (stores, 3, 0, 8),
-        (skips, 0, 1, 3),
-    ];
-    for (program, args, reply, steps) in cases {
-        let code = decode(alloc, &bytes_of(alloc, program)?)?;
-        let no_rows: &[Row] = &[];
-        let run = run_program(alloc, &code, &schema, &[args], no_rows)?;
-        let found = run.map(|run| (run.reply(), run.steps()));
-        assert_eq!(rt; found, Some((reply, steps)), "{program}");
+    for (program, args, reply, steps) in &REPLIES {
+        let found = run_of(rt.alloc(), program, &[*args])?;
+        same(&rt, program, found, Some((*reply, *steps)));
     }
     Ok(())
 }

@@ -41,7 +41,7 @@ returns g c = λ item there.
     let k = c.verdict_at-certification.result in
     let is : k ≡ certification_of r.window base past before e =
     subst (λ n. k ≡ certification_of r.window base past n e) same
-    (c.verdict_at-certification.ensures base past e keeps.delivered (subst (λ n. slice_get past n ≡ Some e) (sym same) stands)) in
+    (c.verdict_at-certification.ensures.kept base past e keeps.delivered (subst (λ n. slice_get past n ≡ Some e) (sym same) stands)) in
     ap (λ (x : LoggedEntry). line_text (line.Certified x k.compared k.verdict)) c.logged_entry-entry.ensures
     ∙ ap (λ (x : Certification). line_text (line.Certified (logged_entry (before + 1) e) x.compared x.verdict)) is
     ∙ delivered_line s r before e item keeps within delivered at there f.some c.a_log_only_grows.ensures.verdicts c.replicas_follow_the_log.ensures.verdicts c.entries_suffice.ensures.verdicts
