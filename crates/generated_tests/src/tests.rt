@@ -8,7 +8,6 @@ use schema::Schema;
 use single_site::run_call;
 use std::alloc::{AllocError, Global};
 use std::process::Abort;
-use std::test::Fail;
 use tally::Tally;
 
 mod calls;
@@ -23,33 +22,34 @@ mod tally;
 const NEVER: u32 = u32::MAX;
 
 /// The procedure, which the verifier has to accept, on arguments of 32 bytes.
-fn accepted(
-    rt: &impl Abort,
-    alloc: Global,
-    schema: &Schema,
-    program: &[u8],
-) -> Result<Accepted, Fail> {
-    match verify(alloc, decode(alloc, program)?, schema, 32) {
-        Ok(procedure) => Ok(procedure),
+fn accepted(rt: &impl Abort, alloc: Global, schema: &Schema, program: &[u8]) -> Accepted {
+    match verify(
+        alloc,
+        decode(alloc, program).expect(rt, "the program"),
+        schema,
+        32,
+    ) {
+        Ok(procedure) => procedure,
         Err(refusal) => {
-            let program = hex::encode(alloc, program)?;
+            let program = hex::encode(alloc, program).expect(rt, "memory");
             panic!(rt; "{refusal} of {program}")
         }
     }
 }
 
 /// What the definition says of a call.
-fn plain_run(alloc: Global, procedure: &Accepted, call: &Call) -> Result<CompletedRun, Fail> {
+fn plain_run(rt: &impl Abort, alloc: Global, procedure: &Accepted, call: &Call) -> CompletedRun {
     let code = procedure.code();
     let schema = procedure.schema();
-    let run = run_program(alloc, code, schema, &call.arguments, &call.rows)?;
-    Ok(run.ok_or("a run of an accepted program is stuck")?)
+    let run = run_program(alloc, code, schema, &call.arguments, &call.rows).expect(rt, "memory");
+    run.ok_or("a run of an accepted program is stuck")
+        .expect(rt, "memory")
 }
 
 /// What the machine does at a call.
-fn machine_line(alloc: Global, procedure: &Accepted, call: &Call) -> Result<String, Fail> {
-    let run = run_call(alloc, procedure, &call.arguments, &call.rows, NEVER)?;
-    Ok(line_of_call(alloc, run)?)
+fn machine_line(rt: &impl Abort, alloc: Global, procedure: &Accepted, call: &Call) -> String {
+    let run = run_call(alloc, procedure, &call.arguments, &call.rows, NEVER).expect(rt, "memory");
+    line_of_call(alloc, run).expect(rt, "memory")
 }
 
 /// Asserts that both lines of a call are the same, or says of which program and arguments they aren't.
@@ -66,32 +66,26 @@ fn assert_same(
 }
 
 /// Compares a call on the machine with what the definition says, and answers that.
-fn compared(
-    rt: &impl Abort,
-    alloc: Global,
-    schema: &Schema,
-    call: &Call,
-) -> Result<CompletedRun, Fail> {
-    let procedure = accepted(rt, alloc, schema, &call.program.bytes)?;
-    let run = plain_run(alloc, &procedure, call)?;
-    let plain = line_of_run(alloc, &run)?;
-    let machine = machine_line(alloc, &procedure, call)?;
-    assert_same(rt, alloc, call, &machine, &plain)?;
-    Ok(run)
+fn compared(rt: &impl Abort, alloc: Global, schema: &Schema, call: &Call) -> CompletedRun {
+    let procedure = accepted(rt, alloc, schema, &call.program.bytes);
+    let run = plain_run(rt, alloc, &procedure, call);
+    let plain = line_of_run(alloc, &run).expect(rt, "memory");
+    let machine = machine_line(rt, alloc, &procedure, call);
+    assert_same(rt, alloc, call, &machine, &plain).expect(rt, "memory");
+    run
 }
 
 /// 2,000 programs, each with arguments and rows of its own.
 #[test]
-fn calls_come_to_what_the_plain_runner_says(rt: HostRuntime) -> Result<(), Fail> {
+fn calls_come_to_what_the_plain_runner_says(rt: HostRuntime) {
     let alloc = rt.alloc();
-    let schema = Schema::new(alloc, &[(1, 8), (2, 2)])?;
+    let schema = Schema::new(alloc, &[(1, 8), (2, 2)]).expect(&rt, "memory");
     let mut random = Random::from_seed();
     let mut tally = Tally::new(alloc);
     for _ in 0..2_000 {
-        let call = random_call(alloc, &mut random)?;
-        let run = compared(&rt, alloc, &schema, &call)?;
+        let call = random_call(alloc, &mut random).expect(&rt, "memory");
+        let run = compared(&rt, alloc, &schema, &call);
         tally.add(&run, call.program);
     }
     tally.assert_enough(&rt);
-    Ok(())
 }

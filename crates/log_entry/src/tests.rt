@@ -9,31 +9,38 @@ use schema::{Look, Schema};
 use std::alloc::Global;
 use std::process::Abort;
 use std::sync::Arc;
-use std::test::Fail;
 
 /// A procedure that replies 1.
-fn addition(alloc: Global) -> Result<Entry, Fail> {
+fn addition(rt: &impl Abort, alloc: Global) -> Entry {
     let code = decode(
         alloc,
         &[0xb7, 0, 0, 0, 1, 0, 0, 0, 0x95, 0, 0, 0, 0, 0, 0, 0],
-    )?;
-    let accepted = verify(alloc, code, &Schema::new(alloc, &[(1, 8)])?, 0)?;
-    Ok(Entry::Addition(AddedProcedure {
-        name: Bytes::new(Vec::from_slice(alloc, b"one")?),
+    )
+    .expect(rt, "the program");
+    let accepted = verify(
+        alloc,
+        code,
+        &Schema::new(alloc, &[(1, 8)]).expect(rt, "memory"),
+        0,
+    )
+    .expect(rt, "it is accepted");
+    Entry::Addition(AddedProcedure {
+        name: Bytes::new(Vec::from_slice(alloc, b"one").expect(rt, "memory")),
         number: 9,
-        accepted: Arc::new(alloc, accepted)?,
-    }))
+        accepted: Arc::new(alloc, accepted).expect(rt, "memory"),
+    })
 }
 
 /// An increment of key 5 of table 1 by 10 at snapshot 0, which found no row there.
-fn increment(alloc: Global) -> Result<Entry, Fail> {
-    let mut args = Vec::from_slice(alloc, &5u64.to_le_bytes())?;
-    args.extend_from_slice(&10u64.to_le_bytes())?;
+fn increment(rt: &impl Abort, alloc: Global) -> Entry {
+    let mut args = Vec::from_slice(alloc, &5u64.to_le_bytes()).expect(rt, "memory");
+    args.extend_from_slice(&10u64.to_le_bytes())
+        .expect(rt, "memory");
     let mut reads = ReadSet::new(alloc);
-    reads.add_point(1, 5)?;
+    reads.add_point(1, 5).expect(rt, "memory");
     let mut writes = WriteSet::new(alloc);
-    writes.put(1, 5, &10u64.to_le_bytes())?;
-    Ok(Entry::Call(ExecutedCall {
+    writes.put(1, 5, &10u64.to_le_bytes()).expect(rt, "memory");
+    Entry::Call(ExecutedCall {
         call: 1,
         procedure: 1,
         args: Bytes::new(args),
@@ -45,21 +52,23 @@ fn increment(alloc: Global) -> Result<Entry, Fail> {
         reads,
         writes,
         reply: 10,
-    }))
+    })
 }
 
 /// A range, a removal, and a row of two bytes in another table.
-fn several(alloc: Global) -> Result<Entry, Fail> {
+fn several(rt: &impl Abort, alloc: Global) -> Entry {
     let mut reads = ReadSet::new(alloc);
-    reads.add_range(Look {
-        table: 2,
-        lo: 256,
-        hi: u64::MAX,
-    })?;
+    reads
+        .add_range(Look {
+            table: 2,
+            lo: 256,
+            hi: u64::MAX,
+        })
+        .expect(rt, "memory");
     let mut writes = WriteSet::new(alloc);
-    writes.put(2, 7, &[1, 2])?;
-    writes.remove(1, 513)?;
-    Ok(Entry::Call(ExecutedCall {
+    writes.put(2, 7, &[1, 2]).expect(rt, "memory");
+    writes.remove(1, 513).expect(rt, "memory");
+    Entry::Call(ExecutedCall {
         call: 0,
         procedure: 258,
         args: Bytes::new(Vec::new(alloc)),
@@ -71,7 +80,7 @@ fn several(alloc: Global) -> Result<Entry, Fail> {
         reads,
         writes,
         reply: u64::MAX,
-    }))
+    })
 }
 
 const INCREMENT: &str = "010000000000000000\
@@ -89,19 +98,18 @@ const ADDITION: &str = "020900000003\
     6f6e6510000000b7000000010000009500000000000000";
 
 /// Asserts that an entry has these bytes, in hex.
-fn has_bytes(rt: &impl Abort, alloc: Global, entry: &Entry, expected: &str) -> Result<(), Fail> {
-    let bytes = to_bytes(alloc, entry)?;
-    let hex = hex::encode(alloc, &bytes)?;
+fn has_bytes(rt: &impl Abort, alloc: Global, entry: &Entry, expected: &str) {
+    let bytes = to_bytes(alloc, entry).expect(rt, "memory");
+    let hex = hex::encode(alloc, &bytes).expect(rt, "memory");
     assert_eq!(rt; hex.as_str(), expected);
-    Ok(())
 }
 
 #[test]
-fn entries_have_their_bytes(rt: HostRuntime) -> Result<(), Fail> {
+fn entries_have_their_bytes(rt: HostRuntime) {
     let alloc = rt.alloc();
-    has_bytes(&rt, alloc, &increment(alloc)?, INCREMENT)?;
-    has_bytes(&rt, alloc, &several(alloc)?, SEVERAL)?;
-    has_bytes(&rt, alloc, &addition(alloc)?, ADDITION)
+    has_bytes(&rt, alloc, &increment(&rt, alloc), INCREMENT);
+    has_bytes(&rt, alloc, &several(&rt, alloc), SEVERAL);
+    has_bytes(&rt, alloc, &addition(&rt, alloc), ADDITION)
 }
 
 /// Whether each refused growth of an entry's bytes is want of memory, and there is one.
@@ -112,9 +120,8 @@ fn may_want_memory(alloc: Global, entry: &Entry) -> bool {
 }
 
 #[test]
-fn each_growth_refused_is_want_of_memory(rt: HostRuntime) -> Result<(), Fail> {
+fn each_growth_refused_is_want_of_memory(rt: HostRuntime) {
     let alloc = rt.alloc();
-    assert!(rt; may_want_memory(alloc, &increment(alloc)?));
-    assert!(rt; may_want_memory(alloc, &addition(alloc)?));
-    Ok(())
+    assert!(rt; may_want_memory(alloc, &increment(&rt, alloc)));
+    assert!(rt; may_want_memory(alloc, &addition(&rt, alloc)));
 }

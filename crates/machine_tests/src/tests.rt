@@ -8,8 +8,8 @@ use row_sets::{ReadSet, WriteSet};
 use schema::{Look, Schema};
 use single_site::{CompletedCall, SiteRun};
 use std::alloc::{Allocator, Global};
-use std::fmt::Write as _;
-use std::test::Fail;
+use std::fmt::{Debug, Write as _};
+use std::process::Abort;
 use txn_view::View;
 
 mod procedures;
@@ -21,140 +21,159 @@ const TABLES: [(u8, u16); 2] = [(1, 8), (2, 2)];
 /// A turn that no call comes to: its store stays.
 const NEVER: u32 = u32::MAX;
 
+/// Asserts that a value is the one that is wanted. It stands in a function of its own, since a proof of many
+/// comparisons in one function beside values to be dropped takes long.
+fn same<T: PartialEq + Debug + Copy>(rt: &impl Abort, case: &str, found: T, wanted: T) {
+    assert_eq!(rt; found, wanted, "{case}");
+}
+
 /// The bytes of a program in hex.
-fn bytes_of(alloc: Global, hex: &str) -> Result<Vec<u8>, Fail> {
+fn bytes_of(rt: &impl Abort, alloc: Global, hex: &str) -> Vec<u8> {
     let mut bytes = Vec::new(alloc);
     for slot in hex.split_whitespace() {
-        bytes.extend_from_slice(&hex::decode(alloc, slot)?)?;
+        let slot = hex::decode(alloc, slot).expect(rt, "hex");
+        bytes.extend_from_slice(&slot).expect(rt, "memory");
     }
-    Ok(bytes)
+    bytes
 }
 
 /// A procedure that the verifier accepts, on arguments of so many bytes.
-fn accepted(alloc: Global, program: &[u8], args_len: usize) -> Result<Accepted, Fail> {
-    let code = decode(alloc, program)?;
-    let schema = Schema::new(alloc, &TABLES)?;
+fn accepted(rt: &impl Abort, alloc: Global, program: &[u8], args_len: usize) -> Accepted {
+    let code = decode(alloc, program).expect(rt, "the program");
+    let schema = Schema::new(alloc, &TABLES).expect(rt, "the schema");
     let args_len = u16::try_from(args_len).unwrap_or(u16::MAX);
-    Ok(verify(alloc, code, &schema, args_len.min(256))?)
+    verify(alloc, code, &schema, args_len.min(256)).expect(rt, "it is accepted")
 }
 
 /// The words as an argument block, each least byte first.
-fn args_of(alloc: Global, words: &[u64]) -> Result<Vec<u8>, Fail> {
+fn args_of(rt: &impl Abort, alloc: Global, words: &[u64]) -> Vec<u8> {
     let mut args = Vec::new(alloc);
     for word in words {
-        args.extend_from_slice(&word.to_le_bytes())?;
+        args.extend_from_slice(&word.to_le_bytes())
+            .expect(rt, "memory");
     }
-    Ok(args)
+    args
 }
 
 /// A procedure that the verifier accepts, and its argument block of words.
-fn procedure_of(alloc: Global, program: &str, words: &[u64]) -> Result<(Accepted, Vec<u8>), Fail> {
-    let args = args_of(alloc, words)?;
-    let procedure = accepted(alloc, &bytes_of(alloc, program)?, args.len())?;
-    Ok((procedure, args))
+fn procedure_of(
+    rt: &impl Abort,
+    alloc: Global,
+    program: &str,
+    words: &[u64],
+) -> (Accepted, Vec<u8>) {
+    let args = args_of(rt, alloc, words);
+    let procedure = accepted(rt, alloc, &bytes_of(rt, alloc, program), args.len());
+    (procedure, args)
 }
 
 /// A row from table, key and value: 2 bytes of it in table 2, and 8 in table 1.
-fn row_of(alloc: Global, table: u8, key: u64, value: u64) -> Result<Row, Fail> {
+fn row_of(rt: &impl Abort, alloc: Global, table: u8, key: u64, value: u64) -> Row {
     let width = if table == 2 { 2 } else { 8 };
-    let bytes = Vec::from_slice(alloc, value.to_le_bytes().get(..width).unwrap_or(&[]))?;
-    Ok(Row::new(table, key, bytes))
+    let bytes = Vec::from_slice(alloc, value.to_le_bytes().get(..width).unwrap_or(&[]));
+    Row::new(table, key, bytes.expect(rt, "memory"))
 }
 
-fn rows_of(alloc: Global, rows: &[(u8, u64, u64)]) -> Result<Vec<Row>, Fail> {
+fn rows_of(rt: &impl Abort, alloc: Global, rows: &[(u8, u64, u64)]) -> Vec<Row> {
     let mut list = Vec::new(alloc);
     for (table, key, value) in rows {
-        list.push(row_of(alloc, *table, *key, *value)?)?;
+        let row = row_of(rt, alloc, *table, *key, *value);
+        list.push(row).expect(rt, "memory");
     }
-    Ok(list)
+    list
 }
 
-fn append_looks(text: &mut String, looks: &[Look]) -> Result<(), Fail> {
+fn append_looks(rt: &impl Abort, text: &mut String, looks: &[Look]) {
     for look in looks {
-        write!(text, " look {}:{}-{}", look.table, look.lo, look.hi)?;
+        write!(text, " look {}:{}-{}", look.table, look.lo, look.hi).expect(rt, "memory");
     }
-    Ok(())
 }
 
 /// A write: the bytes in hex, or none where it is a removal.
 fn append_write(
+    rt: &impl Abort,
     alloc: Global,
     text: &mut String,
     table: u8,
     key: u64,
     bytes: Option<&[u8]>,
-) -> Result<(), Fail> {
+) {
     match bytes {
         Some(bytes) => {
-            let hex = hex::encode(alloc, bytes)?;
-            write!(text, " put {table}:{key}={hex}")?;
+            let hex = hex::encode(alloc, bytes).expect(rt, "memory");
+            write!(text, " put {table}:{key}={hex}").expect(rt, "memory");
         }
-        None => write!(text, " remove {table}:{key}")?,
+        None => write!(text, " remove {table}:{key}").expect(rt, "memory"),
     }
-    Ok(())
 }
 
-fn append_code(text: &mut String, code: Option<u64>) -> Result<(), Fail> {
+fn append_code(rt: &impl Abort, text: &mut String, code: Option<u64>) {
     if let Some(code) = code {
-        write!(text, " cancelled {code}")?;
+        write!(text, " cancelled {code}").expect(rt, "memory");
     }
-    Ok(())
 }
 
 /// The last answer of a call, and the turn that gave it.
-fn described_turn(alloc: Global, last: Turn, turns: u32) -> Result<String, Fail> {
+fn described_turn(rt: &impl Abort, alloc: Global, last: Turn, turns: u32) -> String {
     let word = match last {
-        Turn::Exit(reply) => return Ok(format!(in alloc; "{reply} in {turns}")?),
+        Turn::Exit(reply) => return format!(in alloc; "{reply} in {turns}").expect(rt, "memory"),
         Turn::Stale => "stale",
         Turn::NoMemory => "no memory",
         Turn::More => "more",
     };
-    Ok(format!(in alloc; "{word} in {turns}")?)
+    format!(in alloc; "{word} in {turns}").expect(rt, "memory")
 }
 
 /// What a call came to, in a line: its last answer and the turn that gave it, then looks, writes and cancel code.
-fn described<A: Allocator + Copy>(alloc: Global, run: SiteRun<A>) -> Result<String, Fail> {
-    let mut text = described_turn(alloc, run.last, run.turns)?;
+fn described<A: Allocator + Copy>(rt: &impl Abort, alloc: Global, run: SiteRun<A>) -> String {
+    let mut text = described_turn(rt, alloc, run.last, run.turns);
     let rows = KeyMap::new(alloc);
     let store = PlainStore {
         rows: &rows,
         gone: true,
     };
     let (reads, writes, code) = View::over(store, run.own).finish();
-    append_sets(alloc, &mut text, &reads, &writes)?;
-    append_code(&mut text, code)?;
-    Ok(text)
+    append_sets(rt, alloc, &mut text, &reads, &writes);
+    append_code(rt, &mut text, code);
+    text
 }
 
 fn append_sets<A: Allocator + Copy>(
+    rt: &impl Abort,
     alloc: Global,
     text: &mut String,
     reads: &ReadSet<A>,
     writes: &WriteSet<A>,
-) -> Result<(), Fail> {
-    append_looks(text, reads.looks())?;
+) {
+    append_looks(rt, text, reads.looks());
     for (key, write) in writes.iter() {
         let bytes = write.as_ref().map(|bytes| bytes.as_slice());
-        append_write(alloc, text, key.0, key.1, bytes)?;
+        append_write(rt, alloc, text, key.0, key.1, bytes);
     }
-    Ok(())
 }
 
 /// The same of a call that came to its end, which doesn't say in how many turns.
-fn described_call(alloc: Global, turns: usize, call: &CompletedCall) -> Result<String, Fail> {
-    let mut text = format!(in alloc; "{} in {turns}", call.reply)?;
-    append_sets(alloc, &mut text, &call.reads, &call.writes)?;
-    append_code(&mut text, call.cancel_code)?;
-    Ok(text)
+fn described_call(rt: &impl Abort, alloc: Global, turns: usize, call: &CompletedCall) -> String {
+    let mut text = format!(in alloc; "{} in {turns}", call.reply).expect(rt, "memory");
+    append_sets(rt, alloc, &mut text, &call.reads, &call.writes);
+    append_code(rt, &mut text, call.cancel_code);
+    text
 }
 
 /// The same of a run of the plain runner.
-fn described_run(alloc: Global, run: &CompletedRun) -> Result<String, Fail> {
-    let mut text = format!(in alloc; "{} in {}", run.reply(), run.steps())?;
-    append_looks(&mut text, run.looks())?;
+fn described_run(rt: &impl Abort, alloc: Global, run: &CompletedRun) -> String {
+    let mut text = format!(in alloc; "{} in {}", run.reply(), run.steps()).expect(rt, "memory");
+    append_looks(rt, &mut text, run.looks());
     for write in run.writes() {
-        append_write(alloc, &mut text, write.table(), write.key(), write.bytes())?;
+        append_write(
+            rt,
+            alloc,
+            &mut text,
+            write.table(),
+            write.key(),
+            write.bytes(),
+        );
     }
-    append_code(&mut text, run.cancel_code())?;
-    Ok(text)
+    append_code(rt, &mut text, run.cancel_code());
+    text
 }

@@ -8,7 +8,7 @@ use scarce::Scarce;
 use schema::Look;
 use std::alloc::Global;
 use std::fmt::Write as _;
-use std::test::Fail;
+use std::process::Abort;
 
 mod drawn;
 
@@ -23,36 +23,38 @@ enum ItemCase {
 }
 
 fn call_of(
+    rt: &impl Abort,
     alloc: Global,
     procedure: u16,
     words: &[u64],
     snapshot: u32,
     request: RequestId,
-) -> Result<PlainItem, Fail> {
-    let args = args_of(alloc, words)?;
-    Ok(PlainItem {
+) -> PlainItem {
+    let args = args_of(alloc, words).expect(rt, "memory");
+    PlainItem {
         kind: PlainItemKind::Call(PlainCall::new(0, procedure, args, snapshot, request)),
-    })
+    }
 }
 
 fn addition_of(
+    rt: &impl Abort,
     alloc: Global,
     name: &str,
     number: u16,
     hex: &str,
     words: usize,
-) -> Result<PlainItem, Fail> {
-    let procedure = procedure_of(alloc, name.as_bytes(), number, hex, words)?;
-    Ok(PlainItem {
+) -> PlainItem {
+    let procedure = procedure_of(alloc, name.as_bytes(), number, hex, words).expect(rt, "memory");
+    PlainItem {
         kind: PlainItemKind::Addition(procedure),
-    })
+    }
 }
 
-fn item_of(alloc: Global, item: &ItemCase) -> Result<PlainItem, Fail> {
+fn item_of(rt: &impl Abort, alloc: Global, item: &ItemCase) -> PlainItem {
     let (mut session, mut sequence) = (0, 0);
     let (procedure, words, snapshot) = match item {
         ItemCase::Addition(name, number, hex, words) => {
-            return addition_of(alloc, name, *number, hex, *words);
+            return addition_of(rt, alloc, name, *number, hex, *words);
         }
         ItemCase::Call(procedure, words, snapshot) => (procedure, words, snapshot),
         ItemCase::Numbered(procedure, words, snapshot, first, second) => {
@@ -61,16 +63,16 @@ fn item_of(alloc: Global, item: &ItemCase) -> Result<PlainItem, Fail> {
         }
     };
     let request = RequestId { session, sequence };
-    call_of(alloc, *procedure, words, *snapshot, request)
+    call_of(rt, alloc, *procedure, words, *snapshot, request)
 }
 
 /// The items in order.
-fn log_of(alloc: Global, items: &[ItemCase]) -> Result<Vec<PlainItem>, Fail> {
+fn log_of(rt: &impl Abort, alloc: Global, items: &[ItemCase]) -> Vec<PlainItem> {
     let mut log = Vec::new(alloc);
     for item in items {
-        log.push(item_of(alloc, item)?)?;
+        log.push(item_of(rt, alloc, item)).expect(rt, "memory");
     }
-    Ok(log)
+    log
 }
 
 /// The log, which is short in these tests.
@@ -80,68 +82,71 @@ fn short(log: &[PlainItem]) -> &[PlainItem]
     if log.len() < 10_000 { log } else { &[] }
 }
 
-fn append_verdict(text: &mut String, verdict: Verdict) -> Result<(), Fail> {
+fn append_verdict(rt: &impl Abort, text: &mut String, verdict: Verdict) {
     match verdict {
-        Verdict::Commit => write!(text, " commit")?,
-        Verdict::Conflict(position) => write!(text, " conflict {position}")?,
-        Verdict::Stale => write!(text, " stale")?,
-        Verdict::Repeated(position) => write!(text, " repeat {position}")?,
-        Verdict::Taken(Identifier::Name) => write!(text, " taken name")?,
-        Verdict::Taken(Identifier::Number) => write!(text, " taken number")?,
+        Verdict::Commit => write!(text, " commit").expect(rt, "memory"),
+        Verdict::Conflict(position) => write!(text, " conflict {position}").expect(rt, "memory"),
+        Verdict::Stale => write!(text, " stale").expect(rt, "memory"),
+        Verdict::Repeated(position) => write!(text, " repeat {position}").expect(rt, "memory"),
+        Verdict::Taken(Identifier::Name) => write!(text, " taken name").expect(rt, "memory"),
+        Verdict::Taken(Identifier::Number) => write!(text, " taken number").expect(rt, "memory"),
     }
-    Ok(())
 }
 
 /// The reply that is told, and with which items the verdict compared.
-fn append_told(text: &mut String, report: &ItemReport) -> Result<(), Fail> {
+fn append_told(rt: &impl Abort, text: &mut String, report: &ItemReport) {
     if let Some(reply) = report.told_reply() {
-        write!(text, " told {reply}")?;
+        write!(text, " told {reply}").expect(rt, "memory");
     }
     for position in report.comparisons() {
-        write!(text, " compared {position}")?;
+        write!(text, " compared {position}").expect(rt, "memory");
     }
-    Ok(())
 }
 
 /// What a replay says of an item, in a line: the reply of its run, its verdict, the reply that is told, and with which
 /// items it was compared.
-fn described(alloc: Global, report: &ItemReport) -> Result<String, Fail> {
-    let mut text = format!(in alloc; "{}", report.reply())?;
-    append_verdict(&mut text, report.verdict())?;
-    append_told(&mut text, report)?;
-    Ok(text)
+fn described(rt: &impl Abort, alloc: Global, report: &ItemReport) -> String {
+    let mut text = format!(in alloc; "{}", report.reply()).expect(rt, "memory");
+    append_verdict(rt, &mut text, report.verdict());
+    append_told(rt, &mut text, report);
+    text
 }
 
 /// The rows after a position, each as table, key and bytes in hex.
-fn rows_text(alloc: Global, rows: &[Row]) -> Result<String, Fail> {
+fn rows_text(rt: &impl Abort, alloc: Global, rows: &[Row]) -> String {
     let mut text = String::new(alloc);
     for row in rows {
-        let hex = hex::encode(alloc, row.bytes())?;
-        write!(text, " {}:{}={hex}", row.table(), row.key())?;
+        let hex = hex::encode(alloc, row.bytes()).expect(rt, "memory");
+        write!(text, " {}:{}={hex}", row.table(), row.key()).expect(rt, "memory");
     }
-    Ok(text)
+    text
 }
 
 /// The same of what a run wrote.
-fn append_write(alloc: Global, text: &mut String, write: &Write) -> Result<(), Fail> {
-    write!(text, " {}:{}", write.table(), write.key())?;
+fn append_write(rt: &impl Abort, alloc: Global, text: &mut String, write: &Write) {
+    write!(text, " {}:{}", write.table(), write.key()).expect(rt, "memory");
     if let Some(bytes) = write.bytes() {
-        let hex = hex::encode(alloc, bytes)?;
-        write!(text, "={hex}")?;
+        let hex = hex::encode(alloc, bytes).expect(rt, "memory");
+        write!(text, "={hex}").expect(rt, "memory");
     }
-    Ok(())
 }
 
 /// A run in a line: its reply, what it looked at, and what it wrote.
-fn run_text(alloc: Global, reply: u64, looks: &[Look], writes: &[Write]) -> Result<String, Fail> {
-    let mut text = format!(in alloc; "{reply}")?;
+fn run_text(
+    rt: &impl Abort,
+    alloc: Global,
+    reply: u64,
+    looks: &[Look],
+    writes: &[Write],
+) -> String {
+    let mut text = format!(in alloc; "{reply}").expect(rt, "memory");
     for look in looks {
-        write!(text, " look {}:{}-{}", look.table, look.lo, look.hi)?;
+        write!(text, " look {}:{}-{}", look.table, look.lo, look.hi).expect(rt, "memory");
     }
     for write in writes {
-        append_write(alloc, &mut text, write)?;
+        append_write(rt, alloc, &mut text, write);
     }
-    Ok(text)
+    text
 }
 
 /// A window and items, and what is said of each; the rows at the end.
@@ -480,37 +485,41 @@ static LOGS: [LogCase; 21] = [
 ];
 
 /// What a replay says of the items of a case, and then the rows.
-fn said_of(alloc: Global, case: &LogCase) -> Result<String, Fail> {
-    let log = log_of(alloc, case.items)?;
-    let replay = replay_log(alloc, &setting_of(alloc, case.window)?, short(&log))?;
+fn said_of(rt: &impl Abort, alloc: Global, case: &LogCase) -> String {
+    let log = log_of(rt, alloc, case.items);
+    let replay = replay_log(
+        alloc,
+        &setting_of(alloc, case.window).expect(rt, "memory"),
+        short(&log),
+    )
+    .expect(rt, "memory");
     let mut text = String::new(alloc);
     for report in replay.reports() {
-        let line = described(alloc, report)?;
-        write!(text, "{line}\n")?;
+        let line = described(rt, alloc, report);
+        write!(text, "{line}\n").expect(rt, "memory");
     }
-    let rows = rows_text(alloc, replay.rows(log.len()).unwrap_or(&[]))?;
-    write!(text, "{rows}")?;
-    Ok(text)
+    let rows = rows_text(rt, alloc, replay.rows(log.len()).unwrap_or(&[]));
+    write!(text, "{rows}").expect(rt, "memory");
+    text
 }
 
 /// What is expected of it.
-fn expected(alloc: Global, case: &LogCase) -> Result<String, Fail> {
+fn expected(rt: &impl Abort, alloc: Global, case: &LogCase) -> String {
     let mut text = String::new(alloc);
     for line in case.said {
-        write!(text, "{line}\n")?;
+        write!(text, "{line}\n").expect(rt, "memory");
     }
-    write!(text, "{}", case.rows)?;
-    Ok(text)
+    write!(text, "{}", case.rows).expect(rt, "memory");
+    text
 }
 
 #[test]
-fn logs_come_to_what_is_expected(rt: HostRuntime) -> Result<(), Fail> {
+fn logs_come_to_what_is_expected(rt: HostRuntime) {
     let alloc = rt.alloc();
     for case in &LOGS {
-        let found = said_of(alloc, case)?;
-        assert_eq!(rt; found.as_str(), expected(alloc, case)?.as_str());
+        let found = said_of(&rt, alloc, case);
+        assert_eq!(rt; found.as_str(), expected(&rt, alloc, case).as_str());
     }
-    Ok(())
 }
 
 /// A log in which each kind of item takes memory.
@@ -523,12 +532,11 @@ static REFUSED: [ItemCase; 5] = [
 ];
 
 #[test]
-fn refused_growths_end_a_replay(rt: HostRuntime) -> Result<(), Fail> {
+fn refused_growths_end_a_replay(rt: HostRuntime) {
     let alloc = rt.alloc();
-    let log = log_of(alloc, &REFUSED)?;
-    let setting = setting_of(alloc, 4)?;
+    let log = log_of(&rt, alloc, &REFUSED);
+    let setting = setting_of(alloc, 4).expect(&rt, "memory");
     let scarce = Scarce::new(alloc);
     let failed = scarce.refuse_each(|| replay_log(&scarce, &setting, short(&log)).is_ok());
     assert!(rt; failed.is_some_and(|count| count > 0));
-    Ok(())
 }

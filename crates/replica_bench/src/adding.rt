@@ -1,7 +1,6 @@
 //! Deliveries of additions.
 
 use crate::delivering::{catalogue_of, deliver};
-use anyhow::Context;
 use bpf_code::decode;
 use bpf_verify::{Accepted, verify};
 use catalogue::Catalogue;
@@ -16,20 +15,18 @@ use std::sync::Arc;
 /// Replies 1.
 const PROGRAM: [u8; 16] = [0xb7, 0, 0, 0, 1, 0, 0, 0, 0x95, 0, 0, 0, 0, 0, 0, 0];
 
-fn accepted_of(alloc: Global, schema: &Schema) -> anyhow::Result<Accepted> {
-    let code = decode(alloc, &PROGRAM)?;
-    Ok(verify(alloc, code, schema, 0)?)
+fn accepted_of(alloc: Global, schema: &Schema) -> Option<Accepted> {
+    let code = decode(alloc, &PROGRAM).ok()?;
+    verify(alloc, code, schema, 0).ok()
 }
 
-/// An addition of a procedure under a number and a name that has another one's digits.
-fn addition_of(alloc: Global, schema: &Schema, named: u64, number: u64) -> anyhow::Result<Entry> {
-    let number = u16::try_from(number)
-        .ok()
-        .context("there are 65,536 numbers")?;
-    let accepted = Arc::new(alloc, accepted_of(alloc, schema)?)?;
-    let name = format!(in alloc; "procedure_{named}")?;
-    Ok(Entry::Addition(AddedProcedure {
-        name: Bytes::new(Vec::from_slice(alloc, name.as_bytes())?),
+/// An addition of a procedure under a number, of which there are 65,536, and a name that has another one's digits.
+fn addition_of(alloc: Global, schema: &Schema, named: u64, number: u64) -> Option<Entry> {
+    let number = u16::try_from(number).ok()?;
+    let accepted = Arc::new(alloc, accepted_of(alloc, schema)?).ok()?;
+    let name = format!(in alloc; "procedure_{named}").ok()?;
+    Some(Entry::Addition(AddedProcedure {
+        name: Bytes::new(Vec::from_slice(alloc, name.as_bytes()).ok()?),
         number,
         accepted,
     }))
@@ -42,7 +39,7 @@ fn deliver_new(
     schema: &Schema,
     from: u64,
     to: u64,
-) -> anyhow::Result<u64> {
+) -> Option<u64> {
     let mut commits = 0u64;
     for number in from..to {
         let entry = addition_of(alloc, schema, number, number)?;
@@ -50,13 +47,13 @@ fn deliver_new(
             commits = commits.wrapping_add(1);
         }
     }
-    Ok(commits)
+    Some(commits)
 }
 
 /// Adds so many procedures, and then so many others: how many are stored.
-pub(crate) fn additions(alloc: Global, stored: u64, times: u64) -> anyhow::Result<u64> {
+pub(crate) fn additions(alloc: Global, stored: u64, times: u64) -> Option<u64> {
     let catalogue = catalogue_of(alloc)?;
-    let mut checked = CheckedReplica::new(alloc, 4_096, &catalogue)?;
+    let mut checked = CheckedReplica::new(alloc, 4_096, &catalogue).ok()?;
     let to = stored.saturating_add(times);
     deliver_new(alloc, &mut checked, catalogue.schema(), 0, to)
 }
@@ -68,7 +65,7 @@ fn deliver_taken(
     schema: &Schema,
     stored: u64,
     times: u64,
-) -> anyhow::Result<u64> {
+) -> Option<u64> {
     let mut taken = 0u64;
     for time in 0..times {
         let number = time.checked_rem(stored).unwrap_or(0);
@@ -77,24 +74,37 @@ fn deliver_taken(
             taken = taken.wrapping_add(1);
         }
     }
-    Ok(taken)
+    Some(taken)
+}
+
+/// Adds so many procedures, and then so many under numbers that are taken.
+fn add_and_take(
+    alloc: Global,
+    checked: &mut CheckedReplica,
+    schema: &Schema,
+    stored: u64,
+    times: u64,
+) -> Option<u64> {
+    let _added = deliver_new(alloc, checked, schema, 0, stored)?;
+    deliver_taken(alloc, checked, schema, stored, times)
 }
 
 /// Adds so many procedures, and then so many times one whose number is taken: how often it was.
-pub(crate) fn taken(alloc: Global, stored: u64, times: u64) -> anyhow::Result<u64> {
+pub(crate) fn taken(alloc: Global, stored: u64, times: u64) -> Option<u64> {
     let catalogue = catalogue_of(alloc)?;
-    let mut checked = CheckedReplica::new(alloc, 4_096, &catalogue)?;
-    let _added = deliver_new(alloc, &mut checked, catalogue.schema(), 0, stored)?;
-    deliver_taken(alloc, &mut checked, catalogue.schema(), stored, times)
+    let mut checked = CheckedReplica::new(alloc, 4_096, &catalogue).ok()?;
+    add_and_take(alloc, &mut checked, catalogue.schema(), stored, times)
 }
 
 /// So many additions, each with a program of its own.
-fn additions_of(alloc: Global, schema: &Schema, count: u64) -> anyhow::Result<Vec<Entry>> {
+fn additions_of(alloc: Global, schema: &Schema, count: u64) -> Option<Vec<Entry>> {
     let mut entries = Vec::new(alloc);
     for number in 0..count {
-        entries.push(addition_of(alloc, schema, number, number)?)?;
+        entries
+            .push(addition_of(alloc, schema, number, number)?)
+            .ok()?;
     }
-    Ok(entries)
+    Some(entries)
 }
 
 /// A replica to which the entries were delivered.
@@ -102,26 +112,26 @@ fn replica_of<'a>(
     alloc: Global,
     catalogue: &'a Catalogue,
     entries: &[Entry],
-) -> anyhow::Result<CheckedReplica<'a>> {
-    let mut checked = CheckedReplica::new(alloc, 4_096, catalogue)?;
+) -> Option<CheckedReplica<'a>> {
+    let mut checked = CheckedReplica::new(alloc, 4_096, catalogue).ok()?;
     for entry in entries {
         let _verdict = deliver(&mut checked, entry)?;
     }
-    Ok(checked)
+    Some(checked)
 }
 
 /// Adds so many procedures to each of so many replicas, and keeps the replicas and the entries, so that their memory can be
 /// taken from outside: how many are stored at all of them.
-pub(crate) fn stored(alloc: Global, count: u64, replicas: u64) -> anyhow::Result<u64> {
+pub(crate) fn stored(alloc: Global, count: u64, replicas: u64) -> Option<u64> {
     let catalogue = catalogue_of(alloc)?;
     let entries = additions_of(alloc, catalogue.schema(), count)?;
     let mut kept = Vec::new(alloc);
     for _ in 0..replicas {
-        kept.push(replica_of(alloc, &catalogue, &entries)?)?;
+        kept.push(replica_of(alloc, &catalogue, &entries)?).ok()?;
     }
     let mut sum = 0u64;
     for checked in &kept {
         sum = sum.wrapping_add(checked.replica().procedures().list().count() as u64);
     }
-    Ok(sum)
+    Some(sum)
 }

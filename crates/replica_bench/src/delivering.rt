@@ -1,8 +1,7 @@
 //! Deliveries to a replica, and reads of its rows.
 
-ghost use Rattle.std.specs.Prelude.{◌≡◌, IfOk};
+ghost use Rattle.std.specs.Prelude.{◌≡◌, IfSome};
 
-use anyhow::bail;
 use catalogue::Catalogue;
 use checked_replica::CheckedReplica;
 use log_entry::{Entry, ExecutedCall};
@@ -15,12 +14,12 @@ use std::alloc::Global;
 use txn_view::Store;
 
 /// A put of a number at its own key of table 1, by a call that looked at nothing.
-pub(crate) fn put_of(alloc: Global, key: u64, snapshot: u32) -> anyhow::Result<ExecutedCall>
-    ensures { IfOk result (λ e. e.call.snapshot ≡ snapshot) }
+pub(crate) fn put_of(alloc: Global, key: u64, snapshot: u32) -> Option<ExecutedCall>
+    ensures { IfSome result (λ e. e.call.snapshot ≡ snapshot) }
 {
     let mut writes = WriteSet::new(alloc);
-    writes.put(1, key, &key.to_le_bytes())?;
-    Ok(ExecutedCall {
+    writes.put(1, key, &key.to_le_bytes()).ok()?;
+    Some(ExecutedCall {
         call: 0,
         procedure: 1,
         args: Bytes::new(Vec::new(alloc)),
@@ -40,49 +39,64 @@ pub(crate) fn key_of(number: u64, keys: u64) -> u64 {
     number.checked_rem(keys).unwrap_or(0).saturating_add(1)
 }
 
+/// Delivers a put at a key.
+fn deliver_put(alloc: Global, checked: &mut CheckedReplica, key: u64) -> Option<Verdict> {
+    let call = put_of(alloc, key, checked.replica().position())?;
+    deliver(checked, &Entry::Call(call))
+}
+
 /// Delivers so many puts, at the keys in turn.
-fn deliver_puts(
+fn deliver_puts(alloc: Global, checked: &mut CheckedReplica, keys: u64, times: u64) -> Option<()> {
+    for number in 0..times {
+        let _verdict = deliver_put(alloc, checked, key_of(number, keys))?;
+    }
+    Some(())
+}
+
+/// Delivers an entry: what became of it, unless it was refused.
+pub(crate) fn deliver(checked: &mut CheckedReplica, entry: &Entry) -> Option<Verdict> {
+    match checked.deliver(entry) {
+        Some(Ok(verdict)) => Some(verdict),
+        _ => None,
+    }
+}
+
+pub(crate) fn catalogue_of(alloc: Global) -> Option<Catalogue> {
+    let schema = Schema::new(alloc, &[(1, 8)]).ok()?;
+    Some(Catalogue::new(alloc, schema))
+}
+
+/// Puts a row at each key, and then so many again.
+fn fill_and_deliver(
     alloc: Global,
     checked: &mut CheckedReplica,
     keys: u64,
     times: u64,
-) -> anyhow::Result<()> {
-    for number in 0..times {
-        let snapshot = checked.replica().position();
-        let call = put_of(alloc, key_of(number, keys), snapshot)?;
-        deliver(checked, &Entry::Call(call))?;
-    }
-    Ok(())
-}
-
-/// Delivers an entry: what became of it.
-pub(crate) fn deliver(checked: &mut CheckedReplica, entry: &Entry) -> anyhow::Result<Verdict> {
-    match checked.deliver(entry) {
-        Some(Ok(verdict)) => Ok(verdict),
-        _ => bail!("a delivery was refused"),
-    }
-}
-
-pub(crate) fn catalogue_of(alloc: Global) -> anyhow::Result<Catalogue> {
-    Ok(Catalogue::new(alloc, Schema::new(alloc, &[(1, 8)])?))
+) -> Option<u32> {
+    deliver_puts(alloc, checked, keys, keys)?;
+    deliver_puts(alloc, checked, keys, times)?;
+    Some(checked.replica().position())
 }
 
 /// Puts a row at each key, and then so many again: the position that is reached.
-pub(crate) fn deliveries(alloc: Global, keys: u64, times: u64) -> anyhow::Result<u32> {
+pub(crate) fn deliveries(alloc: Global, keys: u64, times: u64) -> Option<u32> {
     let catalogue = catalogue_of(alloc)?;
-    let mut checked = CheckedReplica::new(alloc, 4_096, &catalogue)?;
-    deliver_puts(alloc, &mut checked, keys, keys)?;
-    deliver_puts(alloc, &mut checked, keys, times)?;
-    Ok(checked.replica().position())
+    let mut checked = CheckedReplica::new(alloc, 4_096, &catalogue).ok()?;
+    fill_and_deliver(alloc, &mut checked, keys, times)
+}
+
+/// Whether a row is found at a key.
+fn is_found(replica: &Replica, key: u64) -> bool {
+    let store = replica.at(replica.position());
+    let row = store.get(1, key);
+    matches!(row, Ok(Some(_)))
 }
 
 /// How many of so many reads at the last position find a row. Their keys are spread.
 fn count_found(replica: &Replica, keys: u64, times: u64) -> u64 {
-    let store = replica.at(replica.position());
     let mut found = 0u64;
     for number in 0..times {
-        let row = store.get(1, key_of(number.wrapping_mul(2_654_435_761), keys));
-        if matches!(row, Ok(Some(_))) {
+        if is_found(replica, key_of(number.wrapping_mul(2_654_435_761), keys)) {
             found = found.wrapping_add(1);
         }
     }
@@ -90,9 +104,19 @@ fn count_found(replica: &Replica, keys: u64, times: u64) -> u64 {
 }
 
 /// Puts a row at each key, and then reads so many times.
-pub(crate) fn reads(alloc: Global, keys: u64, times: u64) -> anyhow::Result<u64> {
+fn fill_and_read(
+    alloc: Global,
+    checked: &mut CheckedReplica,
+    keys: u64,
+    times: u64,
+) -> Option<u64> {
+    deliver_puts(alloc, checked, keys, keys)?;
+    Some(count_found(checked.replica(), keys, times))
+}
+
+/// Puts a row at each key, and then reads so many times: how many find one.
+pub(crate) fn reads(alloc: Global, keys: u64, times: u64) -> Option<u64> {
     let catalogue = catalogue_of(alloc)?;
-    let mut checked = CheckedReplica::new(alloc, 4_096, &catalogue)?;
-    deliver_puts(alloc, &mut checked, keys, keys)?;
-    Ok(count_found(checked.replica(), keys, times))
+    let mut checked = CheckedReplica::new(alloc, 4_096, &catalogue).ok()?;
+    fill_and_read(alloc, &mut checked, keys, times)
 }

@@ -65,20 +65,25 @@ fn kept(keys: u64) -> u32
     u32::try_from(keys).unwrap_or(0).min(u32::MAX - 1)
 }
 
-/// Does the work over so many keys, so many times, and says what came of it.
+/// Does the work over so many keys, so many times: a count of what came of it, and what it counts.
+fn count_of(alloc: Global, work: Work, keys: u64, times: u64) -> Option<(&'static str, u64)> {
+    Some(match work {
+        Work::Deliveries => ("position", u64::from(deliveries(alloc, keys, times)?)),
+        Work::Reads => ("found", reads(alloc, keys, times)?),
+        Work::Verdicts => ("comparisons", verdicts(alloc, keys, times)?),
+        Work::Memory => ("sum", sum_words(alloc, times)?),
+        Work::Additions => ("stored", additions(alloc, keys, times)?),
+        Work::Taken => ("taken", taken(alloc, keys, times)?),
+        Work::Hits => ("repeated", requests(alloc, 1, kept(keys), times)?),
+        Work::Misses => ("repeated", requests(alloc, 2, kept(keys), times)?),
+        Work::Stored => ("stored", stored(alloc, keys, times)?),
+    })
+}
+
 fn report(rt: &HostRuntime, work: Work, keys: u64, times: u64) -> anyhow::Result<()> {
-    let alloc = rt.alloc();
-    match work {
-        Work::Deliveries => println!(rt; "position {}", deliveries(alloc, keys, times)?)?,
-        Work::Reads => println!(rt; "found {}", reads(alloc, keys, times)?)?,
-        Work::Verdicts => println!(rt; "comparisons {}", verdicts(alloc, keys, times)?)?,
-        Work::Memory => println!(rt; "sum {}", sum_words(alloc, times)?)?,
-        Work::Additions => println!(rt; "stored {}", additions(alloc, keys, times)?)?,
-        Work::Taken => println!(rt; "taken {}", taken(alloc, keys, times)?)?,
-        Work::Hits => println!(rt; "repeated {}", requests(alloc, 1, kept(keys), times)?)?,
-        Work::Misses => println!(rt; "repeated {}", requests(alloc, 2, kept(keys), times)?)?,
-        Work::Stored => println!(rt; "stored {}", stored(alloc, keys, times)?)?,
-    }
+    let count = count_of(rt.alloc(), work, keys, times);
+    let (what, count) = count.context("memory is wanting, or there are too many procedures")?;
+    println!(rt; "{what} {count}")?;
     Ok(())
 }
 

@@ -1,6 +1,6 @@
 //! Verdicts on calls with requests, of which many are kept.
 
-ghost use Rattle.std.specs.Prelude.{◌≡◌, ◌<◌, IfOk};
+ghost use Rattle.std.specs.Prelude.{◌≡◌, ◌<◌, IfSome};
 
 use crate::delivering::put_of;
 use certify::Certifier;
@@ -9,30 +9,30 @@ use log_model::{RequestId, Verdict};
 use std::alloc::Global;
 
 /// A put that commits, with the request of a number.
-fn numbered_put(alloc: Global, session: u32, sequence: u32) -> anyhow::Result<ExecutedCall>
-    ensures { IfOk result (λ e. e.call.snapshot ≡ 0) }
+fn numbered_put(alloc: Global, session: u32, sequence: u32) -> Option<ExecutedCall>
+    ensures { IfSome result (λ e. e.call.snapshot ≡ 0) }
 {
     let mut call = put_of(alloc, 1, 0)?;
     call.request = RequestId { session, sequence };
-    Ok(call)
+    Some(call)
 }
 
 /// A certifier that has kept so many requests. Its window is short, so that a call without one of them is stale at once.
-fn certifier_with(alloc: Global, requests: u32) -> anyhow::Result<Certifier>
-    ensures { IfOk result (λ c. c.memory.count ≡ requests) }
+fn certifier_with(alloc: Global, requests: u32) -> Option<Certifier>
+    ensures { IfSome result (λ c. c.memory.count ≡ requests) }
 {
-    let mut certifier = Certifier::new(alloc, 1)?;
+    let mut certifier = Certifier::new(alloc, 1).ok()?;
     for before in 0..requests {
         let call = numbered_put(alloc, 1, before)?;
-        let prepared = certifier.prepare(&call)?;
+        let prepared = certifier.prepare(&call).ok()?;
         certifier.keep(before + 1, Verdict::Commit, prepared);
     }
-    Ok(certifier)
+    Some(certifier)
 }
 
 /// Asks for so many verdicts on calls of a session, whose requests are spread over those that are kept of session 1: how
 /// many repeat one.
-pub(crate) fn requests(alloc: Global, session: u32, kept: u32, times: u64) -> anyhow::Result<u64>
+pub(crate) fn requests(alloc: Global, session: u32, kept: u32, times: u64) -> Option<u64>
     requires { kept < 4294967295 }
 {
     let mut certifier = certifier_with(alloc, kept)?;
@@ -47,5 +47,5 @@ pub(crate) fn requests(alloc: Global, session: u32, kept: u32, times: u64) -> an
             repeated = repeated.wrapping_add(1);
         }
     }
-    Ok(repeated)
+    Some(repeated)
 }

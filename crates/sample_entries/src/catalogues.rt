@@ -3,48 +3,47 @@ use bpf_verify::{Accepted, verify};
 use catalogue::Catalogue;
 use sample_procedures::{ONE, bytes_of, digit_of};
 use schema::Schema;
-use std::alloc::Global;
-use std::test::Fail;
+use std::alloc::{Allocator, Global};
 
-/// A program in hex that takes so many words, as it is accepted.
-pub(crate) fn accepted_of(
-    alloc: Global,
-    schema: &Schema,
+/// A program in hex that takes so many words, as it is accepted. None, here and below, where memory is wanting or it isn't.
+pub(crate) fn accepted_of<A: Allocator + Copy>(
+    alloc: A,
+    schema: &Schema<A>,
     hex: &str,
     words: usize,
-) -> Result<Accepted, Fail> {
-    let code = decode(alloc, &bytes_of(alloc, hex)?)?;
+) -> Option<Accepted<A, A>> {
+    let code = decode(alloc, &bytes_of(alloc, hex)?).ok()?;
     let args_len = u16::try_from(words).unwrap_or(0).wrapping_mul(8);
-    Ok(verify(alloc, code, schema, args_len.min(256))?)
+    verify(alloc, code, schema, args_len.min(256)).ok()
 }
 
-fn add_to(
-    alloc: Global,
-    catalogue: &mut Catalogue,
+fn add_to<A: Allocator + Copy>(
+    alloc: A,
+    catalogue: &mut Catalogue<A>,
     number: u16,
     hex: &str,
     words: usize,
-) -> Result<(), Fail> {
+) -> Option<()> {
     let accepted = accepted_of(alloc, catalogue.schema(), hex, words)?;
-    catalogue.add(&digit_of(number), number, accepted)?;
-    Ok(())
+    catalogue.add(&digit_of(number), number, accepted).ok()
 }
 
 /// A catalogue for these tables, in which each procedure, a number with a program and how many words that takes, has its
 /// digit as its name.
-pub fn catalogue_of(
-    alloc: Global,
+pub fn catalogue_of<A: Allocator + Copy>(
+    alloc: A,
     tables: &[(u8, u16)],
     procedures: &[(u16, &str, usize)],
-) -> Result<Catalogue, Fail> {
-    let mut catalogue = Catalogue::new(alloc, Schema::new(alloc, tables)?);
+) -> Option<Catalogue<A>> {
+    let schema = Schema::new(alloc, tables).ok()?;
+    let mut catalogue = Catalogue::new(alloc, schema);
     for (number, hex, words) in procedures {
         add_to(alloc, &mut catalogue, *number, hex, *words)?;
     }
-    Ok(catalogue)
+    Some(catalogue)
 }
 
 /// A catalogue for table 1 of rows of one byte, with a procedure `1` of number 1.
-pub fn small_catalogue(alloc: Global) -> Result<Catalogue, Fail> {
+pub fn small_catalogue(alloc: Global) -> Option<Catalogue> {
     catalogue_of(alloc, &[(1, 1)], &[(1, ONE, 0)])
 }

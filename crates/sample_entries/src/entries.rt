@@ -5,9 +5,8 @@ use row_sets::{ReadSet, WriteSet};
 use row_values::Bytes;
 use sample_procedures::ONE;
 use schema::{Look, Schema};
-use std::alloc::Global;
+use std::alloc::{AllocError, Global};
 use std::sync::Arc;
-use std::test::Fail;
 
 /// An entry of a log that is written down.
 #[derive(Clone, Copy)]
@@ -36,13 +35,18 @@ pub fn idle_call(alloc: Global, procedure: u16, snapshot: u32, request: RequestI
 }
 
 /// Adds one look at table 1 and one write.
-fn fill(call: &mut ExecutedCall, lo: u64, hi: u64, key: u64, row: Option<u8>) -> Result<(), Fail> {
+fn fill(
+    call: &mut ExecutedCall,
+    lo: u64,
+    hi: u64,
+    key: u64,
+    row: Option<u8>,
+) -> Result<(), AllocError> {
     call.reads.add_range(Look { table: 1, lo, hi })?;
     match row {
-        Some(byte) => call.writes.put(1, key, &[byte])?,
-        None => call.writes.remove(1, key)?,
+        Some(byte) => call.writes.put(1, key, &[byte]),
+        None => call.writes.remove(1, key),
     }
-    Ok(())
 }
 
 /// An addition of a program in hex that takes so many words.
@@ -53,10 +57,11 @@ pub fn addition_of(
     number: u16,
     hex: &str,
     words: usize,
-) -> Result<Entry, Fail> {
-    let accepted = Arc::new(alloc, accepted_of(alloc, schema, hex, words)?)?;
-    let name = Vec::from_slice(alloc, name)?;
-    Ok(Entry::Addition(AddedProcedure {
+) -> Option<Entry> {
+    let accepted = accepted_of(alloc, schema, hex, words)?;
+    let accepted = Arc::new(alloc, accepted).ok()?;
+    let name = Vec::from_slice(alloc, name).ok()?;
+    Some(Entry::Addition(AddedProcedure {
         name: Bytes::new(name),
         number,
         accepted,
@@ -64,7 +69,7 @@ pub fn addition_of(
 }
 
 /// An entry that is written down, for these tables.
-pub fn entry_of(alloc: Global, schema: &Schema, case: EntryCase) -> Result<Entry, Fail> {
+pub fn entry_of(alloc: Global, schema: &Schema, case: EntryCase) -> Option<Entry> {
     let (session, sequence, snapshot, lo, hi, key, row) = match case {
         EntryCase::Call(snapshot, lo, hi, key, row) => (0, 0, snapshot, lo, hi, key, row),
         EntryCase::Numbered(session, sequence, snapshot, lo, hi, key, row) => {
@@ -75,15 +80,16 @@ pub fn entry_of(alloc: Global, schema: &Schema, case: EntryCase) -> Result<Entry
         }
     };
     let mut call = idle_call(alloc, 1, snapshot, RequestId { session, sequence });
-    fill(&mut call, lo, hi, key, row)?;
-    Ok(Entry::Call(call))
+    fill(&mut call, lo, hi, key, row).ok()?;
+    Some(Entry::Call(call))
 }
 
 /// The entries of a log that is written down.
-pub fn entries_of(alloc: Global, schema: &Schema, cases: &[EntryCase]) -> Result<Vec<Entry>, Fail> {
+pub fn entries_of(alloc: Global, schema: &Schema, cases: &[EntryCase]) -> Option<Vec<Entry>> {
     let mut entries = Vec::new(alloc);
     for case in cases {
-        entries.push(entry_of(alloc, schema, *case)?)?;
+        let entry = entry_of(alloc, schema, *case)?;
+        entries.push(entry).ok()?;
     }
-    Ok(entries)
+    Some(entries)
 }

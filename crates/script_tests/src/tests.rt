@@ -5,7 +5,7 @@ use crate::streams::{Full, Input, Output};
 use scarce::Scarce;
 use script_replay::replay_over;
 use std::alloc::{AllocError, Allocator, Global};
-use std::test::Fail;
+use std::process::Abort;
 
 /// Lines, each with an LF.
 fn joined(alloc: Global, lines: &[&str]) -> Result<Vec<u8>, AllocError> {
@@ -49,17 +49,16 @@ fn tells(alloc: Global, lines: &[&str], prints: &[&str], fault: &str) -> Result<
 }
 
 #[test]
-fn stories_print_what_they_should(rt: HostRuntime) -> Result<(), Fail> {
+fn stories_print_what_they_should(rt: HostRuntime) {
     for (at, story) in STORIES
         .iter()
         .chain(&ADDITIONS)
         .chain(&REQUESTS)
         .enumerate()
     {
-        let told = tells(rt.alloc(), story.lines, story.prints, story.fault)?;
+        let told = tells(rt.alloc(), story.lines, story.prints, story.fault).expect(&rt, "memory");
         assert!(rt; told, "story {at}");
     }
-    Ok(())
 }
 
 const ONE: &str = "proc one 9 0 b7000000010000009500000000000000";
@@ -130,25 +129,26 @@ const FAULTS: [(&[&str], &[&str], &str); 29] = [
 ];
 
 #[test]
-fn a_line_at_fault_ends_the_script(rt: HostRuntime) -> Result<(), Fail> {
+fn a_line_at_fault_ends_the_script(rt: HostRuntime) {
     for (lines, prints, fault) in FAULTS {
-        assert!(rt; tells(rt.alloc(), lines, prints, fault)?, "{fault}");
+        assert!(rt;
+            tells(rt.alloc(), lines, prints, fault).expect(&rt, "memory"),
+            "{fault}"
+        );
     }
-    Ok(())
 }
 
 /// Settings alone print nothing, and so do no lines at all; the last line may lack its LF.
 #[test]
-fn scripts_may_end_anywhere(rt: HostRuntime) -> Result<(), Fail> {
+fn scripts_may_end_anywhere(rt: HostRuntime) {
     let alloc = rt.alloc();
-    assert!(rt; tells(alloc, &[], &[], "")?);
-    assert!(rt; tells(alloc, &["window 4", "", "# no replicas"], &[], "")?);
+    assert!(rt; tells(alloc, &[], &[], "").expect(&rt, "memory"));
+    assert!(rt; tells(alloc, &["window 4", "", "# no replicas"], &[], "").expect(&rt, "memory"));
     let (status, output, faults) = replayed(alloc, alloc, b"window 4\nreplicas 1\nlog");
     assert_eq!(rt;
         (status, output.as_slice(), faults.is_empty()),
         (0, b"log 0\n".as_slice(), true)
     );
-    Ok(())
 }
 
 /// A comment of so many bytes, and a line behind it.
@@ -159,18 +159,17 @@ fn long_comment(alloc: Global, len: usize) -> Result<Vec<u8>, AllocError> {
 }
 
 #[test]
-fn lines_have_at_most_70000_bytes(rt: HostRuntime) -> Result<(), Fail> {
+fn lines_have_at_most_70000_bytes(rt: HostRuntime) {
     let alloc = rt.alloc();
-    let longest = long_comment(alloc, 70_000)?;
+    let longest = long_comment(alloc, 70_000).expect(&rt, "memory");
     let (status, _, faults) = replayed(alloc, alloc, &longest);
     assert_eq!(rt; (status, faults.len()), (0, 0));
-    let longer = long_comment(alloc, 70_001)?;
+    let longer = long_comment(alloc, 70_001).expect(&rt, "memory");
     let (status, _, faults) = replayed(alloc, alloc, &longer);
     assert_eq!(rt;
         (status, faults.as_slice()),
         (1, b"line 1: L1\n".as_slice())
     );
-    Ok(())
 }
 
 /// Whether one begins with the other.
@@ -224,9 +223,9 @@ fn first_lines(text: &[u8], count: usize) -> &[u8] {
 
 /// Wherever the input fails, exactly what the lines before it print is printed, and the status is 3.
 #[test]
-fn a_failing_input_answers_3(rt: HostRuntime) -> Result<(), Fail> {
+fn a_failing_input_answers_3(rt: HostRuntime) {
     let alloc = rt.alloc();
-    let (script, prints) = long_script(alloc)?;
+    let (script, prints) = long_script(alloc).expect(&rt, "memory");
     for len in 0..=script.len() {
         let (front, _) = script.split_at(len);
         let mut input = Input {
@@ -241,7 +240,6 @@ fn a_failing_input_answers_3(rt: HostRuntime) -> Result<(), Fail> {
         assert_eq!(rt; (status, faults.is_empty()), (3, false));
         assert_eq!(rt; output.as_slice(), printed, "{len}");
     }
-    Ok(())
 }
 
 /// Replays a script over an output with so much room: whether the status is 3, something is said of it, the output holds what
@@ -266,9 +264,9 @@ fn ends_at(
 /// Wherever the output fails, it holds what came before, and the status is 3. Where the first page can't leave, no line is read
 /// behind the one that needs its room; what is printed after it leaves at the end, when the whole script is read.
 #[test]
-fn a_script_ends_where_its_output_fails(rt: HostRuntime) -> Result<(), Fail> {
+fn a_script_ends_where_its_output_fails(rt: HostRuntime) {
     let alloc = rt.alloc();
-    let (script, prints) = long_script(alloc)?;
+    let (script, prints) = long_script(alloc).expect(&rt, "memory");
     for full in [Full::Fails, Full::TakesNothing] {
         for room in 0..prints.len() {
             let unread = if room < FIRST_PAGE {
@@ -280,14 +278,13 @@ fn a_script_ends_where_its_output_fails(rt: HostRuntime) -> Result<(), Fail> {
             assert!(rt; ends, "{room}");
         }
     }
-    Ok(())
 }
 
 /// An output that takes a byte at a time has all in the end. Where its flush fails then, the status is 3.
 #[test]
-fn outputs_may_take_little_at_once(rt: HostRuntime) -> Result<(), Fail> {
+fn outputs_may_take_little_at_once(rt: HostRuntime) {
     let alloc = rt.alloc();
-    let (script, prints) = long_script(alloc)?;
+    let (script, prints) = long_script(alloc).expect(&rt, "memory");
     for (flushes, wanted) in [(true, 0), (false, 3)] {
         let mut input = script.as_slice();
         let mut output = Output::new(alloc, prints.len(), 1, Full::Fails);
@@ -297,14 +294,13 @@ fn outputs_may_take_little_at_once(rt: HostRuntime) -> Result<(), Fail> {
         assert_eq!(rt; (status, faults.is_empty()), (wanted, flushes));
         assert_eq!(rt; output.held.as_slice(), prints.as_slice());
     }
-    Ok(())
 }
 
 /// A writer for faults that fails, or takes nothing, changes neither the output nor the status.
 #[test]
-fn faults_may_find_no_room(rt: HostRuntime) -> Result<(), Fail> {
+fn faults_may_find_no_room(rt: HostRuntime) {
     let alloc = rt.alloc();
-    let script = joined(alloc, &["window 4", "replicas 1", "log", "jump"])?;
+    let script = joined(alloc, &["window 4", "replicas 1", "log", "jump"]).expect(&rt, "memory");
     for full in [Full::Fails, Full::TakesNothing] {
         for room in 0..11 {
             let mut input = script.as_slice();
@@ -315,7 +311,6 @@ fn faults_may_find_no_room(rt: HostRuntime) -> Result<(), Fail> {
             assert_eq!(rt; Some(faults.held.as_slice()), b"line 4: L2\n".get(..room));
         }
     }
-    Ok(())
 }
 
 /// How a replay went on that found no memory once.
@@ -364,9 +359,9 @@ const MOST: u64 = 2_000;
 
 /// Replays a story with each growth refused in turn, up to the first that it doesn't make: whether each course is one that it may
 /// take, and some growth ends it behind what it printed, and some refuses a step.
-fn goes_well(alloc: Global, scarce: &Scarce, story: &Story) -> Result<bool, Fail> {
-    let script = joined(alloc, story.lines)?;
-    let prints = joined(alloc, story.prints)?;
+fn goes_well(rt: &impl Abort, alloc: Global, scarce: &Scarce, story: &Story) -> bool {
+    let script = joined(alloc, story.lines).expect(rt, "memory");
+    let prints = joined(alloc, story.prints).expect(rt, "memory");
     let before = scarce.refused();
     let (mut ended_late, mut went_on) = (false, false);
     for nth in 1..MOST {
@@ -374,43 +369,41 @@ fn goes_well(alloc: Global, scarce: &Scarce, story: &Story) -> Result<bool, Fail
         let (status, output, faults) = replayed(scarce, alloc, &script);
         if scarce.refused() < before.saturating_add(nth) {
             scarce.refuse_nth(0);
-            return Ok(ended_late && went_on);
+            return ended_late && went_on;
         }
         let course = course_of(status, &output, &faults, &prints);
         if course.is_none() {
-            return Ok(false);
+            return false;
         }
         ended_late = ended_late || (course == Some(Course::Ended) && !output.is_empty());
         went_on = went_on || course == Some(Course::WentOn);
     }
-    Ok(false)
+    false
 }
 
 /// Each growth of a replay is refused in turn. Some of them end the script, and some refuse a step.
 #[test]
-fn growths_are_refused_in_turn(rt: HostRuntime) -> Result<(), Fail> {
+fn growths_are_refused_in_turn(rt: HostRuntime) {
     let scarce = Scarce::new(rt.alloc());
     for (at, story) in [TWO_INCREMENTS, ADDED, SENT_TWICE].iter().enumerate() {
-        assert!(rt; goes_well(rt.alloc(), &scarce, story)?, "story {at}");
+        assert!(rt; goes_well(&rt, rt.alloc(), &scarce, story), "story {at}");
     }
-    Ok(())
 }
 
 /// There is a growth without which the replica is stopped, and then it goes on as the story says.
 #[test]
-fn a_stopped_replica_is_made_anew(rt: HostRuntime) -> Result<(), Fail> {
+fn a_stopped_replica_is_made_anew(rt: HostRuntime) {
     let alloc = rt.alloc();
-    let script = joined(alloc, STOPS.lines)?;
-    let prints = joined(alloc, STOPS.prints)?;
+    let script = joined(alloc, STOPS.lines).expect(&rt, "memory");
+    let prints = joined(alloc, STOPS.prints).expect(&rt, "memory");
     let scarce = Scarce::new(alloc);
     for nth in 1..MOST {
         scarce.refuse_nth(nth);
         let (status, output, _) = replayed(&scarce, alloc, &script);
         if status == 0 && output.as_slice() == prints.as_slice() {
-            return Ok(());
+            return;
         }
         assert_eq!(rt; scarce.refused(), nth);
     }
     assert!(rt; false, "no growth stops the replica");
-    Ok(())
 }

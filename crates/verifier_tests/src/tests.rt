@@ -6,7 +6,6 @@ use schema::Schema;
 use std::alloc::Global;
 use std::fmt::Debug;
 use std::process::Abort;
-use std::test::Fail;
 
 mod bounds;
 mod programs;
@@ -31,37 +30,43 @@ struct Case {
 }
 
 /// The bytes of a program in hex.
-fn bytes_of(alloc: Global, hex: &str) -> Result<Vec<u8>, Fail> {
+fn bytes_of(rt: &impl Abort, alloc: Global, hex: &str) -> Vec<u8> {
     let mut bytes = Vec::new(alloc);
     for slot in hex.split_whitespace() {
-        bytes.extend_from_slice(&hex::decode(alloc, slot)?)?;
+        bytes
+            .extend_from_slice(&hex::decode(alloc, slot).expect(rt, "the program"))
+            .expect(rt, "memory");
     }
-    Ok(bytes)
+    bytes
 }
 
 /// What is said of a program, in a line.
 fn verdict(
+    rt: &impl Abort,
     alloc: Global,
     bytes: &[u8],
     args_len: u16,
     tables: &[(u8, u16)],
-) -> Result<String, Fail> {
+) -> String {
     let code = match decode(alloc, bytes) {
         Ok(code) => code,
-        Err(fault) => return Ok(format!(in alloc; "{fault}")?),
+        Err(fault) => return format!(in alloc; "{fault}").expect(rt, "memory"),
     };
     let slots = code.slots();
-    let schema = Schema::new(alloc, tables)?;
+    let schema = Schema::new(alloc, tables).expect(rt, "memory");
     match verify(alloc, code, &schema, args_len.min(256)) {
-        Ok(accepted) => Ok(format!(in alloc; "accepted slots {slots} bound {}", accepted.bound())?),
-        Err(refusal) => Ok(format!(in alloc; "{refusal}")?),
+        Ok(accepted) => format!(in alloc;
+            "accepted slots {slots} bound {}",
+            accepted.bound()
+        ).expect(rt, "memory"),
+        Err(refusal) => format!(in alloc; "{refusal}").expect(rt, "memory"),
     }
 }
 
 /// Asserts what is said of a case.
-fn is_said(rt: &impl Abort, alloc: Global, case: &Case) -> Result<(), Fail> {
-    let bytes = bytes_of(alloc, case.program)?;
-    let text = verdict(alloc, &bytes, case.args_len, case.tables)?;
+fn is_said(rt: &impl Abort, alloc: Global, case: &Case) {
+    let bytes = bytes_of(rt, alloc, case.program);
+    let text = verdict(rt, alloc, &bytes, case.args_len, case.tables);
     let said = (case.program, case.args_len, text.as_str());
     same(
         rt,
@@ -69,15 +74,16 @@ fn is_said(rt: &impl Abort, alloc: Global, case: &Case) -> Result<(), Fail> {
         said,
         (case.program, case.args_len, case.verdict),
     );
-    Ok(())
 }
 
 #[test]
-fn programs_are_accepted_or_refused(rt: HostRuntime) -> Result<(), Fail> {
-    for case in PROGRAMS.iter().chain(&CAUSES) {
-        is_said(&rt, rt.alloc(), case)?;
+fn programs_are_accepted_or_refused(rt: HostRuntime) {
+    for case in &PROGRAMS {
+        is_said(&rt, rt.alloc(), case);
     }
-    Ok(())
+    for case in &CAUSES {
+        is_said(&rt, rt.alloc(), case);
+    }
 }
 
 const SET: [u8; 8] = [0xb7, 0, 0, 0, 1, 0, 0, 0];
@@ -96,38 +102,38 @@ static LONGEST: [([u8; 8], [[u8; 8]; 2], &[[u8; 8]], &str); 3] = [
 ];
 
 fn longest(
+    rt: &impl Abort,
     alloc: Global,
     first: &[u8; 8],
     pair: &[[u8; 8]; 2],
     end: &[[u8; 8]],
-) -> Result<Vec<u8>, Fail> {
-    let mut bytes = Vec::from_slice(alloc, first)?;
+) -> Vec<u8> {
+    let mut bytes = Vec::from_slice(alloc, first).expect(rt, "memory");
     for _ in 0..2047 {
         for slot in pair {
-            bytes.extend_from_slice(slot)?;
+            bytes.extend_from_slice(slot).expect(rt, "memory");
         }
     }
     for slot in end {
-        bytes.extend_from_slice(slot)?;
+        bytes.extend_from_slice(slot).expect(rt, "memory");
     }
-    Ok(bytes)
+    bytes
 }
 
 #[test]
-fn the_longest_programs_are_verified(rt: HostRuntime) -> Result<(), Fail> {
+fn the_longest_programs_are_verified(rt: HostRuntime) {
     for (first, pair, end, expected) in &LONGEST {
-        let bytes = longest(rt.alloc(), first, pair, end)?;
-        let text = verdict(rt.alloc(), &bytes, 0, &[])?;
+        let bytes = longest(&rt, rt.alloc(), first, pair, end);
+        let text = verdict(&rt, rt.alloc(), &bytes, 0, &[]);
         same(&rt, "longest", text.as_str(), *expected);
     }
-    Ok(())
 }
 
 /// Replies 1.
 const ONE: &str = "b700000001000000 9500000000000000";
 
-fn code_of(alloc: Global, program: &str) -> Result<Code, Fail> {
-    Ok(decode(alloc, &bytes_of(alloc, program)?)?)
+fn code_of(rt: &impl Abort, alloc: Global, program: &str) -> Code {
+    decode(alloc, &bytes_of(rt, alloc, program)).expect(rt, "the program")
 }
 
 fn is_as_given(rt: &impl Abort, accepted: &Accepted, schema: &Schema) {
@@ -139,38 +145,31 @@ fn is_as_given(rt: &impl Abort, accepted: &Accepted, schema: &Schema) {
 
 /// What was accepted is what was given, and the copy of the schema is its own.
 #[test]
-fn what_is_accepted_is_what_was_given(rt: HostRuntime) -> Result<(), Fail> {
-    let code = code_of(rt.alloc(), ONE)?;
-    let schema = Schema::new(rt.alloc(), &[(1, 8), (64, 128)])?;
-    let accepted = verify(rt.alloc(), code, &schema, 256)?;
+fn what_is_accepted_is_what_was_given(rt: HostRuntime) {
+    let code = code_of(&rt, rt.alloc(), ONE);
+    let schema = Schema::new(rt.alloc(), &[(1, 8), (64, 128)]).expect(&rt, "memory");
+    let accepted = verify(rt.alloc(), code, &schema, 256).expect(&rt, "it is accepted");
     is_as_given(&rt, &accepted, &schema);
-    Ok(())
 }
 
 /// Whether a program is accepted. Where it isn't, memory was refused.
-fn is_accepted(
-    rt: &impl Abort,
-    alloc: Global,
-    scarce: &Scarce,
-    schema: &Schema<&Scarce>,
-) -> Result<bool, Fail> {
-    let code = code_of(alloc, ONE)?;
+fn is_accepted(rt: &impl Abort, alloc: Global, scarce: &Scarce, schema: &Schema<&Scarce>) -> bool {
+    let code = code_of(rt, alloc, ONE);
     let refusal = verify(scarce, code, schema, 0).err();
     assert!(rt; refusal.is_none() || refusal == Some(Refusal::OutOfMemory));
-    Ok(refusal.is_none())
+    refusal.is_none()
 }
 
 /// Verifying takes memory twice: for what is known before the slots, and for the copy of the schema.
 #[test]
-fn each_refused_growth_is_want_of_memory(rt: HostRuntime) -> Result<(), Fail> {
+fn each_refused_growth_is_want_of_memory(rt: HostRuntime) {
     let scarce = Scarce::new(rt.alloc());
-    let schema = Schema::new(&scarce, &[(1, 8)])?;
+    let schema = Schema::new(&scarce, &[(1, 8)]).expect(&rt, "memory");
     for (growth, expected) in &[(1, false), (2, false), (3, true)] {
         scarce.refuse_nth(*growth);
-        let found = is_accepted(&rt, rt.alloc(), &scarce, &schema)?;
+        let found = is_accepted(&rt, rt.alloc(), &scarce, &schema);
         same(&rt, "accepted", (*growth, found), (*growth, *expected));
     }
-    Ok(())
 }
 
 const STORES: &str =
@@ -187,20 +186,19 @@ static REPLIES: [(&str, u8, u64, usize); 3] = [
 ];
 
 /// The reply and the steps of a run without rows.
-fn run_of(alloc: Global, program: &str, args: &[u8]) -> Result<Option<(u64, usize)>, Fail> {
-    let code = code_of(alloc, program)?;
-    let schema = Schema::new(alloc, &[])?;
+fn run_of(rt: &impl Abort, alloc: Global, program: &str, args: &[u8]) -> Option<(u64, usize)> {
+    let code = code_of(rt, alloc, program);
+    let schema = Schema::new(alloc, &[]).expect(rt, "memory");
     let no_rows: &[Row] = &[];
-    let run = run_program(alloc, &code, &schema, args, no_rows)?;
-    Ok(run.map(|run| (run.reply(), run.steps())))
+    let run = run_program(alloc, &code, &schema, args, no_rows).expect(rt, "memory");
+    run.map(|run| (run.reply(), run.steps()))
 }
 
 /// What programs that are accepted reply, by the plain runner.
 #[test]
-fn accepted_programs_reply(rt: HostRuntime) -> Result<(), Fail> {
+fn accepted_programs_reply(rt: HostRuntime) {
     for (program, args, reply, steps) in &REPLIES {
-        let found = run_of(rt.alloc(), program, &[*args])?;
+        let found = run_of(&rt, rt.alloc(), program, &[*args]);
         same(&rt, program, found, Some((*reply, *steps)));
     }
-    Ok(())
 }

@@ -31,16 +31,21 @@ impl Work {
     }
 }
 
-/// Makes so many steps of calls at so many keys, and says what came of them.
-fn report(rt: &HostRuntime, work: Work, keys: u64, count: u32) -> anyhow::Result<()> {
-    let alloc = rt.alloc();
-    let arguments = arguments_of(alloc, keys, count)?;
-    let steps = steps_of(alloc, &arguments, count)?;
+/// Makes so many steps of calls at so many keys: a count of what came of them, and what it counts.
+fn count_of(alloc: Global, work: Work, keys: u64, count: u32) -> Option<(&'static str, u64)> {
+    let arguments = arguments_of(alloc, keys, count).ok()?;
+    let steps = steps_of(alloc, &arguments, count).ok()?;
     let mut world = new_world(alloc)?;
     match work {
-        Work::Run => println!(rt; "commits {}", commits(&world.run(&steps)?))?,
-        Work::Make => println!(rt; "steps {}", steps.len())?,
+        Work::Run => Some(("commits", u64::from(commits(&world.run(&steps).ok()?)))),
+        Work::Make => Some(("steps", steps.len() as u64)),
     }
+}
+
+fn report(rt: &HostRuntime, work: Work, keys: u64, count: u32) -> anyhow::Result<()> {
+    let counted = count_of(rt.alloc(), work, keys, count);
+    let (what, number) = counted.context("memory is wanting")?;
+    println!(rt; "{what} {number}")?;
     Ok(())
 }
 

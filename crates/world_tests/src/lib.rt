@@ -1,4 +1,4 @@
-//! Tests of worlds: calls that conflict, refused memory, and worlds drawn from seeds that come to what the plain replayer says.
+//! Tests of worlds that are drawn from seeds: they come to what the plain replayer says.
 #![tactic(auto)]
 
 #[cfg(test)]

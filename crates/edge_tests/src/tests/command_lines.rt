@@ -1,20 +1,19 @@
 use command_line::{Plan, PlanFault, plan};
 use explanations::explain;
 use std::alloc::Global;
-use std::test::Fail;
+use std::process::Abort;
 
 #[test]
-fn a_plan_is_read_off_the_words(rt: HostRuntime) -> Result<(), Fail> {
+fn a_plan_is_read_off_the_words(rt: HostRuntime) {
     let words = ["dsmdb", "list", "add.bpf"];
-    assert!(rt; plan(rt.alloc(), &words)? == Plan::List { file: "add.bpf" });
+    assert!(rt; plan(rt.alloc(), &words).expect(&rt, "memory") == Plan::List { file: "add.bpf" });
     let words = ["dsmdb", "replay", "a.dsm"];
-    assert!(rt; plan(rt.alloc(), &words)? == Plan::Replay { script: "a.dsm" });
+    assert!(rt; plan(rt.alloc(), &words).expect(&rt, "memory") == Plan::Replay { script: "a.dsm" });
     let Some(explanation) = explain("V5") else {
         panic!(rt; "no row");
     };
     let words = ["dsmdb", "explain", "V5"];
-    assert!(rt; plan(rt.alloc(), &words)? == Plan::Explain { explanation });
-    Ok(())
+    assert!(rt; plan(rt.alloc(), &words).expect(&rt, "memory") == Plan::Explain { explanation });
 }
 
 /// Words that ask for a check of `add.bpf`, how many bytes the arguments have, and the tables.
@@ -28,28 +27,27 @@ const CHECKS: [(&[&str], u16, &[(u8, u16)]); 3] = [
     ),
 ];
 
-fn check_of(alloc: Global, args_len: u16, pairs: &[(u8, u16)]) -> Result<Plan<'static>, Fail> {
-    Ok(Plan::Check {
+fn check_of(rt: &impl Abort, alloc: Global, args_len: u16, pairs: &[(u8, u16)]) -> Plan<'static> {
+    Plan::Check {
         file: "add.bpf",
         args_len,
-        tables: Vec::from_slice(alloc, pairs)?,
-    })
+        tables: Vec::from_slice(alloc, pairs).expect(rt, "memory"),
+    }
 }
 
 #[test]
-fn a_check_is_read_off_the_words(rt: HostRuntime) -> Result<(), Fail> {
+fn a_check_is_read_off_the_words(rt: HostRuntime) {
     for (words, args_len, pairs) in &CHECKS {
-        let expected = check_of(rt.alloc(), *args_len, pairs)?;
-        assert!(rt; plan(rt.alloc(), words)? == expected);
+        let expected = check_of(&rt, rt.alloc(), *args_len, pairs);
+        assert!(rt; plan(rt.alloc(), words).expect(&rt, "memory") == expected);
     }
-    Ok(())
 }
 
 /// How the fault of words is printed; empty where they are a plan.
-fn fault_of(alloc: Global, words: &[&str]) -> Result<String, Fail> {
+fn fault_of(rt: &impl Abort, alloc: Global, words: &[&str]) -> String {
     match plan(alloc, words) {
-        Ok(_) => Ok(String::new(alloc)),
-        Err(fault) => Ok(fault.to_string(alloc)?),
+        Ok(_) => String::new(alloc),
+        Err(fault) => fault.to_string(alloc).expect(rt, "memory"),
     }
 }
 
@@ -62,32 +60,31 @@ const NO_TABLES: [&str; 9] = [
 const NO_REFUSALS: [&str; 6] = ["V13", "v5", "V05", "5", "explain", ""];
 
 /// Whether a command with words before and behind is refused for a word, with a text that ends in it.
-fn is_refused(alloc: Global, words: &[&str], text: &str, word: &str) -> Result<bool, Fail> {
-    let fault = fault_of(alloc, words)?;
-    let expected = format!(in alloc; "{text}: '{word}'")?;
-    Ok(fault.as_str() == expected.as_str())
+fn is_refused(rt: &impl Abort, alloc: Global, words: &[&str], text: &str, word: &str) -> bool {
+    let fault = fault_of(rt, alloc, words);
+    let expected = format!(in alloc; "{text}: '{word}'").expect(rt, "memory");
+    fault.as_str() == expected.as_str()
 }
 
 /// Words that can't be read, and how the fault is printed.
 #[test]
-fn other_numbers_are_refused(rt: HostRuntime) -> Result<(), Fail> {
+fn other_numbers_are_refused(rt: HostRuntime) {
     let alloc = rt.alloc();
     let text = "ARGS must be a number from 0 to 256";
     for word in &NO_LENGTHS {
         let words = ["dsmdb", "check", "a", word, "1:8"];
-        assert!(rt; is_refused(alloc, &words, text, word)?, "{word}");
+        assert!(rt; is_refused(&rt, alloc, &words, text, word), "{word}");
     }
     let text = "T:W must be a table from 1 to 64 and its row width from 1 to 128";
     for word in &NO_TABLES {
         let words = ["dsmdb", "check", "a", "16", "2:8", word];
-        assert!(rt; is_refused(alloc, &words, text, word)?, "{word}");
+        assert!(rt; is_refused(&rt, alloc, &words, text, word), "{word}");
     }
     let text = "NUMBER must be a refusal's, as V5; docs/REFUSALS.md has them all";
     for word in &NO_REFUSALS {
         let words = ["dsmdb", "explain", word];
-        assert!(rt; is_refused(alloc, &words, text, word)?, "{word}");
+        assert!(rt; is_refused(&rt, alloc, &words, text, word), "{word}");
     }
-    Ok(())
 }
 
 /// Words that are no plan, their exit status, and how the text begins.
@@ -109,23 +106,25 @@ const NO_PLANS: [(&[&str], i32, &str); 14] = [
 ];
 
 /// The exit status for words that are no plan, and the text; none where they are one.
-fn refusal_of(alloc: Global, words: &[&str]) -> Result<Option<(i32, String)>, Fail> {
+fn refusal_of(rt: &impl Abort, alloc: Global, words: &[&str]) -> Option<(i32, String)> {
     match plan(alloc, words) {
         Err(PlanFault::CommandLine(error)) => {
-            Ok(Some((error.exit_code(), error.to_string(alloc)?)))
+            Some((
+                error.exit_code(),
+                error.to_string(alloc).expect(rt, "memory"),
+            ))
         }
-        _ => Ok(None),
+        _ => None,
     }
 }
 
 #[test]
-fn other_words_are_refused(rt: HostRuntime) -> Result<(), Fail> {
+fn other_words_are_refused(rt: HostRuntime) {
     for (words, status, text) in &NO_PLANS {
-        let Some((told, error)) = refusal_of(rt.alloc(), words)? else {
+        let Some((told, error)) = refusal_of(&rt, rt.alloc(), words) else {
             panic!(rt; "a plan");
         };
         assert_eq!(rt; told, *status);
         assert!(rt; error.as_str().starts_with(text));
     }
-    Ok(())
 }

@@ -4,7 +4,6 @@ use std::alloc::Global;
 use std::io;
 use std::io::{ErrorKind, Read, Write};
 use std::process::Abort;
-use std::test::Fail;
 
 const EXIT: [u8; 8] = [0x95, 0, 0, 0, 0, 0, 0, 0];
 
@@ -80,25 +79,28 @@ fn listed(
 }
 
 /// So many instructions.
-fn exits(alloc: Global, count: usize) -> Result<Vec<u8>, Fail> {
+fn exits(rt: &impl Abort, alloc: Global, count: usize) -> Vec<u8> {
     let mut program = Vec::new(alloc);
     for _ in 0..count {
-        program.extend_from_slice(&EXIT)?;
+        program.extend_from_slice(&EXIT).expect(rt, "memory");
     }
-    Ok(program)
+    program
 }
 
-fn exit_line(alloc: Global, slot: usize) -> Result<String, Fail> {
-    Ok(format!(in alloc; "{slot:>4} 9500000000000000 exit dst 0 src 0 off 0 imm 0\n")?)
+fn exit_line(rt: &impl Abort, alloc: Global, slot: usize) -> String {
+    format!(in alloc; "{slot:>4} 9500000000000000 exit dst 0 src 0 off 0 imm 0\n").expect(
+        rt, "memory",
+    )
 }
 
 /// Their listing.
-fn listed_exits(alloc: Global, count: usize) -> Result<String, Fail> {
+fn listed_exits(rt: &impl Abort, alloc: Global, count: usize) -> String {
     let mut text = String::new(alloc);
     for slot in 0..count {
-        text.push_str(exit_line(alloc, slot)?.as_str())?;
+        text.push_str(exit_line(rt, alloc, slot).as_str())
+            .expect(rt, "memory");
     }
-    Ok(text)
+    text
 }
 
 fn whole(left: &[u8]) -> Input<'_> {
@@ -107,7 +109,7 @@ fn whole(left: &[u8]) -> Input<'_> {
 
 /// In one write or in many, also where the listing is longer than a page.
 #[test]
-fn a_program_is_listed(rt: HostRuntime) -> Result<(), Fail> {
+fn a_program_is_listed(rt: HostRuntime) {
     for (count, at_once) in [
         (1, usize::MAX),
         (1, 1),
@@ -115,22 +117,21 @@ fn a_program_is_listed(rt: HostRuntime) -> Result<(), Fail> {
         (500, 1),
         (500, 4095),
     ] {
-        let program = exits(rt.alloc(), count)?;
-        let expected = listed_exits(rt.alloc(), count)?;
+        let program = exits(&rt, rt.alloc(), count);
+        let expected = listed_exits(&rt, rt.alloc(), count);
         let mut output = Output::new(rt.alloc(), usize::MAX);
         output.at_once = at_once;
         let (status, text) = listed(&rt, rt.alloc(), whole(&program), output);
         assert_eq!(rt; status, 0);
         assert_eq!(rt; text.as_slice(), expected.as_bytes());
     }
-    Ok(())
 }
 
 /// Wherever the output fails, it holds the text as far as it had room.
 #[test]
-fn a_failing_output_answers_3(rt: HostRuntime) -> Result<(), Fail> {
-    let program = exits(rt.alloc(), 90)?;
-    let expected = listed_exits(rt.alloc(), 90)?;
+fn a_failing_output_answers_3(rt: HostRuntime) {
+    let program = exits(&rt, rt.alloc(), 90);
+    let expected = listed_exits(&rt, rt.alloc(), 90);
     for room in 0..expected.len() {
         let (status, text) = listed(
             &rt,
@@ -158,23 +159,21 @@ fn a_failing_output_answers_3(rt: HostRuntime) -> Result<(), Fail> {
         assert_eq!(rt; status, 3);
         assert_eq!(rt; held.as_slice(), text.as_bytes());
     }
-    Ok(())
 }
 
 #[test]
-fn a_refusal_is_one_line(rt: HostRuntime) -> Result<(), Fail> {
-    let mut long = exits(rt.alloc(), 4097)?;
+fn a_refusal_is_one_line(rt: HostRuntime) {
+    let mut long = exits(&rt, rt.alloc(), 4097);
     let (status, text) = listed(&rt, rt.alloc(), whole(&long), Output::new(rt.alloc(), 1000));
     assert_eq!(rt; status, 1);
     assert_eq!(rt; text.as_slice(), b"refused B2 slot 0\n".as_slice());
     // A length that is no whole number of slots is the lower fault.
-    long.push(0)?;
+    long.push(0).expect(&rt, "memory");
     for bytes in [&[], long.as_slice()] {
         let (status, text) = listed(&rt, rt.alloc(), whole(bytes), Output::new(rt.alloc(), 1000));
         assert_eq!(rt; status, 1);
         assert_eq!(rt; text.as_slice(), b"refused B1 slot 0\n".as_slice());
     }
-    Ok(())
 }
 
 #[test]
@@ -229,12 +228,14 @@ const ADD: [u64; 17] = [
 ];
 
 /// The bytes of slots that are written as they stand in a file.
-fn bytes_of(alloc: Global, slots: &[u64]) -> Result<Vec<u8>, Fail> {
+fn bytes_of(rt: &impl Abort, alloc: Global, slots: &[u64]) -> Vec<u8> {
     let mut bytes = Vec::new(alloc);
     for slot in slots {
-        bytes.extend_from_slice(&slot.to_be_bytes())?;
+        bytes
+            .extend_from_slice(&slot.to_be_bytes())
+            .expect(rt, "memory");
     }
-    Ok(bytes)
+    bytes
 }
 
 /// The exit status of a check, and what the output then holds.
@@ -327,18 +328,17 @@ fn try_check(rt: &impl Abort, alloc: Global, bytes: &[u8], check: &Check) {
 }
 
 #[test]
-fn a_program_is_accepted_or_refused(rt: HostRuntime) -> Result<(), Fail> {
+fn a_program_is_accepted_or_refused(rt: HostRuntime) {
     for check in &CHECKS {
-        let bytes = bytes_of(rt.alloc(), check.0)?;
+        let bytes = bytes_of(&rt, rt.alloc(), check.0);
         try_check(&rt, rt.alloc(), &bytes, check);
     }
-    Ok(())
 }
 
 /// An input that fails, and each growth refused in turn: nothing is printed, and a fault is told.
 #[test]
-fn a_check_that_fails_answers_3(rt: HostRuntime) -> Result<(), Fail> {
-    let bytes = bytes_of(rt.alloc(), &ADD)?;
+fn a_check_that_fails_answers_3(rt: HostRuntime) {
+    let bytes = bytes_of(&rt, rt.alloc(), &ADD);
     let input = Input {
         left: &bytes,
         fails: true,
@@ -369,7 +369,6 @@ fn a_check_that_fails_answers_3(rt: HostRuntime) -> Result<(), Fail> {
         false
     });
     assert_eq!(rt; failed, Some(5));
-    Ok(())
 }
 
 /// Words, and the number up to 256 that they are.

@@ -1,6 +1,6 @@
 use explanations::explain;
 use std::alloc::Global;
-use std::test::Fail;
+use std::process::Abort;
 
 /// The letters of refusals, and how many numbers each has from 1 on.
 const LETTERS: [(&str, u32); 6] = [
@@ -12,32 +12,31 @@ const LETTERS: [(&str, u32); 6] = [
     ("L", 9),
 ];
 
-fn is_explained(alloc: Global, letter: &str, number: u32) -> Result<bool, Fail> {
-    let word = format!(in alloc; "{letter}{number}")?;
-    Ok(explain(word.as_str()).is_some())
+fn is_explained(rt: &impl Abort, alloc: Global, letter: &str, number: u32) -> bool {
+    let word = format!(in alloc; "{letter}{number}").expect(rt, "memory");
+    explain(word.as_str()).is_some()
 }
 
 /// Words that are no refusal's number.
 const NO_NUMBERS: [&str; 7] = ["", "V", "v5", "V05", "V0", "5", "V5 "];
 
 #[test]
-fn every_refusal_is_explained(rt: HostRuntime) -> Result<(), Fail> {
+fn every_refusal_is_explained(rt: HostRuntime) {
     for (letter, count) in &LETTERS {
         for number in 1..=*count {
             assert!(rt;
-                is_explained(rt.alloc(), letter, number)?,
+                is_explained(&rt, rt.alloc(), letter, number),
                 "{letter}{number}"
             );
         }
         assert!(rt;
-            !is_explained(rt.alloc(), letter, count.wrapping_add(1))?,
+            !is_explained(&rt, rt.alloc(), letter, count.wrapping_add(1)),
             "{letter}"
         );
     }
     for word in &NO_NUMBERS {
         assert!(rt; explain(word).is_none(), "{word}");
     }
-    Ok(())
 }
 
 /// Refusals, and what is printed of them.
@@ -56,12 +55,17 @@ const PRINTED: [(&str, &str); 2] = [
 ];
 
 #[test]
-fn an_explanation_is_printed(rt: HostRuntime) -> Result<(), Fail> {
+fn an_explanation_is_printed(rt: HostRuntime) {
     for (word, text) in &PRINTED {
         let Some(explanation) = explain(word) else {
             panic!(rt; "no row");
         };
-        assert_eq!(rt; explanation.to_string(rt.alloc())?.as_str(), *text);
+        assert_eq!(rt;
+            explanation
+                .to_string(rt.alloc())
+                .expect(&rt, "memory")
+                .as_str(),
+            *text
+        );
     }
-    Ok(())
 }

@@ -8,7 +8,6 @@ use report::{
 use scarce::Scarce;
 use std::alloc::Global;
 use std::process::Abort;
-use std::test::Fail;
 
 /// Lines, and how each is printed.
 type Printed = (Line<'static>, &'static str);
@@ -287,27 +286,26 @@ static ADDITIONS: [Printed; 6] = [
 ];
 
 /// Whether the line is printed as this text.
-fn is_printed(alloc: Global, row: &Line<'_>, text: &str) -> Result<bool, Fail> {
-    Ok(line(alloc, row)?.as_slice() == text.as_bytes())
+fn is_printed(rt: &impl Abort, alloc: Global, row: &Line<'_>, text: &str) -> bool {
+    line(alloc, row).expect(rt, "memory").as_slice() == text.as_bytes()
 }
 
-fn are_printed(rt: &impl Abort, alloc: Global, rows: &[Printed]) -> Result<(), Fail> {
+fn are_printed(rt: &impl Abort, alloc: Global, rows: &[Printed]) {
     for (row, text) in rows {
-        assert!(rt; is_printed(alloc, row, text)?, "{text}");
+        assert!(rt; is_printed(rt, alloc, row, text), "{text}");
     }
-    Ok(())
 }
 
 #[test]
-fn lines_are_printed(rt: HostRuntime) -> Result<(), Fail> {
-    are_printed(&rt, rt.alloc(), &CALLS)?;
-    are_printed(&rt, rt.alloc(), &REPLICAS)?;
-    are_printed(&rt, rt.alloc(), &ENTRIES)?;
+fn lines_are_printed(rt: HostRuntime) {
+    are_printed(&rt, rt.alloc(), &CALLS);
+    are_printed(&rt, rt.alloc(), &REPLICAS);
+    are_printed(&rt, rt.alloc(), &ENTRIES);
     are_printed(&rt, rt.alloc(), &ADDITIONS)
 }
 
 #[test]
-fn certified_entries_have_their_lines(rt: HostRuntime) -> Result<(), Fail> {
+fn certified_entries_have_their_lines(rt: HostRuntime) {
     for (position, compared, verdict, reply, delivered, logged) in &CALLS_OF_THE_LOG {
         let report = ReplicaReport::Delivered {
             position: *position,
@@ -315,7 +313,7 @@ fn certified_entries_have_their_lines(rt: HostRuntime) -> Result<(), Fail> {
             entry: DeliveredEntry::Call { reply: *reply },
         };
         let row = Line::Replica { replica: 1, report };
-        assert!(rt; is_printed(rt.alloc(), &row, delivered)?, "{delivered}");
+        assert!(rt; is_printed(&rt, rt.alloc(), &row, delivered), "{delivered}");
         let row = Line::Certified {
             entry: LoggedEntry {
                 position: *position,
@@ -324,7 +322,7 @@ fn certified_entries_have_their_lines(rt: HostRuntime) -> Result<(), Fail> {
             compared: *compared,
             verdict: *verdict,
         };
-        assert!(rt; is_printed(rt.alloc(), &row, logged)?, "{logged}");
+        assert!(rt; is_printed(&rt, rt.alloc(), &row, logged), "{logged}");
     }
     for (position, verdict, delivered, logged) in &ADDITIONS_OF_THE_LOG {
         let report = ReplicaReport::Delivered {
@@ -333,7 +331,7 @@ fn certified_entries_have_their_lines(rt: HostRuntime) -> Result<(), Fail> {
             entry: DeliveredEntry::Addition { procedure: 9 },
         };
         let row = Line::Replica { replica: 1, report };
-        assert!(rt; is_printed(rt.alloc(), &row, delivered)?, "{delivered}");
+        assert!(rt; is_printed(&rt, rt.alloc(), &row, delivered), "{delivered}");
         let row = Line::Certified {
             entry: LoggedEntry {
                 position: *position,
@@ -342,9 +340,8 @@ fn certified_entries_have_their_lines(rt: HostRuntime) -> Result<(), Fail> {
             compared: 0,
             verdict: *verdict,
         };
-        assert!(rt; is_printed(rt.alloc(), &row, logged)?, "{logged}");
+        assert!(rt; is_printed(&rt, rt.alloc(), &row, logged), "{logged}");
     }
-    Ok(())
 }
 
 /// Which outcomes a line of the kind tells.

@@ -5,7 +5,6 @@ use std::alloc::{Allocator, Global};
 use std::io;
 use std::io::{BufRead, ErrorKind, Read};
 use std::process::Abort;
-use std::test::Fail;
 
 /// A line, and the number of its fault; 0 where it says something.
 const LINES: [(&[u8], u8); 76] = [
@@ -103,18 +102,17 @@ fn lines_have_their_first_fault(rt: HostRuntime) {
 }
 
 #[test]
-fn the_longest_lines(rt: HostRuntime) -> Result<(), Fail> {
+fn the_longest_lines(rt: HostRuntime) {
     for (len, first, number) in [
         (MAX_LINE, b'#', 0),
         (MAX_LINE, b'a', 2),
         (MAX_LINE + 1, b'#', 1),
     ] {
-        let mut line = vec![in rt.alloc(); b'0'; len]?;
+        let mut line = vec![in rt.alloc(); b'0'; len].expect(&rt, "memory");
         line[0] = first;
         assert_eq!(rt; fault_number(rt.alloc(), &line), number);
     }
     assert!(rt; matches!(command(rt.alloc(), b""), Ok(None)));
-    Ok(())
 }
 
 /// What a line gives: a name, bytes, and numbers.
@@ -266,8 +264,8 @@ fn lines_are_read_one_by_one(rt: HostRuntime) {
 
 /// Of a line that is too long no more is taken than a line may have.
 #[test]
-fn long_lines_stay_on_the_input(rt: HostRuntime) -> Result<(), Fail> {
-    let bytes = vec![in rt.alloc(); b'a'; MAX_LINE + 10]?;
+fn long_lines_stay_on_the_input(rt: HostRuntime) {
+    let bytes = vec![in rt.alloc(); b'a'; MAX_LINE + 10].expect(&rt, "memory");
     let mut input = Input {
         left: &bytes,
         shown: 1000,
@@ -278,5 +276,4 @@ fn long_lines_stay_on_the_input(rt: HostRuntime) -> Result<(), Fail> {
     assert!(rt; matches!(next_line(&mut input, &mut line), Ok(Next::TooLong)));
     assert_eq!(rt; line.len(), MAX_LINE);
     assert_eq!(rt; input.left.len(), 10);
-    Ok(())
 }

@@ -3,7 +3,6 @@ use script::command;
 use script_settings::{FaultCause, ScriptFault, Settings};
 use std::alloc::{Allocator, Global};
 use std::process::Abort;
-use std::test::Fail;
 
 /// Sets what a line says.
 fn set<A: Allocator + Copy>(
@@ -73,24 +72,25 @@ const FAULTS: [(&[&str], &str); 17] = [
 ];
 
 /// How the fault of lines is printed; empty where they have none.
-fn fault_of(alloc: Global, lines: &[&str]) -> Result<String, Fail> {
-    let mut settings = Settings::new(alloc)?;
+fn fault_of(rt: &impl Abort, alloc: Global, lines: &[&str]) -> String {
+    let mut settings = Settings::new(alloc).expect(rt, "memory");
     match set_all(&mut settings, alloc, lines) {
-        Ok(()) => Ok(String::new(alloc)),
-        Err(fault) => Ok(fault.to_string(alloc)?),
+        Ok(()) => String::new(alloc),
+        Err(fault) => fault.to_string(alloc).expect(rt, "memory"),
     }
 }
 
 #[test]
-fn faults_are_printed(rt: HostRuntime) -> Result<(), Fail> {
+fn faults_are_printed(rt: HostRuntime) {
     for (lines, text) in &FAULTS {
-        let told = fault_of(rt.alloc(), lines)?;
+        let told = fault_of(&rt, rt.alloc(), lines);
         assert_eq!(rt; told.as_str(), *text);
     }
     let cause = FaultCause::OutOfMemory;
-    let told = ScriptFault { line: 0, cause }.to_string(rt.alloc())?;
+    let told = ScriptFault { line: 0, cause }
+        .to_string(rt.alloc())
+        .expect(&rt, "memory");
     assert_eq!(rt; told.as_str(), "line 0: L9");
-    Ok(())
 }
 
 const LINES: [&str; 5] = [

@@ -1,13 +1,14 @@
 //! Whole calls of procedures, and stores that are gone.
 
-use super::{NEVER, args_of, described, described_call, described_run, procedure_of, rows_of};
+use super::{
+    NEVER, args_of, described, described_call, described_run, procedure_of, rows_of, same,
+};
 use bpf_verify::Accepted;
 use plain_rows::Row;
 use plain_runner::{CompletedRun, run_program};
 use single_site::{SiteFault, complete_call, run_call};
 use std::alloc::Global;
 use std::process::Abort;
-use std::test::Fail;
 
 /// Adds to the row at a key: the arguments are key and amount.
 pub(super) const ADD: &str = "7916000000000000 7917080000000000 b701000001000000 bf62000000000000 \
@@ -201,58 +202,59 @@ static CASES: [Case; 18] = [
 
 /// What the machine does, turn by turn.
 fn line_of_turns(
+    rt: &impl Abort,
     alloc: Global,
     procedure: &Accepted,
     args: &[u8],
     rows: &[Row],
-) -> Result<String, Fail> {
-    described(alloc, run_call(alloc, procedure, args, rows, NEVER)?)
+) -> String {
+    let run = run_call(alloc, procedure, args, rows, NEVER);
+    described(rt, alloc, run.expect(rt, "it begins"))
 }
 
 /// What the machine does, to its end, which doesn't say in how many turns.
 fn line_of_call(
+    rt: &impl Abort,
     alloc: Global,
     procedure: &Accepted,
     args: &[u8],
     rows: &[Row],
     turns: usize,
-) -> Result<String, Fail> {
-    let call = complete_call(alloc, procedure, args, rows)?;
-    described_call(alloc, turns, &call)
+) -> String {
+    let call = complete_call(alloc, procedure, args, rows).expect(rt, "it begins");
+    described_call(rt, alloc, turns, &call)
 }
 
 /// What the definition says.
 fn plain_run(
+    rt: &impl Abort,
     alloc: Global,
     procedure: &Accepted,
     args: &[u8],
     rows: &[Row],
-) -> Result<CompletedRun, Fail> {
-    let run = run_program(alloc, procedure.code(), procedure.schema(), args, rows)?;
-    Ok(run.ok_or("a run of an accepted program is stuck")?)
+) -> CompletedRun {
+    let run = run_program(alloc, procedure.code(), procedure.schema(), args, rows);
+    run.expect(rt, "memory").expect(rt, "it has a run")
 }
 
 /// Asserts that a call comes to its outcome on the machine, both ways, and by the definition.
-fn assert_outcome(rt: &impl Abort, alloc: Global, case: &Case) -> Result<(), Fail> {
-    let rows = rows_of(alloc, case.rows)?;
-    let (procedure, args) = procedure_of(alloc, case.program, case.args)?;
-    let run = plain_run(alloc, &procedure, &args, &rows)?;
-    let turns = line_of_turns(alloc, &procedure, &args, &rows)?;
-    let call = line_of_call(alloc, &procedure, &args, &rows, run.steps())?;
-    let plain = described_run(alloc, &run)?;
+fn assert_outcome(rt: &impl Abort, alloc: Global, case: &Case) {
+    let rows = rows_of(rt, alloc, case.rows);
+    let (procedure, args) = procedure_of(rt, alloc, case.program, case.args);
+    let run = plain_run(rt, alloc, &procedure, &args, &rows);
+    let turns = line_of_turns(rt, alloc, &procedure, &args, &rows);
+    let call = line_of_call(rt, alloc, &procedure, &args, &rows, run.steps());
+    let plain = described_run(rt, alloc, &run);
     for line in [&turns, &call, &plain] {
-        assert_eq!(rt; line.as_str(), case.outcome, "{}", case.program);
+        same(rt, case.program, line.as_str(), case.outcome);
     }
-    Ok(())
 }
 
 #[test]
-fn calls_answer_what_their_runs_do(rt: HostRuntime) -> Result<(), Fail> {
-    let alloc = rt.alloc();
+fn calls_answer_what_their_runs_do(rt: HostRuntime) {
     for case in &CASES {
-        assert_outcome(&rt, alloc, case)?;
+        assert_outcome(&rt, rt.alloc(), case);
     }
-    Ok(())
 }
 
 /// A program, its arguments, the turn from which on the store is gone, and what comes of it.
@@ -291,47 +293,53 @@ static GONE: [GoneCase; 12] = [
 ];
 
 /// What a call comes to over a store without rows, which is gone from a turn on.
-fn line_where_gone(alloc: Global, program: &str, words: &[u64], from: u32) -> Result<String, Fail> {
-    let (procedure, args) = procedure_of(alloc, program, words)?;
+fn line_where_gone(
+    rt: &impl Abort,
+    alloc: Global,
+    program: &str,
+    words: &[u64],
+    from: u32,
+) -> String {
+    let (procedure, args) = procedure_of(rt, alloc, program, words);
     let no_rows: [Row; 0] = [];
-    described(alloc, run_call(alloc, &procedure, &args, &no_rows, from)?)
+    let run = run_call(alloc, &procedure, &args, &no_rows, from);
+    described(rt, alloc, run.expect(rt, "it begins"))
 }
 
 #[test]
-fn looks_at_a_store_that_is_gone_are_stale(rt: HostRuntime) -> Result<(), Fail> {
+fn looks_at_a_store_that_is_gone_are_stale(rt: HostRuntime) {
     for (program, words, from, outcome) in &GONE {
-        let line = line_where_gone(rt.alloc(), program, words, *from)?;
-        assert_eq!(rt; line.as_str(), *outcome, "{program} from {from}");
+        let line = line_where_gone(&rt, rt.alloc(), program, words, *from);
+        same(&rt, program, (*from, line.as_str()), (*from, *outcome));
     }
-    Ok(())
 }
 
 /// Why a put on these arguments, with so many bytes behind them, and rows doesn't begin.
 fn fault_of_put(
+    rt: &impl Abort,
     alloc: Global,
     words: &[u64],
     behind: &[u8],
     rows: &[Row],
-) -> Result<Option<SiteFault>, Fail> {
-    let (procedure, _args) = procedure_of(alloc, PUT, &[7, 2])?;
-    let mut args = args_of(alloc, words)?;
-    args.extend_from_slice(behind)?;
-    Ok(run_call(alloc, &procedure, &args, rows, NEVER).err())
+) -> Option<SiteFault> {
+    let (procedure, _args) = procedure_of(rt, alloc, PUT, &[7, 2]);
+    let mut args = args_of(rt, alloc, words);
+    args.extend_from_slice(behind).expect(rt, "memory");
+    run_call(alloc, &procedure, &args, rows, NEVER).err()
 }
 
 /// Arguments that are too few or too many, a row of no table of the schema's, and one of another width.
 #[test]
-fn calls_that_cannot_begin_say_why(rt: HostRuntime) -> Result<(), Fail> {
+fn calls_that_cannot_begin_say_why(rt: HostRuntime) {
     let alloc = rt.alloc();
-    let foreign = rows_of(alloc, &[(3, 5, 1)])?;
-    let narrow = [Row::new(1, 5, Vec::from_slice(alloc, &[1; 7])?)];
-    let few = fault_of_put(alloc, &[7], &[], &[])?;
-    let many = fault_of_put(alloc, &[7, 2], &[0], &[])?;
-    let other_table = fault_of_put(alloc, &[7, 2], &[], &foreign)?;
-    let other_width = fault_of_put(alloc, &[7, 2], &[], &narrow)?;
+    let foreign = rows_of(&rt, alloc, &[(3, 5, 1)]);
+    let narrow = [Row::new(1, 5, Vec::from_slice(alloc, &[1; 7]).expect(&rt, "memory"))];
+    let few = fault_of_put(&rt, alloc, &[7], &[], &[]);
+    let many = fault_of_put(&rt, alloc, &[7, 2], &[0], &[]);
+    let other_table = fault_of_put(&rt, alloc, &[7, 2], &[], &foreign);
+    let other_width = fault_of_put(&rt, alloc, &[7, 2], &[], &narrow);
     assert!(rt; few == Some(SiteFault::ArgsLength));
     assert!(rt; many == Some(SiteFault::ArgsLength));
     assert!(rt; other_table == Some(SiteFault::ForeignRow));
     assert!(rt; other_width == Some(SiteFault::ForeignRow));
-    Ok(())
 }

@@ -1,14 +1,14 @@
 //! Refused memory at each helper.
 
 use super::procedures::{ADD, COUNT, DELETE, NEXT, PUT, SKEW};
-use super::{NEVER, described, procedure_of, rows_of};
+use super::{NEVER, described, procedure_of, rows_of, same};
 use bpf_verify::Accepted;
 use bpf_vm::Turn;
 use plain_rows::Row;
 use scarce::Scarce;
 use single_site::{SiteFault, run_call};
 use std::alloc::Global;
-use std::test::Fail;
+use std::process::Abort;
 
 /// A program, its arguments, which growth is refused, and what comes of it: what the call has looked at and written by
 /// then, nothing of the refused turn among it.
@@ -30,29 +30,30 @@ static REFUSED: [RefusedCase; 11] = [
 
 /// What a call comes to over no rows, where a growth is refused.
 fn line_where_refused(
+    rt: &impl Abort,
     alloc: Global,
     scarce: &Scarce,
     program: &str,
     words: &[u64],
     growth: u64,
-) -> Result<String, Fail> {
-    let (procedure, args) = procedure_of(alloc, program, words)?;
+) -> String {
+    let (procedure, args) = procedure_of(rt, alloc, program, words);
     scarce.refuse_nth(growth);
     let no_rows: [Row; 0] = [];
-    described(alloc, run_call(scarce, &procedure, &args, &no_rows, NEVER)?)
+    let run = run_call(scarce, &procedure, &args, &no_rows, NEVER);
+    described(rt, alloc, run.expect(rt, "it begins"))
 }
 
 /// After the refused growth memory is there again, so what the call has done stays as that turn left it.
 #[test]
-fn refused_growths_end_a_call(rt: HostRuntime) -> Result<(), Fail> {
+fn refused_growths_end_a_call(rt: HostRuntime) {
     let alloc = rt.alloc();
     for (program, words, growth, outcome) in &REFUSED {
         let scarce = Scarce::new(alloc);
-        let line = line_where_refused(alloc, &scarce, program, words, *growth)?;
-        assert_eq!(rt; line.as_str(), *outcome, "{program}, growth {growth}");
-        assert_eq!(rt; scarce.refused(), 1, "{program}, growth {growth}");
+        let line = line_where_refused(&rt, alloc, &scarce, program, words, *growth);
+        let found = (*growth, line.as_str(), scarce.refused());
+        same(&rt, program, found, (*growth, *outcome, 1));
     }
-    Ok(())
 }
 
 /// A program, its arguments, the rows before it, and how many growths its call makes.
@@ -77,11 +78,11 @@ fn last_turn(scarce: &Scarce, procedure: &Accepted, args: &[u8], rows: &[Row]) -
 
 /// Each growth is refused in turn, until the call comes to its end. Where a row gets no memory the call doesn't begin.
 #[test]
-fn each_refused_growth_ends_a_call(rt: HostRuntime) -> Result<(), Fail> {
+fn each_refused_growth_ends_a_call(rt: HostRuntime) {
     let alloc = rt.alloc();
     for (program, words, rows, growths) in &GROWTHS {
-        let rows = rows_of(alloc, rows)?;
-        let (procedure, args) = procedure_of(alloc, program, words)?;
+        let rows = rows_of(&rt, alloc, rows);
+        let (procedure, args) = procedure_of(&rt, alloc, program, words);
         let scarce = Scarce::new(alloc);
         let failed = scarce.refuse_each(|| {
             let last = last_turn(&scarce, &procedure, &args, &rows);
@@ -89,7 +90,6 @@ fn each_refused_growth_ends_a_call(rt: HostRuntime) -> Result<(), Fail> {
             assert!(rt; has_ended || last == Turn::NoMemory, "{program}");
             has_ended
         });
-        assert_eq!(rt; failed, Some(*growths), "{program}");
+        same(&rt, program, failed, Some(*growths));
     }
-    Ok(())
 }

@@ -11,7 +11,7 @@ use rand_core::utils::NextWord;
 use rand_pcg::Pcg32;
 use sample_procedures::{PROCEDURES, PUT, setting_of};
 use std::alloc::Global;
-use std::test::Fail;
+use std::process::Abort;
 
 /// How many items there are.
 const ITEMS: u32 = 200;
@@ -58,7 +58,7 @@ fn draw_request(generator: &mut Pcg32) -> RequestId {
 }
 
 /// A call after so many, with a snapshot up to 3 positions back.
-fn draw_call(alloc: Global, generator: &mut Pcg32, before: u32) -> Result<PlainItem, Fail> {
+fn draw_call(rt: &impl Abort, alloc: Global, generator: &mut Pcg32, before: u32) -> PlainItem {
     let (procedure, count) = draw_procedure(generator);
     let words = [
         draw_key(generator),
@@ -68,68 +68,72 @@ fn draw_call(alloc: Global, generator: &mut Pcg32, before: u32) -> Result<PlainI
     let snapshot = before.saturating_sub(draw(generator, 4));
     let request = draw_request(generator);
     let words = words.get(..count).unwrap_or(&[]);
-    call_of(alloc, procedure, words, snapshot, request)
+    call_of(rt, alloc, procedure, words, snapshot, request)
 }
 
-fn draw_addition(alloc: Global, generator: &mut Pcg32) -> Result<PlainItem, Fail> {
+fn draw_addition(rt: &impl Abort, alloc: Global, generator: &mut Pcg32) -> PlainItem {
     let name = NAMES.get(draw(generator, 3) as usize).unwrap_or(&"set");
     let number = 6 + u16::try_from(draw(generator, 3)).unwrap_or(0).min(3);
-    addition_of(alloc, name, number, PUT, 2)
+    addition_of(rt, alloc, name, number, PUT, 2)
 }
 
 /// Of twenty items one is an addition.
-fn drawn_log(alloc: Global) -> Result<Vec<PlainItem>, Fail> {
+fn drawn_log(rt: &impl Abort, alloc: Global) -> Vec<PlainItem> {
     let mut generator = Pcg32::new(2026, 15);
     let mut log = Vec::new(alloc);
     for before in 0..ITEMS {
         let item = if draw(&mut generator, 20) == 0 {
-            draw_addition(alloc, &mut generator)?
+            draw_addition(rt, alloc, &mut generator)
         } else {
-            draw_call(alloc, &mut generator, before)?
+            draw_call(rt, alloc, &mut generator, before)
         };
-        log.push(item)?;
+        log.push(item).expect(rt, "memory");
     }
-    Ok(log)
+    log
 }
 
 /// A run of a call on rows, in a line: of the procedure that its number has at its snapshot.
 fn rerun(
+    rt: &impl Abort,
     alloc: Global,
     setting: &PlainSetting,
     log: &[PlainItem],
     reports: &[ItemReport],
     call: &PlainCall,
     rows: &[Row],
-) -> Result<String, Fail> {
+) -> String {
     let before = reports.get(..call.snapshot()).unwrap_or(&[]);
     let Some(procedure) = procedure_by_number(setting, log, before, call.procedure()) else {
-        return run_text(alloc, 0, &[], &[]);
+        return run_text(rt, alloc, 0, &[], &[]);
     };
-    match run_program(alloc, procedure.code(), setting.schema(), call.args(), rows)? {
-        Some(run) => run_text(alloc, run.reply(), run.looks(), run.writes()),
-        None => Ok(String::new(alloc)),
+    match run_program(alloc, procedure.code(), setting.schema(), call.args(), rows).expect(
+        rt, "memory",
+    ) {
+        Some(run) => run_text(rt, alloc, run.reply(), run.looks(), run.writes()),
+        None => String::new(alloc),
     }
 }
 
 /// What is kept by the item after so many, as the replay has it, and what is expected of it: where a call commits, its
 /// run on the rows just before it; else these rows.
 fn compared(
+    rt: &impl Abort,
     alloc: Global,
     setting: &PlainSetting,
     log: &[PlainItem],
     replay: &CompletedReplay,
     before: usize,
-) -> Result<(String, String), Fail> {
+) -> (String, String) {
     let rows = replay.rows(before).unwrap_or(&[]);
     if let (Some(item), Some(report)) = (log.get(before), replay.reports().get(before)) {
         if let (PlainItemKind::Call(call), Verdict::Commit) = (&item.kind, report.verdict()) {
-            let wanted = rerun(alloc, setting, log, replay.reports(), call, rows)?;
-            let found = run_text(alloc, report.reply(), report.looks(), report.writes())?;
-            return Ok((found, wanted));
+            let wanted = rerun(rt, alloc, setting, log, replay.reports(), call, rows);
+            let found = run_text(rt, alloc, report.reply(), report.looks(), report.writes());
+            return (found, wanted);
         }
     }
     let after = replay.rows(before.wrapping_add(1)).unwrap_or(&[]);
-    Ok((rows_text(alloc, after)?, rows_text(alloc, rows)?))
+    (rows_text(rt, alloc, after), rows_text(rt, alloc, rows))
 }
 
 /// Which of `OUTCOMES` became of an item.
@@ -163,16 +167,15 @@ fn outcomes_of(log: &[PlainItem], replay: &CompletedReplay) -> [u32; OUTCOMES] {
 }
 
 #[test]
-fn committed_calls_run_alike_on_the_rows_before_them(rt: HostRuntime) -> Result<(), Fail> {
+fn committed_calls_run_alike_on_the_rows_before_them(rt: HostRuntime) {
     let alloc = rt.alloc();
-    let log = drawn_log(alloc)?;
-    let setting = setting_of(alloc, 2)?;
-    let replay = replay_log(alloc, &setting, short(&log))?;
+    let log = drawn_log(&rt, alloc);
+    let setting = setting_of(alloc, 2).expect(&rt, "memory");
+    let replay = replay_log(alloc, &setting, short(&log)).expect(&rt, "memory");
     for before in 0..ITEMS as usize {
-        let (found, wanted) = compared(alloc, &setting, &log, &replay, before)?;
+        let (found, wanted) = compared(&rt, alloc, &setting, &log, &replay, before);
         assert_eq!(rt; found.as_str(), wanted.as_str(), "after {before} items");
     }
     let outcomes = outcomes_of(&log, &replay);
     assert!(rt; outcomes.iter().all(|count| *count > 0), "{outcomes:?}");
-    Ok(())
 }

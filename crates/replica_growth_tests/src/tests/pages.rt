@@ -7,19 +7,19 @@ use sample_procedures::TABLES;
 use scarce::Scarce;
 use schema::Schema;
 use std::alloc::{Allocator, Global};
-use std::test::Fail;
+use std::process::Abort;
 
 /// A put of a key's own number.
-fn put_of(alloc: Global, key: u64) -> Result<WriteSet, Fail> {
+fn put_of(rt: &impl Abort, alloc: Global, key: u64) -> WriteSet {
     let mut writes = WriteSet::new(alloc);
-    writes.put(1, key, &key.to_le_bytes())?;
-    Ok(writes)
+    writes.put(1, key, &key.to_le_bytes()).expect(rt, "memory");
+    writes
 }
 
-fn removal_of(alloc: Global, key: u64) -> Result<WriteSet, Fail> {
+fn removal_of(rt: &impl Abort, alloc: Global, key: u64) -> WriteSet {
     let mut writes = WriteSet::new(alloc);
-    writes.remove(1, key)?;
-    Ok(writes)
+    writes.remove(1, key).expect(rt, "memory");
+    writes
 }
 
 /// How many pages table 1 has once so many keys were put in rising order (counted by hand: a page of 64 keys is split
@@ -35,14 +35,18 @@ const PAGES: [(u64, usize); 7] = [
 ];
 
 #[test]
-fn pages_are_split_when_they_are_full(rt: HostRuntime) -> Result<(), Fail> {
+fn pages_are_split_when_they_are_full(rt: HostRuntime) {
     let alloc = rt.alloc();
-    let schema = Schema::new(alloc, &TABLES)?;
-    let mut checked = CheckedVersions::new(alloc, &schema)?;
+    let schema = Schema::new(alloc, &TABLES).expect(&rt, "memory");
+    let mut checked = CheckedVersions::new(alloc, &schema).expect(&rt, "memory");
     let mut next = PAGES.iter();
     let mut awaited = next.next();
     for key in 1..=1_000u64 {
-        assert!(rt; checked.install(key as u32, &put_of(alloc, key)?)?);
+        assert!(rt;
+            checked
+                .install(key as u32, &put_of(&rt, alloc, key))
+                .expect(&rt, "memory")
+        );
         if let Some(&(keys, pages)) = awaited {
             if keys == key {
                 assert_eq!(rt; checked.versions().pages(1), pages, "{keys} keys");
@@ -52,11 +56,14 @@ fn pages_are_split_when_they_are_full(rt: HostRuntime) -> Result<(), Fail> {
     }
     assert!(rt; awaited.is_none());
     for key in 1..=1_000u64 {
-        assert!(rt; checked.install(1_001, &removal_of(alloc, key)?)?);
+        assert!(rt;
+            checked
+                .install(1_001, &removal_of(&rt, alloc, key))
+                .expect(&rt, "memory")
+        );
     }
     checked.prune(1_000);
     assert_eq!(rt; checked.versions().pages(1), 31);
     checked.prune(1_001);
     assert_eq!(rt; checked.versions().pages(1), 0);
-    Ok(())
 }

@@ -13,7 +13,7 @@ use sample_procedures::TABLES;
 use scarce::Scarce;
 use schema::Schema;
 use std::alloc::{AllocError, Allocator, Global};
-use std::test::Fail;
+use std::process::Abort;
 
 /// More growths than any call of these tests makes: none of them is refused that often.
 const MOST: u64 = 200;
@@ -48,21 +48,23 @@ fn counts_at<A: Allocator + Copy>(versions: &Versions<A>, position: u32) -> Resu
 }
 
 /// Puts of their own numbers at keys from 1 to 64.
-fn own_numbers(alloc: Global) -> Result<WriteSet, Fail> {
+fn own_numbers(rt: &impl Abort, alloc: Global) -> WriteSet {
     let mut writes = WriteSet::new(alloc);
     for key in 1..=64u64 {
-        writes.put(1, key, &key.to_le_bytes())?;
+        writes.put(1, key, &key.to_le_bytes()).expect(rt, "memory");
     }
-    Ok(writes)
+    writes
 }
 
 /// A second version of key 1, and two keys for which a page of 64 has to be split.
-fn further_writes(alloc: Global) -> Result<WriteSet, Fail> {
+fn further_writes(rt: &impl Abort, alloc: Global) -> WriteSet {
     let mut writes = WriteSet::new(alloc);
     for (key, number) in [(1, 9u64), (65, 65), (66, 66)] {
-        writes.put(1, key, &number.to_le_bytes())?;
+        writes
+            .put(1, key, &number.to_le_bytes())
+            .expect(rt, "memory");
     }
-    Ok(writes)
+    writes
 }
 
 /// What installs at position 1 and, with a growth refused, at position 2 came to, and what is counted then.
@@ -97,15 +99,16 @@ fn install_both<A: Allocator + Copy>(
 }
 
 fn attempt_install(
+    rt: &impl Abort,
     alloc: Global,
     first: &WriteSet,
     further: &WriteSet,
     refused: u64,
-) -> Result<Attempt, Fail> {
+) -> Attempt {
     let scarce = Scarce::new(alloc);
-    let schema = Schema::new(&scarce, &TABLES)?;
-    let mut checked = CheckedVersions::new(&scarce, &schema)?;
-    Ok(install_both(&scarce, &mut checked, first, further, refused))
+    let schema = Schema::new(&scarce, &TABLES).expect(rt, "memory");
+    let mut checked = CheckedVersions::new(&scarce, &schema).expect(rt, "memory");
+    install_both(&scarce, &mut checked, first, further, refused)
 }
 
 /// What is expected of an attempt that was refused, and of one that wasn't.
@@ -121,12 +124,12 @@ fn is_expected(came: Attempt) -> bool {
 }
 
 #[test]
-fn refused_room_leaves_versions_as_they_were(rt: HostRuntime) -> Result<(), Fail> {
-    let first = own_numbers(rt.alloc())?;
-    let further = further_writes(rt.alloc())?;
+fn refused_room_leaves_versions_as_they_were(rt: HostRuntime) {
+    let first = own_numbers(&rt, rt.alloc());
+    let further = further_writes(&rt, rt.alloc());
     let mut refused = 0;
     for growth in 1..MOST {
-        let came = attempt_install(rt.alloc(), &first, &further, growth)?;
+        let came = attempt_install(&rt, rt.alloc(), &first, &further, growth);
         assert!(rt; is_expected(came), "{growth}: {came:?}");
         if came.installed.is_ok() {
             break;
@@ -134,7 +137,6 @@ fn refused_room_leaves_versions_as_they_were(rt: HostRuntime) -> Result<(), Fail
         refused = growth;
     }
     assert!(rt; refused > 4 && refused < MOST - 1, "{refused}");
-    Ok(())
 }
 
 // ---- replicas
@@ -255,25 +257,26 @@ fn refuse_listing<A: Allocator + Copy>(
 
 /// Of a rebuilding and of a list of the rows, how many growths were refused, and whether the replica was each time as before.
 fn refuse_each(
+    rt: &impl Abort,
     alloc: Global,
     catalogue: &Catalogue,
     entries: &[Entry],
-) -> Result<[(u64, bool); 2], Fail> {
+) -> [(u64, bool); 2] {
     let scarce = Scarce::new(alloc);
-    let mut checked = CheckedReplica::new(&scarce, 2, catalogue)?;
+    let mut checked = CheckedReplica::new(&scarce, 2, catalogue).expect(rt, "memory");
     if stop(&scarce, &mut checked, entries) != Some(true) {
-        return Ok([(0, false), (0, false)]);
+        return [(0, false), (0, false)];
     }
     let rebuilding = refuse_rebuilding(alloc, &scarce, &mut checked, entries);
     let listing = refuse_listing(alloc, &scarce, checked.replica());
-    Ok([rebuilding, listing])
+    [rebuilding, listing]
 }
 
 #[test]
-fn a_refused_growth_leaves_the_replica_as_it_was(rt: HostRuntime) -> Result<(), Fail> {
-    let catalogue = small_catalogue(rt.alloc())?;
-    let entries = entries_of(rt.alloc(), catalogue.schema(), &DELIVERIES)?;
-    let [rebuilding, listing] = refuse_each(rt.alloc(), &catalogue, &entries)?;
+fn a_refused_growth_leaves_the_replica_as_it_was(rt: HostRuntime) {
+    let catalogue = small_catalogue(rt.alloc()).expect(&rt, "memory");
+    let entries = entries_of(rt.alloc(), catalogue.schema(), &DELIVERIES).expect(&rt, "memory");
+    let [rebuilding, listing] = refuse_each(&rt, rt.alloc(), &catalogue, &entries);
     assert!(rt;
         rebuilding.0 > 10 && rebuilding.0 < MOST && rebuilding.1,
         "{rebuilding:?}"
@@ -282,5 +285,4 @@ fn a_refused_growth_leaves_the_replica_as_it_was(rt: HostRuntime) -> Result<(), 
         listing.0 > 1 && listing.0 < MOST && listing.1,
         "{listing:?}"
     );
-    Ok(())
 }

@@ -11,15 +11,14 @@ use sample_procedures::ONE;
 use scarce::Scarce;
 use schema::Schema;
 use std::alloc::{Allocator, Global};
-use std::test::Fail;
+use std::process::Abort;
 
 #[test]
-fn a_refused_growth_makes_no_replica(rt: HostRuntime) -> Result<(), Fail> {
-    let catalogue = small_catalogue(rt.alloc())?;
+fn a_refused_growth_makes_no_replica(rt: HostRuntime) {
+    let catalogue = small_catalogue(rt.alloc()).expect(&rt, "memory");
     let scarce = Scarce::new(rt.alloc());
     let failed = scarce.refuse_each(|| Replica::new(&scarce, 2, &catalogue).is_ok());
     assert!(rt; matches!(failed, Some(count) if count > 0));
-    Ok(())
 }
 
 /// Entries, of which the last is delivered with a growth refused, and how many growths that has: six make room for the
@@ -225,44 +224,47 @@ fn is_delivered<A: Allocator + Copy>(
 }
 
 fn attempt(
+    rt: &impl Abort,
     alloc: Global,
     catalogue: &Catalogue,
     entries: &[Entry],
     case: &RefusedCase,
     refused: u64,
-) -> Result<Option<bool>, Fail> {
+) -> Option<bool> {
     let scarce = Scarce::new(alloc);
-    let mut checked = CheckedReplica::new(&scarce, 2, catalogue)?;
-    Ok(is_delivered(alloc, &scarce, &mut checked, entries, case, refused))
+    let mut checked = CheckedReplica::new(&scarce, 2, catalogue).expect(rt, "memory");
+    is_delivered(alloc, &scarce, &mut checked, entries, case, refused)
 }
 
 /// How many growths were refused, each in turn, before the last entry was delivered; none where something isn't as the case
 /// says.
 fn refused_of(
+    rt: &impl Abort,
     alloc: Global,
     catalogue: &Catalogue,
     entries: &[Entry],
     case: &RefusedCase,
-) -> Result<Option<u64>, Fail> {
+) -> Option<u64> {
     for growth in 1..100u64 {
-        match attempt(alloc, catalogue, entries, case, growth)? {
+        match attempt(rt, alloc, catalogue, entries, case, growth) {
             Some(false) => (),
-            Some(true) => return Ok(Some(growth - 1)),
-            None => return Ok(None),
+            Some(true) => return Some(growth - 1),
+            None => return None,
         }
     }
-    Ok(None)
+    None
 }
 
 #[test]
-fn a_refused_growth_stops_the_replica(rt: HostRuntime) -> Result<(), Fail> {
-    let catalogue = small_catalogue(rt.alloc())?;
+fn a_refused_growth_stops_the_replica(rt: HostRuntime) {
+    let catalogue = small_catalogue(rt.alloc()).expect(&rt, "memory");
     for case in &CASES {
-        let entries = entries_of(rt.alloc(), catalogue.schema(), case.entries)?;
-        let refused = refused_of(rt.alloc(), &catalogue, &entries, case)?;
+        let entries = entries_of(rt.alloc(), catalogue.schema(), case.entries).expect(
+            &rt, "memory",
+        );
+        let refused = refused_of(&rt, rt.alloc(), &catalogue, &entries, case);
         assert_eq!(rt; refused, Some(case.growths));
     }
-    Ok(())
 }
 
 // ---- growths with kept requests and without
@@ -271,32 +273,47 @@ fn a_refused_growth_stops_the_replica(rt: HostRuntime) -> Result<(), Fail> {
 const TURNS: u32 = 16;
 
 /// These in turn, with requests in the first of each three or without.
-fn probing_entries(alloc: Global, schema: &Schema, session: u32) -> Result<Vec<Entry>, Fail> {
+fn probing_entries(rt: &impl Abort, alloc: Global, schema: &Schema, session: u32) -> Vec<Entry> {
     let mut entries = Vec::new(alloc);
     for turn in 0..TURNS {
-        add_turn(alloc, schema, session, turn.wrapping_mul(3), &mut entries)?;
+        add_turn(
+            rt,
+            alloc,
+            schema,
+            session,
+            turn.wrapping_mul(3),
+            &mut entries,
+        );
     }
-    Ok(entries)
+    entries
 }
 
 /// Adds these once, when so many entries were added.
 fn add_turn(
+    rt: &impl Abort,
     alloc: Global,
     schema: &Schema,
     session: u32,
     before: u32,
     entries: &mut Vec<Entry>,
-) -> Result<(), Fail> {
+) {
     let key = u64::from(before);
     let sequence = if session == 0 { 0 } else { before.max(1) };
     let first = EntryCase::Numbered(session, sequence, before, 99, 99, key, Some(1));
     let second = EntryCase::Call(before, 99, 99, key.wrapping_add(1), Some(1));
     let number = u16::try_from(before).unwrap_or(0);
     let name = [b'a'.wrapping_add((number / 3).to_le_bytes()[0])];
-    entries.push(entry_of(alloc, schema, first)?)?;
-    entries.push(entry_of(alloc, schema, second)?)?;
-    entries.push(addition_of(alloc, schema, &name, number.wrapping_add(100), ONE, 0)?)?;
-    Ok(())
+    entries
+        .push(entry_of(alloc, schema, first).expect(rt, "memory"))
+        .expect(rt, "memory");
+    entries
+        .push(entry_of(alloc, schema, second).expect(rt, "memory"))
+        .expect(rt, "memory");
+    entries
+        .push(addition_of(alloc, schema, &name, number.wrapping_add(100), ONE, 0).expect(
+            rt, "memory",
+        ))
+        .expect(rt, "memory");
 }
 
 /// How many growths each of these deliveries makes; none where one doesn't commit.
@@ -317,13 +334,14 @@ fn growths_in<A: Allocator + Copy>(
 }
 
 fn growths_of(
+    rt: &impl Abort,
     alloc: Global,
     catalogue: &Catalogue,
     entries: &[Entry],
-) -> Result<Option<[u64; 48]>, Fail> {
+) -> Option<[u64; 48]> {
     let scarce = Scarce::new(alloc);
-    let mut checked = CheckedReplica::new(&scarce, 4, catalogue)?;
-    Ok(growths_in(&scarce, &mut checked, entries))
+    let mut checked = CheckedReplica::new(&scarce, 4, catalogue).expect(rt, "memory");
+    growths_in(&scarce, &mut checked, entries)
 }
 
 /// Growths of the first of each three together, and whether the others are as many.
@@ -342,14 +360,13 @@ fn compared(with: [u64; 48], without: [u64; 48]) -> (u64, u64, bool) {
 
 /// Only a call with a request makes room for it, also where the room is full.
 #[test]
-fn kept_requests_cost_other_entries_no_growth(rt: HostRuntime) -> Result<(), Fail> {
-    let catalogue = small_catalogue(rt.alloc())?;
-    let numbered = probing_entries(rt.alloc(), catalogue.schema(), 7)?;
-    let with = growths_of(rt.alloc(), &catalogue, &numbered)?;
-    let unnumbered = probing_entries(rt.alloc(), catalogue.schema(), 0)?;
-    let without = growths_of(rt.alloc(), &catalogue, &unnumbered)?;
+fn kept_requests_cost_other_entries_no_growth(rt: HostRuntime) {
+    let catalogue = small_catalogue(rt.alloc()).expect(&rt, "memory");
+    let numbered = probing_entries(&rt, rt.alloc(), catalogue.schema(), 7);
+    let with = growths_of(&rt, rt.alloc(), &catalogue, &numbered);
+    let unnumbered = probing_entries(&rt, rt.alloc(), catalogue.schema(), 0);
+    let without = growths_of(&rt, rt.alloc(), &catalogue, &unnumbered);
     assert!(rt; with.is_some() && without.is_some());
     let (first, second, same) = compared(with.unwrap_or([0; 48]), without.unwrap_or([0; 48]));
     assert!(rt; same && first > second, "{first}, {second}");
-    Ok(())
 }

@@ -10,7 +10,7 @@ use sample_entries::{addition_of, idle_call};
 use sample_procedures::{ONE, PROCEDURES, args_of, procedure_of};
 use schema::Schema;
 use std::alloc::Global;
-use std::test::Fail;
+use std::process::Abort;
 
 /// Keys are drawn from as many from 1 on.
 pub(super) const KEYS: u32 = 40;
@@ -19,8 +19,8 @@ pub(super) const KEYS: u32 = 40;
 pub(super) const NUMBERS: u32 = 150;
 
 /// The name of an addition, of three digits, or of one where it is below 10: the catalogue has some of these.
-pub(super) fn name_of(alloc: Global, number: u32) -> Result<String, Fail> {
-    Ok(format!(in alloc; "{number}")?)
+pub(super) fn name_of(rt: &impl Abort, alloc: Global, number: u32) -> String {
+    format!(in alloc; "{number}").expect(rt, "memory")
 }
 
 /// The program of a number, in hex, and how many words it takes: of the sample procedures' numbers their own, of the others
@@ -99,37 +99,40 @@ fn request_of(number: u32) -> RequestId {
 
 /// A call after so many items.
 fn draw_call(
+    rt: &impl Abort,
     alloc: Global,
     source: &mut Source,
     before: u32,
     window: u32,
-) -> Result<PlainItem, Fail> {
+) -> PlainItem {
     let procedure = source.draw_procedure();
     let (_program, count) = program_of(procedure);
     let words = [source.draw_key(), source.draw_key(), source.draw_key()];
     let snapshot = source.draw_snapshot(before, window);
     let request = source.draw_request();
-    let args = args_of(alloc, words.get(..count).unwrap_or(&[]))?;
+    let args = args_of(alloc, words.get(..count).unwrap_or(&[])).expect(rt, "memory");
     let number = u16::try_from(procedure).unwrap_or(0);
-    Ok(PlainItem {
+    PlainItem {
         kind: PlainItemKind::Call(PlainCall::new(before, number, args, snapshot, request)),
-    })
+    }
 }
 
 /// An addition, with name and number drawn apart.
-fn draw_addition(alloc: Global, source: &mut Source) -> Result<PlainItem, Fail> {
-    let name = name_of(alloc, source.draw(NUMBERS).saturating_add(1))?;
+fn draw_addition(rt: &impl Abort, alloc: Global, source: &mut Source) -> PlainItem {
+    let name = name_of(rt, alloc, source.draw(NUMBERS).saturating_add(1));
     let number = source.draw(NUMBERS).saturating_add(1);
     let (program, words) = program_of(number);
     let number = u16::try_from(number).unwrap_or(0);
-    let procedure = procedure_of(alloc, name.as_bytes(), number, program, words)?;
-    Ok(PlainItem {
+    let procedure = procedure_of(alloc, name.as_bytes(), number, program, words).expect(
+        rt, "memory",
+    );
+    PlainItem {
         kind: PlainItemKind::Addition(procedure),
-    })
+    }
 }
 
 /// So many items under a window. Of twenty one is an addition.
-pub(super) fn drawn_log(alloc: Global, window: u32, count: u32) -> Result<Vec<PlainItem>, Fail> {
+pub(super) fn drawn_log(rt: &impl Abort, alloc: Global, window: u32, count: u32) -> Vec<PlainItem> {
     let mut source = Source {
         generator: Pcg32::new(u64::from(window), 16),
         requests: 0,
@@ -137,59 +140,67 @@ pub(super) fn drawn_log(alloc: Global, window: u32, count: u32) -> Result<Vec<Pl
     let mut log = Vec::new(alloc);
     for before in 0..count {
         let item = if source.draw(20) == 0 {
-            draw_addition(alloc, &mut source)?
+            draw_addition(rt, alloc, &mut source)
         } else {
-            draw_call(alloc, &mut source, before, window)?
+            draw_call(rt, alloc, &mut source, before, window)
         };
-        log.push(item)?;
+        log.push(item).expect(rt, "memory");
     }
-    Ok(log)
+    log
 }
 
 /// Adds what a call's run looked at and wrote.
-fn add_run(call: &mut ExecutedCall, report: &ItemReport) -> Result<(), Fail> {
+fn add_run(rt: &impl Abort, call: &mut ExecutedCall, report: &ItemReport) {
     for look in report.looks() {
-        call.reads.add_range(*look)?;
+        call.reads.add_range(*look).expect(rt, "memory");
     }
     for write in report.writes() {
         match write.bytes() {
-            Some(bytes) => call.writes.put(write.table(), write.key(), bytes)?,
-            None => call.writes.remove(write.table(), write.key())?,
+            Some(bytes) => call
+                .writes
+                .put(write.table(), write.key(), bytes)
+                .expect(rt, "memory"),
+            None => call
+                .writes
+                .remove(write.table(), write.key())
+                .expect(rt, "memory"),
         }
     }
-    Ok(())
 }
 
 /// A call as it is shipped, with what its run looked at and wrote.
-fn executed_call(alloc: Global, call: &PlainCall, report: &ItemReport) -> Result<Entry, Fail> {
-    let args = Vec::from_slice(alloc, call.args())?;
+fn executed_call(rt: &impl Abort, alloc: Global, call: &PlainCall, report: &ItemReport) -> Entry {
+    let args = Vec::from_slice(alloc, call.args()).expect(rt, "memory");
     let snapshot = call.snapshot() as u32;
     let mut executed = idle_call(alloc, call.procedure(), snapshot, call.request());
     executed.args = Bytes::new(args);
     executed.reply = report.reply();
-    add_run(&mut executed, report)?;
-    Ok(Entry::Call(executed))
+    add_run(rt, &mut executed, report);
+    Entry::Call(executed)
 }
 
 fn shipped_addition(
+    rt: &impl Abort,
     alloc: Global,
     schema: &Schema,
     procedure: &PlainProcedure,
-) -> Result<Entry, Fail> {
+) -> Entry {
     let number = procedure.number();
     let (program, words) = program_of(u32::from(number));
-    addition_of(alloc, schema, procedure.name(), number, program, words)
+    let name = procedure.name();
+    addition_of(alloc, schema, name, number, program, words).expect(rt, "an addition")
 }
 
 /// An item as it is shipped.
 pub(super) fn shipped(
+    rt: &impl Abort,
     alloc: Global,
     schema: &Schema,
     item: &PlainItem,
     report: &ItemReport,
-) -> Result<Entry, Fail> {
+) -> Entry {
     match &item.kind {
-        PlainItemKind::Call(call) => executed_call(alloc, call, report),
-        PlainItemKind::Addition(procedure) => shipped_addition(alloc, schema, procedure),
+        PlainItemKind::Call(call) => executed_call(rt, alloc, call, report),
+        PlainItemKind::Addition(procedure) => shipped_addition(rt, alloc, schema, procedure),
     }
 }

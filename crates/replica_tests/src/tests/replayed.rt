@@ -15,7 +15,7 @@ use sample_entries::{catalogue_of, certification_at};
 use sample_procedures::{PROCEDURES, TABLES, setting_of};
 use schema::{Look, Schema};
 use std::alloc::Global;
-use std::test::Fail;
+use std::process::Abort;
 use txn_view::Store;
 
 /// How many items a log has.
@@ -82,13 +82,14 @@ struct Replayed<'a> {
 
 /// Whether a replica finds what the replay has under a number, and under the name of its digits.
 fn finds_procedure(
+    rt: &impl Abort,
     alloc: Global,
     replica: &Replica,
     replayed: &Replayed,
     past: &[ItemReport],
     number: u32,
-) -> Result<bool, Fail> {
-    let name = name_of(alloc, number)?;
+) -> bool {
+    let name = name_of(rt, alloc, number);
     let named = procedure_by_name(replayed.setting, replayed.log, past, name.as_bytes());
     let named = named.map(|procedure| procedure.number());
     let number = u16::try_from(number).unwrap_or(0);
@@ -96,23 +97,23 @@ fn finds_procedure(
     let numbered = numbered.map(|procedure| (procedure.args_len(), procedure.code().slots()));
     let program = replica.procedures().by_number(number);
     let program = program.map(|program| (program.args_len(), program.code().slots()));
-    Ok(replica.procedures().by_name(name.as_bytes()) == named && program == numbered)
+    replica.procedures().by_name(name.as_bytes()) == named && program == numbered
 }
 
 /// Whether a replica has the procedures of the replay at its position.
-fn has_procedures(alloc: Global, replica: &Replica, replayed: &Replayed) -> Result<bool, Fail> {
+fn has_procedures(rt: &impl Abort, alloc: Global, replica: &Replica, replayed: &Replayed) -> bool {
     let reports = replayed.replay.reports();
     let past = reports.get(..replica.position() as usize).unwrap_or(&[]);
     let mut count = 0usize;
     for number in 0..NUMBERS + 2 {
-        if !finds_procedure(alloc, replica, replayed, past, number)? {
-            return Ok(false);
+        if !finds_procedure(rt, alloc, replica, replayed, past, number) {
+            return false;
         }
         if procedure_by_number(replayed.setting, replayed.log, past, number as u16).is_some() {
             count = count.wrapping_add(1);
         }
     }
-    Ok(replica.procedures().list().count() == count)
+    replica.procedures().list().count() == count
 }
 
 // ---- verdicts
@@ -236,66 +237,73 @@ fn says_the_same(replica: &Replica, position: u32, report: &ItemReport) -> bool 
 
 /// Delivers an item as it is shipped: whether the replica says of it what the replay says.
 fn delivers_the_same(
+    rt: &impl Abort,
     alloc: Global,
     schema: &Schema,
     checked: &mut CheckedReplica,
     item: &PlainItem,
     report: &ItemReport,
-) -> Result<bool, Fail> {
-    let entry = shipped(alloc, schema, item, report)?;
+) -> bool {
+    let entry = shipped(rt, alloc, schema, item, report);
     let verdict = checked.deliver(&entry);
     let position = checked.replica().position();
-    Ok(verdict == Some(Ok(report.verdict())) && says_the_same(checked.replica(), position, report))
+    verdict == Some(Ok(report.verdict())) && says_the_same(checked.replica(), position, report)
 }
 
 /// Whether a replica, at each thousandth position, has the rows and the procedures of the replay.
-fn has_the_same(alloc: Global, replica: &Replica, replayed: &Replayed) -> Result<bool, Fail> {
+fn has_the_same(rt: &impl Abort, alloc: Global, replica: &Replica, replayed: &Replayed) -> bool {
     if replica.position() % 1_000 != 0 {
-        return Ok(true);
+        return true;
     }
-    Ok(keeps_rows(replica, replayed.replay) && has_procedures(alloc, replica, replayed)?)
+    keeps_rows(replica, replayed.replay) && has_procedures(rt, alloc, replica, replayed)
 }
 
 fn deliver_all(
+    rt: &impl Abort,
     alloc: Global,
     schema: &Schema,
     checked: &mut CheckedReplica,
     replayed: &Replayed,
-) -> Result<Outcome, Fail> {
+) -> Outcome {
     let window = checked.replica().window();
     let reports = replayed.replay.reports();
     let mut outcome = Outcome::NONE;
     for (item, report) in replayed.log.iter().zip(reports) {
         let before = checked.replica().position();
-        let told = delivers_the_same(alloc, schema, checked, item, report)?;
-        if !told || !has_the_same(alloc, checked.replica(), replayed)? {
+        let told = delivers_the_same(rt, alloc, schema, checked, item, report);
+        if !told || !has_the_same(rt, alloc, checked.replica(), replayed) {
             outcome.difference = Some(before);
-            return Ok(outcome);
+            return outcome;
         }
         let past = reports.get(..before as usize).unwrap_or(&[]);
         outcome.add(kind_of(window, past, item, report.verdict()), 1);
     }
-    Ok(outcome)
+    outcome
 }
 
 fn outcome_of_replay(
+    rt: &impl Abort,
     alloc: Global,
     catalogue: &Catalogue,
     replayed: &Replayed,
-) -> Result<Outcome, Fail> {
-    let mut checked = CheckedReplica::new(alloc, replayed.setting.window(), catalogue)?;
-    deliver_all(alloc, catalogue.schema(), &mut checked, replayed)
+) -> Outcome {
+    let mut checked = CheckedReplica::new(alloc, replayed.setting.window(), catalogue).expect(
+        rt, "memory",
+    );
+    deliver_all(rt, alloc, catalogue.schema(), &mut checked, replayed)
 }
 
 fn outcome_of_log(
+    rt: &impl Abort,
     alloc: Global,
     catalogue: &Catalogue,
     setting: &PlainSetting,
     log: &[PlainItem],
-) -> Result<Outcome, Fail> {
-    let replay = replay_log(alloc, setting, short(log))?;
+) -> Outcome {
+    let replay = replay_log(alloc, setting, short(log)).expect(rt, "memory");
     let replay = &replay;
     outcome_of_replay(
+        rt,
         alloc,
         catalogue,
         &Replayed {
@@ -306,10 +314,10 @@ fn outcome_of_log(
     )
 }
 
-fn outcome_of(alloc: Global, catalogue: &Catalogue, window: u32) -> Result<Outcome, Fail> {
-    let log = drawn_log(alloc, window, ITEMS)?;
-    let setting = setting_of(alloc, window)?;
-    outcome_of_log(alloc, catalogue, &setting, &log)
+fn outcome_of(rt: &impl Abort, alloc: Global, catalogue: &Catalogue, window: u32) -> Outcome {
+    let log = drawn_log(rt, alloc, window, ITEMS);
+    let setting = setting_of(alloc, window).expect(rt, "memory");
+    outcome_of_log(rt, alloc, catalogue, &setting, &log)
 }
 
 /// Whether a log had calls of the kinds that each window has; stale ones are few where the window is nearly as long as the
@@ -321,11 +329,11 @@ fn is_varied(window: u32, outcome: &Outcome) -> bool {
 }
 
 #[test]
-fn replicas_come_to_what_the_plain_replay_says(rt: HostRuntime) -> Result<(), Fail> {
-    let catalogue = catalogue_of(rt.alloc(), &TABLES, &PROCEDURES)?;
+fn replicas_come_to_what_the_plain_replay_says(rt: HostRuntime) {
+    let catalogue = catalogue_of(rt.alloc(), &TABLES, &PROCEDURES).expect(&rt, "memory");
     let mut all = [0u32; KINDS];
     for window in [1, 7, 8, 9, 4_096] {
-        let outcome = outcome_of(rt.alloc(), &catalogue, window)?;
+        let outcome = outcome_of(&rt, rt.alloc(), &catalogue, window);
         let counts = outcome.counts;
         assert_eq!(rt; outcome.difference, None, "window {window}: {counts:?}");
         assert!(rt; is_varied(window, &outcome), "window {window}: {counts:?}");
@@ -335,5 +343,4 @@ fn replicas_come_to_what_the_plain_replay_says(rt: HostRuntime) -> Result<(), Fa
         }
     }
     assert!(rt; all.iter().all(|count| *count > 100), "{all:?}");
-    Ok(())
 }

@@ -7,7 +7,7 @@ use log_model::{Identifier, Verdict};
 use replica::Replica;
 use sample_entries::{EntryCase, byte_at, certification_at, entry_of, small_catalogue};
 use std::alloc::Global;
-use std::test::Fail;
+use std::process::Abort;
 
 /// A log under a window: of each entry the verdict on it and how many comparisons that takes; positions and keys with what
 /// is found there after all entries; and the procedures then, in order of entry.
@@ -247,35 +247,40 @@ const NONE: Difference = Difference {
 
 /// The position of the first step with another verdict or count.
 fn wrong_step(
+    rt: &impl Abort,
     alloc: Global,
     catalogue: &Catalogue,
     checked: &mut CheckedReplica,
     steps: &[(EntryCase, Verdict, u64)],
-) -> Result<Option<u32>, Fail> {
+) -> Option<u32> {
     for (case, verdict, compared) in steps {
-        let entry = entry_of(alloc, catalogue.schema(), *case)?;
+        let entry = entry_of(alloc, catalogue.schema(), *case).expect(rt, "memory");
         if !comes_to(checked, &entry, *verdict, *compared) {
-            return Ok(Some(checked.replica().position()));
+            return Some(checked.replica().position());
         }
     }
-    Ok(None)
+    None
 }
 
-fn difference_of(alloc: Global, catalogue: &Catalogue, log: &LogCase) -> Result<Difference, Fail> {
-    let mut checked = CheckedReplica::new(alloc, log.window, catalogue)?;
-    let step = wrong_step(alloc, catalogue, &mut checked, log.steps)?;
-    Ok(Difference {
+fn difference_of(
+    rt: &impl Abort,
+    alloc: Global,
+    catalogue: &Catalogue,
+    log: &LogCase,
+) -> Difference {
+    let mut checked = CheckedReplica::new(alloc, log.window, catalogue).expect(rt, "memory");
+    let step = wrong_step(rt, alloc, catalogue, &mut checked, log.steps);
+    Difference {
         step,
         row: wrong_row(checked.replica(), log.rows),
         procedures: !has_procedures(checked.replica(), log.procedures),
-    })
+    }
 }
 
 #[test]
-fn logs_come_to_what_is_written_down(rt: HostRuntime) -> Result<(), Fail> {
-    let catalogue = small_catalogue(rt.alloc())?;
+fn logs_come_to_what_is_written_down(rt: HostRuntime) {
+    let catalogue = small_catalogue(rt.alloc()).expect(&rt, "memory");
     for log in &LOGS {
-        assert_eq!(rt; difference_of(rt.alloc(), &catalogue, log)?, NONE);
+        assert_eq!(rt; difference_of(&rt, rt.alloc(), &catalogue, log), NONE);
     }
-    Ok(())
 }

@@ -5,7 +5,7 @@ use checked_replica::CheckedReplica;
 use replica::Replica;
 use sample_entries::{EntryCase, entry_of, small_catalogue};
 use std::alloc::Global;
-use std::test::Fail;
+use std::process::Abort;
 use txn_view::{Gone, Store};
 
 /// The byte at key 1 of table 1 after a position that was reached.
@@ -47,29 +47,29 @@ fn wrong_position(replica: &Replica, delivered: u32) -> Option<u32> {
 
 /// After how many calls, and where, a replica first reads otherwise.
 fn difference_of(
+    rt: &impl Abort,
     alloc: Global,
     catalogue: &Catalogue,
     window: u32,
-) -> Result<Option<(u32, u32)>, Fail> {
-    let mut checked = CheckedReplica::new(alloc, window, catalogue)?;
+) -> Option<(u32, u32)> {
+    let mut checked = CheckedReplica::new(alloc, window, catalogue).expect(rt, "memory");
     for delivered in 1..=30u32 {
         let put = EntryCase::Call(delivered.saturating_sub(1), 9, 9, 1, Some(delivered as u8));
-        let entry = entry_of(alloc, catalogue.schema(), put)?;
+        let entry = entry_of(alloc, catalogue.schema(), put).expect(rt, "memory");
         let told = checked.deliver(&entry);
         let wrong = wrong_position(checked.replica(), delivered);
         if !matches!(told, Some(Ok(_))) || wrong.is_some() {
-            return Ok(Some((delivered, wrong.unwrap_or(0))));
+            return Some((delivered, wrong.unwrap_or(0)));
         }
     }
-    Ok(None)
+    None
 }
 
 #[test]
-fn a_position_reads_alike_until_it_is_gone(rt: HostRuntime) -> Result<(), Fail> {
-    let catalogue = small_catalogue(rt.alloc())?;
+fn a_position_reads_alike_until_it_is_gone(rt: HostRuntime) {
+    let catalogue = small_catalogue(rt.alloc()).expect(&rt, "memory");
     for window in [1, 4, 8] {
-        let difference = difference_of(rt.alloc(), &catalogue, window)?;
+        let difference = difference_of(&rt, rt.alloc(), &catalogue, window);
         assert_eq!(rt; difference, None, "window {window}");
     }
-    Ok(())
 }

@@ -1,5 +1,6 @@
 //! Ranges of results, by rows that a Python program computed, and joins.
 use super::bounds::{ALL, BELOW_MIDDLE, BELOW_TOP, LOW, MIDDLE, TOP, WIDE, range};
+use super::same;
 use bpf_words::BinaryOperation::{
     Add, And, Arsh, Div, Lsh, Mod, Mov, Mul, Or, Rsh, Sdiv, Smod, Sub, Xor,
 };
@@ -44,26 +45,29 @@ fn byte_swaps(rt: HostRuntime) {
 fn joins(rt: HostRuntime) {
     for [a, b, both] in &JOINS {
         let joined = range(*a).join(range(*b));
-        assert_eq!(rt; joined, range(*both), "{a:?} and {b:?}");
-        assert_eq!(rt; joined.is_single(), both[0] == both[1]);
+        let found = (*a, *b, joined, joined.is_single());
+        same(
+            &rt,
+            "joined",
+            found,
+            (*a, *b, range(*both), both[0] == both[1]),
+        );
     }
-    assert_eq!(rt; Range::new(1, 5).lo(), 1);
-    assert_eq!(rt; Range::new(1, 5).hi(), 5);
+    let given = Range::new(1, 5);
+    same(&rt, "ends", (given.lo(), given.hi()), (1, 5));
 }
 
 // A row has the ranges of two operands, and those of what the operation gives on 64 and on 32 bits.
 fn gives(rt: &impl Abort, op: Operation, rows: &[[[u64; 2]; 4]]) {
     for [a, b, wide, narrow] in rows {
         let (left, right) = (range(*a), range(*b));
-        assert_eq!(rt;
-            alu64_range(op, left, right),
-            range(*wide),
-            "{op:?} of {a:?} and {b:?}"
-        );
-        assert_eq!(rt;
-            alu32_range(op, left, right),
-            range(*narrow),
-            "{op:?} of {a:?} and {b:?} at 32"
+        let found = (alu64_range(op, left, right), alu32_range(op, left, right));
+        let wanted = (range(*wide), range(*narrow));
+        same(
+            rt,
+            "64 and 32 bits",
+            (op, left, right, found),
+            (op, left, right, wanted),
         );
     }
 }
@@ -71,20 +75,18 @@ fn gives(rt: &impl Abort, op: Operation, rows: &[[[u64; 2]; 4]]) {
 // A row has an operand's range, and those of what is given of its low 16, 32 and 64 bits.
 fn swaps(rt: &impl Abort, order: ByteOrder, rows: &[[[u64; 2]; 4]]) {
     for [a, low16, low32, low64] in rows {
-        assert_eq!(rt;
-            end_range(order, Low16, range(*a)),
-            range(*low16),
-            "{order:?} 16 of {a:?}"
-        );
-        assert_eq!(rt;
-            end_range(order, Low32, range(*a)),
-            range(*low32),
-            "{order:?} 32 of {a:?}"
-        );
-        assert_eq!(rt;
-            end_range(order, Low64, range(*a)),
-            range(*low64),
-            "{order:?} 64 of {a:?}"
+        let operand = range(*a);
+        let found = [
+            end_range(order, Low16, operand),
+            end_range(order, Low32, operand),
+            end_range(order, Low64, operand),
+        ];
+        let wanted = [range(*low16), range(*low32), range(*low64)];
+        same(
+            rt,
+            "16, 32 and 64 bits",
+            (order, operand, found),
+            (order, operand, wanted),
         );
     }
 }

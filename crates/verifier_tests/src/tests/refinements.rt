@@ -1,28 +1,33 @@
 use super::bounds::{ALL, BELOW_MIDDLE, BELOW_TOP, LOW, MIDDLE, TOP, WIDE, range};
+use super::same;
 use bpf_words::Condition;
 use bpf_words::Condition::{Eq, Ge, Gt, Le, Lt, Ne, Set, Sge, Sgt, Sle, Slt};
+use interval::Range;
 use range_refine::{refine32, refine64};
+use std::process::Abort;
 
 #[test]
 fn edges_on_64_bits(rt: HostRuntime) {
     for (condition, taken, a, b, along) in &ON_64_BITS {
-        assert_eq!(rt;
-            refine64(*condition, *taken, range(*a), range(*b)),
-            along.map(|[a, b]| (range(a), range(b))),
-            "{condition:?} {taken} of {a:?} and {b:?}"
-        );
+        let found = refine64(*condition, *taken, range(*a), range(*b));
+        edge(&rt, (*condition, *taken, *a, *b), found, along);
     }
 }
 
 #[test]
 fn edges_on_32_bits(rt: HostRuntime) {
     for (condition, taken, a, b, along) in &ON_32_BITS {
-        assert_eq!(rt;
-            refine32(*condition, *taken, range(*a), range(*b)),
-            along.map(|[a, b]| (range(a), range(b))),
-            "{condition:?} {taken} of {a:?} and {b:?}"
-        );
+        let found = refine32(*condition, *taken, range(*a), range(*b));
+        edge(&rt, (*condition, *taken, *a, *b), found, along);
     }
+}
+
+/// What is known of an edge: the condition, whether its jump is taken, and the ranges of its operands.
+type Edge = (Condition, bool, [u64; 2], [u64; 2]);
+
+fn edge(rt: &impl Abort, case: Edge, found: Option<(Range, Range)>, along: &Option<[[u64; 2]; 2]>) {
+    let wanted = along.map(|[a, b]| (range(a), range(b)));
+    same(rt, "along the edge", (case, found), (case, wanted));
 }
 
 /// A condition, whether its jump is taken, the ranges of its operands, and those along the edge.

@@ -1,18 +1,17 @@
 //! Worlds that are drawn from a seed: what was done to one, and what it answered.
 
 use super::events::{Event, Events};
-use super::{
-    CANCEL_CODE, CANCEL_PLACE, PROCEDURE_COUNT, READ_PLACE, catalogue_of, place_of, procedure_at,
-};
+use super::{CANCEL_CODE, CANCEL_PLACE, PROCEDURES, READ_PLACE, place_of};
 use dsm_model::{Outcome, StepRefusal};
 use dsm_world::{Step, World};
 use log_model::{Identifier, RequestId, Verdict};
 use rand_core::utils::NextWord;
 use rand_pcg::Pcg32;
-use sample_procedures::bytes_of;
+use sample_entries::catalogue_of;
+use sample_procedures::{TABLES, bytes_of};
 use scarce::Scarce;
 use std::alloc::Global;
-use std::test::Fail;
+use std::process::Abort;
 
 /// How many kinds of outcomes there are.
 pub(super) const KINDS: usize = 30;
@@ -198,18 +197,17 @@ impl History {
     }
 
     /// Takes down the reply of a call at its end. Turns after it answer it again.
-    fn end(&mut self, number: u32, reply: u64) -> Result<(), Fail> {
+    fn end(&mut self, rt: &impl Abort, number: u32, reply: u64) {
         let place = (number as usize).wrapping_sub(1);
         let Some(call) = self.calls.get_mut(place) else {
             self.expect(false);
-            return Ok(());
+            return;
         };
         let before = call.reply.replace(reply);
         self.expect(before.is_none() || before == Some(reply));
         if before.is_none() {
-            self.ended.push(number)?;
+            self.ended.push(number).expect(rt, "memory");
         }
-        Ok(())
     }
 }
 
@@ -220,8 +218,8 @@ fn draw(generator: &mut Pcg32, end: u32) -> u32 {
 
 /// The number of a procedure of the catalogue.
 fn draw_listed(generator: &mut Pcg32) -> u16 {
-    let place = draw(generator, PROCEDURE_COUNT as u32) as usize;
-    procedure_at(place).map_or(0, |procedure| procedure.0)
+    let place = draw(generator, PROCEDURES.len() as u32) as usize;
+    PROCEDURES.get(place).map_or(0, |procedure| procedure.0)
 }
 
 /// A number that the catalogue may have or not.
@@ -232,7 +230,7 @@ fn draw_number(generator: &mut Pcg32) -> u16 {
 
 /// How many words the program of a number takes, and the program in hex.
 pub(super) fn program_of(number: u16) -> (usize, &'static str) {
-    match procedure_at(place_of(number)) {
+    match PROCEDURES.get(place_of(number)) {
         Some((_number, program, words)) => (*words, program),
         None => (0, ""),
     }
@@ -245,15 +243,16 @@ fn draw_word(generator: &mut Pcg32) -> u64 {
 }
 
 /// Arguments for the procedure of a number, at times a word too many.
-fn draw_args(alloc: Global, generator: &mut Pcg32, number: u16) -> Result<Vec<u8>, Fail> {
+fn draw_args(rt: &impl Abort, alloc: Global, generator: &mut Pcg32, number: u16) -> Vec<u8> {
     let (words, _program) = program_of(number);
     let more = if draw(generator, 32) == 0 { 1 } else { 0 };
     let mut args = Vec::new(alloc);
     for _ in 0..words.wrapping_add(more) {
         let word = draw_word(generator);
-        args.extend_from_slice(&word.to_le_bytes())?;
+        args.extend_from_slice(&word.to_le_bytes())
+            .expect(rt, "memory");
     }
-    Ok(args)
+    args
 }
 
 /// The request of a number from 1 on: of few sessions.
@@ -296,12 +295,13 @@ pub(super) struct DrawnWorld<'s> {
 
 /// A new one of 2 to 8 replicas. One of eight windows is drawn among many, the others among 1 to 8.
 pub(super) fn new_world<'s>(
+    rt: &impl Abort,
     alloc: Global,
     scarce: &'s Scarce,
     seed: u64,
     kinds: [u32; KINDS],
     events: Events,
-) -> Result<DrawnWorld<'s>, Fail> {
+) -> DrawnWorld<'s> {
     let mut generator = Pcg32::new(seed, 17);
     let replicas = draw(&mut generator, 7).wrapping_add(2).clamp(1, 8);
     let wide = draw(&mut generator, 8) == 0;
@@ -309,8 +309,9 @@ pub(super) fn new_world<'s>(
     let window = draw(&mut generator, windows)
         .wrapping_add(1)
         .clamp(1, 4_096);
-    let world = World::new(scarce, replicas, window, catalogue_of(scarce, alloc)?)?;
-    Ok(DrawnWorld {
+    let catalogue = catalogue_of(scarce, &TABLES, &PROCEDURES).expect(rt, "memory");
+    let world = World::new(scarce, replicas, window, catalogue).expect(rt, "memory");
+    DrawnWorld {
         alloc,
         scarce,
         generator,
@@ -318,7 +319,7 @@ pub(super) fn new_world<'s>(
         window,
         world,
         history: History::new(alloc, kinds, events),
-    })
+    }
 }
 
 impl<'s> DrawnWorld<'s> {
@@ -391,48 +392,52 @@ impl<'s> DrawnWorld<'s> {
     }
 
     /// Begins a call.
-    fn begin(&mut self, replica: u32) -> Result<(), Fail> {
+    fn begin(&mut self, rt: &impl Abort, replica: u32) {
         let procedure = self.draw_procedure();
-        let args = draw_args(self.alloc, &mut self.generator, procedure)?;
+        let args = draw_args(rt, self.alloc, &mut self.generator, procedure);
         let request = self.draw_request();
         let outcome = self.take(begin_step(replica, procedure, &args, request));
         let Outcome::Begun { call, snapshot } = outcome else {
-            return self.see_refused(replica, procedure, outcome);
+            return self.see_refused(rt, replica, procedure, outcome);
         };
-        self.history.calls.push(Call {
-            procedure,
-            args,
-            snapshot,
-            request: request.unwrap_or(NO_REQUEST),
-            reply: None,
-        })?;
+        self.history
+            .calls
+            .push(Call {
+                procedure,
+                args,
+                snapshot,
+                request: request.unwrap_or(NO_REQUEST),
+                reply: None,
+            })
+            .expect(rt, "memory");
         let is_next = call as usize == self.history.calls.len();
         let is_now = self.position_of(replica) == Some(snapshot);
         self.history.expect(is_next && is_now);
-        Ok(())
     }
 
     /// Takes down a call that didn't begin, where its replica has no such procedure.
-    fn see_refused(&mut self, at: u32, procedure: u16, outcome: Outcome) -> Result<(), Fail> {
+    fn see_refused(&mut self, rt: &impl Abort, at: u32, procedure: u16, outcome: Outcome) {
         let Some(replica) = self.world.replica(at) else {
-            return Ok(());
+            return;
         };
         if outcome == Outcome::Refused(StepRefusal::NoProcedure) {
-            self.history.unknown.push(UnknownProcedure {
-                number: procedure,
-                position: replica.position(),
-                stopped: replica.stopped(),
-            })?;
+            self.history
+                .unknown
+                .push(UnknownProcedure {
+                    number: procedure,
+                    position: replica.position(),
+                    stopped: replica.stopped(),
+                })
+                .expect(rt, "memory");
         }
-        Ok(())
     }
 
     /// Adds a procedure, at times one with arguments that are too long, a program that isn't accepted, or no name.
-    fn add(&mut self) -> Result<(), Fail> {
+    fn add(&mut self, rt: &impl Abort) {
         let named = draw(&mut self.generator, NUMBERS).wrapping_add(1);
         let number = draw_number(&mut self.generator);
         let (words, program) = program_of(number);
-        let bytes = bytes_of(self.alloc, program)?;
+        let bytes = bytes_of(self.alloc, program).expect(rt, "the program in hex");
         let long = u16::try_from(words).unwrap_or(0).wrapping_mul(8);
         let (mark, args_len) = match draw(&mut self.generator, 16) {
             0 => ("", 257),
@@ -440,7 +445,7 @@ impl<'s> DrawnWorld<'s> {
             2 => ("-", long),
             _ => ("", long),
         };
-        let name = format!(in self.alloc; "{named}{mark}")?;
+        let name = format!(in self.alloc; "{named}{mark}").expect(rt, "memory");
         let outcome = self.take(Step::Add {
             name: name.as_bytes(),
             number,
@@ -450,10 +455,10 @@ impl<'s> DrawnWorld<'s> {
         if let Outcome::Added { position } = outcome {
             self.history
                 .ordered
-                .push(Ordered::Addition { name, number })?;
+                .push(Ordered::Addition { name, number })
+                .expect(rt, "memory");
             self.expect_last(position);
         }
-        Ok(())
     }
 
     /// A position that was answered is that of what was ordered last.
@@ -464,33 +469,35 @@ impl<'s> DrawnWorld<'s> {
     }
 
     /// Runs a call further.
-    fn turn(&mut self) -> Result<(), Fail> {
+    fn turn(&mut self, rt: &impl Abort) {
         let call = self.draw_recent();
         for _ in 0..draw(&mut self.generator, 16).wrapping_add(1) {
             let outcome = self.take(Step::Turn { call });
             if let Outcome::Exit { reply } = outcome {
-                return self.history.end(call, reply);
+                return self.history.end(rt, call, reply);
             }
             if outcome != Outcome::More {
                 break;
             }
         }
-        Ok(())
     }
 
     /// Orders a call, mostly one that is at its end.
-    fn order(&mut self) -> Result<(), Fail> {
+    fn order(&mut self, rt: &impl Abort) {
         let call = match draw(&mut self.generator, 8) {
             0 => self.draw_recent(),
             _ => self.history.ended.pop().unwrap_or(0),
         };
         match self.take(Step::Order { call }) {
             Outcome::Ordered { position } => {
-                self.history.ordered.push(Ordered::Call(call))?;
+                self.history
+                    .ordered
+                    .push(Ordered::Call(call))
+                    .expect(rt, "memory");
                 self.expect_last(position);
             }
             Outcome::Read { snapshot, reply } => {
-                self.history.read.push(call)?;
+                self.history.read.push(call).expect(rt, "memory");
                 let is_read = self.history.is_of(call, READ_PLACE, snapshot);
                 let is_told = self.history.reply_of(call) == Some(reply);
                 self.history.expect(is_read && is_told);
@@ -501,11 +508,10 @@ impl<'s> DrawnWorld<'s> {
             }
             _ => {}
         }
-        Ok(())
     }
 
     /// Delivers to a replica.
-    fn deliver(&mut self, replica: u32) -> Result<(), Fail> {
+    fn deliver(&mut self, rt: &impl Abort, replica: u32) {
         let before = self.position_of(replica);
         let outcome = self.take(Step::Deliver { replica });
         let next = before.map_or(0, |position| position.wrapping_add(1));
@@ -514,24 +520,25 @@ impl<'s> DrawnWorld<'s> {
             self.history.events.count(Event::AdditionWithoutMemory);
         }
         if let Outcome::Delivered { position, verdict } = outcome {
-            self.history.delivered.push((position, verdict))?;
-            self.see_delivered(position, verdict)?;
+            self.history
+                .delivered
+                .push((position, verdict))
+                .expect(rt, "memory");
+            self.see_delivered(rt, position, verdict);
             let is_next = before == position.checked_sub(1);
             let is_now = self.position_of(replica) == Some(position);
             self.history.expect(is_next && is_now);
         }
-        Ok(())
     }
 
     /// Takes down the request of a call that was refused.
-    fn see_delivered(&mut self, position: u32, verdict: Verdict) -> Result<(), Fail> {
+    fn see_delivered(&mut self, rt: &impl Abort, position: u32, verdict: Verdict) {
         if matches!(verdict, Verdict::Conflict(_) | Verdict::Stale) {
             let request = self.history.request_at(position);
             if request != NO_REQUEST {
-                self.history.refused.push(request)?;
+                self.history.refused.push(request).expect(rt, "memory");
             }
         }
-        Ok(())
     }
 
     /// Makes a replica anew.
@@ -545,50 +552,46 @@ impl<'s> DrawnWorld<'s> {
     }
 
     /// A step of a kind that is drawn, or some turns of a call.
-    fn go_on(&mut self) -> Result<(), Fail> {
+    fn go_on(&mut self, rt: &impl Abort) {
         let replica = self.draw_replica();
         match draw(&mut self.generator, 64) {
-            0..=5 => self.begin(replica),
-            6..=19 => self.turn(),
-            20..=26 => self.order(),
-            27..=57 => self.deliver(replica),
-            58..=61 => self.add(),
+            0..=5 => self.begin(rt, replica),
+            6..=19 => self.turn(rt),
+            20..=26 => self.order(rt),
+            27..=57 => self.deliver(rt, replica),
+            58..=61 => self.add(rt),
             _ => {
                 self.rebuild(replica);
-                Ok(())
             }
         }
     }
 
     /// Takes 200 to 2,000 steps.
-    pub(super) fn run(&mut self) -> Result<(), Fail> {
+    pub(super) fn run(&mut self, rt: &impl Abort) {
         let most = draw(&mut self.generator, 1_785).wrapping_add(200);
         for _ in 0..most {
             if self.history.steps < most {
-                self.go_on()?;
+                self.go_on(rt);
             }
         }
-        Ok(())
     }
 
     /// Brings a replica to the end of the log, and makes it anew where it is stopped.
-    fn finish_replica(&mut self, replica: u32) -> Result<(), Fail> {
+    fn finish_replica(&mut self, rt: &impl Abort, replica: u32) {
         for _ in 0..1_000u32 {
             let stopped = self.world.replica(replica).map(|it| it.stopped());
             if stopped == Some(true) {
                 self.rebuild(replica);
             } else if self.position_of(replica) != Some(self.world.log_len()) {
-                self.deliver(replica)?;
+                self.deliver(rt, replica);
             }
         }
-        Ok(())
     }
 
     /// Brings all replicas to the end of the log.
-    pub(super) fn finish(&mut self) -> Result<(), Fail> {
+    pub(super) fn finish(&mut self, rt: &impl Abort) {
         for replica in 1..self.replicas.saturating_add(1) {
-            self.finish_replica(replica)?;
+            self.finish_replica(rt, replica);
         }
-        Ok(())
     }
 }

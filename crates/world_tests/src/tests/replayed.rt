@@ -2,9 +2,9 @@
 
 ghost use Rattle.std.specs.Prelude.{◌<◌, ◌^◌, length};
 
+use super::PROCEDURES;
 use super::drawn::{DrawnWorld, History, KINDS, Ordered, new_world, program_of};
 use super::events::Events;
-use super::{PROCEDURE_COUNT, procedure_at};
 use dsm_replayer::{
     CompletedReplay, ItemReport, PlainCall, PlainItem, PlainItemKind, PlainSetting, Row, replay_log,
 };
@@ -15,7 +15,7 @@ use sample_procedures::{TABLES, digit_of, procedure_of};
 use scarce::Scarce;
 use schema::Schema;
 use std::alloc::Global;
-use std::test::Fail;
+use std::process::Abort;
 
 /// How many worlds are drawn.
 const WORLDS: u64 = 320;
@@ -46,36 +46,39 @@ fn short(log: &[PlainItem]) -> &[PlainItem]
 
 /// What was ordered, as the plain replayer takes it: an addition with the program that was asked for.
 fn item_of(
+    rt: &impl Abort,
     alloc: Global,
     history: &History,
     ordered: &Ordered,
-) -> Result<Option<PlainItemKind>, Fail> {
+) -> Option<PlainItemKind> {
     match ordered {
         Ordered::Addition { name, number } => {
             let (words, program) = program_of(*number);
-            let added = procedure_of(alloc, name.as_bytes(), *number, program, words)?;
-            Ok(Some(PlainItemKind::Addition(added)))
+            let added = procedure_of(alloc, name.as_bytes(), *number, program, words).expect(
+                rt, "memory",
+            );
+            Some(PlainItemKind::Addition(added))
         }
         Ordered::Call(number) => {
             let Some(call) = history.call(*number) else {
-                return Ok(None);
+                return None;
             };
-            let args = Vec::from_slice(alloc, &call.args)?;
+            let args = Vec::from_slice(alloc, &call.args).expect(rt, "memory");
             let (procedure, snapshot) = (call.procedure, call.snapshot);
             let call = PlainCall::new(*number, procedure, args, snapshot, call.request);
-            Ok(Some(PlainItemKind::Call(call)))
+            Some(PlainItemKind::Call(call))
         }
     }
 }
 
-fn log_of(alloc: Global, history: &History) -> Result<Vec<PlainItem>, Fail> {
+fn log_of(rt: &impl Abort, alloc: Global, history: &History) -> Vec<PlainItem> {
     let mut log = Vec::new(alloc);
     for ordered in &history.ordered {
-        if let Some(kind) = item_of(alloc, history, ordered)? {
-            log.push(PlainItem { kind })?;
+        if let Some(kind) = item_of(rt, alloc, history, ordered) {
+            log.push(PlainItem { kind }).expect(rt, "memory");
         }
     }
-    Ok(log)
+    log
 }
 
 /// Whether what stands at a position of the world's log is what was ordered, a call with the reply that it answered, which is
@@ -175,18 +178,19 @@ fn are_rows(found: &[Row], rows: &[Row]) -> bool {
 
 /// Whether each replica has the rows of the replay after its position.
 fn have_rows(
+    rt: &impl Abort,
     alloc: Global,
     replicas: &[Replica<&Scarce>],
     replay: &CompletedReplay,
-) -> Result<bool, Fail> {
+) -> bool {
     for replica in replicas {
-        let found = replica.rows(alloc)?;
+        let found = replica.rows(alloc).expect(rt, "memory");
         let rows = replay.rows(replica.position() as usize);
         if !rows.is_some_and(|rows| are_rows(&found, rows)) {
-            return Ok(false);
+            return false;
         }
     }
-    Ok(true)
+    true
 }
 
 /// Where the answers of a world, and its replicas at the end of the log, aren't what the replay says.
@@ -211,74 +215,74 @@ fn difference_of_answers(drawn: &DrawnWorld<'_>, replay: &CompletedReplay) -> Di
 }
 
 /// The catalogue and the window as the plain replayer takes them.
-fn setting_of(alloc: Global, window: u32) -> Result<PlainSetting, Fail> {
+fn setting_of(rt: &impl Abort, alloc: Global, window: u32) -> PlainSetting {
     let mut catalogue = Vec::new(alloc);
-    for place in 0..PROCEDURE_COUNT {
-        if let Some((number, program, words)) = procedure_at(place) {
-            let name = digit_of(*number);
-            catalogue.push(procedure_of(alloc, &name, *number, program, *words)?)?;
-        }
+    for (number, program, words) in &PROCEDURES {
+        let procedure = procedure_of(alloc, &digit_of(*number), *number, program, *words);
+        catalogue
+            .push(procedure.expect(rt, "memory"))
+            .expect(rt, "memory");
     }
-    let schema = Schema::new(alloc, &TABLES)?;
-    Ok(PlainSetting::new(schema, catalogue, window))
+    let schema = Schema::new(alloc, &TABLES).expect(rt, "memory");
+    PlainSetting::new(schema, catalogue, window)
 }
 
 /// The replay of a world's log.
-fn replay_of(alloc: Global, drawn: &DrawnWorld<'_>) -> Result<CompletedReplay, Fail> {
-    let log = log_of(alloc, &drawn.history)?;
-    let setting = setting_of(alloc, drawn.window)?;
-    Ok(replay_log(alloc, &setting, short(&log))?)
+fn replay_of(rt: &impl Abort, alloc: Global, drawn: &DrawnWorld<'_>) -> CompletedReplay {
+    let log = log_of(rt, alloc, &drawn.history);
+    let setting = setting_of(rt, alloc, drawn.window);
+    replay_log(alloc, &setting, short(&log)).expect(rt, "memory")
 }
 
 /// Where a world isn't what the replay of its log says, before and after its replicas are brought to the end.
-fn find_difference(alloc: Global, drawn: &mut DrawnWorld<'_>) -> Result<Difference, Fail> {
-    let replay = replay_of(alloc, drawn)?;
-    if !have_rows(alloc, drawn.world.replicas(), &replay)? {
-        return Ok(Difference::Rows);
+fn find_difference(rt: &impl Abort, alloc: Global, drawn: &mut DrawnWorld<'_>) -> Difference {
+    let replay = replay_of(rt, alloc, drawn);
+    if !have_rows(rt, alloc, drawn.world.replicas(), &replay) {
+        return Difference::Rows;
     }
-    drawn.finish()?;
-    if !have_rows(alloc, drawn.world.replicas(), &replay)? {
-        return Ok(Difference::LastRows);
+    drawn.finish(rt);
+    if !have_rows(rt, alloc, drawn.world.replicas(), &replay) {
+        return Difference::LastRows;
     }
     let mut events = drawn.history.events;
     events.count_all(&drawn.history, drawn.window, replay.reports());
     drawn.history.events = events;
-    Ok(difference_of_answers(drawn, &replay))
+    difference_of_answers(drawn, &replay)
 }
 
 /// Takes the steps of a drawn world, and compares it.
-fn run_and_compare(alloc: Global, drawn: &mut DrawnWorld<'_>) -> Result<Difference, Fail> {
-    drawn.run()?;
-    find_difference(alloc, drawn)
+fn run_and_compare(rt: &impl Abort, alloc: Global, drawn: &mut DrawnWorld<'_>) -> Difference {
+    drawn.run(rt);
+    find_difference(rt, alloc, drawn)
 }
 
 /// Draws a world of a seed and compares it. Its outcomes are added by their kinds.
 fn compare(
+    rt: &impl Abort,
     alloc: Global,
     seed: u64,
     kinds: &mut [u32; KINDS],
     events: &mut Events,
-) -> Result<Difference, Fail> {
+) -> Difference {
     let scarce = Scarce::new(alloc);
-    let mut drawn = new_world(alloc, &scarce, seed, *kinds, *events)?;
-    let found = run_and_compare(alloc, &mut drawn);
+    let mut drawn = new_world(rt, alloc, &scarce, seed, *kinds, *events);
+    let found = run_and_compare(rt, alloc, &mut drawn);
     *kinds = drawn.history.kinds;
     *events = drawn.history.events;
     found
 }
 
 #[test]
-fn worlds_come_to_what_the_plain_replay_says(rt: HostRuntime) -> Result<(), Fail> {
+fn worlds_come_to_what_the_plain_replay_says(rt: HostRuntime) {
     let alloc = rt.alloc();
     let mut kinds = [0; KINDS];
     let mut events = Events::new();
     for seed in 0..WORLDS {
-        let found = compare(alloc, seed, &mut kinds, &mut events)?;
+        let found = compare(&rt, alloc, seed, &mut kinds, &mut events);
         assert_eq!(rt; found, Difference::None, "seed {seed}");
     }
     let common = kinds.iter().filter(|count| **count > 100).count();
     // All but a full log and too many calls.
     assert_eq!(rt; common, KINDS - 2, "{kinds:?}");
     assert!(rt; events.all_above(50), "{events:?}");
-    Ok(())
 }

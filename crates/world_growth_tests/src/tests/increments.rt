@@ -1,12 +1,12 @@
 //! Two increments of one row, of which the second conflicts and is begun anew.
 
-use super::{ADD_SEVEN, ADD_TEN, described, run_script, steps_of, two_replicas};
+use super::{ADD_SEVEN, ADD_TEN, described, run_script, same, steps_of, two_replicas};
 use dsm_model::Outcome;
 use dsm_world::{Step, World};
 use log_model::Verdict;
 use scarce::Scarce;
 use std::alloc::Global;
-use std::test::Fail;
+use std::process::Abort;
 
 static STEPS: [(Step<'static>, usize); 12] = [
     (
@@ -87,38 +87,43 @@ static TOLD: [Outcome; 14] = [
 ];
 
 /// Whether no steps are taken where there is no room for their answers.
-fn is_refused(alloc: Global, scarce: &Scarce, world: &mut World<&Scarce>) -> Result<bool, Fail> {
-    let steps = steps_of(alloc, &STEPS)?;
+fn is_refused(rt: &impl Abort, alloc: Global, scarce: &Scarce, world: &mut World<&Scarce>) -> bool {
+    let steps = steps_of(rt, alloc, &STEPS);
     scarce.refuse_all(true);
     let refused = world.run(&steps).is_err();
     scarce.refuse_all(false);
-    Ok(refused && world.log_len() == 0)
+    refused && world.log_len() == 0
 }
 
 /// What is answered by the steps after they were refused, and what replica 2 is then.
 fn refused_and_run(
+    rt: &impl Abort,
     alloc: Global,
     scarce: &Scarce,
     world: &mut World<&Scarce>,
-) -> Result<(Vec<Outcome>, String), Fail> {
+) -> (Vec<Outcome>, String) {
     let mut told = Vec::new(alloc);
-    if is_refused(alloc, scarce, world)? {
-        run_script(alloc, world, &STEPS, &mut told)?;
+    if is_refused(rt, alloc, scarce, world) {
+        run_script(rt, alloc, world, &STEPS, &mut told);
     }
-    Ok((told, described(alloc, world, 2)?))
+    (told, described(rt, alloc, world, 2))
 }
 
 /// The same in a world of its own.
-fn increments(alloc: Global, scarce: &Scarce) -> Result<(Vec<Outcome>, String), Fail> {
-    let mut world = two_replicas(alloc, scarce)?;
-    refused_and_run(alloc, scarce, &mut world)
+fn increments(rt: &impl Abort, alloc: Global, scarce: &Scarce) -> (Vec<Outcome>, String) {
+    let mut world = two_replicas(rt, scarce);
+    refused_and_run(rt, alloc, scarce, &mut world)
 }
 
 #[test]
-fn of_two_increments_the_second_is_begun_anew(rt: HostRuntime) -> Result<(), Fail> {
+fn of_two_increments_the_second_is_begun_anew(rt: HostRuntime) {
     let scarce = Scarce::new(rt.alloc());
-    let (told, replica) = increments(rt.alloc(), &scarce)?;
-    assert_eq!(rt; told.as_slice(), TOLD.as_slice());
-    assert_eq!(rt; replica.as_str(), "3 running 1:5=1100000000000000");
-    Ok(())
+    let (told, replica) = increments(&rt, rt.alloc(), &scarce);
+    same(&rt, "told", told.as_slice(), TOLD.as_slice());
+    same(
+        &rt,
+        "replica",
+        replica.as_str(),
+        "3 running 1:5=1100000000000000",
+    );
 }

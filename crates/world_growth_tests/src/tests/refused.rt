@@ -1,15 +1,15 @@
 //! Memory that is refused to a world.
 
-use super::{
-    ADD_SEVEN, ADD_TEN, Script, catalogue_of, described, run_script, steps_of, two_replicas,
-};
+use super::{ADD_SEVEN, ADD_TEN, Script, described, run_script, same, steps_of, two_replicas};
 use abs_cause::Cause;
 use dsm_model::{Outcome, ProgramFault, StepRefusal};
 use dsm_world::{Step, World};
 use log_model::Verdict;
+use sample_entries::catalogue_of;
+use sample_procedures::{PROCEDURES, TABLES};
 use scarce::Scarce;
 use std::alloc::Global;
-use std::test::Fail;
+use std::process::Abort;
 
 /// More growths than any call of these tests makes.
 const MOST: u64 = 200;
@@ -111,64 +111,68 @@ fn deliver_refused(scarce: &Scarce, world: &mut World<&Scarce>) -> Outcome {
 
 /// Lets replica 2 stop and be made anew: what it is while it is stopped, and at the end. What is answered is added.
 fn stop_and_rebuild(
+    rt: &impl Abort,
     alloc: Global,
     scarce: &Scarce,
     world: &mut World<&Scarce>,
     told: &mut Vec<Outcome>,
-) -> Result<(String, String), Fail> {
-    run_script(alloc, world, &BEFORE, told)?;
-    told.push(deliver_refused(scarce, world))?;
-    let stopped = described(alloc, world, 2)?;
-    run_script(alloc, world, &AFTER, told)?;
-    Ok((stopped, described(alloc, world, 2)?))
+) -> (String, String) {
+    run_script(rt, alloc, world, &BEFORE, told);
+    told.push(deliver_refused(scarce, world))
+        .expect(rt, "memory");
+    let stopped = described(rt, alloc, world, 2);
+    run_script(rt, alloc, world, &AFTER, told);
+    (stopped, described(rt, alloc, world, 2))
 }
 
 /// The same in a world of its own.
 fn stopped_and_rebuilt(
+    rt: &impl Abort,
     alloc: Global,
     scarce: &Scarce,
     told: &mut Vec<Outcome>,
-) -> Result<(String, String), Fail> {
-    let mut world = two_replicas(alloc, scarce)?;
-    stop_and_rebuild(alloc, scarce, &mut world, told)
+) -> (String, String) {
+    let mut world = two_replicas(rt, scarce);
+    stop_and_rebuild(rt, alloc, scarce, &mut world, told)
 }
 
 #[test]
-fn a_stopped_replica_is_made_anew(rt: HostRuntime) -> Result<(), Fail> {
+fn a_stopped_replica_is_made_anew(rt: HostRuntime) {
     let scarce = Scarce::new(rt.alloc());
     let mut told = Vec::new(rt.alloc());
-    let (stopped, anew) = stopped_and_rebuilt(rt.alloc(), &scarce, &mut told)?;
-    assert_eq!(rt; told.as_slice(), TOLD.as_slice());
-    assert_eq!(rt; stopped.as_str(), "1 stopped 1:5=0a00000000000000");
-    assert_eq!(rt;
-        anew.as_str(),
-        "3 running 1:5=1100000000000000 1:6=0100000000000000"
+    let (stopped, anew) = stopped_and_rebuilt(&rt, rt.alloc(), &scarce, &mut told);
+    same(&rt, "told", told.as_slice(), TOLD.as_slice());
+    same(
+        &rt,
+        "stopped",
+        stopped.as_str(),
+        "1 stopped 1:5=0a00000000000000",
     );
-    Ok(())
+    let rows = "3 running 1:5=1100000000000000 1:6=0100000000000000";
+    same(&rt, "anew", anew.as_str(), rows);
 }
 
 /// Whether a world is made where the growth of this number is refused.
-fn is_made(alloc: Global, scarce: &Scarce, growth: u64) -> Result<bool, Fail> {
-    let catalogue = catalogue_of(scarce, alloc)?;
+fn is_made(rt: &impl Abort, alloc: Global, scarce: &Scarce, growth: u64) -> bool {
+    let catalogue = catalogue_of(scarce, &TABLES, &PROCEDURES).expect(rt, "memory");
     scarce.refuse_nth(growth);
     let made = World::new(scarce, 2, 4, catalogue).is_ok();
     scarce.refuse_nth(0);
-    Ok(made)
+    made
 }
 
 #[test]
-fn each_refused_growth_is_want_of_memory(rt: HostRuntime) -> Result<(), Fail> {
+fn each_refused_growth_is_want_of_memory(rt: HostRuntime) {
     let alloc = rt.alloc();
     let scarce = Scarce::new(alloc);
     let mut refused = 0;
     for growth in 1..MOST {
-        if is_made(alloc, &scarce, growth)? {
+        if is_made(&rt, alloc, &scarce, growth) {
             break;
         }
         refused = growth;
     }
     assert!(rt; refused > 4 && refused < 100, "{refused}");
-    Ok(())
 }
 
 /// A step that takes memory, in a world in which these were taken before: what it answers, and what it does where a growth is
@@ -345,33 +349,38 @@ static CASES: [Case; 10] = [
 ];
 
 /// What the step of a case answers where the growth of this number is refused, and what is answered then.
-fn answers(alloc: Global, case: &Case, growth: u64) -> Result<(Outcome, Outcome), Fail> {
+fn answers(rt: &impl Abort, alloc: Global, case: &Case, growth: u64) -> (Outcome, Outcome) {
     let scarce = Scarce::new(alloc);
-    let mut world = two_replicas(alloc, &scarce)?;
-    for step in &steps_of(alloc, case.before)? {
+    let mut world = two_replicas(rt, &scarce);
+    for step in &steps_of(rt, alloc, case.before) {
         let _ = world.step(*step);
     }
     scarce.refuse_nth(growth);
     let answer = world.step(case.step);
     scarce.refuse_nth(0);
-    Ok((answer, world.step(case.next)))
+    (answer, world.step(case.next))
 }
 
 #[test]
-fn each_step_may_find_no_memory(rt: HostRuntime) -> Result<(), Fail> {
+fn each_step_may_find_no_memory(rt: HostRuntime) {
     for (at, case) in CASES.iter().enumerate() {
         let mut refused = 0;
         for growth in 1..MOST {
-            let (answer, left) = answers(rt.alloc(), case, growth)?;
+            let (answer, left) = answers(&rt, rt.alloc(), case, growth);
             if answer == case.answer {
                 break;
             }
-            assert_eq!(rt; (answer, left), (case.refused, case.left), "{at} {growth}");
+            let found = (at, growth, answer, left);
+            same(
+                &rt,
+                "case, growth",
+                found,
+                (at, growth, case.refused, case.left),
+            );
             refused = growth;
         }
         assert!(rt; refused > 0 && refused < MOST - 1, "{at} {refused}");
     }
-    Ok(())
 }
 
 /// Beginnings of calls of which more than one refusal holds: replica, procedure, arguments, session and sequence number, and
@@ -385,9 +394,9 @@ static BEGINNINGS: [(u32, u16, &[u8], u32, u32, StepRefusal); 5] = [
 ];
 
 #[test]
-fn the_lowest_refusal_is_given(rt: HostRuntime) -> Result<(), Fail> {
+fn the_lowest_refusal_is_given(rt: HostRuntime) {
     let scarce = Scarce::new(rt.alloc());
-    let mut world = two_replicas(rt.alloc(), &scarce)?;
+    let mut world = two_replicas(&rt, &scarce);
     for (replica, procedure, args, session, sequence, refusal) in &BEGINNINGS {
         let told = world.step(Step::BeginNumbered {
             replica: *replica,
@@ -396,7 +405,7 @@ fn the_lowest_refusal_is_given(rt: HostRuntime) -> Result<(), Fail> {
             session: *session,
             sequence: *sequence,
         });
-        assert_eq!(rt; told, Outcome::Refused(*refusal));
+        same(&rt, "beginning", told, Outcome::Refused(*refusal));
     }
     // Neither its program nor its name would do.
     let long = world.step(Step::Add {
@@ -405,6 +414,10 @@ fn the_lowest_refusal_is_given(rt: HostRuntime) -> Result<(), Fail> {
         args_len: 257,
         bytes: &NOTHING,
     });
-    assert_eq!(rt; long, Outcome::Refused(StepRefusal::ArgumentsLimit));
-    Ok(())
+    same(
+        &rt,
+        "addition",
+        long,
+        Outcome::Refused(StepRefusal::ArgumentsLimit),
+    );
 }
