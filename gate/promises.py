@@ -27,11 +27,15 @@ def shown(crate):
 
 def clauses_of(lines, at):
     """Returns the names of a function's clauses, from the line that it begins with."""
-    found = []
+    found, left_open = [], 0
     for line in lines[at + 1 :]:
+        starts = re.match(r" *(ensures|requires|ghost)\b", line)
         if clause := CLAUSE.match(line):
             found.append(clause["name"] or "")
-        elif re.match(r" *(\{\}?|\) *(->.*)?\{|.*;)$", line) and not line.strip().startswith("ensures"):
+        if starts or left_open:
+            # a clause of several lines may have records, whose fields end like a function without a body
+            left_open += line.count("{") - line.count("}")
+        elif re.match(r" *(\{\}?|\) *(->.*)?\{|.*;)$", line):
             break
     return found
 

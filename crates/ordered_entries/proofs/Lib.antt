@@ -1,1 +1,1 @@
-mod EntryLemmas
+pub mod EntryLemmas

@@ -1,0 +1,41 @@
+use Rattle.std.proofs.Common.{◌≡◌, ◌++◌, ◌∷◌, [], List, ◌∙◌, ap, subst}
+use Rattle.log_entry.specs.declared.entry.Entry.{Entry as LogEntry}
+use Rattle.log_entry.specs.Kind.{entry_of}
+use Rattle.order_log.specs.Facts.{HasFactAfter}
+use Rattle.replica.specs.Replica.{entries_of, writes_in}
+use Rattle.ordered_entries.specs.Ordered.{IsOrdered}
+use Rattle.locked_replica.specs.Locked.{LockedState}
+use Rattle.locked_replica.proofs.LockedLemmas.{keeps_more, verdict_more}
+use Rattle.locked_replica.proofs.locked.LockedReplica.deliver.Goals as goal
+
+pub deliver-requires-clause-fit : goal.deliver-requires-clause-fit
+deliver-requires-clause-fit g c =
+    let w = g.J.LogSetting.setting in
+    let me = c.self.inside in
+    let e = c.in-Some.entry.now in
+    let fact : HasFactAfter (IsOrdered w) me.seen e = subst (λ (xs : List (LogEntry g.row.P.Denot)). HasFactAfter (IsOrdered w) xs e) c.again-seen.ensures c.in-Some.ensures.fact in
+    c.tables_take_the_schemas_writes.ensures.fit w.tables me.replica.versions (writes_in (entry_of e)) c.self.invariant.tables (c.entries_with_facts_are_a_logs.ensures.writes w me.seen e fact)
+
+pub invariant_of-self : goal.invariant_of-self
+invariant_of-self g c =
+    let w = g.J.LogSetting.setting in
+    let me = c.self.inside in
+    let e = c.in-Some.entry.now in
+    let fact : HasFactAfter (IsOrdered w) me.seen e = subst (λ (xs : List (LogEntry g.row.P.Denot)). HasFactAfter (IsOrdered w) xs e) c.again-seen.ensures c.in-Some.ensures.fact in
+    let now : c.get.new.seen ≡ me.seen ++ e ∷ [] = c.in-Some.ensures.entry ∙ ap (λ (xs : List (LogEntry g.row.P.Denot)). xs ++ e ∷ []) c.again-seen.ensures in
+    keeps_more c.entries_with_facts_are_a_logs.ensures.of_log w me.replica c.deliver.new.self me.seen c.get.new.seen e c.self.invariant now fact
+    (c.in-Ok.ensures.stands w.catalogue (entries_of me.seen) c.self.invariant.stands) c.deliver.ensures.window
+    (c.tables_take_the_schemas_writes.ensures.kept w.tables me.replica.versions.tables c.deliver.new.self.versions.tables c.deliver.ensures.widths c.deliver.ensures.tables c.self.invariant.tables)
+    (c.in-Ok.ensures.for_tables w.tables c.self.invariant.procedures (c.entries_with_facts_are_a_logs.ensures.for_tables w me.seen e fact))
+
+pub returns-in-Ok : goal.returns-in-Ok
+returns-in-Ok g c =
+    let w = g.J.LogSetting.setting in
+    let me = c.self.inside in
+    let e = c.in-Some.entry.now in
+    let fact : HasFactAfter (IsOrdered w) me.seen e = subst (λ (xs : List (LogEntry g.row.P.Denot)). HasFactAfter (IsOrdered w) xs e) c.again-seen.ensures c.in-Some.ensures.fact in
+    let now : c.get.new.seen ≡ me.seen ++ e ∷ [] = c.in-Some.ensures.entry ∙ ap (λ (xs : List (LogEntry g.row.P.Denot)). xs ++ e ∷ []) c.again-seen.ensures in (
+      (e, now ∙ ap (λ (l : LockedState g.row.P.Denot). l.entries ++ e ∷ []) c.self.view_is),
+      c.in-Ok.ensures.stopped,
+      verdict_more c.entries_with_facts_are_a_logs.ensures.of_log w me.replica c.deliver.new.self me.seen c.get.new.seen e c.in-Ok.verdict c.self.invariant now fact c.in-Ok.ensures.log_verdict c.in-Ok.ensures.next,
+    )

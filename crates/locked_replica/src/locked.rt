@@ -1,0 +1,152 @@
+//! A replica beside what was delivered to it.
+
+ghost use Rattle.std.specs.Prelude.{◌≡◌, ◌-◌, ◌<◌, ◌≤◌, ℕ, [], length, nat_lt, false, IfOk, Some, slice_get, ◌+◌};
+ghost use Rattle.rows_mv.specs.Versions.{AnswersFrom};
+ghost use Rattle.log_model.specs.Log.{procedures_after, rows_after, verdict_of};
+ghost use Rattle.log_model.specs.Entries.{items_of};
+ghost use Rattle.stored_procedures.specs.Held.{stored_procedures};
+ghost use Rattle.replica.specs.Replica.{AreEntriesOf, entries_of};
+ghost use Rattle.replica.specs.declared.certification.Certification.{Certification};
+ghost use Rattle.locked_replica.specs.Locked.{Delivers, Finds};
+
+use crate::answers::{Delivery, Found};
+use crate::laws::beginnings_say_the_same;
+use catalogue::{Catalogue, catalogues_are_safe, each_catalogue_is_consistent};
+use log_model::entries_suffice;
+use order_log::{OrderLog, Seen};
+use ordered_entries::{LogSetting, OrderedEntries, entries_with_facts_are_a_logs};
+use replica::{At, Replica, replicas_follow_the_log, tables_take_the_schemas_writes};
+use std::alloc::{AllocError, Allocator, Global};
+use std::marker::Model;
+use txn_view::Store;
+
+/// A replica beside what was delivered to it. Contracts see both.
+#[derive(Drop)]
+pub struct LockedReplica<J: LogSetting, A: Allocator + Copy = Global, P: Allocator + Copy = A> {
+    replica: Replica<A, P>,
+    seen: Seen<J, P>,
+}
+
+impl<J: LogSetting, A: Allocator + Copy, P: Allocator + Copy> Model for LockedReplica<J, A, P> {
+    ghost use Rattle.locked_replica.specs.Locked.{LockedState, locked_code, Keeps};
+
+    ghost Value = { LockedState P };
+
+    ghost coded = { locked_code };
+
+    ghost view = { λ l. record { replica = l.replica; entries = l.seen } };
+
+    ghost invariant = { λ l. Keeps J.setting (record { replica = l.replica; entries = l.seen }) };
+}
+
+impl<J: LogSetting, A: Allocator + Copy, P: Allocator + Copy> LockedReplica<J, A, P> {
+    /// A replica to which nothing was delivered.
+    pub fn new(
+        alloc: A,
+        window: u32,
+        catalogue: &Catalogue<P>,
+    ) -> Result<LockedReplica<J, A, P>, AllocError>
+        requires { J.setting ≡ record {
+          tables = catalogue.now.tables;
+          catalogue = catalogue.now.procedures;
+          window = window;
+        } }
+        ensures entries { IfOk result (λ l. l.entries ≡ []) }
+        ensures running { IfOk result (λ l. l.replica.stopped ≡ false) }
+    {
+        catalogues_are_safe(catalogue);
+        each_catalogue_is_consistent(catalogue);
+        Ok(LockedReplica {
+            replica: Replica::new(alloc, window, catalogue)?,
+            seen: Seen::new(),
+        })
+    }
+
+    /// How many entries were delivered.
+    pub fn position(&self) -> u32
+        ensures { result ≡ length self.now.entries }
+    {
+        self.seen.len()
+    }
+
+    /// Whether it delivers no more.
+    pub fn stopped(&self) -> bool
+        ensures { result ≡ self.now.replica.stopped }
+    {
+        self.replica.stopped()
+    }
+
+    /// What was delivered.
+    pub fn seen(&self) -> Seen<J, P>
+        ensures { result ≡ self.now.entries }
+    {
+        self.seen.again()
+    }
+
+    /// Delivers the next entry that the log shows.
+    pub fn deliver(&mut self, log: &OrderLog<J, OrderedEntries<J>, P>) -> Delivery
+        ensures { Delivers J.setting self.old result self.new }
+    {
+        entries_with_facts_are_a_logs::<P>();
+        tables_take_the_schemas_writes();
+        let mut seen = self.seen.again();
+        let Some(entry) = log.get(&mut seen) else {
+            return Delivery::Nothing;
+        };
+        match self.replica.deliver(entry) {
+            Ok(verdict) => {
+                self.seen = seen;
+                Delivery::Delivered(verdict)
+            }
+            Err(_) => Delivery::Stopped,
+        }
+    }
+
+    /// The rows after what a call has seen, whatever was delivered since. They are gone where that is more than the window.
+    pub fn at<'a>(&'a self, seen: &Seen<J, P>) -> At<'a, A>
+        requires { length seen.now ≤ length self.now.entries }
+        ensures answers { ⟦<At<'a, A> as Store>⟧.answers_from result
+            (rows_after J.setting (items_of (entries_of seen.now)) (length seen.now)) }
+        ensures gone { ⟦<At<'a, A> as Store>⟧.is_gone result
+            ≡ nat_lt J.setting.window (length self.now.entries - length seen.now) }
+    {
+        beginnings_say_the_same::<P>();
+        entries_suffice();
+        seen.agrees(&self.seen);
+        self.replica.at(seen.len())
+    }
+
+    /// What became of the last entry that was seen.
+    pub fn find(&self, seen: &Seen<J, P>) -> Found
+        requires { 1 ≤ length seen.now }
+        ensures { Finds J.setting self.now seen.now result }
+    {
+        beginnings_say_the_same::<P>();
+        if seen.len() <= self.seen.len() {
+            seen.agrees(&self.seen);
+            return Found::Verdict(self.replica.verdict_at(seen.len()).verdict);
+        }
+        if self.replica.stopped() {
+            Found::Stopped
+        } else {
+            Found::NotYet
+        }
+    }
+
+    /// What holds whenever the lock is free: the entries are of the log, the replica's verdicts and procedures are the log's,
+    /// and so are its rows at each position within the window.
+    pub fn keeps_what_was_delivered(&self)
+        ensures position { self.now.replica.position ≡ length self.now.entries }
+        ensures entries { AreEntriesOf J.setting (entries_of self.now.entries) }
+        ensures verdicts { (before : ℕ) (c : Certification) → slice_get self.now.replica.certifications before ≡ Some c
+            → verdict_of J.setting (items_of (entries_of self.now.entries)) (before + 1) ≡ Some c.verdict }
+        ensures rows { (s : ℕ) → s ≤ length self.now.entries → length self.now.entries - s ≤ J.setting.window
+            → AnswersFrom self.now.replica.versions.tables s (rows_after J.setting (items_of (entries_of self.now.entries)) s) }
+        ensures procedures { stored_procedures self.now.replica.procedures
+            ≡ procedures_after J.setting (items_of (entries_of self.now.entries)) (length self.now.entries) }
+    {
+        replicas_follow_the_log();
+        // A part is looked at, so that it is known how both fit together.
+        let _ = &self.replica;
+    }
+}
