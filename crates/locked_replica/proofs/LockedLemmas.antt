@@ -13,6 +13,7 @@ use Rattle.log_entry.specs.declared.entry.Entry.{Entry as LogEntry}
 use Rattle.log_entry.specs.Kind.{entry_of}
 use Rattle.order_log.specs.Facts.{HasFactAfter}
 use Rattle.replica.specs.Replica.{Replica, StandsFor, AreEntriesOf, entries_of, rows_kept}
+use Rattle.replica.proofs.EntryLemmas.{entries_first}
 use Rattle.ordered_entries.specs.Ordered.{IsOrdered}
 use Rattle.ordered_entries.proofs.EntryLemmas.{entries_append, entries_count}
 use Rattle.locked_replica.specs.Locked.{LockedState, Keeps}
@@ -71,6 +72,12 @@ module _ {A : Type 0} where
       ap (λ (xs : List (LogEntry A)). verdict_of w (items_of (entries_of xs)) (length xs)) is ∙ ap (verdict_of w (items_of (entries_of (entries ++ e ∷ [])))) count
       ∙ ap (λ (xs : List Entry). verdict_of w (items_of xs) new.position) one
       ∙ verdict w (entries_of entries) (sym keeps.window) keeps.stands (subst (AreEntriesOf w) one (of_log w entries e keeps.schema keeps.entries fact))
+
+  -- a beginning of what was delivered
+  pub of_log_first : (w : Setting) (r : Replica) (entries seen : List (LogEntry A)) → Keeps w (with_entries r entries) → IsPrefix seen entries → AreEntriesOf w (entries_of seen)
+  of_log_first w r entries seen keeps begins =
+      entries_first w (entries_of seen) (entries_of begins.0)
+      (subst (λ (xs : List Entry). AreEntriesOf w xs) (ap (λ (xs : List (LogEntry A)). entries_of xs) (sym begins.1) ∙ entries_append seen begins.0) keeps.entries)
 
   -- what is known of an entry
   pub found : (same : VerdictsSame A) (w : Setting) (r : Replica) (entries seen : List (LogEntry A)) (n : ℕ) (v : Verdict) → Keeps w (with_entries r entries) → IsPrefix seen entries → n ≡ length seen → 1 ≤ length seen → HasLogVerdict r n v

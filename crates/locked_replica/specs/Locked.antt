@@ -23,7 +23,8 @@ abbrev pub locked_code : {A : Type 0} → Coded (LockedState A)
 locked_code {A} = code_by (Replica × List (LogEntry A)) (coded× replica_code (coded_list entry_code))
     (λ l. (l.replica, l.entries)) (λ c. record { replica = c.0; entries = c.1 }) (λ _. refl)
 
--- the entries are a log's, and what the replica keeps is of them
+-- the entries are a log's, what the replica keeps is of them, and its window, its tables, and the tables of its procedures are the
+-- setting's
 pub record Keeps {A : Type 0} (w : Setting) (l : LockedState A) : Type 0 where
   pub schema : AreTables w.tables
   pub entries : AreEntriesOf w (entries_of l.entries)
@@ -32,19 +33,20 @@ pub record Keeps {A : Type 0} (w : Setting) (l : LockedState A) : Type 0 where
   pub tables : HaveTables w.tables l.replica.versions.tables
   pub procedures : AreForTables w.tables l.replica.procedures
 
--- what came of a delivery: one more entry, with the verdict of the log; or there was none, and nothing has changed; or there
--- was no memory, now or before, and the replica has stopped where it was
+-- what came of a delivery: one more entry, with the verdict of the log; or the log showed none, and nothing has changed, the
+-- replica not having stopped; or it has stopped where it was, and if it had before nothing has changed
 abbrev pub Delivers : {A : Type 0} → Setting → LockedState A → Delivery → LockedState A → Type 0
 Delivers {A} w old (Delivered verdict) new =
-    ((e : LogEntry A) × (new.entries ≡ old.entries ++ e ∷ [])) × (new.replica.stopped ≡ false)
+    (old.replica.stopped ≡ false) × ((e : LogEntry A) × (new.entries ≡ old.entries ++ e ∷ [])) × (new.replica.stopped ≡ false)
     × (verdict_of w (items_of (entries_of new.entries)) (length new.entries) ≡ Some verdict)
-Delivers w old Nothing new = new ≡ old
-Delivers w old Stopped new = (new.entries ≡ old.entries) × (new.replica.stopped ≡ true)
+Delivers w old Nothing new = (new ≡ old) × (old.replica.stopped ≡ false)
+Delivers w old Stopped new = (new.entries ≡ old.entries) × (new.replica.stopped ≡ true) × (old.replica.stopped ≡ true → new ≡ old)
 
--- what is known of the last of some entries at a replica: its verdict, or the replica has stopped before it, or hasn't come so
--- far yet
+-- what is known of the last of some entries at a replica: its verdict, the entries being a log's, or the replica has stopped
+-- before it, or hasn't come so far yet
 abbrev pub Finds : {A : Type 0} → Setting → LockedState A → List (LogEntry A) → Found → Type 0
 Finds w l seen (found.Verdict verdict) =
-    (length seen ≤ length l.entries) × (verdict_of w (items_of (entries_of seen)) (length seen) ≡ Some verdict)
+    (length seen ≤ length l.entries) × AreEntriesOf w (entries_of seen)
+    × (verdict_of w (items_of (entries_of seen)) (length seen) ≡ Some verdict)
 Finds w l seen found.Stopped = (length l.entries < length seen) × (l.replica.stopped ≡ true)
 Finds w l seen found.NotYet = (length l.entries < length seen) × (l.replica.stopped ≡ false)

@@ -2,7 +2,7 @@
 
 ghost use Rattle.std.specs.Prelude.{◌≡◌, ◌≤◌, List, length};
 ghost use mathlib.Core.List.{IsPrefix};
-ghost use Rattle.log_model.specs.Log.{Setting, procedures_after, rows_after, verdict_of};
+ghost use Rattle.log_model.specs.Log.{Setting, rows_after, verdict_of};
 ghost use Rattle.log_model.specs.Entries.{items_of};
 ghost use Rattle.log_entry.specs.declared.entry.Entry.{Entry as LogEntry};
 ghost use Rattle.replica.specs.Replica.{entries_of};
@@ -10,7 +10,7 @@ ghost use Rattle.replica.specs.Replica.{entries_of};
 use log_model::a_log_only_grows;
 use std::alloc::Allocator;
 
-/// What was seen of a log says of its own positions what every longer list of its entries says.
+/// What was seen of a log says of its last position what every longer list of its entries says.
 pub(crate) fn beginnings_say_the_same<A: Allocator>()
     ensures rows { (w : Setting) (seen entries : List (LogEntry A)) → IsPrefix seen entries
         → rows_after w (items_of (entries_of entries)) (length seen) ≡ rows_after w (items_of (entries_of seen)) (length seen) }

@@ -1,10 +1,10 @@
 //! A replica beside what was delivered to it.
 
-ghost use Rattle.std.specs.Prelude.{◌≡◌, ◌-◌, ◌<◌, ◌≤◌, ℕ, [], length, nat_lt, false, IfOk, Some, slice_get, ◌+◌};
+ghost use Rattle.std.specs.Prelude.{◌≡◌, ◌-◌, ◌<◌, ◌≤◌, ℕ, [], length, nat_lt, false, IfOk, IsFalse, IsTrue, Some, slice_get, ◌+◌};
 ghost use Rattle.rows_mv.specs.Versions.{AnswersFrom};
 ghost use Rattle.log_model.specs.Log.{procedures_after, rows_after, verdict_of};
 ghost use Rattle.log_model.specs.Entries.{items_of};
-ghost use Rattle.stored_procedures.specs.Held.{stored_procedures};
+ghost use Rattle.stored_procedures.specs.Held.{AreForTables, stored_procedures};
 ghost use Rattle.replica.specs.Replica.{AreEntriesOf, entries_of};
 ghost use Rattle.replica.specs.declared.certification.Certification.{Certification};
 ghost use Rattle.locked_replica.specs.Locked.{Delivers, Finds};
@@ -18,9 +18,12 @@ use ordered_entries::{LogSetting, OrderedEntries, entries_with_facts_are_a_logs}
 use replica::{At, Replica, replicas_follow_the_log, tables_take_the_schemas_writes};
 use std::alloc::{AllocError, Allocator, Global};
 use std::marker::Model;
+use std::mem;
+use stored_procedures::StoredProcedures;
 use txn_view::Store;
 
-/// A replica beside what was delivered to it. Contracts see both.
+/// A replica beside what was delivered to it. Contracts see both. Each value of the type stands for what was delivered, so
+/// that it does wherever a lock that guards it is free.
 #[derive(Drop)]
 pub struct LockedReplica<J: LogSetting, A: Allocator + Copy = Global, P: Allocator + Copy = A> {
     replica: Replica<A, P>,
@@ -64,7 +67,8 @@ impl<J: LogSetting, A: Allocator + Copy, P: Allocator + Copy> LockedReplica<J, A
 
     /// How many entries were delivered.
     pub fn position(&self) -> u32
-        ensures { result ≡ length self.now.entries }
+        ensures position { result ≡ length self.now.entries }
+        ensures few { length self.now.entries ≤ 1048576 }
     {
         self.seen.len()
     }
@@ -83,10 +87,24 @@ impl<J: LogSetting, A: Allocator + Copy, P: Allocator + Copy> LockedReplica<J, A
         self.seen.again()
     }
 
-    /// Delivers the next entry that the log shows.
+    /// Its procedures, after what was delivered.
+    pub fn procedures(&self) -> &StoredProcedures<A, P>
+        ensures procedures { result.now ≡ self.now.replica.procedures }
+        ensures log { stored_procedures result.now
+            ≡ procedures_after J.setting (items_of (entries_of self.now.entries)) (length self.now.entries) }
+        ensures for_tables { AreForTables J.setting.tables result.now }
+    {
+        replicas_follow_the_log();
+        self.replica.procedures()
+    }
+
+    /// Delivers the next entry that the log shows, unless the replica has stopped.
     pub fn deliver(&mut self, log: &OrderLog<J, OrderedEntries<J>, P>) -> Delivery
         ensures { Delivers J.setting self.old result self.new }
     {
+        if self.replica.stopped() {
+            return Delivery::Stopped;
+        }
         entries_with_facts_are_a_logs::<P>();
         tables_take_the_schemas_writes();
         let mut seen = self.seen.again();
@@ -133,11 +151,27 @@ impl<J: LogSetting, A: Allocator + Copy, P: Allocator + Copy> LockedReplica<J, A
         }
     }
 
-    /// What holds whenever the lock is free: the entries are of the log, the replica's verdicts and procedures are the log's,
-    /// and so are its rows at each position within the window.
+    /// Exchanges it with one that was made anew, unless that has come less far.
+    pub fn exchange(&mut self, fresh: &mut LockedReplica<J, A, P>) -> bool
+        ensures exchanged { IsTrue result → (self.new ≡ fresh.old) × (fresh.new ≡ self.old)
+            × (length self.old.entries ≤ length fresh.old.entries) }
+        ensures kept { IsFalse result → (self.new ≡ self.old) × (fresh.new ≡ fresh.old)
+            × (length fresh.old.entries < length self.old.entries) }
+    {
+        if fresh.position() < self.position() {
+            return false;
+        }
+        mem::swap(self, fresh);
+        true
+    }
+
+    /// The entries are of a log of this setting, the replica's verdicts and procedures are that log's, and so are its rows at
+    /// each position within the window.
     pub fn keeps_what_was_delivered(&self)
         ensures position { self.now.replica.position ≡ length self.now.entries }
         ensures entries { AreEntriesOf J.setting (entries_of self.now.entries) }
+        ensures count { length self.now.replica.certifications ≡ length self.now.entries }
+        ensures window { self.now.replica.window ≡ J.setting.window }
         ensures verdicts { (before : ℕ) (c : Certification) → slice_get self.now.replica.certifications before ≡ Some c
             → verdict_of J.setting (items_of (entries_of self.now.entries)) (before + 1) ≡ Some c.verdict }
         ensures rows { (s : ℕ) → s ≤ length self.now.entries → length self.now.entries - s ≤ J.setting.window

@@ -1,4 +1,4 @@
-use Rattle.std.proofs.Common.{◌≡◌, ◌++◌, ◌∷◌, [], List, ◌∙◌, ap, subst}
+use Rattle.std.proofs.Common.{◌≡◌, ◌++◌, ◌∷◌, [], List, ◌∙◌, sym, ap, subst}
 use Rattle.log_entry.specs.declared.entry.Entry.{Entry as LogEntry}
 use Rattle.log_entry.specs.Kind.{entry_of}
 use Rattle.order_log.specs.Facts.{HasFactAfter}
@@ -35,6 +35,7 @@ returns-in-Ok g c =
     let e = c.in-Some.entry.now in
     let fact : HasFactAfter (IsOrdered w) me.seen e = subst (λ (xs : List (LogEntry g.row.P.Denot)). HasFactAfter (IsOrdered w) xs e) c.again-seen.ensures c.in-Some.ensures.fact in
     let now : c.get.new.seen ≡ me.seen ++ e ∷ [] = c.in-Some.ensures.entry ∙ ap (λ (xs : List (LogEntry g.row.P.Denot)). xs ++ e ∷ []) c.again-seen.ensures in (
+      ap (λ (l : LockedState g.row.P.Denot). l.replica.stopped) (sym c.self.view_is) ∙ sym c.stopped.ensures ∙ c.if-stopped.false,
       (e, now ∙ ap (λ (l : LockedState g.row.P.Denot). l.entries ++ e ∷ []) c.self.view_is),
       c.in-Ok.ensures.stopped,
       verdict_more c.entries_with_facts_are_a_logs.ensures.of_log w me.replica c.deliver.new.self me.seen c.get.new.seen e c.in-Ok.verdict c.self.invariant now fact c.in-Ok.ensures.log_verdict c.in-Ok.ensures.next,
