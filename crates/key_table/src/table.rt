@@ -30,6 +30,7 @@ impl<A: Allocator> Model for KeyTable<A> {
 }
 
 impl<A: Allocator> KeyTable<A> {
+    /// No keys, for rows of so many bytes. Takes no memory.
     pub fn new(alloc: A, width: usize) -> KeyTable<A>
         ensures slots { result.slots ≡ [] }
         ensures width { result.width ≡ width }

@@ -65,6 +65,7 @@ impl<A: Allocator> PlainCall<A> {
         self.procedure
     }
 
+    /// The bytes of its arguments.
     pub fn args(&self) -> &[u8]
         ensures { result.now ≡ self.now.args }
     {

@@ -48,12 +48,14 @@ impl<A: Allocator> PlainProcedure<A> {
         }
     }
 
+    /// The bytes of its name.
     pub fn name(&self) -> &[u8]
         ensures { result.now ≡ self.now.name }
     {
         &self.name
     }
 
+    /// Its number.
     pub fn number(&self) -> u16
         ensures { result ≡ self.now.number }
     {

@@ -101,6 +101,7 @@ fn place_result(width: Width, op: BinaryOperation, a: Value, b: u64) -> Option<V
     }
 }
 
+/// What an operation gives on the low 32 bits of two words, or on all 64.
 pub fn arithmetic(width: Width, op: Operation, a: u64, b: u64) -> u64
     ensures { result ≡ alu (width_bits width) op a b }
 {
@@ -110,6 +111,7 @@ pub fn arithmetic(width: Width, op: Operation, a: u64, b: u64) -> u64
     }
 }
 
+/// Whether a condition holds of the low 32 bits of two words, or of all 64.
 pub fn holds(width: Width, condition: Condition, a: u64, b: u64) -> bool
     ensures { result ≡ holds (width_bits width) condition a b }
 {

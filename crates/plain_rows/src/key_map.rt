@@ -31,6 +31,7 @@ impl<V, A: Allocator> Model for KeyMap<V, A> {
 }
 
 impl<V: Drop, A: Allocator + Clone> KeyMap<V, A> {
+    /// No keys. Takes no memory.
     pub fn new(alloc: A) -> KeyMap<V, A>
         ensures { result ≡ empty }
     {
@@ -39,6 +40,7 @@ impl<V: Drop, A: Allocator + Clone> KeyMap<V, A> {
         }
     }
 
+    /// Puts a value at a key, in place of one that is there.
     pub fn insert(&mut self, table: u8, key: u64, value: V) -> Result<(), AllocError>
         ensures { OnOk result (self.new ≡ insert self.old (table, key) value) }
     {
@@ -46,12 +48,14 @@ impl<V: Drop, A: Allocator + Clone> KeyMap<V, A> {
         Ok(())
     }
 
+    /// Takes a key out, where it is there.
     pub fn remove(&mut self, table: u8, key: u64)
         ensures { self.new ≡ remove self.old (table, key) }
     {
         self.map.remove(&(table, key));
     }
 
+    /// The value at a key.
     pub fn get(&self, table: u8, key: u64) -> Option<&V>
         ensures { option_map (λ v. v.now) result ≡ get self.now (table, key) }
     {
