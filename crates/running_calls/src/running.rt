@@ -3,10 +3,12 @@
 ghost use Rattle.std.specs.Prelude.{◌≡◌, ◌-◌, ◌≤◌, ℕ, length, nat_lt, true, false, IfOk};
 ghost use Rattle.bpf_vm.specs.declared.turn.Turn.TheVariants.{More, Exit};
 ghost use Rattle.log_model.specs.Fit.{IsCall};
+ghost use Rattle.replica.specs.Replica.{AreEntriesOf, entries_of};
 ghost use Rattle.world_calls.specs.OpenCall.{IsTurn, IsCompletion, stays_open};
 ghost use Rattle.running_calls.specs.Running.{node_call, log_seen, calls_row_helper_next};
 
 use crate::helpers::calls_row_helper;
+use acceptance::accepted_programs_never_go_wrong;
 use bpf_semantics::{a_step_leads_on, writes_and_cancels_look_at_nothing};
 use bpf_vm::Turn;
 use locked_replica::{BegunCall, LockedReplica};
@@ -78,6 +80,15 @@ impl<J: LogSetting, A: Allocator + Copy> RunningCall<J, A> {
         self.begun.seen()
     }
 
+    /// It is a call on the rows after what it has seen, and that are entries of a log.
+    pub fn is_of_the_log(&self)
+        requires { stays_open self.now.last ≡ true }
+        ensures entries { AreEntriesOf J.setting (entries_of self.now.entries) }
+        ensures is_call { IsCall J.setting (log_seen self.now.entries) self.now.progress.call }
+    {
+        self.begun.is_of_the_log();
+    }
+
     /// What its last turn answered, and before the first that there is more.
     pub fn last(&self) -> Turn
         ensures { result ≡ self.now.last }
@@ -129,6 +140,7 @@ impl<J: LogSetting, A: Allocator + Copy> RunningCall<J, A> {
         ensures entries { self.new.entries ≡ self.old.entries }
         ensures last { self.new.last ≡ result }
     {
+        accepted_programs_never_go_wrong();
         a_step_leads_on();
         writes_and_cancels_look_at_nothing();
         self.begun.is_of_the_log();
