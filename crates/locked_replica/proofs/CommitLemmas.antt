@@ -1,5 +1,5 @@
 -- How much of a log commits, counted position by position.
-use Rattle.std.proofs.Common.{◌≡◌, ℕ, zero, suc, ◌+◌, ◌≤◌, ◌<◌, Bool, true, false, List, [], ◌∷◌, length, take, get_or, slice_get, Option, Some, None, option_map, refl, sym, ap, ◌∙◌, arith}
+use Rattle.std.proofs.Common.{◌≡◌, ℕ, zero, suc, ◌+◌, ◌≤◌, ◌<◌, Bool, true, false, cond, List, [], ◌∷◌, length, take, get_or, slice_get, Option, Some, None, option_map, refl, sym, ap, ◌∙◌, arith}
 use Rattle.std.specs.Prelude.{count_by}
 use Rattle.std.proofs.lemmas.List.{take_all}
 use Rattle.std.proofs.lemmas.List.Sums.{count_by_more_yes, count_by_more_no}
@@ -25,9 +25,6 @@ beyond [] k e = omega arith
 beyond (c ∷ cs) zero e = absurd cc
 beyond (c ∷ cs) (suc k) e = let rest = beyond cs k e in omega arith
 
-some : CertifiedItem → CertifiedItem
-some c = c
-
 placed : (w : Setting) (log : Log) (k : ℕ) (v : Verdict) → verdict_of w log (k + 1) ≡ Some v → (k < length (history w log).certified) × ((d : CertifiedItem) → (get_or (history w log).certified k d).verdict ≡ v)
 placed w log k v e = let next : k + 1 ≡ suc k = omega arith in there (history w log).certified k v (ap (verdict_of w log) (sym next) ∙ e)
 
@@ -35,27 +32,19 @@ first_of : (cs : List CertifiedItem) → 0 < length cs → CertifiedItem
 first_of [] lt = absurd (omega arith)
 first_of (c ∷ cs) lt = c
 
--- one more that commits
-pub counted : (w : Setting) (log : Log) (k count : ℕ) (v : Verdict) → count ≡ commits_before w log k → verdict_of w log (k + 1) ≡ Some v → v ≡ Commit → count + 1 ≡ commits_before w log (k + 1)
-counted w log k count v is e commit =
+-- one more
+pub counted : (w : Setting) (log : Log) (k count one : ℕ) (v : Verdict) → count ≡ commits_before w log k → verdict_of w log (k + 1) ≡ Some v → one ≡ cond (is_commit v) 1 0 → count + one ≡ commits_before w log (k + 1)
+counted w log k count one v is e of_one =
     let at = placed w log k v e in
     let cs = (history w log).certified in
     let d = first_of cs (let lt = at.0 in omega arith) in
-    ap (λ n. n + 1) is ∙ sym (count_by_more_yes commits cs k d at.0 (ap is_commit (at.1 d ∙ commit)))
-
-not_commit : (v : Verdict) → (v ≡ Commit → ⊥) → is_commit v ≡ false
-not_commit Commit other = absurd (other refl)
-not_commit (Conflict position) other = refl
-not_commit Stale other = refl
-not_commit (Repeated position) other = refl
-not_commit (Taken what) other = refl
-
-pub not_counted : (w : Setting) (log : Log) (k count : ℕ) (v : Verdict) → count ≡ commits_before w log k → verdict_of w log (k + 1) ≡ Some v → (v ≡ Commit → ⊥) → count ≡ commits_before w log (k + 1)
-not_counted w log k count v is e other =
-    let at = placed w log k v e in
-    let cs = (history w log).certified in
-    let d = first_of cs (let lt = at.0 in omega arith) in
-    is ∙ sym (count_by_more_no commits cs k d at.0 (ap is_commit (at.1 d) ∙ not_commit v other))
+    by d (is_commit v) of_one (count_by_more_yes commits cs k d at.0) (count_by_more_no commits cs k d at.0) (ap is_commit (at.1 d))
+  where
+    by : (d : CertifiedItem) (b : Bool) → one ≡ cond b 1 0 → (commits (get_or (history w log).certified k d) ≡ true → commits_before w log (k + 1) ≡ commits_before w log k + 1)
+        → (commits (get_or (history w log).certified k d) ≡ false → commits_before w log (k + 1) ≡ commits_before w log k)
+        → commits (get_or (history w log).certified k d) ≡ b → count + one ≡ commits_before w log (k + 1)
+    by d true is_one yes no at = ap (λ n. count + n) is_one ∙ ap (λ n. n + 1) is ∙ sym (yes at)
+    by d false is_none yes no at = ap (λ n. count + n) is_none ∙ ap (λ n. n + 0) is ∙ sym (no at ∙ (let z : commits_before w log k ≡ commits_before w log k + 0 = omega arith in z))
 
 -- all of them
 pub all_counted : (w : Setting) (log : Log) (n count : ℕ) → count ≡ commits_before w log n → verdict_of w log (suc n) ≡ None → count ≡ commits_of w log

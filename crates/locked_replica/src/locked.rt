@@ -1,9 +1,9 @@
 //! A replica beside what was delivered to it.
 
-ghost use Rattle.std.specs.Prelude.{◌≡◌, ◌-◌, ◌<◌, ◌≤◌, ℕ, [], length, nat_lt, false, IfOk, IsFalse, IsTrue, Some, slice_get, ◌+◌};
+ghost use Rattle.std.specs.Prelude.{◌≡◌, ◌-◌, ◌<◌, ◌≤◌, ℕ, [], length, nat_lt, false, IfOk, IsFalse, IsTrue, Some, cond, slice_get, ◌+◌};
 ghost use Rattle.schema.specs.Schema.{AreTables};
 ghost use Rattle.rows_mv.specs.Versions.{AnswersFrom};
-ghost use Rattle.log_model.specs.Log.{procedures_after, rows_after, verdict_of};
+ghost use Rattle.log_model.specs.Log.{is_commit, procedures_after, rows_after, verdict_of};
 ghost use Rattle.log_model.specs.Entries.{items_of};
 ghost use Rattle.stored_procedures.specs.Held.{AreForTables, stored_procedures};
 ghost use Rattle.replica.specs.Replica.{AreEntriesOf, entries_of};
@@ -26,6 +26,17 @@ use std::marker::Model;
 use std::mem;
 use stored_procedures::StoredProcedures;
 use txn_view::Store;
+
+/// 1 for an entry that committed, and 0 for another.
+fn commits_of_one(verdict: Verdict) -> u32
+    ensures one { result ≡ cond (is_commit verdict) 1 0 }
+    ensures few { result ≤ 1 }
+{
+    match verdict {
+        Verdict::Commit => 1,
+        _ => 0,
+    }
+}
 
 /// A replica beside what was delivered to it. Contracts see both. Each value of the type stands for what was delivered, so
 /// that it does wherever a lock that guards it is free.
@@ -180,9 +191,7 @@ impl<J: LogSetting, A: Allocator + Copy, P: Allocator + Copy> LockedReplica<J, A
         each_call_has_a_verdict();
         let mut commits = 0;
         for before in 0..self.position() {
-            if self.verdict_at(before + 1) == Verdict::Commit {
-                commits += 1;
-            }
+            commits += commits_of_one(self.verdict_at(before + 1));
         }
         commits
     }

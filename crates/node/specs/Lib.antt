@@ -1,0 +1,4 @@
+pub mod Agreement
+pub mod Desk
+pub mod Kinds
+pub mod Requests
