@@ -3,15 +3,11 @@ ghost use Rattle.tallies.specs.Counted.{no_counts};
 ghost use Rattle.tallies.specs.Shared.{names_by_place};
 
 use crate::counts::Counts;
-use crate::ledgers::Ledgers;
+use crate::ledgers::{Ledgers, PARTS};
 use crate::shares::Shares;
 use crate::totals::Totals;
 use std::marker::Model;
 use std::sync::ledger::Blank;
-
-/// Into how many parts each ledger is cut: for 16 executing threads at each of 8 replicas, and one for answers that no
-/// executing thread gives.
-pub const PARTS: u64 = 129;
 
 /// Ledgers that no type stands for yet. Contracts see their names.
 #[derive(Drop)]
@@ -27,7 +23,7 @@ pub struct Blanks {
 
 impl Model for Blanks {
     ghost use Rattle.std.specs.Prelude.{◌≡◌};
-    ghost use Rattle.tallies.specs.declared.blanks.TheConstants.{PARTS};
+    ghost use Rattle.tallies.specs.declared.ledgers.TheConstants.{PARTS};
     ghost use Rattle.tallies.specs.Shared.{Names};
 
     ghost Value = { Names };
@@ -63,10 +59,9 @@ impl Blanks {
 
     /// The sums, all 0, and all parts of each ledger, with nothing counted in them.
     pub fn open<J: Ledgers>(self) -> (Totals<J>, Shares<J>)
-        requires names { J.names ≡ names_by_place self }
-        requires shares { J.shares ≡ PARTS }
+        requires { J.names ≡ names_by_place self }
         ensures sums { result.0 ≡ no_counts }
-        ensures parts { result.1.parts ≡ J.shares }
+        ensures parts { result.1.parts ≡ PARTS }
         ensures nothing { result.1.counted ≡ no_counts }
     {
         let (committed, committed_share) = self.committed.open();

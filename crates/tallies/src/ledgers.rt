@@ -3,21 +3,20 @@
 use std::marker::{Brand, PhantomData};
 use std::sync::ledger::Ledger;
 
+/// Into how many parts each ledger is cut: for 16 executing threads at each of 8 replicas, and one for answers that no
+/// executing thread gives.
+pub const PARTS: u64 = 129;
+
 /// The ledgers of a node. Each run of a program picks them.
 pub trait Ledgers {
     ghost use Rattle.std.specs.Prelude.{ℕ};
 
     /// The name of each, by its place.
     ghost names: { ℕ → ℕ };
-
-    /// Into how many parts each is cut.
-    ghost shares: { ℕ };
 }
 
 impl Ledgers for Brand {
     ghost names = { λ _. 0 };
-
-    ghost shares = { 0 };
 }
 
 /// What a ledger counts: answers of one kind.
@@ -77,7 +76,9 @@ pub struct LedgerOf<J, K> {
 }
 
 impl<J: Ledgers, K: Kind> Ledger for LedgerOf<J, K> {
+    ghost use Rattle.tallies.specs.declared.ledgers.TheConstants.{PARTS};
+
     ghost name = { J.names K.place };
 
-    ghost parts = { J.shares };
+    ghost parts = { PARTS };
 }

@@ -2,10 +2,10 @@
 //! into sums that a lock guards; ledgers say that the sums are what was counted in all shares together.
 #![tactic(auto)]
 
-pub use blanks::{Blanks, PARTS};
+pub use blanks::Blanks;
 pub use counts::Counts;
 pub use kinds::AnswerKind;
-pub use ledgers::Ledgers;
+pub use ledgers::{Ledgers, PARTS};
 pub use shares::Shares;
 pub use totals::Totals;
 

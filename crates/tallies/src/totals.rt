@@ -3,7 +3,7 @@ ghost use Rattle.tallies.specs.Counted.{AreBelow, sum_of};
 
 use crate::counts::Counts;
 use crate::ledgers::{
-    Cancelled, Committed, Conflict, LedgerOf, Ledgers, Other, Read, Repeated, Stale,
+    Cancelled, Committed, Conflict, LedgerOf, Ledgers, Other, PARTS, Read, Repeated, Stale,
 };
 use crate::shares::Shares;
 use std::marker::Model;
@@ -66,7 +66,7 @@ impl<J: Ledgers> Totals<J> {
 
     /// The sums, which are what was counted in all shares together.
     pub fn all(&mut self, shares: &mut Shares<J>) -> Counts
-        requires { shares.old.parts ≡ J.shares }
+        requires { shares.old.parts ≡ PARTS }
         ensures counted { result ≡ shares.old.counted }
         ensures sums { result ≡ self.old }
         ensures same { (self.new ≡ self.old) × (shares.new ≡ shares.old) }
