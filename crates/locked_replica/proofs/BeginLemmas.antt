@@ -1,5 +1,5 @@
 -- A call that begins: the procedure that it finds.
-use Rattle.std.proofs.Common.{◌≡◌, ◌≢◌, ◌≤◌, ℕ, List, length, Option, Some, None, option_map, refl, sym, ap, subst, ◌∙◌}
+use Rattle.std.proofs.Common.{◌≡◌, ◌≢◌, ℕ, List, length, Option, Some, None, option_map, refl, sym, ap, subst, ◌∙◌}
 use Rattle.schema.specs.Schema.{AreTables}
 use Rattle.bpf_verify.specs.Flow.{Procedure}
 use Rattle.stored_procedures.specs.Held.{ListedProcedure, AreForTables, listed_by_number, stored_procedures}

@@ -1,10 +1,9 @@
 -- How much of a log commits, counted position by position.
-use Rattle.std.proofs.Common.{◌≡◌, ℕ, zero, suc, ◌+◌, ◌≤◌, ◌<◌, Bool, true, false, cond, List, [], ◌∷◌, length, take, get_or, slice_get, Option, Some, None, option_map, refl, sym, ap, ◌∙◌, arith}
+use Rattle.std.proofs.Common.{◌≡◌, ℕ, zero, suc, ◌+◌, ◌≤◌, ◌<◌, Bool, true, false, cond, List, [], ◌∷◌, length, take, get_or, slice_get, Some, None, option_map, refl, sym, ap, ◌∙◌, arith}
 use Rattle.std.specs.Prelude.{count_by}
 use Rattle.std.proofs.lemmas.List.{take_all}
 use Rattle.std.proofs.lemmas.List.Sums.{count_by_more_yes, count_by_more_no}
 use Rattle.log_model.specs.declared.verdict.Verdict.{Verdict}
-use Rattle.log_model.specs.declared.verdict.Verdict.TheVariants.{Commit, Conflict, Stale, Repeated, Taken}
 use Rattle.log_model.specs.Log.{Setting, Log, CertifiedItem, is_commit, verdict_of, history}
 use Rattle.locked_replica.specs.Commits.{commits_of}
 
@@ -32,19 +31,19 @@ first_of : (cs : List CertifiedItem) → 0 < length cs → CertifiedItem
 first_of [] lt = absurd (omega arith)
 first_of (c ∷ cs) lt = c
 
+one_by : (b : Bool) (n m count one : ℕ) → count ≡ n → one ≡ cond b 1 0 → (b ≡ true → m ≡ n + 1) → (b ≡ false → m ≡ n) → count + one ≡ m
+one_by true n m count one is of_one up same = let y = up refl in omega arith
+one_by false n m count one is of_one up same = let y = same refl in omega arith
+
 -- one more
 pub counted : (w : Setting) (log : Log) (k count one : ℕ) (v : Verdict) → count ≡ commits_before w log k → verdict_of w log (k + 1) ≡ Some v → one ≡ cond (is_commit v) 1 0 → count + one ≡ commits_before w log (k + 1)
 counted w log k count one v is e of_one =
     let at = placed w log k v e in
     let cs = (history w log).certified in
     let d = first_of cs (let lt = at.0 in omega arith) in
-    by d (is_commit v) of_one (count_by_more_yes commits cs k d at.0) (count_by_more_no commits cs k d at.0) (ap is_commit (at.1 d))
-  where
-    by : (d : CertifiedItem) (b : Bool) → one ≡ cond b 1 0 → (commits (get_or (history w log).certified k d) ≡ true → commits_before w log (k + 1) ≡ commits_before w log k + 1)
-        → (commits (get_or (history w log).certified k d) ≡ false → commits_before w log (k + 1) ≡ commits_before w log k)
-        → commits (get_or (history w log).certified k d) ≡ b → count + one ≡ commits_before w log (k + 1)
-    by d true is_one yes no at = ap (λ n. count + n) is_one ∙ ap (λ n. n + 1) is ∙ sym (yes at)
-    by d false is_none yes no at = ap (λ n. count + n) is_none ∙ ap (λ n. n + 0) is ∙ sym (no at ∙ (let z : commits_before w log k ≡ commits_before w log k + 0 = omega arith in z))
+    let same : commits (get_or cs k d) ≡ is_commit v = ap is_commit (at.1 d) in
+    one_by (is_commit v) (commits_before w log k) (commits_before w log (k + 1)) count one is of_one
+    (λ b. count_by_more_yes commits cs k d at.0 (same ∙ b)) (λ b. count_by_more_no commits cs k d at.0 (same ∙ b))
 
 -- all of them
 pub all_counted : (w : Setting) (log : Log) (n count : ℕ) → count ≡ commits_before w log n → verdict_of w log (suc n) ≡ None → count ≡ commits_of w log

@@ -152,12 +152,7 @@ impl<J: LogSetting, A: Allocator + Copy, P: Allocator + Copy> LockedReplica<J, A
 
     /// How a call of a procedure begins here, which may not see less of the log than some least position. It sees what was
     /// delivered.
-    pub fn begin(
-        &self,
-        least: u32,
-        procedure: u16,
-        args: &[u8],
-    ) -> Result<Begin<J, P>, AllocError>
+    pub fn begin(&self, least: u32, procedure: u16, args: &[u8]) -> Result<Begin<J, P>, AllocError>
         ensures { IfOk result (λ begin. Begins J.setting self.now least procedure args.now begin) }
     {
         if self.position() < least {

@@ -41,19 +41,22 @@ where
     pub bells: &'a Bells<P>,
 }
 
-impl<'a, J: LogSetting, A: Allocator + Copy, P: Allocator + Copy, G: Gate>
-    Executor<'a, J, A, P, G>
-{
+impl<'a, J: LogSetting, A: Allocator + Copy, P: Allocator + Copy, G: Gate> Executor<
+    'a,
+    J,
+    A,
+    P,
+    G,
+> {
     /// The answer to a call, and what was seen of the log then. The call runs at the replica, is ordered where it wrote
     /// something and didn't cancel, and waits for its verdict.
     pub fn answer<R: Wait>(&self, rt: &R, asked: &Asked<P>) -> (Answer, Option<Seen<J, P>>)
         ensures { IsAnswer J.setting asked.now result.0 result.1 }
     {
-        let begin = self.replica.read(rt).begin(
-            asked.least,
-            asked.procedure,
-            asked.args.as_slice(),
-        );
+        let begin = self
+            .replica
+            .read(rt)
+            .begin(asked.least, asked.procedure, asked.args.as_slice());
         let Ok(begin) = begin else {
             return (Answer::NoMemory, None);
         };

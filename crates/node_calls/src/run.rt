@@ -125,13 +125,7 @@ fn advance<J: LogSetting, A: Allocator + Copy, P: Allocator + Copy, G: Gate, R: 
 }
 
 /// All instructions of a call to its end.
-fn advance_to_the_end<
-    J: LogSetting,
-    A: Allocator + Copy,
-    P: Allocator + Copy,
-    G: Gate,
-    R: Wait,
->(
+fn advance_to_the_end<J: LogSetting, A: Allocator + Copy, P: Allocator + Copy, G: Gate, R: Wait>(
     rt: &R,
     alloc: P,
     replica: &RwLock<LockedReplica<J, A, P>>,
@@ -156,13 +150,7 @@ fn advance_to_the_end<
 }
 
 /// Runs a call that has begun, on arguments that its procedure takes.
-pub(crate) fn run<
-    J: LogSetting,
-    A: Allocator + Copy,
-    P: Allocator + Copy,
-    G: Gate,
-    R: Wait,
->(
+pub(crate) fn run<J: LogSetting, A: Allocator + Copy, P: Allocator + Copy, G: Gate, R: Wait>(
     rt: &R,
     alloc: P,
     replica: &RwLock<LockedReplica<J, A, P>>,

@@ -114,11 +114,7 @@ impl<J: LogSetting, A: Allocator + Copy> RunningCall<J, A> {
     }
 
     /// The next instruction, on the rows after what the call has seen, at a replica to which no less was delivered.
-    pub fn turn<B: Allocator + Copy>(
-        &mut self,
-        alloc: A,
-        replica: &LockedReplica<J, B, A>,
-    ) -> Turn
+    pub fn turn<B: Allocator + Copy>(&mut self, alloc: A, replica: &LockedReplica<J, B, A>) -> Turn
         requires going { self.old.last ≡ More }
         requires reached { length self.old.entries ≤ length replica.now.entries }
         ensures turn { IsTurn J.setting (log_seen self.old.entries)
@@ -127,8 +123,7 @@ impl<J: LogSetting, A: Allocator + Copy> RunningCall<J, A> {
         ensures last { self.new.last ≡ result }
     {
         self.begun.is_of_the_log();
-        self.call
-            .turn(alloc, self.begun.accepted(), replica.at(self.begun.seen()))
+        self.call.turn(alloc, self.begun.accepted(), replica.at(self.begun.seen()))
     }
 
     /// The next instruction, without any rows, where it neither reads nor writes one: the call isn't over after it.

@@ -28,7 +28,7 @@ returns-then-args-from g c =
       c.seen-seen.ensures,
       of_log w entries c.seen-seen.result c.args.procedure c.procedures.result.now (λ a. arc_value a) c.in_ok-accepted.field-0 sees,
       other_length w entries c.seen-seen.result c.args.procedure c.procedures.result.now (λ a. arc_value a) c.in_ok-accepted.field-0 sees c.in-Some.accepted c.in-Some.is c.args.args.now
-      (λ e. c.if-args-from.true (e ∙ sym (ap (λ (q : Procedure). q.args_len) c.deref.ensures) ∙ sym c.args_len.ensures.length ∙ sym c.from.ensures)),
+          (λ e. c.if-args-from.true (e ∙ sym (ap (λ (q : Procedure). q.args_len) c.deref.ensures) ∙ sym c.args_len.ensures.length ∙ sym c.from.ensures)),
     )
 
 pub new-requires : goal.new-requires
