@@ -86,7 +86,7 @@ pub(crate) fn answer_of<J: LogSetting, P: Allocator + Copy>(
     found: Found,
 ) -> Answer
     requires appended { (e : ExecutedCall) × IsAppended J.setting e position seen.now }
-    requires final { IsFinal J.setting seen.now found }
+    requires known { IsFinal J.setting seen.now found }
     ensures { (a : AskedCall) (e : ExecutedCall) → IsAppended J.setting e position seen.now
         → e.call ≡ asked_call a e.call.snapshot → a.least ≤ e.call.snapshot → reply ≡ e.reply
         → IsAnswer J.setting a result (Some seen.now) }

@@ -1,16 +1,18 @@
 -- A call that runs: it can go on, what a turn leaves, and where it looks at nothing.
-use Rattle.std.proofs.Common.{◌≡◌, ℕ, ◌+◌, ◌≤◌, ℤ, Bool, true, false, List, length, Option, Some, None, option_map, refl, sym, ap, subst, ◌∙◌, arith}
+use Rattle.std.proofs.Common.{◌≡◌, ℕ, ◌+◌, ◌≤◌, ◌<◌, ℤ, Bool, true, false, List, length, Option, Some, None, option_map, refl, sym, ap, subst, ◌∙◌, arith}
 use Rattle.bpf_code.specs.declared.instruction.Instruction.{Instruction}
 use Rattle.bpf_code.specs.declared.instruction.Instruction.TheVariants.{LoadWide, Load, StoreImmediate, StoreRegister, Arithmetic, Negate, MoveSignExtended, End, Jump, LongJump, Branch, Call as CallInstruction, Exit as ExitInstruction}
 use Rattle.bpf_code.specs.Program.{Program, instruction_at}
 use Rattle.schema.specs.Schema.{Tables}
 use Rattle.schema.specs.Rows.{Rows, AreRows}
+use Rattle.schema.specs.declared.look.Look.{Look}
 use Rattle.schema.specs.Helper.{helper_of}
 use Rattle.schema.specs.declared.helper.Helper.{Helper}
 use Rattle.schema.specs.declared.helper.Helper.TheVariants.{RowGet, RowPut, RowDelete, RangeCount, RangeNext, Cancel}
 use Rattle.bpf_semantics.specs.State.{State, past}
-use Rattle.bpf_semantics.specs.Step.{Moment, Going, Ended, Stuck, step}
+use Rattle.bpf_semantics.specs.Step.{Moment, Going, step}
 use Rattle.bpf_semantics.specs.Helpers.{state_after_call}
+use Rattle.bpf_semantics.proofs.RunLemmas.{step_runs, going_runs}
 use Rattle.bpf_verify.specs.Flow.{Procedure}
 use Rattle.bpf_vm.specs.declared.turn.Turn.{Turn}
 use Rattle.bpf_vm.specs.declared.turn.Turn.TheVariants.{More, Exit, Stale, NoMemory}
@@ -19,7 +21,7 @@ use Rattle.log_model.specs.Fit.{HasSafeProcedures, AreItems}
 use Rattle.log_entry.specs.declared.entry.Entry.{Entry as LogEntry}
 use Rattle.dsm_model.specs.World.{OpenCall, is_row_helper, calls_row_helper, at_row_helper}
 use Rattle.catalogue.specs.Catalogue.{accepted_of}
-use Rattle.replica.specs.Replica.{AreEntriesOf, entries_of}
+use Rattle.replica.specs.Replica.{entries_of}
 use Rattle.replica.proofs.EntryLemmas.{items_count}
 use Rattle.ordered_entries.proofs.EntryLemmas.{entries_count}
 use Rattle.locked_replica.specs.Begun.{BegunState, IsBegun, procedure_now}
@@ -44,6 +46,16 @@ has_program : (w : Setting) (accepted : Procedure) (o : Option StoredProcedure) 
 has_program w accepted None e = absurd cc
 has_program w accepted (Some p) e = (p, refl, some_is accepted (accepted_of w.tables p) e)
 
+-- what the law of rows says
+abbrev pub RowsFit : Type 0
+RowsFit = (w : Setting) (log : Log) (position : ℕ) → HasSafeProcedures w → IsLog log → AreItems w log → position ≤ length log → AreRows w.tables (rows_after w log position)
+
+pub same_call : (w : Setting) (log : Log) (gone : Bool) (o : OpenCall) (turn : Turn) (after : OpenCall) → IsTurn w log gone o turn after → stays_open turn ≡ true → after.call ≡ o.call
+same_call w log gone o More after t stays = ap (λ (x : OpenCall). x.call) t.2
+same_call w log gone o (Exit reply) after t stays = ap (λ (x : OpenCall). x.call) t.3
+same_call w log gone o Stale after t stays = absurd cc
+same_call w log gone o NoMemory after t stays = absurd cc
+
 module _ {A : Type 0} where
   seen_count : (entries : List (LogEntry A)) → length (log_seen entries) ≡ length entries
   seen_count entries = items_count (entries_of entries) ∙ entries_count entries
@@ -60,19 +72,16 @@ module _ {A : Type 0} where
       let q = u.follows.is_call in
       p.2 ∙ ap (accepted_of w.tables) (some_is p.0 q.procedure (sym p.1 ∙ sym same ∙ q.known))
 
-  pub can_go_on : (w : Setting) (answers_from : Rows → Type 0) (b : BegunState A) (c : OpenCallState A) → IsBegun w b → IsUnderWay w b c → answers_from (rows_after w (log_seen b.entries) (length b.entries))
-      → CanGoOn w (log_seen b.entries) b.accepted answers_from c
-  can_go_on w answers_from b c begun u answers = record {
+  pub can_go_on : (w : Setting) (answers_from : Rows → Type 0) (b : BegunState A) (c : OpenCallState A) (accepted : Procedure) (seen : List (LogEntry A)) → IsBegun w b → IsUnderWay w b c → accepted ≡ b.accepted → seen ≡ b.entries → answers_from (rows_after w (log_seen seen) (length seen))
+      → CanGoOn w (log_seen b.entries) accepted answers_from c
+  can_go_on w answers_from b c accepted seen begun u is own answers = record {
     follows = u.follows;
-    program = own_program w b c begun u;
-    answers = subst (λ (n : ℕ). answers_from (rows_after w (log_seen b.entries) n)) (sym u.snapshot) answers;
+    program = is ∙ own_program w b c begun u;
+    answers = subst (λ (n : ℕ). answers_from (rows_after w (log_seen b.entries) n)) (sym u.snapshot)
+        (subst (λ (xs : List (LogEntry A)). answers_from (rows_after w (log_seen xs) (length xs))) own answers);
   }
 
   -- ---- a call that begins
-
-  -- what the law of rows says
-  abbrev pub RowsFit : Type 0
-  RowsFit = (w : Setting) (log : Log) (position : ℕ) → HasSafeProcedures w → IsLog log → AreItems w log → position ≤ length log → AreRows w.tables (rows_after w log position)
 
   -- what a call that begins follows
   abbrev pub FollowsFrom : Procedure → ℕ → ℕ → OpenCallState A → Type 0
@@ -95,15 +104,9 @@ module _ {A : Type 0} where
 
   -- ---- what a turn leaves
 
-  pub same_call : (w : Setting) (log : Log) (gone : Bool) (o : OpenCall) (turn : Turn) (after : OpenCall) → IsTurn w log gone o turn after → stays_open turn ≡ true → after.call ≡ o.call
-  same_call w log gone o More after t stays = ap (λ (x : OpenCall). x.call) t.2
-  same_call w log gone o (Exit reply) after t stays = ap (λ (x : OpenCall). x.call) t.3
-  same_call w log gone o Stale after t stays = absurd cc
-  same_call w log gone o NoMemory after t stays = absurd cc
-
-  pub goes_on : (w : Setting) (gone : Bool) (answers_from : Rows → Type 0) (b : BegunState A) (old new : OpenCallState A) (turn : Turn) → IsUnderWay w b old → IsTurn w (log_seen b.entries) gone (open_call_of old) turn (open_call_of new) → new.machine.last ≡ turn
-      → (stays_open turn ≡ true → CanGoOn w (log_seen b.entries) b.accepted answers_from new) → stays_open new.machine.last ≡ true → IsUnderWay w b new
-  goes_on w gone answers_from b old new turn u t last can stays =
+  pub goes_on : (w : Setting) (gone : Bool) (answers_from : Rows → Type 0) (b : BegunState A) (accepted : Procedure) (old new : OpenCallState A) (turn : Turn) → IsUnderWay w b old → IsTurn w (log_seen b.entries) gone (open_call_of old) turn (open_call_of new) → new.machine.last ≡ turn
+      → (stays_open turn ≡ true → CanGoOn w (log_seen b.entries) accepted answers_from new) → stays_open new.machine.last ≡ true → IsUnderWay w b new
+  goes_on w gone answers_from b accepted old new turn u t last can stays =
       let stay : stays_open turn ≡ true = ap stays_open (sym last) ∙ stays in
       let same = same_call w (log_seen b.entries) gone (open_call_of old) turn (open_call_of new) t stay in
       record {
@@ -167,3 +170,44 @@ module _ (calls : LeadsOn) (others : OthersLookAtNothing) (cancels : CancelsLook
   quiet_by p tables s t (Some (LongJump a)) e h is some = others p tables s t (LongJump a) e (λ n x. cc) is
   quiet_by p tables s t (Some (Branch a b c d f)) e h is some = others p tables s t (Branch a b c d f) e (λ n x. cc) is
   quiet_by p tables s t (Some ExitInstruction) e h is some = others p tables s t ExitInstruction e (λ n x. cc) is
+
+  -- ---- a turn without rows
+
+  quiet : (p : Program) (tables : Tables) (s t : State) → calls_row_helper (instruction_at p s.slot) ≡ false → step p tables s ≡ Going t → t.looks ≡ s.looks
+  quiet p tables s t h is =
+      let runs = step_runs p tables s (Going t) is (going_runs t) in
+      quiet_by p tables s t (instruction_at p s.slot) refl h is (runs.0, runs.1)
+
+  no_more : (s t : State) → t.looks ≡ s.looks → length s.looks < length t.looks → ⊥
+  no_more s t e lt = let count = ap (λ (l : List Look). length l) e in absurd (omega arith)
+
+  apart : (b : Bool) → b ≡ true → b ≡ false → ⊥
+  apart true e h = cc
+  apart false e h = cc
+
+  module _ {A : Type 0} (never : NeverStuck) (have : HaveRuns) (w : Setting) (b : BegunState A) (c : OpenCallState A) where
+    looks_at_nothing : (u : IsUnderWay w b c) → c.machine.last ≡ More → at_row_helper (procedure_of w (log_seen b.entries) (call_of c)) (moment_at w (log_seen b.entries) (call_of c) c.turns) ≡ false
+        → looks_at_gone w (log_seen b.entries) true (open_call_of c) ≡ false
+    looks_at_nothing u ready alone =
+        let log = log_seen b.entries in
+        let o = open_call_of c in
+        let f = u.follows in
+        let p = f.is_call.procedure in
+        let known = f.is_call.known in
+        let run = going w log c f ready in
+        let s = run.here.state in
+        let now = moment_is w log (call_of c) p c.turns known ∙ run.here.at in
+        let r = has_call_run w log c f never have in
+        let next = moment_at w log (call_of c) (c.turns + 1) in
+        let other : calls_row_helper (instruction_at p.program s.slot) ≡ false =
+        sym (ap (λ (q : Option StoredProcedure). at_row_helper q (moment_at w log (call_of c) c.turns)) known ∙ ap (λ (m : Moment). at_row_helper (just p) m) now) ∙ alone in
+        looks_at_kept w log o p true s next known now (step_from w log o p s next r now refl)
+        (λ stuck. r.not_stuck (sym (moment_is w log (call_of c) p (c.turns + 1) known) ∙ stuck))
+        (λ stale. no_more s stale.0 (quiet p.program w.tables s stale.0 other stale.1) stale.2.1)
+
+    pub stays_alone : (turn : Turn) (after : OpenCall) → (u : IsUnderWay w b c) → c.machine.last ≡ More → at_row_helper (procedure_of w (log_seen b.entries) (call_of c)) (moment_at w (log_seen b.entries) (call_of c) c.turns) ≡ false
+        → IsTurn w (log_seen b.entries) true (open_call_of c) turn after → stays_open turn ≡ true
+    stays_alone More after u ready alone t = refl
+    stays_alone (Exit reply) after u ready alone t = refl
+    stays_alone Stale after u ready alone t = absurd (apart (looks_at_gone w (log_seen b.entries) true (open_call_of c)) t (looks_at_nothing u ready alone))
+    stays_alone NoMemory after u ready alone t = absurd (apart (at_row_helper (procedure_of w (log_seen b.entries) (call_of c)) (moment_at w (log_seen b.entries) (call_of c) c.turns)) t.1 alone)

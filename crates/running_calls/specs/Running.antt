@@ -1,5 +1,5 @@
 -- A call that an executing thread runs on the rows after what it has seen.
-use Rattle.std.specs.Prelude.{◌≡◌, ℕ, Bool, true, List, length, refl}
+use Rattle.std.specs.Prelude.{◌≡◌, ℕ, Bool, List, length, refl}
 use Rattle.std.specs.Coded.{Coded, code_by, coded×, coded_list, coded_ℕ}
 use Rattle.bpf_vm.specs.declared.turn.Turn.{Turn}
 use Rattle.bpf_vm.specs.contracts.turn.Turn as turn
