@@ -48,9 +48,9 @@ pub record IsVerdict {A : Type 0} (w : Setting) (position : ℕ) (seen : List (L
 
 -- a call stands at this position of what was seen, with this reply
 pub record IsReplyAt {A : Type 0} (seen : List (LogEntry A)) (position reply : ℕ) : Type 0 where
-  pub entry : ExecutedCall
-  pub stands : slice_get seen (position - 1) ≡ Some (entry.Call entry)
-  pub reply : reply ≡ entry.reply
+  pub e : ExecutedCall
+  pub stands : slice_get seen (position - 1) ≡ Some (entry.Call e)
+  pub replied : reply ≡ e.reply
 
 -- what was seen are entries of a log, no fewer than is asked for
 pub record IsBegunAfter {A : Type 0} (w : Setting) (a : AskedCall) (seen : List (LogEntry A)) : Type 0 where
@@ -60,7 +60,7 @@ pub record IsBegunAfter {A : Type 0} (w : Setting) (a : AskedCall) (seen : List 
 -- the call that is asked for is one on the rows after what was seen
 pub record IsCallAfter {A : Type 0} (w : Setting) (a : AskedCall) (seen : List (LogEntry A)) (snapshot : ℕ) : Type 0 where
   pub begun : IsBegunAfter w a seen
-  pub snapshot : snapshot ≡ length seen
+  pub place : snapshot ≡ length seen
   pub is_call : IsCall w (log_seen seen) (asked_call a (length seen))
 
 -- the call began, and looked at rows when too much had come since

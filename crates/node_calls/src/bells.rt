@@ -59,7 +59,7 @@ impl<A: Allocator> Bells<A> {
     pub fn new(alloc: A, count: usize) -> Result<Bells<A>, AllocError> {
         let mut bells = Vec::with_capacity(alloc, count)?;
         for _ in 0..count {
-            bells.push_reserved(CachePadded::new(EventCount::new()));
+            bells.push(CachePadded::new(EventCount::new()))?;
         }
         Ok(Bells { bells })
     }

@@ -14,7 +14,7 @@ use crate::answer::{Answer, CallRefusal};
 use crate::asked::Asked;
 use crate::bells::{Bells, Waiter};
 use crate::gate::Gate;
-use crate::order::{answer_of, await_verdict, order};
+use crate::order::{answer_by, await_verdict, order};
 use crate::run::{Ran, run};
 use dsm_model::{has_zero, or_none};
 use locked_replica::{Begin, BegunCall, LockedReplica};
@@ -143,7 +143,7 @@ impl<'a, J: LogSetting, A: Allocator + Copy, P: Allocator + Copy, G: Gate> Execu
         match order(self.log, self.bells, &mut seen, entry) {
             Ok(position) => {
                 let found = await_verdict(rt, self.replica, self.waiter, &seen);
-                let answer = answer_of(self.log, &seen, position, reply, found);
+                let answer = answer_by(self.log, &seen, position, reply, found);
                 (answer, Some(seen))
             }
             Err(AppendFault::Full) => (Answer::Full, None),

@@ -2,13 +2,13 @@
 
 ghost use Rattle.std.specs.Prelude.{◌≡◌, ◌≢◌, ◌-◌, ◌≤◌, length, slice_get, IfOk, Some, Err};
 ghost use Rattle.log_model.specs.Log.{Call, CallItem};
-ghost use Rattle.log_model.specs.Entries.{ExecutedCall};
+ghost use Rattle.log_model.specs.Entries.{ExecutedCall as Executed};
 ghost use Rattle.order_log.specs.declared.fault.AppendFault.TheVariants.{SnapshotUnseen};
 ghost use Rattle.replica.specs.Replica.{entries_of};
 ghost use Rattle.ordered_entries.specs.Ordered.{IsOrderedCall};
 ghost use Rattle.running_calls.specs.Running.{log_seen};
 ghost use Rattle.node_calls.specs.Asked.{AskedCall};
-ghost use Rattle.node_calls.specs.Answer.{IsAppended, IsReplyAt, IsAnswer, IsFinal, asked_call};
+ghost use Rattle.node_calls.specs.Answer.{IsAppended, IsReplyAt, IsVerdict, IsAnswer, IsFinal, asked_call};
 
 use crate::answer::Answer;
 use crate::bells::{Bells, Waiter};
@@ -17,6 +17,7 @@ use log_entry::{Entry, ExecutedCall};
 use log_model::{Verdict, verdicts_in_words_of_the_log};
 use order_log::{AppendFault, Fact, OrderLog, Seen};
 use ordered_entries::{LogSetting, OrderedEntries};
+use replica::replicas_follow_the_log;
 use std::alloc::Allocator;
 use std::sync::{RwLock, Wait};
 
@@ -77,31 +78,52 @@ fn reply_at<J: LogSetting, P: Allocator + Copy>(
     }
 }
 
+/// The answer of the call that was seen last, by its verdict.
+fn answer_of<J: LogSetting, P: Allocator + Copy>(
+    log: &OrderLog<J, OrderedEntries<J>, P>,
+    seen: &Seen<J, P>,
+    position: u32,
+    reply: u64,
+    verdict: Verdict,
+) -> Answer
+    requires appended { (e : Executed) × IsAppended J.setting e position seen.now }
+    requires known { IsVerdict J.setting (length seen.now) seen.now verdict }
+    ensures { (a : AskedCall) (e : Executed) → IsAppended J.setting e position seen.now
+        → e.call ≡ asked_call a e.call.snapshot → a.least ≤ e.call.snapshot → reply ≡ e.reply
+        → IsAnswer J.setting a result (Some seen.now) }
+{
+    verdicts_in_words_of_the_log();
+    replicas_follow_the_log();
+    match verdict {
+        Verdict::Commit => Answer::Committed { position, reply },
+        Verdict::Conflict(other) => Answer::Conflict { position, other },
+        Verdict::Stale => Answer::Stale,
+        Verdict::Repeated(earlier) => Answer::Repeated {
+            position,
+            earlier,
+            reply: reply_at(log, seen, earlier),
+        },
+        Verdict::Taken(_) => unreachable!(),
+    }
+}
+
 /// The answer of the call that was seen last, by what its replica says of it.
-pub(crate) fn answer_of<J: LogSetting, P: Allocator + Copy>(
+pub(crate) fn answer_by<J: LogSetting, P: Allocator + Copy>(
     log: &OrderLog<J, OrderedEntries<J>, P>,
     seen: &Seen<J, P>,
     position: u32,
     reply: u64,
     found: Found,
 ) -> Answer
-    requires appended { (e : ExecutedCall) × IsAppended J.setting e position seen.now }
+    requires appended { (e : Executed) × IsAppended J.setting e position seen.now }
     requires known { IsFinal J.setting seen.now found }
-    ensures { (a : AskedCall) (e : ExecutedCall) → IsAppended J.setting e position seen.now
+    ensures { (a : AskedCall) (e : Executed) → IsAppended J.setting e position seen.now
         → e.call ≡ asked_call a e.call.snapshot → a.least ≤ e.call.snapshot → reply ≡ e.reply
         → IsAnswer J.setting a result (Some seen.now) }
 {
-    verdicts_in_words_of_the_log();
     match found {
-        Found::Verdict(Verdict::Commit) => Answer::Committed { position, reply },
-        Found::Verdict(Verdict::Conflict(other)) => Answer::Conflict { position, other },
-        Found::Verdict(Verdict::Stale) => Answer::Stale,
-        Found::Verdict(Verdict::Repeated(earlier)) => Answer::Repeated {
-            position,
-            earlier,
-            reply: reply_at(log, seen, earlier),
-        },
-        Found::Verdict(Verdict::Taken(_)) | Found::NotYet => unreachable!(),
+        Found::Verdict(verdict) => answer_of(log, seen, position, reply, verdict),
         Found::Stopped => Answer::Stopped { position },
+        Found::NotYet => unreachable!(),
     }
 }

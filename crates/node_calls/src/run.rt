@@ -41,7 +41,7 @@ pub(crate) enum Ran<J: LogSetting, P: Allocator + Copy = Global> {
 }
 
 /// The next instruction at a replica that has come no less far than the call has seen.
-fn advance_at<J: LogSetting, A: Allocator + Copy, P: Allocator + Copy>(
+fn next_at<J: LogSetting, A: Allocator + Copy, P: Allocator + Copy>(
     alloc: P,
     replica: &LockedReplica<J, A, P>,
     call: &mut RunningCall<J, P>,
@@ -83,7 +83,7 @@ fn await_position<J: LogSetting, A: Allocator + Copy, P: Allocator + Copy, R: Wa
 }
 
 /// The next instruction under the replica's lock.
-fn advance_locked<J: LogSetting, A: Allocator + Copy, P: Allocator + Copy, R: Wait>(
+fn next_locked<J: LogSetting, A: Allocator + Copy, P: Allocator + Copy, R: Wait>(
     rt: &R,
     alloc: P,
     replica: &RwLock<LockedReplica<J, A, P>>,
@@ -96,7 +96,7 @@ fn advance_locked<J: LogSetting, A: Allocator + Copy, P: Allocator + Copy, R: Wa
     for _ in rt.forever() {
         let locked = replica.read(rt);
         if call.seen().len() <= locked.position() {
-            return advance_at(alloc, &locked, call);
+            return next_at(alloc, &locked, call);
         }
         drop(locked);
         await_position(rt, replica, waiter, call.seen().len());
@@ -105,7 +105,7 @@ fn advance_locked<J: LogSetting, A: Allocator + Copy, P: Allocator + Copy, R: Wa
 }
 
 /// The next instruction. Only one that reads or writes rows goes through the gate and takes the replica's lock.
-fn advance<J: LogSetting, A: Allocator + Copy, P: Allocator + Copy, G: Gate, R: Wait>(
+fn next_instruction<J: LogSetting, A: Allocator + Copy, P: Allocator + Copy, G: Gate, R: Wait>(
     rt: &R,
     alloc: P,
     replica: &RwLock<LockedReplica<J, A, P>>,
@@ -118,14 +118,14 @@ fn advance<J: LogSetting, A: Allocator + Copy, P: Allocator + Copy, G: Gate, R: 
 {
     if call.at_row_helper() {
         gate.at_look(rt, call.procedure());
-        return advance_locked(rt, alloc, replica, waiter, call);
+        return next_locked(rt, alloc, replica, waiter, call);
     }
     let _turn = call.turn_alone(alloc);
     Advance::Open
 }
 
 /// All instructions of a call to its end.
-fn advance_to_the_end<J: LogSetting, A: Allocator + Copy, P: Allocator + Copy, G: Gate, R: Wait>(
+fn run_to_the_end<J: LogSetting, A: Allocator + Copy, P: Allocator + Copy, G: Gate, R: Wait>(
     rt: &R,
     alloc: P,
     replica: &RwLock<LockedReplica<J, A, P>>,
@@ -141,7 +141,7 @@ fn advance_to_the_end<J: LogSetting, A: Allocator + Copy, P: Allocator + Copy, G
         if call.last() != Turn::More {
             return Advance::Open;
         }
-        match advance(rt, alloc, replica, gate, waiter, call) {
+        match next_instruction(rt, alloc, replica, gate, waiter, call) {
             Advance::Open => {}
             over => return over,
         }
@@ -166,7 +166,7 @@ pub(crate) fn run<J: LogSetting, A: Allocator + Copy, P: Allocator + Copy, G: Ga
     let Ok(mut call) = RunningCall::start(alloc, begun, args, request) else {
         return Ran::NoMemory;
     };
-    match advance_to_the_end(rt, alloc, replica, gate, waiter, &mut call) {
+    match run_to_the_end(rt, alloc, replica, gate, waiter, &mut call) {
         Advance::Open => {
             let seen = call.seen().again();
             Ran::Ended(call.complete(), seen)
