@@ -1,10 +1,10 @@
 -- What a call is answered by its verdict.
-use Rattle.std.proofs.Common.{◌≡◌, inl, ℕ, zero, suc, ◌+◌, ◌-◌, ◌≤◌, ◌<◌, Bool, true, false, cond, nat_le, drop, List, [], ◌∷◌, ◌++◌, length, length-append, slice_get, Option, Some, None, refl, sym, ap, subst, ◌∙◌, arith}
+use Rattle.std.proofs.Common.{◌≡◌, ℕ, zero, suc, ◌+◌, ◌-◌, ◌≤◌, Bool, true, false, cond, nat_le, drop, List, [], ◌∷◌, ◌++◌, length, length-append, slice_get, Option, Some, None, refl, sym, ap, subst, ◌∙◌, arith}
 use Rattle.log_model.specs.declared.verdict.Identifier.{Identifier}
 use Rattle.log_model.specs.declared.verdict.Verdict.{Verdict}
-use Rattle.log_model.specs.declared.verdict.Verdict.TheVariants.{Commit, Conflict, Stale, Repeated, Taken}
+use Rattle.log_model.specs.declared.verdict.Verdict.TheVariants.{Stale, Repeated, Taken}
 use Rattle.schema.specs.declared.look.Look.{Look}
-use Rattle.log_model.specs.Log.{CertifiedItem, first_position, first_repeated, conflicts, verdict_after, Setting, Call, Item, CallItem, AdditionItem, Log, IsLog, StoredProcedure, verdict_of, unless_repeated, unless_conflict}
+use Rattle.log_model.specs.Log.{CertifiedItem, first_position, first_repeated, conflicts, verdict_after, Setting, Call, Item, CallItem, Log, IsLog, verdict_of, unless_repeated, unless_conflict}
 use Rattle.log_model.specs.Entries.{ExecutedCall, item_of, items_of}
 use Rattle.log_model.specs.Verdicts.{IsRepetition}
 use Rattle.log_model.specs.Entries.{Entry, CallEntry, certified_entry, certified_entries_of}

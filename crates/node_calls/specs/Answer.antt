@@ -19,7 +19,7 @@ use Rattle.node_calls.specs.Asked.{AskedCall}
 use Rattle.node_calls.specs.Ran.{LooksTooLate}
 use Rattle.node_calls.specs.declared.answer.Answer.{Answer}
 use Rattle.node_calls.specs.declared.answer.Answer.TheVariants.{Committed, Read, Cancelled, Conflict, Stale, Repeated, Behind, NoMemory, Full, Stopped, Refused}
-use Rattle.node_calls.specs.declared.answer.CallRefusal.TheVariants.{NoReplica, NoProcedure, ArgumentsLength, ZeroInRequest}
+use Rattle.node_calls.specs.declared.answer.CallRefusal.TheVariants.{NoProcedure, ArgumentsLength, ZeroInRequest}
 
 -- the call that is asked for, on the rows after so many entries
 abbrev pub asked_call : AskedCall → ℕ → Call

@@ -1,7 +1,6 @@
 -- What comes of running a call.
 use Rattle.std.specs.Prelude.{◌≡◌, ◌+◌, ◌<◌, true, List, length}
 use mathlib.Core.List.{IsPrefix}
-use Rattle.bpf_vm.specs.declared.turn.Turn.TheVariants.{More}
 use Rattle.log_model.specs.Log.{Setting, Call}
 use Rattle.log_model.specs.Fit.{IsCall}
 use Rattle.log_entry.specs.declared.entry.Entry.{Entry as LogEntry}
