@@ -1,17 +1,18 @@
 //! The threads of a node.
 
-ghost use Rattle.std.specs.Prelude.{◌≡◌, ◌+◌, ◌<◌, ◌≤◌, vec_len, OnOk};
+ghost use Rattle.std.specs.Prelude.{◌≡◌, ◌+◌, ◌<◌, ◌≤◌, OnOk};
 
-use crate::deliver::deliver_all;
-use crate::node::StartFault;
+use crate::delivering::deliver_all;
+use crate::executing::serve;
 use crate::request::Request;
-use crate::serve::serve;
 use crate::shared::Shared;
+use crate::size::StartFault;
 use crossbeam_channel::{Receiver, Sender, bounded};
 use node_calls::Gate;
 use order_log::Fact;
 use ordered_entries::{LogSetting, OrderedEntries};
 use std::alloc::Global;
+use std::marker::Model;
 use std::sync::{Arc, Wait};
 use std::thread;
 use std::thread::{JoinHandle, Threads};
@@ -43,33 +44,40 @@ impl<J: LogSetting + Ledgers> ThreadShares<J> {
     }
 }
 
-/// The threads of a node, and where their requests go.
+/// The threads of a node. Contracts see how many answer calls.
 #[derive(Drop)]
 pub(crate) struct Crew<J: LogSetting + Ledgers> {
     alloc: Global,
-    /// One for each replica.
-    pub(crate) requests: Vec<Sender<Request<J>>>,
     executors: Vec<JoinHandle<ThreadShares<J>>>,
     deliverers: Vec<JoinHandle<()>>,
+}
+
+impl<J: LogSetting + Ledgers> Model for Crew<J> {
+    ghost use Rattle.std.specs.Prelude.{vec_len};
+    ghost use Rattle.node.specs.Crew.{CrewState};
+
+    ghost Value = { CrewState };
+
+    ghost view = { λ c. record { executors = vec_len c.executors } };
+
+    ghost invariant = { λ c. Unit {0} };
 }
 
 impl<J: LogSetting + Ledgers + Send + Sync + 'static> Crew<J> {
     /// No threads.
     pub(crate) fn new(alloc: Global) -> Crew<J>
-        ensures executors { vec_len result.executors ≡ 0 }
-        ensures requests { vec_len result.requests ≡ 0 }
+        ensures { result.executors ≡ 0 }
     {
         Crew {
             alloc,
-            requests: Vec::new(alloc),
             executors: Vec::new(alloc),
             deliverers: Vec::new(alloc),
         }
     }
 
-    /// Starts the threads of the replica of a number: so many that answer calls, and one that delivers.
+    /// Starts the threads of the replica of a number: so many that answer calls, and one that delivers. Where their requests go.
     pub(crate) fn start_replica<
-        G: Gate + Send + Sync + 'static,
+        G: Gate + Drop + Send + Sync + 'static,
         R: Threads + Wait + Copy + Send + Sync + 'static,
     >(
         &mut self,
@@ -78,28 +86,25 @@ impl<J: LogSetting + Ledgers + Send + Sync + 'static> Crew<J> {
         shares: &mut Shares<J>,
         replica: u32,
         executors: u32,
-    ) -> Result<(), StartFault>
+    ) -> Result<Sender<Request<J>>, StartFault>
         requires executors { executors ≤ 16 }
         requires parts { 17 ≤ shares.old.parts }
-        ensures all { OnOk result (shares.new.parts + vec_len self.new.executors ≡ shares.old.parts + vec_len self.old.executors) }
+        ensures all { OnOk result (shares.new.parts + self.new.executors ≡ shares.old.parts + self.old.executors) }
         ensures parts { OnOk result (shares.old.parts ≤ shares.new.parts + 16) }
-        ensures requests { OnOk result (vec_len self.new.requests ≡ vec_len self.old.requests + 1) }
     {
         let Ok((sender, receiver)) = bounded(self.alloc, QUEUE) else {
             return Err(StartFault::OutOfMemory);
         };
-        if self.requests.push(sender).is_err() {
-            return Err(StartFault::OutOfMemory);
-        }
         for thread in 0..executors {
             self.start_executor(rt, shared, shares, replica, thread, &receiver)?;
         }
-        self.start_deliverer(rt, shared, replica)
+        self.start_deliverer(rt, shared, replica)?;
+        Ok(sender)
     }
 
     /// Starts one that answers calls.
     fn start_executor<
-        G: Gate + Send + Sync + 'static,
+        G: Gate + Drop + Send + Sync + 'static,
         R: Threads + Wait + Copy + Send + Sync + 'static,
     >(
         &mut self,
@@ -112,8 +117,7 @@ impl<J: LogSetting + Ledgers + Send + Sync + 'static> Crew<J> {
     ) -> Result<(), StartFault>
         requires { 1 < shares.old.parts }
         ensures parts { OnOk result (shares.new.parts + 1 ≡ shares.old.parts) }
-        ensures executors { OnOk result (vec_len self.new.executors ≡ vec_len self.old.executors + 1) }
-        ensures requests { OnOk result (vec_len self.new.requests ≡ vec_len self.old.requests) }
+        ensures executors { OnOk result (self.new.executors ≡ self.old.executors + 1) }
     {
         if self.executors.reserve(1).is_err() {
             return Err(StartFault::OutOfMemory);
@@ -140,7 +144,7 @@ impl<J: LogSetting + Ledgers + Send + Sync + 'static> Crew<J> {
 
     /// Starts one that delivers.
     fn start_deliverer<
-        G: Gate + Send + Sync + 'static,
+        G: Gate + Drop + Send + Sync + 'static,
         R: Threads + Wait + Copy + Send + Sync + 'static,
     >(
         &mut self,
@@ -148,8 +152,7 @@ impl<J: LogSetting + Ledgers + Send + Sync + 'static> Crew<J> {
         shared: &Arc<Shared<J, Global, Global, G>>,
         replica: u32,
     ) -> Result<(), StartFault>
-        ensures executors { OnOk result (vec_len self.new.executors ≡ vec_len self.old.executors) }
-        ensures requests { OnOk result (vec_len self.new.requests ≡ vec_len self.old.requests) }
+        ensures { OnOk result (self.new.executors ≡ self.old.executors) }
     {
         if self.deliverers.reserve(1).is_err() {
             return Err(StartFault::OutOfMemory);
@@ -166,24 +169,21 @@ impl<J: LogSetting + Ledgers + Send + Sync + 'static> Crew<J> {
         Ok(())
     }
 
-    /// Ends all threads: those that answer calls when they have answered what was sent, then those that deliver, at the end of
-    /// the log. What was counted is in the shares.
+    /// Waits until all threads have ended: those that answer calls when nobody sends requests any more, then those that deliver,
+    /// at the end of the log. What was counted is in the shares then.
     pub(crate) fn end<G: Gate, R: Threads + Wait>(
         self,
         rt: &R,
         shared: &Shared<J, Global, Global, G>,
         shares: &mut Shares<J>,
     )
-        ensures { shares.new.parts ≡ shares.old.parts + vec_len self.executors }
+        ensures { shares.new.parts ≡ shares.old.parts + self.executors }
     {
         let Crew {
             alloc: _,
-            requests,
-            executors,
+            mut executors,
             deliverers,
         } = self;
-        drop(requests);
-        let mut executors = executors;
         while let Some(child) = executors.pop() {
             shares.merge(child.join(rt).shares);
         }

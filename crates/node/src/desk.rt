@@ -47,7 +47,10 @@ where
     ghost invariant = { λ d. Unit {0} };
 }
 
-impl<J: LogSetting + Ledgers + Send + Sync + 'static, G: Gate + Send + Sync + 'static> Desk<J, G> {
+impl<J: LogSetting + Ledgers + Send + Sync + 'static, G: Gate + Drop + Send + Sync + 'static> Desk<
+    J,
+    G,
+> {
     /// How many replicas there are; they are numbered from 1.
     pub fn replicas(&self) -> usize
         ensures { result ≡ self.now.replicas }

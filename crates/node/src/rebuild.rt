@@ -48,9 +48,12 @@ fn put_in_place<J: LogSetting, A: Allocator + Copy, P: Allocator + Copy, R: Wait
     Some(locked.position())
 }
 
-impl<J: LogSetting + Ledgers, A: Allocator + Copy, P: Allocator + Copy, G: Gate>
-    Shared<J, A, P, G>
-{
+impl<J: LogSetting + Ledgers, A: Allocator + Copy, P: Allocator + Copy, G: Gate> Shared<
+    J,
+    A,
+    P,
+    G,
+> {
     /// Makes the replica of a number anew from the log, which then delivers again where it had stopped. Calls go on at the old
     /// one until the new one is in its place, which has come no less far. The position that it has then.
     pub fn rebuild<R: Wait>(&self, rt: &R, replica: u32) -> Result<u32, RebuildFault> {
@@ -73,8 +76,11 @@ impl<J: LogSetting + Ledgers, A: Allocator + Copy, P: Allocator + Copy, G: Gate>
         rt: &R,
         served: &ServedReplica<J, A, P>,
     ) -> Result<u32, AllocError> {
-        let mut fresh =
-            LockedReplica::new(served.alloc, self.catalogue.window(), self.catalogue.get())?;
+        let mut fresh = LockedReplica::new(
+            served.alloc,
+            self.catalogue.window(),
+            self.catalogue.get(),
+        )?;
         for _ in rt.forever() {
             deliver_to_the_end(rt, &mut fresh, &self.log)?;
             if let Some(position) = put_in_place(rt, &served.replica, &mut fresh) {

@@ -1,6 +1,6 @@
 //! What a caller asks of an executing thread, and what is replied.
 
-ghost use Rattle.std.specs.Prelude.{◌≡◌, IfSome};
+ghost use Rattle.std.specs.Prelude.{◌≡◌, IfSome, IsTrue};
 ghost use Rattle.node_calls.specs.Answer.{IsAnswer};
 
 use crossbeam_channel::Sender;
@@ -65,17 +65,30 @@ impl<J: LogSetting, P: Allocator + Copy> Reply<J, P> {
         ensures answer { IfSome result (λ r.
             IsAnswer J.setting (record { least = least; procedure = procedure; args = args.now; request = request }) r.0 r.1) }
     {
-        let asked = &self.asked;
-        if self.replica != replica
-            || asked.least != least
-            || asked.procedure != procedure
-            || asked.args.as_slice() != args
-            || asked.request != request
-        {
+        if self.replica != replica || !is_asked(&self.asked, least, procedure, args, request) {
             return None;
         }
         Some((self.answer, self.seen))
     }
+}
+
+/// Whether this is what was asked.
+fn is_asked<P: Allocator + Copy>(
+    asked: &Asked<P>,
+    least: u32,
+    procedure: u16,
+    args: &[u8],
+    request: Option<RequestId>,
+) -> bool
+    ensures { IsTrue result
+        → asked.now ≡ record { least = least; procedure = procedure; args = args.now; request = request } }
+{
+    if asked.least != least || asked.procedure != procedure {
+        return false;
+    }
+    let same_args = asked.args.as_slice() == args;
+    let same_request = asked.request == request;
+    same_args && same_request
 }
 
 /// What a caller asks of an executing thread.

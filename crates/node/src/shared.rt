@@ -2,7 +2,7 @@
 
 ghost use Rattle.std.specs.Prelude.{◌≡◌};
 
-use crate::catalogue::NodeCatalogue;
+use crate::node_catalogue::NodeCatalogue;
 use catalogue::Catalogue;
 use crossbeam_utils::CachePadded;
 use crossbeam_utils::sync::EventCount;
@@ -13,16 +13,12 @@ use ordered_entries::{LogSetting, OrderedEntries};
 use std::alloc::{AllocError, Allocator, Global};
 use std::sync::atomic::Ordering::SeqCst;
 use std::sync::atomic::{AtomicBool, AtomicU64};
-use std::sync::{Mutex, RwLock};
-use tallies::{Ledgers, Totals};
+use std::sync::{Mutex, RwLock, Wait};
+use tallies::{Counts, Ledgers, Shares, Totals};
 
 /// A replica behind its lock, and where its executing threads wait.
 #[derive(Drop)]
-pub struct ServedReplica<
-    J: LogSetting,
-    A: Allocator + Copy = Global,
-    P: Allocator + Copy = A,
-> {
+pub struct ServedReplica<J: LogSetting, A: Allocator + Copy = Global, P: Allocator + Copy = A> {
     /// For what the replica takes.
     pub(crate) alloc: A,
     pub(crate) replica: RwLock<LockedReplica<J, A, P>>,
@@ -31,12 +27,7 @@ pub struct ServedReplica<
 
 /// What the threads of a node share: the log, the replicas behind their locks, who waits where, and the sums of answers.
 #[derive(Drop)]
-pub struct Shared<
-    J: LogSetting + Ledgers,
-    A: Allocator + Copy,
-    P: Allocator + Copy,
-    G: Gate,
->
+pub struct Shared<J: LogSetting + Ledgers, A: Allocator + Copy, P: Allocator + Copy, G: Gate>
 where
     OrderedEntries<J>: Fact,
 {
@@ -66,7 +57,7 @@ impl<J: LogSetting, A: Allocator + Copy, P: Allocator + Copy> ServedReplica<J, A
         let replica = LockedReplica::new(alloc, catalogue.window(), catalogue.get())?;
         let mut waiters = Vec::with_capacity(shared, executors)?;
         for _ in 0..executors {
-            waiters.push_reserved(CachePadded::new(Waiter::new()));
+            waiters.push(CachePadded::new(Waiter::new()))?;
         }
         Ok(ServedReplica {
             alloc,
@@ -90,9 +81,12 @@ impl<J: LogSetting, A: Allocator + Copy, P: Allocator + Copy> ServedReplica<J, A
     }
 }
 
-impl<J: LogSetting + Ledgers, A: Allocator + Copy, P: Allocator + Copy, G: Gate>
-    Shared<J, A, P, G>
-{
+impl<J: LogSetting + Ledgers, A: Allocator + Copy, P: Allocator + Copy, G: Gate + Drop> Shared<
+    J,
+    A,
+    P,
+    G,
+> {
     /// What the threads of a node with no replicas yet share, and room for so many.
     pub fn new(
         alloc: P,
@@ -121,11 +115,19 @@ impl<J: LogSetting + Ledgers, A: Allocator + Copy, P: Allocator + Copy, G: Gate>
             stopping: CachePadded::new(AtomicBool::new(false)),
         })
     }
+}
 
+impl<J: LogSetting + Ledgers, A: Allocator + Copy, P: Allocator + Copy, G: Gate> Shared<
+    J,
+    A,
+    P,
+    G,
+> {
     /// Adds a replica in the memory of its own allocator, for so many executing threads.
     pub fn add_replica(&mut self, alloc: A, executors: usize) -> Result<(), AllocError> {
         let served = ServedReplica::new(alloc, self.alloc, &self.catalogue, executors)?;
-        self.replicas.push(CachePadded::new(served))
+        self.replicas.push(CachePadded::new(served))?;
+        Ok(())
     }
 
     /// The replica of a number, from 1 on.
@@ -140,6 +142,19 @@ impl<J: LogSetting + Ledgers, A: Allocator + Copy, P: Allocator + Copy, G: Gate>
     /// Where the delivering thread of the replica of a number waits.
     pub(crate) fn bell(&self, number: u32) -> Option<&EventCount> {
         self.bells.at((number as usize).checked_sub(1)?)
+    }
+
+    /// Enters what no executing thread counted, and adds up what was counted in all.
+    pub(crate) fn gather<R: Wait>(&self, rt: &R, shares: &mut Shares<J>) -> Counts
+        requires { shares.old.parts ≡ 129 }
+        ensures totals { result ≡ shares.new.counted }
+        ensures parts { shares.new.parts ≡ shares.old.parts }
+    {
+        let mut unserved = Counts::new();
+        unserved.other = self.unserved.load(SeqCst);
+        let mut totals = self.totals.lock(rt);
+        let _entered = totals.enter(shares, unserved);
+        totals.all(shares)
     }
 
     /// Has the delivering threads end at the end of the log. Call it when no executing thread orders any more.

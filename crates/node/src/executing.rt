@@ -1,6 +1,6 @@
 //! An executing thread.
 
-ghost use Rattle.std.specs.Prelude.{◌≡◌, ◌^◌};
+ghost use Rattle.std.specs.Prelude.{◌≡◌, ℕ, ◌+◌, ◌^◌};
 ghost use Rattle.tallies.specs.Counted.{AreBelow, one_more};
 ghost use Rattle.node_calls.specs.Answer.{IsAnswer};
 ghost use Rattle.node.specs.Kinds.{kind_of};
@@ -17,13 +17,7 @@ use std::sync::Wait;
 use tallies::{Counts, Ledgers, Shares};
 
 /// The answer to a call, which is counted by its kind.
-fn answer_counted<
-    J: LogSetting,
-    A: Allocator + Copy,
-    P: Allocator + Copy,
-    G: Gate,
-    R: Wait,
->(
+fn answer_counted<J: LogSetting, A: Allocator + Copy, P: Allocator + Copy, G: Gate, R: Wait>(
     rt: &R,
     executor: &Executor<'_, J, A, P, G>,
     asked: &Asked<P>,
@@ -32,6 +26,7 @@ fn answer_counted<
     requires { AreBelow (2 ^ 63) counts.old }
     ensures answer { IsAnswer J.setting asked.now result.0 result.1 }
     ensures counted { counts.new ≡ one_more (kind_of result.0) counts.old }
+    ensures below { (bound : ℕ) → AreBelow bound counts.old → AreBelow (bound + 1) counts.new }
 {
     let (answer, seen) = executor.answer(rt, asked);
     counts.add_one(kind_of(answer));
@@ -39,20 +34,14 @@ fn answer_counted<
 }
 
 /// Answers requests at a replica until no caller is left. How many of each kind there were.
-fn answer_all<
-    J: LogSetting,
-    A: Allocator + Copy,
-    P: Allocator + Copy,
-    G: Gate,
-    R: Wait,
->(
+fn answer_all<J: LogSetting, A: Allocator + Copy, P: Allocator + Copy, G: Gate, R: Wait>(
     rt: &R,
     executor: &Executor<'_, J, A, P, G>,
     replica: u32,
     requests: &Receiver<Request<J, P>, P>,
 ) -> Counts {
     let mut counts = Counts::new();
-    for _ in 0..u64::MAX >> 1 {
+    for _served in 0..u64::MAX >> 1 {
         let Ok(request) = requests.recv(rt) else {
             break;
         };
@@ -65,13 +54,7 @@ fn answer_all<
 
 /// One of the executing threads of a replica, by its place from 0 on, the replica by its number from 1 on: it answers requests
 /// until no caller is left, and enters what it counted in its share.
-pub fn serve<
-    J: LogSetting + Ledgers,
-    A: Allocator + Copy,
-    P: Allocator + Copy,
-    G: Gate,
-    R: Wait,
->(
+pub fn serve<J: LogSetting + Ledgers, A: Allocator + Copy, P: Allocator + Copy, G: Gate, R: Wait>(
     rt: &R,
     shared: &Shared<J, A, P, G>,
     replica: u32,

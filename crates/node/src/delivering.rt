@@ -1,8 +1,8 @@
 //! A delivering thread.
 
 use crate::shared::{ServedReplica, Shared};
-use node_calls::Gate;
 use locked_replica::{Delivery, LockedReplica};
+use node_calls::Gate;
 use order_log::{Fact, OrderLog, Seen};
 use ordered_entries::{LogSetting, OrderedEntries};
 use std::alloc::Allocator;
@@ -15,6 +15,7 @@ use tallies::Ledgers;
 const BATCH: u32 = 16;
 
 /// What came of a batch.
+#[derive(Drop)]
 struct Batch<J: LogSetting, P: Allocator + Copy> {
     /// What was delivered so far.
     seen: Seen<J, P>,
@@ -69,11 +70,7 @@ pub fn deliver_all<
     P: Allocator + Copy,
     G: Gate,
     R: Wait,
->(
-    rt: &R,
-    shared: &Shared<J, A, P, G>,
-    replica: u32,
-) {
+>(rt: &R, shared: &Shared<J, A, P, G>, replica: u32) {
     let Some(served) = shared.replica(replica) else {
         return;
     };
