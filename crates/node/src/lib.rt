@@ -6,7 +6,7 @@ pub use desk::Desk;
 pub use ended::EndedReplica;
 pub use executing::serve;
 pub use kind::kind_of;
-pub use node::{Finish, Node};
+pub use node::{Ended, Finish, Node};
 pub use rebuild::RebuildFault;
 pub use request::{Reply, Request};
 pub use shared::{ServedReplica, Shared};

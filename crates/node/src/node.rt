@@ -14,11 +14,12 @@ use crate::shared::Shared;
 use crate::size::{Size, StartFault};
 use catalogue::Catalogue;
 use crossbeam_channel::Sender;
+use locked_replica::LockedReplica;
 use node_calls::{Gate, OpenGate};
-use order_log::{Fact, GroupCells, OrderLog};
+use order_log::{Fact, GroupCells, LIMIT, OrderLog};
 use ordered_entries::{LogSetting, OrderedEntries};
 use std::alloc::Global;
-use std::sync::{Arc, Wait};
+use std::sync::{Arc, RwLock, Wait};
 use std::thread::Threads;
 use tallies::{Blanks, Counts, Ledgers, Shares};
 
@@ -38,7 +39,15 @@ where
     shared: Arc<Shared<J, Global, Global, G>>,
 }
 
-/// A node whose threads run. It has to be ended, by `stop` or `finish`. Contracts see how many replicas there are.
+/// How a node's replicas have ended.
+#[derive(Drop)]
+pub struct Ended<J: LogSetting> {
+    pub replicas: Vec<EndedReplica<J>>,
+    /// Whether of what was delivered to each two replicas one begins the other.
+    pub agreement: bool,
+}
+
+/// A node whose threads run. It has to be ended, by `stop` or `finish`.
 pub struct Node<J: LogSetting + Ledgers, G: Gate>
 where
     OrderedEntries<J>: Fact,
@@ -95,6 +104,35 @@ impl<J: LogSetting + Ledgers + Send + Sync + 'static, G: Gate + Drop + Send + Sy
         start_threads(rt, alloc, shared, shares, size)
     }
 
+    /// As `start_sized`, with a log of 1,048,576 entries.
+    pub fn start_gated<R: Threads + Wait + Copy + Send + Sync + 'static>(
+        rt: &R,
+        alloc: Global,
+        cells: GroupCells,
+        blanks: Blanks,
+        replicas: u32,
+        executors: u32,
+        window: u32,
+        catalogue: Catalogue,
+        gate: G,
+    ) -> Result<Node<J, G>, StartFault>
+        requires cells { cells ≡ J.groups }
+        requires ledgers { J.names ≡ names_by_place blanks }
+        requires setting { J.setting ≡ record {
+          tables = catalogue.tables;
+          catalogue = catalogue.procedures;
+          window = window;
+        } }
+    {
+        let size = Size {
+            replicas,
+            executors,
+            window,
+            limit: LIMIT,
+        };
+        Node::start_sized(rt, alloc, cells, blanks, size, catalogue, gate)
+    }
+
     /// What callers share.
     pub fn desk(&self) -> &Desk<J, G> {
         &self.desk
@@ -103,6 +141,18 @@ impl<J: LogSetting + Ledgers + Send + Sync + 'static, G: Gate + Drop + Send + Sy
     /// Makes the replica of a number anew from the log. The position that it has then.
     pub fn rebuild<R: Wait>(&self, rt: &R, replica: u32) -> Result<u32, RebuildFault> {
         self.desk.shared.rebuild(rt, replica)
+    }
+
+    /// As `finish`, without the sums.
+    pub fn stop<R: Threads + Wait>(self, rt: &R) -> Ended<J>
+        ensures agreement { AgreeBy (λ e. e.seen) result.replicas.items }
+        ensures agree { result.agreement ≡ true }
+    {
+        let finish = self.finish(rt);
+        Ended {
+            replicas: finish.replicas,
+            agreement: finish.agreement,
+        }
     }
 
     /// Ends the threads when all that was asked is answered and all that was ordered is delivered, or its replica has stopped.
@@ -137,6 +187,50 @@ impl<J: LogSetting + Ledgers + Send + Sync + 'static, G: Gate + Drop + Send + Sy
             shares,
             shared,
         }
+    }
+}
+
+impl<J: LogSetting + Ledgers + Send + Sync + 'static> Node<J, OpenGate> {
+    /// As `start_gated`, with a gate that is always open.
+    pub fn start<R: Threads + Wait + Copy + Send + Sync + 'static>(
+        rt: &R,
+        alloc: Global,
+        cells: GroupCells,
+        blanks: Blanks,
+        replicas: u32,
+        executors: u32,
+        window: u32,
+        catalogue: Catalogue,
+    ) -> Result<Node<J, OpenGate>, StartFault>
+        requires cells { cells ≡ J.groups }
+        requires ledgers { J.names ≡ names_by_place blanks }
+        requires setting { J.setting ≡ record {
+          tables = catalogue.tables;
+          catalogue = catalogue.procedures;
+          window = window;
+        } }
+    {
+        Node::start_gated(
+            rt, alloc, cells, blanks, replicas, executors, window, catalogue, OpenGate,
+        )
+    }
+}
+
+impl<J: LogSetting + Ledgers, G: Gate> Finish<J, G>
+where
+    OrderedEntries<J>: Fact,
+{
+    /// The log, whose entries whoever has seen them can read.
+    pub fn log(&self) -> &OrderLog<J, OrderedEntries<J>> {
+        &self.shared.log
+    }
+
+    /// The replica of a number, from 1 on, behind its lock.
+    pub fn replica(&self, number: u32) -> Option<&RwLock<LockedReplica<J>>> {
+        let shared: &Shared<J, Global, Global, G> = &self.shared;
+        let place = (number as usize).checked_sub(1)?;
+        let served = shared.replicas.get(place)?;
+        Some(&served.replica)
     }
 }
 
