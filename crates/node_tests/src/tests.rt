@@ -110,7 +110,9 @@ fn try_case<
     let gate = HoldingGate {
         hold: Arc::try_clone(&hold).expect(rt, "memory"),
     };
-    let started = Node::<J, HoldingGate>::start_sized(rt, alloc, cells, blanks, size, catalogue, gate);
+    let started = Node::<J, HoldingGate>::start_sized(
+        rt, alloc, cells, blanks, size, catalogue, gate,
+    );
     let node = started.expect(rt, "a node");
     let desk = node.desk();
     match case {
@@ -154,7 +156,10 @@ fn check_end<J: LogSetting + Ledgers, R: Wait + Abort>(
 ) {
     let totals = finish.totals;
     assert_eq!(rt; sum_of(&totals), end.answers);
-    assert!(rt; end.committed.is_none_or(|committed| committed == totals.committed));
+    assert!(rt;
+        end.committed
+            .is_none_or(|committed| committed == totals.committed)
+    );
     assert!(rt; finish.agreement);
     assert_eq!(rt; finish.replicas.len(), size.replicas as usize);
     let mut number = 0u32;
@@ -162,7 +167,10 @@ fn check_end<J: LogSetting + Ledgers, R: Wait + Abort>(
         number = number.wrapping_add(1);
         assert!(rt; !replica.stopped);
         assert_eq!(rt; u64::from(replica.commits), totals.committed);
-        assert!(rt; end.position.is_none_or(|position| position == replica.position));
+        assert!(rt;
+            end.position
+                .is_none_or(|position| position == replica.position)
+        );
         if case == Case::Adds {
             assert_eq!(rt; number_at(rt, finish, number, 5), totals.committed);
         }
@@ -200,17 +208,59 @@ const LIMIT: u32 = 1_048_576;
 #[test]
 fn one_caller(rt: HostRuntime) {
     let alloc = rt.alloc();
-    try_at_a_node(&rt, alloc, (2, 4, 4, LIMIT), Case::OneSession, (1_001, Some(1_000), Some(1_000)));
-    try_at_a_node(&rt, alloc, (2, 4, 4, LIMIT), Case::Numbered, (3, Some(2), Some(3)));
-    try_at_a_node(&rt, alloc, (2, 2, 4, LIMIT), Case::Refusals, (7, Some(0), Some(0)));
-    try_at_a_node(&rt, alloc, (2, 2, 4, 1), Case::TwoPuts, (2, Some(1), Some(1)));
+    try_at_a_node(
+        &rt,
+        alloc,
+        (2, 4, 4, LIMIT),
+        Case::OneSession,
+        (1_001, Some(1_000), Some(1_000)),
+    );
+    try_at_a_node(
+        &rt,
+        alloc,
+        (2, 4, 4, LIMIT),
+        Case::Numbered,
+        (3, Some(2), Some(3)),
+    );
+    try_at_a_node(
+        &rt,
+        alloc,
+        (2, 2, 4, LIMIT),
+        Case::Refusals,
+        (7, Some(0), Some(0)),
+    );
+    try_at_a_node(
+        &rt,
+        alloc,
+        (2, 2, 4, 1),
+        Case::TwoPuts,
+        (2, Some(1), Some(1)),
+    );
 }
 
 #[test]
 fn several_callers(rt: HostRuntime) {
     let alloc = rt.alloc();
-    try_at_a_node(&rt, alloc, (1, 2, 4, LIMIT), Case::Overlap, (2, Some(2), Some(2)));
-    try_at_a_node(&rt, alloc, (1, 1, 4, LIMIT), Case::Overlap, (2, Some(2), Some(2)));
+    try_at_a_node(
+        &rt,
+        alloc,
+        (1, 2, 4, LIMIT),
+        Case::Overlap,
+        (2, Some(2), Some(2)),
+    );
+    try_at_a_node(
+        &rt,
+        alloc,
+        (1, 1, 4, LIMIT),
+        Case::Overlap,
+        (2, Some(2), Some(2)),
+    );
     try_at_a_node(&rt, alloc, (8, 16, 4, LIMIT), Case::Adds, (200, None, None));
-    try_at_a_node(&rt, alloc, (2, 16, 4_096, LIMIT), Case::Puts, (200, Some(200), Some(200)));
+    try_at_a_node(
+        &rt,
+        alloc,
+        (2, 16, 4_096, LIMIT),
+        Case::Puts,
+        (200, Some(200), Some(200)),
+    );
 }

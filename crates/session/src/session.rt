@@ -36,9 +36,11 @@ where
     ghost invariant = { λ s. Unit {0} };
 }
 
-impl<'a, J: LogSetting + Ledgers + Send + Sync + 'static, G: Gate + Drop + Send + Sync + 'static>
-    Session<'a, J, G>
-{
+impl<
+    'a,
+    J: LogSetting + Ledgers + Send + Sync + 'static,
+    G: Gate + Drop + Send + Sync + 'static,
+> Session<'a, J, G> {
     /// A session that has seen nothing yet.
     pub fn new(desk: &'a Desk<J, G>) -> Session<'a, J, G>
         ensures replicas { result.replicas ≡ desk.now.replicas }
@@ -67,7 +69,9 @@ impl<'a, J: LogSetting + Ledgers + Send + Sync + 'static, G: Gate + Drop + Send 
         ensures kept { self.new.position ≡ max self.old.position (position_told result.0) }
         ensures replicas { self.new.replicas ≡ self.old.replicas }
     {
-        let (answer, seen) = self.desk.execute(rt, replica, self.position, procedure, args);
+        let (answer, seen) = self
+            .desk
+            .execute(rt, replica, self.position, procedure, args);
         self.position = self.position.max(position_told(answer));
         (answer, seen)
     }
@@ -86,9 +90,9 @@ impl<'a, J: LogSetting + Ledgers + Send + Sync + 'static, G: Gate + Drop + Send 
         ensures kept { self.new.position ≡ max self.old.position (position_told result.0) }
         ensures replicas { self.new.replicas ≡ self.old.replicas }
     {
-        let (answer, seen) =
-            self.desk
-                .execute_numbered(rt, replica, self.position, procedure, args, request);
+        let (answer, seen) = self
+            .desk
+            .execute_numbered(rt, replica, self.position, procedure, args, request);
         self.position = self.position.max(position_told(answer));
         (answer, seen)
     }

@@ -15,7 +15,9 @@ use std::thread::Threads;
 use tallies::Ledgers;
 
 const ADD: u16 = 1;
+
 const PUT: u16 = 3;
+
 const ONE: u16 = 9;
 
 /// How many callers there are where several call at once.
@@ -54,12 +56,7 @@ pub(crate) fn one_session<J: LogSetting + Ledgers + Send + Sync + 'static, R: Wa
 pub(crate) fn overlap<
     J: LogSetting + Ledgers + Send + Sync + 'static,
     R: Threads + Wait + Abort + Sync,
->(
-    rt: &R,
-    alloc: Global,
-    desk: &Desk<J, HoldingGate>,
-    hold: &Hold,
-) -> (Answer, Answer) {
+>(rt: &R, alloc: Global, desk: &Desk<J, HoldingGate>, hold: &Hold) -> (Answer, Answer) {
     let add = words(rt, alloc, &[5, 10]);
     let put = words(rt, alloc, &[6, 1]);
     thread::join(
@@ -95,20 +92,21 @@ pub(crate) fn two_puts<J: LogSetting + Ledgers + Send + Sync + 'static, R: Wait 
 pub(crate) fn adds<
     J: LogSetting + Ledgers + Send + Sync + 'static,
     R: Threads + Wait + Abort + Sync,
->(
-    rt: &R,
-    alloc: Global,
-    desk: &Desk<J, HoldingGate>,
-) {
+>(rt: &R, alloc: Global, desk: &Desk<J, HoldingGate>) {
     let replicas = desk.replicas();
-    let called = thread::map_indices(rt, alloc, CALLERS, &|caller: usize| {
-        let mut session = Session::new(desk);
-        let add = words(rt, alloc, &[5, 1]);
-        let replica = (caller % replicas.max(1)) as u32;
-        for _ in 0..25 {
-            let _answered = session.call(rt, replica.wrapping_add(1), ADD, &add);
-        }
-    });
+    let called = thread::map_indices(
+        rt,
+        alloc,
+        CALLERS,
+        &|caller: usize| {
+            let mut session = Session::new(desk);
+            let add = words(rt, alloc, &[5, 1]);
+            let replica = (caller % replicas.max(1)) as u32;
+            for _ in 0..25 {
+                let _answered = session.call(rt, replica.wrapping_add(1), ADD, &add);
+            }
+        },
+    );
     assert!(rt; called.is_ok());
 }
 
@@ -116,23 +114,24 @@ pub(crate) fn adds<
 pub(crate) fn puts<
     J: LogSetting + Ledgers + Send + Sync + 'static,
     R: Threads + Wait + Abort + Sync,
->(
-    rt: &R,
-    alloc: Global,
-    desk: &Desk<J, HoldingGate>,
-) {
-    let called = thread::map_indices(rt, alloc, CALLERS, &|caller: usize| {
-        let mut committed = 0u32;
-        for index in 0..25usize {
-            let key = caller.wrapping_mul(25).wrapping_add(index) as u64;
-            let put = words(rt, alloc, &[key, 1]);
-            let (answer, _) = desk.execute(rt, (caller % 2) as u32 + 1, 0, PUT, &put);
-            if let Answer::Committed { .. } = answer {
-                committed = committed.wrapping_add(1);
+>(rt: &R, alloc: Global, desk: &Desk<J, HoldingGate>) {
+    let called = thread::map_indices(
+        rt,
+        alloc,
+        CALLERS,
+        &|caller: usize| {
+            let mut committed = 0u32;
+            for index in 0..25usize {
+                let key = caller.wrapping_mul(25).wrapping_add(index) as u64;
+                let put = words(rt, alloc, &[key, 1]);
+                let (answer, _) = desk.execute(rt, (caller % 2) as u32 + 1, 0, PUT, &put);
+                if let Answer::Committed { .. } = answer {
+                    committed = committed.wrapping_add(1);
+                }
             }
-        }
-        committed
-    });
+            committed
+        },
+    );
     for committed in &called.expect(rt, "memory") {
         assert_eq!(rt; *committed, 25);
     }
