@@ -1,5 +1,10 @@
 //! The commands, and why words are none.
 
+ghost use Rattle.std.specs.Prelude.{◌≡◌};
+ghost use Rattle.command_line.specs.Fault.{fault_status, kind_status};
+
+use clap::error::ErrorKind;
+use engines::FAILED;
 use explanations::Explanation;
 use std::alloc::{AllocError, AllocFailed};
 use thiserror::Error;
@@ -44,6 +49,36 @@ pub enum PlanFault<'a> {
     NoCommand,
     #[error("out of memory")]
     OutOfMemory,
+}
+
+/// The exit status where the words are no command.
+const BAD_COMMAND_LINE: u8 = 2;
+
+impl PlanFault<'_> {
+    /// The exit status: 0 where help or the version was asked for, 3 at want of memory, and else 2.
+    pub fn status(&self) -> u8
+        ensures { result ≡ fault_status self.now }
+    {
+        match self {
+            PlanFault::CommandLine(error) => kind_status(error.kind()),
+            PlanFault::OutOfMemory => FAILED,
+            PlanFault::Arguments { .. }
+            | PlanFault::Table { .. }
+            | PlanFault::Number { .. }
+            | PlanFault::NoCommand => BAD_COMMAND_LINE,
+        }
+    }
+}
+
+/// The exit status where clap read no command off the words.
+fn kind_status(kind: ErrorKind) -> u8
+    ensures { result ≡ kind_status kind }
+{
+    match kind {
+        ErrorKind::DisplayHelp | ErrorKind::DisplayVersion => 0,
+        ErrorKind::OutOfMemory => FAILED,
+        _ => BAD_COMMAND_LINE,
+    }
 }
 
 impl From<clap::Error> for PlanFault<'_> {

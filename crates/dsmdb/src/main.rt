@@ -12,8 +12,11 @@ use std::io::{BufReader, Write};
 use std::process::ExitCode;
 use std::{env, io};
 
-/// The exit status of a command line that can't be read.
-const BAD_COMMAND_LINE: u8 = 2;
+/// Says that a file can't be opened. Where that can't be said the status is the same.
+fn not_opened(rt: &HostRuntime, path: &str, error: &io::Error) -> u8 {
+    let _ = writeln!(rt.stderr(), "dsmdb: {path}: {error}");
+    FAILED
+}
 
 /// Lists the program in a file.
 fn list_file(rt: &HostRuntime, path: &str) -> io::Result<u8> {
@@ -23,10 +26,7 @@ fn list_file(rt: &HostRuntime, path: &str) -> io::Result<u8> {
             let mut output = rt.stdout();
             Ok(list_over(rt.alloc(), &mut file, &mut output, &mut faults))
         }
-        Err(error) => {
-            writeln!(faults, "dsmdb: {path}: {error}")?;
-            Ok(FAILED)
-        }
+        Err(error) => Ok(not_opened(rt, path, &error)),
     }
 }
 
@@ -47,10 +47,7 @@ fn check_file(rt: &HostRuntime, path: &str, args_len: u16, tables: &[(u8, u16)])
                 tables,
             ))
         }
-        Err(error) => {
-            writeln!(faults, "dsmdb: {path}: {error}")?;
-            Ok(FAILED)
-        }
+        Err(error) => Ok(not_opened(rt, path, &error)),
     }
 }
 
@@ -63,10 +60,7 @@ fn replay_file(rt: &HostRuntime, path: &str) -> io::Result<u8> {
             let mut output = rt.stdout();
             Ok(replay_over(rt.alloc(), &mut input, &mut output, &mut faults))
         }
-        Err(error) => {
-            writeln!(faults, "dsmdb: {path}: {error}")?;
-            Ok(FAILED)
-        }
+        Err(error) => Ok(not_opened(rt, path, &error)),
     }
 }
 
@@ -76,24 +70,23 @@ fn print_explanation(rt: &HostRuntime, explanation: &Explanation) -> io::Result<
     Ok(0)
 }
 
+/// Prints what was asked for in place of a command, or says why the words are none. Where the latter can't be said the
+/// status is the same.
 fn refused(rt: &HostRuntime, fault: &PlanFault<'_>) -> io::Result<u8> {
     match fault {
+        PlanFault::CommandLine(error) if !error.use_stderr() => error.print(rt)?,
         PlanFault::CommandLine(error) => {
-            error.print(rt)?;
-            Ok(u8::try_from(error.exit_code()).unwrap_or(BAD_COMMAND_LINE))
+            let _ = error.print(rt);
         }
         PlanFault::Arguments { .. }
         | PlanFault::Table { .. }
         | PlanFault::Number { .. }
-        | PlanFault::NoCommand => {
-            writeln!(rt.stderr(), "dsmdb: {fault}")?;
-            Ok(BAD_COMMAND_LINE)
-        }
-        PlanFault::OutOfMemory => {
-            writeln!(rt.stderr(), "dsmdb: {fault}")?;
-            Ok(FAILED)
+        | PlanFault::NoCommand
+        | PlanFault::OutOfMemory => {
+            let _ = writeln!(rt.stderr(), "dsmdb: {fault}");
         }
     }
+    Ok(fault.status())
 }
 
 fn run(rt: &HostRuntime) -> io::Result<u8> {

@@ -1,6 +1,6 @@
 //! The command `check`, over any input and output.
 
-ghost use Rattle.std.specs.Prelude.{◌≡◌, ◌≢◌, ◌⊎◌, ◌≤◌, IfOk, IfSome, OnErr};
+ghost use Rattle.std.specs.Prelude.{◌≡◌, ◌≢◌, ◌⊎◌, ◌≤◌, Err, IfOk, IfSome, OnErr};
 ghost use Rattle.std.specs.Io.KnownBytes.{Appends};
 ghost use Rattle.byte_output.specs.Writes.{AppendsBeginning, WritesText};
 ghost use Rattle.schema.specs.Schema.{schema_of};
@@ -47,6 +47,9 @@ pub fn check_over<A: Allocator + Copy, R: Read, W: Write, E: Write>(
 
     // Nothing is said where nothing failed.
     ensures silent { result ≢ FAILED → faults.new ≡ faults.old }
+
+    // The schema is made first: of tables that are none nothing is read.
+    ensures unread { (fault : SchemaFault) → schema_of tables.now ≡ Err fault → input.new ≡ input.old }
 {
     match check(alloc, input, output, args_len, tables) {
         Ok(verdict) => verdict.status(),
@@ -73,6 +76,7 @@ fn check<A: Allocator + Copy, R: Read, W: Write>(
     ensures err { OnErr result (IfSome (R.remaining input.old) (λ bytes. (W.contents output.new ≡ W.contents output.old)
         ⊎ OfVerdict args_len (schema_of tables.now) (program_of bytes) (λ verdict.
         AppendsBeginning (W.contents output.old) (W.contents output.new) (verdict_text verdict)))) }
+    ensures unread { (fault : SchemaFault) → schema_of tables.now ≡ Err fault → input.new ≡ input.old }
 {
     let verdict = verdict(alloc, input, args_len, tables)?;
     print(&verdict.line(), output)?;
@@ -95,8 +99,9 @@ fn verdict<A: Allocator + Copy, R: Read>(
     tables: &[(u8, u16)],
 ) -> io::Result<CheckVerdict>
     requires { args_len ≤ 256 }
-    ensures { IfOk result (λ verdict. IfSome (R.remaining input.old) (λ bytes.
+    ensures verdict { IfOk result (λ verdict. IfSome (R.remaining input.old) (λ bytes.
         IsVerdictOf args_len (schema_of tables.now) (program_of bytes) verdict)) }
+    ensures unread { (fault : SchemaFault) → schema_of tables.now ≡ Err fault → input.new ≡ input.old }
 {
     let schema = match Schema::new(alloc, tables) {
         Ok(schema) => schema,
