@@ -61,7 +61,7 @@ fn check_plan<'a>(alloc: Global, values: &ArgMatches<'a>) -> Result<Plan<'a>, Pl
     let tables = tables(alloc, values)?;
     Ok(Plan::Check {
         file,
-        args_len,
+        args_len: args_len as u16,
         tables,
     })
 }

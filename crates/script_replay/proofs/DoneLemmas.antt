@@ -15,8 +15,8 @@ use Rattle.script_settings.specs.Fault.{cause_of_line_fault}
 use Rattle.script_settings.specs.Settings.{ScriptSettings, is_setting}
 use Rattle.script_actions.specs.Doing.{HasDone}
 use Rattle.script_replay.specs.declared.stage.Stage as code
-use Rattle.script_replay.specs.declared.stop.Stop.{Stop}
-use Rattle.script_replay.specs.declared.stop.Stop.TheVariants.{Fault, Input, Output}
+use Rattle.script_stops.specs.declared.stop.Stop.{Stop}
+use Rattle.script_stops.specs.declared.stop.Stop.TheVariants.{Fault, Input, Output}
 use Rattle.script_replay.specs.declared.stage.Stage.TheVariants.{SettingUp as SettingUpCode, Acting as ActingCode}
 use Rattle.script_replay.specs.Stage.{Stage, Acting, Action, Fails, Goes, Acts, first_action, action_of}
 use Rattle.script_replay.specs.Replay.{Ending, Faulty, Prints}

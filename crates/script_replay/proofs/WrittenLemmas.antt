@@ -6,15 +6,16 @@ use Rattle.byte_output.specs.declared.paged.PagedOutput.{PagedOutput}
 use Rattle.byte_output.specs.Pending.{output_of, pending_of, Passes}
 use Rattle.byte_output.specs.Writes.{AppendsBeginning}
 use Rattle.byte_output.proofs.PendingLemmas.{Writes-finished}
-use Rattle.engines.specs.declared.status.TheConstants.{FAILED}
+use Rattle.script_stops.specs.Telling.{FAILED}
 use Rattle.script_settings.specs.declared.cause.FaultCause.{FaultCause}
 use Rattle.script_settings.specs.declared.cause.FaultCause.TheVariants.{Line, Place, Table, Program, Refused, Procedure, OutOfMemory}
 use Rattle.script_actions.specs.Doing.{PassesBeginning}
-use Rattle.script_replay.specs.declared.stop.Stop.{Stop}
-use Rattle.script_replay.specs.declared.stop.Stop.TheVariants.{Fault, Input, Output}
+use Rattle.script_stops.specs.declared.stop.Stop.{Stop}
+use Rattle.script_stops.specs.declared.stop.Stop.TheVariants.{Fault, Input, Output}
 use Rattle.script_replay.specs.Replay.{Ending, Finished, Faulty}
 use Rattle.script_replay.specs.Leaving.{Leaves}
-use Rattle.script_replay.specs.Doing.{GivesBeginning, GivesReplay, has_output_failed, WritesBeginning, WritesReplay, status_of_cause, SaysEnd}
+use Rattle.script_replay.specs.Doing.{GivesBeginning, GivesReplay, has_output_failed, WritesBeginning, WritesReplay}
+use Rattle.script_stops.specs.Telling.{status_of_cause, SaysEnd}
 use Rattle.script_replay.proofs.PassesLemmas.{Appends-nothing, PassesBeginning-front, PassesBeginning-finished, PassesBeginning-lost}
 
 -- ---- what was given is written

@@ -1,19 +1,14 @@
 -- What a replay leaves on its output, and its exit status.
-use Rattle.std.specs.Prelude.{◌≡◌, ◌⊎◌, ℕ, List, [], ◌++◌, codes, Option}
+use Rattle.std.specs.Prelude.{◌≡◌, ◌⊎◌, ℕ, List, [], Option}
 use Rattle.std.specs.Io.KnownBytes.{Appends}
 use Rattle.byte_output.specs.Writes.{AppendsBeginning}
-use Rattle.engines.specs.declared.status.TheConstants.{FAILED}
-use Rattle.script_settings.specs.declared.cause.ScriptFault.{ScriptFault}
-use Rattle.script_settings.specs.Fault.{script_fault_text}
+use Rattle.script_stops.specs.Telling.{FAILED}
+use Rattle.script_stops.specs.Telling.{fault_line}
 use Rattle.script_replay.specs.Replay.{Ending, Finished, Faulty}
 
 abbrev pub status_of : Ending → ℕ
 status_of Finished = 0
 status_of (Faulty fault) = 1
-
--- as `line 4: L7 V5 slot 6`
-abbrev pub fault_line : ScriptFault → List ℕ
-fault_line fault = script_fault_text fault ++ codes "\n"
 
 -- what is said of a script's end, apart from what it prints
 abbrev pub faults_of : Ending → List ℕ

@@ -3,8 +3,7 @@
 ghost use Rattle.std.specs.Prelude.{◌≡◌, ◌⊎◌};
 ghost use Rattle.byte_output.specs.Writes.{WritesText};
 ghost use Rattle.engines.specs.declared.status.TheConstants.{FAILED};
-ghost use Rattle.script_replay.specs.Leaving.{fault_line};
-ghost use Rattle.script_replay.specs.Doing.{status_of_cause, SaysEnd};
+ghost use Rattle.script_stops.specs.Telling.{fault_line, status_of_cause, SaysEnd};
 
 use crate::stop::Stop;
 use byte_output::line::Line;
@@ -15,7 +14,7 @@ use std::io;
 use std::io::Write;
 
 /// Says why a script ended before its end, as far as the writer takes it: the exit status.
-pub(crate) fn tell<E: Write>(faults: &mut E, stop: Stop) -> u8
+pub fn tell<E: Write>(faults: &mut E, stop: Stop) -> u8
     ensures range { (result ≡ 1) ⊎ (result ≡ FAILED) }
     ensures said { SaysEnd (E.contents faults.old) (E.contents faults.new) stop result }
 {

@@ -1,7 +1,7 @@
 //! Why a script ended before its end.
 
 ghost use Rattle.std.specs.Prelude.{◌≡◌};
-ghost use Rattle.script_replay.specs.declared.stop.Stop.TheVariants.{Fault};
+ghost use Rattle.script_stops.specs.declared.stop.Stop.TheVariants.{Fault};
 ghost use Rattle.script_settings.specs.declared.cause.FaultCause.TheVariants.{OutOfMemory};
 
 use script_settings::{FaultCause, ScriptFault};
@@ -19,14 +19,14 @@ pub enum Stop {
 }
 
 /// A line is at fault.
-pub(crate) fn fault_at(line: u64, cause: FaultCause) -> Stop
+pub fn fault_at(line: u64, cause: FaultCause) -> Stop
     ensures { result ≡ Fault (record { line = line; cause = cause }) }
 {
     Stop::Fault(ScriptFault { line, cause })
 }
 
 /// Memory was wanting at a line; 0 stands for the script as a whole.
-pub(crate) fn out_of_memory(line: u64) -> Stop
+pub fn out_of_memory(line: u64) -> Stop
     ensures { result ≡ Fault (record { line = line; cause = OutOfMemory }) }
 {
     fault_at(line, FaultCause::OutOfMemory)
