@@ -77,6 +77,8 @@ impl PlanFault<'_> {
             PlanFault::OutOfMemory => FAILED,
             PlanFault::Arguments { .. }
             | PlanFault::Table { .. }
+            | PlanFault::Executors { .. }
+            | PlanFault::LogLimit { .. }
             | PlanFault::Number { .. }
             | PlanFault::NoCommand => BAD_COMMAND_LINE,
         }
