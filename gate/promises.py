@@ -28,6 +28,8 @@ def shown(crate):
 def clauses_of(lines, at):
     """Returns the names of a function's clauses, from the line that it begins with."""
     found, left_open = [], 0
+    if lines[at].endswith("{"):
+        return found
     for line in lines[at + 1 :]:
         starts = re.match(r" *(ensures|requires|ghost)\b", line)
         if clause := CLAUSE.match(line):
