@@ -30,8 +30,11 @@ bfa300000000000007030000f8ffffff8500000002000000bf80000000000000\
 9500000000000000";
 
 const REPLICAS: u32 = 3;
+
 const EXECUTORS: u32 = 2;
+
 const WINDOW: u32 = 64;
+
 const CALLERS: usize = 4;
 
 /// One table of rows of 8 bytes, and one procedure.
@@ -108,7 +111,10 @@ fn use_node<
     let desk = node.desk();
     let called = thread::map_indices(rt, alloc, CALLERS, &|caller: usize| call(rt, desk, caller));
     let finish = node.finish(rt);
-    let done = called.ok()?.iter().fold(0u64, |sum, done| sum.saturating_add(*done));
+    let done = called
+        .ok()?
+        .iter()
+        .fold(0u64, |sum, done| sum.saturating_add(*done));
     Some((done, finish.totals.committed, finish.agreement))
 }
 

@@ -101,7 +101,7 @@ pub(crate) fn adds<
         &|caller: usize| {
             let mut session = Session::new(desk);
             let add = words(rt, alloc, &[5, 1]);
-            let replica = (caller % replicas.max(1)) as u32;
+            let replica = u32::try_from(caller % replicas.max(1)).unwrap_or(0);
             for _ in 0..25 {
                 let _answered = session.call(rt, replica.wrapping_add(1), ADD, &add);
             }
@@ -193,7 +193,7 @@ pub(crate) fn refusals<J: LogSetting + Ledgers + Send + Sync + 'static, R: Wait 
         (desk.execute(rt, 3, 9, 77, &add).0, CallRefusal::NoReplica),
         (desk.execute(rt, 1, 0, 77, &add).0, CallRefusal::NoProcedure),
         (
-            desk.execute(rt, 1, 0, ADD, &add[..8]).0,
+            desk.execute(rt, 1, 0, ADD, &words(rt, alloc, &[5])).0,
             CallRefusal::ArgumentsLength,
         ),
         (
