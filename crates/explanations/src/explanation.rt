@@ -2,7 +2,7 @@
 
 ghost use Rattle.std.specs.Prelude.{◌≡◌, IfSome};
 
-use crate::rows::EXPLANATIONS;
+use crate::rows::{OF_PROCEDURES, OF_RUNS};
 use std::fmt;
 
 /// What is said of a refusal's number.
@@ -36,8 +36,25 @@ impl fmt::Display for Explanation {
 pub fn explain(number: &str) -> Option<Explanation>
     ensures { IfSome result (λ row. row.number.now ≡ number.now) }
 {
-    EXPLANATIONS
+    match of_procedures(number) {
+        Some(row) => Some(row),
+        None => of_runs(number),
+    }
+}
+
+/// A row about programs, schemas and procedures.
+fn of_procedures(number: &str) -> Option<Explanation>
+    ensures { IfSome result (λ row. row.number.now ≡ number.now) }
+{
+    OF_PROCEDURES
         .iter()
         .copied()
         .find(|row| row.number == number)
+}
+
+/// A row about what is run.
+fn of_runs(number: &str) -> Option<Explanation>
+    ensures { IfSome result (λ row. row.number.now ≡ number.now) }
+{
+    OF_RUNS.iter().copied().find(|row| row.number == number)
 }

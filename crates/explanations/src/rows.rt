@@ -2,8 +2,8 @@
 
 use crate::explanation::Explanation;
 
-/// Each refusal once.
-pub const EXPLANATIONS: [Explanation; 61] = [
+/// Of programs, schemas and procedures, each refusal once.
+pub const OF_PROCEDURES: [Explanation; 33] = [
     Explanation {
         number: "B1",
         cause: "the length is 0, or no multiple of 8",
@@ -207,6 +207,10 @@ pub const EXPLANATIONS: [Explanation; 61] = [
         cure: "verify it for the catalogue's tables",
         in_c: "",
     },
+];
+
+/// Of what is run, each refusal once.
+pub const OF_RUNS: [Explanation; 28] = [
     Explanation {
         number: "P1",
         cause: "there is no such replica; a `rows` line asks for one, too",
