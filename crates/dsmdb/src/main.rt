@@ -11,6 +11,8 @@ use script_run::run_over;
 use std::fs::File;
 use std::io::{BufReader, Write};
 use std::process::ExitCode;
+use std::sync::Wait;
+use std::thread::Threads;
 use std::{env, io};
 
 /// Says that a file can't be opened. Where that can't be said the status is the same.
@@ -66,14 +68,20 @@ fn replay_file(rt: &HostRuntime, path: &str) -> io::Result<u8> {
 }
 
 /// Runs the script in a file on threads.
-fn run_file(rt: &HostRuntime, path: &str, executors: u32, log_limit: u32) -> io::Result<u8> {
+fn run_file<R: Threads + Wait + Copy + Send + Sync + 'static>(
+    rt: &HostRuntime,
+    threads: &R,
+    path: &str,
+    executors: u32,
+    log_limit: u32,
+) -> io::Result<u8> {
     let mut faults = rt.stderr();
     match File::open(rt, path) {
         Ok(file) => {
             let mut input = BufReader::new(rt.alloc(), file)?;
             let mut output = rt.stdout();
             Ok(run_over(
-                rt,
+                threads,
                 rt.alloc(),
                 &mut input,
                 &mut output,
@@ -113,7 +121,11 @@ fn refused(rt: &HostRuntime, fault: &PlanFault<'_>) -> io::Result<u8> {
     Ok(fault.status())
 }
 
-fn run(rt: &HostRuntime) -> io::Result<u8> {
+/// Does what the words ask for. Threads are started by a handle of their own.
+fn run<R: Threads + Wait + Copy + Send + Sync + 'static>(
+    rt: &HostRuntime,
+    threads: &R,
+) -> io::Result<u8> {
     let words: Vec<String> = env::args(rt)?.collect(rt.alloc())?;
     match plan(rt.alloc(), words.as_slice()) {
         Ok(Plan::List { file }) => list_file(rt, file),
@@ -131,14 +143,14 @@ fn run(rt: &HostRuntime) -> io::Result<u8> {
                 executors,
                 log_limit,
             },
-        ) => run_file(rt, script, executors, log_limit),
+        ) => run_file(rt, threads, script, executors, log_limit),
         Ok(Plan::Explain { explanation }) => print_explanation(rt, &explanation),
         Err(fault) => refused(rt, &fault),
     }
 }
 
 fn main(rt: HostRuntime) -> ExitCode {
-    match run(&rt) {
+    match run(&rt, &rt) {
         Ok(status) => ExitCode::from(status),
         Err(error) => {
             let _ = eprintln!(rt; "dsmdb: {error}");
