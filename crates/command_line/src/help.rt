@@ -1,4 +1,4 @@
-//! What `dsmdb replay --help` says of scripts.
+//! What `dsmdb replay --help` and `dsmdb run --help` say of scripts.
 
 /// The lines of a script and what they print, as docs/FORMATS.md explains them.
 pub const SCRIPT_HELP: &str = "\
@@ -60,6 +60,50 @@ call 1 refused P5 or replica 1 refused P6 (rows of no replica: P1), and the
 script goes on; deliver ends there, also after entries. A line at fault ends the
 script, as line 4: L7 V5 slot 6 on standard error. docs/REFUSALS.md explains the
 numbers.
+
+Exit status: 0 done, 1 a line at fault, 2 a command line that can't be read,
+3 a file, a stream or memory.";
+
+/// The lines of a script whose calls run on threads, and what is printed of them, as docs/FORMATS.md explains them.
+pub const RUN_HELP: &str = "\
+Lines of a script, which is read whole before its calls begin. Settings, as
+dsmdb replay --help explains them: window, replicas, table, proc. Behind them
+stand only calls:
+  begin R NAME HEX         a call at replica R, with these arguments
+  begin R NAME HEX SESSION SEQ
+                           the same with a request, which commits once at most:
+                           the numbers of its caller and of what is asked for
+
+Each replica has N threads that make its calls, in the order of the script, and
+N that run them, so that N calls run at once. When all are answered, and each
+replica has taken the whole log or stopped, there is a line for each call, the
+calls being numbered from 1 in the order of the script:
+  call I committed D reply V      its entry D of the log committed
+  call I read S reply V           it wrote nothing, on the rows at position S
+  call I cancelled S code V       it cancelled, on the rows at position S
+  call I conflict D E             entry E wrote what it had looked at
+  call I stale                    its snapshot was too far behind
+  call I repeat D E reply V       entry E has done its request, and replied V
+  call I no memory                it found no memory, and isn't in the log
+  call I full                     the log was full
+  call I stopped D                it is entry D, but its replica stopped before
+  call I refused P2               it didn't begin: no such replica (P1) or
+                                  procedure (P2), or arguments of another
+                                  length (P3)
+and then
+  total committed A read B cancelled C conflict D stale E repeat G other F
+                                  how many were answered so
+  replica R position P commits C running
+                                  how far each replica has come, and how many
+                                  entries committed; or stopped, where it found
+                                  no memory
+  agreement yes                   what each two replicas took from the log is
+                                  the same, as far as both have come; or no
+
+How calls overlap, and so which of them commit, may differ from run to run.
+A line at fault ends the script before any call, as line 4: L7 V5 slot 6 on
+standard error; line 0: L5 says that window or replicas are wanting.
+docs/REFUSALS.md explains the numbers.
 
 Exit status: 0 done, 1 a line at fault, 2 a command line that can't be read,
 3 a file, a stream or memory.";

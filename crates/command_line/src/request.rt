@@ -27,6 +27,15 @@ pub enum Plan<'a> {
     Replay {
         script: &'a str,
     },
+    /// Take the calls of the script in this file on threads, so many at each replica, with a log of at most so many
+    /// entries.
+    Run {
+        script: &'a str,
+        /// 1 to 16.
+        executors: u32,
+        /// 1 to 1,048,576.
+        log_limit: u32,
+    },
     /// Say what is known of a refusal.
     Explain {
         explanation: Explanation,
@@ -43,6 +52,10 @@ pub enum PlanFault<'a> {
     Arguments { word: &'a str },
     #[error("T:W must be a table from 1 to 64 and its row width from 1 to 128: '{word}'")]
     Table { word: &'a str },
+    #[error("--executors must be a number from 1 to 16: '{word}'")]
+    Executors { word: &'a str },
+    #[error("--log must be a number from 1 to 1048576: '{word}'")]
+    LogLimit { word: &'a str },
     #[error("NUMBER must be a refusal's, as V5; docs/REFUSALS.md has them all: '{word}'")]
     Number { word: &'a str },
     #[error("no command was given")]
@@ -64,6 +77,8 @@ impl PlanFault<'_> {
             PlanFault::OutOfMemory => FAILED,
             PlanFault::Arguments { .. }
             | PlanFault::Table { .. }
+            | PlanFault::Executors { .. }
+            | PlanFault::LogLimit { .. }
             | PlanFault::Number { .. }
             | PlanFault::NoCommand => BAD_COMMAND_LINE,
         }

@@ -1,14 +1,15 @@
 //! What the command line asks for.
 
-ghost use Rattle.std.specs.Prelude.{◌≡◌, [], codes, Some, IfOk, map};
+ghost use Rattle.std.specs.Prelude.{◌≡◌, ◌≤◌, [], codes, Some, IfOk, map};
 ghost use Rattle.std.specs.Option.{unwrap_or};
 ghost use Rattle.clap.specs.Words.{all_of, app_of, found_of, rows_of, rule_of, subcommand_of, subcommand_rows_of};
 ghost use Rattle.engines.specs.Number.{table_word};
-ghost use Rattle.command_line.specs.Plan.{args_rule, check_line, command_line, explain_line, file_rule, list_line};
-ghost use Rattle.command_line.specs.Plan.{number_rule, replay_line, script_rule, table_rule};
-ghost use Rattle.command_line.specs.Plan.{IsPlanOf, IsListOf, IsCheckOf, IsReplayOf, IsExplainOf, HasLength};
+ghost use Rattle.command_line.specs.Plan.{args_rule, check_line, command_line, executors_rule, explain_line, file_rule};
+ghost use Rattle.command_line.specs.Plan.{list_line, log_rule, number_rule, replay_line, run_line, script_rule, table_rule};
+ghost use Rattle.command_line.specs.Plan.{IsPlanOf, IsListOf, IsCheckOf, IsReplayOf, IsRunOf, IsExplainOf, IsWithinLimits};
+ghost use Rattle.command_line.specs.Plan.{number_of};
 
-use crate::help::SCRIPT_HELP;
+use crate::help::{RUN_HELP, SCRIPT_HELP};
 use crate::request::{Plan, PlanFault};
 use clap::{Arg, ArgAction, ArgMatches, Command};
 use engines::{number_in, table};
@@ -22,13 +23,14 @@ const VERSION: &str = "0.1.0";
 /// The words after the program's name, which is the first, as a plan.
 pub fn plan<'a, S: AsStr>(alloc: Global, words: &'a [S]) -> Result<Plan<'a>, PlanFault<'a>>
     ensures words { IfOk result (λ plan. IsPlanOf (subcommand_of command_line (map S.text words.entry.now)) plan) }
-    ensures length { IfOk result HasLength }
+    ensures limits { IfOk result IsWithinLimits }
 {
     let matches = matches(alloc, words)?;
     match matches.subcommand() {
         Some(("list", values)) => list_plan(values),
         Some(("check", values)) => check_plan(alloc, values),
         Some(("replay", values)) => replay_plan(values),
+        Some(("run", values)) => run_plan(values),
         Some(("explain", values)) => explain_plan(values),
         _ => Err(PlanFault::NoCommand),
     }
@@ -47,7 +49,7 @@ fn list_plan<'a>(values: &ArgMatches<'a>) -> Result<Plan<'a>, PlanFault<'a>>
 /// The values of `check`.
 fn check_plan<'a>(alloc: Global, values: &ArgMatches<'a>) -> Result<Plan<'a>, PlanFault<'a>>
     ensures values { IfOk result (IsCheckOf (rows_of (found_of values.now))) }
-    ensures length { IfOk result HasLength }
+    ensures limits { IfOk result IsWithinLimits }
 {
     let Some(file) = values.get_str("FILE") else {
         return Err(PlanFault::NoCommand);
@@ -61,7 +63,7 @@ fn check_plan<'a>(alloc: Global, values: &ArgMatches<'a>) -> Result<Plan<'a>, Pl
     let tables = tables(alloc, values)?;
     Ok(Plan::Check {
         file,
-        args_len,
+        args_len: args_len as u16,
         tables,
     })
 }
@@ -101,6 +103,51 @@ fn replay_plan<'a>(values: &ArgMatches<'a>) -> Result<Plan<'a>, PlanFault<'a>>
     }
 }
 
+/// The values of `run`.
+fn run_plan<'a>(values: &ArgMatches<'a>) -> Result<Plan<'a>, PlanFault<'a>>
+    ensures values { IfOk result (IsRunOf (rows_of (found_of values.now))) }
+    ensures limits { IfOk result IsWithinLimits }
+{
+    let Some(script) = values.get_str("SCRIPT") else {
+        return Err(PlanFault::NoCommand);
+    };
+    let executors = executors(values)?;
+    let log_limit = log_limit(values)?;
+    Ok(Plan::Run {
+        script,
+        executors,
+        log_limit,
+    })
+}
+
+/// How many executing threads each replica has.
+fn executors<'a>(values: &ArgMatches<'a>) -> Result<u32, PlanFault<'a>>
+    ensures number { IfOk result (λ n. number_of (rows_of (found_of values.now)) (codes "executors") 1 16 ≡ Some n) }
+    ensures range { IfOk result (λ n. (1 ≤ n) × (n ≤ 16)) }
+{
+    let Some(word) = values.get_str("executors") else {
+        return Err(PlanFault::NoCommand);
+    };
+    match number_in(word, 1, 16) {
+        Some(executors) => Ok(executors),
+        None => Err(PlanFault::Executors { word }),
+    }
+}
+
+/// How many entries the log has at most.
+fn log_limit<'a>(values: &ArgMatches<'a>) -> Result<u32, PlanFault<'a>>
+    ensures number { IfOk result (λ n. number_of (rows_of (found_of values.now)) (codes "log") 1 1048576 ≡ Some n) }
+    ensures range { IfOk result (λ n. (1 ≤ n) × (n ≤ 1048576)) }
+{
+    let Some(word) = values.get_str("log") else {
+        return Err(PlanFault::NoCommand);
+    };
+    match number_in(word, 1, 1_048_576) {
+        Some(log_limit) => Ok(log_limit),
+        None => Err(PlanFault::LogLimit { word }),
+    }
+}
+
 /// The values of `explain`.
 fn explain_plan<'a>(values: &ArgMatches<'a>) -> Result<Plan<'a>, PlanFault<'a>>
     ensures { IfOk result (IsExplainOf (rows_of (found_of values.now))) }
@@ -121,6 +168,7 @@ fn matches<'a, S: AsStr>(alloc: Global, words: &'a [S]) -> Result<ArgMatches<'a>
     let list = list_command(alloc)?;
     let check = check_command(alloc)?;
     let replay = replay_command(alloc)?;
+    let run = run_command(alloc)?;
     let explain = explain_command(alloc)?;
     let dsmdb = Command::new(alloc, "dsmdb")
         .about("A multi-master row database with verified BPF procedures")
@@ -129,6 +177,7 @@ fn matches<'a, S: AsStr>(alloc: Global, words: &'a [S]) -> Result<ArgMatches<'a>
         .subcommand(list)?;
     let dsmdb = dsmdb.subcommand(check)?;
     let dsmdb = dsmdb.subcommand(replay)?;
+    let dsmdb = dsmdb.subcommand(run)?;
     let dsmdb = dsmdb.subcommand(explain)?;
     Ok(dsmdb.try_get_matches_from(words)?)
 }
@@ -160,6 +209,17 @@ fn replay_command<'a>(alloc: Global) -> Result<Command<'a>, AllocError>
         .arg(script(alloc))
 }
 
+fn run_command<'a>(alloc: Global) -> Result<Command<'a>, AllocError>
+    ensures { IfOk result (λ c. app_of c ≡ run_line) }
+{
+    let command = Command::new(alloc, "run")
+        .about("Takes the calls of a script on threads, and prints what each is answered")
+        .after_help(RUN_HELP)
+        .arg(script(alloc))?;
+    let command = command.arg(executors_arg(alloc))?;
+    command.arg(log_arg(alloc))
+}
+
 fn explain_command<'a>(alloc: Global) -> Result<Command<'a>, AllocError>
     ensures { IfOk result (λ c. app_of c ≡ explain_line) }
 {
@@ -183,6 +243,28 @@ fn script<'a>(alloc: Global) -> Arg<'a>
     Arg::new(alloc, "SCRIPT")
         .help("A file with the lines of a script")
         .required(true)
+        .action(ArgAction::Set)
+}
+
+fn executors_arg<'a>(alloc: Global) -> Arg<'a>
+    ensures { rule_of result ≡ executors_rule }
+{
+    Arg::new(alloc, "executors")
+        .long("executors")
+        .value_name("N")
+        .help("How many threads run the calls of each replica, 1 to 16")
+        .default_value("4")
+        .action(ArgAction::Set)
+}
+
+fn log_arg<'a>(alloc: Global) -> Arg<'a>
+    ensures { rule_of result ≡ log_rule }
+{
+    Arg::new(alloc, "log")
+        .long("log")
+        .value_name("N")
+        .help("How many entries the log has at most, 1 to 1048576")
+        .default_value("1048576")
         .action(ArgAction::Set)
 }
 

@@ -1,6 +1,5 @@
 -- The reply that the caller of a committed call got is that of its run on the rows just before it.
 use Rattle.std.proofs.Common.{◌≡◌, inl, inr, ℕ, zero, suc, ◌+◌, ◌≤◌, ◌<◌, List, [], ◌∷◌, ◌++◌, length, slice_get, Option, Some, None, refl, sym, ap, subst, ◌∙◌, arith}
-use Rattle.std.specs.List.{AllByRecursion}
 use Rattle.bpf_semantics.specs.Run.{Run}
 use Rattle.log_model.specs.declared.verdict.Verdict.TheVariants.{Commit}
 use Rattle.dsm_model.specs.declared.outcome.Outcome.{Outcome}
@@ -8,7 +7,7 @@ use Rattle.dsm_model.specs.declared.outcome.Outcome.TheVariants.{Exit, Ordered}
 use Rattle.log_model.specs.Log.{Setting, Call, Item, CallItem, Log, run_in, verdict_of}
 use Rattle.log_model.specs.Fit.{HasSafeProcedures}
 use Rattle.dsm_model.specs.World.{World, OpenCall, Step, Turn, Order, numbered, flatten, open_call, IsStep, AreSteps}
-use Rattle.dsm_model.specs.Sound.{IsWorld, IsSerialReply, IsGiven, AreGiven}
+use Rattle.dsm_model.specs.Sound.{IsWorld, IsSerialReply, AreGiven}
 use Rattle.log_model.proofs.GrowthLemmas.{run_grown, get_before}
 use Rattle.log_model.proofs.RunLemmas.{just}
 use Rattle.log_model.proofs.CallLemmas.{serial_run}

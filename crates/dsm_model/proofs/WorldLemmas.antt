@@ -1,19 +1,18 @@
 -- What each step of a world keeps.
 use Rattle.std.proofs.Common.{◌≡◌, inl, inr, ℕ, zero, suc, ◌+◌, ◌≤◌, ◌<◌, List, [], ◌∷◌, ◌++◌, length, true, false, Option, None, All, refl, sym, ap, subst, ◌∙◌, arith}
-use Rattle.std.specs.List.{AllByRecursion}
 use Rattle.std.proofs.lemmas.List.{length-append}
 use Rattle.bpf_code.specs.Program.{Program}
 use Rattle.bpf_semantics.specs.Run.{Run}
 use Rattle.log_model.specs.declared.request.RequestId.{RequestId}
 use Rattle.dsm_model.specs.declared.outcome.Outcome.{Outcome}
-use Rattle.log_model.specs.Log.{Setting, Call, run_in, verdict_of, StoredProcedure, CallItem, AdditionItem, Database, Log, run_of_call}
+use Rattle.log_model.specs.Log.{Setting, Call, run_in, verdict_of, StoredProcedure, CallItem, AdditionItem, Log}
 use Rattle.dsm_model.specs.World.{World, Replica, OpenCall, Step, Begin, max_calls, numbered, with_numbered, flatten, open_call, without_call, with_replica, with_begun, new_call, with_turns, with_ordered, first_world, IsStep, AreSteps, Add, Passed, addition_count, call_count, with_added}
 use Rattle.dsm_model.specs.Sound.{IsOpenCall, open_count, IsWorld, IsGiven, AreGiven}
 use Rattle.log_model.proofs.GrowthLemmas.{run_grown, is_log_snoc, verdict_within}
 use Rattle.dsm_model.specs.declared.outcome.Outcome.TheVariants.{Added}
 use Rattle.log_model.specs.Fit.{IsSafe}
 use Rattle.log_model.proofs.RunLemmas.{just}
-use Rattle.log_model.proofs.GrowthLemmas.{database_grown, is_call_grown, are_items_snoc, is_log_snoc, verdict_within}
+use Rattle.log_model.proofs.GrowthLemmas.{is_call_grown, are_items_snoc, is_log_snoc, verdict_within}
 use Rattle.dsm_model.proofs.Numbered.{some_is, numbered_set, numbered_there, numbered_one_more, flat_is, numbered_replicate, length_numbered, numbered_count, numbered_none, count_one_more}
 use Rattle.dsm_model.proofs.Cases.{Case, Same, New, Over, Turned, Appended, Verdicted, Stop, Anew, Put, step_case}
 

@@ -4,7 +4,6 @@ use Rattle.std.specs.FinMap.{len}
 use Rattle.bpf_code.specs.declared.instruction.Instruction.{Instruction}
 use Rattle.bpf_code.specs.declared.instruction.Instruction.TheVariants.{Call as CallInstruction}
 use Rattle.bpf_code.specs.Program.{Program, instruction_at}
-use Rattle.schema.specs.Schema.{Tables}
 use Rattle.schema.specs.Helper.{helper_of}
 use Rattle.schema.specs.declared.helper.Helper.{Helper}
 use Rattle.schema.specs.declared.helper.Helper.TheVariants.{Cancel}
@@ -17,7 +16,7 @@ use Rattle.dsm_model.specs.declared.outcome.ProgramFault.{ProgramFault}
 use Rattle.dsm_model.specs.declared.outcome.StepRefusal.TheVariants.{NoReplica, NoProcedure, ArgumentsLength, NoCall, NotAtExit, NothingToDeliver, ReplicaStopped, LogFull, OutOfMemory, TooManyCalls, ArgumentsLimit, ProgramRefused, NameShape, ZeroInRequest}
 use Rattle.dsm_model.specs.declared.outcome.Outcome.{Outcome}
 use Rattle.dsm_model.specs.declared.outcome.Outcome.TheVariants.{Begun, More, Exit, Stale, NoMemory, Ordered, Read, Cancelled, Delivered, Rebuilt, Refused, Added}
-use Rattle.log_model.specs.Log.{StoredProcedure, Setting, Call, Log, by_number, moment_at, run_in, verdict_of, CallItem, AdditionItem, no_request, procedures_after, procedure_of, rows_after}
+use Rattle.log_model.specs.Log.{StoredProcedure, Setting, Call, Log, by_number, moment_at, run_in, verdict_of, CallItem, AdditionItem, no_request, procedures_after, procedure_of}
 use Rattle.log_model.specs.Name.{is_name}
 
 -- how far it has delivered the log, and whether it goes on delivering

@@ -11,6 +11,8 @@ pub use laws::world::{
     delivered_verdicts_are_the_logs, open_calls_are_sound, replies_are_serial, steps_keep_a_world,
 };
 pub use outcome::{Outcome, ProgramFault, StepRefusal};
+pub use request::{has_zero, or_none};
 
 mod laws;
 mod outcome;
+mod request;

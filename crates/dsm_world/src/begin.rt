@@ -1,24 +1,18 @@
 //! A call begins.
 
 ghost use Rattle.std.specs.Prelude.{◌≡◌, ◌<◌, All};
-ghost use Rattle.dsm_model.specs.World.{Begin, IsStep, has_zero, or_none};
+ghost use Rattle.dsm_model.specs.World.{Begin, IsStep};
 ghost use Rattle.dsm_world.specs.System.{setting_of, world_of};
 ghost use Rattle.dsm_world.specs.Holdings.{system_of, AreConsistentHoldings};
 
 use crate::calls::enter;
 use crate::holdings::Holdings;
 use crate::numbers::index_of;
-use dsm_model::{Outcome, StepRefusal, steps_keep_a_world};
+use dsm_model::{Outcome, StepRefusal, has_zero, or_none, steps_keep_a_world};
 use log_model::{RequestId, a_log_only_grows, rows_fit_the_schema};
 use replica::replicas_follow_the_log;
 use std::alloc::Allocator;
 use world_calls::OpenCall;
-
-/// The request of a call that carries none.
-const NO_REQUEST: RequestId = RequestId {
-    session: 0,
-    sequence: 0,
-};
 
 /// The most calls and additions of a world, and entries of its log.
 pub(crate) const MAX_CALLS: usize = 1_048_576;
@@ -71,25 +65,5 @@ pub(crate) fn begin<A: Allocator + Copy>(
     match enter(&mut world.calls, alloc, open_call) {
         Ok(()) => Outcome::Begun { call, snapshot },
         Err(_) => Outcome::Refused(StepRefusal::OutOfMemory),
-    }
-}
-
-/// Whether the session or the number of a request is 0.
-fn has_zero(request: Option<RequestId>) -> bool
-    ensures { result ≡ has_zero request }
-{
-    match request {
-        Some(request) => request.session == 0 || request.sequence == 0,
-        None => false,
-    }
-}
-
-/// The request that a call carries.
-fn or_none(request: Option<RequestId>) -> RequestId
-    ensures { result ≡ or_none request }
-{
-    match request {
-        Some(request) => request,
-        None => NO_REQUEST,
     }
 }

@@ -7,6 +7,7 @@ use command_line::{Plan, PlanFault, plan};
 use engines::{FAILED, check_over, list_over};
 use explanations::Explanation;
 use script_replay::replay_over;
+use script_run::run_over;
 use std::fs::File;
 use std::io::{BufReader, Write};
 use std::process::ExitCode;
@@ -64,6 +65,27 @@ fn replay_file(rt: &HostRuntime, path: &str) -> io::Result<u8> {
     }
 }
 
+/// Runs the script in a file on threads.
+fn run_file(rt: &HostRuntime, path: &str, executors: u32, log_limit: u32) -> io::Result<u8> {
+    let mut faults = rt.stderr();
+    match File::open(rt, path) {
+        Ok(file) => {
+            let mut input = BufReader::new(rt.alloc(), file)?;
+            let mut output = rt.stdout();
+            Ok(run_over(
+                rt,
+                rt.alloc(),
+                &mut input,
+                &mut output,
+                &mut faults,
+                executors,
+                log_limit,
+            ))
+        }
+        Err(error) => Ok(not_opened(rt, path, &error)),
+    }
+}
+
 /// Prints what is known of a refusal.
 fn print_explanation(rt: &HostRuntime, explanation: &Explanation) -> io::Result<u8> {
     writeln!(rt.stdout(), "{explanation}")?;
@@ -80,6 +102,8 @@ fn refused(rt: &HostRuntime, fault: &PlanFault<'_>) -> io::Result<u8> {
         }
         PlanFault::Arguments { .. }
         | PlanFault::Table { .. }
+        | PlanFault::Executors { .. }
+        | PlanFault::LogLimit { .. }
         | PlanFault::Number { .. }
         | PlanFault::NoCommand
         | PlanFault::OutOfMemory => {
@@ -101,6 +125,13 @@ fn run(rt: &HostRuntime) -> io::Result<u8> {
             },
         ) => check_file(rt, file, args_len, &tables),
         Ok(Plan::Replay { script }) => replay_file(rt, script),
+        Ok(
+            Plan::Run {
+                script,
+                executors,
+                log_limit,
+            },
+        ) => run_file(rt, script, executors, log_limit),
         Ok(Plan::Explain { explanation }) => print_explanation(rt, &explanation),
         Err(fault) => refused(rt, &fault),
     }

@@ -30,7 +30,7 @@ whole : (text : List ℕ) → (slice_index text 0 == 43) ≡ false → without_l
 whole text e = rw e refl
 
 abbrev IsRead : List ℕ → Type 0
-IsRead ds = ((0 < length ds) × AllDigits 10 ds) × (digits_value 10 ds < 2 ^ 16)
+IsRead ds = ((0 < length ds) × AllDigits 10 ds) × (digits_value 10 ds < 2 ^ 32)
 
 pub read_is_number : (text : List ℕ) (n : ℕ) → (slice_index text 0 == 43) ≡ false → has_leading_zero text ≡ false
     → IsRead (without_leading_plus text) × (n ≡ digits_value 10 (without_leading_plus text)) → Some n ≡ numeral_value text
@@ -40,19 +40,19 @@ read_is_number text n plus zero h =
     let same : Some n ≡ Some (digits_value 10 text) = ap (λ k. Some k) (h.1 ∙ ap (digits_value 10) is) in
     rw (lt-ltb 0 (length text) g.0.0, digits_pass text g.0.1, zero) same
 
-pub unread_is_none : (lo hi : ℕ) (text : List ℕ) → hi < 2 ^ 16 → (slice_index text 0 == 43) ≡ false → has_leading_zero text ≡ false
+pub unread_is_none : (lo hi : ℕ) (text : List ℕ) → hi < 2 ^ 32 → (slice_index text 0 == 43) ≡ false → has_leading_zero text ≡ false
     → (IsRead (without_leading_plus text) → ⊥) → None ≡ number_in lo hi text
 unread_is_none lo hi text small plus zero h = go (is_numeral text) refl
   where
-    large : (b : Bool) → is_numeral text ≡ true → nat_lt (digits_value 10 text) 65536 ≡ b → None ≡ number_in lo hi text
+    large : (b : Bool) → is_numeral text ≡ true → nat_lt (digits_value 10 text) 4294967296 ≡ b → None ≡ number_in lo hi text
     large true t u =
         let parts = both _ _ t in
         absurd (h (subst IsRead (sym (whole text plus)) ((ltb-true _ _ parts.0, digits_from text parts.1), ltb-true _ _ u)))
     large false t u =
-        let big = ltb-false (digits_value 10 text) 65536 u in
+        let big = ltb-false (digits_value 10 text) 4294967296 u in
         let over : nat_le (digits_value 10 text) hi ≡ false = lt-leb (digits_value 10 text) hi (omega arith) in
         rw (t, zero, over, and_false (nat_le lo (digits_value 10 text))) refl
 
     go : (b : Bool) → is_numeral text ≡ b → None ≡ number_in lo hi text
     go false t = rw t refl
-    go true t = large (nat_lt (digits_value 10 text) 65536) t refl
+    go true t = large (nat_lt (digits_value 10 text) 4294967296) t refl

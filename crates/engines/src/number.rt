@@ -5,14 +5,14 @@ ghost use Rattle.engines.specs.Number.{has_leading_zero, within, number_in, tabl
 
 /// The number that a word gives in decimal digits, without sign and without leading zero, where it
 /// is from `lo` to `hi`.
-pub fn number_in(text: &str, lo: u16, hi: u16) -> Option<u16>
+pub fn number_in(text: &str, lo: u32, hi: u32) -> Option<u32>
     ensures number { result ≡ number_in lo hi text.now }
     ensures range { IfSome result (λ n. (lo ≤ n) × (n ≤ hi)) }
 {
     if has_plus(text.as_bytes()) || has_leading_zero(text.as_bytes()) {
         return None;
     }
-    match text.parse::<u16>() {
+    match text.parse::<u32>() {
         Ok(number) => within(number, lo, hi),
         Err(_) => None,
     }
@@ -25,10 +25,10 @@ pub fn table(text: &str) -> Option<(u8, u16)>
     let (table, width) = text.split_once(':')?;
     let table = number_in(table, 1, 64)?;
     let width = number_in(width, 1, 128)?;
-    Some((table as u8, width))
+    Some((table as u8, width as u16))
 }
 
-fn within(number: u16, lo: u16, hi: u16) -> Option<u16>
+fn within(number: u32, lo: u32, hi: u32) -> Option<u32>
     ensures number { result ≡ within lo hi (Some number) }
     ensures range { IfSome result (λ n. (lo ≤ n) × (n ≤ hi)) }
 {

@@ -3,7 +3,7 @@
 use crate::explanation::Explanation;
 
 /// Each refusal once.
-pub const EXPLANATIONS: [Explanation; 55] = [
+pub const EXPLANATIONS: [Explanation; 61] = [
     Explanation {
         number: "B1",
         cause: "the length is 0, or no multiple of 8",
@@ -322,8 +322,10 @@ pub const EXPLANATIONS: [Explanation; 55] = [
         number: "L5",
         cause: "the line doesn't stand where it may: a second `window` or `replicas`, a `table` behind a `proc`, a \
             setting behind the first line that acts (so a `proc` behind an `add`), a line that acts before \
-            `window` and `replicas` are both set",
-        cure: "settings first: window and replicas once each, tables, then procedures",
+            `window` and `replicas` are both set; under `run` also a line that acts but isn't `begin`, and, as \
+            line 0, a script that ends without `window` or `replicas`",
+        cure: "settings first: window and replicas once each, tables, then procedures; under `run` then `begin` \
+            lines alone",
         in_c: "",
     },
     Explanation {
@@ -351,6 +353,42 @@ pub const EXPLANATIONS: [Explanation; 55] = [
         cause: "out of memory: S4, B12, V12 and C3 too; also where there is none for what a line prints: the step \
             that it would tell of has then been taken",
         cure: "give the process more memory, and run the script again from its first line: its world ended with it",
+        in_c: "",
+    },
+    Explanation {
+        number: "N1",
+        cause: "the number of replicas is outside 1 to 8 (a script has L4 there)",
+        cure: "ask for 1 to 8",
+        in_c: "",
+    },
+    Explanation {
+        number: "N2",
+        cause: "the number of executing threads is outside 1 to 16 (the command line has status 2 there)",
+        cure: "ask for 1 to 16",
+        in_c: "",
+    },
+    Explanation {
+        number: "N3",
+        cause: "the window is outside 1 to 4,096 (a script has L4 there)",
+        cure: "ask for 1 to 4,096",
+        in_c: "",
+    },
+    Explanation {
+        number: "N4",
+        cause: "out of memory",
+        cure: "give the process more memory, and start again",
+        in_c: "",
+    },
+    Explanation {
+        number: "N5",
+        cause: "a thread wasn't started",
+        cure: "allow the process more threads, or ask for fewer replicas or executing threads",
+        in_c: "",
+    },
+    Explanation {
+        number: "N6",
+        cause: "the limit of the log is outside 1 to 1,048,576 (the command line has status 2 there)",
+        cure: "ask for 1 to 1,048,576",
         in_c: "",
     },
 ];

@@ -1,3 +1,4 @@
+mod calls;
 mod lines;
 mod scripts;
 mod settings;

@@ -1,1 +1,3 @@
+mod BeginLemmas
+mod CommitLemmas
 pub mod LockedLemmas

@@ -1,1 +1,4 @@
+pub mod Begin
+pub mod Begun
+pub mod Commits
 pub mod Locked

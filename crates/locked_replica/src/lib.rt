@@ -3,8 +3,12 @@
 #![tactic(auto)]
 
 pub use answers::{Delivery, Found};
+pub use begin::Begin;
+pub use begun::BegunCall;
 pub use locked::LockedReplica;
 
 mod answers;
+mod begin;
+mod begun;
 mod laws;
 mod locked;

@@ -1,18 +1,23 @@
 //! A replica beside what was delivered to it.
 
-ghost use Rattle.std.specs.Prelude.{◌≡◌, ◌-◌, ◌<◌, ◌≤◌, ℕ, [], length, nat_lt, false, IfOk, IsFalse, IsTrue, Some, slice_get, ◌+◌};
+ghost use Rattle.std.specs.Prelude.{◌≡◌, ◌-◌, ◌<◌, ◌≤◌, ℕ, [], length, nat_lt, false, IfOk, IsFalse, IsTrue, Some, cond, slice_get, ◌+◌};
+ghost use Rattle.schema.specs.Schema.{AreTables};
 ghost use Rattle.rows_mv.specs.Versions.{AnswersFrom};
-ghost use Rattle.log_model.specs.Log.{procedures_after, rows_after, verdict_of};
+ghost use Rattle.log_model.specs.Log.{is_commit, procedures_after, rows_after, verdict_of};
 ghost use Rattle.log_model.specs.Entries.{items_of};
 ghost use Rattle.stored_procedures.specs.Held.{AreForTables, stored_procedures};
 ghost use Rattle.replica.specs.Replica.{AreEntriesOf, entries_of};
 ghost use Rattle.replica.specs.declared.certification.Certification.{Certification};
+ghost use Rattle.locked_replica.specs.Begin.{Begins};
+ghost use Rattle.locked_replica.specs.Commits.{commits_of};
 ghost use Rattle.locked_replica.specs.Locked.{Delivers, Finds};
 
 use crate::answers::{Delivery, Found};
+use crate::begin::Begin;
+use crate::begun::BegunCall;
 use crate::laws::beginnings_say_the_same;
 use catalogue::{Catalogue, catalogues_are_safe, each_catalogue_is_consistent};
-use log_model::entries_suffice;
+use log_model::{Verdict, each_call_has_a_verdict, entries_suffice};
 use order_log::{OrderLog, Seen};
 use ordered_entries::{LogSetting, OrderedEntries, entries_with_facts_are_a_logs};
 use replica::{At, Replica, replicas_follow_the_log, tables_take_the_schemas_writes};
@@ -21,6 +26,17 @@ use std::marker::Model;
 use std::mem;
 use stored_procedures::StoredProcedures;
 use txn_view::Store;
+
+/// 1 for an entry that committed, and 0 for another.
+fn commits_of_one(verdict: Verdict) -> u32
+    ensures one { result ≡ cond (is_commit verdict) 1 0 }
+    ensures few { result ≤ 1 }
+{
+    match verdict {
+        Verdict::Commit => 1,
+        _ => 0,
+    }
+}
 
 /// A replica beside what was delivered to it. Contracts see both. Each value of the type stands for what was delivered, so
 /// that it does wherever a lock that guards it is free.
@@ -134,6 +150,47 @@ impl<J: LogSetting, A: Allocator + Copy, P: Allocator + Copy> LockedReplica<J, A
         self.replica.at(seen.len())
     }
 
+    /// How a call of a procedure begins here, which may not see less of the log than some least position. It sees what was
+    /// delivered.
+    pub fn begin(&self, least: u32, procedure: u16, args: &[u8]) -> Result<Begin<J, P>, AllocError>
+        ensures { IfOk result (λ begin. Begins J.setting self.now least procedure args.now begin) }
+    {
+        if self.position() < least {
+            return Ok(Begin::Behind);
+        }
+        self.keeps_what_was_delivered();
+        let seen = self.seen();
+        let Some(accepted) = self.procedures().shared(procedure)? else {
+            return Ok(Begin::NoProcedure(seen));
+        };
+        if args.len() != usize::from(accepted.args_len()) {
+            return Ok(Begin::ArgumentsLength(seen));
+        }
+        Ok(Begin::Begun(BegunCall::new(seen, procedure, accepted)))
+    }
+
+    /// What became of the entry at a position that was delivered, from 1 on.
+    pub fn verdict_at(&self, position: u32) -> Verdict
+        requires { (1 ≤ position) × (position ≤ length self.now.entries) }
+        ensures { verdict_of J.setting (items_of (entries_of self.now.entries)) position ≡ Some result }
+    {
+        // So that the position is known to be the replica's.
+        let _position = self.position();
+        self.replica.verdict_at(position).verdict
+    }
+
+    /// How many of the entries that were delivered committed: calls and additions.
+    pub fn commits(&self) -> u32
+        ensures { result ≡ commits_of J.setting (items_of (entries_of self.now.entries)) }
+    {
+        each_call_has_a_verdict();
+        let mut commits = 0;
+        for before in 0..self.position() {
+            commits += commits_of_one(self.verdict_at(before + 1));
+        }
+        commits
+    }
+
     /// What became of the last entry that was seen.
     pub fn find(&self, seen: &Seen<J, P>) -> Found
         requires { 1 ≤ length seen.now }
@@ -168,6 +225,7 @@ impl<J: LogSetting, A: Allocator + Copy, P: Allocator + Copy> LockedReplica<J, A
     /// The entries are of a log of this setting, the replica's verdicts and procedures are that log's, and so are its rows at
     /// each position within the window.
     pub fn keeps_what_was_delivered(&self)
+        ensures schema { AreTables J.setting.tables }
         ensures position { self.now.replica.position ≡ length self.now.entries }
         ensures entries { AreEntriesOf J.setting (entries_of self.now.entries) }
         ensures count { length self.now.replica.certifications ≡ length self.now.entries }

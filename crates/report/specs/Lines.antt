@@ -1,5 +1,5 @@
--- The lines that are printed of a world.
-use Rattle.std.specs.Prelude.{ℕ, List, [], ◌++◌, codes, Option, Some, None}
+-- The lines that are printed of a world, and of the calls that a node takes.
+use Rattle.std.specs.Prelude.{ℕ, Bool, if◌then◌else◌, List, [], ◌++◌, codes, Option, Some, None}
 use Rattle.std.specs.Fmt.{decimal}
 use Rattle.std.specs.Option.{option_map}
 use Rattle.hex.specs.Hex.{encode_lower}
@@ -7,7 +7,6 @@ use Rattle.byte_output.specs.Column.{right_in}
 use Rattle.bpf_code.specs.Fault.{fault_text}
 use Rattle.bpf_verify.specs.Refusal.{refusal_text}
 use Rattle.bpf_verify.specs.declared.refusal.Refusal.TheVariants.{At}
-use Rattle.log_model.specs.declared.verdict.Identifier.{Identifier}
 use Rattle.log_model.specs.declared.verdict.Identifier.TheVariants.{Name, Number}
 use Rattle.log_model.specs.declared.verdict.Verdict.{Verdict}
 use Rattle.log_model.specs.declared.verdict.Verdict.TheVariants as verdict
@@ -15,15 +14,18 @@ use Rattle.dsm_model.specs.declared.outcome.ProgramFault.{ProgramFault}
 use Rattle.dsm_model.specs.declared.outcome.ProgramFault.TheVariants.{Bytes, Instruction}
 use Rattle.dsm_model.specs.declared.outcome.StepRefusal.{StepRefusal}
 use Rattle.dsm_model.specs.declared.outcome.StepRefusal.TheVariants.{NoReplica, NoProcedure, ArgumentsLength, NoCall, NotAtExit, NothingToDeliver, ReplicaStopped, LogFull, OutOfMemory, TooManyCalls, ArgumentsLimit, ProgramRefused, NameShape, ZeroInRequest}
+use Rattle.tallies.specs.declared.counts.Counts.{Counts}
 use Rattle.report.specs.declared.printed.CallReport.{CallReport}
 use Rattle.report.specs.declared.printed.CallReport.TheVariants as call
+use Rattle.report.specs.declared.printed.CallAnswer.{CallAnswer}
+use Rattle.report.specs.declared.printed.CallAnswer.TheVariants as answer
 use Rattle.report.specs.declared.printed.ReplicaReport.{ReplicaReport}
 use Rattle.report.specs.declared.printed.ReplicaReport.TheVariants as replica
 use Rattle.report.specs.declared.printed.DeliveredEntry.{DeliveredEntry}
 use Rattle.report.specs.declared.printed.DeliveredEntry.TheVariants as delivered
 use Rattle.report.specs.declared.printed.LoggedEntry.{LoggedEntry}
 use Rattle.report.specs.declared.printed.Line.{Line}
-use Rattle.report.specs.declared.printed.Line.TheVariants.{Begun, BeginRefused, Added, AddRefused, Call, Replica, Row, Certified, Open, Log, Entry}
+use Rattle.report.specs.declared.printed.Line.TheVariants.{Begun, BeginRefused, Added, AddRefused, Call, Replica, Row, Certified, Open, Log, Entry, Answered, Totals, Agreement}
 
 abbrev pub number_of_step_refusal : StepRefusal → ℕ
 number_of_step_refusal NoReplica = 1
@@ -56,15 +58,35 @@ cause_words _ = []
 abbrev pub step_refusal_words : StepRefusal → List ℕ
 step_refusal_words refusal = codes "refused P" ++ decimal (number_of_step_refusal refusal) ++ cause_words refusal
 
+abbrev pub read_words : ℕ → ℕ → List ℕ
+read_words snapshot reply = codes "read " ++ decimal snapshot ++ codes " reply " ++ decimal reply
+
+abbrev pub cancelled_words : ℕ → ℕ → List ℕ
+cancelled_words snapshot code = codes "cancelled " ++ decimal snapshot ++ codes " code " ++ decimal code
+
 abbrev pub call_words : CallReport → List ℕ
 call_words call.More = codes "more"
 call_words (call.Exit reply) = codes "exit " ++ decimal reply
 call_words call.Stale = codes "stale"
 call_words call.NoMemory = codes "no memory"
 call_words (call.Ordered position) = codes "number " ++ decimal position
-call_words (call.Read snapshot reply) = codes "read " ++ decimal snapshot ++ codes " reply " ++ decimal reply
-call_words (call.Cancelled snapshot code) = codes "cancelled " ++ decimal snapshot ++ codes " code " ++ decimal code
+call_words (call.Read snapshot reply) = read_words snapshot reply
+call_words (call.Cancelled snapshot code) = cancelled_words snapshot code
 call_words (call.Refused refusal) = step_refusal_words refusal
+
+-- as `committed 1 reply 10`
+abbrev pub answer_words : CallAnswer → List ℕ
+answer_words (answer.Committed position reply) = codes "committed " ++ decimal position ++ codes " reply " ++ decimal reply
+answer_words (answer.Read snapshot reply) = read_words snapshot reply
+answer_words (answer.Cancelled snapshot code) = cancelled_words snapshot code
+answer_words (answer.Conflict position other) = codes "conflict " ++ decimal position ++ codes " " ++ decimal other
+answer_words answer.Stale = codes "stale"
+answer_words (answer.Repeated position earlier reply) =
+    codes "repeat " ++ decimal position ++ codes " " ++ decimal earlier ++ codes " reply " ++ decimal reply
+answer_words answer.NoMemory = codes "no memory"
+answer_words answer.Full = codes "full"
+answer_words (answer.Stopped position) = codes "stopped " ++ decimal position
+answer_words (answer.Refused refusal) = step_refusal_words refusal
 
 abbrev pub verdict_words : Verdict → List ℕ
 verdict_words verdict.Commit = codes "commit"
@@ -93,11 +115,16 @@ abbrev pub delivered_words : Verdict → DeliveredEntry → List ℕ
 delivered_words verdict (delivered.Call reply) = verdict_words verdict ++ reply_words reply
 delivered_words verdict (delivered.Addition procedure) = addition_words verdict ++ added_words verdict procedure
 
+abbrev pub mark_words : Bool → List ℕ
+mark_words is_stopped = if is_stopped then codes "stopped" else codes "running"
+
 abbrev pub replica_words : ReplicaReport → List ℕ
 replica_words (replica.Delivered position verdict entry) =
     codes "number " ++ decimal position ++ codes " " ++ delivered_words verdict entry
 replica_words (replica.Rebuilt position) = codes "rebuilt " ++ decimal position
 replica_words (replica.Rows position rows) = codes "position " ++ decimal position ++ codes " rows " ++ decimal rows
+replica_words (replica.Ended position commits is_stopped) =
+    codes "position " ++ decimal position ++ codes " commits " ++ decimal commits ++ codes " " ++ mark_words is_stopped
 replica_words (replica.Refused refusal) = step_refusal_words refusal
 
 -- an addition has no snapshot
@@ -125,6 +152,17 @@ abbrev pub bytes_words : ℕ → Option (List ℕ) → List ℕ
 bytes_words position (Some bytes) = codes "entry " ++ decimal position ++ codes " " ++ encode_lower bytes
 bytes_words position None = codes "entry " ++ decimal position ++ codes " none"
 
+-- how many calls were answered in each way
+abbrev pub totals_words : Counts → List ℕ
+totals_words counts =
+    codes "total committed " ++ decimal counts.committed ++ codes " read " ++ decimal counts.read
+    ++ codes " cancelled " ++ decimal counts.cancelled ++ codes " conflict " ++ decimal counts.conflict
+    ++ codes " stale " ++ decimal counts.stale ++ codes " repeat " ++ decimal counts.repeated
+    ++ codes " other " ++ decimal counts.other
+
+abbrev pub agreement_words : Bool → List ℕ
+agreement_words agrees = codes "agreement " ++ (if agrees then codes "yes" else codes "no")
+
 -- what a line says, without the LF at its end
 unfoldable pub line_words : Line → List ℕ
 line_words (Begun call replica snapshot) =
@@ -139,6 +177,9 @@ line_words (Certified entry compared verdict) = entry_words entry ++ right_in 5 
 line_words (Open entry) = entry_words entry ++ right_in 5 (codes "-") ++ codes " open"
 line_words (Log entries) = codes "log " ++ decimal entries
 line_words (Entry position bytes) = bytes_words position (option_map (λ b. b.now) bytes)
+line_words (Answered call answer) = codes "call " ++ decimal call ++ codes " " ++ answer_words answer
+line_words (Totals counts) = totals_words counts
+line_words (Agreement agrees) = agreement_words agrees
 
 abbrev pub line_text : Line → List ℕ
 line_text line = line_words line ++ codes "\n"

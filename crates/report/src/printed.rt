@@ -2,6 +2,7 @@
 
 use dsm_model::StepRefusal;
 use log_model::Verdict;
+use tallies::Counts;
 
 /// A printed line, by its values.
 #[derive(Clone, Copy)]
@@ -50,6 +51,17 @@ pub enum Line<'a> {
         position: u32,
         bytes: Option<&'a [u8]>,
     },
+    /// What a node answered a call of a script, the calls being counted from 1.
+    Answered {
+        call: u64,
+        answer: CallAnswer,
+    },
+    /// How many calls were answered in each way.
+    Totals(Counts),
+    /// Whether of each two replicas one delivered what the other did, as far as it came.
+    Agreement {
+        agrees: bool,
+    },
 }
 
 /// What is said of a call.
@@ -65,6 +77,42 @@ pub enum CallReport {
     Ordered { position: u32 },
     Read { snapshot: u32, reply: u64 },
     Cancelled { snapshot: u32, code: u64 },
+    Refused(StepRefusal),
+}
+
+/// What a node answers a call that begins with nothing seen.
+#[derive(Clone, Copy)]
+pub enum CallAnswer {
+    Committed {
+        position: u32,
+        reply: u64,
+    },
+    Read {
+        snapshot: u32,
+        reply: u64,
+    },
+    Cancelled {
+        snapshot: u32,
+        code: u64,
+    },
+    /// The call that committed at the other position wrote what this one had looked at.
+    Conflict {
+        position: u32,
+        other: u32,
+    },
+    Stale,
+    /// The call that committed at the earlier position carries the same request, and this is its reply.
+    Repeated {
+        position: u32,
+        earlier: u32,
+        reply: u64,
+    },
+    NoMemory,
+    Full,
+    /// It is ordered, and its replica stopped before it.
+    Stopped {
+        position: u32,
+    },
     Refused(StepRefusal),
 }
 
@@ -84,6 +132,12 @@ pub enum ReplicaReport {
     Rows {
         position: u32,
         rows: usize,
+    },
+    /// How far it came in the end, how many entries committed, and whether it is stopped.
+    Ended {
+        position: u32,
+        commits: u32,
+        is_stopped: bool,
     },
     Refused(StepRefusal),
 }

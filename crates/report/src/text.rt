@@ -5,14 +5,16 @@ ghost use Rattle.arrayvec.specs.ArrayVec.{array_vec_len};
 ghost use Rattle.std.specs.Fmt.{decimal};
 ghost use Rattle.hex.specs.Hex.{encode_lower};
 ghost use Rattle.byte_output.specs.Column.{right_in};
-ghost use Rattle.report.specs.Lines.{line_text};
+ghost use Rattle.report.specs.Lines.{line_text, totals_words};
 
 use crate::printed::Line;
 use crate::words::{
-    add_refused, added, begin_refused, begun, call, certified, log, no_entry, open, replica,
+    add_refused, added, agreement, answered, begin_refused, begun, call, certified, first_totals, log,
+    no_entry, open, other_totals, replica,
 };
 use byte_output::line::{Line as Words, push, push_column, push_unsigned};
 use std::alloc::{AllocError, Allocator};
+use tallies::Counts;
 
 /// The bytes of a line, with the LF at its end. An error is want of memory.
 #[tactic(auto, unfolding(crate::specs::Lines::line_words))]
@@ -52,6 +54,9 @@ pub fn line<A: Allocator + Copy>(alloc: A, line: &Line) -> Result<Vec<u8, A>, Al
             position,
             bytes: Some(bytes),
         } => entry(alloc, *position, bytes),
+        Line::Answered { call, answer } => whole(alloc, answered(*call, *answer)),
+        Line::Totals(counts) => totals(alloc, *counts),
+        Line::Agreement { agrees } => whole(alloc, agreement(*agrees)),
     }
 }
 
@@ -109,5 +114,17 @@ fn with_bytes<A: Allocator + Copy>(
     text.extend_from_slice(words)?;
     text.extend_from_slice(digits.as_bytes())?;
     text.extend_from_slice(b"\n")?;
+    Ok(text)
+}
+
+/// The line of all counts, which is longer than words that are built in place.
+fn totals<A: Allocator + Copy>(alloc: A, counts: Counts) -> Result<Vec<u8, A>, AllocError>
+    ensures { IfOk result (λ text. text.items ≡ totals_words counts ++ codes "\n") }
+{
+    let words = first_totals(counts);
+    let more = other_totals(counts);
+    let mut text = Vec::with_capacity(alloc, words.len() + more.len())?;
+    text.extend_from_slice(&words)?;
+    text.extend_from_slice(&more)?;
     Ok(text)
 }

@@ -1,18 +1,20 @@
 //! The words and numbers of a line.
 
 ghost use Rattle.std.specs.Prelude.{◌≡◌, ◌≤◌, ◌+◌, ◌++◌, codes, None};
+ghost use Rattle.std.specs.Fmt.{decimal};
 ghost use Rattle.arrayvec.specs.ArrayVec.{array_vec_len};
 ghost use Rattle.byte_output.specs.Column.{right_in};
 ghost use Rattle.report.specs.Lines.{program_fault_text, cause_words, step_refusal_words, verdict_words, addition_words, snapshot_words};
 ghost use Rattle.report.specs.Lines.{reply_words, added_words, delivered_words, certified_words, call_words, replica_words};
-ghost use Rattle.report.specs.Lines.{entry_words, line_words};
+ghost use Rattle.report.specs.Lines.{entry_words, line_words, read_words, cancelled_words, answer_words, mark_words};
 ghost use Rattle.report.specs.declared.printed.Line.TheVariants as line;
 
-use crate::printed::{CallReport, DeliveredEntry, LoggedEntry, ReplicaReport};
+use crate::printed::{CallAnswer, CallReport, DeliveredEntry, LoggedEntry, ReplicaReport};
 use crate::refusal::step_refusal_number;
 use byte_output::line::{Line as Words, push, push_column, push_right, push_unsigned};
 use dsm_model::{ProgramFault, StepRefusal};
 use log_model::{Identifier, Verdict};
+use tallies::Counts;
 
 pub(crate) fn push_refused(words: &mut Words, refusal: StepRefusal)
     requires { array_vec_len words.old ≤ 60 }
@@ -64,15 +66,60 @@ pub(crate) fn push_call(words: &mut Words, report: CallReport)
         CallReport::Stale => push(words, b"stale"),
         CallReport::NoMemory => push(words, b"no memory"),
         CallReport::Ordered { position } => push_unsigned(words, "number ", u64::from(position)),
-        CallReport::Read { snapshot, reply } => {
-            push_unsigned(words, "read ", u64::from(snapshot));
+        CallReport::Read { snapshot, reply } => push_read(words, snapshot, reply),
+        CallReport::Cancelled { snapshot, code } => push_cancelled(words, snapshot, code),
+        CallReport::Refused(refusal) => push_refused(words, refusal),
+    }
+}
+
+fn push_read(words: &mut Words, snapshot: u32, reply: u64)
+    requires { array_vec_len words.old ≤ 60 }
+    ensures items { words.new.items ≡ words.old.items ++ read_words snapshot reply }
+    ensures len { array_vec_len words.new ≤ 150 }
+{
+    push_unsigned(words, "read ", u64::from(snapshot));
+    push_unsigned(words, " reply ", reply);
+}
+
+fn push_cancelled(words: &mut Words, snapshot: u32, code: u64)
+    requires { array_vec_len words.old ≤ 60 }
+    ensures items { words.new.items ≡ words.old.items ++ cancelled_words snapshot code }
+    ensures len { array_vec_len words.new ≤ 150 }
+{
+    push_unsigned(words, "cancelled ", u64::from(snapshot));
+    push_unsigned(words, " code ", code);
+}
+
+pub(crate) fn push_answer(words: &mut Words, answer: CallAnswer)
+    requires { array_vec_len words.old ≤ 40 }
+    ensures items { words.new.items ≡ words.old.items ++ answer_words answer }
+    ensures len { array_vec_len words.new ≤ 150 }
+{
+    match answer {
+        CallAnswer::Committed { position, reply } => {
+            push_unsigned(words, "committed ", u64::from(position));
             push_unsigned(words, " reply ", reply);
         }
-        CallReport::Cancelled { snapshot, code } => {
-            push_unsigned(words, "cancelled ", u64::from(snapshot));
-            push_unsigned(words, " code ", code);
+        CallAnswer::Read { snapshot, reply } => push_read(words, snapshot, reply),
+        CallAnswer::Cancelled { snapshot, code } => push_cancelled(words, snapshot, code),
+        CallAnswer::Conflict { position, other } => {
+            push_unsigned(words, "conflict ", u64::from(position));
+            push_unsigned(words, " ", u64::from(other));
         }
-        CallReport::Refused(refusal) => push_refused(words, refusal),
+        CallAnswer::Stale => push(words, b"stale"),
+        CallAnswer::Repeated {
+            position,
+            earlier,
+            reply,
+        } => {
+            push_unsigned(words, "repeat ", u64::from(position));
+            push_unsigned(words, " ", u64::from(earlier));
+            push_unsigned(words, " reply ", reply);
+        }
+        CallAnswer::NoMemory => push(words, b"no memory"),
+        CallAnswer::Full => push(words, b"full"),
+        CallAnswer::Stopped { position } => push_unsigned(words, "stopped ", u64::from(position)),
+        CallAnswer::Refused(refusal) => push_refused(words, refusal),
     }
 }
 
@@ -176,7 +223,29 @@ pub(crate) fn push_replica(words: &mut Words, report: ReplicaReport)
             push_unsigned(words, "position ", u64::from(position));
             push_unsigned(words, " rows ", rows as u64);
         }
+        ReplicaReport::Ended {
+            position,
+            commits,
+            is_stopped,
+        } => {
+            push_unsigned(words, "position ", u64::from(position));
+            push_unsigned(words, " commits ", u64::from(commits));
+            push(words, b" ");
+            push_mark(words, is_stopped);
+        }
         ReplicaReport::Refused(refusal) => push_refused(words, refusal),
+    }
+}
+
+fn push_mark(words: &mut Words, is_stopped: bool)
+    requires { array_vec_len words.old ≤ 120 }
+    ensures items { words.new.items ≡ words.old.items ++ mark_words is_stopped }
+    ensures len { array_vec_len words.new ≤ array_vec_len words.old + 7 }
+{
+    if is_stopped {
+        push(words, b"stopped");
+    } else {
+        push(words, b"running");
     }
 }
 
@@ -318,5 +387,60 @@ pub(crate) fn no_entry(position: u32) -> Words
     let mut words = Words::new();
     push_unsigned(&mut words, "entry ", u64::from(position));
     push(&mut words, b" none");
+    words
+}
+
+#[tactic(auto, unfolding(crate::specs::Lines::line_words))]
+pub(crate) fn answered(call: u64, answer: CallAnswer) -> Words
+    ensures items { result.items ≡ line_words (line.Answered call answer) }
+    ensures len { array_vec_len result ≤ 150 }
+{
+    let mut words = Words::new();
+    push_unsigned(&mut words, "call ", call);
+    push(&mut words, b" ");
+    push_answer(&mut words, answer);
+    words
+}
+
+#[tactic(auto, unfolding(crate::specs::Lines::line_words))]
+pub(crate) fn agreement(agrees: bool) -> Words
+    ensures items { result.items ≡ line_words (line.Agreement agrees) }
+    ensures len { array_vec_len result ≤ 150 }
+{
+    let mut words = Words::new();
+    push(&mut words, b"agreement ");
+    if agrees {
+        push(&mut words, b"yes");
+    } else {
+        push(&mut words, b"no");
+    }
+    words
+}
+
+/// The first half of the line of totals.
+pub(crate) fn first_totals(counts: Counts) -> Words
+    ensures items { result.items ≡ codes "total committed " ++ decimal counts.committed ++ codes " read " ++ decimal counts.read
+        ++ codes " cancelled " ++ decimal counts.cancelled ++ codes " conflict " ++ decimal counts.conflict }
+    ensures len { array_vec_len result ≤ 130 }
+{
+    let mut words = Words::new();
+    push_unsigned(&mut words, "total committed ", counts.committed);
+    push_unsigned(&mut words, " read ", counts.read);
+    push_unsigned(&mut words, " cancelled ", counts.cancelled);
+    push_unsigned(&mut words, " conflict ", counts.conflict);
+    words
+}
+
+/// The rest of the line of totals.
+pub(crate) fn other_totals(counts: Counts) -> Words
+    ensures items { result.items ≡ codes " stale " ++ decimal counts.stale ++ codes " repeat " ++ decimal counts.repeated
+        ++ codes " other " ++ decimal counts.other ++ codes "\n" }
+    ensures len { array_vec_len result ≤ 130 }
+{
+    let mut words = Words::new();
+    push_unsigned(&mut words, " stale ", counts.stale);
+    push_unsigned(&mut words, " repeat ", counts.repeated);
+    push_unsigned(&mut words, " other ", counts.other);
+    push(&mut words, b"\n");
     words
 }

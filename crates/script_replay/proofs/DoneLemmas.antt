@@ -17,8 +17,8 @@ use Rattle.script_actions.specs.declared.failure.Failure.{Failure}
 use Rattle.script_actions.specs.declared.failure.Failure.TheVariants.{OutOfMemory as Wanting}
 use Rattle.script_actions.specs.Doing.{HasDone, LosesNothing}
 use Rattle.script_replay.specs.declared.stage.Stage as code
-use Rattle.script_replay.specs.declared.stop.Stop.{Stop}
-use Rattle.script_replay.specs.declared.stop.Stop.TheVariants.{Fault, Input, Output}
+use Rattle.script_stops.specs.declared.stop.Stop.{Stop}
+use Rattle.script_stops.specs.declared.stop.Stop.TheVariants.{Fault, Input, Output}
 use Rattle.script_replay.specs.declared.stage.Stage.TheVariants.{SettingUp as SettingUpCode, Acting as ActingCode}
 use Rattle.script_replay.specs.Stage.{Stage, Acting, Action, Fails, Goes, Acts, first_action, action_of}
 use Rattle.script_replay.specs.Replay.{Ending, Faulty, Prints}

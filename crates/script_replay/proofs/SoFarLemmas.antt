@@ -10,8 +10,8 @@ use Rattle.script.specs.Script.{line_says}
 use Rattle.script_settings.specs.declared.cause.FaultCause.TheVariants.{Line, OutOfMemory}
 use Rattle.script_settings.specs.declared.cause.ScriptFault.{ScriptFault}
 use Rattle.script_replay.specs.declared.stage.Stage as code
-use Rattle.script_replay.specs.declared.stop.Stop.{Stop}
-use Rattle.script_replay.specs.declared.stop.Stop.TheVariants.{Fault, Input, Output}
+use Rattle.script_stops.specs.declared.stop.Stop.{Stop}
+use Rattle.script_stops.specs.declared.stop.Stop.TheVariants.{Fault, Input, Output}
 use Rattle.script_replay.specs.Stage.{Stage, first_stage, action_of}
 use Rattle.script_replay.specs.Replay.{Ending, Finished, Faulty, Prints}
 use Rattle.script_replay.specs.Doing.{stage_of, PrintsFrom, GivesBeginning, GivesUpTo, GivesAction, StopsBy, GivesUpToWant, GivesReplay}

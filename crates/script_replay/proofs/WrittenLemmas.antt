@@ -4,18 +4,17 @@ use Rattle.std.proofs.lemmas.List.{append-nil}
 use Rattle.std.specs.Io.KnownBytes.{Appends}
 use Rattle.byte_output.specs.declared.paged.PagedOutput.{PagedOutput}
 use Rattle.byte_output.specs.Pending.{output_of, pending_of, Passes}
-use Rattle.byte_output.specs.Writes.{AppendsBeginning, WritesText}
-use Rattle.byte_output.proofs.WritesLemmas.{Appends-then, AppendsBeginning-then}
+use Rattle.byte_output.specs.Writes.{AppendsBeginning}
 use Rattle.byte_output.proofs.PendingLemmas.{Writes-finished}
-use Rattle.engines.specs.declared.status.TheConstants.{FAILED}
+use Rattle.script_stops.specs.Telling.{FAILED, SaysEnd, SaysStream, fault_line, status_of_cause}
 use Rattle.script_settings.specs.declared.cause.FaultCause.{FaultCause}
 use Rattle.script_settings.specs.declared.cause.FaultCause.TheVariants.{Line, Place, Table, Program, Refused, Procedure, OutOfMemory}
 use Rattle.script_actions.specs.Doing.{PassesBeginning}
-use Rattle.script_replay.specs.declared.stop.Stop.{Stop}
-use Rattle.script_replay.specs.declared.stop.Stop.TheVariants.{Fault, Input, Output}
+use Rattle.script_stops.specs.declared.stop.Stop.{Stop}
+use Rattle.script_stops.specs.declared.stop.Stop.TheVariants.{Fault, Input, Output}
 use Rattle.script_replay.specs.Replay.{Ending, Finished, Faulty}
-use Rattle.script_replay.specs.Leaving.{Leaves, SaysStream, StopsAt, StopsAtLine, StopsBeforeLines, fault_line, memory_line}
-use Rattle.script_replay.specs.Doing.{GivesBeginning, GivesReplay, GivesNoLines, GivesUpToLine, GivesUpToWant, WritesUpToWant, has_output_failed, WritesBeginning, WritesReplay, status_of_cause, SaysEnd}
+use Rattle.script_replay.specs.Leaving.{Leaves, StopsAt, StopsAtLine, StopsBeforeLines, memory_line}
+use Rattle.script_replay.specs.Doing.{GivesBeginning, GivesReplay, GivesNoLines, GivesUpToLine, GivesUpToWant, WritesUpToWant, has_output_failed, WritesBeginning, WritesReplay}
 use Rattle.script_replay.proofs.PassesLemmas.{Appends-nothing, PassesBeginning-front, PassesBeginning-finished, PassesBeginning-lost}
 
 -- ---- what was given is written
@@ -164,9 +163,3 @@ told_failed bytes left old new old_faults new_faults (Fault fault) status h (e, 
     inr (fault.line, h w, subst (λ (cause : FaultCause). AppendsBeginning old_faults new_faults (fault_line (record { line = fault.line; cause = cause }))) w said)
 told_failed bytes left old new old_faults new_faults (Input error) status h (e, said) failed = inl said
 told_failed bytes left old new old_faults new_faults (Output error) status h (e, said) failed = inl said
-
--- ---- texts one behind the other
-
-pub writes_behind : {T E : Type 0} (a b c : Option (List ℕ)) (xs ys : List ℕ) (result : Result T E) → Appends a b xs → WritesText b c result ys → WritesText a c result (xs ++ ys)
-writes_behind a b c xs ys (Ok t) p q = Appends-then a b c xs ys p q
-writes_behind a b c xs ys (Err e) p q = subst (λ (t : List ℕ). AppendsBeginning a c (xs ++ t)) (append-nil ys) (AppendsBeginning-then a b c xs ys [] p q)

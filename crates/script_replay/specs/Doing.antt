@@ -7,17 +7,15 @@ use Rattle.byte_output.specs.Pending.{Passes}
 use Rattle.byte_output.specs.Writes.{AppendsBeginning}
 use Rattle.script.specs.Text.{lines_of}
 use Rattle.script_actions.specs.Actions.{setting_of, world_of}
-use Rattle.engines.specs.declared.status.TheConstants.{FAILED}
-use Rattle.script_settings.specs.declared.cause.FaultCause.{FaultCause}
 use Rattle.script_settings.specs.declared.cause.FaultCause.TheVariants.{OutOfMemory}
 use Rattle.script_actions.specs.Doing.{PassesBeginning}
 use Rattle.script_replay.specs.declared.stage.Stage as code
 use Rattle.script_replay.specs.declared.stage.Stage.TheVariants.{SettingUp as SettingUpCode, Acting as ActingCode}
-use Rattle.script_replay.specs.declared.stop.Stop.{Stop}
-use Rattle.script_replay.specs.declared.stop.Stop.TheVariants.{Fault, Output}
+use Rattle.script_stops.specs.declared.stop.Stop.{Stop}
+use Rattle.script_stops.specs.declared.stop.Stop.TheVariants.{Fault, Output}
 use Rattle.script_replay.specs.Stage.{Stage, Setup, Acting, Action, Fails, first_stage}
 use Rattle.script_replay.specs.Replay.{Ending, Finished, Faulty, Prints, PrintsAction}
-use Rattle.script_replay.specs.Leaving.{fault_line, SaysStream, StopsAt}
+use Rattle.script_replay.specs.Leaving.{StopsAt}
 
 -- what a stage of the code stands for
 abbrev pub stage_of : {A : Type 0} → code.Stage A → Stage
@@ -117,14 +115,3 @@ WritesReplay old new P (Ok _) = (text : List ℕ) × P text Finished × Appends 
 WritesReplay old new P (Err (Fault fault)) =
     ((fault.cause ≡ OutOfMemory) × WritesBeginning old new P) ⊎ ((text : List ℕ) × P text (Faulty fault) × Appends old new text)
 WritesReplay old new P (Err _) = WritesBeginning old new P
-
--- ---- what is said of it
-
-abbrev pub status_of_cause : FaultCause → ℕ
-status_of_cause OutOfMemory = FAILED
-status_of_cause _ = 1
-
--- the exit status of a script that stopped, and its line of faults or what a stream says, or a beginning of that
-abbrev pub SaysEnd : Option (List ℕ) → Option (List ℕ) → Stop → ℕ → Type 0
-SaysEnd old new (Fault fault) status = (status ≡ status_of_cause fault.cause) × AppendsBeginning old new (fault_line fault)
-SaysEnd old new _ status = (status ≡ FAILED) × SaysStream old new

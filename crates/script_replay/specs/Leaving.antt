@@ -1,22 +1,16 @@
 -- What a replay leaves on its output, and its exit status.
-use Rattle.std.specs.Prelude.{◌≡◌, ◌⊎◌, ℕ, ◌+◌, List, [], ◌∷◌, ◌++◌, codes, length, Option, Some}
+use Rattle.std.specs.Prelude.{◌≡◌, ◌⊎◌, ℕ, ◌+◌, List, [], ◌∷◌, ◌++◌, length, Option, Some}
 use Rattle.std.specs.Io.KnownBytes.{Appends}
 use Rattle.byte_output.specs.Writes.{AppendsBeginning}
-use Rattle.engines.specs.declared.status.TheConstants.{FAILED}
 use Rattle.script.specs.Text.{lines_of}
 use Rattle.script_settings.specs.declared.cause.FaultCause.TheVariants.{OutOfMemory}
-use Rattle.script_settings.specs.declared.cause.ScriptFault.{ScriptFault}
-use Rattle.script_settings.specs.Fault.{script_fault_text}
+use Rattle.script_stops.specs.Telling.{FAILED, fault_line}
 use Rattle.script_replay.specs.Stage.{first_stage}
 use Rattle.script_replay.specs.Replay.{Ending, Finished, Faulty, Prints}
 
 abbrev pub status_of : Ending → ℕ
 status_of Finished = 0
 status_of (Faulty fault) = 1
-
--- as `line 4: L7 V5 slot 6`
-abbrev pub fault_line : ScriptFault → List ℕ
-fault_line fault = script_fault_text fault ++ codes "\n"
 
 -- what is said of a script's end, apart from what it prints
 abbrev pub faults_of : Ending → List ℕ
@@ -30,7 +24,7 @@ Leaves old new old_faults new_faults status text ending =
     ((status ≡ FAILED) × AppendsBeginning old new text)
     ⊎ ((status ≡ status_of ending) × Appends old new text × AppendsBeginning old_faults new_faults (faults_of ending))
 
--- ---- where memory was wanting, or a stream failed
+-- ---- where memory was wanting
 
 -- a script that stopped at the line of this number, and what it has written: all that the lines before print, and of this
 -- one a beginning of what it prints. No more was read of it
@@ -62,7 +56,3 @@ StopsAt bytes left old new number = StopsBeforeLines bytes left old new number �
 -- as `line 4: L9`
 abbrev pub memory_line : ℕ → List ℕ
 memory_line number = fault_line (record { line = number; cause = OutOfMemory })
-
--- as `dsmdb: ` and what a stream says
-abbrev pub SaysStream : Option (List ℕ) → Option (List ℕ) → Type 0
-SaysStream old new = (message : List ℕ) × AppendsBeginning old new (codes "dsmdb: " ++ message)

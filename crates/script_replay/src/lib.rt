@@ -6,5 +6,3 @@ pub use replay::replay_over;
 mod line;
 mod replay;
 mod stage;
-mod stop;
-mod told;

@@ -9,12 +9,12 @@ ghost use Rattle.script_replay.specs.Stage.{Goes, Acts, first_action, action_of}
 ghost use Rattle.script_replay.specs.Doing.{stage_of, IsFaultOf, GivesAction, StopsBy};
 
 use crate::stage::Stage;
-use crate::stop::{Stop, fault_at, out_of_memory};
 use byte_output::paged::PagedOutput;
 use row_values::Bytes;
 use script::{Command, command};
 use script_actions::{Failure, World, act};
 use script_settings::{FaultCause, Settings, is_setting};
+use script_stops::{Stop, fault_at, out_of_memory};
 use std::alloc::Allocator;
 use std::io::Write;
 

@@ -2,21 +2,20 @@
 
 ghost use Rattle.std.specs.Prelude.{◌≡◌, ◌⊎◌, ℕ, List, Some, IfErr, IfSome};
 ghost use Rattle.byte_output.specs.Pending.{output_of};
-ghost use Rattle.engines.specs.declared.status.TheConstants.{FAILED};
+ghost use Rattle.script_stops.specs.Telling.{FAILED, SaysStream};
 ghost use Rattle.script.specs.Text.{lines_of};
 ghost use Rattle.script_replay.specs.Stage.{first_stage};
 ghost use Rattle.script_replay.specs.Replay.{Ending, Prints, ScriptPrints};
-ghost use Rattle.script_replay.specs.Leaving.{Leaves, SaysStream, StopsAt, memory_line};
+ghost use Rattle.script_replay.specs.Leaving.{Leaves, StopsAt, memory_line};
 ghost use Rattle.script_replay.specs.Doing.{GivesReplay, GivesUpToWant, WritesReplay, WritesUpToWant, has_output_failed};
 ghost use Rattle.byte_output.specs.Writes.{AppendsBeginning};
 
 use crate::line::do_line;
 use crate::stage::Stage;
-use crate::stop::{Stop, fault_at, out_of_memory};
-use crate::told::tell;
 use byte_output::paged::PagedOutput;
 use script::{LineFault, MAX_LINE, Next, lines_that_are_too_long_are_at_fault, next_line};
 use script_settings::{FaultCause, Settings};
+use script_stops::{Stop, fault_at, out_of_memory, tell};
 use std::alloc::Allocator;
 use std::io;
 use std::io::{BufRead, ErrorKind, Write};

@@ -52,12 +52,18 @@ impl<A: Allocator, P: Allocator> Named<A, P> {
         &self.accepted
     }
 
+    /// The same program, for one more to hold.
+    pub fn shared(&self) -> Result<Arc<Accepted<P, P>, P>, AllocError>
+        ensures { IfOk result (λ a. arc_value a ≡ self.now.accepted) }
+    {
+        Arc::try_clone(&self.accepted)
+    }
+
     /// The same program and name, the name in other memory.
     pub fn share<B: Allocator>(&self, alloc: B) -> Result<Named<B, P>, AllocError>
         ensures { IfOk result (λ n. n ≡ self.now) }
     {
         let name = Vec::from_slice(alloc, self.name.as_slice())?;
-        let accepted = Arc::try_clone(&self.accepted)?;
-        Ok(Named::new(name, accepted))
+        Ok(Named::new(name, self.shared()?))
     }
 }

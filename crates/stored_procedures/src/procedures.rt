@@ -11,7 +11,7 @@ ghost use Rattle.stored_procedures.specs.Held.{AreStored, listed_by_number, stor
 use crate::laws::{accepted_programs_were_accepted, one_more_is_stored};
 use crate::listed::ListedProcedures;
 use crate::named::Named;
-use crate::table::{Table, accepted_by_number, enter, number_by_name, share_all};
+use crate::table::{Table, accepted_by_number, enter, number_by_name, share_all, shared_by_number};
 use bpf_verify::Accepted;
 use indexmap::IndexMap;
 use log_model::{Identifier, Verdict};
@@ -74,6 +74,14 @@ impl<A: Allocator + Copy, P: Allocator> StoredProcedures<A, P> {
         ensures { option_copied result ≡ option_map (λ l. l.accepted) (listed_by_number self.now number) }
     {
         accepted_by_number(&self.table, number)
+    }
+
+    /// The program of a number, for one more to hold.
+    pub fn shared(&self, number: u16) -> Result<Option<Arc<Accepted<P, P>, P>>, AllocError>
+        ensures { IfOk result (λ o. option_map arc_value o
+            ≡ option_map (λ l. l.accepted) (listed_by_number self.now number)) }
+    {
+        shared_by_number(&self.table, number)
     }
 
     /// The number of a name. It takes as long as there are procedures.

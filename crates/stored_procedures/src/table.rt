@@ -29,6 +29,20 @@ pub(crate) fn accepted_by_number<A: Allocator, P: Allocator>(
     }
 }
 
+/// The program of a number, for one more to hold.
+pub(crate) fn shared_by_number<A: Allocator, P: Allocator>(
+    table: &Table<A, P>,
+    number: u16,
+) -> Result<Option<Arc<Accepted<P, P>, P>>, AllocError>
+    ensures { IfOk result (λ o. option_map arc_value o
+        ≡ option_map (λ l. l.accepted) (listed_by_number (listed table.now.entries) number)) }
+{
+    match table.get(&number) {
+        Some(named) => Ok(Some(named.shared()?)),
+        None => Ok(None),
+    }
+}
+
 /// The number of a name.
 pub(crate) fn number_by_name<A: Allocator, P: Allocator>(
     table: &Table<A, P>,

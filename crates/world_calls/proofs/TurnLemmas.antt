@@ -159,7 +159,7 @@ before_its_end p tables args rows r k s e at = elim (le_or_more r.steps k) [
   | inr lt ↦ lt
 ]
 
-step_from : (w : Setting) (log : Log) (o : OpenCall) (p : StoredProcedure) (s : State) (m : Moment) → HasCallRun w log o p → moment_at w log o.call o.turns ≡ Going s → moment_at w log o.call (o.turns + 1) ≡ m → step p.program w.tables s ≡ m
+pub step_from : (w : Setting) (log : Log) (o : OpenCall) (p : StoredProcedure) (s : State) (m : Moment) → HasCallRun w log o p → moment_at w log o.call o.turns ≡ Going s → moment_at w log o.call (o.turns + 1) ≡ m → step p.program w.tables s ≡ m
 step_from w log o p s m c now next = sym (one_further w log o.call p o.turns c.known ∙ ap (next_moment (step p.program w.tables)) now) ∙ next
 
 pub turn_is : (w : Setting) (log : Log) (o : OpenCall) (p : StoredProcedure) (gone : Bool) (turn : Turn) (m n : MachineState) (before after : Effects) → HasCallRun w log o p

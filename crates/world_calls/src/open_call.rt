@@ -70,6 +70,7 @@ impl<A: Allocator + Copy> OpenCall<A> {
         ensures follows { IfOk result (λ c. (w : Setting) (log : Log) (p : StoredProcedure)
             → by_number (procedures_after w log snapshot) procedure ≡ Some p → accepted.now ≡ accepted_of w.tables p
             → AreRows w.tables (rows_after w log snapshot) → Follows w log c) }
+        ensures ready { IfOk result (λ c. c.machine.last ≡ More) }
     {
         let Ok(machine) = Machine::start(accepted, args) else {
             unreachable!()
@@ -99,6 +100,7 @@ impl<A: Allocator + Copy> OpenCall<A> {
             → IsTurn w log (S.is_gone store) (open_call_of self.old) result (open_call_of self.new) }
         ensures goes_on { (w : Setting) (log : Log) → CanGoOn w log accepted.now (S.answers_from store) self.old
             → stays_open result ≡ true → CanGoOn w log accepted.now (S.answers_from store) self.new }
+        ensures last { self.new.machine.last ≡ result }
     {
         match self.machine.last() {
             Turn::More => self.advance(alloc, accepted, store),
@@ -119,6 +121,7 @@ impl<A: Allocator + Copy> OpenCall<A> {
             → IsTurn w log (S.is_gone store) (open_call_of self.old) result (open_call_of self.new) }
         ensures goes_on { (w : Setting) (log : Log) → CanGoOn w log accepted.now (S.answers_from store) self.old
             → stays_open result ≡ true → CanGoOn w log accepted.now (S.answers_from store) self.new }
+        ensures last { self.new.machine.last ≡ result }
     {
         accepted_programs_never_go_wrong();
         // So that the count of turns is known to fit.

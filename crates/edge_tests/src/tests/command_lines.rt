@@ -43,6 +43,47 @@ fn a_check_is_read_off_the_words(rt: HostRuntime) {
     }
 }
 
+/// Words that ask for a run of `a.dsm`, how many threads there are, and the limit of the log.
+const RUNS: [(&[&str], u32, u32); 5] = [
+    (&["dsmdb", "run", "a.dsm"], 4, 1_048_576),
+    (
+        &["dsmdb", "run", "a.dsm", "--executors", "16"],
+        16,
+        1_048_576,
+    ),
+    (&["dsmdb", "run", "--log", "1", "a.dsm"], 4, 1),
+    (
+        &["dsmdb", "run", "a.dsm", "--executors=1", "--log=1048576"],
+        1,
+        1_048_576,
+    ),
+    (
+        &[
+            "dsmdb",
+            "run",
+            "--log",
+            "70000",
+            "--executors",
+            "2",
+            "a.dsm",
+        ],
+        2,
+        70_000,
+    ),
+];
+
+#[test]
+fn a_run_is_read_off_the_words(rt: HostRuntime) {
+    for (words, executors, log_limit) in &RUNS {
+        let expected = Plan::Run {
+            script: "a.dsm",
+            executors: *executors,
+            log_limit: *log_limit,
+        };
+        assert!(rt; plan(rt.alloc(), words).expect(&rt, "memory") == expected);
+    }
+}
+
 /// How the fault of words is printed; empty where they are a plan.
 fn fault_of(rt: &impl Abort, alloc: Global, words: &[&str]) -> String {
     match plan(alloc, words) {
@@ -56,6 +97,10 @@ const NO_LENGTHS: [&str; 6] = ["257", "01", "+1", "x", "1:8", ""];
 const NO_TABLES: [&str; 9] = [
     "1:0", "0:8", "65:8", "1:129", "1", "1:8:9", "x:8", "01:8", "",
 ];
+
+const NO_EXECUTORS: [&str; 6] = ["0", "17", "04", "+4", "x", ""];
+
+const NO_LIMITS: [&str; 6] = ["0", "1048577", "4294967297", "01", "1e3", ""];
 
 const NO_REFUSALS: [&str; 6] = ["V13", "v5", "V05", "5", "explain", ""];
 
@@ -80,6 +125,16 @@ fn other_numbers_are_refused(rt: HostRuntime) {
         let words = ["dsmdb", "check", "a", "16", "2:8", word];
         assert!(rt; is_refused(&rt, alloc, &words, text, word), "{word}");
     }
+    let text = "--executors must be a number from 1 to 16";
+    for word in &NO_EXECUTORS {
+        let words = ["dsmdb", "run", "a", "--executors", word];
+        assert!(rt; is_refused(&rt, alloc, &words, text, word), "{word}");
+    }
+    let text = "--log must be a number from 1 to 1048576";
+    for word in &NO_LIMITS {
+        let words = ["dsmdb", "run", "a", "--log", word];
+        assert!(rt; is_refused(&rt, alloc, &words, text, word), "{word}");
+    }
     let text = "NUMBER must be a refusal's, as V5; docs/REFUSALS.md has them all";
     for word in &NO_REFUSALS {
         let words = ["dsmdb", "explain", word];
@@ -88,7 +143,7 @@ fn other_numbers_are_refused(rt: HostRuntime) {
 }
 
 /// Words that are no plan, their exit status, and how the text begins.
-const NO_PLANS: [(&[&str], i32, &str); 14] = [
+const NO_PLANS: [(&[&str], i32, &str); 20] = [
     (&["dsmdb"], 2, ""),
     (&["dsmdb", "list"], 2, "error: "),
     (&["dsmdb", "list", "a", "b"], 2, "error: "),
@@ -98,6 +153,16 @@ const NO_PLANS: [(&[&str], i32, &str); 14] = [
     (&["dsmdb", "replay"], 2, "error: "),
     (&["dsmdb", "replay", "a", "b"], 2, "error: "),
     (&["dsmdb", "replay", "--help"], 0, "Runs a script"),
+    (&["dsmdb", "run"], 2, "error: "),
+    (&["dsmdb", "run", "a", "b"], 2, "error: "),
+    (&["dsmdb", "run", "a", "--executors"], 2, "error: "),
+    (
+        &["dsmdb", "run", "a", "--log", "1", "--log", "2"],
+        2,
+        "error: ",
+    ),
+    (&["dsmdb", "run", "a", "--threads", "2"], 2, "error: "),
+    (&["dsmdb", "run", "--help"], 0, "Takes the calls"),
     (&["dsmdb", "explain"], 2, "error: "),
     (&["dsmdb", "explain", "V5", "V6"], 2, "error: "),
     (&["dsmdb", "jump", "a"], 2, "error: "),

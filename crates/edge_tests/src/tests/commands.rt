@@ -372,12 +372,13 @@ fn a_check_that_fails_answers_3(rt: HostRuntime) {
 }
 
 /// Words, and the number up to 256 that they are.
-const NUMBERS: [(&str, Option<u16>); 15] = [
+const NUMBERS: [(&str, Option<u32>); 16] = [
     ("0", Some(0)),
     ("16", Some(16)),
     ("256", Some(256)),
     ("257", None),
     ("65552", None),
+    ("4294967312", None),
     ("18446744073709551632", None),
     ("00", None),
     ("01", None),

@@ -3,13 +3,14 @@ use std::alloc::Global;
 use std::process::Abort;
 
 /// The letters of refusals, and how many numbers each has from 1 on.
-const LETTERS: [(&str, u32); 6] = [
+const LETTERS: [(&str, u32); 7] = [
     ("B", 12),
     ("S", 4),
     ("V", 12),
     ("C", 5),
     ("P", 13),
     ("L", 9),
+    ("N", 6),
 ];
 
 fn is_explained(rt: &impl Abort, alloc: Global, letter: &str, number: u32) -> bool {

@@ -3,11 +3,13 @@ use bpf_code::{DecodeCause, DecodeFault};
 use dsm_model::{Outcome, ProgramFault, StepRefusal};
 use log_model::{Identifier, Verdict};
 use report::{
-    CallReport, DeliveredEntry, Line, LoggedEntry, ReplicaReport, add_line, call_line, line,
+    CallAnswer, CallReport, DeliveredEntry, Line, LoggedEntry, ReplicaReport, add_line, call_line,
+    line,
 };
 use scarce::Scarce;
 use std::alloc::Global;
 use std::process::Abort;
+use tallies::Counts;
 
 /// Lines, and how each is printed.
 type Printed = (Line<'static>, &'static str);
@@ -285,6 +287,131 @@ static ADDITIONS: [Printed; 6] = [
     ),
 ];
 
+/// Answers to the second call of a script, and how each is printed.
+static ANSWERS: [(CallAnswer, &str); 13] = [
+    (
+        CallAnswer::Committed {
+            position: 1,
+            reply: 10,
+        },
+        "call 2 committed 1 reply 10\n",
+    ),
+    (
+        CallAnswer::Read {
+            snapshot: 1000,
+            reply: 1,
+        },
+        "call 2 read 1000 reply 1\n",
+    ),
+    (
+        CallAnswer::Cancelled {
+            snapshot: 0,
+            code: 9,
+        },
+        "call 2 cancelled 0 code 9\n",
+    ),
+    (
+        CallAnswer::Conflict {
+            position: 3,
+            other: 2,
+        },
+        "call 2 conflict 3 2\n",
+    ),
+    (CallAnswer::Stale, "call 2 stale\n"),
+    (
+        CallAnswer::Repeated {
+            position: 4,
+            earlier: 1,
+            reply: 18446744073709551615,
+        },
+        "call 2 repeat 4 1 reply 18446744073709551615\n",
+    ),
+    (CallAnswer::NoMemory, "call 2 no memory\n"),
+    (CallAnswer::Full, "call 2 full\n"),
+    (CallAnswer::Stopped { position: 5 }, "call 2 stopped 5\n"),
+    (
+        CallAnswer::Refused(StepRefusal::NoReplica),
+        "call 2 refused P1\n",
+    ),
+    (
+        CallAnswer::Refused(StepRefusal::NoProcedure),
+        "call 2 refused P2\n",
+    ),
+    (
+        CallAnswer::Refused(StepRefusal::ArgumentsLength),
+        "call 2 refused P3\n",
+    ),
+    (
+        CallAnswer::Refused(StepRefusal::ZeroInRequest),
+        "call 2 refused P13\n",
+    ),
+];
+
+static ENDS: [Printed; 7] = [
+    (
+        Line::Replica {
+            replica: 1,
+            report: ReplicaReport::Ended {
+                position: 1,
+                commits: 1,
+                is_stopped: false,
+            },
+        },
+        "replica 1 position 1 commits 1 running\n",
+    ),
+    (
+        Line::Replica {
+            replica: 8,
+            report: ReplicaReport::Ended {
+                position: 1_048_576,
+                commits: 0,
+                is_stopped: true,
+            },
+        },
+        "replica 8 position 1048576 commits 0 stopped\n",
+    ),
+    (Line::Agreement { agrees: true }, "agreement yes\n"),
+    (Line::Agreement { agrees: false }, "agreement no\n"),
+    (
+        Line::Totals(Counts {
+            committed: 1,
+            read: 0,
+            cancelled: 0,
+            conflict: 0,
+            stale: 0,
+            repeated: 0,
+            other: 0,
+        }),
+        "total committed 1 read 0 cancelled 0 conflict 0 stale 0 repeat 0 other 0\n",
+    ),
+    (
+        Line::Totals(Counts {
+            committed: 1,
+            read: 2,
+            cancelled: 3,
+            conflict: 4,
+            stale: 5,
+            repeated: 6,
+            other: 7,
+        }),
+        "total committed 1 read 2 cancelled 3 conflict 4 stale 5 repeat 6 other 7\n",
+    ),
+    (
+        Line::Totals(Counts {
+            committed: u64::MAX,
+            read: u64::MAX,
+            cancelled: u64::MAX,
+            conflict: u64::MAX,
+            stale: u64::MAX,
+            repeated: u64::MAX,
+            other: u64::MAX,
+        }),
+        "total committed 18446744073709551615 read 18446744073709551615 cancelled 18446744073709551615 \
+         conflict 18446744073709551615 stale 18446744073709551615 repeat 18446744073709551615 \
+         other 18446744073709551615\n",
+    ),
+];
+
 /// Whether the line is printed as this text.
 fn is_printed(rt: &impl Abort, alloc: Global, row: &Line<'_>, text: &str) -> bool {
     line(alloc, row).expect(rt, "memory").as_slice() == text.as_bytes()
@@ -301,7 +428,15 @@ fn lines_are_printed(rt: HostRuntime) {
     are_printed(&rt, rt.alloc(), &CALLS);
     are_printed(&rt, rt.alloc(), &REPLICAS);
     are_printed(&rt, rt.alloc(), &ENTRIES);
-    are_printed(&rt, rt.alloc(), &ADDITIONS)
+    are_printed(&rt, rt.alloc(), &ADDITIONS);
+    are_printed(&rt, rt.alloc(), &ENDS);
+    for (answer, text) in &ANSWERS {
+        let row = Line::Answered {
+            call: 2,
+            answer: *answer,
+        };
+        assert!(rt; is_printed(&rt, rt.alloc(), &row, text), "{text}");
+    }
 }
 
 #[test]

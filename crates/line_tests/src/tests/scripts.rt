@@ -191,11 +191,22 @@ fn growths_are_refused_in_turn(rt: HostRuntime) {
 
 /// Shows so many bytes at a time, interrupts each look once, and fails where it is at its end.
 #[derive(Drop)]
-struct Input<'a> {
+pub(crate) struct Input<'a> {
     left: &'a [u8],
     shown: usize,
     interrupts: bool,
     fails: bool,
+}
+
+impl<'a> Input<'a> {
+    pub(crate) fn new(left: &'a [u8], shown: usize, fails: bool) -> Input<'a> {
+        Input {
+            left,
+            shown,
+            interrupts: false,
+            fails,
+        }
+    }
 }
 
 impl Read for Input<'_> {
@@ -249,12 +260,7 @@ fn lines_are_read_one_by_one(rt: HostRuntime) {
     for (bytes, ended, failed) in &INPUTS {
         for shown in [1, 4, 100] {
             for fails in [false, true] {
-                let input = Input {
-                    left: bytes,
-                    shown,
-                    interrupts: false,
-                    fails,
-                };
+                let input = Input::new(bytes, shown, fails);
                 let lines = if fails { *failed } else { *ended };
                 read_all(&rt, rt.alloc(), input, lines);
             }

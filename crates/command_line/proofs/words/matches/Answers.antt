@@ -21,8 +21,10 @@ returns g c =
     let needs_is : app_of c.subcommand_required.result ≡ needing_command (having_version named_command) = ap app_of_fields c.subcommand_required.ensures ∙ ap needing_command version_is in
     let with_list_is = c.in_ok-dsmdb.ensures.shape (third_is_off _ _ _ _ (ap (λ (a : App). a.top.is_plain) list_is)) ∙ ap₂ with_subcommand needs_is (ap (λ (a : App). a.top) list_is) in
     let with_check_is = c.in_ok-dsmdb-2.ensures.shape (third_is_off _ _ _ _ (ap (λ (a : App). a.top.is_plain) check_is)) ∙ ap₂ with_subcommand with_list_is (ap (λ (a : App). a.top) check_is) in
+    let run_is = c.in_ok-run.ensures in
     let explain_is = c.in_ok-explain.ensures in
     let with_replay_is = c.in_ok-dsmdb-3.ensures.shape (third_is_off _ _ _ _ (ap (λ (a : App). a.top.is_plain) replay_is)) ∙ ap₂ with_subcommand with_check_is (ap (λ (a : App). a.top) replay_is) in
-    let dsmdb_is : app_of c.in_ok-dsmdb-4.dsmdb ≡ command_line =
-    c.in_ok-dsmdb-4.ensures.shape (third_is_off _ _ _ _ (ap (λ (a : App). a.top.is_plain) explain_is)) ∙ ap₂ with_subcommand with_replay_is (ap (λ (a : App). a.top) explain_is) in
+    let with_run_is = c.in_ok-dsmdb-4.ensures.shape (third_is_off _ _ _ _ (ap (λ (a : App). a.top.is_plain) run_is)) ∙ ap₂ with_subcommand with_replay_is (ap (λ (a : App). a.top) run_is) in
+    let dsmdb_is : app_of c.in_ok-dsmdb-5.dsmdb ≡ command_line =
+    c.in_ok-dsmdb-5.ensures.shape (third_is_off _ _ _ _ (ap (λ (a : App). a.top.is_plain) explain_is)) ∙ ap₂ with_subcommand with_run_is (ap (λ (a : App). a.top) explain_is) in
     (c.in_ok-try_get_matches_from.ensures.matches (ap is_simple dsmdb_is)).1 ∙ ap (λ (a : App). subcommand_of a (map g.S.AsStr.text c.args.words.now)) dsmdb_is

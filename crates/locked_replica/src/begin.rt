@@ -1,0 +1,16 @@
+use crate::begun::BegunCall;
+use order_log::Seen;
+use ordered_entries::LogSetting;
+use std::alloc::{Allocator, Global};
+
+/// How a call begins.
+#[derive(Drop)]
+pub enum Begin<J: LogSetting, P: Allocator + Copy = Global> {
+    /// The replica hasn't come as far as the call asks for.
+    Behind,
+    /// There is no procedure of this number after what was seen.
+    NoProcedure(Seen<J, P>),
+    /// The procedure takes arguments of another length.
+    ArgumentsLength(Seen<J, P>),
+    Begun(BegunCall<J, P>),
+}

@@ -1,0 +1,160 @@
+//! What callers share of a node.
+
+ghost use Rattle.std.specs.Prelude.{◌≡◌, Some, None, IfSome};
+ghost use Rattle.node_calls.specs.Answer.{IsAnswer};
+ghost use Rattle.node.specs.Requests.{IsHeard, IsNoReplica};
+
+use crate::request::{Reply, Request};
+use crate::shared::Shared;
+use crossbeam_channel::{Sender, bounded};
+use log_model::{RequestId, Verdict};
+use node_calls::{Answer, Asked, CallRefusal, Gate};
+use order_log::{Fact, Seen};
+use ordered_entries::{LogSetting, OrderedEntries};
+use row_values::Bytes;
+use std::alloc::Global;
+use std::marker::Model;
+use std::sync::atomic::Ordering::SeqCst;
+use std::sync::{Arc, Wait};
+use tallies::Ledgers;
+
+/// What is answered, and what was seen of the log then.
+type Answered<J> = (Answer, Option<Seen<J>>);
+
+/// What callers share of a node. Contracts see how many replicas there are.
+#[derive(Drop)]
+pub struct Desk<J: LogSetting + Ledgers, G: Gate>
+where
+    OrderedEntries<J>: Fact,
+{
+    pub(crate) shared: Arc<Shared<J, Global, Global, G>>,
+    /// One for each replica.
+    pub(crate) requests: Vec<Sender<Request<J>>>,
+    pub(crate) alloc: Global,
+}
+
+impl<J: LogSetting + Ledgers, G: Gate> Model for Desk<J, G>
+where
+    OrderedEntries<J>: Fact,
+{
+    ghost use Rattle.std.specs.Prelude.{vec_len};
+    ghost use Rattle.node.specs.Desk.{DeskState};
+
+    ghost Value = { DeskState };
+
+    ghost view = { λ d. record { replicas = vec_len d.requests } };
+
+    ghost invariant = { λ d. Unit {0} };
+}
+
+impl<J: LogSetting + Ledgers + Send + Sync + 'static, G: Gate + Drop + Send + Sync + 'static> Desk<
+    J,
+    G,
+> {
+    /// How many replicas there are; they are numbered from 1.
+    pub fn replicas(&self) -> usize
+        ensures { result ≡ self.now.replicas }
+    {
+        self.requests.len()
+    }
+
+    /// The answer to a call of a procedure at a replica, which sees at least the log up to a position.
+    pub fn execute<R: Wait>(
+        &self,
+        rt: &R,
+        replica: u32,
+        least: u32,
+        procedure: u16,
+        args: &[u8],
+    ) -> Answered<J>
+        ensures { IsHeard J.setting self.now.replicas replica
+            (record { least = least; procedure = procedure; args = args.now; request = None }) result.0 result.1 }
+    {
+        self.ask(rt, replica, least, procedure, args, None)
+    }
+
+    /// That to a call with a request: of the calls that carry one request at most one commits, and each other one that is
+    /// ordered is answered what that one replied.
+    pub fn execute_numbered<R: Wait>(
+        &self,
+        rt: &R,
+        replica: u32,
+        least: u32,
+        procedure: u16,
+        args: &[u8],
+        request: RequestId,
+    ) -> Answered<J>
+        ensures { IsHeard J.setting self.now.replicas replica
+            (record { least = least; procedure = procedure; args = args.now; request = Some request }) result.0 result.1 }
+    {
+        self.ask(rt, replica, least, procedure, args, Some(request))
+    }
+
+    fn ask<R: Wait>(
+        &self,
+        rt: &R,
+        replica: u32,
+        least: u32,
+        procedure: u16,
+        args: &[u8],
+        request: Option<RequestId>,
+    ) -> Answered<J>
+        ensures { IsHeard J.setting self.now.replicas replica
+            (record { least = least; procedure = procedure; args = args.now; request = request }) result.0 result.1 }
+    {
+        let Some(place) = (replica as usize).checked_sub(1) else {
+            return self.unserved(Answer::Refused(CallRefusal::NoReplica));
+        };
+        let Some(requests) = self.requests.get(place) else {
+            return self.unserved(Answer::Refused(CallRefusal::NoReplica));
+        };
+        match self.reply_from(rt, requests, replica, least, procedure, args, request) {
+            Some(answered) => answered,
+            None => self.unserved(Answer::NoMemory),
+        }
+    }
+
+    /// What an executing thread replies. None where the request or its reply was lost, as where memory is wanting.
+    fn reply_from<R: Wait>(
+        &self,
+        rt: &R,
+        requests: &Sender<Request<J>>,
+        replica: u32,
+        least: u32,
+        procedure: u16,
+        args: &[u8],
+        request: Option<RequestId>,
+    ) -> Option<Answered<J>>
+        ensures { IfSome result (λ r.
+            IsAnswer J.setting (record { least = least; procedure = procedure; args = args.now; request = request }) r.0 r.1) }
+    {
+        let (reply, replies) = bounded(self.alloc, 1).ok()?;
+        let asked = Asked {
+            least,
+            procedure,
+            args: Bytes::new(Vec::from_slice(self.alloc, args).ok()?),
+            request,
+        };
+        requests.send(rt, Request { asked, reply }).ok()?;
+        let reply: Reply<J> = replies.recv(rt).ok()?;
+        reply.answer_to(replica, least, procedure, args, request)
+    }
+
+    /// An answer that no executing thread gave, which is counted apart.
+    fn unserved(&self, answer: Answer) -> Answered<J>
+        ensures { (result.0 ≡ answer) × (result.1 ≡ None) }
+    {
+        self.shared.unserved.fetch_add(1, SeqCst);
+        (answer, None)
+    }
+
+    /// The verdict on the entry at a position, where there is such a replica and it has come there.
+    pub fn verdict<R: Wait>(&self, rt: &R, replica: u32, position: u32) -> Option<Verdict> {
+        let served = self.shared.replica(replica)?;
+        let locked = served.replica.read(rt);
+        if position == 0 || position > locked.position() {
+            return None;
+        }
+        Some(locked.verdict_at(position))
+    }
+}

@@ -1,0 +1,59 @@
+//! How a node's replicas have ended.
+
+ghost use Rattle.std.specs.Prelude.{◌≡◌, length};
+ghost use Rattle.log_model.specs.Entries.{items_of};
+ghost use Rattle.replica.specs.Replica.{entries_of};
+ghost use Rattle.locked_replica.specs.Commits.{commits_of};
+ghost use Rattle.node.specs.Agreement.{OneBegins, AgreeBy};
+
+use locked_replica::LockedReplica;
+use order_log::{LogIdentity, Seen};
+use ordered_entries::LogSetting;
+use std::alloc::{Allocator, Global};
+
+/// How a replica has ended, beside what was delivered to it.
+#[derive(Drop)]
+pub struct EndedReplica<J: LogSetting, P: Allocator + Copy = Global> {
+    pub position: u32,
+    pub commits: u32,
+    pub stopped: bool,
+    pub seen: Seen<J, P>,
+    ghost far: { position ≡ length seen },
+    ghost committed: { commits ≡ commits_of J.setting (items_of (entries_of seen)) },
+}
+
+impl<J: LogSetting, P: Allocator + Copy> EndedReplica<J, P> {
+    /// How a replica has ended.
+    pub fn of<A: Allocator + Copy>(replica: &LockedReplica<J, A, P>) -> EndedReplica<J, P>
+        ensures seen { result.seen ≡ replica.now.entries }
+        ensures stopped { result.stopped ≡ replica.now.replica.stopped }
+    {
+        EndedReplica {
+            position: replica.position(),
+            commits: replica.commits(),
+            stopped: replica.stopped(),
+            seen: replica.seen(),
+        }
+    }
+}
+
+/// Of two beginnings of one log one begins the other. Nothing is done at run time.
+fn agree_two<J: LogIdentity, P: Allocator + Copy>(one: &Seen<J, P>, other: &Seen<J, P>)
+    ensures { OneBegins one.now other.now }
+{
+    one.agrees(other);
+    other.agrees(one);
+}
+
+/// Of what was delivered to two replicas one begins the other.
+pub(crate) fn agree_all<J: LogSetting, P: Allocator + Copy, A: Allocator>(
+    all: &Vec<EndedReplica<J, P>, A>,
+)
+    ensures { AgreeBy (λ e. e.seen) all.now.items }
+{
+    for one in all {
+        for other in all {
+            agree_two(&one.seen, &other.seen);
+        }
+    }
+}

@@ -1,0 +1,312 @@
+//! A node: replicas of one log, their threads, and what callers share.
+
+ghost use Rattle.std.specs.Prelude.{◌≡◌, ◌≤◌, ◌+◌, true, OnOk};
+ghost use Rattle.tallies.specs.Shared.{names_by_place};
+ghost use Rattle.node.specs.Agreement.{AgreeBy};
+ghost use Rattle.node.specs.Size.{IsSize};
+
+use crate::crew::Crew;
+use crate::desk::Desk;
+use crate::ended::{EndedReplica, agree_all};
+use crate::rebuild::RebuildFault;
+use crate::request::Request;
+use crate::shared::Shared;
+use crate::size::{Size, StartFault};
+use catalogue::Catalogue;
+use crossbeam_channel::Sender;
+use locked_replica::LockedReplica;
+use node_calls::{Gate, OpenGate};
+use order_log::{Fact, GroupCells, LIMIT, OrderLog};
+use ordered_entries::{LogSetting, OrderedEntries};
+use std::alloc::Global;
+use std::sync::{Arc, RwLock, Wait};
+use std::thread::Threads;
+use tallies::{Blanks, Counts, Ledgers, Shares};
+
+/// How a node has ended.
+#[derive(Drop)]
+pub struct Finish<J: LogSetting + Ledgers, G: Gate>
+where
+    OrderedEntries<J>: Fact,
+{
+    /// How many answers of each kind there were.
+    pub totals: Counts,
+    pub replicas: Vec<EndedReplica<J>>,
+    /// Whether of what was delivered to each two replicas one begins the other.
+    pub agreement: bool,
+    /// All shares, in which the answers were counted.
+    pub shares: Shares<J>,
+    shared: Arc<Shared<J, Global, Global, G>>,
+}
+
+/// How a node's replicas have ended.
+#[derive(Drop)]
+pub struct Ended<J: LogSetting> {
+    pub replicas: Vec<EndedReplica<J>>,
+    /// Whether of what was delivered to each two replicas one begins the other.
+    pub agreement: bool,
+}
+
+/// A node whose threads run. It has to be ended, by `stop` or `finish`.
+pub struct Node<J: LogSetting + Ledgers, G: Gate>
+where
+    OrderedEntries<J>: Fact,
+{
+    desk: Desk<J, G>,
+    crew: Crew<J>,
+    shares: Shares<J>,
+    /// Room for how the replicas end.
+    ended: Vec<EndedReplica<J>>,
+    ghost all: { shares.parts + crew.executors ≡ 129 },
+}
+
+impl<J: LogSetting + Ledgers + Send + Sync + 'static, G: Gate + Drop + Send + Sync + 'static> Node<
+    J,
+    G,
+> {
+    /// Starts the threads of a node of this size, whose executing threads pass a gate before they read or write rows. The
+    /// ledgers, the log's cells and the catalogue are the node's own.
+    pub fn start_sized<R: Threads + Wait + Copy + Send + Sync + 'static>(
+        rt: &R,
+        alloc: Global,
+        cells: GroupCells,
+        blanks: Blanks,
+        size: Size,
+        catalogue: Catalogue,
+        gate: G,
+    ) -> Result<Node<J, G>, StartFault>
+        requires cells { cells ≡ J.groups }
+        requires ledgers { J.names ≡ names_by_place blanks }
+        requires setting { J.setting ≡ record {
+          tables = catalogue.tables;
+          catalogue = catalogue.procedures;
+          window = size.window;
+        } }
+    {
+        size.check()?;
+        let (totals, shares) = blanks.open();
+        let Ok(log) = OrderLog::with_limit(alloc, cells, size.limit) else {
+            return Err(StartFault::OutOfMemory);
+        };
+        let replicas = size.replicas as usize;
+        let shared = Shared::new(alloc, log, catalogue, size.window, totals, gate, replicas);
+        let Ok(mut shared) = shared else {
+            return Err(StartFault::OutOfMemory);
+        };
+        for _ in 0..size.replicas {
+            if shared.add_replica(alloc, size.executors as usize).is_err() {
+                return Err(StartFault::OutOfMemory);
+            }
+        }
+        let Ok(shared) = Arc::new(alloc, shared) else {
+            return Err(StartFault::OutOfMemory);
+        };
+        start_threads(rt, alloc, shared, shares, size)
+    }
+
+    /// As `start_sized`, with a log of 1,048,576 entries.
+    pub fn start_gated<R: Threads + Wait + Copy + Send + Sync + 'static>(
+        rt: &R,
+        alloc: Global,
+        cells: GroupCells,
+        blanks: Blanks,
+        replicas: u32,
+        executors: u32,
+        window: u32,
+        catalogue: Catalogue,
+        gate: G,
+    ) -> Result<Node<J, G>, StartFault>
+        requires cells { cells ≡ J.groups }
+        requires ledgers { J.names ≡ names_by_place blanks }
+        requires setting { J.setting ≡ record {
+          tables = catalogue.tables;
+          catalogue = catalogue.procedures;
+          window = window;
+        } }
+    {
+        let size = Size {
+            replicas,
+            executors,
+            window,
+            limit: LIMIT,
+        };
+        Node::start_sized(rt, alloc, cells, blanks, size, catalogue, gate)
+    }
+
+    /// What callers share.
+    pub fn desk(&self) -> &Desk<J, G> {
+        &self.desk
+    }
+
+    /// Makes the replica of a number anew from the log. The position that it has then.
+    pub fn rebuild<R: Wait>(&self, rt: &R, replica: u32) -> Result<u32, RebuildFault> {
+        self.desk.shared.rebuild(rt, replica)
+    }
+
+    /// As `finish`, without the sums.
+    pub fn stop<R: Threads + Wait>(self, rt: &R) -> Ended<J>
+        ensures agreement { AgreeBy (λ e. e.seen) result.replicas.items }
+        ensures agree { result.agreement ≡ true }
+    {
+        let finish = self.finish(rt);
+        Ended {
+            replicas: finish.replicas,
+            agreement: finish.agreement,
+        }
+    }
+
+    /// Ends the threads when all that was asked is answered and all that was ordered is delivered, or its replica has stopped.
+    pub fn finish<R: Threads + Wait>(self, rt: &R) -> Finish<J, G>
+        ensures totals { result.totals ≡ result.shares.counted }
+        ensures shares { result.shares.parts ≡ 129 }
+        ensures agreement { AgreeBy (λ e. e.seen) result.replicas.items }
+        ensures agree { result.agreement ≡ true }
+    {
+        let Node {
+            desk,
+            crew,
+            mut shares,
+            mut ended,
+        } = self;
+        let Desk {
+            shared,
+            requests,
+            alloc: _,
+        } = desk;
+        drop(requests);
+        crew.end(rt, &shared, &mut shares);
+        let totals = shared.gather(rt, &mut shares);
+        for served in shared.replicas.iter() {
+            let _kept = ended.push(EndedReplica::of(&served.replica.read(rt)));
+        }
+        agree_all(&ended);
+        Finish {
+            totals,
+            replicas: ended,
+            agreement: true,
+            shares,
+            shared,
+        }
+    }
+}
+
+impl<J: LogSetting + Ledgers + Send + Sync + 'static> Node<J, OpenGate> {
+    /// As `start_gated`, with a gate that is always open.
+    pub fn start<R: Threads + Wait + Copy + Send + Sync + 'static>(
+        rt: &R,
+        alloc: Global,
+        cells: GroupCells,
+        blanks: Blanks,
+        replicas: u32,
+        executors: u32,
+        window: u32,
+        catalogue: Catalogue,
+    ) -> Result<Node<J, OpenGate>, StartFault>
+        requires cells { cells ≡ J.groups }
+        requires ledgers { J.names ≡ names_by_place blanks }
+        requires setting { J.setting ≡ record {
+          tables = catalogue.tables;
+          catalogue = catalogue.procedures;
+          window = window;
+        } }
+    {
+        Node::start_gated(
+            rt, alloc, cells, blanks, replicas, executors, window, catalogue, OpenGate,
+        )
+    }
+}
+
+impl<J: LogSetting + Ledgers, G: Gate> Finish<J, G>
+where
+    OrderedEntries<J>: Fact,
+{
+    /// The log, whose entries whoever has seen them can read.
+    pub fn log(&self) -> &OrderLog<J, OrderedEntries<J>> {
+        &self.shared.log
+    }
+
+    /// The replica of a number, from 1 on, behind its lock.
+    pub fn replica(&self, number: u32) -> Option<&RwLock<LockedReplica<J>>> {
+        let shared: &Shared<J, Global, Global, G> = &self.shared;
+        let place = (number as usize).checked_sub(1)?;
+        let served = shared.replicas.get(place)?;
+        Some(&served.replica)
+    }
+}
+
+/// Starts the threads of a node. Where one isn't started those that were have ended.
+fn start_threads<
+    J: LogSetting + Ledgers + Send + Sync + 'static,
+    G: Gate + Drop + Send + Sync + 'static,
+    R: Threads + Wait + Copy + Send + Sync + 'static,
+>(
+    rt: &R,
+    alloc: Global,
+    shared: Arc<Shared<J, Global, Global, G>>,
+    shares: Shares<J>,
+    size: Size,
+) -> Result<Node<J, G>, StartFault>
+    requires size { IsSize size }
+    requires shares { shares.parts ≡ 129 }
+{
+    let mut shares = shares;
+    let mut crew = Crew::new(alloc);
+    let mut requests = Vec::new(alloc);
+    let started = start_replicas(
+        rt,
+        alloc,
+        &shared,
+        &mut crew,
+        &mut requests,
+        &mut shares,
+        size,
+    );
+    match started {
+        Ok(ended) => Ok(Node {
+            desk: Desk {
+                shared,
+                requests,
+                alloc,
+            },
+            crew,
+            shares,
+            ended,
+        }),
+        Err(fault) => {
+            drop(requests);
+            crew.end(rt, &shared, &mut shares);
+            Err(fault)
+        }
+    }
+}
+
+/// Starts the threads of all replicas. Room for how these end.
+fn start_replicas<
+    J: LogSetting + Ledgers + Send + Sync + 'static,
+    G: Gate + Drop + Send + Sync + 'static,
+    R: Threads + Wait + Copy + Send + Sync + 'static,
+>(
+    rt: &R,
+    alloc: Global,
+    shared: &Arc<Shared<J, Global, Global, G>>,
+    crew: &mut Crew<J>,
+    requests: &mut Vec<Sender<Request<J>>>,
+    shares: &mut Shares<J>,
+    size: Size,
+) -> Result<Vec<EndedReplica<J>>, StartFault>
+    requires size { IsSize size }
+    requires shares { shares.old.parts ≡ 129 }
+    requires crew { crew.old.executors ≡ 0 }
+    ensures { OnOk result (shares.new.parts + crew.new.executors ≡ 129) }
+{
+    let Ok(ended) = Vec::with_capacity(alloc, size.replicas as usize) else {
+        return Err(StartFault::OutOfMemory);
+    };
+    for place in 0..size.replicas {
+        let sender = crew.start_replica(rt, shared, shares, place + 1, size.executors)?;
+        if requests.push(sender).is_err() {
+            return Err(StartFault::OutOfMemory);
+        }
+    }
+    Ok(ended)
+}

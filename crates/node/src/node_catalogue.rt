@@ -1,0 +1,71 @@
+//! The catalogue of a node.
+
+ghost use Rattle.std.specs.Prelude.{◌≡◌};
+
+use catalogue::Catalogue;
+use ordered_entries::LogSetting;
+use std::alloc::{Allocator, Global};
+use std::marker::{Model, PhantomData};
+
+/// The catalogue and the window of a node's replicas at first. Contracts see the catalogue; both are the setting of the node's
+/// log.
+#[derive(Drop)]
+pub(crate) struct NodeCatalogue<J: LogSetting, P: Allocator + Copy = Global> {
+    catalogue: Catalogue<P>,
+    window: u32,
+    of: PhantomData<J>,
+}
+
+impl<J: LogSetting, P: Allocator + Copy> Model for NodeCatalogue<J, P> {
+    ghost use Rattle.std.specs.Prelude.{◌≡◌};
+    ghost use Rattle.catalogue.specs.Catalogue.{SystemCatalogue};
+    ghost use Rattle.catalogue.specs.Held.{catalogue_code};
+
+    ghost Value = { SystemCatalogue };
+
+    ghost coded = { catalogue_code };
+
+    ghost view = { λ c. c.catalogue };
+
+    ghost invariant = { λ c. J.setting ≡ record {
+      tables = c.catalogue.tables;
+      catalogue = c.catalogue.procedures;
+      window = c.window;
+    } };
+}
+
+impl<J: LogSetting, P: Allocator + Copy> NodeCatalogue<J, P> {
+    /// A catalogue and a window that are the setting.
+    pub(crate) fn new(catalogue: Catalogue<P>, window: u32) -> NodeCatalogue<J, P>
+        requires { J.setting ≡ record {
+          tables = catalogue.tables;
+          catalogue = catalogue.procedures;
+          window = window;
+        } }
+        ensures { result ≡ catalogue }
+    {
+        NodeCatalogue {
+            catalogue,
+            window,
+            of: PhantomData,
+        }
+    }
+
+    /// The catalogue.
+    pub(crate) fn get(&self) -> &Catalogue<P>
+        ensures { result.now ≡ self.now }
+    {
+        &self.catalogue
+    }
+
+    /// The window.
+    pub(crate) fn window(&self) -> u32
+        ensures { J.setting ≡ record {
+          tables = self.now.tables;
+          catalogue = self.now.procedures;
+          window = result;
+        } }
+    {
+        self.window
+    }
+}

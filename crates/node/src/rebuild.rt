@@ -1,0 +1,92 @@
+//! A replica is made anew.
+
+use crate::shared::{ServedReplica, Shared};
+use locked_replica::{Delivery, LockedReplica};
+use node_calls::Gate;
+use order_log::{Fact, OrderLog};
+use ordered_entries::{LogSetting, OrderedEntries};
+use std::alloc::{AllocError, Allocator};
+use std::fmt;
+use std::sync::{RwLock, Wait};
+use tallies::Ledgers;
+
+/// Why a replica isn't rebuilt.
+#[derive(Clone, Copy, Debug, PartialEq, Eq, Drop)]
+pub enum RebuildFault {
+    /// There is no replica of this number.
+    NoReplica,
+    /// The replica is as it was.
+    OutOfMemory,
+}
+
+/// Delivers all that the log shows.
+fn deliver_to_the_end<J: LogSetting, A: Allocator + Copy, P: Allocator + Copy, R: Wait>(
+    rt: &R,
+    fresh: &mut LockedReplica<J, A, P>,
+    log: &OrderLog<J, OrderedEntries<J>, P>,
+) -> Result<(), AllocError> {
+    for _ in rt.forever() {
+        match fresh.deliver(log) {
+            Delivery::Delivered(_) => {}
+            Delivery::Nothing => break,
+            Delivery::Stopped => return Err(AllocError),
+        }
+    }
+    Ok(())
+}
+
+/// Puts one that was made anew in a replica's place, unless that has come farther. The position there then.
+fn put_in_place<J: LogSetting, A: Allocator + Copy, P: Allocator + Copy, R: Wait>(
+    rt: &R,
+    replica: &RwLock<LockedReplica<J, A, P>>,
+    fresh: &mut LockedReplica<J, A, P>,
+) -> Option<u32> {
+    let mut locked = replica.write(rt);
+    if !locked.exchange(fresh) {
+        return None;
+    }
+    Some(locked.position())
+}
+
+impl<J: LogSetting + Ledgers, A: Allocator + Copy, P: Allocator + Copy, G: Gate> Shared<
+    J,
+    A,
+    P,
+    G,
+> {
+    /// Makes the replica of a number anew from the log, which then delivers again where it had stopped. Calls go on at the old
+    /// one until the new one is in its place, which has come no less far. The position that it has then.
+    pub fn rebuild<R: Wait>(&self, rt: &R, replica: u32) -> Result<u32, RebuildFault> {
+        let Some(served) = self.replica(replica) else {
+            return Err(RebuildFault::NoReplica);
+        };
+        let Ok(position) = self.exchange(rt, served) else {
+            return Err(RebuildFault::OutOfMemory);
+        };
+        served.ring();
+        if let Some(bell) = self.bell(replica) {
+            bell.notify_all();
+        }
+        Ok(position)
+    }
+
+    /// Makes one anew, and puts it in a replica's place. The old one is dropped when no lock is held.
+    fn exchange<R: Wait>(
+        &self,
+        rt: &R,
+        served: &ServedReplica<J, A, P>,
+    ) -> Result<u32, AllocError> {
+        let mut fresh = LockedReplica::new(
+            served.alloc,
+            self.catalogue.window(),
+            self.catalogue.get(),
+        )?;
+        for _ in rt.forever() {
+            deliver_to_the_end(rt, &mut fresh, &self.log)?;
+            if let Some(position) = put_in_place(rt, &served.replica, &mut fresh) {
+                return Ok(position);
+            }
+        }
+        unreachable!()
+    }
+}

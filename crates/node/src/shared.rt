@@ -1,0 +1,165 @@
+//! What the threads of a node share.
+
+ghost use Rattle.std.specs.Prelude.{◌≡◌};
+
+use crate::node_catalogue::NodeCatalogue;
+use catalogue::Catalogue;
+use crossbeam_utils::CachePadded;
+use crossbeam_utils::sync::EventCount;
+use locked_replica::LockedReplica;
+use node_calls::{Bells, Gate, Waiter};
+use order_log::{Fact, OrderLog};
+use ordered_entries::{LogSetting, OrderedEntries};
+use std::alloc::{AllocError, Allocator, Global};
+use std::sync::atomic::Ordering::SeqCst;
+use std::sync::atomic::{AtomicBool, AtomicU64};
+use std::sync::{Mutex, RwLock, Wait};
+use tallies::{Counts, Ledgers, Shares, Totals};
+
+/// A replica behind its lock, and where its executing threads wait.
+#[derive(Drop)]
+pub struct ServedReplica<J: LogSetting, A: Allocator + Copy = Global, P: Allocator + Copy = A> {
+    /// For what the replica takes.
+    pub(crate) alloc: A,
+    pub(crate) replica: RwLock<LockedReplica<J, A, P>>,
+    pub(crate) waiters: Vec<CachePadded<Waiter>, P>,
+}
+
+/// What the threads of a node share: the log, the replicas behind their locks, who waits where, and the sums of answers.
+#[derive(Drop)]
+pub struct Shared<J: LogSetting + Ledgers, A: Allocator + Copy, P: Allocator + Copy, G: Gate>
+where
+    OrderedEntries<J>: Fact,
+{
+    /// For what calls and entries take.
+    pub(crate) alloc: P,
+    pub(crate) log: OrderLog<J, OrderedEntries<J>, P>,
+    pub(crate) catalogue: NodeCatalogue<J, P>,
+    pub(crate) replicas: Vec<CachePadded<ServedReplica<J, A, P>>, P>,
+    /// Of the delivering threads.
+    pub(crate) bells: Bells<P>,
+    pub(crate) gate: G,
+    pub(crate) totals: Mutex<Totals<J>>,
+    /// How many answers no executing thread gave.
+    pub(crate) unserved: CachePadded<AtomicU64>,
+    /// Whether the delivering threads are to end at the end of the log.
+    pub(crate) stopping: CachePadded<AtomicBool>,
+}
+
+impl<J: LogSetting, A: Allocator + Copy, P: Allocator + Copy> ServedReplica<J, A, P> {
+    /// A replica to which nothing was delivered, for so many executing threads.
+    fn new(
+        alloc: A,
+        shared: P,
+        catalogue: &NodeCatalogue<J, P>,
+        executors: usize,
+    ) -> Result<ServedReplica<J, A, P>, AllocError> {
+        let replica = LockedReplica::new(alloc, catalogue.window(), catalogue.get())?;
+        let mut waiters = Vec::with_capacity(shared, executors)?;
+        for _ in 0..executors {
+            waiters.push(CachePadded::new(Waiter::new()))?;
+        }
+        Ok(ServedReplica {
+            alloc,
+            replica: RwLock::new(replica),
+            waiters,
+        })
+    }
+
+    /// Wakes the executing threads that wait for this position or a lower one.
+    pub(crate) fn ring_up_to(&self, position: u32) {
+        for waiter in self.waiters.iter() {
+            waiter.ring_up_to(position);
+        }
+    }
+
+    /// Wakes all of its executing threads.
+    pub(crate) fn ring(&self) {
+        for waiter in self.waiters.iter() {
+            waiter.ring();
+        }
+    }
+}
+
+impl<J: LogSetting + Ledgers, A: Allocator + Copy, P: Allocator + Copy, G: Gate + Drop> Shared<
+    J,
+    A,
+    P,
+    G,
+> {
+    /// What the threads of a node with no replicas yet share, and room for so many.
+    pub fn new(
+        alloc: P,
+        log: OrderLog<J, OrderedEntries<J>, P>,
+        catalogue: Catalogue<P>,
+        window: u32,
+        totals: Totals<J>,
+        gate: G,
+        replicas: usize,
+    ) -> Result<Shared<J, A, P, G>, AllocError>
+        requires { J.setting ≡ record {
+          tables = catalogue.tables;
+          catalogue = catalogue.procedures;
+          window = window;
+        } }
+    {
+        Ok(Shared {
+            alloc,
+            log,
+            catalogue: NodeCatalogue::new(catalogue, window),
+            replicas: Vec::with_capacity(alloc, replicas)?,
+            bells: Bells::new(alloc, replicas)?,
+            gate,
+            totals: Mutex::new(totals),
+            unserved: CachePadded::new(AtomicU64::new(0)),
+            stopping: CachePadded::new(AtomicBool::new(false)),
+        })
+    }
+}
+
+impl<J: LogSetting + Ledgers, A: Allocator + Copy, P: Allocator + Copy, G: Gate> Shared<
+    J,
+    A,
+    P,
+    G,
+> {
+    /// Adds a replica in the memory of its own allocator, for so many executing threads.
+    pub fn add_replica(&mut self, alloc: A, executors: usize) -> Result<(), AllocError> {
+        let served = ServedReplica::new(alloc, self.alloc, &self.catalogue, executors)?;
+        self.replicas.push(CachePadded::new(served))?;
+        Ok(())
+    }
+
+    /// The replica of a number, from 1 on.
+    pub(crate) fn replica(&self, number: u32) -> Option<&ServedReplica<J, A, P>> {
+        let place = (number as usize).checked_sub(1)?;
+        match self.replicas.get(place) {
+            Some(served) => Some(served),
+            None => None,
+        }
+    }
+
+    /// Where the delivering thread of the replica of a number waits.
+    pub(crate) fn bell(&self, number: u32) -> Option<&EventCount> {
+        self.bells.at((number as usize).checked_sub(1)?)
+    }
+
+    /// Enters what no executing thread counted, and adds up what was counted in all.
+    pub(crate) fn gather<R: Wait>(&self, rt: &R, shares: &mut Shares<J>) -> Counts
+        requires { shares.old.parts ≡ 129 }
+        ensures totals { result ≡ shares.new.counted }
+        ensures parts { shares.new.parts ≡ shares.old.parts }
+    {
+        let mut unserved = Counts::new();
+        unserved.other = self.unserved.load(SeqCst);
+        let mut totals = self.totals.lock(rt);
+        let _entered = totals.enter(shares, unserved);
+        totals.all(shares)
+    }
+
+    /// Has the delivering threads end at the end of the log. Call it when no executing thread orders any more.
+    pub fn stop_deliveries(&self) {
+        self.stopping.store(true, SeqCst);
+        self.bells.ring();
+    }
+}

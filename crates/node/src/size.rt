@@ -1,0 +1,56 @@
+//! What a node is made of.
+
+ghost use Rattle.std.specs.Prelude.{◌≡◌, ◌⊎◌, ◌<◌, ◌↔◌, IsOk, IfErr, OnOk, Err};
+ghost use Rattle.node.specs.Size.{IsSize};
+
+use order_log::LIMIT;
+
+/// Why a node doesn't start.
+#[derive(Clone, Copy, Debug, PartialEq, Eq, Drop)]
+pub enum StartFault {
+    /// Not 1 to 8 replicas.
+    Replicas,
+    /// Not 1 to 16 executing threads a replica.
+    Executors,
+    /// The window isn't 1 to 4,096.
+    Window,
+    OutOfMemory,
+    /// A thread wasn't started; those that were have ended.
+    NoThread,
+    /// The log isn't for 1 to 1,048,576 entries.
+    Limit,
+}
+
+/// What a node is made of.
+#[derive(Clone, Copy, Debug, PartialEq, Eq, Drop)]
+pub struct Size {
+    /// 1 to 8.
+    pub replicas: u32,
+    /// Executing threads a replica: 1 to 16.
+    pub executors: u32,
+    /// How many entries after it a call's snapshot is kept: 1 to 4,096.
+    pub window: u32,
+    /// The most entries of the log: 1 to 1,048,576.
+    pub limit: u32,
+}
+
+impl Size {
+    /// Whether a node may be of this size, and else the first cause that it may not.
+    pub fn check(&self) -> Result<(), StartFault>
+        ensures { IsOk result ↔ IsSize self.now }
+    {
+        if !(1..=8).contains(&self.replicas) {
+            return Err(StartFault::Replicas);
+        }
+        if !(1..=16).contains(&self.executors) {
+            return Err(StartFault::Executors);
+        }
+        if !(1..=4096).contains(&self.window) {
+            return Err(StartFault::Window);
+        }
+        if !(1..=LIMIT).contains(&self.limit) {
+            return Err(StartFault::Limit);
+        }
+        Ok(())
+    }
+}

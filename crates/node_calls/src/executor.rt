@@ -1,0 +1,168 @@
+//! An executing thread answers calls.
+
+ghost use Rattle.std.specs.Prelude.{◌≡◌, ◌≤◌, length, false};
+ghost use Rattle.log_model.specs.Fit.{IsCall};
+ghost use Rattle.replica.specs.Replica.{AreEntriesOf, entries_of};
+ghost use Rattle.dsm_model.specs.World.{has_zero};
+ghost use Rattle.ordered_entries.specs.Ordered.{IsOrderedCall};
+ghost use Rattle.running_calls.specs.Running.{log_seen};
+ghost use Rattle.world_calls.specs.OpenCall.{IsCompletion};
+ghost use Rattle.node_calls.specs.Answer.{IsAnswer, IsBegunAfter, asked_call};
+ghost use Rattle.node_calls.specs.declared.answer.Answer.TheVariants.{Refused};
+
+use crate::answer::{Answer, CallRefusal};
+use crate::asked::Asked;
+use crate::bells::{Bells, Waiter};
+use crate::gate::Gate;
+use crate::order::{answer_by, await_verdict, order};
+use crate::run::{Ran, run};
+use dsm_model::{has_zero, or_none};
+use locked_replica::{Begin, BegunCall, LockedReplica};
+use log_entry::ExecutedCall;
+use order_log::{AppendFault, Fact, OrderLog, Seen};
+use ordered_entries::{LogSetting, OrderedEntries};
+use std::alloc::Allocator;
+use std::sync::{RwLock, Wait};
+use world_calls::Completion;
+
+/// What an executing thread answers calls with, and where it waits.
+#[derive(Drop)]
+pub struct Executor<'a, J: LogSetting, A: Allocator + Copy, P: Allocator + Copy, G: Gate>
+where
+    OrderedEntries<J>: Fact,
+{
+    /// For what calls take.
+    pub alloc: P,
+    pub log: &'a OrderLog<J, OrderedEntries<J>, P>,
+    pub replica: &'a RwLock<LockedReplica<J, A, P>>,
+    pub gate: &'a G,
+    pub waiter: &'a Waiter,
+    /// Of the delivering threads.
+    pub bells: &'a Bells<P>,
+}
+
+impl<'a, J: LogSetting, A: Allocator + Copy, P: Allocator + Copy, G: Gate> Executor<
+    'a,
+    J,
+    A,
+    P,
+    G,
+> {
+    /// The answer to a call, and what was seen of the log then. The call runs at the replica, is ordered where it wrote
+    /// something and didn't cancel, and waits for its verdict.
+    pub fn answer<R: Wait>(&self, rt: &R, asked: &Asked<P>) -> (Answer, Option<Seen<J, P>>)
+        ensures { IsAnswer J.setting asked.now result.0 result.1 }
+    {
+        let begin = self
+            .replica
+            .read(rt)
+            .begin(asked.least, asked.procedure, asked.args.as_slice());
+        let Ok(begin) = begin else {
+            return (Answer::NoMemory, None);
+        };
+        match begin {
+            Begin::Behind => (Answer::Behind, None),
+            Begin::NoProcedure(seen) => refused(CallRefusal::NoProcedure, Some(seen)),
+            Begin::ArgumentsLength(seen) => refused(CallRefusal::ArgumentsLength, Some(seen)),
+            Begin::Begun(begun) => {
+                if has_zero(asked.request) {
+                    return refused(CallRefusal::ZeroInRequest, None);
+                }
+                self.answer_begun(rt, asked, begun)
+            }
+        }
+    }
+
+    /// That to a call that has begun.
+    fn answer_begun<R: Wait>(
+        &self,
+        rt: &R,
+        asked: &Asked<P>,
+        begun: BegunCall<J, P>,
+    ) -> (Answer, Option<Seen<J, P>>)
+        requires args { length asked.now.args ≡ begun.accepted.args_len }
+        requires procedure { begun.procedure ≡ asked.now.procedure }
+        requires least { asked.now.least ≤ length begun.entries }
+        ensures { IsAnswer J.setting asked.now result.0 result.1 }
+    {
+        begun.is_of_the_log();
+        let ran = run(
+            rt,
+            self.alloc,
+            self.replica,
+            self.gate,
+            self.waiter,
+            begun,
+            asked.args.as_slice(),
+            or_none(asked.request),
+        );
+        match ran {
+            Ran::NoMemory => (Answer::NoMemory, None),
+            Ran::Stale(seen) => (Answer::Stale, Some(seen)),
+            Ran::Ended(completion, seen) => self.answer_ended(rt, asked, completion, seen),
+        }
+    }
+
+    /// That to a call that has come to its end.
+    fn answer_ended<R: Wait>(
+        &self,
+        rt: &R,
+        asked: &Asked<P>,
+        completion: Completion<P>,
+        seen: Seen<J, P>,
+    ) -> (Answer, Option<Seen<J, P>>)
+        requires begun { IsBegunAfter J.setting asked.now seen }
+        requires is_call { IsCall J.setting (log_seen seen) (asked_call asked.now (length seen)) }
+        requires completion { IsCompletion J.setting (log_seen seen) (asked_call asked.now (length seen)) completion }
+        ensures { IsAnswer J.setting asked.now result.0 result.1 }
+    {
+        match completion {
+            Completion::Cancelled { snapshot, code } => {
+                (Answer::Cancelled { snapshot, code }, Some(seen))
+            }
+            Completion::Read { snapshot, reply } => (Answer::Read { snapshot, reply }, Some(seen)),
+            Completion::Wrote(entry) => self.answer_ordered(rt, asked, entry, seen),
+        }
+    }
+
+    /// That to a call that is to be ordered.
+    fn answer_ordered<R: Wait>(
+        &self,
+        rt: &R,
+        asked: &Asked<P>,
+        entry: ExecutedCall<P>,
+        seen: Seen<J, P>,
+    ) -> (Answer, Option<Seen<J, P>>)
+        requires call { entry.call ≡ asked_call asked.now (length seen) }
+        requires least { asked.now.least ≤ length seen }
+        requires ordered { IsOrderedCall J.setting (entries_of seen) entry }
+        ensures { IsAnswer J.setting asked.now result.0 result.1 }
+    {
+        let mut seen = seen;
+        let reply = reply_of(&entry);
+        match order(self.log, self.bells, &mut seen, entry) {
+            Ok(position) => {
+                let found = await_verdict(rt, self.replica, self.waiter, &seen);
+                let answer = answer_by(self.log, &seen, position, reply, found);
+                (answer, Some(seen))
+            }
+            Err(AppendFault::Full) => (Answer::Full, None),
+            Err(AppendFault::OutOfMemory) => (Answer::NoMemory, None),
+            Err(AppendFault::SnapshotUnseen) => unreachable!(),
+        }
+    }
+}
+
+/// The reply that an entry carries.
+fn reply_of<P: Allocator + Copy>(entry: &ExecutedCall<P>) -> u64
+    ensures { result ≡ entry.now.reply }
+{
+    entry.reply
+}
+
+/// A call that doesn't begin.
+fn refused<S>(why: CallRefusal, seen: Option<S>) -> (Answer, Option<S>)
+    ensures { (result.0 ≡ Refused why) × (result.1 ≡ seen) }
+{
+    (Answer::Refused(why), seen)
+}

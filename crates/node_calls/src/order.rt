@@ -1,0 +1,129 @@
+//! A call is ordered, and its verdict awaited.
+
+ghost use Rattle.std.specs.Prelude.{◌≡◌, ◌≢◌, ◌-◌, ◌≤◌, length, slice_get, IfOk, Some, Err};
+ghost use Rattle.log_model.specs.Log.{Call, CallItem};
+ghost use Rattle.log_model.specs.Entries.{ExecutedCall as Executed};
+ghost use Rattle.order_log.specs.declared.fault.AppendFault.TheVariants.{SnapshotUnseen};
+ghost use Rattle.replica.specs.Replica.{entries_of};
+ghost use Rattle.ordered_entries.specs.Ordered.{IsOrderedCall};
+ghost use Rattle.running_calls.specs.Running.{log_seen};
+ghost use Rattle.node_calls.specs.Asked.{AskedCall};
+ghost use Rattle.node_calls.specs.Answer.{IsAppended, IsReplyAt, IsVerdict, IsAnswer, IsFinal, asked_call};
+
+use crate::answer::Answer;
+use crate::bells::{Bells, Waiter};
+use locked_replica::{Found, LockedReplica};
+use log_entry::{Entry, ExecutedCall};
+use log_model::{Verdict, verdicts_in_words_of_the_log};
+use order_log::{AppendFault, Fact, OrderLog, Seen};
+use ordered_entries::{LogSetting, OrderedEntries};
+use replica::replicas_follow_the_log;
+use std::alloc::Allocator;
+use std::sync::{RwLock, Wait};
+
+/// Orders an entry of a call that saw all that was seen so far, and wakes the delivering threads.
+pub(crate) fn order<J: LogSetting, P: Allocator + Copy>(
+    log: &OrderLog<J, OrderedEntries<J>, P>,
+    bells: &Bells<P>,
+    seen: &mut Seen<J, P>,
+    entry: ExecutedCall<P>,
+) -> Result<u32, AppendFault>
+    requires snapshot { entry.call.snapshot ≡ length seen.old }
+    requires ordered { IsOrderedCall J.setting (entries_of seen.old) entry }
+    ensures appended { IfOk result (λ position. IsAppended J.setting entry position seen.new) }
+    ensures whole { result ≢ Err SnapshotUnseen }
+{
+    let appended = log.append(seen, Entry::Call(entry));
+    bells.ring();
+    appended
+}
+
+/// Waits until a replica has delivered the last entry that was seen, or has stopped before it.
+pub(crate) fn await_verdict<J: LogSetting, A: Allocator + Copy, P: Allocator + Copy, R: Wait>(
+    rt: &R,
+    replica: &RwLock<LockedReplica<J, A, P>>,
+    waiter: &Waiter,
+    seen: &Seen<J, P>,
+) -> Found
+    requires { 1 ≤ length seen.now }
+    ensures { IsFinal J.setting seen.now result }
+{
+    waiter.announce(seen.len());
+    for _ in rt.forever() {
+        let key = waiter.prepare();
+        let found = replica.read(rt).find(seen);
+        if found != Found::NotYet {
+            waiter.announce(0);
+            return found;
+        }
+        key.wait(rt);
+    }
+    unreachable!()
+}
+
+/// The reply of the call at a position that was seen.
+fn reply_at<J: LogSetting, P: Allocator + Copy>(
+    log: &OrderLog<J, OrderedEntries<J>, P>,
+    seen: &Seen<J, P>,
+    position: u32,
+) -> u64
+    requires from { 1 ≤ position }
+    requires to { position ≤ length seen.now }
+    requires call { (call : Call) × (slice_get (log_seen seen.now) (position - 1) ≡ Some (CallItem call)) }
+    ensures { IsReplyAt seen.now position result }
+{
+    match log.entry(seen, position) {
+        Entry::Call(call) => call.reply,
+        Entry::Addition(_) => unreachable!(),
+    }
+}
+
+/// The answer of the call that was seen last, by its verdict.
+fn answer_of<J: LogSetting, P: Allocator + Copy>(
+    log: &OrderLog<J, OrderedEntries<J>, P>,
+    seen: &Seen<J, P>,
+    position: u32,
+    reply: u64,
+    verdict: Verdict,
+) -> Answer
+    requires appended { (e : Executed) × IsAppended J.setting e position seen.now }
+    requires known { IsVerdict J.setting (length seen.now) seen.now verdict }
+    ensures { (a : AskedCall) (e : Executed) → IsAppended J.setting e position seen.now
+        → e.call ≡ asked_call a e.call.snapshot → a.least ≤ e.call.snapshot → reply ≡ e.reply
+        → IsAnswer J.setting a result (Some seen.now) }
+{
+    verdicts_in_words_of_the_log();
+    replicas_follow_the_log();
+    match verdict {
+        Verdict::Commit => Answer::Committed { position, reply },
+        Verdict::Conflict(other) => Answer::Conflict { position, other },
+        Verdict::Stale => Answer::Stale,
+        Verdict::Repeated(earlier) => Answer::Repeated {
+            position,
+            earlier,
+            reply: reply_at(log, seen, earlier),
+        },
+        Verdict::Taken(_) => unreachable!(),
+    }
+}
+
+/// The answer of the call that was seen last, by what its replica says of it.
+pub(crate) fn answer_by<J: LogSetting, P: Allocator + Copy>(
+    log: &OrderLog<J, OrderedEntries<J>, P>,
+    seen: &Seen<J, P>,
+    position: u32,
+    reply: u64,
+    found: Found,
+) -> Answer
+    requires appended { (e : Executed) × IsAppended J.setting e position seen.now }
+    requires known { IsFinal J.setting seen.now found }
+    ensures { (a : AskedCall) (e : Executed) → IsAppended J.setting e position seen.now
+        → e.call ≡ asked_call a e.call.snapshot → a.least ≤ e.call.snapshot → reply ≡ e.reply
+        → IsAnswer J.setting a result (Some seen.now) }
+{
+    match found {
+        Found::Verdict(verdict) => answer_of(log, seen, position, reply, verdict),
+        Found::Stopped => Answer::Stopped { position },
+        Found::NotYet => unreachable!(),
+    }
+}

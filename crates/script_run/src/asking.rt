@@ -1,0 +1,187 @@
+//! Calling threads: each replica's calls are taken in the order of the script.
+
+use crate::told::told;
+use catalogue::Catalogue;
+use dsm_model::StepRefusal;
+use log_model::RequestId;
+use node::Desk;
+use node_calls::{Gate, OpenGate};
+use order_log::Fact;
+use ordered_entries::{LogSetting, OrderedEntries};
+use report::CallAnswer;
+use row_values::Bytes;
+use script_calls::ScriptCall;
+use std::alloc::{AllocError, Global};
+use std::sync::atomic::AtomicUsize;
+use std::sync::atomic::Ordering::SeqCst;
+use std::sync::{Mutex, Wait};
+use std::thread;
+use std::thread::Threads;
+use tallies::Ledgers;
+
+/// A call of a script.
+#[derive(Drop)]
+struct PlannedCall {
+    replica: u32,
+    /// None where no procedure has the name.
+    procedure: Option<u16>,
+    args: Bytes<Global>,
+    request: Option<RequestId>,
+}
+
+/// The calls of a script, and what each was answered so far.
+#[derive(Drop)]
+pub(crate) struct Asking {
+    calls: Vec<PlannedCall>,
+    answers: Mutex<Vec<Option<CallAnswer>>>,
+    /// How many calls were looked at for each replica.
+    looked: Vec<AtomicUsize>,
+}
+
+impl Asking {
+    /// The calls of a script, none of which was made.
+    pub(crate) fn new(
+        alloc: Global,
+        catalogue: &Catalogue,
+        replicas: u32,
+        script: Vec<ScriptCall<Bytes<Global>>>,
+    ) -> Result<Asking, AllocError> {
+        let mut calls = Vec::with_capacity(alloc, script.len())?;
+        let mut answers = Vec::with_capacity(alloc, script.len())?;
+        for call in script {
+            let ScriptCall {
+                replica,
+                name,
+                args,
+                request,
+            } = call;
+            let procedure = catalogue.by_name(name.as_slice());
+            answers.push(None)?;
+            calls.push(PlannedCall {
+                replica,
+                procedure,
+                args,
+                request,
+            })?;
+        }
+        let mut looked = Vec::with_capacity(alloc, replicas as usize)?;
+        for _ in 0..replicas {
+            looked.push(AtomicUsize::new(0))?;
+        }
+        Ok(Asking {
+            calls,
+            answers: Mutex::new(answers),
+            looked,
+        })
+    }
+
+    /// Makes all calls: those of each replica by so many threads, and by this one what these have left and the calls of no
+    /// replica.
+    pub(crate) fn ask_all<
+        J: LogSetting + Ledgers + Send + Sync + 'static,
+        R: Threads + Wait + Sync,
+    >(&self, rt: &R, alloc: Global, desk: &Desk<J, OpenGate>, executors: u32) {
+        let replicas = self.looked.len();
+        let threads = replicas.saturating_mul(executors as usize);
+        let _ended = thread::map_indices(
+            rt,
+            alloc,
+            threads,
+            &|thread: usize| {
+                self.ask_at(rt, desk, thread % replicas.max(1));
+            },
+        );
+        for place in 0..replicas {
+            self.ask_at(rt, desk, place);
+        }
+        for (index, call) in self.calls.iter().enumerate() {
+            if call.replica == 0 || call.replica as usize > replicas {
+                self.ask_one(rt, desk, index);
+            }
+        }
+    }
+
+    /// Makes the calls of a replica, by its place from 0 on, that no other thread has taken.
+    fn ask_at<J: LogSetting + Ledgers + Send + Sync + 'static, R: Wait>(
+        &self,
+        rt: &R,
+        desk: &Desk<J, OpenGate>,
+        place: usize,
+    ) {
+        let Some(looked) = self.looked.get(place) else {
+            return;
+        };
+        for _ in 0..self.calls.len() {
+            let index = looked.fetch_add(1, SeqCst);
+            let Some(call) = self.calls.get(index) else {
+                break;
+            };
+            if call.replica as usize == place.wrapping_add(1) {
+                self.ask_one(rt, desk, index);
+            }
+        }
+    }
+
+    /// Makes one call, and keeps what it was answered.
+    fn ask_one<J: LogSetting + Ledgers + Send + Sync + 'static, R: Wait>(
+        &self,
+        rt: &R,
+        desk: &Desk<J, OpenGate>,
+        index: usize,
+    ) {
+        let Some(call) = self.calls.get(index) else {
+            return;
+        };
+        let answer = answer_to(rt, desk, call);
+        let mut answers = self.answers.lock(rt);
+        if let Some(place) = answers.get_mut(index) {
+            *place = Some(answer);
+        }
+    }
+
+    /// What each call was answered, in the order of the script. None is missing when all were made.
+    pub(crate) fn answers<R: Wait>(&self, rt: &R, index: usize) -> Option<CallAnswer> {
+        let answers = self.answers.lock(rt);
+        match answers.get(index) {
+            Some(answer) => *answer,
+            None => None,
+        }
+    }
+
+    /// How many calls there are.
+    pub(crate) fn len(&self) -> usize {
+        self.calls.len()
+    }
+
+    /// How many weren't made at a replica since no procedure has the name.
+    pub(crate) fn unnamed(&self) -> u64 {
+        let replicas = self.looked.len();
+        let mut count = 0u64;
+        for call in self.calls.iter() {
+            let at_a_replica = call.replica >= 1 && call.replica as usize <= replicas;
+            if at_a_replica && call.procedure.is_none() {
+                count = count.saturating_add(1);
+            }
+        }
+        count
+    }
+}
+
+/// The answer to a call. Where no procedure has its name none is made, but at no replica.
+fn answer_to<J: LogSetting + Ledgers + Send + Sync + 'static, R: Wait>(
+    rt: &R,
+    desk: &Desk<J, OpenGate>,
+    call: &PlannedCall,
+) -> CallAnswer {
+    let at_a_replica = call.replica >= 1 && call.replica as usize <= desk.replicas();
+    if at_a_replica && call.procedure.is_none() {
+        return CallAnswer::Refused(StepRefusal::NoProcedure);
+    }
+    let procedure = call.procedure.unwrap_or(0);
+    let args = call.args.as_slice();
+    let (answer, _) = match call.request {
+        Some(request) => desk.execute_numbered(rt, call.replica, 0, procedure, args, request),
+        None => desk.execute(rt, call.replica, 0, procedure, args),
+    };
+    told(answer)
+}

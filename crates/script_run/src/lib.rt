@@ -1,0 +1,9 @@
+//! Takes the calls of a script on the threads of a node, over any input, output and writer for faults.
+#![tactic(auto)]
+
+pub use run::run_over;
+
+mod asking;
+mod printing;
+mod run;
+mod told;

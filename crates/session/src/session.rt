@@ -1,0 +1,118 @@
+//! A session.
+
+ghost use Rattle.std.specs.Prelude.{◌≡◌, max, Some, None};
+ghost use Rattle.node.specs.Requests.{IsHeard};
+ghost use Rattle.session.specs.Session.{position_told};
+
+use log_model::RequestId;
+use node::Desk;
+use node_calls::{Answer, Gate};
+use order_log::{Fact, Seen};
+use ordered_entries::{LogSetting, OrderedEntries};
+use std::marker::Model;
+use std::sync::Wait;
+use tallies::Ledgers;
+
+/// A session of a caller. Contracts see what it keeps: the position of the log that its next call sees at least.
+#[derive(Drop)]
+pub struct Session<'a, J: LogSetting + Ledgers, G: Gate>
+where
+    OrderedEntries<J>: Fact,
+{
+    desk: &'a Desk<J, G>,
+    position: u32,
+}
+
+impl<'a, J: LogSetting + Ledgers, G: Gate> Model for Session<'a, J, G>
+where
+    OrderedEntries<J>: Fact,
+{
+    ghost use Rattle.session.specs.Session.{SessionState};
+
+    ghost Value = { SessionState };
+
+    ghost view = { λ s. record { replicas = s.desk.now.replicas; position = s.position } };
+
+    ghost invariant = { λ s. Unit {0} };
+}
+
+impl<
+    'a,
+    J: LogSetting + Ledgers + Send + Sync + 'static,
+    G: Gate + Drop + Send + Sync + 'static,
+> Session<'a, J, G> {
+    /// A session that has seen nothing yet.
+    pub fn new(desk: &'a Desk<J, G>) -> Session<'a, J, G>
+        ensures replicas { result.replicas ≡ desk.now.replicas }
+        ensures position { result.position ≡ 0 }
+    {
+        Session { desk, position: 0 }
+    }
+
+    /// The position of the log that its next call sees at least.
+    pub fn position(&self) -> u32
+        ensures { result ≡ self.now.position }
+    {
+        self.position
+    }
+
+    /// The answer to a call of a procedure at a replica, which sees no less of the log than the session has seen.
+    pub fn call<R: Wait>(
+        &mut self,
+        rt: &R,
+        replica: u32,
+        procedure: u16,
+        args: &[u8],
+    ) -> (Answer, Option<Seen<J>>)
+        ensures answer { IsHeard J.setting self.old.replicas replica
+            (record { least = self.old.position; procedure = procedure; args = args.now; request = None }) result.0 result.1 }
+        ensures kept { self.new.position ≡ max self.old.position (position_told result.0) }
+        ensures replicas { self.new.replicas ≡ self.old.replicas }
+    {
+        let (answer, seen) = self
+            .desk
+            .execute(rt, replica, self.position, procedure, args);
+        self.position = self.position.max(position_told(answer));
+        (answer, seen)
+    }
+
+    /// That to a call with a request, which may be made again at any replica: at most one of them commits.
+    pub fn call_numbered<R: Wait>(
+        &mut self,
+        rt: &R,
+        replica: u32,
+        procedure: u16,
+        args: &[u8],
+        request: RequestId,
+    ) -> (Answer, Option<Seen<J>>)
+        ensures answer { IsHeard J.setting self.old.replicas replica
+            (record { least = self.old.position; procedure = procedure; args = args.now; request = Some request }) result.0 result.1 }
+        ensures kept { self.new.position ≡ max self.old.position (position_told result.0) }
+        ensures replicas { self.new.replicas ≡ self.old.replicas }
+    {
+        let (answer, seen) = self
+            .desk
+            .execute_numbered(rt, replica, self.position, procedure, args, request);
+        self.position = self.position.max(position_told(answer));
+        (answer, seen)
+    }
+}
+
+/// The position that an answer tells: of the entry of an ordered call whose verdict is known, or of the snapshot of one that
+/// isn't ordered. Others tell none: of a call that is stale, or whose replica has stopped, and of what wasn't run.
+fn position_told(answer: Answer) -> u32
+    ensures { result ≡ position_told answer }
+{
+    match answer {
+        Answer::Committed { position, .. }
+        | Answer::Conflict { position, .. }
+        | Answer::Repeated { position, .. } => position,
+        Answer::Read { snapshot, .. } | Answer::Cancelled { snapshot, .. } => snapshot,
+        Answer::Stale
+        | Answer::Behind
+        | Answer::NoMemory
+        | Answer::Full
+        | Answer::Stopped { .. }
+        | Answer::Refused(_) => 0,
+    }
+}

@@ -1,0 +1,84 @@
+//! Which ledger counts what. All ledgers of a node go by one type parameter, and each by a type for what it counts.
+
+use std::marker::{Brand, PhantomData};
+use std::sync::ledger::Ledger;
+
+/// Into how many parts each ledger is cut: for 16 executing threads at each of 8 replicas, and one for answers that no
+/// executing thread gives.
+pub const PARTS: u64 = 129;
+
+/// The ledgers of a node. Each run of a program picks them.
+pub trait Ledgers {
+    ghost use Rattle.std.specs.Prelude.{ℕ};
+
+    /// The name of each, by its place.
+    ghost names: { ℕ → ℕ };
+}
+
+impl Ledgers for Brand {
+    ghost names = { λ _. 0 };
+}
+
+/// What a ledger counts: answers of one kind.
+pub trait Kind {
+    ghost use Rattle.std.specs.Prelude.{ℕ};
+
+    /// The place of its ledger among those of a node.
+    ghost place: { ℕ };
+}
+
+pub struct Committed;
+
+impl Kind for Committed {
+    ghost place = { 0 };
+}
+
+pub struct Read;
+
+impl Kind for Read {
+    ghost place = { 1 };
+}
+
+pub struct Cancelled;
+
+impl Kind for Cancelled {
+    ghost place = { 2 };
+}
+
+pub struct Conflict;
+
+impl Kind for Conflict {
+    ghost place = { 3 };
+}
+
+pub struct Stale;
+
+impl Kind for Stale {
+    ghost place = { 4 };
+}
+
+pub struct Repeated;
+
+impl Kind for Repeated {
+    ghost place = { 5 };
+}
+
+pub struct Other;
+
+impl Kind for Other {
+    ghost place = { 6 };
+}
+
+/// The ledger that counts this at a node.
+pub struct LedgerOf<J, K> {
+    node: PhantomData<J>,
+    kind: PhantomData<K>,
+}
+
+impl<J: Ledgers, K: Kind> Ledger for LedgerOf<J, K> {
+    ghost use Rattle.tallies.specs.declared.ledgers.TheConstants.{PARTS};
+
+    ghost name = { J.names K.place };
+
+    ghost parts = { PARTS };
+}
