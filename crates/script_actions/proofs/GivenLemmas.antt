@@ -1,16 +1,19 @@
 -- Texts that are given one after another, up to one of which a beginning is given.
-use Rattle.std.proofs.Common.{◌≡◌, ℕ, List, [], ◌++◌, Option, Some, None, Result, Ok, Err, refl, sym, ap, ◌∙◌, append_assoc}
+use Rattle.std.proofs.Common.{◌≡◌, ℕ, List, [], ◌++◌, Option, Some, None, Result, Ok, Err, IfErr, refl, sym, ap, subst, ◌∙◌, append_assoc}
 use Rattle.std.proofs.lemmas.List.{append-nil}
 use Rattle.std.specs.Io.KnownBytes.{Appends}
 use Rattle.byte_output.specs.declared.paged.PagedOutput.{PagedOutput}
 use Rattle.byte_output.specs.Writes.{AppendsBeginning}
 use Rattle.byte_output.specs.Pending.{output_of, pending_of, Passes}
+use Rattle.byte_output.proofs.PendingLemmas.{Passes-then}
 use Rattle.byte_output.proofs.WritesLemmas.{Appends-then}
 use Rattle.log_model.specs.Log.{Setting}
 use Rattle.dsm_model.specs.World.{World}
 use Rattle.script.specs.Script.{ScriptCommand}
 use Rattle.script_actions.specs.Actions.{Does}
-use Rattle.script_actions.specs.Doing.{PassesBeginning, Gives, HasDone}
+use Rattle.script_actions.specs.declared.failure.Failure.{Failure}
+use Rattle.script_actions.specs.declared.failure.Failure.TheVariants.{OutOfMemory, Output}
+use Rattle.script_actions.specs.Doing.{PassesBeginning, Gives, HasDone, LosesNothing}
 
 nothing_appended : (o : Option (List ℕ)) → Appends o o []
 nothing_appended None = tt
@@ -54,3 +57,23 @@ pub gives_done : {W T E : Type 0} (contents : W → Option (List ℕ)) (w : Sett
     → Does w before c text after → Gives contents a b result text → HasDone contents w before c a b result after
 gives_done contents w before c a b (Ok x) after text does given = (text, does, given)
 gives_done contents w before c a b (Err x) after text does given = (text, after, does, given)
+
+-- ---- nothing is lost where memory was wanting
+
+pub nothing_lost : {W : Type 0} (contents : W → Option (List ℕ)) (a : PagedOutput W) (failure : Failure) → LosesNothing contents a a failure
+nothing_lost contents a OutOfMemory = ([], nothing_given contents a)
+nothing_lost contents a (Output error) = tt
+
+pub nothing_lost_behind : {W : Type 0} (contents : W → Option (List ℕ)) (a b c : PagedOutput W) (text : List ℕ) (failure : Failure) → Passes contents a b text → LosesNothing contents b c failure → LosesNothing contents a c failure
+nothing_lost_behind contents a b c text OutOfMemory given (more, rest) = (text ++ more, Passes-then contents a b c text more given rest)
+nothing_lost_behind contents a b c text (Output error) given kept = tt
+
+pub none_lost_behind : {T W : Type 0} (contents : W → Option (List ℕ)) (a b c : PagedOutput W) (text : List ℕ) (result : Result T Failure) → Passes contents a b text → IfErr result (LosesNothing contents b c) → IfErr result (LosesNothing contents a c)
+none_lost_behind contents a b c text (Ok x) given kept = tt
+none_lost_behind contents a b c text (Err failure) given kept = nothing_lost_behind contents a b c text failure given kept
+
+-- it failed with what a `?` returns
+pub lost_by : {T W : Type 0} (contents : W → Option (List ℕ)) (a b : PagedOutput W) (result : Result T Failure) (passed failure : Failure) → result ≡ Err passed → passed ≡ failure → LosesNothing contents a b failure
+    → IfErr result (LosesNothing contents a b)
+lost_by contents a b (Ok x) passed failure e same kept = tt
+lost_by contents a b (Err given) passed failure e same kept = let is : failure ≡ given = cc in subst (LosesNothing contents a b) is kept

@@ -1,11 +1,11 @@
 //! Doing what a line says.
 
-ghost use Rattle.std.specs.Prelude.{◌≡◌, false};
+ghost use Rattle.std.specs.Prelude.{◌≡◌, IfErr, false};
 ghost use Rattle.byte_output.specs.Pending.{output_of};
 ghost use Rattle.dsm_world.specs.System.{setting_of, world_of};
 ghost use Rattle.script.specs.Script.{IsWithinLimits};
 ghost use Rattle.script_settings.specs.Settings.{is_setting};
-ghost use Rattle.script_actions.specs.Doing.{HasDone};
+ghost use Rattle.script_actions.specs.Doing.{HasDone, LosesNothing};
 
 use crate::answers::{add, begin, deliver, order, rebuild, turn};
 use crate::failure::Failure;
@@ -24,7 +24,7 @@ use std::io::Write;
 const LONGEST_RUN: u32 = MAX_SLOTS as u32;
 
 /// Does what a line says to a world that acts, and gives what it prints to the output. An error is the output's, or want of
-/// memory for what is printed; then a beginning of that was given.
+/// memory for what is printed; then a beginning of that was given, and at want of memory nothing that was given is lost.
 pub fn act<A: Allocator + Copy, W: Write>(
     alloc: A,
     world: &mut World<A>,
@@ -38,6 +38,7 @@ pub fn act<A: Allocator + Copy, W: Write>(
     ensures setting { setting_of world.new ≡ setting_of world.old }
     ensures done { HasDone W.contents (setting_of world.old) (world_of world.old) command.now
         output.old output.new result (world_of world.new) }
+    ensures kept { IfErr result (LosesNothing W.contents output.old output.new) }
 {
     match command {
         Command::Window(_)

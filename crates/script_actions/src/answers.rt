@@ -1,6 +1,6 @@
 //! Steps of a world, each with the line of its answer.
 
-ghost use Rattle.std.specs.Prelude.{◌≡◌, ◌≤◌, Some, IfOk, OnErr};
+ghost use Rattle.std.specs.Prelude.{◌≡◌, ◌≤◌, Some, IfErr, IfOk, OnErr};
 ghost use Rattle.byte_output.specs.Pending.{output_of, Passes};
 ghost use Rattle.dsm_model.specs.declared.outcome.Outcome.{Outcome as ModelOutcome};
 ghost use Rattle.dsm_model.specs.World.{IsStep, Begin as BeginStep, Turn as TurnStep, numbered};
@@ -11,7 +11,7 @@ ghost use Rattle.report.specs.Answers.{answer_line};
 ghost use Rattle.script.specs.declared.commands.Command.TheVariants as command;
 ghost use Rattle.script_actions.specs.Printed.{delivered_entry, step_text};
 ghost use Rattle.script_actions.specs.Actions.{begin_command, is_more, is_delivery, Turns};
-ghost use Rattle.script_actions.specs.Doing.{PassesBeginning, HasDone};
+ghost use Rattle.script_actions.specs.Doing.{PassesBeginning, HasDone, LosesNothing};
 
 use crate::failure::Failure;
 use crate::output::put_answer;
@@ -41,6 +41,7 @@ fn step<A: Allocator + Copy, W: Write>(
         × IsStep (setting_of world.old) (world_of world.old) (step_of (setting_of world.old) step.entry) outcome (world_of world.new)
         × PassesBeginning W.contents output.old output.new
         (step_text (setting_of world.old) (world_of world.new).log (step_of (setting_of world.old) step.entry) outcome)) }
+    ensures kept { IfErr result (LosesNothing W.contents output.old output.new) }
 {
     let outcome = world.step(step);
     let entry = delivered_entry(world, outcome);
@@ -117,6 +118,7 @@ pub(crate) fn begin<A: Allocator + Copy, W: Write>(
     ensures setting { setting_of world.new ≡ setting_of world.old }
     ensures done { HasDone W.contents (setting_of world.old) (world_of world.old) (begin_command replica name.now args.now request)
         output.old output.new result (world_of world.new) }
+    ensures kept { IfErr result (LosesNothing W.contents output.old output.new) }
 {
     let Some(_kept) = world.replica(replica) else {
         let refused = Outcome::Refused(StepRefusal::NoReplica);
@@ -174,6 +176,7 @@ pub(crate) fn add<A: Allocator + Copy, W: Write>(
     ensures setting { setting_of world.new ≡ setting_of world.old }
     ensures done { HasDone W.contents (setting_of world.old) (world_of world.old) (command.Add name.now number args_len bytes.now)
         output.old output.new result (world_of world.new) }
+    ensures kept { IfErr result (LosesNothing W.contents output.old output.new) }
 {
     let add = Step::Add {
         name,
@@ -198,6 +201,7 @@ pub(crate) fn turn<A: Allocator + Copy, W: Write>(
     ensures setting { setting_of world.new ≡ setting_of world.old }
     ensures done { HasDone W.contents (setting_of world.old) (world_of world.old) (command.Turn call most)
         output.old output.new result (world_of world.new) }
+    ensures kept { IfErr result (LosesNothing W.contents output.old output.new) }
 {
     let outcome = last_turn(world, call, most);
     put_answer(alloc, output, call_line(call, outcome))
@@ -236,6 +240,7 @@ pub(crate) fn order<A: Allocator + Copy, W: Write>(
     ensures setting { setting_of world.new ≡ setting_of world.old }
     ensures done { HasDone W.contents (setting_of world.old) (world_of world.old) (command.Order call)
         output.old output.new result (world_of world.new) }
+    ensures kept { IfErr result (LosesNothing W.contents output.old output.new) }
 {
     step(alloc, world, output, Step::Order { call })?;
     Ok(())
@@ -253,6 +258,7 @@ pub(crate) fn deliver<A: Allocator + Copy, W: Write>(
     ensures setting { setting_of world.new ≡ setting_of world.old }
     ensures done { HasDone W.contents (setting_of world.old) (world_of world.old) (command.Deliver replica most)
         output.old output.new result (world_of world.new) }
+    ensures kept { IfErr result (LosesNothing W.contents output.old output.new) }
 {
     for _ in 0..most {
         let outcome = step(alloc, world, output, Step::Deliver { replica })?;
@@ -280,6 +286,7 @@ pub(crate) fn rebuild<A: Allocator + Copy, W: Write>(
     ensures setting { setting_of world.new ≡ setting_of world.old }
     ensures done { HasDone W.contents (setting_of world.old) (world_of world.old) (command.Rebuild replica)
         output.old output.new result (world_of world.new) }
+    ensures kept { IfErr result (LosesNothing W.contents output.old output.new) }
 {
     step(alloc, world, output, Step::Rebuild { replica })?;
     Ok(())

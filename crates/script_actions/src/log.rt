@@ -1,13 +1,13 @@
 //! The log, and its entries.
 
-ghost use Rattle.std.specs.Prelude.{◌≡◌, ◌<◌, find, length, nat_lt, option_map, slice_get, Some};
+ghost use Rattle.std.specs.Prelude.{◌≡◌, ◌<◌, find, IfErr, length, nat_lt, option_map, slice_get, Some};
 ghost use Rattle.byte_output.specs.Pending.{output_of};
 ghost use Rattle.log_model.specs.Log.{Item};
 ghost use Rattle.log_entry.specs.Kind.{entry_of};
 ghost use Rattle.dsm_world.specs.System.{setting_of, world_of};
 ghost use Rattle.report.specs.Lines.{line_text};
 ghost use Rattle.script_actions.specs.Printed.{logged_entry, logged_text, log_text, entry_text};
-ghost use Rattle.script_actions.specs.Doing.{Gives};
+ghost use Rattle.script_actions.specs.Doing.{Gives, LosesNothing};
 
 use crate::failure::Failure;
 use crate::output::put_line;
@@ -28,6 +28,7 @@ pub(crate) fn put_log<A: Allocator + Copy, W: Write>(
 ) -> Result<(), Failure>
     ensures same_output { (output_of output.new).ghost_name ≡ (output_of output.old).ghost_name }
     ensures given { Gives W.contents output.old output.new result (log_text (setting_of world.now) (world_of world.now)) }
+    ensures kept { IfErr result (LosesNothing W.contents output.old output.new) }
 {
     let entries = world.log_len();
     for before in 0..entries {
@@ -104,6 +105,7 @@ pub(crate) fn put_entry<A: Allocator + Copy, W: Write>(
 ) -> Result<(), Failure>
     ensures same_output { (output_of output.new).ghost_name ≡ (output_of output.old).ghost_name }
     ensures given { Gives W.contents output.old output.new result (entry_text (setting_of world.now) (world_of world.now).log position) }
+    ensures kept { IfErr result (LosesNothing W.contents output.old output.new) }
 {
     world.keeps_what_was_delivered();
     let Some(entry) = world.entry(position) else {

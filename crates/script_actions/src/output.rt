@@ -1,10 +1,10 @@
 //! Lines that are given to an output.
 
-ghost use Rattle.std.specs.Prelude.{◌≡◌};
+ghost use Rattle.std.specs.Prelude.{◌≡◌, IfErr};
 ghost use Rattle.byte_output.specs.Pending.{output_of};
 ghost use Rattle.report.specs.Lines.{line_text};
 ghost use Rattle.report.specs.Answers.{text_of};
-ghost use Rattle.script_actions.specs.Doing.{Gives};
+ghost use Rattle.script_actions.specs.Doing.{Gives, LosesNothing};
 
 use crate::failure::Failure;
 use byte_output::paged::PagedOutput;
@@ -20,6 +20,7 @@ pub(crate) fn put_line<A: Allocator + Copy, W: Write>(
 ) -> Result<(), Failure>
     ensures same_output { (output_of output.new).ghost_name ≡ (output_of output.old).ghost_name }
     ensures given { Gives W.contents output.old output.new result (line_text said.now) }
+    ensures kept { IfErr result (LosesNothing W.contents output.old output.new) }
 {
     let text = line(alloc, said)?;
     put(output, &text)
@@ -33,6 +34,7 @@ pub(crate) fn put_answer<A: Allocator + Copy, W: Write>(
 ) -> Result<(), Failure>
     ensures same_output { (output_of output.new).ghost_name ≡ (output_of output.old).ghost_name }
     ensures given { Gives W.contents output.old output.new result (text_of said.entry) }
+    ensures kept { IfErr result (LosesNothing W.contents output.old output.new) }
 {
     let text = answer(alloc, said)?;
     put(output, &text)
@@ -41,6 +43,7 @@ pub(crate) fn put_answer<A: Allocator + Copy, W: Write>(
 fn put<W: Write>(output: &mut PagedOutput<'_, W>, text: &[u8]) -> Result<(), Failure>
     ensures same_output { (output_of output.new).ghost_name ≡ (output_of output.old).ghost_name }
     ensures given { Gives W.contents output.old output.new result text.now }
+    ensures kept { IfErr result (LosesNothing W.contents output.old output.new) }
 {
     match output.put(text) {
         Ok(()) => Ok(()),

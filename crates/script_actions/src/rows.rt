@@ -1,11 +1,11 @@
 //! The rows of a replica.
 
-ghost use Rattle.std.specs.Prelude.{◌≡◌};
+ghost use Rattle.std.specs.Prelude.{◌≡◌, IfErr};
 ghost use Rattle.byte_output.specs.Pending.{output_of};
 ghost use Rattle.dsm_model.specs.World.{numbered};
 ghost use Rattle.dsm_world.specs.System.{setting_of, world_of};
 ghost use Rattle.script_actions.specs.Printed.{rows_text};
-ghost use Rattle.script_actions.specs.Doing.{Gives};
+ghost use Rattle.script_actions.specs.Doing.{Gives, LosesNothing};
 
 use crate::failure::Failure;
 use crate::output::put_line;
@@ -27,6 +27,7 @@ pub(crate) fn put_rows<A: Allocator + Copy, W: Write>(
     ensures same_output { (output_of output.new).ghost_name ≡ (output_of output.old).ghost_name }
     ensures given { Gives W.contents output.old output.new result
         (rows_text (setting_of world.now) (world_of world.now).log replica (numbered (world_of world.now).replicas replica)) }
+    ensures kept { IfErr result (LosesNothing W.contents output.old output.new) }
 {
     a_log_only_grows();
     entries_suffice();

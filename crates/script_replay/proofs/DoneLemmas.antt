@@ -13,14 +13,16 @@ use Rattle.script_settings.specs.declared.cause.FaultCause.{FaultCause}
 use Rattle.script_settings.specs.declared.cause.FaultCause.TheVariants.{OutOfMemory}
 use Rattle.script_settings.specs.Fault.{cause_of_line_fault}
 use Rattle.script_settings.specs.Settings.{ScriptSettings, is_setting}
-use Rattle.script_actions.specs.Doing.{HasDone}
+use Rattle.script_actions.specs.declared.failure.Failure.{Failure}
+use Rattle.script_actions.specs.declared.failure.Failure.TheVariants.{OutOfMemory as Wanting}
+use Rattle.script_actions.specs.Doing.{HasDone, LosesNothing}
 use Rattle.script_replay.specs.declared.stage.Stage as code
 use Rattle.script_stops.specs.declared.stop.Stop.{Stop}
 use Rattle.script_stops.specs.declared.stop.Stop.TheVariants.{Fault, Input, Output}
 use Rattle.script_replay.specs.declared.stage.Stage.TheVariants.{SettingUp as SettingUpCode, Acting as ActingCode}
 use Rattle.script_replay.specs.Stage.{Stage, Acting, Action, Fails, Goes, Acts, first_action, action_of}
 use Rattle.script_replay.specs.Replay.{Ending, Faulty, Prints}
-use Rattle.script_replay.specs.Doing.{stage_of, PrintsFrom, IsFaultOf, GivesBeginning, GivesUpTo, GivesAction}
+use Rattle.script_replay.specs.Doing.{stage_of, PrintsFrom, IsFaultOf, GivesBeginning, GivesUpTo, GivesAction, StopsBy}
 use Rattle.script_replay.proofs.PassesLemmas.{Passes-nothing, PassesBeginning-front, PassesBeginning-more}
 use Rattle.script_replay.proofs.ReplayLemmas.{can_print, action_can, acting_acts, setting_up_acts}
 
@@ -113,3 +115,28 @@ acting_at stage w e c is = ap (λ st. action_of (stage_of st) (Ok (Some c))) e �
 
 pub says_by : (line : List ℕ) (o p : Option ScriptCommand) → line_says line ≡ Ok o → o ≡ p → line_says line ≡ Ok p
 says_by line o p says e = subst (λ (q : Option ScriptCommand). line_says line ≡ Ok q) e says
+
+-- ---- by which line it stops, with nothing lost
+
+pub stops_at : {W : Type 0} (contents : W → Option (List ℕ)) (n : ℕ) (page : PagedOutput W) (stop : Stop) (cause : FaultCause) → stop ≡ Fault (record { line = n; cause = cause }) → StopsBy contents n page page stop
+stops_at contents n page stop cause is = subst (StopsBy contents n page page) (sym is) (refl, [], Passes-nothing contents page)
+
+fault_stops : {W : Type 0} (contents : W → Option (List ℕ)) (n : ℕ) (a : Action) (page : PagedOutput W) (stop : Stop) → IsFaultOf n a stop → StopsBy contents n page page stop
+fault_stops contents n a page (Fault fault) (same, why) = (same, [], Passes-nothing contents page)
+fault_stops contents n a page (Input error) h = absurd h
+fault_stops contents n a page (Output error) h = absurd h
+
+pub faults_stop : {T W : Type 0} (contents : W → Option (List ℕ)) (n : ℕ) (a : Action) (page : PagedOutput W) (result : Result T Stop) → IfErr result (IsFaultOf n a) → IfErr result (StopsBy contents n page page)
+faults_stop contents n a page (Ok t) h = tt
+faults_stop contents n a page (Err stop) h = fault_stops contents n a page stop h
+
+-- with what a `?` returns
+pub faults_stop_by : {T W : Type 0} (contents : W → Option (List ℕ)) (n : ℕ) (a : Action) (page : PagedOutput W) (result : Result T Stop) (passed stop : Stop) → result ≡ Err passed → passed ≡ stop → IsFaultOf n a stop
+    → IfErr result (StopsBy contents n page page)
+faults_stop_by contents n a page (Ok t) passed stop e same h = tt
+faults_stop_by contents n a page (Err given) passed stop e same h = let is : stop ≡ given = cc in subst (StopsBy contents n page page) is (fault_stops contents n a page stop h)
+
+pub wanting_stops : {W : Type 0} (contents : W → Option (List ℕ)) (n : ℕ) (old new : PagedOutput W) (stop : Stop) (failure : Failure) → stop ≡ Fault (record { line = n; cause = OutOfMemory }) → failure ≡ Wanting
+    → LosesNothing contents old new failure → StopsBy contents n old new stop
+wanting_stops contents n old new stop failure is wants kept =
+    let given = subst (LosesNothing contents old new) wants kept in subst (StopsBy contents n old new) (sym is) (refl, given.0, given.1)

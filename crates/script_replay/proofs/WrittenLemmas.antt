@@ -1,21 +1,20 @@
 -- What is written at the end of a script, and what is said of it.
-use Rattle.std.proofs.Common.{◌≡◌, ◌⊎◌, inl, inr, ℕ, true, List, [], Option, Some, None, Result, Ok, Err, IfSome, refl, sym, ap, subst, ◌∙◌}
+use Rattle.std.proofs.Common.{◌≡◌, ◌⊎◌, inl, inr, ℕ, true, List, [], Option, Some, None, Result, Ok, Err, IfErr, IfSome, ◌++◌, refl, sym, ap, subst, ◌∙◌}
 use Rattle.std.proofs.lemmas.List.{append-nil}
 use Rattle.std.specs.Io.KnownBytes.{Appends}
 use Rattle.byte_output.specs.declared.paged.PagedOutput.{PagedOutput}
 use Rattle.byte_output.specs.Pending.{output_of, pending_of, Passes}
 use Rattle.byte_output.specs.Writes.{AppendsBeginning}
 use Rattle.byte_output.proofs.PendingLemmas.{Writes-finished}
-use Rattle.script_stops.specs.Telling.{FAILED}
+use Rattle.script_stops.specs.Telling.{FAILED, SaysEnd, SaysStream, fault_line, status_of_cause}
 use Rattle.script_settings.specs.declared.cause.FaultCause.{FaultCause}
 use Rattle.script_settings.specs.declared.cause.FaultCause.TheVariants.{Line, Place, Table, Program, Refused, Procedure, OutOfMemory}
 use Rattle.script_actions.specs.Doing.{PassesBeginning}
 use Rattle.script_stops.specs.declared.stop.Stop.{Stop}
 use Rattle.script_stops.specs.declared.stop.Stop.TheVariants.{Fault, Input, Output}
 use Rattle.script_replay.specs.Replay.{Ending, Finished, Faulty}
-use Rattle.script_replay.specs.Leaving.{Leaves}
-use Rattle.script_replay.specs.Doing.{GivesBeginning, GivesReplay, has_output_failed, WritesBeginning, WritesReplay}
-use Rattle.script_stops.specs.Telling.{status_of_cause, SaysEnd}
+use Rattle.script_replay.specs.Leaving.{Leaves, StopsAt, StopsAtLine, StopsBeforeLines, memory_line}
+use Rattle.script_replay.specs.Doing.{GivesBeginning, GivesReplay, GivesNoLines, GivesUpToLine, GivesUpToWant, WritesUpToWant, has_output_failed, WritesBeginning, WritesReplay}
 use Rattle.script_replay.proofs.PassesLemmas.{Appends-nothing, PassesBeginning-front, PassesBeginning-finished, PassesBeginning-lost}
 
 -- ---- what was given is written
@@ -62,6 +61,47 @@ module _ {W : Type 0} (contents : W → Option (List ℕ)) (a b : PagedOutput W)
       → WritesBeginning (contents old) new P
   unfinished ended new left is q h = subst (λ (t : Option (List ℕ)). WritesBeginning (contents old) t P) (sym is) (finished_begun left q (begun_of ended h))
 
+  -- where memory was wanting, and what was pending was put out
+  up_to_line : (bytes : List ℕ) (left new : Option (List ℕ)) (n : ℕ) → Appends (contents (output_of b).now) new (pending_of b) → GivesUpToLine contents bytes left a b n → StopsAtLine bytes left (contents old) new n
+  up_to_line bytes left new n q h = record {
+    before = h.before;
+    line = h.line;
+    rest = h.rest;
+    read = h.read;
+    lines = h.lines;
+    count = h.count;
+    done = h.done;
+    here = h.here;
+    printed = h.printed;
+    written = whole new (h.done ++ h.here) h.given q;
+    text = h.text;
+    ending = h.ending;
+    prints = h.prints;
+    beginning = PassesBeginning-finished contents a b old new h.text same none h.beginning (beginning new q);
+  }
+
+  no_lines : (bytes : List ℕ) (left new : Option (List ℕ)) (n : ℕ) → Appends (contents (output_of b).now) new (pending_of b) → GivesNoLines contents bytes left a b n → StopsBeforeLines bytes left (contents old) new n
+  no_lines bytes left new n q h = record { zero = h.zero; read = h.read; written = whole new [] h.given q }
+
+  at_line : (bytes : List ℕ) (left new : Option (List ℕ)) (n : ℕ) → Appends (contents (output_of b).now) new (pending_of b) → GivesNoLines contents bytes left a b n ⊎ GivesUpToLine contents bytes left a b n → StopsAt bytes left (contents old) new n
+  at_line bytes left new n q (inl h) = inl (no_lines bytes left new n q h)
+  at_line bytes left new n q (inr h) = inr (up_to_line bytes left new n q h)
+
+  pub wants_put_out : {T : Type 0} (bytes : List ℕ) (left new now : Option (List ℕ)) (ended : Result T Stop) → new ≡ now → Appends (contents (output_of b).now) now (pending_of b) → IfErr ended (GivesUpToWant contents bytes left a b)
+      → IfErr ended (WritesUpToWant bytes left (contents old) new)
+  wants_put_out bytes left new now (Ok t) is q h = tt
+  wants_put_out bytes left new now (Err (Fault fault)) is q h = λ w.
+      at_line bytes left new fault.line (subst (λ (t : Option (List ℕ)). Appends (contents (output_of b).now) t (pending_of b)) (sym is) q) (h w)
+  wants_put_out bytes left new now (Err (Input error)) is q h = tt
+  wants_put_out bytes left new now (Err (Output error)) is q h = tt
+
+-- an output that failed wants no memory
+pub wants_of_failed : {T : Type 0} (bytes : List ℕ) (left old new : Option (List ℕ)) (ended : Result T Stop) → has_output_failed ended ≡ true → IfErr ended (WritesUpToWant bytes left old new)
+wants_of_failed bytes left old new (Ok t) e = tt
+wants_of_failed bytes left old new (Err (Fault fault)) e = absurd cc
+wants_of_failed bytes left old new (Err (Input error)) e = absurd cc
+wants_of_failed bytes left old new (Err (Output error)) e = tt
+
 -- ---- what is said of it
 
 AppendsBeginning-all : (a b : Option (List ℕ)) (text : List ℕ) → Appends a b text → AppendsBeginning a b text
@@ -97,9 +137,29 @@ told_stopped old new old_faults new_faults P (Fault fault) status (inr (text, pr
     by_cases : (status ≡ FAILED) ⊎ (status ≡ 1) → SomeTold old new old_faults new_faults status P
     by_cases (inl f) = (text, Faulty fault, prints, inl (f, AppendsBeginning-all old new text q))
     by_cases (inr f) = (text, Faulty fault, prints, inr (f, q, said))
-told_stopped old new old_faults new_faults P (Input error) status h e = failed old new old_faults new_faults status P e h
-told_stopped old new old_faults new_faults P (Output error) status h e = failed old new old_faults new_faults status P e h
+told_stopped old new old_faults new_faults P (Input error) status h (e, said) = failed old new old_faults new_faults status P e h
+told_stopped old new old_faults new_faults P (Output error) status h (e, said) = failed old new old_faults new_faults status P e h
 
 pub if_known : (a : Option (List ℕ)) (P : List ℕ → Type 0) → ((bytes : List ℕ) → a ≡ Some bytes → P bytes) → IfSome a P
 if_known None P h = tt
 if_known (Some bytes) P h = h bytes refl
+
+-- ---- where something failed
+
+wants : (cause : FaultCause) → status_of_cause cause ≡ FAILED → cause ≡ OutOfMemory
+wants (Line fault) e = absurd cc
+wants Place e = absurd cc
+wants (Table fault) e = absurd cc
+wants (Program fault) e = absurd cc
+wants (Refused refusal) e = absurd cc
+wants (Procedure fault) e = absurd cc
+wants OutOfMemory e = refl
+
+-- the line at which memory was wanting is told, or what a stream says
+pub told_failed : (bytes : List ℕ) (left old new old_faults new_faults : Option (List ℕ)) (stop : Stop) (status : ℕ) → WritesUpToWant bytes left old new stop → SaysEnd old_faults new_faults stop status → status ≡ FAILED
+    → SaysStream old_faults new_faults ⊎ ((number : ℕ) × StopsAt bytes left old new number × AppendsBeginning old_faults new_faults (memory_line number))
+told_failed bytes left old new old_faults new_faults (Fault fault) status h (e, said) failed =
+    let w = wants fault.cause (sym e ∙ failed) in
+    inr (fault.line, h w, subst (λ (cause : FaultCause). AppendsBeginning old_faults new_faults (fault_line (record { line = fault.line; cause = cause }))) w said)
+told_failed bytes left old new old_faults new_faults (Input error) status h (e, said) failed = inl said
+told_failed bytes left old new old_faults new_faults (Output error) status h (e, said) failed = inl said

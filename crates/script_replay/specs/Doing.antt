@@ -1,10 +1,11 @@
 -- What is given to an output, in front of which a page is kept, while a script's lines are done; and what is written at its
 -- end.
-use Rattle.std.specs.Prelude.{◌≡◌, ◌⊎◌, ℕ, ◌+◌, Bool, true, false, List, ◌++◌, Option, Result, Ok, Err}
+use Rattle.std.specs.Prelude.{◌≡◌, ◌⊎◌, ℕ, ◌+◌, Bool, true, false, List, [], ◌∷◌, ◌++◌, length, Option, Some, Result, Ok, Err}
 use Rattle.std.specs.Io.KnownBytes.{Appends}
 use Rattle.byte_output.specs.declared.paged.PagedOutput.{PagedOutput}
 use Rattle.byte_output.specs.Pending.{Passes}
 use Rattle.byte_output.specs.Writes.{AppendsBeginning}
+use Rattle.script.specs.Text.{lines_of}
 use Rattle.script_actions.specs.Actions.{setting_of, world_of}
 use Rattle.script_settings.specs.declared.cause.FaultCause.TheVariants.{OutOfMemory}
 use Rattle.script_actions.specs.Doing.{PassesBeginning}
@@ -12,8 +13,9 @@ use Rattle.script_replay.specs.declared.stage.Stage as code
 use Rattle.script_replay.specs.declared.stage.Stage.TheVariants.{SettingUp as SettingUpCode, Acting as ActingCode}
 use Rattle.script_stops.specs.declared.stop.Stop.{Stop}
 use Rattle.script_stops.specs.declared.stop.Stop.TheVariants.{Fault, Output}
-use Rattle.script_replay.specs.Stage.{Stage, Setup, Acting, Action, Fails}
+use Rattle.script_replay.specs.Stage.{Stage, Setup, Acting, Action, Fails, first_stage}
 use Rattle.script_replay.specs.Replay.{Ending, Finished, Faulty, Prints, PrintsAction}
+use Rattle.script_replay.specs.Leaving.{StopsAt}
 
 -- what a stage of the code stands for
 abbrev pub stage_of : {A : Type 0} → code.Stage A → Stage
@@ -56,7 +58,44 @@ GivesAction contents number action old new (Ok next) =
 GivesAction contents number action old new (Err stop) =
     (more : List (List ℕ)) → GivesUpTo contents old new (PrintsFrom number action more) stop
 
+-- a line that is at fault, or at which memory was wanting, is told by its number, and nothing that was given is lost
+abbrev pub StopsBy : {W : Type 0} → (W → Option (List ℕ)) → ℕ → PagedOutput W → PagedOutput W → Stop → Type 0
+StopsBy contents number old new (Fault fault) = (fault.line ≡ number) × (text : List ℕ) × Passes contents old new text
+StopsBy contents number old new _ = Unit {0}
+
 -- ---- a whole script
+
+-- as `StopsAtLine`, where pages stand in front of the output
+pub record GivesUpToLine {W : Type 0} (contents : W → Option (List ℕ)) (bytes : List ℕ) (left : Option (List ℕ)) (old new : PagedOutput W) (number : ℕ) : Type 0 where
+  pub before : List (List ℕ)
+  pub line : List ℕ
+  pub rest : List ℕ
+  pub read : left ≡ Some rest
+  pub lines : lines_of bytes ≡ before ++ line ∷ lines_of rest
+  pub count : length before + 1 ≡ number
+  pub done : List ℕ
+  pub here : List ℕ
+  pub printed : Prints first_stage 1 before done Finished
+  pub given : Passes contents old new (done ++ here)
+  pub text : List ℕ
+  pub ending : Ending
+  pub prints : Prints first_stage 1 (before ++ line ∷ []) text ending
+  pub beginning : PassesBeginning contents old new text
+
+pub record GivesNoLines {W : Type 0} (contents : W → Option (List ℕ)) (bytes : List ℕ) (left : Option (List ℕ)) (old new : PagedOutput W) (number : ℕ) : Type 0 where
+  pub zero : number ≡ 0
+  pub read : left ≡ Some bytes
+  pub given : Passes contents old new []
+
+-- where memory was wanting
+abbrev pub GivesUpToWant : {W : Type 0} → (W → Option (List ℕ)) → List ℕ → Option (List ℕ) → PagedOutput W → PagedOutput W → Stop → Type 0
+GivesUpToWant contents bytes left old new (Fault fault) =
+    fault.cause ≡ OutOfMemory → GivesNoLines contents bytes left old new fault.line ⊎ GivesUpToLine contents bytes left old new fault.line
+GivesUpToWant contents bytes left old new _ = Unit {0}
+
+abbrev pub WritesUpToWant : List ℕ → Option (List ℕ) → Option (List ℕ) → Option (List ℕ) → Stop → Type 0
+WritesUpToWant bytes left old new (Fault fault) = fault.cause ≡ OutOfMemory → StopsAt bytes left old new fault.line
+WritesUpToWant bytes left old new _ = Unit {0}
 
 abbrev pub GivesReplay : {T W : Type 0} → (W → Option (List ℕ)) → PagedOutput W → PagedOutput W → Printable → Result T Stop → Type 0
 GivesReplay contents old new P (Ok _) = (text : List ℕ) × P text Finished × Passes contents old new text

@@ -1,10 +1,12 @@
 -- What a replay leaves on its output, and its exit status.
-use Rattle.std.specs.Prelude.{◌≡◌, ◌⊎◌, ℕ, List, [], Option}
+use Rattle.std.specs.Prelude.{◌≡◌, ◌⊎◌, ℕ, ◌+◌, List, [], ◌∷◌, ◌++◌, length, Option, Some}
 use Rattle.std.specs.Io.KnownBytes.{Appends}
 use Rattle.byte_output.specs.Writes.{AppendsBeginning}
-use Rattle.script_stops.specs.Telling.{FAILED}
-use Rattle.script_stops.specs.Telling.{fault_line}
-use Rattle.script_replay.specs.Replay.{Ending, Finished, Faulty}
+use Rattle.script.specs.Text.{lines_of}
+use Rattle.script_settings.specs.declared.cause.FaultCause.TheVariants.{OutOfMemory}
+use Rattle.script_stops.specs.Telling.{FAILED, fault_line}
+use Rattle.script_replay.specs.Stage.{first_stage}
+use Rattle.script_replay.specs.Replay.{Ending, Finished, Faulty, Prints}
 
 abbrev pub status_of : Ending → ℕ
 status_of Finished = 0
@@ -21,3 +23,36 @@ abbrev pub Leaves : Option (List ℕ) → Option (List ℕ) → Option (List ℕ
 Leaves old new old_faults new_faults status text ending =
     ((status ≡ FAILED) × AppendsBeginning old new text)
     ⊎ ((status ≡ status_of ending) × Appends old new text × AppendsBeginning old_faults new_faults (faults_of ending))
+
+-- ---- where memory was wanting
+
+-- a script that stopped at the line of this number, and what it has written: all that the lines before print, and of this
+-- one a beginning of what it prints. No more was read of it
+pub record StopsAtLine (bytes : List ℕ) (left old new : Option (List ℕ)) (number : ℕ) : Type 0 where
+  pub before : List (List ℕ)
+  pub line : List ℕ
+  pub rest : List ℕ
+  pub read : left ≡ Some rest
+  pub lines : lines_of bytes ≡ before ++ line ∷ lines_of rest
+  pub count : length before + 1 ≡ number
+  pub done : List ℕ
+  pub here : List ℕ
+  pub printed : Prints first_stage 1 before done Finished
+  pub written : Appends old new (done ++ here)
+  pub text : List ℕ
+  pub ending : Ending
+  pub prints : Prints first_stage 1 (before ++ line ∷ []) text ending
+  pub beginning : AppendsBeginning old new text
+
+-- one that stopped before its first line, which counts as 0: nothing was read, and nothing written
+pub record StopsBeforeLines (bytes : List ℕ) (left old new : Option (List ℕ)) (number : ℕ) : Type 0 where
+  pub zero : number ≡ 0
+  pub read : left ≡ Some bytes
+  pub written : Appends old new []
+
+abbrev pub StopsAt : List ℕ → Option (List ℕ) → Option (List ℕ) → Option (List ℕ) → ℕ → Type 0
+StopsAt bytes left old new number = StopsBeforeLines bytes left old new number ⊎ StopsAtLine bytes left old new number
+
+-- as `line 4: L9`
+abbrev pub memory_line : ℕ → List ℕ
+memory_line number = fault_line (record { line = number; cause = OutOfMemory })

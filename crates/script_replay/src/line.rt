@@ -6,7 +6,7 @@ ghost use Rattle.script_actions.specs.Actions.{setting_of, world_of};
 ghost use Rattle.script.specs.Script.{ScriptCommand, IsWithinLimits, line_says};
 ghost use Rattle.script_settings.specs.Settings.{is_setting};
 ghost use Rattle.script_replay.specs.Stage.{Goes, Acts, first_action, action_of};
-ghost use Rattle.script_replay.specs.Doing.{stage_of, IsFaultOf, GivesAction};
+ghost use Rattle.script_replay.specs.Doing.{stage_of, IsFaultOf, GivesAction, StopsBy};
 
 use crate::stage::Stage;
 use byte_output::paged::PagedOutput;
@@ -28,6 +28,7 @@ pub(crate) fn do_line<A: Allocator + Copy, W: Write>(
 ) -> Result<Stage<A>, Stop>
     ensures same_output { (output_of output.new).ghost_name ≡ (output_of output.old).ghost_name }
     ensures done { GivesAction W.contents number (action_of (stage_of stage) (line_says line.now)) output.old output.new result }
+    ensures stopped { IfErr result (StopsBy W.contents number output.old output.new) }
 {
     match command(alloc, line) {
         Ok(None) => Ok(stage),
@@ -47,6 +48,7 @@ fn do_command<A: Allocator + Copy, W: Write>(
     requires { IsWithinLimits command }
     ensures same_output { (output_of output.new).ghost_name ≡ (output_of output.old).ghost_name }
     ensures done { GivesAction W.contents number (action_of (stage_of stage) (Ok (Some command))) output.old output.new result }
+    ensures stopped { IfErr result (StopsBy W.contents number output.old output.new) }
 {
     if is_setting(&command) {
         return set(stage, command, number);
@@ -126,6 +128,7 @@ fn act_on<A: Allocator + Copy, W: Write>(
     requires limits { IsWithinLimits command.now }
     ensures same_output { (output_of output.new).ghost_name ≡ (output_of output.old).ghost_name }
     ensures done { GivesAction W.contents number (Acts (setting_of world) (world_of world) command.now) output.old output.new result }
+    ensures stopped { IfErr result (StopsBy W.contents number output.old output.new) }
 {
     let mut world = world;
     match act(alloc, &mut world, output, command) {

@@ -1,13 +1,14 @@
 //! Replaying a whole script.
 
-ghost use Rattle.std.specs.Prelude.{◌≡◌, ◌⊎◌, ℕ, List, Some, IfSome};
+ghost use Rattle.std.specs.Prelude.{◌≡◌, ◌⊎◌, ℕ, List, Some, IfErr, IfSome};
 ghost use Rattle.byte_output.specs.Pending.{output_of};
-ghost use Rattle.script_stops.specs.Telling.{FAILED};
+ghost use Rattle.script_stops.specs.Telling.{FAILED, SaysStream};
 ghost use Rattle.script.specs.Text.{lines_of};
 ghost use Rattle.script_replay.specs.Stage.{first_stage};
 ghost use Rattle.script_replay.specs.Replay.{Ending, Prints, ScriptPrints};
-ghost use Rattle.script_replay.specs.Leaving.{Leaves};
-ghost use Rattle.script_replay.specs.Doing.{GivesReplay, WritesReplay, has_output_failed};
+ghost use Rattle.script_replay.specs.Leaving.{Leaves, StopsAt, memory_line};
+ghost use Rattle.script_replay.specs.Doing.{GivesReplay, GivesUpToWant, WritesReplay, WritesUpToWant, has_output_failed};
+ghost use Rattle.byte_output.specs.Writes.{AppendsBeginning};
 
 use crate::line::do_line;
 use crate::stage::Stage;
@@ -32,6 +33,12 @@ pub fn replay_over<A: Allocator + Copy, R: BufRead, W: Write, E: Write>(
     // What was written is what the script prints; where something failed, a beginning of it.
     ensures told { IfSome (R.remaining input.old) (λ bytes. (text : List ℕ) × (ending : Ending) × ScriptPrints bytes text ending
         × Leaves (W.contents output.old) (W.contents output.new) (E.contents faults.old) (E.contents faults.new) result text ending) }
+    // Where memory was wanting at a line, that line is told, and what the lines before it print was written whole. Else a
+    // stream failed, and that is told.
+    ensures failed { IfSome (R.remaining input.old) (λ bytes. result ≡ FAILED
+        → SaysStream (E.contents faults.old) (E.contents faults.new)
+        ⊎ ((number : ℕ) × StopsAt bytes (R.remaining input.new) (W.contents output.old) (W.contents output.new) number
+        × AppendsBeginning (E.contents faults.old) (E.contents faults.new) (memory_line number))) }
     // Nothing is said where nothing failed and no line is at fault.
     ensures silent { result ≡ 0 → faults.new ≡ faults.old }
 {
@@ -47,8 +54,10 @@ fn replay_whole<A: Allocator + Copy, R: BufRead, W: Write>(
     input: &mut R,
     output: &mut W,
 ) -> Result<(), Stop>
-    ensures { (bytes : List ℕ) → R.remaining input.old ≡ Some bytes
+    ensures written { (bytes : List ℕ) → R.remaining input.old ≡ Some bytes
         → WritesReplay (W.contents output.old) (W.contents output.new) (ScriptPrints bytes) result }
+    ensures wanted { (bytes : List ℕ) → R.remaining input.old ≡ Some bytes
+        → IfErr result (WritesUpToWant bytes (R.remaining input.new) (W.contents output.old) (W.contents output.new)) }
 {
     let mut pages = PagedOutput::new(output);
     let ended = replay(alloc, input, &mut pages);
@@ -76,6 +85,8 @@ fn replay<A: Allocator + Copy, R: BufRead, W: Write>(
     ensures same_output { (output_of output.new).ghost_name ≡ (output_of output.old).ghost_name }
     ensures replayed { (bytes : List ℕ) → R.remaining input.old ≡ Some bytes
         → GivesReplay W.contents output.old output.new (ScriptPrints bytes) result }
+    ensures wanted { (bytes : List ℕ) → R.remaining input.old ≡ Some bytes
+        → IfErr result (GivesUpToWant W.contents bytes (R.remaining input.new) output.old output.new) }
 {
     lines_that_are_too_long_are_at_fault();
     let Ok(mut line) = Vec::with_capacity(alloc, MAX_LINE) else {

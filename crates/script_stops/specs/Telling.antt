@@ -18,7 +18,11 @@ abbrev pub status_of_cause : FaultCause → ℕ
 status_of_cause OutOfMemory = FAILED
 status_of_cause _ = 1
 
--- the exit status of a script that stopped, and its line of faults, or a beginning of that
+-- as `dsmdb: ` and what a stream says
+abbrev pub SaysStream : Option (List ℕ) → Option (List ℕ) → Type 0
+SaysStream old new = (message : List ℕ) × AppendsBeginning old new (codes "dsmdb: " ++ message)
+
+-- the exit status of a script that stopped, and its line of faults or what a stream says, or a beginning of that
 abbrev pub SaysEnd : Option (List ℕ) → Option (List ℕ) → Stop → ℕ → Type 0
 SaysEnd old new (Fault fault) status = (status ≡ status_of_cause fault.cause) × AppendsBeginning old new (fault_line fault)
-SaysEnd old new _ status = status ≡ FAILED
+SaysEnd old new _ status = (status ≡ FAILED) × SaysStream old new

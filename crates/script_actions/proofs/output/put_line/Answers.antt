@@ -1,9 +1,14 @@
 use Rattle.std.proofs.lemmas.Result.{err_from_is_err_and}
 use Rattle.report.specs.Lines.{line_text}
-use Rattle.script_actions.proofs.GivenLemmas.{nothing_begun}
+use Rattle.script_actions.proofs.GivenLemmas.{nothing_begun, nothing_lost}
 use Rattle.script_actions.proofs.output.put_line.Goals as goal
 
 pub returns-in_err-text-clause-given : goal.returns-in_err-text-clause-given
 returns-in_err-text-clause-given g c =
     let q = err_from_is_err_and c.from_residual.result c.from_residual.ensures.1 in
     rw q.1 (nothing_begun g.W.Write.contents c.args.output.now (line_text c.args.said.now))
+
+pub returns-in_err-text-clause-kept : goal.returns-in_err-text-clause-kept
+returns-in_err-text-clause-kept g c =
+    let q = err_from_is_err_and c.from_residual.result c.from_residual.ensures.1 in
+    rw q.1 (nothing_lost g.W.Write.contents c.args.output.now q.0)

@@ -1,7 +1,7 @@
 use Rattle.script_actions.specs.Actions.{setting_of, world_of}
 use Rattle.script_replay.specs.Stage.{Acts}
 use Rattle.script_replay.specs.Doing.{PrintsFrom}
-use Rattle.script_replay.proofs.DoneLemmas.{acted, broke, wanting}
+use Rattle.script_replay.proofs.DoneLemmas.{acted, broke, wanting, wanting_stops}
 use Rattle.script_replay.proofs.line.act_on.Goals as goal
 
 pub returns-in-Ok-clause-done : goal.returns-in-Ok-clause-done
@@ -16,3 +16,8 @@ returns-in-Err-OutOfMemory-clause-done g c = λ more.
 pub returns-clause-done : goal.returns-clause-done
 returns-clause-done g c = λ more.
     broke g.W.Write.contents c.args.number (setting_of c.args.world) (world_of c.args.world) (world_of c.act.new.world) c.args.command.now c.args.output.now c.act.new.output c.in-Err-Output.ensures.done more
+
+pub returns-in-Err-OutOfMemory-clause-stopped : goal.returns-in-Err-OutOfMemory-clause-stopped
+returns-in-Err-OutOfMemory-clause-stopped g c =
+    wanting_stops g.W.Write.contents c.args.number c.args.output.now c.act.new.output c.out_of_memory.result c.in-Err-OutOfMemory.field-0 c.out_of_memory.ensures c.in-Err-OutOfMemory.field-0-is
+    c.in-Err-OutOfMemory.ensures.kept

@@ -2,7 +2,7 @@ use Rattle.std.proofs.Common.{Some, None, Ok, ap}
 use Rattle.script.specs.Script.{line_says}
 use Rattle.script_replay.specs.Stage.{action_of}
 use Rattle.script_replay.specs.Doing.{stage_of}
-use Rattle.script_replay.proofs.DoneLemmas.{goes, stops, by_action, fault_of_line, says_by}
+use Rattle.script_replay.proofs.DoneLemmas.{goes, stops, by_action, fault_of_line, says_by, stops_at}
 use Rattle.script_replay.proofs.line.do_line.Goals as goal
 
 pub returns-in-Ok-None-clause-done : goal.returns-in-Ok-None-clause-done
@@ -20,3 +20,6 @@ pub returns-in-Err-clause-done : goal.returns-in-Err-clause-done
 returns-in-Err-clause-done g c =
     stops g.W.Write.contents c.args.number (stage_of c.args.stage) (line_says c.args.line.now) c.args.output.now c.fault_at.result
     (fault_of_line c.args.number (stage_of c.args.stage) (line_says c.args.line.now) c.in-Err.fault c.from.result c.fault_at.result c.in-Err.ensures.fault c.from.ensures c.fault_at.ensures)
+
+pub returns-in-Err-clause-stopped : goal.returns-in-Err-clause-stopped
+returns-in-Err-clause-stopped g c = stops_at g.W.Write.contents c.args.number c.args.output.now c.fault_at.result c.from.result c.fault_at.ensures
