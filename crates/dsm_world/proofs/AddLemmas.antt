@@ -1,11 +1,11 @@
 -- Additions: what they answer by the definitions, and that all still fits together.
-use Rattle.std.proofs.Common.{◌≡◌, inl, inr, ℕ, suc, ◌+◌, ◌≤◌, ◌<◌, Bool, true, false, not, cond, List, [], ◌∷◌, ◌++◌, length, map, nat_le, nat_lt, Option, Some, Result, Ok, Err, IfOk, IfErr, refl, sym, ap, subst, ◌∙◌, arith}
+use Rattle.std.proofs.Common.{◌≡◌, inl, inr, ℕ, suc, ◌+◌, ◌≤◌, ◌<◌, Bool, true, false, not, cond, List, [], ◌∷◌, ◌++◌, length, map, nat_le, nat_lt, Option, Some, refl, sym, ap, subst, ◌∙◌, arith}
 use Rattle.std.specs.List.{AllByRecursion}
 use Rattle.std.specs.FinMap.{empty, get-empty}
 use Rattle.bpf_code.specs.Program.{Program}
 use Rattle.schema.specs.Schema.{Tables}
 use Rattle.schema.specs.Rows.{AreWrites}
-use Rattle.bpf_verify.specs.Flow.{Procedure, IsAccepted}
+use Rattle.bpf_verify.specs.Flow.{Procedure}
 use Rattle.stored_procedures.specs.Held.{ListedProcedure, stored}
 use Rattle.log_model.specs.Log.{StoredProcedure, Setting, Log, AdditionItem}
 use Rattle.log_model.specs.Fit.{IsSafe}
@@ -28,16 +28,6 @@ use Rattle.dsm_world.proofs.StepLemmas.{Done, yes, no, is_le, not_le, is_lt, not
 use Rattle.replica.proofs.EntryLemmas.{OneMore, items_append, items_count, all_snoc, entries_snoc}
 use Rattle.dsm_world.proofs.EntryLemmas.{follows_grown}
 use Rattle.dsm_world.proofs.CallLemmas.{append_map, open_facts, replica_grown, with_entry}
-
--- ---- results
-
-pub ok_then : {T E : Type 0} (P Q R : T → Type 0) (r : Result T E) → ((x : T) → P x → Q x → R x) → IfOk r P → IfOk r Q → IfOk r R
-ok_then P Q R (Ok x) f p q = f x p q
-ok_then P Q R (Err e) f p q = tt
-
-pub err_then : {T E : Type 0} (P Q : E → Type 0) (r : Result T E) → ((e : E) → P e → Q e) → IfErr r P → IfErr r Q
-err_then P Q (Ok x) f p = tt
-err_then P Q (Err e) f p = f e p
 
 -- ---- what a step answers
 
@@ -142,9 +132,3 @@ counted (LogAddition p ∷ xs) l = ap (λ (n : ℕ). 1 + n) (counted xs l) ∙ n
 
 pub one_addition_more : {A : Type 0} (xs ys : List (LogEntry A)) (l : ListedProcedure) → ys ≡ xs ++ LogAddition l ∷ [] → addition_count (items_of (entries_of ys)) ≡ suc (addition_count (items_of (entries_of xs)))
 one_addition_more xs ys l e = ap (λ (zs : List (LogEntry _)). addition_count (items_of (entries_of zs))) e ∙ counted xs l
-
--- an accepted program is that of its own tables and arguments
-pub accepted_for : (p : Procedure) (tables : Tables) (args_len : ℕ) → p.tables ≡ tables → p.args_len ≡ args_len → IsAccepted p → IsAccepted (record { program = p.program; tables = tables; args_len = args_len })
-accepted_for p tables args_len e f accepted =
-    subst (λ (n : ℕ). IsAccepted (record { program = p.program; tables = tables; args_len = n })) f
-    (subst (λ (t : Tables). IsAccepted (record { program = p.program; tables = t; args_len = p.args_len })) e accepted)

@@ -1,10 +1,7 @@
--- What the world answers to a turn and to an order, and for what it refuses a program. No public clause speaks of it.
+-- What the world answers to a turn and to an order. No public clause speaks of it.
 use Rattle.std.specs.Prelude.{◌≡◌, ◌+◌, ◌<◌, ◌≤◌, List, [], ◌∷◌, ◌++◌, length}
-use Rattle.bpf_verify.specs.Flow.{Procedure, IsRefused}
 use Rattle.bpf_vm.specs.declared.turn.Turn.{Turn}
 use Rattle.bpf_vm.specs.declared.turn.Turn.TheVariants as answer
-use Rattle.dsm_model.specs.declared.outcome.ProgramFault.{ProgramFault}
-use Rattle.dsm_model.specs.declared.outcome.ProgramFault.TheVariants.{Bytes, Instruction}
 use Rattle.dsm_model.specs.declared.outcome.StepRefusal.TheVariants.{LogFull, OutOfMemory}
 use Rattle.dsm_model.specs.declared.outcome.Outcome.{Outcome}
 use Rattle.dsm_model.specs.declared.outcome.Outcome.TheVariants.{More, Exit, Stale, NoMemory, Ordered, Refused}
@@ -22,8 +19,3 @@ IsAppended old e (Ordered position) new = (length old < max_calls) × (position 
 IsAppended old e (Refused LogFull) new = (max_calls ≤ length old) × (new ≡ old)
 IsAppended old e (Refused OutOfMemory) new = (length old < max_calls) × (new ≡ old)
 IsAppended old e _ new = ⊥
-
--- a program isn't accepted for this: the lowest slot that has a cause, and its lowest
-abbrev pub IsRefusedFor : Procedure → ProgramFault → Type 0
-IsRefusedFor p (Instruction slot cause) = IsRefused p slot cause
-IsRefusedFor p (Bytes fault) = ⊥

@@ -11,18 +11,16 @@ ghost use Rattle.log_entry.specs.declared.entry.Entry.TheVariants.{Addition};
 ghost use Rattle.program_checks.specs.Check.{check_of};
 ghost use Rattle.dsm_world.specs.System.{setting_of, world_of};
 ghost use Rattle.dsm_world.specs.Holdings.{system_of, AreConsistentHoldings};
-ghost use Rattle.dsm_world.specs.Turned.{IsRefusedFor};
 
 use crate::begin::MAX_CALLS;
 use crate::holdings::Holdings;
 use accepted_calls::accepted_procedures_are_safe;
-use bpf_code::{Code, DecodeCause, decode};
-use bpf_verify::{Accepted, Refusal, verify};
+use bpf_verify::Accepted;
 use catalogue::each_catalogue_is_consistent;
-use dsm_model::{Outcome, ProgramFault, StepRefusal, steps_keep_a_world};
+use dsm_model::{Outcome, StepRefusal, steps_keep_a_world};
 use log_entry::{AddedProcedure, Entry};
 use log_model::{a_log_only_grows, one_more_entry_carries_its_run};
-use program_checks::programs_pass_where_they_are_accepted;
+use program_checks::{CheckFault, check_program};
 use row_values::Bytes;
 use schema::Schema;
 use std::alloc::{AllocError, Allocator};
@@ -92,36 +90,10 @@ fn checked<A: Allocator + Copy>(
     ensures refused { IfErr result (λ refusal. (refusal ≡ OutOfMemory)
         ⊎ ((fault : ProgramFault) × (refusal ≡ ProgramRefused fault) × (check_of schema.now args_len bytes.now ≡ Failed fault))) }
 {
-    programs_pass_where_they_are_accepted();
-    match decode(alloc, bytes) {
-        Ok(code) => verified(alloc, code, schema, args_len),
-        Err(fault) => match fault.cause {
-            DecodeCause::OutOfMemory => Err(StepRefusal::OutOfMemory),
-            _ => Err(StepRefusal::ProgramRefused(ProgramFault::Bytes(fault))),
-        },
-    }
-}
-
-/// A program, where the verifier accepts it.
-fn verified<A: Allocator + Copy>(
-    alloc: A,
-    code: Code<A>,
-    schema: &Schema<A>,
-    args_len: u16,
-) -> Result<Accepted<A, A>, StepRefusal>
-    requires { args_len ≤ 256 }
-    ensures given { IfOk result (λ accepted. accepted ≡ record { program = code; tables = schema.now; args_len = args_len }) }
-    ensures accepted { IfOk result IsAccepted }
-    ensures refused { IfErr result (λ refusal. (refusal ≡ OutOfMemory)
-        ⊎ ((fault : ProgramFault) × (refusal ≡ ProgramRefused fault)
-        × IsRefusedFor (record { program = code; tables = schema.now; args_len = args_len }) fault)) }
-{
-    match verify(alloc, code, schema, args_len) {
+    match check_program(alloc, bytes, schema, args_len) {
         Ok(accepted) => Ok(accepted),
-        Err(Refusal::OutOfMemory) => Err(StepRefusal::OutOfMemory),
-        Err(Refusal::At { slot, cause }) => Err(StepRefusal::ProgramRefused(
-            ProgramFault::Instruction { slot, cause },
-        )),
+        Err(CheckFault::OutOfMemory) => Err(StepRefusal::OutOfMemory),
+        Err(CheckFault::Program(fault)) => Err(StepRefusal::ProgramRefused(fault)),
     }
 }
 

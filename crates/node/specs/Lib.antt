@@ -1,3 +1,4 @@
+pub mod Added
 pub mod Agreement
 pub mod Crew
 pub mod Desk

@@ -1,6 +1,7 @@
 //! A node: replicas of one log behind their locks, with threads that deliver to them and answer calls, and what callers share.
 #![tactic(auto)]
 
+pub use add::{Added, ProgramRefusal};
 pub use delivering::deliver_all;
 pub use desk::Desk;
 pub use ended::EndedReplica;
@@ -12,6 +13,7 @@ pub use request::{Reply, Request};
 pub use shared::{ServedReplica, Shared};
 pub use size::{Size, StartFault};
 
+mod add;
 mod crew;
 mod delivering;
 mod desk;

@@ -2,9 +2,11 @@
 
 ghost use Rattle.std.specs.Prelude.{◌≡◌, ◌≤◌, ◌+◌, true, OnOk};
 ghost use Rattle.tallies.specs.Shared.{names_by_place};
+ghost use Rattle.node.specs.Added.{IsAddedAnswer};
 ghost use Rattle.node.specs.Agreement.{AgreeBy};
 ghost use Rattle.node.specs.Size.{IsSize};
 
+use crate::add::Added;
 use crate::crew::Crew;
 use crate::desk::Desk;
 use crate::ended::{EndedReplica, agree_all};
@@ -16,7 +18,7 @@ use catalogue::Catalogue;
 use crossbeam_channel::Sender;
 use locked_replica::LockedReplica;
 use node_calls::{Gate, OpenGate};
-use order_log::{Fact, GroupCells, LIMIT, OrderLog};
+use order_log::{Fact, GroupCells, LIMIT, OrderLog, Seen};
 use ordered_entries::{LogSetting, OrderedEntries};
 use std::alloc::Global;
 use std::sync::{Arc, RwLock, Wait};
@@ -136,6 +138,22 @@ impl<J: LogSetting + Ledgers + Send + Sync + 'static, G: Gate + Drop + Send + Sy
     /// What callers share.
     pub fn desk(&self) -> &Desk<J, G> {
         &self.desk
+    }
+
+    /// Adds a procedure through the log, where its program is accepted for the node's tables. What was seen of the log then, the
+    /// addition being the last entry, where it was appended.
+    pub fn add<R: Wait>(
+        &self,
+        rt: &R,
+        name: &[u8],
+        number: u16,
+        args_len: u16,
+        bytes: &[u8],
+    ) -> (Added, Option<Seen<J>>)
+        ensures { IsAddedAnswer J.setting
+            (record { name = name.now; number = number; args_len = args_len; bytes = bytes.now }) result.0 result.1 }
+    {
+        self.desk.shared.add(rt, name, number, args_len, bytes)
     }
 
     /// Makes the replica of a number anew from the log. The position that it has then.

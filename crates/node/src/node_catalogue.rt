@@ -4,6 +4,7 @@ ghost use Rattle.std.specs.Prelude.{◌≡◌};
 
 use catalogue::Catalogue;
 use ordered_entries::LogSetting;
+use schema::Schema;
 use std::alloc::{Allocator, Global};
 use std::marker::{Model, PhantomData};
 
@@ -56,6 +57,13 @@ impl<J: LogSetting, P: Allocator + Copy> NodeCatalogue<J, P> {
         ensures { result.now ≡ self.now }
     {
         &self.catalogue
+    }
+
+    /// The tables of the setting.
+    pub(crate) fn schema(&self) -> &Schema<P>
+        ensures { result.now ≡ J.setting.tables }
+    {
+        self.catalogue.schema()
     }
 
     /// The window.

@@ -1,1 +1,1 @@
-mod CheckLemmas
+pub mod CheckLemmas

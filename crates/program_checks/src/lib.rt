@@ -1,6 +1,8 @@
-//! What the check of a program comes to that is to be added: a definition, and a law.
+//! The check of a program that is to be added: what it comes to, the check itself, and what that means.
 #![tactic(auto)]
 
+pub use check::{CheckFault, check_program};
 pub use laws::programs_pass_where_they_are_accepted;
 
+mod check;
 mod laws;

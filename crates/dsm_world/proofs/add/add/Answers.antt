@@ -9,11 +9,12 @@ use Rattle.dsm_model.specs.declared.outcome.Outcome.TheVariants.{Added, Refused}
 use Rattle.dsm_model.specs.World.{Add, Checked, IsStep, max_calls, call_count}
 use Rattle.dsm_model.specs.Sound.{IsGiven, IsWorld}
 use Rattle.program_checks.specs.Check.{check_of}
+use Rattle.program_checks.proofs.CheckLemmas.{accepted_for}
 use Rattle.replica.specs.Replica.{entries_of}
 use Rattle.dsm_world.specs.System.{setting_of, world_of}
 use Rattle.dsm_world.specs.Holdings.{system_of, call_slots, IsTogether}
 use Rattle.dsm_world.proofs.CallLemmas.{map_count, calls_are, with_entries, with_entry}
-use Rattle.dsm_world.proofs.AddLemmas.{add_too_many, add_long, add_failed, add_no_name, add_without_memory, added, addition_entered, entered_in_code, addition_for, one_addition_more, accepted_for}
+use Rattle.dsm_world.proofs.AddLemmas.{add_too_many, add_long, add_failed, add_no_name, add_without_memory, added, addition_entered, entered_in_code, addition_for, one_addition_more}
 use Rattle.dsm_world.proofs.add.add.Goals as goal
 
 pub returns-then-len-world-ge-MAX_CALLS-clause-step : goal.returns-then-len-world-ge-MAX_CALLS-clause-step

@@ -1,4 +1,4 @@
-use Rattle.std.proofs.Common.{◌≡◌, ◌+◌, ◌≤◌}
+use Rattle.std.proofs.Common.{◌≡◌, ◌+◌}
 use Rattle.node.proofs.crew.Crew.start_replica.Given as goal
 
 abbrev pub invariant-loop-thread : goal.invariant-loop-thread

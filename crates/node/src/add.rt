@@ -1,0 +1,135 @@
+//! A procedure is added through the log.
+
+ghost use Rattle.std.specs.Prelude.{◌≡◌, IfOk, IfErr};
+ghost use Rattle.node.specs.Added.{IsAskedFor, IsNotAdded, IsAddedAnswer};
+
+use crate::shared::Shared;
+use bpf_verify::Accepted;
+use dsm_model::ProgramFault;
+use log_entry::{AddedProcedure, Entry};
+use node_calls::Gate;
+use order_log::{AppendFault, Fact, OrderLog, Seen};
+use ordered_entries::{LogSetting, OrderedEntries};
+use program_checks::{CheckFault, check_program};
+use row_values::Bytes;
+use std::alloc::{AllocError, Allocator};
+use std::sync::{Arc, Wait};
+use stored_procedures::is_name;
+use tallies::Ledgers;
+
+/// The most bytes that the arguments of a procedure have.
+const MAX_ARGS: u16 = 256;
+
+/// Why a program isn't added.
+#[derive(Clone, Copy, Debug, PartialEq, Eq, Drop)]
+pub enum ProgramRefusal {
+    /// Its arguments would have more than 256 bytes.
+    ArgumentsLimit,
+    /// Its bytes are no program, or the verifier refuses it.
+    Fault(ProgramFault),
+}
+
+/// What an addition is answered.
+#[derive(Clone, Copy, Debug, PartialEq, Eq, Drop)]
+pub enum Added {
+    /// It is the entry at this position of the log, from 1 on.
+    Ordered(u32),
+    /// The log is full.
+    Full,
+    /// Memory is wanting, and it isn't ordered.
+    NoMemory,
+    Program(ProgramRefusal),
+    /// Its program is accepted, and its name isn't 1 to 32 letters, digits or `_`.
+    Name,
+}
+
+impl<J: LogSetting + Ledgers, A: Allocator + Copy, P: Allocator + Copy, G: Gate> Shared<
+    J,
+    A,
+    P,
+    G,
+> {
+    /// Appends a procedure to the log, where its program is accepted for the tables, and wakes the delivering threads. What was
+    /// seen of the log then, where it was appended.
+    pub fn add<R: Wait>(
+        &self,
+        rt: &R,
+        name: &[u8],
+        number: u16,
+        args_len: u16,
+        bytes: &[u8],
+    ) -> (Added, Option<Seen<J, P>>)
+        ensures { IsAddedAnswer J.setting
+            (record { name = name.now; number = number; args_len = args_len; bytes = bytes.now }) result.0 result.1 }
+    {
+        let addition = match self.accepted(name, number, args_len, bytes) {
+            Ok(addition) => addition,
+            Err(refused) => return (refused, None),
+        };
+        let mut seen = self.delivered(rt);
+        let appended = self.log.append(&mut seen, Entry::Addition(addition));
+        self.bells.ring();
+        match appended {
+            Ok(position) => (Added::Ordered(position), Some(seen)),
+            Err(AppendFault::Full) => (Added::Full, None),
+            Err(AppendFault::OutOfMemory) => (Added::NoMemory, None),
+            Err(AppendFault::SnapshotUnseen) => unreachable!(),
+        }
+    }
+
+    /// A procedure that may be appended, or what is answered where it may not.
+    fn accepted(
+        &self,
+        name: &[u8],
+        number: u16,
+        args_len: u16,
+        bytes: &[u8],
+    ) -> Result<AddedProcedure<P>, Added>
+        ensures accepted { IfOk result (IsAskedFor J.setting.tables
+            (record { name = name.now; number = number; args_len = args_len; bytes = bytes.now })) }
+        ensures refused { IfErr result (IsNotAdded J.setting
+            (record { name = name.now; number = number; args_len = args_len; bytes = bytes.now })) }
+    {
+        if args_len > MAX_ARGS {
+            return Err(Added::Program(ProgramRefusal::ArgumentsLimit));
+        }
+        let accepted = match check_program(self.alloc, bytes, self.catalogue.schema(), args_len) {
+            Ok(accepted) => accepted,
+            Err(CheckFault::OutOfMemory) => return Err(Added::NoMemory),
+            Err(CheckFault::Program(fault)) => {
+                return Err(Added::Program(ProgramRefusal::Fault(fault)));
+            }
+        };
+        if !is_name(name) {
+            return Err(Added::Name);
+        }
+        match named(self.alloc, name, number, accepted) {
+            Ok(addition) => Ok(addition),
+            Err(_) => Err(Added::NoMemory),
+        }
+    }
+
+    /// What a replica has delivered, so that whoever appends doesn't go through all of the log.
+    fn delivered<R: Wait>(&self, rt: &R) -> Seen<J, P> {
+        match self.replica(1) {
+            Some(served) => served.replica.read(rt).seen(),
+            None => self.log.seen(),
+        }
+    }
+}
+
+/// An accepted program under a name and a number.
+fn named<P: Allocator + Copy>(
+    alloc: P,
+    name: &[u8],
+    number: u16,
+    accepted: Accepted<P, P>,
+) -> Result<AddedProcedure<P>, AllocError>
+    ensures { IfOk result (λ p. p ≡ record { name = name.now; number = number; accepted = accepted }) }
+{
+    Ok(AddedProcedure {
+        name: Bytes::new(Vec::from_slice(alloc, name)?),
+        number,
+        accepted: Arc::new(alloc, accepted)?,
+    })
+}

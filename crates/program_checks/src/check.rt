@@ -1,0 +1,67 @@
+//! The check of a program.
+
+ghost use Rattle.std.specs.Prelude.{◌≡◌, ◌≤◌, IfOk, IfErr};
+ghost use Rattle.bpf_code.specs.Program.{IsProgram};
+ghost use Rattle.bpf_verify.specs.Flow.{IsAccepted};
+ghost use Rattle.dsm_model.specs.World.{Passed};
+ghost use Rattle.program_checks.specs.Check.{check_of};
+ghost use Rattle.program_checks.specs.Fault.{IsFaultOf, IsRefusedFor};
+
+use crate::laws::programs_pass_where_they_are_accepted;
+use bpf_code::{Code, DecodeCause, decode};
+use bpf_verify::{Accepted, Refusal, verify};
+use dsm_model::ProgramFault;
+use schema::Schema;
+use std::alloc::Allocator;
+
+/// Why a program is not accepted.
+#[derive(Clone, Copy, Debug, PartialEq, Eq)]
+pub enum CheckFault {
+    OutOfMemory,
+    Program(ProgramFault),
+}
+
+/// The program of some bytes, where the verifier accepts it for these tables and arguments of so many bytes.
+pub fn check_program<A: Allocator + Copy>(
+    alloc: A,
+    bytes: &[u8],
+    schema: &Schema<A>,
+    args_len: u16,
+) -> Result<Accepted<A, A>, CheckFault>
+    requires { args_len ≤ 256 }
+    ensures given { IfOk result (λ accepted. (accepted.tables ≡ schema.now) × (accepted.args_len ≡ args_len)) }
+    ensures passed { IfOk result (λ accepted. check_of schema.now args_len bytes.now ≡ Passed accepted.program) }
+    ensures accepted { IfOk result (λ accepted. IsProgram accepted.program × IsAccepted accepted) }
+    ensures refused { IfErr result (IsFaultOf (check_of schema.now args_len bytes.now)) }
+{
+    programs_pass_where_they_are_accepted();
+    match decode(alloc, bytes) {
+        Ok(code) => verified(alloc, code, schema, args_len),
+        Err(fault) => match fault.cause {
+            DecodeCause::OutOfMemory => Err(CheckFault::OutOfMemory),
+            _ => Err(CheckFault::Program(ProgramFault::Bytes(fault))),
+        },
+    }
+}
+
+/// A program, where the verifier accepts it.
+fn verified<A: Allocator + Copy>(
+    alloc: A,
+    code: Code<A>,
+    schema: &Schema<A>,
+    args_len: u16,
+) -> Result<Accepted<A, A>, CheckFault>
+    requires { args_len ≤ 256 }
+    ensures given { IfOk result (λ accepted. accepted ≡ record { program = code; tables = schema.now; args_len = args_len }) }
+    ensures accepted { IfOk result IsAccepted }
+    ensures refused { IfErr result (IsRefusedFor (record { program = code; tables = schema.now; args_len = args_len })) }
+{
+    match verify(alloc, code, schema, args_len) {
+        Ok(accepted) => Ok(accepted),
+        Err(Refusal::OutOfMemory) => Err(CheckFault::OutOfMemory),
+        Err(Refusal::At { slot, cause }) => Err(CheckFault::Program(ProgramFault::Instruction {
+            slot,
+            cause,
+        })),
+    }
+}
