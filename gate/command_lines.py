@@ -17,6 +17,8 @@ import workspace
 NOBODY = 65534  # who may read no file of mode 0, as the superuser may
 ARGS = "dsmdb: ARGS must be a number from 0 to 256: "
 TABLE = "dsmdb: T:W must be a table from 1 to 64 and its row width from 1 to 128: "
+EXECUTORS = "dsmdb: --executors must be a number from 1 to 16: "
+LOG = "dsmdb: --log must be a number from 1 to 1048576: "
 NUMBER = "dsmdb: NUMBER must be a refusal's"
 ACCEPTED = "accepted slots 17 bound 17\n"
 LISTING = """\
@@ -70,12 +72,27 @@ REPLAYS = [
     Row("replay early.dsm", 1, "", "line 1: L5\n"),
     Row("replay refused.dsm", 1, "", "line 4: L7 V1 slot 0\n"),
 ]
+NONE_CALLED = """\
+total committed 0 read 0 cancelled 0 conflict 0 stale 0 repeat 0 other 0
+replica 1 position 0 commits 0 running
+replica 2 position 0 commits 0 running
+agreement yes
+"""
+RUNS = [
+    Row("run settings.dsm", 0, NONE_CALLED),
+    Row("run settings.dsm --executors 16 --log 1048576", 0, NONE_CALLED),
+    Row("run nothing", 1, "", "line 0: L5\n"),
+    Row("run fault.dsm", 1, "", "line 3: L5\n"),
+    Row("run zero.dsm", 1, "", "line 1: L4\n"),
+    Row("run early.dsm", 1, "", "line 1: L5\n"),
+    Row("run refused.dsm", 1, "", "line 4: L7 V1 slot 0\n"),
+]
 # The words are read first, then the file is opened, then the schema is made, and then the program is read: a folder can
 # be opened, and not read.
 FILES = [
-    *[Row(words, 3, "", "dsmdb: missing: ") for words in ("list missing", "check missing 16", "replay missing")],
-    *[Row(words, 3, "", "dsmdb: secret: ") for words in ("list secret", "check secret 16", "replay secret")],
-    *[Row(words, 3, "", "dsmdb: ") for words in ("list folder", "check folder 16", "replay folder")],
+    *[Row(words, 3, "", "dsmdb: missing: ") for words in ("list missing", "check missing 16", "replay missing", "run missing")],
+    *[Row(words, 3, "", "dsmdb: secret: ") for words in ("list secret", "check secret 16", "replay secret", "run secret")],
+    *[Row(words, 3, "", "dsmdb: ") for words in ("list folder", "check folder 16", "replay folder", "run folder")],
     Row("list ", 3, "", "dsmdb: "),
     Row("check missing 257", 2, "", ARGS),
     Row("check missing 16 1:129", 2, "", TABLE),
@@ -86,18 +103,20 @@ WORDS = [
     *[Row(f"check add.bpf {it} 1:8", 2, "", f"{ARGS}'{it}'") for it in ("257", "65536", "01", "00", "+1", "x", "1:8", "")],
     *[Row(f"check add.bpf 16 1:8 {it}", 2, "", f"{TABLE}'{it}'")
       for it in ("0:8", "65:8", "257:8", "1:0", "1:129", "1:65537", "1", "1:", ":8", "1:8:9", "01:8", "1:08", "x:8", "+1:8", "")],
+    *[Row(f"run settings.dsm --executors {it}", 2, "", f"{EXECUTORS}'{it}'") for it in ("0", "17", "01", "x")],
+    *[Row(f"run settings.dsm --log {it}", 2, "", f"{LOG}'{it}'") for it in ("0", "1048577", "4294967296", "x")],
     *[Row(f"explain {it}", 2, "", NUMBER) for it in ("V13", "v5", "V05", "V0", "5", "")],
     *[Row(it, 2, "", "error: ") for it in (
         None, "", "jump", "--jump", "list", "list add.bpf b", "check", "check add.bpf", "check add.bpf -1",
-        "replay", "replay settings.dsm b", "explain", "explain V5 V6", "list --jump")],
+        "replay", "replay settings.dsm b", "run", "run settings.dsm b", "run settings.dsm --executors", "explain", "explain V5 V6", "list --jump")],
 ]
 FULL = [
     *[Row(it, 3, "", "dsmdb: ", "output") for it in (
         "list wide.bpf", "list cut.bpf", "check add.bpf 16 1:8", "check add.bpf 8 1:8", "replay two-replicas.dsm",
-        "explain V5", "--help", "list --help", "--version")],
+        "run settings.dsm", "explain V5", "--help", "list --help", "--version")],
     # A fault that can't be said changes neither output nor status.
     *[it._replace(fault="", full="faults") for it in (
-        LISTS[0], CHECKS[3], *REPLAYS, *FILES,
+        LISTS[0], CHECKS[3], *REPLAYS, *RUNS, *FILES,
         Row("check add.bpf 257", 2), Row("explain V13", 2), Row(None, 2), Row("jump", 2), Row("list", 2))],
 ]
 
@@ -107,7 +126,8 @@ def asked():
     version = re.search(r"^## (\S+)", workspace.read("docs/CHANGES.md").decode(), re.M)[1]
     scripts = workspace.read("docs/FORMATS.md").decode().split("\n## Scripts\n")[1].split("\n## ")[0]
     script_words = re.findall(r"^\| `([a-z]+)\b", scripts, re.M)
-    pieces = {"list": ("FILE",), "check": ("FILE", "ARGS", "T:W"), "replay": ("SCRIPT", *script_words), "explain": ("NUMBER",)}
+    pieces = {"list": ("FILE",), "check": ("FILE", "ARGS", "T:W"), "replay": ("SCRIPT", *script_words),
+              "run": ("SCRIPT", "--executors", "--log"), "explain": ("NUMBER",)}
     explained = [Row(f"explain {it['Number']}", 0, tuple(filter(None, it.values()))) for it in rows_of_refusals()]
     helped = [Row(f"{it} --help", 0, (f"dsmdb {it}", *words)) for it, words in pieces.items()]
     return [Row("--help", 0, tuple(pieces)), *helped, Row("--version", 0, f"dsmdb {version}\n"), *explained]
@@ -121,14 +141,16 @@ def rows_of_refusals():
 def rows():
     with open(f"{workspace.ROOT}/examples/two-replicas.out") as file:
         replayed = Row("replay two-replicas.dsm", 0, file.read())
-    return [*LISTS, *CHECKS, replayed, *REPLAYS, *FILES, *WORDS, *asked(), *FULL]
+    with open(f"{workspace.ROOT}/examples/two-replicas-run.out") as file:
+        called = Row("run two-replicas-run.dsm --executors 1 --log 1", 0, file.read())
+    return [*LISTS, *CHECKS, replayed, *REPLAYS, called, *RUNS, *FILES, *WORDS, *asked(), *FULL]
 
 
 def furnish(room, program):
     """Puts the program and the files that the rows name into a folder that everybody may enter."""
     os.chmod(room, 0o755)
     shutil.copy(program, f"{room}/dsmdb")
-    for name in ("add.bpf", "two-replicas.dsm"):
+    for name in ("add.bpf", "two-replicas.dsm", "two-replicas-run.dsm"):
         shutil.copy(f"{workspace.ROOT}/examples/{name}", room)
     for name, code in PROGRAMS.items():
         with open(f"{room}/{name}", "wb") as file:
