@@ -20,7 +20,7 @@ use tallies::{Blanks, Counts, Ledgers};
 mod calls;
 mod gate;
 
-use calls::{adds, numbered, one_session, overlap, puts, refusals, two_puts};
+use calls::{added, adds, numbered, one_session, overlap, puts, refusals, two_puts};
 use gate::{Hold, HoldingGate};
 
 /// What is tried at a node.
@@ -33,6 +33,7 @@ enum Case {
     Puts,
     Numbered,
     Refusals,
+    Added,
 }
 
 /// How a node has to end: the sum of all answers, how many of them committed where that is the same in each run, and each
@@ -126,6 +127,7 @@ fn try_case<
         Case::Puts => puts(rt, alloc, desk),
         Case::Numbered => numbered(rt, alloc, desk),
         Case::Refusals => refusals(rt, alloc, desk),
+        Case::Added => added(rt, alloc, &node),
     }
     let finish = node.finish(rt);
     check_end(rt, &finish, size, case, end);
@@ -166,7 +168,12 @@ fn check_end<J: LogSetting + Ledgers, R: Wait + Abort>(
     for replica in &finish.replicas {
         number = number.wrapping_add(1);
         assert!(rt; !replica.stopped);
-        assert_eq!(rt; u64::from(replica.commits), totals.committed);
+        // An addition that is ordered commits, and is no answer to a call.
+        let additions = u64::from(case == Case::Added);
+        assert_eq!(rt;
+            u64::from(replica.commits),
+            totals.committed.wrapping_add(additions)
+        );
         assert!(rt;
             end.position
                 .is_none_or(|position| position == replica.position)
@@ -228,6 +235,13 @@ fn one_caller(rt: HostRuntime) {
         (2, 2, 4, LIMIT),
         Case::Refusals,
         (7, Some(0), Some(0)),
+    );
+    try_at_a_node(
+        &rt,
+        alloc,
+        (2, 2, 4, LIMIT),
+        Case::Added,
+        (0, Some(0), Some(1)),
     );
     try_at_a_node(
         &rt,

@@ -2,10 +2,10 @@
 
 use super::gate::{Hold, HoldingGate};
 use log_model::{RequestId, Verdict};
-use node::Desk;
+use node::{Added, Desk, Node, ProgramRefusal};
 use node_calls::{Answer, CallRefusal};
 use ordered_entries::LogSetting;
-use sample_procedures::args_of;
+use sample_procedures::{ONE as ONE_PROGRAM, args_of, bytes_of};
 use session::Session;
 use std::alloc::Global;
 use std::process::Abort;
@@ -175,6 +175,22 @@ pub(crate) fn numbered<J: LogSetting + Ledgers + Send + Sync + 'static, R: Wait 
     assert_eq!(rt; answer, committed);
     assert_eq!(rt; desk.verdict(rt, 1, 2), Some(Verdict::Repeated(1)));
     assert_eq!(rt; desk.verdict(rt, 1, 4), None);
+}
+
+/// A procedure is added through the log, and what isn't accepted isn't.
+pub(crate) fn added<J: LogSetting + Ledgers + Send + Sync + 'static, R: Wait + Abort>(
+    rt: &R,
+    alloc: Global,
+    node: &Node<J, HoldingGate>,
+) {
+    let one = bytes_of(alloc, ONE_PROGRAM).expect(rt, "memory");
+    assert_eq!(rt; node.add(rt, b"one", 10, 0, &one).0, Added::Ordered(1));
+    assert_eq!(rt; node.add(rt, b"a-b", 11, 0, &one).0, Added::Name);
+    let long = Added::Program(ProgramRefusal::ArgumentsLimit);
+    assert_eq!(rt; node.add(rt, b"a-b", 11, 257, &one).0, long);
+    let (cut, seen) = node.add(rt, b"a-b", 11, 0, one.get(..8).unwrap_or(&[]));
+    assert!(rt; matches!(cut, Added::Program(ProgramRefusal::Fault(_))));
+    assert!(rt; seen.is_none());
 }
 
 /// What is refused, or is behind.
