@@ -9,8 +9,8 @@ ghost use Rattle.report.specs.Lines.{line_text, totals_words};
 
 use crate::printed::Line;
 use crate::words::{
-    add_refused, added, agreement, answered, begin_refused, begun, call, certified, first_totals, log,
-    no_entry, open, other_totals, replica,
+    add_refused, added, agreement, answered, begin_refused, begun, call, certified, first_totals,
+    log, no_entry, open, other_totals, replica,
 };
 use byte_output::line::{Line as Words, push, push_column, push_unsigned};
 use std::alloc::{AllocError, Allocator};
