@@ -20,12 +20,14 @@ impl<A: Allocator> Model for Bytes<A> {
 }
 
 impl<A: Allocator> Bytes<A> {
+    /// These bytes, in the memory that they are in.
     pub fn new(bytes: Vec<u8, A>) -> Bytes<A>
         ensures { result ≡ bytes.items }
     {
         Self { bytes }
     }
 
+    /// The bytes, to look at.
     pub fn as_slice(&self) -> &[u8]
         ensures { result.now ≡ self.now }
     {

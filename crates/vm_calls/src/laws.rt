@@ -4,6 +4,7 @@ ghost use Rattle.vm_calls.specs.Held.{HeldLaws};
 
 use vm_state::{buffers_lie_in_the_stack, holding_speaks_of_words_alone, registers_are_held};
 
+/// What holding a state tells: of registers, of buffers in the stack, and that words alone count.
 pub fn held_laws()
     ensures { HeldLaws }
 {

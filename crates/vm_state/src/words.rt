@@ -12,6 +12,7 @@ use bpf_code::{LoadKind, SignExtendingMove, Width};
 use bpf_words::{Condition, Operation, SignExtension, alu32, alu64, holds32, holds64};
 use byteorder::{ByteOrder, LittleEndian};
 
+/// The result of an operation of the width (RFC 9669 section 4.1).
 pub fn arithmetic(width: Width, op: Operation, a: u64, b: u64) -> u64
     ensures { result ≡ alu (width_bits width) op a b }
 {
@@ -21,6 +22,7 @@ pub fn arithmetic(width: Width, op: Operation, a: u64, b: u64) -> u64
     }
 }
 
+/// Whether a condition holds between two words, of which the width's bits count (RFC 9669 section 4.3).
 pub fn holds(width: Width, condition: Condition, a: u64, b: u64) -> bool
     ensures { result ≡ holds (width_bits width) condition a b }
 {
