@@ -1,7 +1,5 @@
-pub mod Added
 pub mod Agreement
 pub mod Crew
-pub mod Desk
-pub mod Kinds
+pub mod Nodes
 pub mod Requests
 pub mod Size

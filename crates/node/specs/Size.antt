@@ -1,13 +1,35 @@
 -- What a node may be made of.
-use Rattle.std.specs.Prelude.{◌≤◌}
+use Rattle.std.specs.Prelude.{◌≡◌, ◌≤◌, ◌⊎◌, ℕ, ¬, ⊥}
 use Rattle.node.specs.declared.size.Size.{Size as NodeSize}
+use Rattle.node.specs.declared.size.StartFault.{StartFault}
+use Rattle.node.specs.declared.size.StartFault.TheVariants.{Replicas, Executors, Window, OutOfMemory, NoThread, Limit}
+
+abbrev pub IsWithin : ℕ → ℕ → Type 0
+IsWithin limit n = (1 ≤ n) × (n ≤ limit)
 
 pub record IsSize (s : NodeSize) : Type 0 where
-  pub some_replicas : 1 ≤ s.replicas
-  pub replicas : s.replicas ≤ 8
-  pub some_executors : 1 ≤ s.executors
-  pub executors : s.executors ≤ 16
-  pub some_window : 1 ≤ s.window
-  pub window : s.window ≤ 4096
-  pub some_entries : 1 ≤ s.limit
-  pub limit : s.limit ≤ 1048576
+  pub replicas : IsWithin 8 s.replicas
+  pub executors : IsWithin 16 s.executors
+  pub window : IsWithin 4096 s.window
+  pub limit : IsWithin 1048576 s.limit
+
+-- the first thing that is wrong with a size, in the order in which they are tested
+abbrev pub IsSizeFault : NodeSize → StartFault → Type 0
+IsSizeFault s Replicas = ¬ IsWithin 8 s.replicas
+IsSizeFault s Executors = IsWithin 8 s.replicas × ¬ IsWithin 16 s.executors
+IsSizeFault s Window = IsWithin 8 s.replicas × IsWithin 16 s.executors × ¬ IsWithin 4096 s.window
+IsSizeFault s Limit = IsWithin 8 s.replicas × IsWithin 16 s.executors × IsWithin 4096 s.window × ¬ IsWithin 1048576 s.limit
+IsSizeFault s OutOfMemory = ⊥
+IsSizeFault s NoThread = ⊥
+
+-- memory or a thread is wanting
+abbrev pub IsWant : StartFault → Type 0
+IsWant fault = (fault ≡ OutOfMemory) ⊎ (fault ≡ NoThread)
+
+-- why a node of a size doesn't start: its size is at fault, or it may be of this size, and memory or a thread is wanting
+abbrev pub IsStartFault : NodeSize → StartFault → Type 0
+IsStartFault s fault = IsSizeFault s fault ⊎ (IsSize s × IsWant fault)
+
+-- a node whose log has room for as many entries as a log may have
+abbrev pub size_of : ℕ → ℕ → ℕ → NodeSize
+size_of replicas executors window = record { replicas = replicas; executors = executors; window = window; limit = 1048576 }

@@ -1,16 +1,14 @@
 //! The threads of a node.
 
-ghost use Rattle.std.specs.Prelude.{◌≡◌, ◌+◌, ◌<◌, ◌≤◌, OnOk};
+ghost use Rattle.std.specs.Prelude.{◌≡◌, ◌+◌, ◌<◌, ◌≤◌, OnOk, IfErr};
+ghost use Rattle.node.specs.Size.{IsWant};
 
-use crate::delivering::deliver_all;
-use crate::executing::serve;
-use crate::request::Request;
-use crate::shared::Shared;
 use crate::size::StartFault;
 use crossbeam_channel::{Receiver, Sender, bounded};
 use node_calls::Gate;
 use order_log::Fact;
 use ordered_entries::{LogSetting, OrderedEntries};
+use served_replicas::{Request, Shared, deliver_all, serve};
 use std::alloc::Global;
 use std::marker::Model;
 use std::sync::{Arc, Wait};
@@ -91,6 +89,7 @@ impl<J: LogSetting + Ledgers + Send + Sync + 'static> Crew<J> {
         requires parts { 17 ≤ shares.old.parts }
         ensures all { OnOk result (shares.new.parts + self.new.executors ≡ shares.old.parts + self.old.executors) }
         ensures parts { OnOk result (shares.old.parts ≤ shares.new.parts + 16) }
+        ensures fault { IfErr result IsWant }
     {
         let Ok((sender, receiver)) = bounded(self.alloc, QUEUE) else {
             return Err(StartFault::OutOfMemory);
@@ -118,6 +117,7 @@ impl<J: LogSetting + Ledgers + Send + Sync + 'static> Crew<J> {
         requires { 1 < shares.old.parts }
         ensures parts { OnOk result (shares.new.parts + 1 ≡ shares.old.parts) }
         ensures executors { OnOk result (self.new.executors ≡ self.old.executors + 1) }
+        ensures fault { IfErr result IsWant }
     {
         if self.executors.reserve(1).is_err() {
             return Err(StartFault::OutOfMemory);
@@ -152,7 +152,8 @@ impl<J: LogSetting + Ledgers + Send + Sync + 'static> Crew<J> {
         shared: &Arc<Shared<J, Global, Global, G>>,
         replica: u32,
     ) -> Result<(), StartFault>
-        ensures { OnOk result (self.new.executors ≡ self.old.executors) }
+        ensures executors { OnOk result (self.new.executors ≡ self.old.executors) }
+        ensures fault { IfErr result IsWant }
     {
         if self.deliverers.reserve(1).is_err() {
             return Err(StartFault::OutOfMemory);

@@ -1,20 +1,19 @@
 //! What callers share of a node.
 
-ghost use Rattle.std.specs.Prelude.{◌≡◌, Some, None, IfSome};
+ghost use Rattle.std.specs.Prelude.{◌≡◌, Some, None, IfSome, IsNone};
 ghost use Rattle.node_calls.specs.Answer.{IsAnswer};
-ghost use Rattle.node.specs.Requests.{IsHeard, IsNoReplica};
+ghost use Rattle.node.specs.Requests.{IsHeard};
+ghost use Rattle.served_replicas.specs.Replicas.{IsNoReplica};
 
-use crate::request::{Reply, Request};
-use crate::shared::Shared;
 use crossbeam_channel::{Sender, bounded};
 use log_model::{RequestId, Verdict};
 use node_calls::{Answer, Asked, CallRefusal, Gate};
 use order_log::{Fact, Seen};
 use ordered_entries::{LogSetting, OrderedEntries};
 use row_values::Bytes;
+use served_replicas::{Reply, Request, Shared};
 use std::alloc::Global;
 use std::marker::Model;
-use std::sync::atomic::Ordering::SeqCst;
 use std::sync::{Arc, Wait};
 use tallies::Ledgers;
 
@@ -38,13 +37,14 @@ where
     OrderedEntries<J>: Fact,
 {
     ghost use Rattle.std.specs.Prelude.{vec_len};
-    ghost use Rattle.node.specs.Desk.{DeskState};
+    ghost use Rattle.std.specs.Arc.{arc_value};
+    ghost use Rattle.node.specs.Nodes.{NodeState};
 
-    ghost Value = { DeskState };
+    ghost Value = { NodeState };
 
     ghost view = { λ d. record { replicas = vec_len d.requests } };
 
-    ghost invariant = { λ d. Unit {0} };
+    ghost invariant = { λ d. vec_len d.requests ≡ (arc_value d.shared).replicas };
 }
 
 impl<J: LogSetting + Ledgers + Send + Sync + 'static, G: Gate + Drop + Send + Sync + 'static> Desk<
@@ -144,14 +144,15 @@ impl<J: LogSetting + Ledgers + Send + Sync + 'static, G: Gate + Drop + Send + Sy
     fn unserved(&self, answer: Answer) -> Answered<J>
         ensures { (result.0 ≡ answer) × (result.1 ≡ None) }
     {
-        self.shared.unserved.fetch_add(1, SeqCst);
+        self.shared.count_unserved();
         (answer, None)
     }
 
     /// The verdict on the entry at a position, where there is such a replica and it has come there.
-    pub fn verdict<R: Wait>(&self, rt: &R, replica: u32, position: u32) -> Option<Verdict> {
-        let served = self.shared.replica(replica)?;
-        let locked = served.replica.read(rt);
+    pub fn verdict<R: Wait>(&self, rt: &R, replica: u32, position: u32) -> Option<Verdict>
+        ensures { IsNoReplica self.now.replicas replica → IsNone result }
+    {
+        let locked = self.shared.locked(replica)?.read(rt);
         if position == 0 || position > locked.position() {
             return None;
         }

@@ -1,18 +1,17 @@
 //! A node: replicas of one log, their threads, and what callers share.
 
-ghost use Rattle.std.specs.Prelude.{◌≡◌, ◌≤◌, ◌+◌, true, OnOk};
+ghost use Rattle.std.specs.Prelude.{◌≡◌, ◌≤◌, ◌+◌, ◌↔◌, true, IfOk, IfErr, OnOk, IsNone, Err, length, vec_len, vec_capacity};
+ghost use Rattle.std.specs.Arc.{arc_value};
 ghost use Rattle.tallies.specs.Shared.{names_by_place};
-ghost use Rattle.node.specs.Added.{IsAddedAnswer};
+ghost use Rattle.served_replicas.specs.Added.{IsAddedAnswer};
+ghost use Rattle.served_replicas.specs.Replicas.{IsNoReplica};
+ghost use Rattle.served_replicas.specs.declared.rebuild.RebuildFault.TheVariants.{NoReplica};
 ghost use Rattle.node.specs.Agreement.{AgreeBy};
-ghost use Rattle.node.specs.Size.{IsSize};
+ghost use Rattle.node.specs.Size.{IsSize, IsStartFault, IsWant, size_of};
 
-use crate::add::Added;
 use crate::crew::Crew;
 use crate::desk::Desk;
 use crate::ended::{EndedReplica, agree_all};
-use crate::rebuild::RebuildFault;
-use crate::request::Request;
-use crate::shared::Shared;
 use crate::size::{Size, StartFault};
 use catalogue::Catalogue;
 use crossbeam_channel::Sender;
@@ -20,7 +19,9 @@ use locked_replica::LockedReplica;
 use node_calls::{Gate, OpenGate};
 use order_log::{Fact, GroupCells, LIMIT, OrderLog, Seen};
 use ordered_entries::{LogSetting, OrderedEntries};
+use served_replicas::{Added, RebuildFault, Request, Shared};
 use std::alloc::Global;
+use std::marker::Model;
 use std::sync::{Arc, RwLock, Wait};
 use std::thread::Threads;
 use tallies::{Blanks, Counts, Ledgers, Shares};
@@ -39,6 +40,7 @@ where
     /// All shares, in which the answers were counted.
     pub shares: Shares<J>,
     shared: Arc<Shared<J, Global, Global, G>>,
+    ghost all: { vec_len replicas ≡ (arc_value shared).replicas },
 }
 
 /// How a node's replicas have ended.
@@ -49,7 +51,7 @@ pub struct Ended<J: LogSetting> {
     pub agreement: bool,
 }
 
-/// A node whose threads run. It has to be ended, by `stop` or `finish`.
+/// A node whose threads run. It has to be ended, by `stop` or `finish`. Contracts see how many replicas there are.
 pub struct Node<J: LogSetting + Ledgers, G: Gate>
 where
     OrderedEntries<J>: Fact,
@@ -59,7 +61,21 @@ where
     shares: Shares<J>,
     /// Room for how the replicas end.
     ended: Vec<EndedReplica<J>>,
-    ghost all: { shares.parts + crew.executors ≡ 129 },
+}
+
+impl<J: LogSetting + Ledgers, G: Gate> Model for Node<J, G>
+where
+    OrderedEntries<J>: Fact,
+{
+    ghost use Rattle.std.specs.Prelude.{vec_len, vec_capacity, ◌≤◌};
+    ghost use Rattle.node.specs.Nodes.{NodeState};
+
+    ghost Value = { NodeState };
+
+    ghost view = { λ n. record { replicas = n.desk.replicas } };
+
+    ghost invariant = { λ n. (n.shares.parts + n.crew.executors ≡ 129) × (n.desk.replicas ≤ 8)
+        × (vec_len n.ended ≡ 0) × (n.desk.replicas ≤ vec_capacity n.ended) };
 }
 
 impl<J: LogSetting + Ledgers + Send + Sync + 'static, G: Gate + Drop + Send + Sync + 'static> Node<
@@ -84,6 +100,8 @@ impl<J: LogSetting + Ledgers + Send + Sync + 'static, G: Gate + Drop + Send + Sy
           catalogue = catalogue.procedures;
           window = size.window;
         } }
+        ensures started { IfOk result (λ node. IsSize size × (node.replicas ≡ size.replicas)) }
+        ensures fault { IfErr result (IsStartFault size) }
     {
         size.check()?;
         let (totals, shares) = blanks.open();
@@ -95,7 +113,7 @@ impl<J: LogSetting + Ledgers + Send + Sync + 'static, G: Gate + Drop + Send + Sy
         let Ok(mut shared) = shared else {
             return Err(StartFault::OutOfMemory);
         };
-        for _ in 0..size.replicas {
+        for place in 0..size.replicas {
             if shared.add_replica(alloc, size.executors as usize).is_err() {
                 return Err(StartFault::OutOfMemory);
             }
@@ -125,6 +143,8 @@ impl<J: LogSetting + Ledgers + Send + Sync + 'static, G: Gate + Drop + Send + Sy
           catalogue = catalogue.procedures;
           window = window;
         } }
+        ensures started { IfOk result (λ node. node.replicas ≡ replicas) }
+        ensures fault { IfErr result (IsStartFault (size_of replicas executors window)) }
     {
         let size = Size {
             replicas,
@@ -136,7 +156,9 @@ impl<J: LogSetting + Ledgers + Send + Sync + 'static, G: Gate + Drop + Send + Sy
     }
 
     /// What callers share.
-    pub fn desk(&self) -> &Desk<J, G> {
+    pub fn desk(&self) -> &Desk<J, G>
+        ensures { result.now.replicas ≡ self.now.replicas }
+    {
         &self.desk
     }
 
@@ -157,12 +179,15 @@ impl<J: LogSetting + Ledgers + Send + Sync + 'static, G: Gate + Drop + Send + Sy
     }
 
     /// Makes the replica of a number anew from the log. The position that it has then.
-    pub fn rebuild<R: Wait>(&self, rt: &R, replica: u32) -> Result<u32, RebuildFault> {
+    pub fn rebuild<R: Wait>(&self, rt: &R, replica: u32) -> Result<u32, RebuildFault>
+        ensures { result ≡ Err NoReplica ↔ IsNoReplica self.now.replicas replica }
+    {
         self.desk.shared.rebuild(rt, replica)
     }
 
     /// As `finish`, without the sums.
     pub fn stop<R: Threads + Wait>(self, rt: &R) -> Ended<J>
+        ensures replicas { length result.replicas.items ≡ self.replicas }
         ensures agreement { AgreeBy (λ e. e.seen) result.replicas.items }
         ensures agree { result.agreement ≡ true }
     {
@@ -177,6 +202,7 @@ impl<J: LogSetting + Ledgers + Send + Sync + 'static, G: Gate + Drop + Send + Sy
     pub fn finish<R: Threads + Wait>(self, rt: &R) -> Finish<J, G>
         ensures totals { result.totals ≡ result.shares.counted }
         ensures shares { result.shares.parts ≡ 129 }
+        ensures replicas { length result.replicas.items ≡ self.replicas }
         ensures agreement { AgreeBy (λ e. e.seen) result.replicas.items }
         ensures agree { result.agreement ≡ true }
     {
@@ -194,8 +220,10 @@ impl<J: LogSetting + Ledgers + Send + Sync + 'static, G: Gate + Drop + Send + Sy
         drop(requests);
         crew.end(rt, &shared, &mut shares);
         let totals = shared.gather(rt, &mut shares);
-        for served in shared.replicas.iter() {
-            let _kept = ended.push(EndedReplica::of(&served.replica.read(rt)));
+        for place in 0..shared.replicas() as u32 {
+            if let Some(replica) = shared.locked(place + 1) {
+                ended.push_reserved(EndedReplica::of(&replica.read(rt)));
+            }
         }
         agree_all(&ended);
         Finish {
@@ -227,6 +255,8 @@ impl<J: LogSetting + Ledgers + Send + Sync + 'static> Node<J, OpenGate> {
           catalogue = catalogue.procedures;
           window = window;
         } }
+        ensures started { IfOk result (λ node. node.replicas ≡ replicas) }
+        ensures fault { IfErr result (IsStartFault (size_of replicas executors window)) }
     {
         Node::start_gated(
             rt, alloc, cells, blanks, replicas, executors, window, catalogue, OpenGate,
@@ -240,15 +270,14 @@ where
 {
     /// The log, whose entries whoever has seen them can read.
     pub fn log(&self) -> &OrderLog<J, OrderedEntries<J>> {
-        &self.shared.log
+        self.shared.log()
     }
 
     /// The replica of a number, from 1 on, behind its lock.
-    pub fn replica(&self, number: u32) -> Option<&RwLock<LockedReplica<J>>> {
-        let shared: &Shared<J, Global, Global, G> = &self.shared;
-        let place = (number as usize).checked_sub(1)?;
-        let served = shared.replicas.get(place)?;
-        Some(&served.replica)
+    pub fn replica(&self, number: u32) -> Option<&RwLock<LockedReplica<J>>>
+        ensures { IsNone result ↔ IsNoReplica (vec_len self.now.replicas) number }
+    {
+        self.shared.locked(number)
     }
 }
 
@@ -266,6 +295,9 @@ fn start_threads<
 ) -> Result<Node<J, G>, StartFault>
     requires size { IsSize size }
     requires shares { shares.parts ≡ 129 }
+    requires replicas { (arc_value shared).replicas ≡ size.replicas }
+    ensures started { IfOk result (λ node. node.replicas ≡ size.replicas) }
+    ensures fault { IfErr result (IsStartFault size) }
 {
     let mut shares = shares;
     let mut crew = Crew::new(alloc);
@@ -315,7 +347,11 @@ fn start_replicas<
     requires size { IsSize size }
     requires shares { shares.old.parts ≡ 129 }
     requires crew { crew.old.executors ≡ 0 }
-    ensures { OnOk result (shares.new.parts + crew.new.executors ≡ 129) }
+    requires none { vec_len requests.old ≡ 0 }
+    ensures parts { OnOk result (shares.new.parts + crew.new.executors ≡ 129) }
+    ensures requests { OnOk result (vec_len requests.new ≡ size.replicas) }
+    ensures room { IfOk result (λ ended. (vec_len ended ≡ 0) × (size.replicas ≤ vec_capacity ended)) }
+    ensures fault { IfErr result IsWant }
 {
     let Ok(ended) = Vec::with_capacity(alloc, size.replicas as usize) else {
         return Err(StartFault::OutOfMemory);

@@ -1,7 +1,7 @@
 //! What a node is made of.
 
-ghost use Rattle.std.specs.Prelude.{◌≡◌, ◌⊎◌, ◌<◌, ◌↔◌, IsOk, IfErr, OnOk, Err};
-ghost use Rattle.node.specs.Size.{IsSize};
+ghost use Rattle.std.specs.Prelude.{◌≤◌, OnOk, IfErr};
+ghost use Rattle.node.specs.Size.{IsSize, IsSizeFault};
 
 use order_log::LIMIT;
 
@@ -37,7 +37,8 @@ pub struct Size {
 impl Size {
     /// Whether a node may be of this size, and else the first cause that it may not.
     pub fn check(&self) -> Result<(), StartFault>
-        ensures { IsOk result ↔ IsSize self.now }
+        ensures size { OnOk result (IsSize self.now) }
+        ensures fault { IfErr result (IsSizeFault self.now) }
     {
         if !(1..=8).contains(&self.replicas) {
             return Err(StartFault::Replicas);

@@ -19,6 +19,7 @@ use tallies::{Blanks, Counts, Ledgers};
 
 mod calls;
 mod gate;
+mod growths;
 
 use calls::{added, adds, numbered, one_session, overlap, puts, refusals, two_puts};
 use gate::{Hold, HoldingGate};

@@ -1,7 +1,7 @@
 //! Which kind an answer is of.
 
 ghost use Rattle.std.specs.Prelude.{◌≡◌};
-ghost use Rattle.node.specs.Kinds.{kind_of};
+ghost use Rattle.served_replicas.specs.Kinds.{kind_of};
 
 use node_calls::Answer;
 use tallies::AnswerKind;

@@ -3,7 +3,7 @@
 ghost use Rattle.std.specs.Prelude.{◌≡◌, ℕ, ◌+◌, ◌^◌};
 ghost use Rattle.tallies.specs.Counted.{AreBelow, one_more};
 ghost use Rattle.node_calls.specs.Answer.{IsAnswer};
-ghost use Rattle.node.specs.Kinds.{kind_of};
+ghost use Rattle.served_replicas.specs.Kinds.{kind_of};
 
 use crate::kind::kind_of;
 use crate::request::{Reply, Request};

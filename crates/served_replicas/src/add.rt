@@ -1,7 +1,7 @@
 //! A procedure is added through the log.
 
 ghost use Rattle.std.specs.Prelude.{◌≡◌, IfOk, IfErr};
-ghost use Rattle.node.specs.Added.{IsAskedFor, IsNotAdded, IsAddedAnswer};
+ghost use Rattle.served_replicas.specs.Added.{IsAskedFor, IsNotAdded, IsAddedAnswer};
 
 use crate::shared::Shared;
 use bpf_verify::Accepted;

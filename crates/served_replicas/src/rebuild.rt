@@ -1,5 +1,9 @@
 //! A replica is made anew.
 
+ghost use Rattle.std.specs.Prelude.{◌≡◌, ◌↔◌, Err, IfSome, length};
+ghost use Rattle.served_replicas.specs.Replicas.{IsNoReplica};
+ghost use Rattle.served_replicas.specs.declared.rebuild.RebuildFault.TheVariants.{NoReplica};
+
 use crate::shared::{ServedReplica, Shared};
 use locked_replica::{Delivery, LockedReplica};
 use node_calls::Gate;
@@ -40,7 +44,9 @@ fn put_in_place<J: LogSetting, A: Allocator + Copy, P: Allocator + Copy, R: Wait
     rt: &R,
     replica: &RwLock<LockedReplica<J, A, P>>,
     fresh: &mut LockedReplica<J, A, P>,
-) -> Option<u32> {
+) -> Option<u32>
+    ensures { IfSome result (λ position. position ≡ length fresh.old.entries) }
+{
     let mut locked = replica.write(rt);
     if !locked.exchange(fresh) {
         return None;
@@ -56,7 +62,9 @@ impl<J: LogSetting + Ledgers, A: Allocator + Copy, P: Allocator + Copy, G: Gate>
 > {
     /// Makes the replica of a number anew from the log, which then delivers again where it had stopped. Calls go on at the old
     /// one until the new one is in its place, which has come no less far. The position that it has then.
-    pub fn rebuild<R: Wait>(&self, rt: &R, replica: u32) -> Result<u32, RebuildFault> {
+    pub fn rebuild<R: Wait>(&self, rt: &R, replica: u32) -> Result<u32, RebuildFault>
+        ensures { result ≡ Err NoReplica ↔ IsNoReplica self.now.replicas replica }
+    {
         let Some(served) = self.replica(replica) else {
             return Err(RebuildFault::NoReplica);
         };

@@ -21,7 +21,7 @@ pub struct Reply<J: LogSetting, P: Allocator + Copy = Global> {
 }
 
 impl<J: LogSetting, P: Allocator + Copy> Model for Reply<J, P> {
-    ghost use Rattle.node.specs.Requests.{ReplyState, reply_code};
+    ghost use Rattle.served_replicas.specs.Replies.{ReplyState, reply_code};
     ghost use Rattle.node_calls.specs.Answer.{IsAnswer};
 
     ghost Value = { ReplyState P };

@@ -10,9 +10,9 @@ use Rattle.log_entry.specs.declared.entry.Entry.TheVariants as entry
 use Rattle.dsm_model.specs.World.{Passed, Failed}
 use Rattle.program_checks.specs.Check.{check_of}
 use Rattle.ordered_entries.specs.Ordered.{IsOrderedAddition}
-use Rattle.node.specs.declared.add.ProgramRefusal.TheVariants.{ArgumentsLimit, Fault}
-use Rattle.node.specs.declared.add.Added.{Added}
-use Rattle.node.specs.declared.add.Added.TheVariants.{Ordered, Full, NoMemory, Program, Name}
+use Rattle.served_replicas.specs.declared.add.ProgramRefusal.TheVariants.{ArgumentsLimit, Fault}
+use Rattle.served_replicas.specs.declared.add.Added.{Added}
+use Rattle.served_replicas.specs.declared.add.Added.TheVariants.{Ordered, Full, NoMemory, Program, Name}
 
 -- what is to be added: a procedure with the bytes of its program
 pub record AskedAddition : Type 0 where

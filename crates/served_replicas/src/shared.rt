@@ -1,6 +1,7 @@
 //! What the threads of a node share.
 
-ghost use Rattle.std.specs.Prelude.{◌≡◌};
+ghost use Rattle.std.specs.Prelude.{◌≡◌, ◌+◌, ◌↔◌, IsNone, IfOk, OnOk};
+ghost use Rattle.served_replicas.specs.Replicas.{IsNoReplica};
 
 use crate::node_catalogue::NodeCatalogue;
 use catalogue::Catalogue;
@@ -11,6 +12,7 @@ use node_calls::{Bells, Gate, Waiter};
 use order_log::{Fact, OrderLog};
 use ordered_entries::{LogSetting, OrderedEntries};
 use std::alloc::{AllocError, Allocator, Global};
+use std::marker::Model;
 use std::sync::atomic::Ordering::SeqCst;
 use std::sync::atomic::{AtomicBool, AtomicU64};
 use std::sync::{Mutex, RwLock, Wait};
@@ -25,7 +27,8 @@ pub struct ServedReplica<J: LogSetting, A: Allocator + Copy = Global, P: Allocat
     pub(crate) waiters: Vec<CachePadded<Waiter>, P>,
 }
 
-/// What the threads of a node share: the log, the replicas behind their locks, who waits where, and the sums of answers.
+/// What the threads of a node share: the log, the replicas behind their locks, who waits where, and the sums of answers. Contracts
+/// see how many replicas there are.
 #[derive(Drop)]
 pub struct Shared<J: LogSetting + Ledgers, A: Allocator + Copy, P: Allocator + Copy, G: Gate>
 where
@@ -41,9 +44,24 @@ where
     pub(crate) gate: G,
     pub(crate) totals: Mutex<Totals<J>>,
     /// How many answers no executing thread gave.
-    pub(crate) unserved: CachePadded<AtomicU64>,
+    unserved: CachePadded<AtomicU64>,
     /// Whether the delivering threads are to end at the end of the log.
     pub(crate) stopping: CachePadded<AtomicBool>,
+}
+
+impl<J: LogSetting + Ledgers, A: Allocator + Copy, P: Allocator + Copy, G: Gate> Model
+    for Shared<J, A, P, G>
+where
+    OrderedEntries<J>: Fact,
+{
+    ghost use Rattle.std.specs.Prelude.{vec_len};
+    ghost use Rattle.served_replicas.specs.Replicas.{SharedState};
+
+    ghost Value = { SharedState };
+
+    ghost view = { λ s. record { replicas = vec_len s.replicas } };
+
+    ghost invariant = { λ s. Unit {0} };
 }
 
 impl<J: LogSetting, A: Allocator + Copy, P: Allocator + Copy> ServedReplica<J, A, P> {
@@ -102,6 +120,7 @@ impl<J: LogSetting + Ledgers, A: Allocator + Copy, P: Allocator + Copy, G: Gate 
           catalogue = catalogue.procedures;
           window = window;
         } }
+        ensures { IfOk result (λ shared. shared.replicas ≡ 0) }
     {
         Ok(Shared {
             alloc,
@@ -124,14 +143,39 @@ impl<J: LogSetting + Ledgers, A: Allocator + Copy, P: Allocator + Copy, G: Gate>
     G,
 > {
     /// Adds a replica in the memory of its own allocator, for so many executing threads.
-    pub fn add_replica(&mut self, alloc: A, executors: usize) -> Result<(), AllocError> {
+    pub fn add_replica(&mut self, alloc: A, executors: usize) -> Result<(), AllocError>
+        ensures { OnOk result (self.new.replicas ≡ self.old.replicas + 1) }
+    {
         let served = ServedReplica::new(alloc, self.alloc, &self.catalogue, executors)?;
         self.replicas.push(CachePadded::new(served))?;
         Ok(())
     }
 
+    /// How many replicas there are; they are numbered from 1.
+    pub fn replicas(&self) -> usize
+        ensures { result ≡ self.now.replicas }
+    {
+        self.replicas.len()
+    }
+
+    /// The log, whose entries whoever has seen them can read.
+    pub fn log(&self) -> &OrderLog<J, OrderedEntries<J>, P> {
+        &self.log
+    }
+
+    /// The replica of a number, from 1 on, behind its lock.
+    pub fn locked(&self, number: u32) -> Option<&RwLock<LockedReplica<J, A, P>>>
+        ensures { IsNone result ↔ IsNoReplica self.now.replicas number }
+    {
+        let place = (number as usize).checked_sub(1)?;
+        let served = self.replicas.get(place)?;
+        Some(&served.replica)
+    }
+
     /// The replica of a number, from 1 on.
-    pub(crate) fn replica(&self, number: u32) -> Option<&ServedReplica<J, A, P>> {
+    pub(crate) fn replica(&self, number: u32) -> Option<&ServedReplica<J, A, P>>
+        ensures { IsNone result ↔ IsNoReplica self.now.replicas number }
+    {
         let place = (number as usize).checked_sub(1)?;
         match self.replicas.get(place) {
             Some(served) => Some(served),
@@ -144,8 +188,13 @@ impl<J: LogSetting + Ledgers, A: Allocator + Copy, P: Allocator + Copy, G: Gate>
         self.bells.at((number as usize).checked_sub(1)?)
     }
 
+    /// Counts an answer that no executing thread gave.
+    pub fn count_unserved(&self) {
+        self.unserved.fetch_add(1, SeqCst);
+    }
+
     /// Enters what no executing thread counted, and adds up what was counted in all.
-    pub(crate) fn gather<R: Wait>(&self, rt: &R, shares: &mut Shares<J>) -> Counts
+    pub fn gather<R: Wait>(&self, rt: &R, shares: &mut Shares<J>) -> Counts
         requires { shares.old.parts ≡ 129 }
         ensures totals { result ≡ shares.new.counted }
         ensures parts { shares.new.parts ≡ shares.old.parts }

@@ -1,0 +1,217 @@
+//! What callers call, drawn from a seed, and how they count what they are answered.
+
+use crate::procedures::{
+    ACCOUNTS, COUNT_NUMBER, MONEY, NEXT_NUMBER, ONE_NUMBER, PUT_NUMBER, TRANSFER_NUMBER,
+};
+use log_model::RequestId;
+use node::Desk;
+use node_calls::{Answer, OpenGate};
+use ordered_entries::LogSetting;
+use rand_core::utils::NextWord;
+use rand_pcg::Pcg32;
+use session::Session;
+use std::alloc::{AllocError, Global};
+use std::sync::Wait;
+use std::thread;
+use std::thread::Threads;
+use tallies::{Counts, Ledgers};
+
+/// More than any account has.
+const FORTUNE: u64 = 1_000_000;
+
+/// Who calls.
+#[derive(Drop)]
+struct Caller {
+    /// From 1 on.
+    number: u32,
+    /// How many calls with a request it has made.
+    requests: u32,
+    generator: Pcg32,
+}
+
+/// A call that is drawn. Its arguments are the words, as many as the procedure takes.
+#[derive(Clone, Copy)]
+struct DrawnCall {
+    procedure: u16,
+    words: [u64; 3],
+    count: usize,
+}
+
+impl Caller {
+    /// A number below the end.
+    fn draw(&mut self, end: u32) -> u32 {
+        self.generator.next_word().checked_rem(end).unwrap_or(0)
+    }
+
+    fn draw_account(&mut self) -> u64 {
+        u64::from(self.draw(ACCOUNTS))
+    }
+
+    /// A key at which only this caller puts rows, and no account.
+    fn own_key(&self) -> u64 {
+        u64::from(ACCOUNTS).wrapping_add(u64::from(self.number))
+    }
+
+    fn draw_transfer(&mut self, amount: u64) -> DrawnCall {
+        DrawnCall {
+            procedure: TRANSFER_NUMBER,
+            words: [self.draw_account(), self.draw_account(), amount],
+            count: 3,
+        }
+    }
+
+    /// A search over some accounts, whose result stands at a key of its own.
+    fn draw_search(&mut self, procedure: u16) -> DrawnCall {
+        let lo = self.draw_account();
+        DrawnCall {
+            procedure,
+            words: [lo, lo.wrapping_add(4), self.own_key()],
+            count: 3,
+        }
+    }
+
+    /// Of sixteen calls ten are transfers, two count, two search, one cancels and one only reads.
+    fn draw_call(&mut self) -> DrawnCall {
+        match self.draw(16) {
+            0 | 1 => self.draw_search(COUNT_NUMBER),
+            2 | 3 => self.draw_search(NEXT_NUMBER),
+            4 => self.draw_transfer(FORTUNE),
+            5 => DrawnCall {
+                procedure: ONE_NUMBER,
+                words: [0; 3],
+                count: 0,
+            },
+            _ => {
+                let amount = u64::from(self.draw(9)).wrapping_add(1);
+                self.draw_transfer(amount)
+            }
+        }
+    }
+
+    /// The request of the next call: of eight one has a new one, and one that of the call before.
+    fn draw_request(&mut self) -> Option<RequestId> {
+        match self.draw(8) {
+            0 => self.requests = self.requests.saturating_add(1),
+            1 if self.requests > 0 => {}
+            _ => return None,
+        }
+        Some(RequestId {
+            session: self.number,
+            sequence: self.requests,
+        })
+    }
+
+    /// Makes a call at a replica.
+    fn call<J: LogSetting + Ledgers + Send + Sync + 'static, R: Wait>(
+        &mut self,
+        rt: &R,
+        session: &mut Session<'_, J, OpenGate>,
+        replica: u32,
+    ) -> Answer {
+        let drawn = self.draw_call();
+        let mut args = [0u8; 24];
+        for (place, word) in args.chunks_exact_mut(8).zip(&drawn.words) {
+            place.copy_from_slice(&word.to_le_bytes());
+        }
+        let args = args.get(..drawn.count.wrapping_mul(8)).unwrap_or(&[]);
+        match self.draw_request() {
+            Some(request) => {
+                session
+                    .call_numbered(rt, replica, drawn.procedure, args, request)
+                    .0
+            }
+            None => session.call(rt, replica, drawn.procedure, args).0,
+        }
+    }
+}
+
+/// Counts an answer.
+fn count(counts: &mut Counts, answer: Answer) {
+    let count = match answer {
+        Answer::Committed { .. } => &mut counts.committed,
+        Answer::Read { .. } => &mut counts.read,
+        Answer::Cancelled { .. } => &mut counts.cancelled,
+        Answer::Conflict { .. } => &mut counts.conflict,
+        Answer::Stale => &mut counts.stale,
+        Answer::Repeated { .. } => &mut counts.repeated,
+        _ => &mut counts.other,
+    };
+    *count = count.wrapping_add(1);
+}
+
+/// The counts of both.
+pub(crate) fn sum(one: Counts, other: Counts) -> Counts {
+    one.checked_add(other).unwrap_or(Counts::new())
+}
+
+/// How many answers there are.
+pub(crate) fn all(counts: &Counts) -> u64 {
+    [
+        counts.committed,
+        counts.read,
+        counts.cancelled,
+        counts.conflict,
+        counts.stale,
+        counts.repeated,
+        counts.other,
+    ]
+    .iter()
+    .fold(0u64, |sum, count| sum.wrapping_add(*count))
+}
+
+/// Gives each account its money, at replica 1.
+pub(crate) fn open_accounts<J: LogSetting + Ledgers + Send + Sync + 'static, R: Wait>(
+    rt: &R,
+    desk: &Desk<J, OpenGate>,
+) -> Counts {
+    let mut counts = Counts::new();
+    let mut session = Session::new(desk);
+    for account in 0..ACCOUNTS {
+        let mut args = [0u8; 16];
+        let (key, row) = args.split_at_mut(8);
+        key.copy_from_slice(&u64::from(account).to_le_bytes());
+        row.copy_from_slice(&MONEY.to_le_bytes());
+        count(&mut counts, session.call(rt, 1, PUT_NUMBER, &args).0);
+    }
+    counts
+}
+
+/// Makes so many calls by as many callers as there are executing threads, each at one replica and by a session of its own. What
+/// they were answered; the error is want of memory.
+pub(crate) fn call_all<J: LogSetting + Ledgers + Send + Sync + 'static, R: Threads + Wait + Sync>(
+    rt: &R,
+    alloc: Global,
+    desk: &Desk<J, OpenGate>,
+    replicas: u32,
+    callers: u32,
+    calls: u32,
+    seed: u64,
+) -> Result<Counts, AllocError> {
+    let asked = thread::map_indices(
+        rt,
+        alloc,
+        callers as usize,
+        &|place: usize| {
+            let number = place as u32;
+            let mut caller = Caller {
+                number: number.wrapping_add(1),
+                requests: 0,
+                generator: Pcg32::new(seed, u64::from(number)),
+            };
+            let replica = number.checked_rem(replicas).unwrap_or(0).wrapping_add(1);
+            let mut session = Session::new(desk);
+            let mut counts = Counts::new();
+            for call in 0..calls {
+                if call.checked_rem(callers) == Some(number) {
+                    count(&mut counts, caller.call(rt, &mut session, replica));
+                }
+            }
+            counts
+        },
+    )?;
+    Ok(
+        asked
+            .iter()
+            .fold(Counts::new(), |all, counts| sum(all, *counts)),
+    )
+}

@@ -1,0 +1,139 @@
+//! What the node has come to, beside the plain replay of its log.
+
+ghost use Rattle.std.specs.Prelude.{◌<◌, ◌^◌, length};
+
+use crate::procedures::ACCOUNTS;
+use dsm_replayer::{
+    CompletedReplay, PlainCall, PlainItem, PlainItemKind, PlainSetting, Row, replay_log,
+};
+use locked_replica::LockedReplica;
+use log_entry::Entry;
+use node::Finish;
+use node_calls::OpenGate;
+use ordered_entries::LogSetting;
+use schema::Look;
+use std::alloc::Global;
+use std::sync::Wait;
+use tallies::Ledgers;
+use txn_view::Store;
+
+/// All keys of table 1.
+const EVERYWHERE: Look = Look {
+    table: 1,
+    lo: 0,
+    hi: u64::MAX,
+};
+
+/// The calls of the log. None where memory is wanting, or an entry is no call.
+fn items_of<J: LogSetting + Ledgers>(
+    alloc: Global,
+    finish: &Finish<J, OpenGate>,
+) -> Option<Vec<PlainItem>> {
+    let mut items = Vec::new(alloc);
+    let mut seen = finish.log().seen();
+    while let Some(entry) = finish.log().get(&mut seen) {
+        let Entry::Call(call) = entry else {
+            return None;
+        };
+        let args = Vec::from_slice(alloc, call.args.as_slice()).ok()?;
+        let plain = PlainCall::new(call.call, call.procedure, args, call.snapshot, call.request);
+        let item = PlainItem {
+            kind: PlainItemKind::Call(plain),
+        };
+        items.push(item).ok()?;
+    }
+    Some(items)
+}
+
+/// The log, which has at most 1,048,576 entries.
+fn short(log: &[PlainItem]) -> &[PlainItem]
+    ensures { length result.now < 2 ^ 32 }
+{
+    match u32::try_from(log.len()) {
+        Ok(_) => log,
+        Err(_) => &[],
+    }
+}
+
+/// Whether a store has exactly these rows.
+fn has_rows<S: Store>(store: &S, rows: &[Row]) -> bool {
+    if store.count(EVERYWHERE) != Ok(rows.len() as u64) {
+        return false;
+    }
+    rows.iter().all(|row| store.get(row.table(), row.key()) == Ok(Some(row.bytes())))
+}
+
+/// Whether a replica's position is the log's end, and its verdicts and rows those of the replay.
+fn follows<J: LogSetting>(replica: &LockedReplica<J>, replay: &CompletedReplay) -> bool {
+    let end = replay.reports().len();
+    if replica.stopped() || replica.position() as usize != end {
+        return false;
+    }
+    let mut position = 0u32;
+    for report in replay.reports() {
+        position = position.wrapping_add(1);
+        if position == 0 || position > replica.position() {
+            return false;
+        }
+        if replica.verdict_at(position) != report.verdict() {
+            return false;
+        }
+    }
+    let seen = replica.seen();
+    match replay.rows(end) {
+        Some(rows) => has_rows(&replica.at(&seen), rows),
+        None => false,
+    }
+}
+
+/// What is in a row of 8 bytes.
+fn number_in(row: &Row) -> u64 {
+    match row.bytes().try_into() {
+        Ok(bytes) => u64::from_le_bytes(bytes),
+        Err(_) => 0,
+    }
+}
+
+/// What all accounts have together, at the end of the replay.
+fn money_in(replay: &CompletedReplay) -> u64 {
+    let Some(rows) = replay.rows(replay.reports().len()) else {
+        return 0;
+    };
+    rows.iter()
+        .filter(|row| row.key() < u64::from(ACCOUNTS))
+        .fold(0u64, |sum, row| sum.wrapping_add(number_in(row)))
+}
+
+/// What the comparison says.
+#[derive(Clone, Copy, Debug, PartialEq, Eq, Drop)]
+pub(crate) struct Comparison {
+    /// How many entries the log has.
+    pub(crate) entries: usize,
+    /// Whether each replica has delivered all of them, with the verdicts and the rows of the plain replay.
+    pub(crate) same: bool,
+    /// What all accounts have together.
+    pub(crate) money: u64,
+}
+
+/// Compares each of so many replicas with the plain replay of the log. None where memory is wanting.
+pub(crate) fn compare<J: LogSetting + Ledgers, R: Wait>(
+    rt: &R,
+    alloc: Global,
+    finish: &Finish<J, OpenGate>,
+    setting: &PlainSetting,
+    replicas: u32,
+) -> Option<Comparison> {
+    let items = items_of(alloc, finish)?;
+    let replay = replay_log(alloc, setting, short(&items)).ok()?;
+    let mut same = replay.reports().len() == items.len();
+    for place in 0..replicas {
+        let replica = finish.replica(place.wrapping_add(1))?;
+        let locked = replica.read(rt);
+        same = same && follows(&locked, &replay);
+    }
+    Some(Comparison {
+        entries: items.len(),
+        same,
+        money: money_in(&replay),
+    })
+}

@@ -1,0 +1,4 @@
+pub mod Added
+pub mod Kinds
+pub mod Replicas
+pub mod Replies
