@@ -107,8 +107,6 @@ fn money_in(replay: &CompletedReplay) -> u64 {
 /// What the comparison says.
 #[derive(Clone, Copy, Debug, PartialEq, Eq, Drop)]
 pub(crate) struct Comparison {
-    /// How many entries the log has.
-    pub(crate) entries: usize,
     /// Whether each replica has delivered all of them, with the verdicts and the rows of the plain replay.
     pub(crate) same: bool,
     /// What all accounts have together.
@@ -132,7 +130,6 @@ pub(crate) fn compare<J: LogSetting + Ledgers, R: Wait>(
         same = same && follows(&locked, &replay);
     }
     Some(Comparison {
-        entries: items.len(),
         same,
         money: money_in(&replay),
     })

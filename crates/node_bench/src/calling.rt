@@ -1,7 +1,8 @@
 //! What callers call, drawn from a seed, and how they count what they are answered.
 
 use crate::procedures::{
-    ACCOUNTS, COUNT_NUMBER, MONEY, NEXT_NUMBER, ONE_NUMBER, PUT_NUMBER, TRANSFER_NUMBER,
+    ACCOUNTS, ADD_NUMBER, BALANCE_NUMBER, COUNT_NUMBER, MONEY, NEXT_NUMBER, ONE_NUMBER, PUT_NUMBER,
+    TRANSFER_NUMBER,
 };
 use log_model::RequestId;
 use node::Desk;
@@ -16,8 +17,47 @@ use std::thread;
 use std::thread::Threads;
 use tallies::{Counts, Ledgers};
 
+/// How many keys there are where calls are measured.
+const KEYS: u32 = 10_000;
+
+/// What is called.
+#[derive(Clone, Copy, Debug, PartialEq, Eq)]
+pub(crate) enum Work {
+    /// All kinds of calls between accounts.
+    Soak,
+    /// Additions of 1 to the row at one of the keys.
+    Write,
+    /// Calls that reply the row at one of the keys.
+    Read,
+    /// Nothing.
+    Start,
+}
+
+impl Work {
+    pub(crate) fn from_word(word: &str) -> Option<Work> {
+        match word {
+            "soak" => Some(Work::Soak),
+            "write" => Some(Work::Write),
+            "read" => Some(Work::Read),
+            "start" => Some(Work::Start),
+            _ => None,
+        }
+    }
+}
+
 /// More than any account has.
 const FORTUNE: u64 = 1_000_000;
+
+/// How many calls are made, of whom and where.
+#[derive(Clone, Copy)]
+pub(crate) struct Load {
+    pub(crate) work: Work,
+    pub(crate) replicas: u32,
+    /// Executing threads a replica, and as many callers.
+    pub(crate) executors: u32,
+    pub(crate) calls: u32,
+    pub(crate) seed: u64,
+}
 
 /// Who calls.
 #[derive(Drop)]
@@ -71,7 +111,7 @@ impl Caller {
     }
 
     /// Of sixteen calls ten are transfers, two count, two search, one cancels and one only reads.
-    fn draw_call(&mut self) -> DrawnCall {
+    fn draw_mixed(&mut self) -> DrawnCall {
         match self.draw(16) {
             0 | 1 => self.draw_search(COUNT_NUMBER),
             2 | 3 => self.draw_search(NEXT_NUMBER),
@@ -88,8 +128,24 @@ impl Caller {
         }
     }
 
-    /// The request of the next call: of eight one has a new one, and one that of the call before.
-    fn draw_request(&mut self) -> Option<RequestId> {
+    fn draw_call(&mut self, work: Work) -> DrawnCall {
+        let (procedure, count) = match work {
+            Work::Soak => return self.draw_mixed(),
+            Work::Write => (ADD_NUMBER, 2),
+            Work::Read | Work::Start => (BALANCE_NUMBER, 1),
+        };
+        DrawnCall {
+            procedure,
+            words: [u64::from(self.draw(KEYS)), 1, 0],
+            count,
+        }
+    }
+
+    /// The request of the next call of a soak: of eight one has a new one, and one that of the call before.
+    fn draw_request(&mut self, work: Work) -> Option<RequestId> {
+        if work != Work::Soak {
+            return None;
+        }
         match self.draw(8) {
             0 => self.requests = self.requests.saturating_add(1),
             1 if self.requests > 0 => {}
@@ -107,14 +163,15 @@ impl Caller {
         rt: &R,
         session: &mut Session<'_, J, OpenGate>,
         replica: u32,
+        work: Work,
     ) -> Answer {
-        let drawn = self.draw_call();
+        let drawn = self.draw_call(work);
         let mut args = [0u8; 24];
         for (place, word) in args.chunks_exact_mut(8).zip(&drawn.words) {
             place.copy_from_slice(&word.to_le_bytes());
         }
         let args = args.get(..drawn.count.wrapping_mul(8)).unwrap_or(&[]);
-        match self.draw_request() {
+        match self.draw_request(work) {
             Some(request) => {
                 session
                     .call_numbered(rt, replica, drawn.procedure, args, request)
@@ -182,11 +239,16 @@ pub(crate) fn call_all<J: LogSetting + Ledgers + Send + Sync + 'static, R: Threa
     rt: &R,
     alloc: Global,
     desk: &Desk<J, OpenGate>,
-    replicas: u32,
-    callers: u32,
-    calls: u32,
-    seed: u64,
+    load: Load,
 ) -> Result<Counts, AllocError> {
+    let Load {
+        work,
+        replicas,
+        executors,
+        calls,
+        seed,
+    } = load;
+    let callers = replicas.wrapping_mul(executors);
     let asked = thread::map_indices(
         rt,
         alloc,
@@ -201,9 +263,10 @@ pub(crate) fn call_all<J: LogSetting + Ledgers + Send + Sync + 'static, R: Threa
             let replica = number.checked_rem(replicas).unwrap_or(0).wrapping_add(1);
             let mut session = Session::new(desk);
             let mut counts = Counts::new();
+            let calls = if work == Work::Start { 0 } else { calls };
             for call in 0..calls {
                 if call.checked_rem(callers) == Some(number) {
-                    count(&mut counts, caller.call(rt, &mut session, replica));
+                    count(&mut counts, caller.call(rt, &mut session, replica, work));
                 }
             }
             counts

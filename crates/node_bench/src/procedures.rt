@@ -4,7 +4,7 @@
 use catalogue::Catalogue;
 use dsm_replayer::PlainSetting;
 use sample_entries::catalogue_of;
-use sample_procedures::{COUNT, NEXT, ONE, PUT, TABLES, digit_of, procedure_of};
+use sample_procedures::{ADD, COUNT, NEXT, ONE, PUT, TABLES, digit_of, procedure_of};
 use schema::Schema;
 use std::alloc::Global;
 
@@ -24,6 +24,10 @@ pub(crate) const NEXT_NUMBER: u16 = 4;
 
 pub(crate) const ONE_NUMBER: u16 = 5;
 
+pub(crate) const ADD_NUMBER: u16 = 6;
+
+pub(crate) const BALANCE_NUMBER: u16 = 7;
+
 /// Moves an amount from one account to another: the arguments are both and the amount. It cancels with 1 where the first has less,
 /// and with 2 where both are the same.
 const TRANSFER: &str = "7916000000000000 7917080000000000 7918100000000000 1d76200000000000 \
@@ -37,13 +41,19 @@ const TRANSFER: &str = "7916000000000000 7917080000000000 7918100000000000 1d762
     9500000000000000 b701000001000000 8500000006000000 9500000000000000 \
     b701000002000000 8500000006000000 9500000000000000";
 
+/// Replies what stands at a key.
+const BALANCE: &str = "7912000000000000 b701000001000000 bfa3000000000000 07030000f8ffffff \
+    8500000001000000 79a0f8ff00000000 9500000000000000";
+
 /// Each with its number, its program in hex, and how many words its arguments are.
-static PROCEDURES: [(u16, &str, usize); 5] = [
+static PROCEDURES: [(u16, &str, usize); 7] = [
     (TRANSFER_NUMBER, TRANSFER, 3),
     (PUT_NUMBER, PUT, 2),
     (COUNT_NUMBER, COUNT, 3),
     (NEXT_NUMBER, NEXT, 3),
     (ONE_NUMBER, ONE, 0),
+    (ADD_NUMBER, ADD, 2),
+    (BALANCE_NUMBER, BALANCE, 1),
 ];
 
 /// The node's catalogue. None, here and below, where memory is wanting.

@@ -1,0 +1,192 @@
+//! Many callers at a node of many replicas: transfers between accounts, counts, searches, calls that cancel, that only read and
+//! that are asked for again. What came of them is compared with the plain replay of the log, and it fails where something isn't as
+//! it should be: `node_bench soak REPLICAS EXECUTORS CALLS SEED`. For measurements from outside `write`, `read` and `start` in place
+//! of `soak` only call, and compare nothing: the time is taken by whoever starts it (bench/node does).
+#![tactic(auto)]
+
+ghost use Rattle.std.specs.Prelude.{◌≡◌};
+ghost use Rattle.tallies.specs.Shared.{names_by_place};
+
+mod calling;
+mod comparing;
+mod procedures;
+
+use crate::calling::{Load, Work, all, call_all, open_accounts, sum};
+use crate::comparing::{Comparison, compare};
+use crate::procedures::{ACCOUNTS, MONEY, catalogue, setting};
+use anyhow::Context;
+use catalogue::Catalogue;
+use node::Node;
+use node_calls::OpenGate;
+use order_log::GroupCells;
+use ordered_entries::LogSetting;
+use std::alloc::Global;
+use std::env;
+use std::marker::Brand;
+use std::process::ExitCode;
+use std::sync::Wait;
+use std::thread::Threads;
+use tallies::{Blanks, Counts, Ledgers};
+
+/// What came of a run.
+#[derive(Clone, Copy)]
+struct Outcome {
+    /// What the callers counted.
+    counted: Counts,
+    /// What the node counted.
+    totals: Counts,
+    agreement: bool,
+    /// Of a soak.
+    comparison: Option<Comparison>,
+}
+
+/// Opens a node, has callers call, ends it, and compares.
+fn use_node<
+    J: LogSetting + Ledgers + Send + Sync + 'static,
+    R: Threads + Wait + Copy + Send + Sync + 'static,
+>(
+    rt: &R,
+    alloc: Global,
+    cells: GroupCells,
+    blanks: Blanks,
+    catalogue: Catalogue,
+    window: u32,
+    load: Load,
+) -> Option<Outcome>
+    requires cells { cells ≡ J.groups }
+    requires ledgers { J.names ≡ names_by_place blanks }
+    requires setting { J.setting ≡ record {
+      tables = catalogue.tables;
+      catalogue = catalogue.procedures;
+      window = window;
+    } }
+{
+    let Load {
+        work,
+        replicas,
+        executors,
+        ..
+    } = load;
+    let started = Node::<J, OpenGate>::start(
+        rt, alloc, cells, blanks, replicas, executors, window, catalogue,
+    );
+    let node = started.ok()?;
+    let opened = open_accounts(rt, node.desk());
+    let called = call_all(rt, alloc, node.desk(), load);
+    let finish = node.finish(rt);
+    let comparison = if work == Work::Soak {
+        let setting = setting(alloc, window)?;
+        Some(compare(rt, alloc, &finish, &setting, replicas)?)
+    } else {
+        None
+    };
+    Some(Outcome {
+        counted: sum(opened, called.ok()?),
+        totals: finish.totals,
+        agreement: finish.agreement,
+        comparison,
+    })
+}
+
+/// A run of this size. Few entries are kept where it is a soak, so that some calls are stale.
+fn run<R: Threads + Wait + Copy + Send + Sync + 'static>(
+    rt: &R,
+    alloc: Global,
+    load: Load,
+) -> Option<Outcome> {
+    let catalogue = catalogue(alloc)?;
+    let cells = GroupCells::new(alloc).ok()?;
+    let window = if load.work == Work::Soak { 16 } else { 4_096 };
+    use_node::<Brand, R>(rt, alloc, cells, Blanks::new(), catalogue, window, load)
+}
+
+fn yes(found: bool) -> &'static str {
+    if found { "yes" } else { "no" }
+}
+
+/// Prints how many answers of each kind there were, where faults go: that isn't the same in each run.
+fn print_counts(rt: &HostRuntime, totals: Counts) -> anyhow::Result<()> {
+    eprintln!(rt;
+        "committed {} read {} cancelled {} conflict {} stale {} repeat {} other {}",
+        totals.committed,
+        totals.read,
+        totals.cancelled,
+        totals.conflict,
+        totals.stale,
+        totals.repeated,
+        totals.other
+    )?;
+    Ok(())
+}
+
+/// Prints what came of the plain replay. Whether all is as it should be.
+fn print_comparison(rt: &HostRuntime, comparison: Comparison) -> anyhow::Result<bool> {
+    let same_money = comparison.money == u64::from(ACCOUNTS).wrapping_mul(MONEY);
+    println!(rt;
+        "verdicts and rows as in the plain replay of the log: {}",
+        yes(comparison.same)
+    )?;
+    println!(rt;
+        "in all accounts {}, as before: {}",
+        comparison.money,
+        yes(same_money)
+    )?;
+    Ok(comparison.same && same_money)
+}
+
+/// Prints what came of a run. Whether all is as it should be.
+fn print(rt: &HostRuntime, outcome: &Outcome) -> anyhow::Result<bool> {
+    let same_counts = outcome.counted == outcome.totals;
+    print_counts(rt, outcome.totals)?;
+    println!(rt;
+        "answers {}, as the node's totals: {}",
+        all(&outcome.counted),
+        yes(same_counts)
+    )?;
+    println!(rt; "agreement: {}", yes(outcome.agreement))?;
+    let compared = match outcome.comparison {
+        Some(comparison) => print_comparison(rt, comparison)?,
+        None => true,
+    };
+    Ok(same_counts && outcome.agreement && compared)
+}
+
+/// What the words ask for.
+fn asked(words: &[String]) -> anyhow::Result<Load> {
+    let number = |place: usize| words.get(place).and_then(|word| word.parse::<u32>().ok());
+    let work = words.get(1).and_then(|word| Work::from_word(word));
+    Ok(Load {
+        work: work.context("the first word is soak, write, read or start")?,
+        replicas: number(2).context("the second word is how many replicas there are")?,
+        executors: number(3).context("the third word is how many threads each has")?,
+        calls: number(4).context("the fourth word is how many calls are made")?,
+        seed: u64::from(number(5).context("the fifth word is a seed")?),
+    })
+}
+
+fn load_of(rt: &HostRuntime) -> anyhow::Result<Load> {
+    let words: Vec<String> = env::args(rt)?.collect(rt.alloc())?;
+    asked(&words)
+}
+
+/// Says what failed.
+fn failure(rt: &HostRuntime, error: &anyhow::Error) -> ExitCode {
+    let _ = eprintln!(rt; "node_bench: {error}");
+    ExitCode::FAILURE
+}
+
+fn main(rt: HostRuntime) -> ExitCode {
+    let load = match load_of(&rt) {
+        Ok(load) => load,
+        Err(error) => return failure(&rt, &error),
+    };
+    let Some(outcome) = run(&rt, rt.alloc(), load) else {
+        let _ = eprintln!(rt; "node_bench: memory is wanting, or no node is of this size");
+        return ExitCode::FAILURE;
+    };
+    match print(&rt, &outcome) {
+        Ok(true) => ExitCode::SUCCESS,
+        Ok(false) => ExitCode::FAILURE,
+        Err(error) => failure(&rt, &error),
+    }
+}
