@@ -1,4 +1,5 @@
-//! Tests of replicas on logs that the plain replayer replays too: verdicts, comparisons and rows are the same.
+//! Tests of replicas: on logs that the plain replayer replays too verdicts, comparisons and rows are the same, and what stands where
+//! memory is refused.
 #![tactic(auto)]
 
 #[cfg(test)]

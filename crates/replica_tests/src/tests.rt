@@ -1,4 +1,5 @@
 mod drawn;
+mod growths;
 mod replayed;
 mod steps;
 mod stores;

@@ -2,6 +2,7 @@ use sample_procedures::{ADD, COUNT, DELETE, NEXT, PUT, SKEW};
 
 mod drawn;
 mod events;
+mod growths;
 mod replayed;
 
 /// Replies the row at a key, and writes nothing.

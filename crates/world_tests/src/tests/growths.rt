@@ -1,3 +1,5 @@
+//! Two increments of which the second conflicts, and refused memory.
+
 use dsm_model::Outcome;
 use dsm_world::{Step, World};
 use sample_entries::catalogue_of;

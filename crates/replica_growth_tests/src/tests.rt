@@ -1,4 +1,0 @@
-mod pages;
-mod refused;
-mod refused_growths;
-mod states;
