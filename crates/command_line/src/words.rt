@@ -1,6 +1,6 @@
 //! What the command line asks for.
 
-ghost use Rattle.std.specs.Prelude.{◌≡◌, ◌≤◌, [], codes, Some, IfOk, map};
+ghost use Rattle.std.specs.Prelude.{◌≡◌, ◌≤◌, [], codes, false, Some, IfOk, map};
 ghost use Rattle.std.specs.Option.{unwrap_or};
 ghost use Rattle.clap.specs.Words.{all_of, app_of, found_of, rows_of, rule_of, subcommand_of, subcommand_rows_of};
 ghost use Rattle.engines.specs.Number.{table_word};
@@ -165,21 +165,23 @@ fn explain_plan<'a>(values: &ArgMatches<'a>) -> Result<Plan<'a>, PlanFault<'a>>
 fn matches<'a, S: AsStr>(alloc: Global, words: &'a [S]) -> Result<ArgMatches<'a>, PlanFault<'a>>
     ensures { IfOk result (λ m. subcommand_rows_of m ≡ subcommand_of command_line (map S.text words.entry.now)) }
 {
-    let list = list_command(alloc)?;
-    let check = check_command(alloc)?;
-    let replay = replay_command(alloc)?;
-    let run = run_command(alloc)?;
-    let explain = explain_command(alloc)?;
+    let command = dsmdb_command(alloc)?;
+    Ok(command.try_get_matches_from(words)?)
+}
+
+/// The whole command line. Each command is made where it is added, so that few have to be let go where memory is wanting.
+fn dsmdb_command<'a>(alloc: Global) -> Result<Command<'a>, AllocError>
+    ensures { IfOk result (λ c. app_of c ≡ command_line) }
+{
     let dsmdb = Command::new(alloc, "dsmdb")
         .about("A multi-master row database with verified BPF procedures")
         .version(VERSION)
-        .subcommand_required(true)
-        .subcommand(list)?;
-    let dsmdb = dsmdb.subcommand(check)?;
-    let dsmdb = dsmdb.subcommand(replay)?;
-    let dsmdb = dsmdb.subcommand(run)?;
-    let dsmdb = dsmdb.subcommand(explain)?;
-    Ok(dsmdb.try_get_matches_from(words)?)
+        .subcommand_required(true);
+    let with_list = dsmdb.subcommand(list_command(alloc)?)?;
+    let with_check = with_list.subcommand(check_command(alloc)?)?;
+    let with_replay = with_check.subcommand(replay_command(alloc)?)?;
+    let with_run = with_replay.subcommand(run_command(alloc)?)?;
+    with_run.subcommand(explain_command(alloc)?)
 }
 
 fn list_command<'a>(alloc: Global) -> Result<Command<'a>, AllocError>
@@ -229,7 +231,8 @@ fn explain_command<'a>(alloc: Global) -> Result<Command<'a>, AllocError>
 }
 
 fn number<'a>(alloc: Global) -> Arg<'a>
-    ensures { rule_of result ≡ number_rule }
+    ensures rule { rule_of result ≡ number_rule }
+    ensures local { result.global ≡ false }
 {
     Arg::new(alloc, "NUMBER")
         .help("The letter and number of a refusal, as V5")
@@ -238,7 +241,8 @@ fn number<'a>(alloc: Global) -> Arg<'a>
 }
 
 fn script<'a>(alloc: Global) -> Arg<'a>
-    ensures { rule_of result ≡ script_rule }
+    ensures rule { rule_of result ≡ script_rule }
+    ensures local { result.global ≡ false }
 {
     Arg::new(alloc, "SCRIPT")
         .help("A file with the lines of a script")
@@ -247,7 +251,8 @@ fn script<'a>(alloc: Global) -> Arg<'a>
 }
 
 fn executors_arg<'a>(alloc: Global) -> Arg<'a>
-    ensures { rule_of result ≡ executors_rule }
+    ensures rule { rule_of result ≡ executors_rule }
+    ensures local { result.global ≡ false }
 {
     Arg::new(alloc, "executors")
         .long("executors")
@@ -258,7 +263,8 @@ fn executors_arg<'a>(alloc: Global) -> Arg<'a>
 }
 
 fn log_arg<'a>(alloc: Global) -> Arg<'a>
-    ensures { rule_of result ≡ log_rule }
+    ensures rule { rule_of result ≡ log_rule }
+    ensures local { result.global ≡ false }
 {
     Arg::new(alloc, "log")
         .long("log")
@@ -269,7 +275,8 @@ fn log_arg<'a>(alloc: Global) -> Arg<'a>
 }
 
 fn file<'a>(alloc: Global) -> Arg<'a>
-    ensures { rule_of result ≡ file_rule }
+    ensures rule { rule_of result ≡ file_rule }
+    ensures local { result.global ≡ false }
 {
     Arg::new(alloc, "FILE")
         .help("A file with the program's bytes")
@@ -278,7 +285,8 @@ fn file<'a>(alloc: Global) -> Arg<'a>
 }
 
 fn args<'a>(alloc: Global) -> Arg<'a>
-    ensures { rule_of result ≡ args_rule }
+    ensures rule { rule_of result ≡ args_rule }
+    ensures local { result.global ≡ false }
 {
     Arg::new(alloc, "ARGS")
         .help("How many bytes the arguments have, 0 to 256")
@@ -287,7 +295,8 @@ fn args<'a>(alloc: Global) -> Arg<'a>
 }
 
 fn tables_arg<'a>(alloc: Global) -> Arg<'a>
-    ensures { rule_of result ≡ table_rule }
+    ensures rule { rule_of result ≡ table_rule }
+    ensures local { result.global ≡ false }
 {
     Arg::new(alloc, "T:W")
         .help("A table, 1 to 64, and how many bytes its rows have, 1 to 128")

@@ -1,9 +1,8 @@
 //! What callers share of a node.
 
-ghost use Rattle.std.specs.Prelude.{◌≡◌, Some, None, IfSome, IsNone};
+ghost use Rattle.std.specs.Prelude.{◌≡◌, ◌≤◌, Some, None, IfSome};
 ghost use Rattle.node_calls.specs.Answer.{IsAnswer};
 ghost use Rattle.node.specs.Requests.{IsHeard};
-ghost use Rattle.served_replicas.specs.Replicas.{IsNoReplica};
 
 use crossbeam_channel::{Sender, bounded};
 use log_model::{RequestId, Verdict};
@@ -150,7 +149,7 @@ impl<J: LogSetting + Ledgers + Send + Sync + 'static, G: Gate + Drop + Send + Sy
 
     /// The verdict on the entry at a position, where there is such a replica and it has come there.
     pub fn verdict<R: Wait>(&self, rt: &R, replica: u32, position: u32) -> Option<Verdict>
-        ensures { IsNoReplica self.now.replicas replica → IsNone result }
+        ensures { IfSome result (λ _. (1 ≤ replica) × (replica ≤ self.now.replicas) × (1 ≤ position)) }
     {
         let locked = self.shared.locked(replica)?.read(rt);
         if position == 0 || position > locked.position() {

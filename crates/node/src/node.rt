@@ -1,6 +1,6 @@
 //! A node: replicas of one log, their threads, and what callers share.
 
-ghost use Rattle.std.specs.Prelude.{◌≡◌, ◌≤◌, ◌+◌, ◌↔◌, true, IfOk, IfErr, OnOk, IsNone, Err, length, vec_len, vec_capacity};
+ghost use Rattle.std.specs.Prelude.{◌≡◌, ◌≤◌, ◌+◌, true, IfOk, IfErr, IfSome, IfNone, OnOk, Err, length, vec_len, vec_capacity};
 ghost use Rattle.std.specs.Arc.{arc_value};
 ghost use Rattle.tallies.specs.Shared.{names_by_place};
 ghost use Rattle.served_replicas.specs.Added.{IsAddedAnswer};
@@ -180,7 +180,8 @@ impl<J: LogSetting + Ledgers + Send + Sync + 'static, G: Gate + Drop + Send + Sy
 
     /// Makes the replica of a number anew from the log. The position that it has then.
     pub fn rebuild<R: Wait>(&self, rt: &R, replica: u32) -> Result<u32, RebuildFault>
-        ensures { result ≡ Err NoReplica ↔ IsNoReplica self.now.replicas replica }
+        ensures none { result ≡ Err NoReplica → IsNoReplica self.now.replicas replica }
+        ensures some { IfOk result (λ _. (1 ≤ replica) × (replica ≤ self.now.replicas)) }
     {
         self.desk.shared.rebuild(rt, replica)
     }
@@ -275,7 +276,8 @@ where
 
     /// The replica of a number, from 1 on, behind its lock.
     pub fn replica(&self, number: u32) -> Option<&RwLock<LockedReplica<J>>>
-        ensures { IsNone result ↔ IsNoReplica (vec_len self.now.replicas) number }
+        ensures some { IfSome result (λ _. (1 ≤ number) × (number ≤ vec_len self.now.replicas)) }
+        ensures none { IfNone result (IsNoReplica (vec_len self.now.replicas) number) }
     {
         self.shared.locked(number)
     }

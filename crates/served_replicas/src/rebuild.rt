@@ -1,6 +1,6 @@
 //! A replica is made anew.
 
-ghost use Rattle.std.specs.Prelude.{◌≡◌, ◌↔◌, Err, IfSome, length};
+ghost use Rattle.std.specs.Prelude.{◌≡◌, ◌≤◌, Err, IfOk, IfSome, length};
 ghost use Rattle.served_replicas.specs.Replicas.{IsNoReplica};
 ghost use Rattle.served_replicas.specs.declared.rebuild.RebuildFault.TheVariants.{NoReplica};
 
@@ -63,7 +63,8 @@ impl<J: LogSetting + Ledgers, A: Allocator + Copy, P: Allocator + Copy, G: Gate>
     /// Makes the replica of a number anew from the log, which then delivers again where it had stopped. Calls go on at the old
     /// one until the new one is in its place, which has come no less far. The position that it has then.
     pub fn rebuild<R: Wait>(&self, rt: &R, replica: u32) -> Result<u32, RebuildFault>
-        ensures { result ≡ Err NoReplica ↔ IsNoReplica self.now.replicas replica }
+        ensures none { result ≡ Err NoReplica → IsNoReplica self.now.replicas replica }
+        ensures some { IfOk result (λ _. (1 ≤ replica) × (replica ≤ self.now.replicas)) }
     {
         let Some(served) = self.replica(replica) else {
             return Err(RebuildFault::NoReplica);

@@ -1,6 +1,6 @@
 //! What the threads of a node share.
 
-ghost use Rattle.std.specs.Prelude.{◌≡◌, ◌+◌, ◌↔◌, IsNone, IfOk, OnOk};
+ghost use Rattle.std.specs.Prelude.{◌≡◌, ◌+◌, ◌≤◌, length, IfSome, IfNone, IfOk, OnOk};
 ghost use Rattle.served_replicas.specs.Replicas.{IsNoReplica};
 
 use crate::node_catalogue::NodeCatalogue;
@@ -165,19 +165,21 @@ impl<J: LogSetting + Ledgers, A: Allocator + Copy, P: Allocator + Copy, G: Gate>
 
     /// The replica of a number, from 1 on, behind its lock.
     pub fn locked(&self, number: u32) -> Option<&RwLock<LockedReplica<J, A, P>>>
-        ensures { IsNone result ↔ IsNoReplica self.now.replicas number }
+        ensures some { IfSome result (λ _. (1 ≤ number) × (number ≤ self.now.replicas)) }
+        ensures none { IfNone result (IsNoReplica self.now.replicas number) }
     {
-        let place = (number as usize).checked_sub(1)?;
-        let served = self.replicas.get(place)?;
-        Some(&served.replica)
+        match self.replica(number) {
+            Some(served) => Some(&served.replica),
+            None => None,
+        }
     }
 
     /// The replica of a number, from 1 on.
     pub(crate) fn replica(&self, number: u32) -> Option<&ServedReplica<J, A, P>>
-        ensures { IsNone result ↔ IsNoReplica self.now.replicas number }
+        ensures some { IfSome result (λ _. (1 ≤ number) × (number ≤ self.now.replicas)) }
+        ensures none { IfNone result (IsNoReplica self.now.replicas number) }
     {
-        let place = (number as usize).checked_sub(1)?;
-        match self.replicas.get(place) {
+        match numbered(&self.replicas, number) {
             Some(served) => Some(served),
             None => None,
         }
@@ -211,4 +213,15 @@ impl<J: LogSetting + Ledgers, A: Allocator + Copy, P: Allocator + Copy, G: Gate>
         self.stopping.store(true, SeqCst);
         self.bells.ring();
     }
+}
+
+/// The item of a number, from 1 on.
+fn numbered<T>(items: &[T], number: u32) -> Option<&T>
+    ensures some { IfSome result (λ _. (1 ≤ number) × (number ≤ length items.now)) }
+    ensures none { IfNone result (IsNoReplica (length items.now) number) }
+{
+    if number == 0 {
+        return None;
+    }
+    items.get(number as usize - 1)
 }

@@ -1,11 +1,10 @@
-use Rattle.std.proofs.Common.{◌≡◌, ◌∙◌, ap, ap₂, codes, false}
-use Rattle.clap.specs.Words.{Rule, app_of, new_app, with_rule}
+use Rattle.std.proofs.Common.{◌≡◌, ◌∙◌, ap, ap₂, codes}
+use Rattle.clap.specs.Words.{app_of, new_app, with_rule}
 use Rattle.clap.specs.Simple.{app_of_fields}
-use Rattle.command_line.proofs.LocalLemmas.{arg_is_local, ok_gives}
+use Rattle.command_line.proofs.LocalLemmas.{ok_gives}
 use Rattle.command_line.proofs.words.list_command.Goals as goal
 
 pub returns : goal.returns
 returns c =
     let about_is : app_of c.about.result ≡ new_app (codes "list") = ap app_of_fields c.about.ensures ∙ c.new.ensures.app in
-    let local : c.file.result.global ≡ false = arg_is_local c.file.result (ap (λ (r : Rule). r.is_simple) c.file.ensures) in
-    ok_gives c.arg.result _ _ c.arg.ensures (λ command adds. adds.shape local ∙ ap₂ with_rule about_is c.file.ensures)
+    ok_gives c.arg.result _ _ c.arg.ensures (λ command adds. adds.shape c.file.ensures.local ∙ ap₂ with_rule about_is c.file.ensures.rule)
