@@ -1,5 +1,5 @@
 -- What a node may be made of.
-use Rattle.std.specs.Prelude.{◌≡◌, ◌≤◌, ◌⊎◌, ℕ, ¬, ⊥}
+use Rattle.std.specs.Prelude.{◌≡◌, ◌≤◌, ◌⊎◌, ℕ}
 use Rattle.node.specs.declared.size.Size.{Size as NodeSize}
 use Rattle.node.specs.declared.size.StartFault.{StartFault}
 use Rattle.node.specs.declared.size.StartFault.TheVariants.{Replicas, Executors, Window, OutOfMemory, NoThread, Limit}
@@ -15,10 +15,10 @@ pub record IsSize (s : NodeSize) : Type 0 where
 
 -- the first thing that is wrong with a size, in the order in which they are tested
 abbrev pub IsSizeFault : NodeSize → StartFault → Type 0
-IsSizeFault s Replicas = ¬ IsWithin 8 s.replicas
-IsSizeFault s Executors = IsWithin 8 s.replicas × ¬ IsWithin 16 s.executors
-IsSizeFault s Window = IsWithin 8 s.replicas × IsWithin 16 s.executors × ¬ IsWithin 4096 s.window
-IsSizeFault s Limit = IsWithin 8 s.replicas × IsWithin 16 s.executors × IsWithin 4096 s.window × ¬ IsWithin 1048576 s.limit
+IsSizeFault s Replicas = IsWithin 8 s.replicas → ⊥
+IsSizeFault s Executors = IsWithin 8 s.replicas × (IsWithin 16 s.executors → ⊥)
+IsSizeFault s Window = IsWithin 8 s.replicas × IsWithin 16 s.executors × (IsWithin 4096 s.window → ⊥)
+IsSizeFault s Limit = IsWithin 8 s.replicas × IsWithin 16 s.executors × IsWithin 4096 s.window × (IsWithin 1048576 s.limit → ⊥)
 IsSizeFault s OutOfMemory = ⊥
 IsSizeFault s NoThread = ⊥
 

@@ -35,7 +35,7 @@ impl<J: LogSetting + Ledgers, G: Gate> Model for Desk<J, G>
 where
     OrderedEntries<J>: Fact,
 {
-    ghost use Rattle.std.specs.Prelude.{vec_len};
+    ghost use Rattle.std.specs.Prelude.{◌≡◌, vec_len};
     ghost use Rattle.std.specs.Arc.{arc_value};
     ghost use Rattle.node.specs.Nodes.{NodeState};
 

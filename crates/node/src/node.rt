@@ -67,7 +67,7 @@ impl<J: LogSetting + Ledgers, G: Gate> Model for Node<J, G>
 where
     OrderedEntries<J>: Fact,
 {
-    ghost use Rattle.std.specs.Prelude.{vec_len, vec_capacity, ◌≤◌};
+    ghost use Rattle.std.specs.Prelude.{◌≡◌, ◌≤◌, ◌+◌, vec_len, vec_capacity};
     ghost use Rattle.node.specs.Nodes.{NodeState};
 
     ghost Value = { NodeState };
@@ -265,10 +265,7 @@ impl<J: LogSetting + Ledgers + Send + Sync + 'static> Node<J, OpenGate> {
     }
 }
 
-impl<J: LogSetting + Ledgers, G: Gate> Finish<J, G>
-where
-    OrderedEntries<J>: Fact,
-{
+impl<J: LogSetting + Ledgers, G: Gate> Finish<J, G> {
     /// The log, whose entries whoever has seen them can read.
     pub fn log(&self) -> &OrderLog<J, OrderedEntries<J>> {
         self.shared.log()

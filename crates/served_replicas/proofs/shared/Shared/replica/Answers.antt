@@ -1,4 +1,4 @@
-use Rattle.std.proofs.Common.{◌≡◌, ◌∙◌, ap, subst}
+use Rattle.std.proofs.Common.{◌∙◌, ap, subst}
 use Rattle.served_replicas.specs.Replicas.{IsNoReplica, SharedState}
 use Rattle.served_replicas.proofs.shared.Shared.replica.Goals as goal
 
