@@ -1,5 +1,7 @@
 //! Calling threads: each replica's calls are taken in the order of the script.
 
+ghost use Rattle.std.specs.Prelude.{◌≡◌, IfOk, vec_len};
+
 use crate::told::told;
 use catalogue::Catalogue;
 use dsm_model::StepRefusal;
@@ -45,7 +47,9 @@ impl Asking {
         catalogue: &Catalogue,
         replicas: u32,
         script: Vec<ScriptCall<Bytes<Global>>>,
-    ) -> Result<Asking, AllocError> {
+    ) -> Result<Asking, AllocError>
+        ensures { IfOk result (λ asking. vec_len asking.calls ≡ vec_len script) }
+    {
         let mut calls = Vec::with_capacity(alloc, script.len())?;
         let mut answers = Vec::with_capacity(alloc, script.len())?;
         for call in script {
@@ -139,18 +143,33 @@ impl Asking {
         }
     }
 
-    /// What each call was answered, in the order of the script. None is missing when all were made.
-    pub(crate) fn answers<R: Wait>(&self, rt: &R, index: usize) -> Option<CallAnswer> {
+    /// What each call was answered, in the order of the script. One that no thread has made is made here.
+    pub(crate) fn answers<J: LogSetting + Ledgers + Send + Sync + 'static, R: Wait>(
+        &self,
+        rt: &R,
+        alloc: Global,
+        desk: &Desk<J, OpenGate>,
+    ) -> Result<Vec<CallAnswer>, AllocError>
+        ensures { IfOk result (λ answers. vec_len answers ≡ vec_len self.now.calls) }
+    {
+        let mut answers = Vec::with_capacity(alloc, self.calls.len())?;
+        for index in 0..self.calls.len() {
+            let answer = match self.found(rt, index) {
+                Some(answer) => answer,
+                None => answer_to(rt, desk, &self.calls[index]),
+            };
+            answers.push(answer)?;
+        }
+        Ok(answers)
+    }
+
+    /// What a call was answered, where it was made.
+    fn found<R: Wait>(&self, rt: &R, index: usize) -> Option<CallAnswer> {
         let answers = self.answers.lock(rt);
         match answers.get(index) {
             Some(answer) => *answer,
             None => None,
         }
-    }
-
-    /// How many calls there are.
-    pub(crate) fn len(&self) -> usize {
-        self.calls.len()
     }
 
     /// How many weren't made at a replica since no procedure has the name.

@@ -4,6 +4,6 @@
 pub use run::run_over;
 
 mod asking;
-mod printing;
 mod run;
+mod text;
 mod told;

@@ -1,32 +1,47 @@
 //! A script is run on a node.
 
-ghost use Rattle.std.specs.Prelude.{◌≡◌};
+ghost use Rattle.std.specs.Prelude.{◌≡◌, ◌⊎◌, ◌<◌, ◌^◌, IfOk, IfSome, true, length, vec_len};
+ghost use Rattle.byte_output.specs.Writes.{AppendsBeginning, WritesText};
+ghost use Rattle.engines.specs.declared.status.TheConstants.{FAILED};
 ghost use Rattle.tallies.specs.Shared.{names_by_place};
+ghost use Rattle.script_calls.specs.Reading.{said_by};
+ghost use Rattle.script_run.specs.Printed.{IsReportOf, PrintsReport, PrintsRun, RunReport, SaysFault, report_of, run_text};
 
 use crate::asking::Asking;
-use crate::printing::{print_answers, print_end};
-use byte_output::paged::PagedOutput;
+use crate::text::{ReplicaEnd, text_of};
+use byte_output::put;
 use catalogue::Catalogue;
 use engines::FAILED;
-use node::{Node, Size, StartFault};
+use node::{EndedReplica, Node, Size, StartFault};
 use node_calls::OpenGate;
 use order_log::{Fact, GroupCells};
 use ordered_entries::{LogSetting, OrderedEntries};
+use report::CallAnswer;
 use row_values::Bytes;
 use script_calls::{CallScript, ScriptCall, read_script};
 use script_stops::{Stop, out_of_memory, tell};
-use std::alloc::Global;
+use std::alloc::{AllocError, Global};
+use std::io;
 use std::io::{BufRead, Write};
 use std::marker::Brand;
 use std::sync::Wait;
 use std::thread::Threads;
-use tallies::{Blanks, Ledgers};
+use tallies::{Blanks, Counts, Ledgers};
 
-/// Why a run ends before its end.
-#[derive(Drop)]
+/// Why a run ends before it has printed anything.
+#[derive(Clone, Copy, Drop)]
 enum Failure {
-    Script(Stop),
+    OutOfMemory,
     Start(StartFault),
+}
+
+/// What a run comes to.
+#[derive(Drop)]
+struct Report {
+    answers: Vec<CallAnswer>,
+    totals: Counts,
+    replicas: Vec<ReplicaEnd>,
+    agrees: bool,
 }
 
 /// Runs the script in the input on a node with so many executing threads a replica and a log of at most so many entries: reads
@@ -40,30 +55,74 @@ pub fn run_over<R: Threads + Wait + Copy + Send + Sync + 'static, I: BufRead, W:
     faults: &mut E,
     executors: u32,
     limit: u32,
-) -> u8 {
+) -> u8
+    ensures range { ((result ≡ 0) ⊎ (result ≡ 1)) ⊎ (result ≡ FAILED) }
+    // An answer to each call of the script, and how the node has ended.
+    ensures done { result ≡ 0 → IfSome (I.remaining input.old) (λ bytes. PrintsRun bytes (W.contents output.old) (W.contents output.new)) }
+    // The script's first fault, or as much of its line as the writer takes. Nothing was run.
+    ensures fault { result ≡ 1 → IfSome (I.remaining input.old) (λ bytes. SaysFault bytes (E.contents faults.old) (E.contents faults.new)) }
+    ensures untouched { result ≡ 1 → output.new ≡ output.old }
+    // Something failed: what was written is a beginning of what a run prints.
+    ensures failed { result ≡ FAILED → (report : RunReport) × AppendsBeginning (W.contents output.old) (W.contents output.new) (run_text report) }
+{
     let script = match read_script(alloc, input) {
         Ok(script) => script,
         Err(stop) => return tell(faults, stop),
     };
-    match run_script(rt, alloc, script, output, executors, limit) {
-        Ok(()) => 0,
-        Err(Failure::Script(stop)) => tell(faults, stop),
+    let report = match run_script(rt, alloc, script, executors, limit) {
+        Ok(report) => report,
+        Err(Failure::OutOfMemory) => return tell(faults, out_of_memory(0)),
         Err(Failure::Start(fault)) => {
             let _ = writeln!(faults, "dsmdb: {}", start_fault_text(fault));
-            FAILED
+            return FAILED;
         }
+    };
+    match print(alloc, output, &report) {
+        Ok(()) => 0,
+        Err(stop) => tell(faults, stop),
     }
 }
 
+/// Prints what a run comes to.
+fn print<W: Write>(alloc: Global, output: &mut W, report: &Report) -> Result<(), Stop>
+    requires { vec_len report.now.replicas < 2 ^ 32 }
+    ensures { PrintsReport (W.contents output.old) (W.contents output.new) (run_text (report_of report.now)) result }
+{
+    let text = text_of(
+        alloc,
+        &report.answers,
+        report.totals,
+        &report.replicas,
+        report.agrees,
+    );
+    let Ok(text) = text else {
+        return Err(out_of_memory(0));
+    };
+    match put_out(output, &text) {
+        Ok(()) => Ok(()),
+        Err(error) => Err(Stop::Output(error)),
+    }
+}
+
+/// Writes a text, and flushes the output.
+fn put_out<W: Write>(output: &mut W, text: &[u8]) -> io::Result<()>
+    ensures { WritesText (W.contents output.old) (W.contents output.new) result text.now }
+{
+    put(output, text)?;
+    output.flush()
+}
+
 /// Makes a node for a script, and runs it there.
-fn run_script<R: Threads + Wait + Copy + Send + Sync + 'static, W: Write>(
+fn run_script<R: Threads + Wait + Copy + Send + Sync + 'static>(
     rt: &R,
     alloc: Global,
     script: CallScript,
-    output: &mut W,
     executors: u32,
     limit: u32,
-) -> Result<(), Failure> {
+) -> Result<Report, Failure>
+    ensures report { IfOk result (λ report. IsReportOf (said_by script) (report_of report)) }
+    ensures few { IfOk result (λ report. vec_len report.replicas < 2 ^ 32) }
+{
     let CallScript {
         window,
         replicas,
@@ -80,14 +139,13 @@ fn run_script<R: Threads + Wait + Copy + Send + Sync + 'static, W: Write>(
         limit,
     };
     let blanks = Blanks::new();
-    run_on_node::<Brand, R, W>(rt, alloc, cells, blanks, size, catalogue, calls, output)
+    run_on_node::<Brand, R>(rt, alloc, cells, blanks, size, catalogue, calls)
 }
 
-/// Starts a node, has its calls made, ends it, and prints what came of all.
+/// Starts a node, has its calls made, and ends it.
 fn run_on_node<
     J: LogSetting + Ledgers + Send + Sync + 'static,
     R: Threads + Wait + Copy + Send + Sync + 'static,
-    W: Write,
 >(
     rt: &R,
     alloc: Global,
@@ -96,8 +154,7 @@ fn run_on_node<
     size: Size,
     catalogue: Catalogue,
     calls: Vec<ScriptCall<Bytes<Global>>>,
-    output: &mut W,
-) -> Result<(), Failure>
+) -> Result<Report, Failure>
     requires cells { cells ≡ J.groups }
     requires ledgers { J.names ≡ names_by_place blanks }
     requires setting { J.setting ≡ record {
@@ -105,9 +162,12 @@ fn run_on_node<
       catalogue = catalogue.procedures;
       window = size.window;
     } }
+    ensures answers { IfOk result (λ report. vec_len report.answers ≡ vec_len calls) }
+    ensures replicas { IfOk result (λ report. vec_len report.replicas ≡ size.replicas) }
+    ensures agrees { IfOk result (λ report. report.agrees ≡ true) }
 {
     let Ok(asking) = Asking::new(alloc, &catalogue, size.replicas, calls) else {
-        return Err(Failure::Script(out_of_memory(0)));
+        return Err(Failure::OutOfMemory);
     };
     let started = Node::<J, OpenGate>::start_sized(
         rt, alloc, cells, blanks, size, catalogue, OpenGate,
@@ -117,28 +177,37 @@ fn run_on_node<
         Err(fault) => return Err(Failure::Start(fault)),
     };
     asking.ask_all(rt, alloc, node.desk(), size.executors);
+    let answers = asking.answers(rt, alloc, node.desk());
     let finish = node.finish(rt);
     let mut totals = finish.totals;
     totals.other = totals.other.saturating_add(asking.unnamed());
-    let mut paged = PagedOutput::new(output);
-    let printed = print_answers(rt, alloc, &mut paged, &asking);
-    if let Err(stop) = printed {
-        return Err(Failure::Script(stop));
-    }
-    let ended = print_end(
-        alloc,
-        &mut paged,
+    let (Ok(answers), Ok(replicas)) = (answers, ends_of(alloc, &finish.replicas)) else {
+        return Err(Failure::OutOfMemory);
+    };
+    Ok(Report {
+        answers,
         totals,
-        &finish.replicas,
-        finish.agreement,
-    );
-    if let Err(stop) = ended {
-        return Err(Failure::Script(stop));
+        replicas,
+        agrees: finish.agreement,
+    })
+}
+
+/// How the replicas have ended.
+fn ends_of<J: LogSetting>(
+    alloc: Global,
+    replicas: &[EndedReplica<J>],
+) -> Result<Vec<ReplicaEnd>, AllocError>
+    ensures { IfOk result (λ ends. vec_len ends ≡ length replicas.now) }
+{
+    let mut ends = Vec::with_capacity(alloc, replicas.len())?;
+    for replica in replicas {
+        ends.push(ReplicaEnd {
+            position: replica.position,
+            commits: replica.commits,
+            is_stopped: replica.stopped,
+        })?;
     }
-    match paged.finish() {
-        Ok(()) => Ok(()),
-        Err(error) => Err(Failure::Script(Stop::Output(error))),
-    }
+    Ok(ends)
 }
 
 /// Why a node didn't start, as it is told.

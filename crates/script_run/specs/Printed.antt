@@ -1,0 +1,66 @@
+-- What a run of a script prints.
+use Rattle.std.specs.Prelude.{◌≡◌, ℕ, ◌+◌, Bool, true, List, [], ◌∷◌, ◌++◌, length, Option, Some, Result, Ok, Err}
+use Rattle.std.specs.Io.KnownBytes.{Appends}
+use Rattle.byte_output.specs.Writes.{AppendsBeginning}
+use Rattle.tallies.specs.declared.counts.Counts.{Counts}
+use Rattle.report.specs.Lines.{line_text}
+use Rattle.report.specs.declared.printed.CallAnswer.{CallAnswer}
+use Rattle.report.specs.declared.printed.ReplicaReport.TheVariants as replica
+use Rattle.report.specs.declared.printed.Line.TheVariants.{Answered, Totals, Replica, Agreement}
+use Rattle.script_calls.specs.Calls.{Said, script_says}
+use Rattle.script_settings.specs.declared.cause.FaultCause.TheVariants.{OutOfMemory}
+use Rattle.script_settings.specs.declared.cause.ScriptFault.{ScriptFault}
+use Rattle.script_stops.specs.Telling.{fault_line}
+use Rattle.script_stops.specs.declared.stop.Stop.{Stop}
+use Rattle.script_stops.specs.declared.stop.Stop.TheVariants as stop
+use Rattle.script_run.specs.declared.run.Report.{Report}
+use Rattle.script_run.specs.declared.text.ReplicaEnd.{ReplicaEnd}
+
+-- what a run comes to
+pub record RunReport : Type 0 where
+  pub answers : List CallAnswer  -- in the order of the script's calls
+  pub totals : Counts
+  pub replicas : List ReplicaEnd  -- how each has ended
+  pub agrees : Bool
+
+-- a line for each answer; so many calls stand before the first
+unfoldable pub answers_text : ℕ → List CallAnswer → List ℕ
+answers_text before [] = []
+answers_text before (answer ∷ answers) = line_text (Answered (before + 1) answer) ++ answers_text (before + 1) answers
+
+-- a line for each replica; so many stand before the first
+unfoldable pub replicas_text : ℕ → List ReplicaEnd → List ℕ
+replicas_text before [] = []
+replicas_text before (end ∷ ends) =
+    line_text (Replica (before + 1) (replica.Ended end.position end.commits end.is_stopped)) ++ replicas_text (before + 1) ends
+
+-- an answer to each call, the totals, how each replica has ended, and whether they agree
+abbrev pub run_text : RunReport → List ℕ
+run_text r =
+    answers_text 0 r.answers ++ line_text (Totals r.totals) ++ replicas_text 0 r.replicas ++ line_text (Agreement r.agrees)
+
+-- each call is answered, each replica has ended, and they agree
+pub record IsReportOf (said : Said) (r : RunReport) : Type 0 where
+  pub answers : length r.answers ≡ length said.calls
+  pub replicas : said.settings.replicas ≡ Some (length r.replicas)
+  pub agrees : r.agrees ≡ true
+
+-- what the code has of a run
+abbrev pub report_of : Report → RunReport
+report_of r = record { answers = r.answers.items; totals = r.totals; replicas = r.replicas.items; agrees = r.agrees }
+
+-- the script of these bytes says something, and the output grew by what a run of it prints
+abbrev pub PrintsRun : List ℕ → Option (List ℕ) → Option (List ℕ) → Type 0
+PrintsRun bytes old new =
+    (said : Said) × (report : RunReport) × (script_says bytes ≡ Ok said) × IsReportOf said report × Appends old new (run_text report)
+
+-- the script of these bytes is at fault, and that was said, or a beginning of it
+abbrev pub SaysFault : List ℕ → Option (List ℕ) → Option (List ℕ) → Type 0
+SaysFault bytes old new = (fault : ScriptFault) × (script_says bytes ≡ Err fault) × AppendsBeginning old new (fault_line fault)
+
+-- the text was written; or a beginning of it, since the output failed, or nothing, for want of memory
+abbrev pub PrintsReport : Option (List ℕ) → Option (List ℕ) → List ℕ → Result (Unit {0}) Stop → Type 0
+PrintsReport old new text (Ok done) = Appends old new text
+PrintsReport old new text (Err (stop.Output error)) = AppendsBeginning old new text
+PrintsReport old new text (Err (stop.Input error)) = ⊥
+PrintsReport old new text (Err (stop.Fault fault)) = (fault.cause ≡ OutOfMemory) × AppendsBeginning old new text
