@@ -233,44 +233,54 @@ pub(crate) fn open_accounts<J: LogSetting + Ledgers + Send + Sync + 'static, R: 
     counts
 }
 
-/// Makes so many calls by as many callers as there are executing threads, each at one replica and by a session of its own. What
-/// they were answered; the error is want of memory.
+/// What a caller does, by its place from 0 on: its share of the calls, at one replica and by a session of its own. What they were
+/// answered.
+fn call_from<J: LogSetting + Ledgers + Send + Sync + 'static, R: Wait>(
+    rt: &R,
+    desk: &Desk<J, OpenGate>,
+    load: Load,
+    place: usize,
+) -> Counts {
+    let number = u32::try_from(place).unwrap_or(0);
+    let callers = load.replicas.wrapping_mul(load.executors);
+    let replica = number
+        .checked_rem(load.replicas)
+        .unwrap_or(0)
+        .wrapping_add(1);
+    let mut caller = Caller {
+        number: number.wrapping_add(1),
+        requests: 0,
+        generator: Pcg32::new(load.seed, u64::from(number)),
+    };
+    let mut session = Session::new(desk);
+    let mut counts = Counts::new();
+    let calls = if load.work == Work::Start {
+        0
+    } else {
+        load.calls
+    };
+    for call in 0..calls {
+        if call.checked_rem(callers) == Some(number) {
+            let answer = caller.call(rt, &mut session, replica, load.work);
+            count(&mut counts, answer);
+        }
+    }
+    counts
+}
+
+/// Makes so many calls by as many callers as there are executing threads. What they were answered; the error is want of memory.
 pub(crate) fn call_all<J: LogSetting + Ledgers + Send + Sync + 'static, R: Threads + Wait + Sync>(
     rt: &R,
     alloc: Global,
     desk: &Desk<J, OpenGate>,
     load: Load,
 ) -> Result<Counts, AllocError> {
-    let Load {
-        work,
-        replicas,
-        executors,
-        calls,
-        seed,
-    } = load;
-    let callers = replicas.wrapping_mul(executors);
+    let callers = load.replicas.wrapping_mul(load.executors) as usize;
     let asked = thread::map_indices(
         rt,
         alloc,
-        callers as usize,
-        &|place: usize| {
-            let number = place as u32;
-            let mut caller = Caller {
-                number: number.wrapping_add(1),
-                requests: 0,
-                generator: Pcg32::new(seed, u64::from(number)),
-            };
-            let replica = number.checked_rem(replicas).unwrap_or(0).wrapping_add(1);
-            let mut session = Session::new(desk);
-            let mut counts = Counts::new();
-            let calls = if work == Work::Start { 0 } else { calls };
-            for call in 0..calls {
-                if call.checked_rem(callers) == Some(number) {
-                    count(&mut counts, caller.call(rt, &mut session, replica, work));
-                }
-            }
-            counts
-        },
+        callers,
+        &|place: usize| call_from(rt, desk, load, place),
     )?;
     Ok(
         asked

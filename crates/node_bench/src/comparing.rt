@@ -10,6 +10,7 @@ use locked_replica::LockedReplica;
 use log_entry::Entry;
 use node::Finish;
 use node_calls::OpenGate;
+use order_log::LIMIT;
 use ordered_entries::LogSetting;
 use schema::Look;
 use std::alloc::Global;
@@ -31,7 +32,10 @@ fn items_of<J: LogSetting + Ledgers>(
 ) -> Option<Vec<PlainItem>> {
     let mut items = Vec::new(alloc);
     let mut seen = finish.log().seen();
-    while let Some(entry) = finish.log().get(&mut seen) {
+    for _ in 0..LIMIT {
+        let Some(entry) = finish.log().get(&mut seen) else {
+            break;
+        };
         let Entry::Call(call) = entry else {
             return None;
         };

@@ -7,7 +7,7 @@ ghost use Rattle.tallies.specs.Shared.{names_by_place};
 use catalogue::Catalogue;
 use crossbeam_channel::{Receiver, Sender, bounded};
 use node_calls::{Answer, Asked, OpenGate};
-use order_log::{Fact, GroupCells, OrderLog};
+use order_log::{Fact, GroupCells, LIMIT, OrderLog};
 use ordered_entries::{LogSetting, OrderedEntries};
 use row_values::Bytes;
 use sample_entries::catalogue_of;
@@ -122,7 +122,11 @@ fn ask_both<J: LogSetting + Ledgers, P: Allocator + Copy, R: Wait + Abort>(
 /// How many entries the log shows.
 fn length_of<J: LogSetting + Ledgers, P: Allocator + Copy>(shared: &TwoReplicas<'_, J, P>) -> u32 {
     let mut seen = shared.log().seen();
-    while shared.log().get(&mut seen).is_some() {}
+    for _ in 0..LIMIT {
+        if shared.log().get(&mut seen).is_none() {
+            break;
+        }
+    }
     seen.len()
 }
 

@@ -1,5 +1,5 @@
 use Rattle.tallies.specs.Shared.{names_by_place}
-use Rattle.node_bench.proofs.main.Given as goal
+use Rattle.node_bench.proofs.run.Given as goal
 
 -- the node whose log's cells and ledgers were just made, of this catalogue and window
 abbrev pub ghosts-use_node-J-LogSetting : goal.ghosts-use_node-J-LogSetting
