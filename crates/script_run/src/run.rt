@@ -63,7 +63,7 @@ pub fn run_over<R: Threads + Wait + Copy + Send + Sync + 'static, I: BufRead, W:
     ensures fault { result ≡ 1 → IfSome (I.remaining input.old) (λ bytes. SaysFault bytes (E.contents faults.old) (E.contents faults.new)) }
     ensures untouched { result ≡ 1 → output.new ≡ output.old }
     // Something failed: what was written is a beginning of what a run prints.
-    ensures failed { result ≡ FAILED → (report : RunReport) × AppendsBeginning (W.contents output.old) (W.contents output.new) (run_text report) }
+    ensures failed { result ≡ FAILED → (r : RunReport) × AppendsBeginning (W.contents output.old) (W.contents output.new) (run_text r) }
 {
     let script = match read_script(alloc, input) {
         Ok(script) => script,
