@@ -1,5 +1,5 @@
 -- An open call that follows its run goes on doing so on a log that has grown.
-use Rattle.std.proofs.Common.{◌≡◌, ◌≤◌, ◌++◌, length, sym, ap, subst, ◌∙◌}
+use Rattle.std.proofs.Common.{◌≤◌, ◌++◌, length, sym, ap, subst, ◌∙◌}
 use Rattle.schema.specs.Rows.{Rows, AreRows}
 use Rattle.log_model.specs.Log.{Catalogue, Setting, Call, Log, by_number}
 use Rattle.log_model.specs.Fit.{IsCall}

@@ -2,6 +2,7 @@
 //! and rebuilds, and is proved to go on as the definitions of the world say.
 #![tactic(auto)]
 
+pub use rows::ListedRows;
 pub use step::Step;
 pub use world::World;
 
@@ -13,6 +14,7 @@ mod holdings;
 mod numbers;
 mod order;
 mod rebuild;
+mod rows;
 mod step;
 mod turn;
 mod world;

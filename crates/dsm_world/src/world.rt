@@ -5,12 +5,17 @@ ghost use Rattle.std.specs.Prelude.{option_map, slice_get, Some, None, IsSome, t
 ghost use Rattle.log_model.specs.declared.verdict.Verdict.{Verdict as ModelVerdict};
 ghost use Rattle.log_model.specs.declared.verdict.Verdict.TheVariants.{Commit};
 ghost use Rattle.dsm_model.specs.declared.outcome.Outcome.TheVariants.{Exit, Ordered, Delivered};
-ghost use Rattle.log_model.specs.Log.{by_name, procedures_after, verdict_of};
+ghost use Rattle.bpf_semantics.specs.State.{State};
+ghost use Rattle.bpf_semantics.specs.Step.{Ended};
+ghost use Rattle.bpf_semantics.specs.Path.{longest_path};
+ghost use Rattle.log_model.specs.Log.{Log, StoredProcedure, by_name, moment_at, procedure_of, procedures_after, run_in, verdict_of};
+ghost use Rattle.log_model.specs.Entries.{CallEntry, ExecutedCall};
 ghost use Rattle.log_entry.specs.Kind.{entry_of};
 ghost use Rattle.log_model.specs.Fit.{HasSafeProcedures};
 ghost use Rattle.dsm_model.specs.World.{OpenCall as ModelCall, Turn as TurnStep, Order as OrderStep};
 ghost use Rattle.dsm_model.specs.World.{IsStep, AreSteps, first_world, numbered, open_call};
 ghost use Rattle.dsm_model.specs.Sound.{IsGiven, IsSound, IsSerialReply, IsWorld};
+ghost use Rattle.model_laws.specs.Worlds.{HasExited, turns_of};
 ghost use Rattle.replica.specs.Replica.{Replica as ReplicaState, AreEntriesOf};
 ghost use Rattle.catalogue.specs.Catalogue.{IsCatalogue};
 ghost use Rattle.dsm_world.specs.System.{setting_of, world_of, step_of, progress_of, KeepsDelivered};
@@ -32,6 +37,9 @@ use dsm_model::{
 };
 use log_entry::Entry;
 use log_model::{RequestId, a_log_only_grows};
+use model_laws::{
+    enough_turns_reach_exit, entries_carry_serial_replies, open_calls_keep_their_replies,
+};
 use replica::{Replica, replicas_follow_the_log};
 use std::alloc::{AllocError, Allocator, Global};
 use std::marker::Model;
@@ -194,10 +202,18 @@ impl<A: Allocator + Copy> World<A> {
             → slice_get outcomes.items j ≡ Some (Ordered position)
             → i < j → verdict_of (setting_of self.new) (world_of self.new).log position ≡ Some Commit
             → IsSerialReply (setting_of self.new) (world_of self.new).log position reply) }
+        // A call that is still open after as many turns as its longest path has instructions was answered Exit.
+        ensures exits { IfOk result (λ outcomes. (c : ℕ) (o : ModelCall) (p : StoredProcedure)
+            → open_call (world_of self.new) c ≡ Some o
+            → procedure_of (setting_of self.new) (world_of self.new).log o.call ≡ Some p
+            → longest_path p.program ≤ turns_of c (map (step_of (setting_of self.old)) steps.now) outcomes.items
+            → HasExited c (run_in (setting_of self.new) (world_of self.new).log o.call).reply
+            (map (step_of (setting_of self.old)) steps.now) outcomes.items) }
         ensures setting { setting_of self.new ≡ setting_of self.old }
         ensures unchanged { OnErr result (self.new ≡ self.old) }
     {
         delivered_verdicts_are_the_logs();
+        enough_turns_reach_exit();
         open_calls_are_sound();
         replies_are_serial();
         self.keeps_what_was_delivered();
@@ -212,15 +228,27 @@ impl<A: Allocator + Copy> World<A> {
 
     /// What is known of every world: steps lead to such a one, its catalogue's procedures were accepted and are safe, its
     /// entries are those of a log and carry their runs, and what each replica keeps are the verdicts, rows and procedures of
-    /// the log as far as it has come.
+    /// the log as far as it has come. Each open call is sound, and one that has come to its end has the reply that its entry
+    /// carries when it is ordered; an entry that commits carries the reply of its call run in its turn.
     pub fn keeps_what_was_delivered(&self)
         ensures world { IsWorld (setting_of self.now) (world_of self.now) }
         ensures catalogue { IsCatalogue self.now.catalogue }
         ensures procedures { HasSafeProcedures (setting_of self.now) }
         ensures entries { AreEntriesOf (setting_of self.now) self.now.entries }
         ensures replicas { (r : ℕ) (k : ReplicaState) → numbered self.now.replicas r ≡ Some k → KeepsDelivered self.now k }
+        ensures sound { (c : ℕ) (o : ModelCall) → open_call (world_of self.now) c ≡ Some o
+            → IsSound (setting_of self.now) (world_of self.now).log o }
+        ensures ends { (c reply : ℕ) (o : ModelCall) (end : State) (more : Log) → open_call (world_of self.now) c ≡ Some o
+            → moment_at (setting_of self.now) (world_of self.now).log o.call o.turns ≡ Ended reply end
+            → (run_in (setting_of self.now) ((world_of self.now).log ++ more) o.call).reply ≡ reply }
+        ensures replies { (position : ℕ) (e : ExecutedCall) → numbered self.now.entries position ≡ Some (CallEntry e)
+            → verdict_of (setting_of self.now) (world_of self.now).log position ≡ Some Commit
+            → IsSerialReply (setting_of self.now) (world_of self.now).log position e.reply }
     {
         a_log_only_grows();
+        entries_carry_serial_replies();
+        open_calls_are_sound();
+        open_calls_keep_their_replies();
         replicas_follow_the_log();
         // A part is looked at, so that it is known how all fit together.
         each_catalogue_is_consistent(&self.holdings.catalogue);

@@ -7,13 +7,13 @@ use Rattle.schema.specs.Rows.{Rows, Writes, after_writes}
 use Rattle.bpf_semantics.specs.Run.{Run}
 use Rattle.log_model.specs.declared.verdict.Verdict.{Verdict}
 use Rattle.log_model.specs.declared.verdict.Verdict.TheVariants.{Commit, Conflict, Stale, Repeated, Taken}
-use Rattle.log_model.specs.Log.{Setting, Log, IsLog, verdict_after, if_commits, history, rows_after, run_in, verdict_of, Catalogue, CallItem, IsPlaced, CertifiedItem, certified_addition, procedures_after, run_on, IsLogFrom}
+use Rattle.log_model.specs.Log.{Setting, Log, IsLog, verdict_after, if_commits, history, rows_after, run_in, verdict_of, Catalogue, CallItem, CertifiedItem, certified_addition, procedures_after, run_on}
 use Rattle.log_model.specs.Fit.{HasSafeProcedures, AreItems}
 use Rattle.log_model.specs.Entries.{Entry, CarriesRun, CarryRuns, ExecutedCall, CallEntry, AdditionEntry, item_of, items_of, IsCarried, procedures_with}
 use Rattle.model_laws.specs.Contents.{ReplicaContents, IsContentsOf, with_delivered, first_contents, certified_next, rows_with}
 use Rattle.log_model.proofs.RunLemmas.{just}
 use Rattle.log_model.proofs.CallLemmas.{rows_first, rows_next, certified_is, serial_run, count_history, procedures_first, procedures_next, rows_after_addition, procedures_after_addition, addition_is}
-use Rattle.log_model.proofs.GrowthLemmas.{grown, rows_grown, procedures_grown, run_grown}
+use Rattle.log_model.proofs.GrowthLemmas.{grown, rows_grown, procedures_grown}
 
 -- ---- lists
 

@@ -1,14 +1,17 @@
 -- What is told of a call.
-use Rattle.std.proofs.Common.{◌≡◌, ◌≢◌, ℕ, suc, Option, Some, None, slice_get, refl, sym, ap, ◌∙◌}
+use Rattle.std.proofs.Common.{◌≡◌, ◌≢◌, ℕ, zero, suc, List, [], ◌∷◌, Option, Some, None, slice_get, refl, sym, ap, subst, ◌∙◌}
+use Rattle.std.specs.List.{AllByRecursion}
 use Rattle.bpf_semantics.specs.Run.{Run}
 use Rattle.log_model.specs.declared.verdict.Verdict.{Verdict}
 use Rattle.log_model.specs.declared.verdict.Verdict.TheVariants.{Commit, Conflict, Stale, Repeated, Taken}
-use Rattle.log_model.specs.Log.{Setting, Call, Item, CallItem, Log, IsLog, verdict_of, run_in}
+use Rattle.log_model.specs.Log.{Setting, Call, CallItem, Log, IsLog, verdict_of, run_in}
 use Rattle.log_model.specs.Fit.{HasSafeProcedures, AreItems}
+use Rattle.log_model.specs.Entries.{Entry, CallEntry, ExecutedCall, items_of, IsCarried, CarryRuns}
 use Rattle.dsm_model.specs.World.{numbered}
 use Rattle.dsm_model.specs.Sound.{IsSerialReply, reply_of, told_by, told_reply}
 use Rattle.log_model.proofs.CallLemmas.{serial_run}
 use Rattle.log_model.proofs.RepetitionLemmas.{repeated_means}
+use Rattle.model_laws.proofs.ContentsLemmas.{item_there}
 
 serial_reply : (w : Setting) (log : Log) (d : ℕ) (call : Call) → HasSafeProcedures w → IsLog log → AreItems w log → slice_get log d ≡ Some (CallItem call) → verdict_of w log (suc d) ≡ Some Commit → IsSerialReply w log (suc d) (run_in w log call).reply
 serial_reply w log d call safe below items at verdict = record {
@@ -47,3 +50,17 @@ untold_by w log position (Some (Taken n)) f g = refl
 
 pub untold : (w : Setting) (log : Log) (position : ℕ) → verdict_of w log position ≢ Some Commit → ((earlier : ℕ) → verdict_of w log position ≢ Some (Repeated earlier)) → told_reply w log position ≡ None
 untold w log position f g = untold_by w log position (verdict_of w log position) f g
+
+-- ---- what an entry carries
+
+carried_at : (w : Setting) (log : Log) (entries : List Entry) (d : ℕ) (e : Entry) → AllByRecursion (IsCarried w log) entries → slice_get entries d ≡ Some e → IsCarried w log e
+carried_at w log [] d e all at = absurd cc
+carried_at w log (x ∷ entries) zero e all at = subst (IsCarried w log) (let same : x ≡ e = cc in same) all.0
+carried_at w log (x ∷ entries) (suc d) e all at = carried_at w log entries d e all.1 at
+
+pub entry_reply : (w : Setting) (entries : List Entry) (position : ℕ) (e : ExecutedCall) → HasSafeProcedures w → IsLog (items_of entries) → AreItems w (items_of entries) → CarryRuns w entries
+    → numbered entries position ≡ Some (CallEntry e) → verdict_of w (items_of entries) position ≡ Some Commit → IsSerialReply w (items_of entries) position e.reply
+entry_reply w entries zero e safe below items runs at verdict = absurd cc
+entry_reply w entries (suc d) e safe below items runs at verdict =
+    subst (IsSerialReply w (items_of entries) (suc d)) (sym (carried_at w (items_of entries) entries d (CallEntry e) runs at).reply)
+    (serial_reply w (items_of entries) d e.call safe below items (item_there entries d (CallEntry e) at) verdict)

@@ -1,6 +1,6 @@
 //! Laws of the log: what a call that commits does, and what its rows are.
 
-ghost use Rattle.std.specs.Prelude.{◌≡◌, ◌≢◌, ℕ, suc, slice_get, Some, None};
+ghost use Rattle.std.specs.Prelude.{◌≡◌, ◌≢◌, ℕ, suc, List, slice_get, Some, None};
 ghost use Rattle.std.specs.FinMap.{empty};
 ghost use Rattle.schema.specs.Rows.{after_writes};
 ghost use Rattle.bpf_semantics.specs.Agree.{same_on};
@@ -8,6 +8,8 @@ ghost use Rattle.log_model.specs.declared.verdict.Verdict.{Verdict};
 ghost use Rattle.log_model.specs.declared.verdict.Verdict.TheVariants.{Commit, Repeated};
 ghost use Rattle.log_model.specs.Log.{StoredProcedure, Setting, Call, CallItem, AdditionItem, Log, IsLog};
 ghost use Rattle.log_model.specs.Log.{if_commits, rows_after, verdict_of, run_on, run_in};
+ghost use Rattle.log_model.specs.Entries.{CallEntry, CarryRuns, Entry, ExecutedCall, items_of};
+ghost use Rattle.dsm_model.specs.World.{numbered};
 ghost use Rattle.dsm_model.specs.Sound.{IsSerialReply, told_reply};
 ghost use Rattle.log_model.specs.Fit.{HasSafeProcedures, AreItems};
 
@@ -50,4 +52,12 @@ pub fn what_is_told_is_serial()
     ensures untold { (w : Setting) (log : Log) (position : ℕ)
         → verdict_of w log position ≢ Some Commit → ((earlier : ℕ) → verdict_of w log position ≢ Some (Repeated earlier))
         → told_reply w log position ≡ None }
+{}
+
+/// An entry that carries its run, and whose call commits, carries the reply of that call's run on the rows just before it.
+pub fn entries_carry_serial_replies()
+    ensures { (w : Setting) (entries : List Entry) (position : ℕ) (e : ExecutedCall)
+        → HasSafeProcedures w → IsLog (items_of entries) → AreItems w (items_of entries) → CarryRuns w entries
+        → numbered entries position ≡ Some (CallEntry e) → verdict_of w (items_of entries) position ≡ Some Commit
+        → IsSerialReply w (items_of entries) position e.reply }
 {}

@@ -12,7 +12,6 @@ use crate::output::put_line;
 use byte_output::paged::PagedOutput;
 use dsm_model::StepRefusal;
 use dsm_world::World;
-use log_model::{a_log_only_grows, entries_suffice, rows_fit_the_schema};
 use report::{Line, ReplicaReport};
 use std::alloc::Allocator;
 use std::io::Write;
@@ -29,16 +28,11 @@ pub(crate) fn put_rows<A: Allocator + Copy, W: Write>(
         (rows_text (setting_of world.now) (world_of world.now).log replica (numbered (world_of world.now).replicas replica)) }
     ensures kept { IfErr result (LosesNothing W.contents output.old output.new) }
 {
-    a_log_only_grows();
-    entries_suffice();
-    rows_fit_the_schema();
-    world.keeps_what_was_delivered();
-    let Some(kept) = world.replica(replica) else {
+    let Some(listed) = world.rows(alloc, replica)? else {
         let report = ReplicaReport::Refused(StepRefusal::NoReplica);
         return put_line(alloc, output, &Line::Replica { replica, report });
     };
-    let rows = kept.rows(alloc)?;
-    for row in &rows {
+    for row in &listed.rows {
         let line = Line::Row {
             table: row.table(),
             key: row.key(),
@@ -47,8 +41,8 @@ pub(crate) fn put_rows<A: Allocator + Copy, W: Write>(
         put_line(alloc, output, &line)?;
     }
     let report = ReplicaReport::Rows {
-        position: kept.position(),
-        rows: rows.len(),
+        position: listed.position,
+        rows: listed.rows.len(),
     };
     put_line(alloc, output, &Line::Replica { replica, report })
 }

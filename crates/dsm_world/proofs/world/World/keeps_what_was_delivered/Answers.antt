@@ -1,7 +1,11 @@
-use Rattle.std.proofs.Common.{◌≡◌, Some, subst}
+use Rattle.std.proofs.Common.{◌≡◌, ◌++◌, Some, subst}
 use Rattle.log_model.specs.Fit.{HasSafeProcedures}
-use Rattle.dsm_model.specs.Sound.{IsWorld}
-use Rattle.dsm_model.specs.World.{numbered}
+use Rattle.bpf_semantics.specs.Step.{Ended}
+use Rattle.log_model.specs.declared.verdict.Verdict.TheVariants.{Commit}
+use Rattle.log_model.specs.Log.{moment_at, run_in, verdict_of}
+use Rattle.log_model.specs.Entries.{CallEntry}
+use Rattle.dsm_model.specs.Sound.{IsSerialReply, IsSound, IsWorld}
+use Rattle.dsm_model.specs.World.{numbered, open_call}
 use Rattle.replica.specs.Replica.{AreEntriesOf}
 use Rattle.catalogue.specs.Catalogue.{IsCatalogue}
 use Rattle.dsm_world.specs.System.{SystemWorld, setting_of, world_of, KeepsDelivered}
@@ -25,3 +29,19 @@ pub returns-clause-replicas : goal.returns-clause-replicas
 returns-clause-replicas g c n r =
     subst (λ (s : SystemWorld). numbered s.replicas n ≡ Some r → KeepsDelivered s r) c.self.view_is
     (keeps_delivered (system_of c.self.inside.holdings) (call_slots c.self.inside.holdings) n r c.replicas_follow_the_log.ensures.rows c.replicas_follow_the_log.ensures.procedures c.self.invariant.together)
+
+pub returns-clause-sound : goal.returns-clause-sound
+returns-clause-sound g c n o =
+    subst (λ (s : SystemWorld). open_call (world_of s) n ≡ Some o → IsSound (setting_of s) (world_of s).log o) c.self.view_is
+    (c.open_calls_are_sound.ensures (setting_of (system_of c.self.inside.holdings)) (world_of (system_of c.self.inside.holdings)) n o c.self.invariant.together.entries.procedures c.self.invariant.together.world)
+
+pub returns-clause-ends : goal.returns-clause-ends
+returns-clause-ends g c n reply o end more =
+    subst (λ (s : SystemWorld). open_call (world_of s) n ≡ Some o → moment_at (setting_of s) (world_of s).log o.call o.turns ≡ Ended reply end → (run_in (setting_of s) ((world_of s).log ++ more) o.call).reply ≡ reply) c.self.view_is
+    (c.open_calls_keep_their_replies.ensures.reply (setting_of (system_of c.self.inside.holdings)) (world_of (system_of c.self.inside.holdings)) n reply o end more c.self.invariant.together.entries.procedures c.self.invariant.together.world)
+
+pub returns-clause-replies : goal.returns-clause-replies
+returns-clause-replies g c position e =
+    let is = c.self.invariant.together.entries in
+    subst (λ (s : SystemWorld). numbered s.entries position ≡ Some (CallEntry e) → verdict_of (setting_of s) (world_of s).log position ≡ Some Commit → IsSerialReply (setting_of s) (world_of s).log position e.reply) c.self.view_is
+    (c.entries_carry_serial_replies.ensures (setting_of (system_of c.self.inside.holdings)) (system_of c.self.inside.holdings).entries position e is.procedures is.log is.items is.runs)
