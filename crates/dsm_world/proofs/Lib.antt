@@ -5,4 +5,4 @@ pub mod ReplicaLemmas
 pub mod CallLemmas
 pub mod AddLemmas
 pub mod RunLemmas
-mod RowLemmas
+pub mod RowLemmas

@@ -1,5 +1,5 @@
-//! Laws of what replication means, on which no code rests: they say what the definitions of `log_model` and `dsm_model`
-//! come to.
+//! Laws of what replication means: they say what the definitions of `log_model` and `dsm_model` come to. Certification,
+//! versions and replicas rest on none of them.
 #![tactic(auto)]
 
 pub use contents::{deliveries_follow_the_log, new_contents_follow_the_log};

@@ -15,6 +15,7 @@ use Rattle.replica.specs.Replica.{Replica, AreEntriesOf, StandsFor, rows_kept, c
 use Rattle.replica.proofs.KeepsLemmas.{certified_more, certified_count}
 use Rattle.dsm_world.specs.System.{SystemWorld, setting_of, KeepsDelivered}
 use Rattle.dsm_world.proofs.Numbered.{numbered_map}
+use Rattle.dsm_world.proofs.RowLemmas.{log_is, position_within}
 use Rattle.replica.proofs.EntryLemmas.{take_all, take_first, take_drop, items_append, items_count, take_count, all_at, entries_taken}
 use Rattle.byte_output.specs.declared.paged.PagedOutput.{PagedOutput}
 use Rattle.byte_output.specs.Pending.{Passes}
@@ -60,42 +61,6 @@ pub no_reply : (w : Setting) (entries : List Entry) (n : ℕ) → numbered entri
 no_reply w entries n at = sym (ap (reply_of w (items_of entries)) (item_numbered entries n None at))
 
 -- ---- what a replica keeps
-
--- the log is what was delivered, and the rest
-log_is : (s : SystemWorld) (n : ℕ) → items_of s.entries ≡ items_of (take n s.entries) ++ items_of (drop n s.entries)
-log_is s n = ap items_of (sym (take_drop s.entries n)) ∙ items_append (take n s.entries) (drop n s.entries)
-
--- what the law of growing logs says of rows
-abbrev pub RowsGrow : Type 0
-RowsGrow = (w : Setting) (log more : Log) (position : ℕ) → position ≤ length log → rows_after w (log ++ more) position ≡ rows_after w log position
-
--- what the law of entries says of rows
-abbrev pub RowsSuffice : Type 0
-RowsSuffice = (w : Setting) (entries : List Entry) (position : ℕ) → HasSafeProcedures w → IsLog (items_of entries) → AreItems w (items_of entries) → CarryRuns w entries → position ≤ length entries
-    → map_after (installed_from 1 (certified_entries_of w.window w.catalogue entries).certified) position ≡ rows_after w (items_of entries) position
-
-taken_short : {X : Type 0} (xs : List X) (n : ℕ) → length (take n xs) ≤ length xs
-taken_short xs zero = omega arith
-taken_short [] (suc n) = omega arith
-taken_short (x ∷ xs) (suc n) = let short = taken_short xs n in omega arith
-
-pub position_within : (s : SystemWorld) (r : Replica) → KeepsDelivered s r → r.position ≤ length s.entries
-position_within s r keeps =
-    let position = keeps.delivered.position in
-    let short = taken_short s.entries r.position in
-    omega arith
-
-pub rows_are : (grow : RowsGrow) → RowsSuffice → (s : SystemWorld) (r : Replica) → KeepsDelivered s r → r.position ≤ length s.entries
-    → rows_kept r.window s.catalogue.procedures (take r.position s.entries) r.position ≡ rows_after (setting_of s) (items_of s.entries) r.position
-rows_are grow suffice s r keeps within =
-    let w = setting_of s in
-    let past = take r.position s.entries in
-    let are = entries_taken w s.entries r.position keeps.entries in
-    let count = take_count s.entries r.position within in
-    let calls = items_count past in
-    ap (λ (n : ℕ). rows_kept n s.catalogue.procedures past r.position) keeps.window
-    ∙ suffice w past r.position are.procedures are.log are.items are.runs (omega arith)
-    ∙ sym (ap (λ (l : Log). rows_after w l r.position) (log_is s r.position) ∙ grow w (items_of past) (items_of (drop r.position s.entries)) r.position (omega arith))
 
 -- ---- the verdict, and what it compared
 

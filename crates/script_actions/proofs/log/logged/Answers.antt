@@ -9,7 +9,8 @@ use Rattle.report.specs.declared.printed.Line.TheVariants as line
 use Rattle.report.specs.Lines.{line_text}
 use Rattle.log_entry.specs.Kind.{entry_of}
 use Rattle.script_actions.specs.Printed.{logged_entry}
-use Rattle.script_actions.proofs.PrintedLemmas.{position_within, stands_there}
+use Rattle.dsm_world.proofs.RowLemmas.{position_within}
+use Rattle.script_actions.proofs.PrintedLemmas.{stands_there}
 use Rattle.script_actions.proofs.LogLemmas.{further, found, none_found, open_line, delivered_line}
 use Rattle.script_actions.proofs.log.logged.Goals as goal
 

@@ -1,7 +1,6 @@
-use Rattle.std.proofs.Common.{◌≡◌, ◌++◌, ℕ, List, codes, length, Some, subst, sym, ap, ◌∙◌, arith}
+use Rattle.std.proofs.Common.{◌≡◌, ◌++◌, ℕ, List, codes, length, subst, sym, ap, ◌∙◌, arith}
 use Rattle.std.proofs.lemmas.Result.{err_from_is_err_and}
 use Rattle.byte_output.specs.Pending.{Passes}
-use Rattle.dsm_model.specs.World.{numbered}
 use Rattle.dsm_world.proofs.ReplicaLemmas.{get_is}
 use Rattle.schema.specs.Rows.{Key}
 use Rattle.report.specs.Lines as lines
@@ -11,24 +10,19 @@ use Rattle.report.specs.declared.printed.ReplicaReport.TheVariants as report
 use Rattle.script_actions.specs.Printed.{row_text}
 use Rattle.script_actions.specs.Doing.{Gives, PassesBeginning}
 use Rattle.script_actions.proofs.GivenLemmas.{nothing_begun, nothing_lost, nothing_lost_behind, none_lost_behind, lost_by}
-use Rattle.script_actions.proofs.RowLemmas.{one_more_row, row_breaks, rows_listed, rows_given}
+use Rattle.script_actions.proofs.RowLemmas.{one_more_row, row_breaks, rows_found, rows_given}
 use Rattle.script_actions.proofs.rows.put_rows.Goals as goal
 
-pub returns-in_err-rows-clause-given : goal.returns-in_err-rows-clause-given
-returns-in_err-rows-clause-given g c =
+pub returns-in_err-listed-clause-given : goal.returns-in_err-listed-clause-given
+returns-in_err-listed-clause-given g c =
     let q = err_from_is_err_and c.from_residual.result c.from_residual.ensures.1 in
     rw q.1 (nothing_begun g.W.Write.contents c.args.output.now _)
 
 pub returns-in_err-put_line-clause-given : goal.returns-in_err-put_line-clause-given
 unfolding lines.line_words
 returns-in_err-put_line-clause-given g c =
-    let s = c.args.world.now in
-    let r = c.in-Some.kept.now in
-    let at : numbered s.replicas c.args.replica ≡ Some r = sym c.in-Some.ensures in
-    let keeps = c.keeps_what_was_delivered.ensures.replicas c.args.replica r at in
     let items = c.deref-row-items.result.now in
-    let value = c.deref-row-items.ensures.value in
-    let listed = rows_listed c.a_log_only_grows.ensures.rows c.entries_suffice.ensures.rows c.rows_fit_the_schema.ensures s c.args.replica r items at keeps (λ base past stands keys. value ∙ c.in_ok-rows.ensures base past stands keys) in
+    let listed = rows_found c.args.world.now c.args.replica c.in_ok-listed.field-0 c.in-Some.listed items c.in-Some.is c.in_ok-listed.ensures.there c.in_ok-listed.ensures.position c.in_ok-listed.ensures.rows c.deref-row-items.ensures.value in
     let x = c.row-item.result in
     let there = get_is c.deref-row-items.result.now c.loop-row.row-index x c.loop-row-test.true c.row-item.is in
     let text : row_words c.table.result c.key.result c.bytes.result.now ++ codes "\n" ≡ row_text x =
@@ -52,22 +46,16 @@ loop-row-preserved g c =
 
 pub returns-clause-given : goal.returns-clause-given
 returns-clause-given g c =
-    let s = c.args.world.now in
-    let r = c.in-Some.kept.now in
-    let at : numbered s.replicas c.args.replica ≡ Some r = sym c.in-Some.ensures in
-    let keeps = c.keeps_what_was_delivered.ensures.replicas c.args.replica r at in
     let items = c.deref-row-items.result.now in
-    let value = c.deref-row-items.ensures.value in
-    let listed = rows_listed c.a_log_only_grows.ensures.rows c.entries_suffice.ensures.rows c.rows_fit_the_schema.ensures s c.args.replica r items at keeps (λ base past stands keys. value ∙ c.in_ok-rows.ensures base past stands keys) in
-    let count : c.len.result ≡ length items = (let len = c.len.ensures in let same = ap (λ (xs : List (Key × List ℕ)). length xs) value in omega arith) in
-    let last : line_text (line.Replica c.args.replica (report.Rows c.position.result c.len.result)) ≡ line_text (line.Replica c.args.replica (report.Rows r.position (length items))) =
-    ap (λ n. line_text (line.Replica c.args.replica (report.Rows n c.len.result))) c.position.ensures ∙ ap (λ n. line_text (line.Replica c.args.replica (report.Rows r.position n))) count in
+    let listed = rows_found c.args.world.now c.args.replica c.in_ok-listed.field-0 c.in-Some.listed items c.in-Some.is c.in_ok-listed.ensures.there c.in_ok-listed.ensures.position c.in_ok-listed.ensures.rows c.deref-row-items.ensures.value in
+    let count : c.len.result ≡ length items = (let len = c.len.ensures in let same = ap (λ (xs : List (Key × List ℕ)). length xs) c.deref-row-items.ensures.value in omega arith) in
+    let last = ap (λ n. line_text (line.Replica c.args.replica (report.Rows c.in-Some.listed.position n))) count in
     subst (Gives g.W.Write.contents c.args.output.now c.put_line-2.new.output c.put_line-2.result) (sym listed)
     (rows_given g.W.Write.contents c.args.output.now c.loop-row.output c.put_line-2.new.output c.put_line-2.result items c.loop-row.row-index _ c.loop-row-test.false c.loop-row.invariant.0
     (subst (Gives g.W.Write.contents c.loop-row.output c.put_line-2.new.output c.put_line-2.result) last c.put_line-2.ensures.given))
 
-pub returns-in_err-rows-clause-kept : goal.returns-in_err-rows-clause-kept
-returns-in_err-rows-clause-kept g c =
+pub returns-in_err-listed-clause-kept : goal.returns-in_err-listed-clause-kept
+returns-in_err-listed-clause-kept g c =
     let q = err_from_is_err_and c.from_residual.result c.from_residual.ensures.1 in
     rw q.1 (nothing_lost g.W.Write.contents c.args.output.now q.0)
 
