@@ -1,7 +1,8 @@
 """What a stranger has to believe for the main theorem: the definitions that its clauses come to, and their lines.
 
 `python3 gate/believed.py` prints how many lines they have, by crate, without imports, comments and blank lines, those of
-types of the code apart, and `python3 gate/believed.py --list` each. docs/DEFINITIONS.md has the sums.
+types of the code apart, and `python3 gate/believed.py --list` each; what lies outside the tree, in the kit's libraries, is
+not counted. docs/DEFINITIONS.md has the sums.
 """
 import re
 import sys
@@ -16,14 +17,14 @@ CLAUSES = [
     ("dsm_world", "rows", "rows", None),
     ("dsm_world", "rows", "at", None),
 ]
-# whichever programs pass their check, the theorem says of those that did how they run
+# which program the bytes of an addition are, and whether it passes its check
 LEFT_OUT = {("definition", "program_checks", "Check", "check_of")}
 PAGE = "docs/DEFINITIONS.md"
 FIGURES = re.compile(r"(\d+) lines of definitions and (\d+) of types, as `python3 gate/believed.py` counts them")
 
 NAME = re.compile(r"[^\W\d][\w'-]*(?:\.[\w'-]+)*")
 IMPORT = re.compile(r"^\s*(?:ghost )?(?:unfoldable )?(?:pub )?use Rattle\.(?P<crate>\w+)\.specs\.(?P<path>[\w.]+?)(?:\.\{(?P<names>[^}]*)\})?(?: as (?P<alias>\w+))?;?$")
-SIGNATURE = re.compile(r"^(?:abbrev |unfoldable )?(?:pub )?(?:(?:record|data) )?(?P<name>[^\W\d][\w'-]*)\s*(?::|\(|\{|where)")
+SIGNATURE = re.compile(r"^(?:abbrev |unfoldable )?(?:pub )?(?:(?:record|data) )?(?P<name>[^\W\d][\w'-]*|◌\S+◌)\s*(?::|\(|\{|where)")
 
 
 def code_of(text, comment):
@@ -107,10 +108,13 @@ def target(crate, path, name):
 
 def named(lines, path, crate, module):
     """Yields what the names in some lines of a file stand for."""
-    known = imports(path)
-    for token in {token for line in lines for token in NAME.findall(line)}:
+    known, text = imports(path), "\n".join(lines)
+    own = definitions(crate, module) if module else {}
+    # an operator is named by its sign, and that which binds by `do` too
+    signs = {it for it in {*known, *own} if "◌" in it and (it.strip("◌") in text or it == "◌>>=◌" and re.search(r"\bdo\b", text))}
+    for token in {*NAME.findall(text), *signs}:
         first, _, rest = token.partition(".")
-        if module and first in definitions(crate, module):
+        if first in own:
             yield ("definition", crate, module, first)
         elif first in known:
             owner, at, name = known[first]
@@ -129,30 +133,32 @@ def types_in(lines, path, crate):
 
 
 def clause_lines(crate, file, function, chosen):
-    """Returns the lines of a function's clauses."""
+    """Returns the lines of a function's clauses, and those of its signature before them."""
     lines = code_of(workspace.read(f"crates/{crate}/src/{file}.rt").decode(), "//")
     at = next(at for at, line in enumerate(lines) if re.match(rf" *pub fn {function}\b", line))
-    found, name = [], None
-    for line in lines[at + 1 :]:
+    found, head, name = [], [], None
+    for line in lines[at:]:
         if line.strip() == "{":
             break
         if it := re.match(r" *(ensures|requires)\*? +(?:(\w+) +)?\{", line):
             name = it[2] or ""
-        if name is not None and (chosen is None or name in chosen):
+        if name is None:
+            head.append(line)
+        elif chosen is None or name in chosen:
             found.append(line)
-    return found
+    return found, head
 
 
-def believed():
-    """Returns the lines of each definition and type that the clauses come to."""
+def believed(left_out=LEFT_OUT):
+    """Returns the lines of each definition and type that the clauses come to, but for those that are left out."""
     found, left = {}, []
     for crate, file, function, chosen in CLAUSES:
         path = f"crates/{crate}/src/{file}.rt"
-        lines = clause_lines(crate, file, function, chosen)
-        left += [*named(lines, path, crate, None), *types_in(lines, path, crate)]
+        lines, head = clause_lines(crate, file, function, chosen)
+        left += [*named(lines, path, crate, None), *types_in([*head, *lines], path, crate)]
     while left:
         it = left.pop()
-        if it is None or it in found or it in LEFT_OUT:
+        if it is None or it in found or it in left_out:
             continue
         if it[0] == "type":
             path, lines = types(it[1])[it[2]]
@@ -184,6 +190,7 @@ def main():
     for crate in sorted({it[1] for it in found}):
         print("{:4} {:4} {}".format(*sums({it: lines for it, lines in found.items() if it[1] == crate}), crate))
     print("{:4} {:4} lines of definitions, and of types".format(*sums(found)))
+    print("{:4} {:4} with what is left out".format(*sums(believed(set()))))
 
 
 if __name__ == "__main__":

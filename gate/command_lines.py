@@ -4,7 +4,9 @@ the engines say nothing of words and files. What is expected is what the README,
 `python3 gate/command_lines.py PROGRAM` runs them alone.
 """
 import collections
+import contextlib
 import os
+import pty
 import re
 import shutil
 import subprocess
@@ -27,8 +29,8 @@ LISTING = """\
 """
 
 # Words, with one space between them; the exit status; what is printed: the whole text, or pieces of it; how the fault
-# begins, or nothing of one; which stream is the device that takes no byte.
-Row = collections.namedtuple("Row", "words status output fault full", defaults=["", "", ""])
+# begins, or nothing of one; which stream is the device that takes no byte; whether somebody watches the faults.
+Row = collections.namedtuple("Row", "words status output fault full watched", defaults=["", "", "", False])
 
 PROGRAMS = {
     "wide.bpf": "1800000001000000 0000000002000000 9500000000000000",
@@ -44,6 +46,7 @@ SCRIPTS = {
     "fault.dsm": "window 4\nreplicas 2\ndeliver 1 1\njump 1\ndeliver 2 1\n",
     "early.dsm": "deliver 1 1\n",
     "refused.dsm": "window 4\nreplicas 2\ntable 1 8\nproc x 1 0 9500000000000000\n",
+    "long.dsm": "window 4\nreplicas 2\n" + 2_500 * "begin 1 x 00\n",
 }
 
 LISTS = [
@@ -78,6 +81,7 @@ replica 1 position 0 commits 0 running
 replica 2 position 0 commits 0 running
 agreement yes
 """
+LONG = ["call 1 refused P2\n", "call 2500 refused P2\n", " other 2500\n", "agreement yes\n"]
 RUNS = [
     Row("run settings.dsm", 0, NONE_CALLED),
     Row("run settings.dsm --executors 16 --log 1048576", 0, NONE_CALLED),
@@ -86,6 +90,9 @@ RUNS = [
     Row("run zero.dsm", 1, "", "line 1: L4\n"),
     Row("run early.dsm", 1, "", "line 1: L5\n"),
     Row("run refused.dsm", 1, "", "line 4: L7 V1 slot 0\n"),
+    Row("run long.dsm", 0, LONG),
+    Row("run long.dsm", 0, LONG, "dsmdb: made 1000 of 2500 calls\r\ndsmdb: made 2000 of 2500 calls\r\n", watched=True),
+    Row("run settings.dsm", 0, NONE_CALLED, watched=True),
 ]
 # The words are read first, then the file is opened, then the schema is made, and then the program is read: a folder can
 # be opened, and not read.
@@ -115,7 +122,7 @@ FULL = [
         "list wide.bpf", "list cut.bpf", "check add.bpf 16 1:8", "check add.bpf 8 1:8", "replay two-replicas.dsm",
         "run settings.dsm", "explain V5", "--help", "list --help", "--version")],
     # A fault that can't be said changes neither output nor status.
-    *[it._replace(fault="", full="faults") for it in (
+    *[it._replace(fault="", full="faults", watched=False) for it in (
         LISTS[0], CHECKS[3], *REPLAYS, *RUNS, *FILES,
         Row("check add.bpf 257", 2), Row("explain V13", 2), Row(None, 2), Row("jump", 2), Row("list", 2))],
 ]
@@ -169,21 +176,35 @@ def become_nobody():
     os.setuid(NOBODY)
 
 
-def ran(room, row):
+def ran(room, row, faults=subprocess.PIPE):
     """Runs a command line. Returns its status and what it wrote to each stream that isn't the full device."""
     words = [] if row.words is None else row.words.split(" ")
     with open("/dev/full", "wb") as full:
         return subprocess.run(
             [f"{room}/dsmdb", *words], cwd=room, env={}, stdin=subprocess.DEVNULL, timeout=60,
             stdout=full if row.full == "output" else subprocess.PIPE,
-            stderr=full if row.full == "faults" else subprocess.PIPE,
+            stderr=full if row.full == "faults" else faults,
             preexec_fn=become_nobody if os.geteuid() == 0 else None)
+
+
+def watched(room, row):
+    """Runs a command line whose faults go to a terminal. Returns the same."""
+    keeper, terminal = pty.openpty()
+    try:
+        found = ran(room, row, terminal)
+        os.set_blocking(keeper, False)
+        with contextlib.suppress(BlockingIOError):
+            found.stderr = os.read(keeper, 4_096)
+        return found
+    finally:
+        os.close(keeper)
+        os.close(terminal)
 
 
 def unlike(room, row):
     """Says what a command line does otherwise than its row says; nothing where it is as it should be."""
     try:
-        found = ran(room, row)
+        found = watched(room, row) if row.watched else ran(room, row)
     except (OSError, subprocess.TimeoutExpired) as error:
         return str(error)
     output, fault = ((it or b"").decode(errors="replace") for it in (found.stdout, found.stderr))

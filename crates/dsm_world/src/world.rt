@@ -5,17 +5,15 @@ ghost use Rattle.std.specs.Prelude.{option_map, slice_get, Some, None, IsSome, t
 ghost use Rattle.log_model.specs.declared.verdict.Verdict.{Verdict as ModelVerdict};
 ghost use Rattle.log_model.specs.declared.verdict.Verdict.TheVariants.{Commit};
 ghost use Rattle.dsm_model.specs.declared.outcome.Outcome.TheVariants.{Exit, Ordered, Delivered};
-ghost use Rattle.bpf_semantics.specs.State.{State};
-ghost use Rattle.bpf_semantics.specs.Step.{Ended};
 ghost use Rattle.bpf_semantics.specs.Path.{longest_path};
-ghost use Rattle.log_model.specs.Log.{Log, StoredProcedure, by_name, moment_at, procedure_of, procedures_after, run_in, verdict_of};
+ghost use Rattle.log_model.specs.Log.{Call, Log, StoredProcedure, by_name, procedure_of, procedures_after, run_in, verdict_of};
 ghost use Rattle.log_model.specs.Entries.{CallEntry, ExecutedCall};
 ghost use Rattle.log_entry.specs.Kind.{entry_of};
 ghost use Rattle.log_model.specs.Fit.{HasSafeProcedures};
 ghost use Rattle.dsm_model.specs.World.{OpenCall as ModelCall, Turn as TurnStep, Order as OrderStep};
 ghost use Rattle.dsm_model.specs.World.{IsStep, AreSteps, first_world, numbered, open_call};
 ghost use Rattle.dsm_model.specs.Sound.{IsGiven, IsSound, IsSerialReply, IsWorld};
-ghost use Rattle.model_laws.specs.Worlds.{HasExited, turns_of};
+ghost use Rattle.model_laws.specs.Worlds.{HasExited, IsCallNumbered, turns_of};
 ghost use Rattle.replica.specs.Replica.{Replica as ReplicaState, AreEntriesOf};
 ghost use Rattle.catalogue.specs.Catalogue.{IsCatalogue};
 ghost use Rattle.dsm_world.specs.System.{setting_of, world_of, step_of, progress_of, KeepsDelivered};
@@ -184,8 +182,8 @@ impl<A: Allocator + Copy> World<A> {
     ///
     /// Whatever the steps are, and whichever of them find no memory: they go on as the definitions of the world say; each
     /// open call is sound; each ordered call is committed exactly where the written test says so; what a replica keeps are
-    /// the verdicts, rows and procedures of the log as far as it has come; and a reply that was answered is that of the call
-    /// run in its turn, where it commits.
+    /// the verdicts, rows and procedures of the log as far as it has come; a reply that was answered is that of the call run in
+    /// its turn, where it commits; and enough turns have answered one.
     pub fn run(&mut self, steps: &[Step<'_>]) -> Result<Vec<Outcome, A>, AllocError>
         ensures steps { IfOk result (λ outcomes. AreSteps (setting_of self.old) (world_of self.old)
             (map (step_of (setting_of self.old)) steps.now) outcomes.items (world_of self.new)) }
@@ -202,12 +200,12 @@ impl<A: Allocator + Copy> World<A> {
             → slice_get outcomes.items j ≡ Some (Ordered position)
             → i < j → verdict_of (setting_of self.new) (world_of self.new).log position ≡ Some Commit
             → IsSerialReply (setting_of self.new) (world_of self.new).log position reply) }
-        // A call that is still open after as many turns as its longest path has instructions was answered Exit.
-        ensures exits { IfOk result (λ outcomes. (c : ℕ) (o : ModelCall) (p : StoredProcedure)
-            → open_call (world_of self.new) c ≡ Some o
-            → procedure_of (setting_of self.new) (world_of self.new).log o.call ≡ Some p
+        // A call of which as many turns ran an instruction as its longest path has was answered Exit, by one of these steps.
+        ensures exits { IfOk result (λ outcomes. (c : ℕ) (call : Call) (p : StoredProcedure)
+            → IsCallNumbered (world_of self.old) (map (step_of (setting_of self.old)) steps.now) outcomes.items c call
+            → procedure_of (setting_of self.new) (world_of self.new).log call ≡ Some p
             → longest_path p.program ≤ turns_of c (map (step_of (setting_of self.old)) steps.now) outcomes.items
-            → HasExited c (run_in (setting_of self.new) (world_of self.new).log o.call).reply
+            → HasExited c (run_in (setting_of self.new) (world_of self.new).log call).reply
             (map (step_of (setting_of self.old)) steps.now) outcomes.items) }
         ensures setting { setting_of self.new ≡ setting_of self.old }
         ensures unchanged { OnErr result (self.new ≡ self.old) }
@@ -228,8 +226,9 @@ impl<A: Allocator + Copy> World<A> {
 
     /// What is known of every world: steps lead to such a one, its catalogue's procedures were accepted and are safe, its
     /// entries are those of a log and carry their runs, and what each replica keeps are the verdicts, rows and procedures of
-    /// the log as far as it has come. Each open call is sound, and one that has come to its end has the reply that its entry
-    /// carries when it is ordered; an entry that commits carries the reply of its call run in its turn.
+    /// the log as far as it has come. Each open call is sound, and its run, with the reply that a turn answers at its end, stays
+    /// the same however long the log becomes; an entry carries the reply of its call's run, and where it commits that of the
+    /// call run in its turn. So whoever takes single steps knows what becomes of a reply.
     pub fn keeps_what_was_delivered(&self)
         ensures world { IsWorld (setting_of self.now) (world_of self.now) }
         ensures catalogue { IsCatalogue self.now.catalogue }
@@ -238,10 +237,12 @@ impl<A: Allocator + Copy> World<A> {
         ensures replicas { (r : ℕ) (k : ReplicaState) → numbered self.now.replicas r ≡ Some k → KeepsDelivered self.now k }
         ensures sound { (c : ℕ) (o : ModelCall) → open_call (world_of self.now) c ≡ Some o
             → IsSound (setting_of self.now) (world_of self.now).log o }
-        ensures ends { (c reply : ℕ) (o : ModelCall) (end : State) (more : Log) → open_call (world_of self.now) c ≡ Some o
-            → moment_at (setting_of self.now) (world_of self.now).log o.call o.turns ≡ Ended reply end
-            → (run_in (setting_of self.now) ((world_of self.now).log ++ more) o.call).reply ≡ reply }
-        ensures replies { (position : ℕ) (e : ExecutedCall) → numbered self.now.entries position ≡ Some (CallEntry e)
+        ensures stays { (c : ℕ) (o : ModelCall) (more : Log) → open_call (world_of self.now) c ≡ Some o
+            → run_in (setting_of self.now) ((world_of self.now).log ++ more) o.call
+            ≡ run_in (setting_of self.now) (world_of self.now).log o.call }
+        ensures carried { (position : ℕ) (e : ExecutedCall) → numbered self.now.entries position ≡ Some (CallEntry e)
+            → e.reply ≡ (run_in (setting_of self.now) (world_of self.now).log e.call).reply }
+        ensures serial { (position : ℕ) (e : ExecutedCall) → numbered self.now.entries position ≡ Some (CallEntry e)
             → verdict_of (setting_of self.now) (world_of self.now).log position ≡ Some Commit
             → IsSerialReply (setting_of self.now) (world_of self.now).log position e.reply }
     {

@@ -7,9 +7,9 @@ use command_line::{Plan, PlanFault, plan};
 use engines::{FAILED, check_over, list_over};
 use explanations::Explanation;
 use script_replay::replay_over;
-use script_run::run_over;
+use script_run::{RunOptions, run_over};
 use std::fs::File;
-use std::io::{BufReader, Write};
+use std::io::{BufReader, IsTerminal, Write};
 use std::process::ExitCode;
 use std::sync::Wait;
 use std::thread::Threads;
@@ -67,7 +67,7 @@ fn replay_file(rt: &HostRuntime, path: &str) -> io::Result<u8> {
     }
 }
 
-/// Runs the script in a file on threads.
+/// Runs the script in a file on threads. How far it has come is said where somebody watches.
 fn run_file<R: Threads + Wait + Copy + Send + Sync + 'static>(
     rt: &HostRuntime,
     threads: &R,
@@ -76,6 +76,7 @@ fn run_file<R: Threads + Wait + Copy + Send + Sync + 'static>(
     log_limit: u32,
 ) -> io::Result<u8> {
     let mut faults = rt.stderr();
+    let shows_progress = faults.is_terminal();
     match File::open(rt, path) {
         Ok(file) => {
             let mut input = BufReader::new(rt.alloc(), file)?;
@@ -86,8 +87,11 @@ fn run_file<R: Threads + Wait + Copy + Send + Sync + 'static>(
                 &mut input,
                 &mut output,
                 &mut faults,
-                executors,
-                log_limit,
+                RunOptions {
+                    executors,
+                    log_limit,
+                    shows_progress,
+                },
             ))
         }
         Err(error) => Ok(not_opened(rt, path, &error)),

@@ -58,9 +58,13 @@ carried_at w log [] d e all at = absurd cc
 carried_at w log (x ∷ entries) zero e all at = subst (IsCarried w log) (let same : x ≡ e = cc in same) all.0
 carried_at w log (x ∷ entries) (suc d) e all at = carried_at w log entries d e all.1 at
 
+pub entry_carries : (w : Setting) (entries : List Entry) (position : ℕ) (e : ExecutedCall) → CarryRuns w entries → numbered entries position ≡ Some (CallEntry e) → e.reply ≡ (run_in w (items_of entries) e.call).reply
+entry_carries w entries zero e runs at = absurd cc
+entry_carries w entries (suc d) e runs at = (carried_at w (items_of entries) entries d (CallEntry e) runs at).reply
+
 pub entry_reply : (w : Setting) (entries : List Entry) (position : ℕ) (e : ExecutedCall) → HasSafeProcedures w → IsLog (items_of entries) → AreItems w (items_of entries) → CarryRuns w entries
     → numbered entries position ≡ Some (CallEntry e) → verdict_of w (items_of entries) position ≡ Some Commit → IsSerialReply w (items_of entries) position e.reply
 entry_reply w entries zero e safe below items runs at verdict = absurd cc
 entry_reply w entries (suc d) e safe below items runs at verdict =
-    subst (IsSerialReply w (items_of entries) (suc d)) (sym (carried_at w (items_of entries) entries d (CallEntry e) runs at).reply)
+    subst (IsSerialReply w (items_of entries) (suc d)) (sym (entry_carries w entries (suc d) e runs at))
     (serial_reply w (items_of entries) d e.call safe below items (item_there entries d (CallEntry e) at) verdict)

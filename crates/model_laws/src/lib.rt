@@ -10,6 +10,7 @@ pub use log::{
 pub use worlds::{
     calls_end, each_change_is_of_one, enough_turns_reach_exit, open_calls_keep_their_replies,
     refused_steps_change_nothing, replicas_agree, the_log_is_never_full, there_are_worlds,
+    turns_that_run_are_counted,
 };
 
 mod contents;

@@ -54,9 +54,13 @@ pub fn what_is_told_is_serial()
         → told_reply w log position ≡ None }
 {}
 
-/// An entry that carries its run, and whose call commits, carries the reply of that call's run on the rows just before it.
+/// An entry of those that carry their runs carries the reply of its call's run on the rows of its snapshot, and where it
+/// commits, of the run on the rows just before it.
 pub fn entries_carry_serial_replies()
-    ensures { (w : Setting) (entries : List Entry) (position : ℕ) (e : ExecutedCall)
+    ensures carried { (w : Setting) (entries : List Entry) (position : ℕ) (e : ExecutedCall)
+        → CarryRuns w entries → numbered entries position ≡ Some (CallEntry e)
+        → e.reply ≡ (run_in w (items_of entries) e.call).reply }
+    ensures serial { (w : Setting) (entries : List Entry) (position : ℕ) (e : ExecutedCall)
         → HasSafeProcedures w → IsLog (items_of entries) → AreItems w (items_of entries) → CarryRuns w entries
         → numbered entries position ≡ Some (CallEntry e) → verdict_of w (items_of entries) position ≡ Some Commit
         → IsSerialReply w (items_of entries) position e.reply }

@@ -1,13 +1,11 @@
 //! Laws of worlds: what there is at first, that a change of one call or replica is one of that alone, what refused steps
 //! leave, where calls end, and that replicas agree.
 
-ghost use Rattle.std.specs.Prelude.{◌≡◌, ◌≢◌, ◌+◌, ◌<◌, ◌≤◌, ◌++◌, ℕ, true, List, [], Some, None, IsSome, Option, ◌⊎◌, false, length};
+ghost use Rattle.std.specs.Prelude.{◌≡◌, ◌≢◌, ◌+◌, ◌<◌, ◌≤◌, ◌++◌, ℕ, true, List, [], ◌∷◌, Some, None, IsSome, Option, ◌⊎◌, false, length};
 ghost use Rattle.log_model.specs.declared.request.RequestId.{RequestId};
 ghost use Rattle.dsm_model.specs.declared.outcome.Outcome.{Outcome};
-ghost use Rattle.dsm_model.specs.declared.outcome.Outcome.TheVariants.{Begun, Exit, Stale, NoMemory, Refused};
-ghost use Rattle.bpf_semantics.specs.State.{State};
-ghost use Rattle.bpf_semantics.specs.Step.{Ended};
-ghost use Rattle.log_model.specs.Log.{Setting, StoredProcedure, Log, procedure_of, moment_at, run_in};
+ghost use Rattle.dsm_model.specs.declared.outcome.Outcome.TheVariants.{Begun, Exit, More, Stale, NoMemory, Refused};
+ghost use Rattle.log_model.specs.Log.{Call, Setting, StoredProcedure, Log, procedure_of, run_in};
 ghost use Rattle.dsm_model.specs.World.{World, Replica, OpenCall, Step, Begin, Turn, Order, Deliver, Rebuild, Checked, Add, or_none};
 ghost use Rattle.dsm_model.specs.World.{max_calls, first_world, numbered, open_call, with_open_call, with_replica};
 ghost use Rattle.dsm_model.specs.World.{IsStep, AreSteps};
@@ -17,7 +15,7 @@ ghost use Rattle.dsm_model.specs.declared.outcome.StepRefusal.TheVariants.{NotAt
 ghost use Rattle.bpf_semantics.specs.Path.{longest_path};
 ghost use Rattle.log_model.specs.Fit.{HasSafeProcedures};
 ghost use Rattle.dsm_model.specs.Sound.{AreGiven, IsWorld};
-ghost use Rattle.model_laws.specs.Worlds.{delivered_items, HasExited, IsPrefix, turns_of};
+ghost use Rattle.model_laws.specs.Worlds.{delivered_items, HasExited, IsCallNumbered, IsPrefix, turns_of};
 
 /// A change of one call or replica is made there, and leaves the others and the rest; a call that begins is open under
 /// its number.
@@ -54,36 +52,50 @@ pub fn there_are_worlds()
         → (outcomes : List Outcome) × (after : World) × AreSteps w before steps outcomes after }
 {}
 
-/// A call that is still open after as many turns as the longest path of its procedure has instructions has come to its end:
-/// one of these turns has answered Exit, with its run's reply. It may have been begun before these steps, or by one of them;
-/// a turn that was refused, since the call wasn't open yet, counts for nothing.
-pub fn enough_turns_reach_exit()
-    ensures exit { (w : Setting) (before : World) (steps : List Step) (outcomes : List Outcome)
-        (after : World) (c : ℕ) (o : OpenCall) (p : StoredProcedure)
-        → HasSafeProcedures w → AreGiven w steps outcomes → IsWorld w before
-        → AreSteps w before steps outcomes after
-        → open_call after c ≡ Some o → procedure_of w after.log o.call ≡ Some p
-        → longest_path p.program ≤ turns_of c steps outcomes
-        → HasExited c (run_in w after.log o.call).reply steps outcomes }
-    ensures end { (w : Setting) (before : World) (steps : List Step) (outcomes : List Outcome)
-        (after : World) (c : ℕ) (o : OpenCall) (p : StoredProcedure)
-        → HasSafeProcedures w → AreGiven w steps outcomes → IsWorld w before
-        → AreSteps w before steps outcomes after
-        → open_call after c ≡ Some o → procedure_of w after.log o.call ≡ Some p
-        → longest_path p.program ≤ turns_of c steps outcomes
-        → o.turns ≡ (run_in w after.log o.call).steps }
+/// The turns of a call that ran an instruction are those that answered More or Exit.
+pub fn turns_that_run_are_counted()
+    ensures more { (c : ℕ) (steps : List Step) (outcomes : List Outcome)
+        → turns_of c (Turn c ∷ steps) (More ∷ outcomes) ≡ 1 + turns_of c steps outcomes }
+    ensures exit { (c reply : ℕ) (steps : List Step) (outcomes : List Outcome)
+        → turns_of c (Turn c ∷ steps) (Exit reply ∷ outcomes) ≡ 1 + turns_of c steps outcomes }
+    ensures other_calls { (c d : ℕ) (steps : List Step) (outcome : Outcome) (outcomes : List Outcome)
+        → d ≢ c → turns_of c (Turn d ∷ steps) (outcome ∷ outcomes) ≡ turns_of c steps outcomes }
 {}
 
-/// A call stays the same while it is open. Where it has come to its end, the reply that it has there is that of its run
-/// however much longer the log becomes, and so the one that its entry carries.
+/// A call of which as many turns ran an instruction as its procedure's longest path has has come to its end: one of these
+/// turns has answered Exit, with the reply of its run. It was open before these steps, or one of them began it, and it may
+/// be over since. Where it is still open it is at its end.
+pub fn enough_turns_reach_exit()
+    ensures exit { (w : Setting) (before : World) (steps : List Step) (outcomes : List Outcome)
+        (after : World) (c : ℕ) (call : Call) (p : StoredProcedure)
+        → HasSafeProcedures w → AreGiven w steps outcomes → IsWorld w before
+        → AreSteps w before steps outcomes after
+        → IsCallNumbered before steps outcomes c call → procedure_of w after.log call ≡ Some p
+        → longest_path p.program ≤ turns_of c steps outcomes
+        → HasExited c (run_in w after.log call).reply steps outcomes }
+    ensures end { (w : Setting) (before : World) (steps : List Step) (outcomes : List Outcome)
+        (after : World) (c : ℕ) (call : Call) (o : OpenCall) (p : StoredProcedure)
+        → HasSafeProcedures w → AreGiven w steps outcomes → IsWorld w before
+        → AreSteps w before steps outcomes after
+        → IsCallNumbered before steps outcomes c call → procedure_of w after.log call ≡ Some p
+        → longest_path p.program ≤ turns_of c steps outcomes
+        → open_call after c ≡ Some o → o.turns ≡ (run_in w after.log o.call).steps }
+{}
+
+/// A step leaves the log or appends to it, and a call stays the same while it is open. The reply that a turn answered at
+/// Exit is that of the call's run however much longer the log becomes, and so the one that its entry carries.
 pub fn open_calls_keep_their_replies()
+    ensures log { (w : Setting) (before : World) (step : Step) (outcome : Outcome) (after : World)
+        → IsStep w before step outcome after → (more : Log) × (after.log ≡ before.log ++ more) }
     ensures call { (w : Setting) (before : World) (step : Step) (outcome : Outcome) (after : World) (c : ℕ) (o later : OpenCall)
         → IsStep w before step outcome after → open_call before c ≡ Some o → open_call after c ≡ Some later
         → later.call ≡ o.call }
-    ensures reply { (w : Setting) (world : World) (c reply : ℕ) (o : OpenCall) (end : State) (more : Log)
-        → HasSafeProcedures w → IsWorld w world → open_call world c ≡ Some o
-        → moment_at w world.log o.call o.turns ≡ Ended reply end
-        → (run_in w (world.log ++ more) o.call).reply ≡ reply }
+    ensures reply { (w : Setting) (world : World) (c : ℕ) (o : OpenCall) (more : Log)
+        → IsWorld w world → open_call world c ≡ Some o
+        → run_in w (world.log ++ more) o.call ≡ run_in w world.log o.call }
+    ensures exit { (w : Setting) (before : World) (c reply : ℕ) (after : World) (o : OpenCall) (more : Log)
+        → IsWorld w before → IsStep w before (Turn c) (Exit reply) after → open_call before c ≡ Some o
+        → (run_in w (before.log ++ more) o.call).reply ≡ reply }
 {}
 
 /// Of what two replicas of one log have delivered, one begins with the other.

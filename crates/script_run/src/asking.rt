@@ -1,6 +1,6 @@
 //! Calling threads: each replica's calls are taken in the order of the script.
 
-ghost use Rattle.std.specs.Prelude.{◌≡◌, IfOk, vec_len};
+ghost use Rattle.std.specs.Prelude.{◌≡◌, IfOk, false, vec_len};
 
 use crate::told::told;
 use catalogue::Catalogue;
@@ -14,6 +14,7 @@ use report::CallAnswer;
 use row_values::Bytes;
 use script_calls::ScriptCall;
 use std::alloc::{AllocError, Global};
+use std::io::Write;
 use std::sync::atomic::AtomicUsize;
 use std::sync::atomic::Ordering::SeqCst;
 use std::sync::{Mutex, Wait};
@@ -36,8 +37,8 @@ struct PlannedCall {
 pub(crate) struct Asking {
     calls: Vec<PlannedCall>,
     answers: Mutex<Vec<Option<CallAnswer>>>,
-    /// How many calls were looked at for each replica.
-    looked: Vec<AtomicUsize>,
+    /// Of each replica the place of the call that is taken next, if it is one of the replica's.
+    next: Vec<AtomicUsize>,
 }
 
 impl Asking {
@@ -68,55 +69,107 @@ impl Asking {
                 request,
             })?;
         }
-        let mut looked = Vec::with_capacity(alloc, replicas as usize)?;
+        let mut next = Vec::with_capacity(alloc, replicas as usize)?;
         for _ in 0..replicas {
-            looked.push(AtomicUsize::new(0))?;
+            next.push(AtomicUsize::new(0))?;
         }
         Ok(Asking {
             calls,
             answers: Mutex::new(answers),
-            looked,
+            next,
         })
     }
 
-    /// Makes all calls: those of each replica by so many threads, and by this one what these have left and the calls of no
-    /// replica.
+    /// Makes all calls, and says after each part of them how many were made, where that is to be shown: a hundredth, but of
+    /// no fewer than 1,000 calls.
     pub(crate) fn ask_all<
         J: LogSetting + Ledgers + Send + Sync + 'static,
         R: Threads + Wait + Sync,
-    >(&self, rt: &R, alloc: Global, desk: &Desk<J, OpenGate>, executors: u32) {
-        let replicas = self.looked.len();
+        E: Write,
+    >(
+        &self,
+        rt: &R,
+        alloc: Global,
+        desk: &Desk<J, OpenGate>,
+        executors: u32,
+        faults: &mut E,
+        shows_progress: bool,
+    )
+        ensures silent { shows_progress ≡ false → faults.new ≡ faults.old }
+    {
+        let count = self.calls.len();
+        let part = if shows_progress {
+            (count / 100).max(1_000)
+        } else {
+            count.max(1)
+        };
+        for start in (0..count).step_by(part) {
+            let end = start.saturating_add(part).min(count);
+            self.ask_part(rt, alloc, desk, executors, start, end);
+            if shows_progress && end < count {
+                let _ = writeln!(faults, "dsmdb: made {end} of {count} calls");
+            }
+        }
+    }
+
+    /// Makes the calls from a place to another, that one not among them: those of each replica by so many threads, and by
+    /// this one what these have left and the calls of no replica.
+    fn ask_part<J: LogSetting + Ledgers + Send + Sync + 'static, R: Threads + Wait + Sync>(
+        &self,
+        rt: &R,
+        alloc: Global,
+        desk: &Desk<J, OpenGate>,
+        executors: u32,
+        start: usize,
+        end: usize,
+    ) {
+        for next in self.next.iter() {
+            next.store(start, SeqCst);
+        }
+        let replicas = self.next.len();
         let threads = replicas.saturating_mul(executors as usize);
         let _ended = thread::map_indices(
             rt,
             alloc,
             threads,
             &|thread: usize| {
-                self.ask_at(rt, desk, thread % replicas.max(1));
+                self.ask_at(rt, desk, thread % replicas.max(1), end);
             },
         );
         for place in 0..replicas {
-            self.ask_at(rt, desk, place);
+            self.ask_at(rt, desk, place, end);
         }
-        for (index, call) in self.calls.iter().enumerate() {
-            if call.replica == 0 || call.replica as usize > replicas {
+        for index in start..end {
+            if self.is_nowhere(index) {
                 self.ask_one(rt, desk, index);
             }
         }
     }
 
-    /// Makes the calls of a replica, by its place from 0 on, that no other thread has taken.
+    /// Whether a call is of no replica.
+    fn is_nowhere(&self, index: usize) -> bool {
+        match self.calls.get(index) {
+            Some(call) => call.replica == 0 || call.replica as usize > self.next.len(),
+            None => false,
+        }
+    }
+
+    /// Makes the calls of a replica, by its place from 0 on, that no other thread has taken, before a place in the script.
     fn ask_at<J: LogSetting + Ledgers + Send + Sync + 'static, R: Wait>(
         &self,
         rt: &R,
         desk: &Desk<J, OpenGate>,
         place: usize,
+        end: usize,
     ) {
-        let Some(looked) = self.looked.get(place) else {
+        let Some(next) = self.next.get(place) else {
             return;
         };
-        for _ in 0..self.calls.len() {
-            let index = looked.fetch_add(1, SeqCst);
+        for _ in 0..end {
+            let index = next.fetch_add(1, SeqCst);
+            if index >= end {
+                break;
+            }
             let Some(call) = self.calls.get(index) else {
                 break;
             };
@@ -174,7 +227,7 @@ impl Asking {
 
     /// How many weren't made at a replica since no procedure has the name.
     pub(crate) fn unnamed(&self) -> u64 {
-        let replicas = self.looked.len();
+        let replicas = self.next.len();
         let mut count = 0u64;
         for call in self.calls.iter() {
             let at_a_replica = call.replica >= 1 && call.replica as usize <= replicas;

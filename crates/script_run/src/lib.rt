@@ -1,7 +1,7 @@
 //! Takes the calls of a script on the threads of a node, over any input, output and writer for faults.
 #![tactic(auto)]
 
-pub use run::run_over;
+pub use run::{RunOptions, run_over};
 
 mod asking;
 mod run;

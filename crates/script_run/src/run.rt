@@ -1,6 +1,6 @@
 //! A script is run on a node.
 
-ghost use Rattle.std.specs.Prelude.{◌≡◌, ◌⊎◌, ◌<◌, ◌^◌, IfOk, IfSome, true, length, vec_len};
+ghost use Rattle.std.specs.Prelude.{◌≡◌, ◌⊎◌, ◌<◌, ◌^◌, IfOk, IfSome, false, true, length, vec_len};
 ghost use Rattle.byte_output.specs.Writes.{AppendsBeginning, WritesText};
 ghost use Rattle.engines.specs.declared.status.TheConstants.{FAILED};
 ghost use Rattle.tallies.specs.Shared.{names_by_place};
@@ -44,17 +44,26 @@ struct Report {
     agrees: bool,
 }
 
-/// Runs the script in the input on a node with so many executing threads a replica and a log of at most so many entries: reads
-/// it whole, makes its calls, and prints what each was answered, and how the node has ended. The exit status is 0 where all was
-/// done; 1 where a line is at fault; 3 where memory, a stream or a thread failed.
+/// How a script is run.
+#[derive(Clone, Copy, Debug, PartialEq, Eq)]
+pub struct RunOptions {
+    /// How many threads run the calls of each replica, 1 to 16.
+    pub executors: u32,
+    /// How many entries the log has at most, 1 to 1,048,576.
+    pub log_limit: u32,
+    /// Whether it is said on the writer for faults how many calls of a long script were made so far.
+    pub shows_progress: bool,
+}
+
+/// Runs the script in the input on a node: reads it whole, makes its calls, and prints what each was answered, and how the node
+/// has ended. The exit status is 0 where all was done; 1 where a line is at fault; 3 where memory, a stream or a thread failed.
 pub fn run_over<R: Threads + Wait + Copy + Send + Sync + 'static, I: BufRead, W: Write, E: Write>(
     rt: &R,
     alloc: Global,
     input: &mut I,
     output: &mut W,
     faults: &mut E,
-    executors: u32,
-    limit: u32,
+    options: RunOptions,
 ) -> u8
     ensures range { ((result ≡ 0) ⊎ (result ≡ 1)) ⊎ (result ≡ FAILED) }
     // An answer to each call of the script, and how the node has ended.
@@ -62,6 +71,8 @@ pub fn run_over<R: Threads + Wait + Copy + Send + Sync + 'static, I: BufRead, W:
     // The script's first fault, or as much of its line as the writer takes. Nothing was run.
     ensures fault { result ≡ 1 → IfSome (I.remaining input.old) (λ bytes. SaysFault bytes (E.contents faults.old) (E.contents faults.new)) }
     ensures untouched { result ≡ 1 → output.new ≡ output.old }
+    // Nothing is said where all was done, unless progress is to be shown.
+    ensures silent { result ≡ 0 → options.shows_progress ≡ false → faults.new ≡ faults.old }
     // Something failed: what was written is a beginning of what a run prints.
     ensures failed { result ≡ FAILED → (r : RunReport) × AppendsBeginning (W.contents output.old) (W.contents output.new) (run_text r) }
 {
@@ -69,7 +80,7 @@ pub fn run_over<R: Threads + Wait + Copy + Send + Sync + 'static, I: BufRead, W:
         Ok(script) => script,
         Err(stop) => return tell(faults, stop),
     };
-    let report = match run_script(rt, alloc, script, executors, limit) {
+    let report = match run_script(rt, alloc, script, faults, options) {
         Ok(report) => report,
         Err(Failure::OutOfMemory) => return tell(faults, out_of_memory(0)),
         Err(Failure::Start(fault)) => {
@@ -113,15 +124,16 @@ fn put_out<W: Write>(output: &mut W, text: &[u8]) -> io::Result<()>
 }
 
 /// Makes a node for a script, and runs it there.
-fn run_script<R: Threads + Wait + Copy + Send + Sync + 'static>(
+fn run_script<R: Threads + Wait + Copy + Send + Sync + 'static, E: Write>(
     rt: &R,
     alloc: Global,
     script: CallScript,
-    executors: u32,
-    limit: u32,
+    faults: &mut E,
+    options: RunOptions,
 ) -> Result<Report, Failure>
     ensures report { IfOk result (λ report. IsReportOf (said_by script) (report_of report)) }
     ensures few { IfOk result (λ report. vec_len report.replicas < 2 ^ 32) }
+    ensures silent { options.shows_progress ≡ false → faults.new ≡ faults.old }
 {
     let CallScript {
         window,
@@ -134,18 +146,29 @@ fn run_script<R: Threads + Wait + Copy + Send + Sync + 'static>(
     };
     let size = Size {
         replicas,
-        executors,
+        executors: options.executors,
         window,
-        limit,
+        limit: options.log_limit,
     };
     let blanks = Blanks::new();
-    run_on_node::<Brand, R>(rt, alloc, cells, blanks, size, catalogue, calls)
+    run_on_node::<Brand, R, E>(
+        rt,
+        alloc,
+        cells,
+        blanks,
+        size,
+        catalogue,
+        calls,
+        faults,
+        options.shows_progress,
+    )
 }
 
 /// Starts a node, has its calls made, and ends it.
 fn run_on_node<
     J: LogSetting + Ledgers + Send + Sync + 'static,
     R: Threads + Wait + Copy + Send + Sync + 'static,
+    E: Write,
 >(
     rt: &R,
     alloc: Global,
@@ -154,6 +177,8 @@ fn run_on_node<
     size: Size,
     catalogue: Catalogue,
     calls: Vec<ScriptCall<Bytes<Global>>>,
+    faults: &mut E,
+    shows_progress: bool,
 ) -> Result<Report, Failure>
     requires cells { cells ≡ J.groups }
     requires ledgers { J.names ≡ names_by_place blanks }
@@ -165,6 +190,7 @@ fn run_on_node<
     ensures answers { IfOk result (λ report. vec_len report.answers ≡ vec_len calls) }
     ensures replicas { IfOk result (λ report. vec_len report.replicas ≡ size.replicas) }
     ensures agrees { IfOk result (λ report. report.agrees ≡ true) }
+    ensures silent { shows_progress ≡ false → faults.new ≡ faults.old }
 {
     let Ok(asking) = Asking::new(alloc, &catalogue, size.replicas, calls) else {
         return Err(Failure::OutOfMemory);
@@ -176,7 +202,14 @@ fn run_on_node<
         Ok(node) => node,
         Err(fault) => return Err(Failure::Start(fault)),
     };
-    asking.ask_all(rt, alloc, node.desk(), size.executors);
+    asking.ask_all(
+        rt,
+        alloc,
+        node.desk(),
+        size.executors,
+        faults,
+        shows_progress,
+    );
     let answers = asking.answers(rt, alloc, node.desk());
     let finish = node.finish(rt);
     let mut totals = finish.totals;

@@ -1,8 +1,7 @@
 use Rattle.std.proofs.Common.{◌≡◌, ◌++◌, Some, subst}
 use Rattle.log_model.specs.Fit.{HasSafeProcedures}
-use Rattle.bpf_semantics.specs.Step.{Ended}
 use Rattle.log_model.specs.declared.verdict.Verdict.TheVariants.{Commit}
-use Rattle.log_model.specs.Log.{moment_at, run_in, verdict_of}
+use Rattle.log_model.specs.Log.{run_in, verdict_of}
 use Rattle.log_model.specs.Entries.{CallEntry}
 use Rattle.dsm_model.specs.Sound.{IsSerialReply, IsSound, IsWorld}
 use Rattle.dsm_model.specs.World.{numbered, open_call}
@@ -35,13 +34,18 @@ returns-clause-sound g c n o =
     subst (λ (s : SystemWorld). open_call (world_of s) n ≡ Some o → IsSound (setting_of s) (world_of s).log o) c.self.view_is
     (c.open_calls_are_sound.ensures (setting_of (system_of c.self.inside.holdings)) (world_of (system_of c.self.inside.holdings)) n o c.self.invariant.together.entries.procedures c.self.invariant.together.world)
 
-pub returns-clause-ends : goal.returns-clause-ends
-returns-clause-ends g c n reply o end more =
-    subst (λ (s : SystemWorld). open_call (world_of s) n ≡ Some o → moment_at (setting_of s) (world_of s).log o.call o.turns ≡ Ended reply end → (run_in (setting_of s) ((world_of s).log ++ more) o.call).reply ≡ reply) c.self.view_is
-    (c.open_calls_keep_their_replies.ensures.reply (setting_of (system_of c.self.inside.holdings)) (world_of (system_of c.self.inside.holdings)) n reply o end more c.self.invariant.together.entries.procedures c.self.invariant.together.world)
+pub returns-clause-stays : goal.returns-clause-stays
+returns-clause-stays g c n o more =
+    subst (λ (s : SystemWorld). open_call (world_of s) n ≡ Some o → run_in (setting_of s) ((world_of s).log ++ more) o.call ≡ run_in (setting_of s) (world_of s).log o.call) c.self.view_is
+    (c.open_calls_keep_their_replies.ensures.reply (setting_of (system_of c.self.inside.holdings)) (world_of (system_of c.self.inside.holdings)) n o more c.self.invariant.together.world)
 
-pub returns-clause-replies : goal.returns-clause-replies
-returns-clause-replies g c position e =
+pub returns-clause-carried : goal.returns-clause-carried
+returns-clause-carried g c position e =
+    subst (λ (s : SystemWorld). numbered s.entries position ≡ Some (CallEntry e) → e.reply ≡ (run_in (setting_of s) (world_of s).log e.call).reply) c.self.view_is
+    (c.entries_carry_serial_replies.ensures.carried (setting_of (system_of c.self.inside.holdings)) (system_of c.self.inside.holdings).entries position e c.self.invariant.together.entries.runs)
+
+pub returns-clause-serial : goal.returns-clause-serial
+returns-clause-serial g c position e =
     let is = c.self.invariant.together.entries in
     subst (λ (s : SystemWorld). numbered s.entries position ≡ Some (CallEntry e) → verdict_of (setting_of s) (world_of s).log position ≡ Some Commit → IsSerialReply (setting_of s) (world_of s).log position e.reply) c.self.view_is
-    (c.entries_carry_serial_replies.ensures (setting_of (system_of c.self.inside.holdings)) (system_of c.self.inside.holdings).entries position e is.procedures is.log is.items is.runs)
+    (c.entries_carry_serial_replies.ensures.serial (setting_of (system_of c.self.inside.holdings)) (system_of c.self.inside.holdings).entries position e is.procedures is.log is.items is.runs)

@@ -5,8 +5,8 @@ use Rattle.log_model.specs.declared.verdict.Verdict.TheVariants.{Commit}
 use Rattle.dsm_model.specs.declared.outcome.Outcome.TheVariants.{Exit, Ordered}
 use Rattle.bpf_semantics.specs.Path.{longest_path}
 use Rattle.log_model.specs.Log.{Setting, procedure_of, run_in, verdict_of}
-use Rattle.model_laws.specs.Worlds.{HasExited, turns_of}
-use Rattle.dsm_model.specs.World.{open_call, Turn as TurnStep, Order as OrderStep, IsStep, AreSteps}
+use Rattle.model_laws.specs.Worlds.{HasExited, IsCallNumbered, turns_of}
+use Rattle.dsm_model.specs.World.{Turn as TurnStep, Order as OrderStep, IsStep, AreSteps}
 use Rattle.dsm_model.specs.Sound.{IsGiven, AreGiven, IsSerialReply}
 use Rattle.dsm_world.specs.System.{setting_of, world_of, step_of}
 use Rattle.std.specs.Prelude.{slice_index_or}
@@ -64,12 +64,13 @@ returns-clause-replies g c n i j position reply =
     (c.replies_are_serial.ensures (setting_of s) (world_of s) (map (step_of (setting_of s)) c.args.steps.now) c.loop-step.outcomes.items (world_of t) n i j position reply c.keeps_what_was_delivered.ensures.procedures given c.keeps_what_was_delivered.ensures.world done)
 
 pub returns-clause-exits : goal.returns-clause-exits
-returns-clause-exits g c n o p =
+returns-clause-exits g c n call p =
     let s = c.args.self.now in
     let t = c.loop-step.self in
     let all = take_all c.args.steps.now c.loop-step.step-index c.loop-step-test.false in
     let done = subst (λ (xs : List Step). AreSteps (setting_of s) (world_of s) (map (step_of (setting_of s)) xs) c.loop-step.outcomes.items (world_of t)) all c.loop-step.invariant.done in
     let given = subst (λ (xs : List Step). AreGiven (setting_of s) (map (step_of (setting_of s)) xs) c.loop-step.outcomes.items) all c.loop-step.invariant.given in
-    subst (λ (w : Setting). open_call (world_of t) n ≡ Some o → procedure_of w (world_of t).log o.call ≡ Some p → longest_path p.program ≤ turns_of n (map (step_of (setting_of s)) c.args.steps.now) c.loop-step.outcomes.items
-    → HasExited n (run_in w (world_of t).log o.call).reply (map (step_of (setting_of s)) c.args.steps.now) c.loop-step.outcomes.items) (sym c.loop-step.invariant.same)
-    (c.enough_turns_reach_exit.ensures.exit (setting_of s) (world_of s) (map (step_of (setting_of s)) c.args.steps.now) c.loop-step.outcomes.items (world_of t) n o p c.keeps_what_was_delivered.ensures.procedures given c.keeps_what_was_delivered.ensures.world done)
+    subst (λ (w : Setting). IsCallNumbered (world_of s) (map (step_of (setting_of s)) c.args.steps.now) c.loop-step.outcomes.items n call → procedure_of w (world_of t).log call ≡ Some p
+    → longest_path p.program ≤ turns_of n (map (step_of (setting_of s)) c.args.steps.now) c.loop-step.outcomes.items
+    → HasExited n (run_in w (world_of t).log call).reply (map (step_of (setting_of s)) c.args.steps.now) c.loop-step.outcomes.items) (sym c.loop-step.invariant.same)
+    (c.enough_turns_reach_exit.ensures.exit (setting_of s) (world_of s) (map (step_of (setting_of s)) c.args.steps.now) c.loop-step.outcomes.items (world_of t) n call p c.keeps_what_was_delivered.ensures.procedures given c.keeps_what_was_delivered.ensures.world done)
