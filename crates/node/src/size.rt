@@ -1,7 +1,7 @@
 //! What a node is made of.
 
-ghost use Rattle.std.specs.Prelude.{◌≤◌, OnOk, IfErr};
-ghost use Rattle.node.specs.Size.{IsSize, IsSizeFault};
+ghost use Rattle.std.specs.Prelude.{◌≤◌, ◌↔◌, IsTrue, OnOk, IfErr};
+ghost use Rattle.node.specs.Size.{IsSize, IsSizeFault, IsWithin};
 
 use order_log::LIMIT;
 
@@ -34,22 +34,29 @@ pub struct Size {
     pub limit: u32,
 }
 
+/// Whether a number is from 1 to a limit.
+fn is_within(limit: u32, number: u32) -> bool
+    ensures { IsTrue result ↔ IsWithin limit number }
+{
+    1 <= number && number <= limit
+}
+
 impl Size {
     /// Whether a node may be of this size, and else the first cause that it may not.
     pub fn check(&self) -> Result<(), StartFault>
         ensures size { OnOk result (IsSize self.now) }
         ensures fault { IfErr result (IsSizeFault self.now) }
     {
-        if !(1..=8).contains(&self.replicas) {
+        if !is_within(8, self.replicas) {
             return Err(StartFault::Replicas);
         }
-        if !(1..=16).contains(&self.executors) {
+        if !is_within(16, self.executors) {
             return Err(StartFault::Executors);
         }
-        if !(1..=4096).contains(&self.window) {
+        if !is_within(4096, self.window) {
             return Err(StartFault::Window);
         }
-        if !(1..=LIMIT).contains(&self.limit) {
+        if !is_within(LIMIT, self.limit) {
             return Err(StartFault::Limit);
         }
         Ok(())
