@@ -1,8 +1,7 @@
 -- What a replica keeps, in words of the log's rows.
-use Rattle.std.proofs.Common.{◌≡◌, ℕ, zero, suc, ◌^◌, ◌<◌, ◌≤◌, List, [], ◌∷◌, ◌++◌, length, take, drop, option_map, Option, Some, None, IsSome, refl, sym, ap, subst, ◌∙◌, arith}
-use Rattle.std.specs.FinMap.{get, entries}
-use Rattle.schema.specs.Rows.{Key, Rows, AreRows}
-use Rattle.schema.specs.Schema.{Tables}
+use Rattle.std.proofs.Common.{◌≡◌, ℕ, zero, suc, ◌≤◌, List, [], ◌∷◌, ◌++◌, length, take, drop, option_map, Option, sym, ap, ◌∙◌, arith}
+use Rattle.std.specs.FinMap.{entries}
+use Rattle.schema.specs.Rows.{Key}
 use Rattle.row_model.specs.InstalledWrites.{map_after}
 use Rattle.log_model.specs.Log.{Catalogue, Setting, Log, IsLog, rows_after}
 use Rattle.log_model.specs.Entries.{Entry, items_of, CarryRuns, certified_entries_of, installed_from}
@@ -22,10 +21,6 @@ log_is s n = ap items_of (sym (take_drop s.entries n)) ∙ items_append (take n 
 abbrev pub RowsSuffice : Type 0
 RowsSuffice = (w : Setting) (entries : List Entry) (position : ℕ) → HasSafeProcedures w → IsLog (items_of entries) → AreItems w (items_of entries) → CarryRuns w entries → position ≤ length entries
     → map_after (installed_from 1 (certified_entries_of w.window w.catalogue entries).certified) position ≡ rows_after w (items_of entries) position
-
--- what the law of rows says
-abbrev pub RowsFit : Type 0
-RowsFit = (w : Setting) (log : Log) (position : ℕ) → HasSafeProcedures w → IsLog log → AreItems w log → position ≤ length log → AreRows w.tables (rows_after w log position)
 
 taken_short : {X : Type 0} (xs : List X) (n : ℕ) → length (take n xs) ≤ length xs
 taken_short xs zero = omega arith
@@ -51,27 +46,12 @@ rows_are suffice s r position keeps reached =
     ∙ suffice w past position are.procedures are.log are.items are.runs (omega arith)
     ∙ sym (ap (λ (l : Log). rows_after w l position) (log_is s r.position) ∙ rows_grown w (items_of past) (items_of (drop r.position s.entries)) position (omega arith))
 
-some_value : {X : Type 0} (o : Option X) → IsSome o → (x : X) × (o ≡ Some x)
-some_value None is = absurd cc
-some_value (Some x) is = (x, refl)
-
--- keys have 64 bits
-keys_fit : (tables : Tables) (rows : Rows) → AreRows tables rows → (k : Key) → IsSome (get rows k) → k.1 < 2 ^ 64
-keys_fit tables rows are k is = let there = some_value (get rows k) is in (are k.0 k.1 there.0 there.1).at_key.key_fits
-
 -- what a replica lists is the log's rows
-pub rows_listed : RowsSuffice → RowsFit → (s : SystemWorld) (r : Replica) (items : List (Key × List ℕ)) → KeepsDelivered s r
-    → ((base : Catalogue) (past : List Entry) → StandsFor base r past → ((k : Key) → IsSome (get (rows_kept r.window base past r.position) k) → k.1 < 2 ^ 64) → items ≡ entries (rows_kept r.window base past r.position))
+pub rows_listed : RowsSuffice → (s : SystemWorld) (r : Replica) (items : List (Key × List ℕ)) → KeepsDelivered s r
+    → ((base : Catalogue) (past : List Entry) → StandsFor base r past → items ≡ entries (rows_kept r.window base past r.position))
     → items ≡ entries (rows_after (setting_of s) (items_of s.entries) r.position)
-rows_listed suffice fit s r items keeps list =
-    let w = setting_of s in
-    let log = items_of s.entries in
-    let within = position_within s r keeps in
-    let count = items_count s.entries in
-    let same = rows_are suffice s r r.position keeps (omega arith) in
-    let are = fit w log r.position keeps.entries.procedures keeps.entries.log keeps.entries.items (omega arith) in
-    let keys = λ (k : Key) (is : IsSome (get (rows_kept r.window s.catalogue.procedures (take r.position s.entries) r.position) k)). keys_fit w.tables (rows_after w log r.position) are k (subst (λ (rows : Rows). IsSome (get rows k)) same is) in
-    list s.catalogue.procedures (take r.position s.entries) keeps.delivered keys ∙ ap entries same
+rows_listed suffice s r items keeps list =
+    list s.catalogue.procedures (take r.position s.entries) keeps.delivered ∙ ap entries (rows_are suffice s r r.position keeps (omega arith))
 
 -- ---- the replica of the definitions
 

@@ -7,7 +7,7 @@ ghost use Rattle.dsm_model.specs.World.{Replica as ModelReplica, numbered};
 ghost use Rattle.dsm_world.specs.System.{setting_of, world_of};
 
 use crate::world::World;
-use log_model::{entries_suffice, rows_fit_the_schema};
+use log_model::entries_suffice;
 use replica::At;
 use row_values::Row;
 use std::alloc::{AllocError, Allocator, Global};
@@ -34,7 +34,6 @@ impl<A: Allocator + Copy> World<A> {
             listed.rows.items ≡ entries (rows_after (setting_of self.now) (world_of self.now).log listed.position))) }
     {
         entries_suffice();
-        rows_fit_the_schema();
         self.keeps_what_was_delivered();
         let Some(kept) = self.replica(replica) else {
             return Ok(None);

@@ -5,7 +5,7 @@ ghost use Rattle.std.specs.Prelude.{filter, vec_len, vec_capacity, is_ok, slice_
 ghost use Rattle.std.specs.Prelude.{OnOk, OnErr, IfOk, IfSome, if◌then◌else◌};
 ghost use Rattle.std.specs.Option.{option_copied, IsSomeAnd};
 ghost use Rattle.row_chain.specs.Version.{HasRoom};
-ghost use Rattle.key_table.specs.Table.{Slot, IsReserved, IsPushed, AreRising, AreWide, chain_at, versions_at};
+ghost use Rattle.key_table.specs.Table.{Slot, IsReserved, IsPushed, AreRising, AreSlotsOf, chain_at, versions_at};
 ghost use Rattle.key_table.specs.Table.{HasRoomAt};
 ghost use Rattle.key_table.specs.Pages.{all_slots, with_slot, in_page, in_pages, begins_by, has_slots, AreFilled};
 ghost use Rattle.key_table.specs.Pages.{ArePages, IsInserted, IsPrunedTo, ArePagesPruned};

@@ -1,6 +1,6 @@
 //! The keys of one table in pages.
 
-ghost use Rattle.std.specs.Prelude.{◌≡◌, ◌≢◌, ◌==◌, ◌≤◌, ◌*◌, ◌++◌, [], ◌∷◌, ℕ, length, slice_get, if◌then◌else◌};
+ghost use Rattle.std.specs.Prelude.{◌≡◌, ◌≢◌, ◌==◌, ◌≤◌, ◌*◌, ◌^◌, ◌++◌, [], ◌∷◌, ℕ, length, slice_get, if◌then◌else◌};
 ghost use Rattle.std.specs.Prelude.{OnOk, IfSome, IsSome, option_map};
 ghost use Rattle.std.specs.Option.{option_copied};
 ghost use Rattle.row_chain.specs.Version.{row_up_to, needed_versions};
@@ -69,6 +69,8 @@ impl<A: Allocator> KeyTable<A> {
     pub fn first(&self, position: u32, lo: u64, hi: u64) -> Option<(u64, &[u8])>
         ensures first { option_map (λ f. (f.0, f.1.now)) result ≡ slice_get (rows_between position lo hi self.now.slots) 0 }
         ensures rising { AreRising self.now.slots }
+        // What is known of every table: a greater number than any key has no versions.
+        ensures words { (q : ℕ) → 2 ^ 64 ≤ q → versions_at self.now.slots q ≡ [] }
     {
         pages::first(pages::since(&self.pages, lo), position, lo, hi)
     }

@@ -4,9 +4,7 @@ ghost use Rattle.std.specs.Prelude.{◌≡◌, ℕ, ◌+◌, ◌-◌, ◌≤◌,
 ghost use Rattle.std.specs.Prelude.{false, is_err};
 ghost use Rattle.schema.specs.Rows.{AreWrites};
 ghost use Rattle.std.specs.Prelude.{All, IfOk, OnOk, OnErr};
-ghost use Rattle.std.specs.Prelude.{IsSome};
 ghost use Rattle.std.specs.FinMap as map;
-ghost use Rattle.schema.specs.Rows.{Key};
 ghost use Rattle.schema.specs.Schema.{Tables};
 ghost use Rattle.log_model.specs.Log.{Catalogue as Procedures, IsLog, IsPlaced, Setting, procedures_after, rows_after, verdict_of};
 ghost use Rattle.log_model.specs.Entries.{Entry as Delivered, item_of, items_of, certified_entry, certified_entries_of};
@@ -159,7 +157,6 @@ impl<A: Allocator + Copy, P: Allocator + Copy> Replica<A, P> {
     /// The rows after the last position, in the order of tables and keys.
     pub fn rows<B: Allocator + Copy>(&self, alloc: B) -> Result<Vec<Row<B>, B>, AllocError>
         ensures { IfOk result (λ list. (base : Procedures) (entries : List Delivered) → StandsFor base self.now entries
-            → ((k : Key) → IsSome (map.get (rows_kept self.now.window base entries self.now.position) k) → k.1 < 2 ^ 64)
             → list.items ≡ map.entries (rows_kept self.now.window base entries self.now.position)) }
     {
         self.versions.rows_at(alloc, self.position)

@@ -13,5 +13,5 @@ returns-clause-rows g c =
     let r = c.in-Some.kept.now in
     let at : numbered s.replicas c.args.replica ≡ Some r = sym c.in-Some.ensures in
     let keeps = c.keeps_what_was_delivered.ensures.replicas c.args.replica r at in
-    rows_listed c.entries_suffice.ensures.rows c.rows_fit_the_schema.ensures s r c.in_ok-rows.rows.items keeps c.in_ok-rows.ensures
+    rows_listed c.entries_suffice.ensures.rows s r c.in_ok-rows.rows.items keeps c.in_ok-rows.ensures
     ∙ ap (λ n. entries (rows_after (setting_of s) (items_of s.entries) n)) (sym c.position.ensures)
