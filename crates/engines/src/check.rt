@@ -1,20 +1,23 @@
 //! The command `check`, over any input and output.
 
-ghost use Rattle.std.specs.Prelude.{◌≡◌, ◌≢◌, ◌⊎◌, ◌≤◌, Err, IfOk, IfSome, OnErr};
+ghost use Rattle.std.specs.Prelude.{◌≡◌, ◌≢◌, ◌⊎◌, ◌≤◌, Err, IfErr, IfOk, IfSome};
 ghost use Rattle.std.specs.Io.KnownBytes.{Appends};
 ghost use Rattle.byte_output.specs.Writes.{AppendsBeginning, WritesText};
 ghost use Rattle.schema.specs.Schema.{schema_of};
 ghost use Rattle.bpf_code.specs.Decoding.{program_of};
 ghost use Rattle.engines.specs.Checking.{IsVerdictOf, OfVerdict, verdict_text, verdict_status};
+ghost use Rattle.engines.specs.Failures.{IsBeforeOutput, IsSaid, Leaves};
+ghost use Rattle.engines.specs.declared.failure.CommandFailure.{CommandFailure};
 ghost use Rattle.engines.specs.declared.status.TheConstants.{FAILED};
 
+use crate::failure::{CommandFailure, say};
 use crate::source::read_program;
 use crate::status::FAILED;
 use crate::verdict::CheckVerdict;
 use bpf_verify::{Refusal, verify};
 use byte_output::put;
 use schema::{Schema, SchemaFault};
-use std::alloc::{AllocError, Allocator};
+use std::alloc::Allocator;
 use std::io;
 use std::io::{Read, Write};
 
@@ -37,13 +40,19 @@ pub fn check_over<A: Allocator + Copy, R: Read, W: Write, E: Write>(
     ensures status { IfSome (R.remaining input.old) (λ bytes. result ≢ FAILED →
         OfVerdict args_len (schema_of tables.now) (program_of bytes) (λ verdict. result ≡ verdict_status verdict)) }
 
-    // Where nothing failed, the verdict's whole line was written, and else nothing or a beginning of it.
+    // Where nothing failed, the verdict's whole line was written.
     ensures whole { IfSome (R.remaining input.old) (λ bytes. result ≢ FAILED →
         OfVerdict args_len (schema_of tables.now) (program_of bytes) (λ verdict.
         Appends (W.contents output.old) (W.contents output.new) (verdict_text verdict))) }
-    ensures beginning { IfSome (R.remaining input.old) (λ bytes. (W.contents output.new ≡ W.contents output.old)
-        ⊎ OfVerdict args_len (schema_of tables.now) (program_of bytes) (λ verdict.
-        AppendsBeginning (W.contents output.old) (W.contents output.new) (verdict_text verdict))) }
+
+    // Else memory was wanting or the input failed, and the output is as it was; or the output failed, and has a beginning of the
+    // line. Which it was is said.
+    ensures failed { result ≡ FAILED → (failure : CommandFailure)
+        × Leaves (IfSome (R.remaining input.old) (λ bytes.
+        OfVerdict args_len (schema_of tables.now) (program_of bytes) (λ verdict.
+        AppendsBeginning (W.contents output.old) (W.contents output.new) (verdict_text verdict))))
+        (W.contents output.old) (W.contents output.new) failure
+        × IsSaid (E.contents faults.old) (E.contents faults.new) failure }
 
     // Nothing is said where nothing failed.
     ensures silent { result ≢ FAILED → faults.new ≡ faults.old }
@@ -53,8 +62,8 @@ pub fn check_over<A: Allocator + Copy, R: Read, W: Write, E: Write>(
 {
     match check(alloc, input, output, args_len, tables) {
         Ok(verdict) => verdict.status(),
-        Err(error) => {
-            let _ = writeln!(faults, "dsmdb: {error}");
+        Err(failure) => {
+            say(faults, &failure);
             FAILED
         }
     }
@@ -67,20 +76,23 @@ fn check<A: Allocator + Copy, R: Read, W: Write>(
     output: &mut W,
     args_len: u16,
     tables: &[(u8, u16)],
-) -> io::Result<CheckVerdict>
+) -> Result<CheckVerdict, CommandFailure>
     requires { args_len ≤ 256 }
     ensures verdict { IfOk result (λ verdict. IfSome (R.remaining input.old) (λ bytes.
         IsVerdictOf args_len (schema_of tables.now) (program_of bytes) verdict)) }
     ensures ok { IfOk result (λ verdict.
         Appends (W.contents output.old) (W.contents output.new) (verdict_text verdict)) }
-    ensures err { OnErr result (IfSome (R.remaining input.old) (λ bytes. (W.contents output.new ≡ W.contents output.old)
-        ⊎ OfVerdict args_len (schema_of tables.now) (program_of bytes) (λ verdict.
-        AppendsBeginning (W.contents output.old) (W.contents output.new) (verdict_text verdict)))) }
+    ensures err { IfErr result (Leaves (IfSome (R.remaining input.old) (λ bytes.
+        OfVerdict args_len (schema_of tables.now) (program_of bytes) (λ verdict.
+        AppendsBeginning (W.contents output.old) (W.contents output.new) (verdict_text verdict))))
+        (W.contents output.old) (W.contents output.new)) }
     ensures unread { (fault : SchemaFault) → schema_of tables.now ≡ Err fault → input.new ≡ input.old }
 {
     let verdict = verdict(alloc, input, args_len, tables)?;
-    print(&verdict.line(), output)?;
-    Ok(verdict)
+    match print(&verdict.line(), output) {
+        Ok(()) => Ok(verdict),
+        Err(error) => Err(CommandFailure::Output(error)),
+    }
 }
 
 /// Prints a line, and flushes the output.
@@ -97,15 +109,17 @@ fn verdict<A: Allocator + Copy, R: Read>(
     input: &mut R,
     args_len: u16,
     tables: &[(u8, u16)],
-) -> io::Result<CheckVerdict>
+) -> Result<CheckVerdict, CommandFailure>
     requires { args_len ≤ 256 }
     ensures verdict { IfOk result (λ verdict. IfSome (R.remaining input.old) (λ bytes.
         IsVerdictOf args_len (schema_of tables.now) (program_of bytes) verdict)) }
+    // No output is touched, and none has failed.
+    ensures before { IfErr result IsBeforeOutput }
     ensures unread { (fault : SchemaFault) → schema_of tables.now ≡ Err fault → input.new ≡ input.old }
 {
     let schema = match Schema::new(alloc, tables) {
         Ok(schema) => schema,
-        Err(SchemaFault::OutOfMemory) => return Err(io::Error::from(AllocError)),
+        Err(SchemaFault::OutOfMemory) => return Err(CommandFailure::OutOfMemory),
         Err(fault) => return Ok(CheckVerdict::NoSchema(fault)),
     };
     let code = match read_program(alloc, input)? {
@@ -119,6 +133,6 @@ fn verdict<A: Allocator + Copy, R: Read>(
             bound: accepted.bound(),
         }),
         Err(Refusal::At { slot, cause }) => Ok(CheckVerdict::Refused { slot, cause }),
-        Err(Refusal::OutOfMemory) => Err(io::Error::from(AllocError)),
+        Err(Refusal::OutOfMemory) => Err(CommandFailure::OutOfMemory),
     }
 }

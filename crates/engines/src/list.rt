@@ -1,13 +1,16 @@
 //! The command `list`, over any input and output.
 
-ghost use Rattle.std.specs.Prelude.{◌≡◌, ◌≢◌, ◌⊎◌, IfOk, IfSome, OnErr};
+ghost use Rattle.std.specs.Prelude.{◌≡◌, ◌≢◌, ◌⊎◌, IfErr, IfOk, IfSome};
 ghost use Rattle.std.specs.Io.KnownBytes.{Appends};
-ghost use Rattle.byte_output.specs.Writes.{AppendsBeginning};
+ghost use Rattle.byte_output.specs.Writes.{AppendsBeginning, WritesText};
 ghost use Rattle.byte_output.specs.Pending.{output_of, Takes};
 ghost use Rattle.bpf_code.specs.Decoding.{program_of};
+ghost use Rattle.engines.specs.Failures.{IsSaid, Leaves};
 ghost use Rattle.engines.specs.Listing.{refused_text, listing_text, listing_status};
+ghost use Rattle.engines.specs.declared.failure.CommandFailure.{CommandFailure};
 ghost use Rattle.engines.specs.declared.status.TheConstants.{FAILED};
 
+use crate::failure::{CommandFailure, say};
 use crate::source::read_program;
 use crate::status::FAILED;
 use bpf_code::{Code, DecodeFault};
@@ -31,19 +34,25 @@ pub fn list_over<A: Allocator + Copy, R: Read, W: Write, E: Write>(
     ensures status { IfSome (R.remaining input.old) (λ bytes.
         (result ≡ FAILED) ⊎ (result ≡ listing_status (program_of bytes))) }
 
-    // Where nothing failed, the whole text was written, and else a beginning of it.
+    // Where nothing failed, the whole text was written.
     ensures whole { IfSome (R.remaining input.old) (λ bytes.
         result ≢ FAILED → Appends (W.contents output.old) (W.contents output.new) (listing_text (program_of bytes))) }
-    ensures beginning { IfSome (R.remaining input.old) (λ bytes.
-        AppendsBeginning (W.contents output.old) (W.contents output.new) (listing_text (program_of bytes))) }
+
+    // Else memory was wanting or the input failed, and the output is as it was; or the output failed, and has a beginning of the
+    // text. Which it was is said.
+    ensures failed { result ≡ FAILED → (failure : CommandFailure)
+        × Leaves (IfSome (R.remaining input.old) (λ bytes.
+        AppendsBeginning (W.contents output.old) (W.contents output.new) (listing_text (program_of bytes))))
+        (W.contents output.old) (W.contents output.new) failure
+        × IsSaid (E.contents faults.old) (E.contents faults.new) failure }
 
     // Nothing is said where nothing failed.
     ensures silent { result ≢ FAILED → faults.new ≡ faults.old }
 {
     match list(alloc, input, output) {
         Ok(status) => status,
-        Err(error) => {
-            let _ = writeln!(faults, "dsmdb: {error}");
+        Err(failure) => {
+            say(faults, &failure);
             FAILED
         }
     }
@@ -54,26 +63,46 @@ fn list<A: Allocator + Copy, R: Read, W: Write>(
     alloc: A,
     input: &mut R,
     output: &mut W,
-) -> io::Result<u8>
+) -> Result<u8, CommandFailure>
     ensures ok { IfOk result (λ status. IfSome (R.remaining input.old) (λ bytes.
         Appends (W.contents output.old) (W.contents output.new) (listing_text (program_of bytes))
         × (status ≡ listing_status (program_of bytes)))) }
     ensures range { IfOk result (λ status. (status ≡ 0) ⊎ (status ≡ 1)) }
-    ensures err { OnErr result (IfSome (R.remaining input.old) (λ bytes.
-        AppendsBeginning (W.contents output.old) (W.contents output.new) (listing_text (program_of bytes)))) }
+    ensures err { IfErr result (Leaves (IfSome (R.remaining input.old) (λ bytes.
+        AppendsBeginning (W.contents output.old) (W.contents output.new) (listing_text (program_of bytes))))
+        (W.contents output.old) (W.contents output.new)) }
 {
     let decoded = read_program(alloc, input)?;
-    let mut pages = PagedOutput::new(output);
-    print(&decoded, &mut pages)?;
-    pages.finish()?;
-    Ok(match decoded {
-        Ok(_) => 0,
-        Err(_) => 1,
-    })
+    match print(&decoded, output) {
+        Ok(()) => Ok(status_of(&decoded)),
+        Err(error) => Err(CommandFailure::Output(error)),
+    }
 }
 
-/// Prints what was decoded.
+/// The exit status of what was decoded.
+fn status_of<A: Allocator>(decoded: &Result<Code<A>, DecodeFault>) -> u8
+    ensures { result ≡ listing_status decoded.now }
+{
+    match decoded {
+        Ok(_) => 0,
+        Err(_) => 1,
+    }
+}
+
+/// Prints what was decoded, and flushes the output.
 fn print<A: Allocator, W: Write>(
+    decoded: &Result<Code<A>, DecodeFault>,
+    output: &mut W,
+) -> io::Result<()>
+    ensures { WritesText (W.contents output.old) (W.contents output.new) result (listing_text decoded.now) }
+{
+    let mut pages = PagedOutput::new(output);
+    put_decoded(decoded, &mut pages)?;
+    pages.finish()
+}
+
+/// Puts what was decoded into the page.
+fn put_decoded<A: Allocator, W: Write>(
     decoded: &Result<Code<A>, DecodeFault>,
     output: &mut PagedOutput<'_, W>,
 ) -> io::Result<()>

@@ -1,10 +1,12 @@
 //! Reading a program's bytes, no more of them into memory than a program has.
 
-ghost use Rattle.std.specs.Prelude.{◌≡◌, ◌≤◌, ◌++◌, ℕ, List, [], IfOk, OnOk, IfSome, length};
+ghost use Rattle.std.specs.Prelude.{◌≡◌, ◌≤◌, ◌++◌, ℕ, List, [], IfErr, IfOk, OnOk, IfSome, length};
 ghost use Rattle.std.specs.Io.KnownBytes.{ReadConsumes};
 ghost use Rattle.bpf_code.specs.Decoding.{program_of};
+ghost use Rattle.engines.specs.Failures.{IsBeforeOutput};
 ghost use Rattle.engines.specs.Source.{IsSourceOf};
 
+use crate::failure::CommandFailure;
 use bpf_code::{Code, DecodeCause, DecodeFault, MAX_SLOTS, decode};
 use std::alloc::{AllocError, Allocator};
 use std::io;
@@ -85,20 +87,27 @@ fn read_some<R: Read>(input: &mut R, chunk: &mut [u8]) -> io::Result<usize>
 }
 
 /// Reads an input to its end. An error is the input's, or want of memory.
-fn read_source<A: Allocator, R: Read>(alloc: A, input: &mut R) -> io::Result<ProgramSource<A>>
-    ensures { IfOk result (λ source. IfSome (R.remaining input.old) (IsSourceOf source)) }
+fn read_source<A: Allocator, R: Read>(
+    alloc: A,
+    input: &mut R,
+) -> Result<ProgramSource<A>, CommandFailure>
+    ensures source { IfOk result (λ source. IfSome (R.remaining input.old) (IsSourceOf source)) }
+    ensures before { IfErr result IsBeforeOutput }
 {
     let mut front = Front::new(alloc)?;
     let mut chunk = [0u8; 4096];
     for _ in 0..u64::MAX {
-        let count = read_some(input, &mut chunk)?;
+        let count = match read_some(input, &mut chunk) {
+            Ok(count) => count,
+            Err(error) => return Err(CommandFailure::Input(error)),
+        };
         if count == 0 {
             return Ok(front.source());
         }
         let (piece, _) = chunk.split_at(count);
         front.add(piece)?;
     }
-    Err(io::Error::from(ErrorKind::Interrupted))
+    Err(CommandFailure::Input(io::Error::from(ErrorKind::Interrupted)))
 }
 
 /// What the bytes of a source decode to; the error is want of memory.
@@ -106,15 +115,13 @@ fn read_source<A: Allocator, R: Read>(alloc: A, input: &mut R) -> io::Result<Pro
 fn decode_source<A: Allocator>(
     alloc: A,
     source: &ProgramSource<A>,
-) -> io::Result<Result<Code<A>, DecodeFault>>
+) -> Result<Result<Code<A>, DecodeFault>, AllocError>
     ensures { IfOk result (λ decoded. (bytes : List ℕ) → IsSourceOf source.now bytes → program_of bytes ≡ decoded) }
 {
     let fault = |cause: DecodeCause| DecodeFault { cause, slot: 0 };
     match source {
         ProgramSource::Whole(bytes) => match decode(alloc, bytes) {
-            Err(fault) if matches!(fault.cause, DecodeCause::OutOfMemory) => {
-                Err(io::Error::from(AllocError))
-            }
+            Err(fault) if matches!(fault.cause, DecodeCause::OutOfMemory) => Err(AllocError),
             decoded => Ok(decoded),
         },
         ProgramSource::TooLong(true) => Ok(Err(fault(DecodeCause::TooManySlots))),
@@ -126,9 +133,10 @@ fn decode_source<A: Allocator>(
 pub(crate) fn read_program<A: Allocator + Copy, R: Read>(
     alloc: A,
     input: &mut R,
-) -> io::Result<Result<Code<A>, DecodeFault>>
-    ensures { IfOk result (λ decoded. IfSome (R.remaining input.old) (λ bytes. program_of bytes ≡ decoded)) }
+) -> Result<Result<Code<A>, DecodeFault>, CommandFailure>
+    ensures program { IfOk result (λ decoded. IfSome (R.remaining input.old) (λ bytes. program_of bytes ≡ decoded)) }
+    ensures before { IfErr result IsBeforeOutput }
 {
     let source = read_source(alloc, input)?;
-    decode_source(alloc, &source)
+    Ok(decode_source(alloc, &source)?)
 }

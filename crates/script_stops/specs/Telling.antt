@@ -2,6 +2,7 @@
 use Rattle.std.specs.Prelude.{◌≡◌, ℕ, List, ◌++◌, codes, Option}
 use Rattle.byte_output.specs.Writes.{AppendsBeginning}
 pub use Rattle.engines.specs.declared.status.TheConstants.{FAILED}
+pub use Rattle.engines.specs.Failures.{SaysStream}
 use Rattle.script_settings.specs.declared.cause.FaultCause.{FaultCause}
 use Rattle.script_settings.specs.declared.cause.FaultCause.TheVariants.{OutOfMemory}
 use Rattle.script_settings.specs.declared.cause.ScriptFault.{ScriptFault}
@@ -17,10 +18,6 @@ fault_line fault = script_fault_text fault ++ codes "\n"
 abbrev pub status_of_cause : FaultCause → ℕ
 status_of_cause OutOfMemory = FAILED
 status_of_cause _ = 1
-
--- as `dsmdb: ` and what a stream says
-abbrev pub SaysStream : Option (List ℕ) → Option (List ℕ) → Type 0
-SaysStream old new = (message : List ℕ) × AppendsBeginning old new (codes "dsmdb: " ++ message)
 
 -- the exit status of a script that stopped, and its line of faults or what a stream says, or a beginning of that
 abbrev pub SaysEnd : Option (List ℕ) → Option (List ℕ) → Stop → ℕ → Type 0

@@ -1,6 +1,6 @@
 //! What is said of a script that ended before its end.
 
-ghost use Rattle.std.specs.Prelude.{◌≡◌, ◌⊎◌, ◌++◌, ℕ, List, codes};
+ghost use Rattle.std.specs.Prelude.{◌≡◌, ◌⊎◌};
 ghost use Rattle.byte_output.specs.Writes.{WritesText};
 ghost use Rattle.engines.specs.declared.status.TheConstants.{FAILED};
 ghost use Rattle.script_stops.specs.Telling.{fault_line, status_of_cause, SaysEnd};
@@ -8,7 +8,7 @@ ghost use Rattle.script_stops.specs.Telling.{fault_line, status_of_cause, SaysEn
 use crate::stop::Stop;
 use byte_output::line::Line;
 use byte_output::put;
-use engines::FAILED;
+use engines::{FAILED, put_error};
 use script_settings::{FaultCause, ScriptFault};
 use std::io;
 use std::io::Write;
@@ -47,14 +47,4 @@ fn put_fault<E: Write>(faults: &mut E, fault: ScriptFault) -> io::Result<()>
     let mut line = Line::new();
     writeln!(line, "{fault}")?;
     put(faults, &line)
-}
-
-/// Writes what a stream says of its failure, as far as a line has room for it.
-fn put_error<E: Write>(faults: &mut E, error: &io::Error) -> io::Result<()>
-    ensures { (message : List ℕ) × WritesText (E.contents faults.old) (E.contents faults.new) result (codes "dsmdb: " ++ message) }
-{
-    put(faults, b"dsmdb: ")?;
-    let mut message = Line::new();
-    let _ = writeln!(message, "{error}");
-    put(faults, &message)
 }
