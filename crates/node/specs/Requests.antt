@@ -1,7 +1,11 @@
 -- What a caller at a node hears.
-use Rattle.std.specs.Prelude.{◌≡◌, ◌≢◌, ◌↔◌, ℕ, List, Option, None}
-use Rattle.log_model.specs.Log.{Setting}
+use Rattle.std.specs.Prelude.{◌≡◌, ◌≢◌, ◌↔◌, ◌≤◌, ℕ, List, length, Option, Some, None}
+use Rattle.std.specs.declared.alloc.Global.{Global}
+use Rattle.log_model.specs.declared.verdict.Verdict.{Verdict}
+use Rattle.log_model.specs.Log.{Setting, verdict_of}
+use Rattle.log_model.specs.Entries.{items_of}
 use Rattle.log_entry.specs.declared.entry.Entry.{Entry as LogEntry}
+use Rattle.replica.specs.Replica.{AreEntriesOf, entries_of}
 use Rattle.node_calls.specs.Asked.{AskedCall}
 use Rattle.node_calls.specs.Answer.{IsAnswer}
 use Rattle.node_calls.specs.declared.answer.Answer.{Answer}
@@ -14,3 +18,10 @@ pub record IsHeard {A : Type 0} (w : Setting) (replicas replica : ℕ) (a : Aske
   pub no_replica : (said ≡ Refused NoReplica) ↔ IsNoReplica replicas replica
   pub none : said ≡ Refused NoReplica → seen ≡ None
   pub answer : said ≢ Refused NoReplica → IsAnswer w a said seen
+
+-- entries of a log reach to this position, and the verdict there is this
+pub record IsVerdictAt (w : Setting) (position : ℕ) (v : Verdict) : Type 0 where
+  pub delivered : List (LogEntry Global)
+  pub entries : AreEntriesOf w (entries_of delivered)
+  pub reached : position ≤ length delivered
+  pub verdict : verdict_of w (items_of (entries_of delivered)) position ≡ Some v

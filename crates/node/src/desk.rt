@@ -2,7 +2,7 @@
 
 ghost use Rattle.std.specs.Prelude.{◌≡◌, ◌≤◌, Some, None, IfSome};
 ghost use Rattle.node_calls.specs.Answer.{IsAnswer};
-ghost use Rattle.node.specs.Requests.{IsHeard};
+ghost use Rattle.node.specs.Requests.{IsHeard, IsVerdictAt};
 
 use crossbeam_channel::{Sender, bounded};
 use log_model::{RequestId, Verdict};
@@ -149,12 +149,15 @@ impl<J: LogSetting + Ledgers + Send + Sync + 'static, G: Gate + Drop + Send + Sy
 
     /// The verdict on the entry at a position, where there is such a replica and it has come there.
     pub fn verdict<R: Wait>(&self, rt: &R, replica: u32, position: u32) -> Option<Verdict>
-        ensures { IfSome result (λ _. (1 ≤ replica) × (replica ≤ self.now.replicas) × (1 ≤ position)) }
+        ensures some { IfSome result (λ _. (1 ≤ replica) × (replica ≤ self.now.replicas) × (1 ≤ position)) }
+        // It is the verdict on a log whose entries the replica has delivered.
+        ensures verdict { IfSome result (IsVerdictAt J.setting position) }
     {
         let locked = self.shared.locked(replica)?.read(rt);
         if position == 0 || position > locked.position() {
             return None;
         }
+        locked.keeps_what_was_delivered();
         Some(locked.verdict_at(position))
     }
 }
