@@ -6,12 +6,13 @@ use Rattle.log_model.specs.Log.{Setting, verdict_of}
 use Rattle.log_model.specs.Entries.{items_of}
 use Rattle.log_entry.specs.declared.entry.Entry.{Entry as LogEntry}
 use Rattle.replica.specs.Replica.{AreEntriesOf, entries_of}
+use Rattle.locked_replica.specs.Commits.{commits_of}
 use Rattle.node_calls.specs.Asked.{AskedCall}
 use Rattle.node_calls.specs.Answer.{IsAnswer}
 use Rattle.node_calls.specs.declared.answer.Answer.{Answer}
 use Rattle.node_calls.specs.declared.answer.Answer.TheVariants.{Refused}
 use Rattle.node_calls.specs.declared.answer.CallRefusal.TheVariants.{NoReplica}
-use Rattle.served_replicas.specs.Replicas.{IsNoReplica}
+pub use Rattle.served_replicas.specs.Replicas.{IsNoReplica}
 
 -- what a caller hears: that there is no such replica exactly where there is none, and else an answer to what was asked
 pub record IsHeard {A : Type 0} (w : Setting) (replicas replica : ℕ) (a : AskedCall) (said : Answer) (seen : Option (List (LogEntry A))) : Type 0 where
@@ -19,9 +20,17 @@ pub record IsHeard {A : Type 0} (w : Setting) (replicas replica : ℕ) (a : Aske
   pub none : said ≡ Refused NoReplica → seen ≡ None
   pub answer : said ≢ Refused NoReplica → IsAnswer w a said seen
 
+-- what is seen of a node's log
+abbrev pub Entries : Type 0
+Entries = List (LogEntry Global)
+
 -- entries of a log reach to this position, and the verdict there is this
 pub record IsVerdictAt (w : Setting) (position : ℕ) (v : Verdict) : Type 0 where
-  pub delivered : List (LogEntry Global)
+  pub delivered : Entries
   pub entries : AreEntriesOf w (entries_of delivered)
   pub reached : position ≤ length delivered
   pub verdict : verdict_of w (items_of (entries_of delivered)) position ≡ Some v
+
+-- a replica has ended with these entries: at this position, and so many of them commit
+abbrev pub IsEndAt : Setting → Entries → ℕ → ℕ → Type 0
+IsEndAt w delivered position commits = (position ≡ length delivered) × (commits ≡ commits_of w (items_of (entries_of delivered)))
