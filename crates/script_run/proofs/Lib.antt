@@ -1,2 +1,3 @@
+mod AnsweredLemmas
 mod PrintedLemmas
 mod TextLemmas

@@ -1,5 +1,5 @@
 -- What a run of a script prints.
-use Rattle.std.specs.Prelude.{◌≡◌, ℕ, ◌+◌, Bool, true, List, [], ◌∷◌, ◌++◌, length, Option, Some, Result, Ok, Err}
+use Rattle.std.specs.Prelude.{◌≡◌, ℕ, ◌+◌, Bool, true, List, [], ◌∷◌, ◌++◌, All, length, Option, Some, Result, Ok, Err}
 use Rattle.std.specs.Io.KnownBytes.{Appends}
 use Rattle.byte_output.specs.Writes.{AppendsBeginning}
 use Rattle.tallies.specs.declared.counts.Counts.{Counts}
@@ -7,14 +7,19 @@ use Rattle.report.specs.Lines.{line_text}
 use Rattle.report.specs.declared.printed.CallAnswer.{CallAnswer}
 use Rattle.report.specs.declared.printed.ReplicaReport.TheVariants as replica
 use Rattle.report.specs.declared.printed.Line.TheVariants.{Answered, Totals, Replica, Agreement}
+use Rattle.log_model.specs.Log.{Setting}
 use Rattle.script_calls.specs.Calls.{Said, script_says}
+use Rattle.script_calls.specs.declared.call.ScriptCall.{ScriptCall}
 use Rattle.script_settings.specs.declared.cause.FaultCause.TheVariants.{OutOfMemory}
 use Rattle.script_settings.specs.declared.cause.ScriptFault.{ScriptFault}
+use Rattle.script_settings.specs.Settings.{ScriptSettings}
 use Rattle.script_stops.specs.Telling.{fault_line}
 use Rattle.script_stops.specs.declared.stop.Stop.{Stop}
 use Rattle.script_stops.specs.declared.stop.Stop.TheVariants as stop
 use Rattle.script_run.specs.declared.run.Report.{Report}
 use Rattle.script_run.specs.declared.text.ReplicaEnd.{ReplicaEnd}
+use Rattle.node.specs.Requests.{Entries}
+use Rattle.script_run.specs.Answered.{AreToldOf, IsEndOf}
 
 -- what a run comes to
 pub record RunReport : Type 0 where
@@ -39,11 +44,26 @@ abbrev pub run_text : RunReport → List ℕ
 run_text r =
     answers_text 0 r.answers ++ line_text (Totals r.totals) ++ replicas_text 0 r.replicas ++ line_text (Agreement r.agrees)
 
--- each call is answered, each replica has ended, and they agree
-pub record IsReportOf (said : Said) (r : RunReport) : Type 0 where
-  pub answers : length r.answers ≡ length said.calls
-  pub replicas : said.settings.replicas ≡ Some (length r.replicas)
+-- the setting that a script has once it says a window
+abbrev pub setting_of : ScriptSettings → ℕ → Setting
+setting_of settings window = record { tables = settings.catalogue.tables; catalogue = settings.catalogue.procedures; window = window }
+
+-- what these calls come to at so many replicas: there is a log of which each answer and each replica's end is said
+pub record IsRun (w : Setting) (replicas : ℕ) (calls : List (ScriptCall (List ℕ))) (r : RunReport) : Type 0 where
+  pub log : Entries
+  pub answered : length r.answers ≡ length calls
+  pub answers : AreToldOf w replicas log calls r.answers
+  pub count : length r.replicas ≡ replicas
+  pub ends : All (IsEndOf w log) r.replicas
   pub agrees : r.agrees ≡ true
+
+-- what a script comes to, which says a window and how many replicas there are
+pub record IsReportOf (said : Said) (r : RunReport) : Type 0 where
+  pub window : ℕ
+  pub window_said : said.settings.window ≡ Some window
+  pub replicas : ℕ
+  pub replicas_said : said.settings.replicas ≡ Some replicas
+  pub run : IsRun (setting_of said.settings window) replicas said.calls r
 
 -- what the code has of a run
 abbrev pub report_of : Report → RunReport

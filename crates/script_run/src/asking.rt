@@ -1,92 +1,85 @@
 //! Calling threads: each replica's calls are taken in the order of the script.
 
-ghost use Rattle.std.specs.Prelude.{◌≡◌, IfOk, false, vec_len};
+ghost use Rattle.std.specs.Prelude.{◌≡◌, All, IfOk, [], false, map};
+ghost use Rattle.script_run.specs.Answered.{IsMadeCall, number_named};
 
-use crate::told::told;
+use crate::told::answer_to;
 use catalogue::Catalogue;
-use dsm_model::StepRefusal;
-use log_model::RequestId;
 use node::Desk;
-use node_calls::{Gate, OpenGate};
-use order_log::Fact;
+use node_calls::OpenGate;
+use order_log::{Fact, Seen};
 use ordered_entries::{LogSetting, OrderedEntries};
 use report::CallAnswer;
 use row_values::Bytes;
 use script_calls::ScriptCall;
 use std::alloc::{AllocError, Global};
 use std::io::Write;
+use std::marker::PhantomData;
+use std::sync::Wait;
 use std::sync::atomic::AtomicUsize;
 use std::sync::atomic::Ordering::SeqCst;
-use std::sync::{Mutex, Wait};
 use std::thread;
 use std::thread::Threads;
 use tallies::Ledgers;
 
-/// A call of a script.
+/// A call of a script, with the number that its procedure has in the log's catalogue: none where no procedure has its name.
 #[derive(Drop)]
-struct PlannedCall {
-    replica: u32,
-    /// None where no procedure has the name.
-    procedure: Option<u16>,
-    args: Bytes<Global>,
-    request: Option<RequestId>,
+pub(crate) struct PlannedCall<J: LogSetting> {
+    pub(crate) call: ScriptCall<Bytes<Global>>,
+    pub(crate) procedure: Option<u16>,
+    of: PhantomData<J>,
+    ghost numbered: { procedure ≡ number_named J.setting.catalogue call.name },
 }
 
-/// The calls of a script, and what each was answered so far.
+/// A call that was made.
 #[derive(Drop)]
-pub(crate) struct Asking {
-    calls: Vec<PlannedCall>,
-    answers: Mutex<Vec<Option<CallAnswer>>>,
+pub(crate) struct MadeCall<J: LogSetting> {
+    /// Its place in the script, from 0 on.
+    pub(crate) place: usize,
+    pub(crate) answer: CallAnswer,
+    /// What its caller had seen of the log then.
+    pub(crate) seen: Option<Seen<J>>,
+}
+
+/// The calls of a script.
+#[derive(Drop)]
+pub(crate) struct Asking<J: LogSetting> {
+    pub(crate) calls: Vec<PlannedCall<J>>,
     /// Of each replica the place of the call that is taken next, if it is one of the replica's.
     next: Vec<AtomicUsize>,
 }
 
-impl Asking {
+impl<J: LogSetting + Ledgers + Send + Sync + 'static> Asking<J> {
     /// The calls of a script, none of which was made.
     pub(crate) fn new(
         alloc: Global,
         catalogue: &Catalogue,
         replicas: u32,
         script: Vec<ScriptCall<Bytes<Global>>>,
-    ) -> Result<Asking, AllocError>
-        ensures { IfOk result (λ asking. vec_len asking.calls ≡ vec_len script) }
+    ) -> Result<Asking<J>, AllocError>
+        requires { catalogue.now.procedures ≡ J.setting.catalogue }
+        ensures { IfOk result (λ asking. map (λ planned. planned.call) asking.calls.items ≡ script.items) }
     {
         let mut calls = Vec::with_capacity(alloc, script.len())?;
-        let mut answers = Vec::with_capacity(alloc, script.len())?;
         for call in script {
-            let ScriptCall {
-                replica,
-                name,
-                args,
-                request,
-            } = call;
-            let procedure = catalogue.by_name(name.as_slice());
-            answers.push(None)?;
+            let procedure = catalogue.by_name(call.name.as_slice());
             calls.push(PlannedCall {
-                replica,
+                call,
                 procedure,
-                args,
-                request,
+                of: PhantomData,
             })?;
         }
         let mut next = Vec::with_capacity(alloc, replicas as usize)?;
         for _ in 0..replicas {
             next.push(AtomicUsize::new(0))?;
         }
-        Ok(Asking {
-            calls,
-            answers: Mutex::new(answers),
-            next,
-        })
+        Ok(Asking { calls, next })
     }
 
-    /// Makes all calls, and says after each part of them how many were made, where that is to be shown: a hundredth, but of
-    /// no fewer than 1,000 calls.
-    pub(crate) fn ask_all<
-        J: LogSetting + Ledgers + Send + Sync + 'static,
-        R: Threads + Wait + Sync,
-        E: Write,
-    >(
+    /// Makes the calls by so many threads for each replica, and says after each part of them how many were made, where that is
+    /// to be shown: a hundredth, but of no fewer than 1,000 calls. What each thread has made; a call may be left, where memory
+    /// was wanting or there is no such replica. The error is want of memory before any call.
+    pub(crate) fn ask_all<R: Threads + Wait + Sync, E: Write>(
         &self,
         rt: &R,
         alloc: Global,
@@ -94,9 +87,12 @@ impl Asking {
         executors: u32,
         faults: &mut E,
         shows_progress: bool,
-    )
+    ) -> Result<Vec<Vec<MadeCall<J>>>, AllocError>
+        ensures made { IfOk result (λ shares. All (λ share. All
+            (IsMadeCall J.setting desk.now.replicas (map (λ planned. planned.call) self.now.calls.items)) share.items) shares.items) }
         ensures silent { shows_progress ≡ false → faults.new ≡ faults.old }
     {
+        let mut shares = self.empty_shares(alloc, executors)?;
         let count = self.calls.len();
         let part = if shows_progress {
             (count / 100).max(1_000)
@@ -105,155 +101,103 @@ impl Asking {
         };
         for start in (0..count).step_by(part) {
             let end = start.saturating_add(part).min(count);
-            self.ask_part(rt, alloc, desk, executors, start, end);
+            self.ask_part(rt, desk, &mut shares, start, end);
             if shows_progress && end < count {
                 let _ = writeln!(faults, "dsmdb: made {end} of {count} calls");
             }
         }
+        Ok(shares)
     }
 
-    /// Makes the calls from a place to another, that one not among them: those of each replica by so many threads, and by
-    /// this one what these have left and the calls of no replica.
-    fn ask_part<J: LogSetting + Ledgers + Send + Sync + 'static, R: Threads + Wait + Sync>(
+    /// A share for each thread, in which nothing was made.
+    fn empty_shares(
+        &self,
+        alloc: Global,
+        executors: u32,
+    ) -> Result<Vec<Vec<MadeCall<J>>>, AllocError>
+        ensures { IfOk result (λ shares. All (λ share. share.items ≡ []) shares.items) }
+    {
+        let threads = self.next.len().saturating_mul(executors as usize);
+        let mut shares = Vec::with_capacity(alloc, threads)?;
+        for _ in 0..threads {
+            shares.push(Vec::new(alloc))?;
+        }
+        Ok(shares)
+    }
+
+    /// Makes the calls from a place to another, that one not among them, by a thread for each share.
+    fn ask_part<R: Threads + Wait + Sync>(
         &self,
         rt: &R,
-        alloc: Global,
         desk: &Desk<J, OpenGate>,
-        executors: u32,
+        shares: &mut [Vec<MadeCall<J>>],
         start: usize,
         end: usize,
-    ) {
+    )
+        requires { All (λ share. All
+            (IsMadeCall J.setting desk.now.replicas (map (λ planned. planned.call) self.now.calls.items)) share.items) shares.old }
+        ensures { All (λ share. All
+            (IsMadeCall J.setting desk.now.replicas (map (λ planned. planned.call) self.now.calls.items)) share.items) shares.new }
+    {
         for next in self.next.iter() {
             next.store(start, SeqCst);
         }
-        let replicas = self.next.len();
-        let threads = replicas.saturating_mul(executors as usize);
-        let _ended = thread::map_indices(
+        let threads = shares.len().max(1);
+        thread::for_each_mut(
             rt,
-            alloc,
+            shares,
             threads,
-            &|thread: usize| {
-                self.ask_at(rt, desk, thread % replicas.max(1), end);
-            },
+            &|thread: usize, share: &mut Vec<MadeCall<J>>|
+                requires { All (IsMadeCall J.setting desk.now.replicas (map (λ planned. planned.call) self.now.calls.items)) share.now.items }
+            { self.ask_from(rt, desk, thread, end, share) },
         );
-        for place in 0..replicas {
-            self.ask_at(rt, desk, place, end);
-        }
-        for index in start..end {
-            if self.is_nowhere(index) {
-                self.ask_one(rt, desk, index);
-            }
-        }
     }
 
-    /// Whether a call is of no replica.
-    fn is_nowhere(&self, index: usize) -> bool {
-        match self.calls.get(index) {
-            Some(call) => call.replica == 0 || call.replica as usize > self.next.len(),
-            None => false,
-        }
-    }
-
-    /// Makes the calls of a replica, by its place from 0 on, that no other thread has taken, before a place in the script.
-    fn ask_at<J: LogSetting + Ledgers + Send + Sync + 'static, R: Wait>(
+    /// Makes the calls of a thread's replica that no other thread has taken, before a place in the script, and adds them to its
+    /// share. It ends where there is no memory for one more.
+    fn ask_from<R: Wait>(
         &self,
         rt: &R,
         desk: &Desk<J, OpenGate>,
-        place: usize,
+        thread: usize,
         end: usize,
-    ) {
-        let Some(next) = self.next.get(place) else {
+        share: &mut Vec<MadeCall<J>>,
+    )
+        requires { All (IsMadeCall J.setting desk.now.replicas (map (λ planned. planned.call) self.now.calls.items)) share.old.items }
+        ensures { All (IsMadeCall J.setting desk.now.replicas (map (λ planned. planned.call) self.now.calls.items)) share.new.items }
+    {
+        let replica = thread % self.next.len().max(1);
+        let Some(next) = self.next.get(replica) else {
             return;
         };
         for _ in 0..end {
-            let index = next.fetch_add(1, SeqCst);
-            if index >= end {
+            if share.reserve(1).is_err() {
                 break;
             }
-            let Some(call) = self.calls.get(index) else {
+            let place = next.fetch_add(1, SeqCst);
+            if place >= end || place >= self.calls.len() {
                 break;
-            };
-            if call.replica as usize == place.wrapping_add(1) {
-                self.ask_one(rt, desk, index);
+            }
+            let call = &self.calls[place];
+            if call.call.replica as usize == replica.wrapping_add(1) {
+                let (answer, seen) = answer_to(rt, desk, call);
+                share.push_reserved(MadeCall {
+                    place,
+                    answer,
+                    seen,
+                });
             }
         }
     }
 
-    /// Makes one call, and keeps what it was answered.
-    fn ask_one<J: LogSetting + Ledgers + Send + Sync + 'static, R: Wait>(
-        &self,
-        rt: &R,
-        desk: &Desk<J, OpenGate>,
-        index: usize,
-    ) {
-        let Some(call) = self.calls.get(index) else {
-            return;
-        };
-        let answer = answer_to(rt, desk, call);
-        let mut answers = self.answers.lock(rt);
-        if let Some(place) = answers.get_mut(index) {
-            *place = Some(answer);
-        }
-    }
-
-    /// What each call was answered, in the order of the script. One that no thread has made is made here.
-    pub(crate) fn answers<J: LogSetting + Ledgers + Send + Sync + 'static, R: Wait>(
-        &self,
-        rt: &R,
-        alloc: Global,
-        desk: &Desk<J, OpenGate>,
-    ) -> Result<Vec<CallAnswer>, AllocError>
-        ensures { IfOk result (λ answers. vec_len answers ≡ vec_len self.now.calls) }
-    {
-        let mut answers = Vec::with_capacity(alloc, self.calls.len())?;
-        for index in 0..self.calls.len() {
-            let answer = match self.found(rt, index) {
-                Some(answer) => answer,
-                None => answer_to(rt, desk, &self.calls[index]),
-            };
-            answers.push(answer)?;
-        }
-        Ok(answers)
-    }
-
-    /// What a call was answered, where it was made.
-    fn found<R: Wait>(&self, rt: &R, index: usize) -> Option<CallAnswer> {
-        let answers = self.answers.lock(rt);
-        match answers.get(index) {
-            Some(answer) => *answer,
-            None => None,
-        }
-    }
-
-    /// How many weren't made at a replica since no procedure has the name.
+    /// How many calls aren't made since no procedure has the name.
     pub(crate) fn unnamed(&self) -> u64 {
-        let replicas = self.next.len();
         let mut count = 0u64;
         for call in self.calls.iter() {
-            let at_a_replica = call.replica >= 1 && call.replica as usize <= replicas;
-            if at_a_replica && call.procedure.is_none() {
+            if call.procedure.is_none() {
                 count = count.saturating_add(1);
             }
         }
         count
     }
-}
-
-/// The answer to a call. Where no procedure has its name none is made, but at no replica.
-fn answer_to<J: LogSetting + Ledgers + Send + Sync + 'static, R: Wait>(
-    rt: &R,
-    desk: &Desk<J, OpenGate>,
-    call: &PlannedCall,
-) -> CallAnswer {
-    let at_a_replica = call.replica >= 1 && call.replica as usize <= desk.replicas();
-    if at_a_replica && call.procedure.is_none() {
-        return CallAnswer::Refused(StepRefusal::NoProcedure);
-    }
-    let procedure = call.procedure.unwrap_or(0);
-    let args = call.args.as_slice();
-    let (answer, _) = match call.request {
-        Some(request) => desk.execute_numbered(rt, call.replica, 0, procedure, args, request),
-        None => desk.execute(rt, call.replica, 0, procedure, args),
-    };
-    told(answer)
 }

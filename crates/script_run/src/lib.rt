@@ -3,6 +3,7 @@
 
 pub use run::{RunOptions, run_over};
 
+mod answers;
 mod asking;
 mod run;
 mod text;

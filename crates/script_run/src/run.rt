@@ -1,20 +1,22 @@
 //! A script is run on a node.
 
-ghost use Rattle.std.specs.Prelude.{◌≡◌, ◌⊎◌, ◌<◌, ◌^◌, IfOk, IfSome, false, true, length, vec_len};
+ghost use Rattle.std.specs.Prelude.{◌≡◌, ◌⊎◌, ◌<◌, ◌^◌, IfOk, IfSome, false, map, vec_len};
 ghost use Rattle.byte_output.specs.Writes.{AppendsBeginning, WritesText};
 ghost use Rattle.engines.specs.declared.status.TheConstants.{FAILED};
 ghost use Rattle.tallies.specs.Shared.{names_by_place};
 ghost use Rattle.script_calls.specs.Reading.{said_by};
-ghost use Rattle.script_run.specs.Printed.{IsReportOf, PrintsReport, PrintsRun, RunReport, SaysFault, report_of, run_text};
+ghost use Rattle.script_run.specs.Answered.{AreToldOf};
+ghost use Rattle.script_run.specs.Printed.{IsReportOf, IsRun, PrintsReport, PrintsRun, RunReport, SaysFault, report_of, run_text};
 
+use crate::answers::{answers_of, ends_of};
 use crate::asking::Asking;
 use crate::text::{ReplicaEnd, text_of};
 use byte_output::put;
 use catalogue::Catalogue;
 use engines::FAILED;
-use node::{EndedReplica, Node, Size, StartFault};
+use node::{Desk, Node, Size, StartFault};
 use node_calls::OpenGate;
-use order_log::{Fact, GroupCells};
+use order_log::{Fact, GroupCells, Seen};
 use ordered_entries::{LogSetting, OrderedEntries};
 use report::CallAnswer;
 use row_values::Bytes;
@@ -187,12 +189,10 @@ fn run_on_node<
       catalogue = catalogue.procedures;
       window = size.window;
     } }
-    ensures answers { IfOk result (λ report. vec_len report.answers ≡ vec_len calls) }
-    ensures replicas { IfOk result (λ report. vec_len report.replicas ≡ size.replicas) }
-    ensures agrees { IfOk result (λ report. report.agrees ≡ true) }
+    ensures run { IfOk result (λ report. IsRun J.setting size.replicas calls.items (report_of report)) }
     ensures silent { shows_progress ≡ false → faults.new ≡ faults.old }
 {
-    let Ok(asking) = Asking::new(alloc, &catalogue, size.replicas, calls) else {
+    let Ok(asking) = Asking::<J>::new(alloc, &catalogue, size.replicas, calls) else {
         return Err(Failure::OutOfMemory);
     };
     let started = Node::<J, OpenGate>::start_sized(
@@ -202,19 +202,22 @@ fn run_on_node<
         Ok(node) => node,
         Err(fault) => return Err(Failure::Start(fault)),
     };
-    asking.ask_all(
+    let answered = ask(
         rt,
         alloc,
         node.desk(),
+        &asking,
         size.executors,
         faults,
         shows_progress,
     );
-    let answers = asking.answers(rt, alloc, node.desk());
     let finish = node.finish(rt);
     let mut totals = finish.totals;
     totals.other = totals.other.saturating_add(asking.unnamed());
-    let (Ok(answers), Ok(replicas)) = (answers, ends_of(alloc, &finish.replicas)) else {
+    let Ok((answers, mut log)) = answered else {
+        return Err(Failure::OutOfMemory);
+    };
+    let Ok(replicas) = ends_of(alloc, &mut log, &finish.replicas) else {
         return Err(Failure::OutOfMemory);
     };
     Ok(Report {
@@ -225,22 +228,22 @@ fn run_on_node<
     })
 }
 
-/// How the replicas have ended.
-fn ends_of<J: LogSetting>(
+/// Makes the calls at a node: what each was answered, and the longest beginning of the log that a caller had seen.
+fn ask<J: LogSetting + Ledgers + Send + Sync + 'static, R: Threads + Wait + Sync, E: Write>(
+    rt: &R,
     alloc: Global,
-    replicas: &[EndedReplica<J>],
-) -> Result<Vec<ReplicaEnd>, AllocError>
-    ensures { IfOk result (λ ends. vec_len ends ≡ length replicas.now) }
+    desk: &Desk<J, OpenGate>,
+    asking: &Asking<J>,
+    executors: u32,
+    faults: &mut E,
+    shows_progress: bool,
+) -> Result<(Vec<CallAnswer>, Seen<J>), AllocError>
+    ensures len { IfOk result (λ r. vec_len r.0 ≡ vec_len asking.now.calls) }
+    ensures told { IfOk result (λ r. AreToldOf J.setting desk.now.replicas r.1 (map (λ planned. planned.call) asking.now.calls.items) r.0.items) }
+    ensures silent { shows_progress ≡ false → faults.new ≡ faults.old }
 {
-    let mut ends = Vec::with_capacity(alloc, replicas.len())?;
-    for replica in replicas {
-        ends.push(ReplicaEnd {
-            position: replica.position,
-            commits: replica.commits,
-            is_stopped: replica.stopped,
-        })?;
-    }
-    Ok(ends)
+    let shares = asking.ask_all(rt, alloc, desk, executors, faults, shows_progress)?;
+    answers_of(rt, alloc, desk, asking, shares)
 }
 
 /// Why a node didn't start, as it is told.

@@ -1,15 +1,54 @@
 //! What is printed of an answer.
 
-ghost use Rattle.std.specs.Prelude.{◌≢◌};
+ghost use Rattle.std.specs.Prelude.{◌≡◌, ◌≢◌, Some};
 ghost use Rattle.node_calls.specs.declared.answer.Answer.TheVariants.{Behind};
+ghost use Rattle.script_run.specs.Answered.{IsTold, IsUnnamed, refusal_told, told};
 
+use crate::asking::PlannedCall;
 use dsm_model::StepRefusal;
-use node_calls::{Answer, CallRefusal};
+use node::Desk;
+use node_calls::{Answer, CallRefusal, OpenGate};
+use order_log::{Fact, Seen};
+use ordered_entries::{LogSetting, OrderedEntries};
 use report::CallAnswer;
+use std::sync::Wait;
+use tallies::Ledgers;
+
+/// What a call is told, and what its caller has seen of the log then. Where no procedure has its name the node isn't asked.
+pub(crate) fn answer_to<J: LogSetting + Ledgers + Send + Sync + 'static, R: Wait>(
+    rt: &R,
+    desk: &Desk<J, OpenGate>,
+    planned: &PlannedCall<J>,
+) -> (CallAnswer, Option<Seen<J>>)
+    ensures { IsTold J.setting desk.now.replicas planned.now.call result.0 result.1 }
+{
+    let call = &planned.call;
+    let Some(procedure) = planned.procedure else {
+        return (unnamed(desk.replicas(), call.replica), None);
+    };
+    let args = call.args.as_slice();
+    let (answer, seen) = match call.request {
+        Some(request) => desk.execute_numbered(rt, call.replica, 0, procedure, args, request),
+        None => desk.execute(rt, call.replica, 0, procedure, args),
+    };
+    (told(answer), seen)
+}
+
+/// What a call is told whose name no procedure has.
+fn unnamed(replicas: usize, replica: u32) -> CallAnswer
+    ensures { IsUnnamed replicas replica result }
+{
+    if replica == 0 || replica as usize > replicas {
+        CallAnswer::Refused(StepRefusal::NoReplica)
+    } else {
+        CallAnswer::Refused(StepRefusal::NoProcedure)
+    }
+}
 
 /// What is printed of the answer to a call that asks to see nothing, which none is behind for.
-pub(crate) fn told(answer: Answer) -> CallAnswer
+fn told(answer: Answer) -> CallAnswer
     requires { answer ≢ Behind }
+    ensures { told answer ≡ Some result }
 {
     match answer {
         Answer::Committed { position, reply } => CallAnswer::Committed { position, reply },
@@ -34,7 +73,9 @@ pub(crate) fn told(answer: Answer) -> CallAnswer
     }
 }
 
-fn step_refusal(refusal: CallRefusal) -> StepRefusal {
+fn step_refusal(refusal: CallRefusal) -> StepRefusal
+    ensures { result ≡ refusal_told refusal }
+{
     match refusal {
         CallRefusal::NoReplica => StepRefusal::NoReplica,
         CallRefusal::NoProcedure => StepRefusal::NoProcedure,

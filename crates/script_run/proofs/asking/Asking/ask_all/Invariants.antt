@@ -1,5 +1,8 @@
-use Rattle.std.proofs.Common.{◌≡◌, false}
+use Rattle.std.proofs.Common.{◌≡◌, All, false, map}
+use Rattle.script_run.specs.Answered.{IsMadeCall}
 use Rattle.script_run.proofs.asking.Asking.ask_all.Given as goal
 
 abbrev pub invariant-loop-start : goal.invariant-loop-start
-invariant-loop-start g l = l.shows_progress ≡ false → l.faults ≡ l.fn.faults
+invariant-loop-start g l =
+    (l.shows_progress ≡ false → l.faults ≡ l.fn.faults)
+    × All (λ share. All (IsMadeCall g.J.LogSetting.setting l.desk.replicas (map (λ planned. planned.call) l.self.calls.items)) share.items) l.shares.items

@@ -1,8 +1,8 @@
-use Rattle.std.proofs.Common.{◌≡◌, length, vec_len}
+use Rattle.std.proofs.Common.{◌≡◌, map}
 use Rattle.script_run.proofs.asking.Asking.new.Given as goal
 
 abbrev pub invariant-loop-call : goal.invariant-loop-call
-invariant-loop-call l = vec_len l.calls ≡ length l.yielded
+invariant-loop-call g l = map (λ planned. planned.call) l.calls.items ≡ l.yielded
 
 abbrev pub invariant-loop : goal.invariant-loop
-invariant-loop l = vec_len l.calls ≡ vec_len l.fn.script
+invariant-loop g l = map (λ planned. planned.call) l.calls.items ≡ l.fn.script.items

@@ -1,0 +1,168 @@
+//! What all calls of a script were answered, and the longest beginning of the log that was seen.
+
+ghost use Rattle.std.specs.Prelude.{◌≡◌, ℕ, ◌<◌, List, All, IfOk, IfSome, Some, map, length, slice_get, vec_len};
+ghost use mathlib.Core.List.{IsPrefix};
+ghost use Rattle.log_model.specs.Log.{Setting};
+ghost use Rattle.script_calls.specs.declared.call.ScriptCall.{ScriptCall};
+ghost use Rattle.script_run.specs.Answered.{AreFoundOf, AreToldOf, IsEndOf, IsMadeCall, IsToldOf};
+
+use crate::asking::{Asking, MadeCall};
+use crate::text::ReplicaEnd;
+use crate::told::answer_to;
+use node::{Desk, EndedReplica};
+use node_calls::OpenGate;
+use order_log::{Fact, Seen};
+use ordered_entries::{LogSetting, OrderedEntries};
+use report::CallAnswer;
+use std::alloc::{AllocError, Global};
+use std::sync::Wait;
+use tallies::Ledgers;
+
+/// Takes the longer of two beginnings of one log: both begin it.
+fn extend<J: LogSetting>(log: &mut Seen<J>, seen: &Seen<J>)
+    ensures log { IsPrefix log.old log.new }
+    ensures seen { IsPrefix seen.now log.new }
+{
+    if log.len() < seen.len() {
+        log.agrees(seen);
+        *log = seen.again();
+    } else {
+        seen.agrees(log);
+    }
+}
+
+/// Takes the longer beginning where one was seen.
+fn extend_by<J: LogSetting>(log: &mut Seen<J>, seen: &Option<Seen<J>>)
+    ensures log { IsPrefix log.old log.new }
+    ensures seen { IfSome seen.now (λ entries. IsPrefix entries log.new) }
+{
+    if let Some(seen) = seen {
+        extend(log, seen);
+    }
+}
+
+/// What calls were answered, each at its place in the script, and the longest beginning of the log that was seen.
+#[derive(Drop)]
+struct Found<J: LogSetting> {
+    answers: Vec<Option<CallAnswer>>,
+    log: Seen<J>,
+}
+
+impl<J: LogSetting> Found<J> {
+    /// None of so many calls was answered.
+    fn new(alloc: Global, count: usize) -> Result<Found<J>, AllocError>
+        ensures len { IfOk result (λ found. vec_len found.answers ≡ count) }
+        ensures none { IfOk result (λ found. (w : Setting) (replicas : ℕ) (calls : List (ScriptCall (List ℕ)))
+            → AreFoundOf w replicas found.log calls found.answers.items) }
+    {
+        let mut answers = Vec::with_capacity(alloc, count)?;
+        for place in 0..count {
+            answers.push(None)?;
+        }
+        Ok(Found {
+            answers,
+            log: Seen::new(),
+        })
+    }
+
+    /// Puts what a call was answered at its place.
+    fn put(&mut self, made: &MadeCall<J>)
+        ensures found { (replicas : ℕ) (calls : List (ScriptCall (List ℕ))) → AreFoundOf J.setting replicas self.old.log calls self.old.answers.items
+            → IsMadeCall J.setting replicas calls made.now
+            → AreFoundOf J.setting replicas self.new.log calls self.new.answers.items }
+        ensures len { vec_len self.new.answers ≡ vec_len self.old.answers }
+    {
+        extend_by(&mut self.log, &made.seen);
+        if made.place < self.answers.len() {
+            self.answers[made.place] = Some(made.answer);
+        }
+    }
+
+    /// Puts what the calls of a share were answered at their places.
+    fn put_share(&mut self, share: &Vec<MadeCall<J>>)
+        ensures found { (replicas : ℕ) (calls : List (ScriptCall (List ℕ))) → AreFoundOf J.setting replicas self.old.log calls self.old.answers.items
+            → All (IsMadeCall J.setting replicas calls) share.now.items
+            → AreFoundOf J.setting replicas self.new.log calls self.new.answers.items }
+        ensures len { vec_len self.new.answers ≡ vec_len self.old.answers }
+    {
+        for made in share {
+            self.put(made);
+        }
+    }
+}
+
+impl<J: LogSetting + Ledgers + Send + Sync + 'static> Found<J> {
+    /// The answer to the call at a place: what was found, or what it is told now where it wasn't made.
+    fn answer<R: Wait>(
+        &mut self,
+        rt: &R,
+        desk: &Desk<J, OpenGate>,
+        asking: &Asking<J>,
+        place: usize,
+    ) -> CallAnswer
+        requires place { place < vec_len asking.now.calls }
+        requires len { vec_len self.old.answers ≡ vec_len asking.now.calls }
+        requires found { AreFoundOf J.setting desk.now.replicas self.old.log (map (λ planned. planned.call) asking.now.calls.items) self.old.answers.items }
+        ensures told { (call : ScriptCall (List ℕ)) → slice_get (map (λ planned. planned.call) asking.now.calls.items) place ≡ Some call
+            → IsToldOf J.setting desk.now.replicas self.new.log call result }
+        ensures log { IsPrefix self.old.log self.new.log }
+        ensures same { self.new.answers ≡ self.old.answers }
+    {
+        match self.answers[place] {
+            Some(answer) => answer,
+            None => {
+                let (answer, seen) = answer_to(rt, desk, &asking.calls[place]);
+                extend_by(&mut self.log, &seen);
+                answer
+            }
+        }
+    }
+}
+
+/// What each call was answered, in the order of the script, and the longest beginning of the log that a caller had seen. A call
+/// that no thread has made is made here. The error is want of memory.
+pub(crate) fn answers_of<J: LogSetting + Ledgers + Send + Sync + 'static, R: Wait>(
+    rt: &R,
+    alloc: Global,
+    desk: &Desk<J, OpenGate>,
+    asking: &Asking<J>,
+    shares: Vec<Vec<MadeCall<J>>>,
+) -> Result<(Vec<CallAnswer>, Seen<J>), AllocError>
+    requires { All (λ share. All
+        (IsMadeCall J.setting desk.now.replicas (map (λ planned. planned.call) asking.now.calls.items)) share.items) shares.items }
+    ensures len { IfOk result (λ r. vec_len r.0 ≡ vec_len asking.now.calls) }
+    ensures told { IfOk result (λ r. AreToldOf J.setting desk.now.replicas r.1 (map (λ planned. planned.call) asking.now.calls.items) r.0.items) }
+{
+    let count = asking.calls.len();
+    let mut answers = Vec::with_capacity(alloc, count)?;
+    let mut found = Found::new(alloc, count)?;
+    for share in &shares {
+        found.put_share(share);
+    }
+    for place in 0..count {
+        answers.push(found.answer(rt, desk, asking, place))?;
+    }
+    Ok((answers, found.log))
+}
+
+/// How the replicas have ended, each with a beginning of the log, which may be longer than what callers had seen.
+pub(crate) fn ends_of<J: LogSetting>(
+    alloc: Global,
+    log: &mut Seen<J>,
+    replicas: &[EndedReplica<J>],
+) -> Result<Vec<ReplicaEnd>, AllocError>
+    ensures len { IfOk result (λ ends. vec_len ends ≡ length replicas.now) }
+    ensures log { IsPrefix log.old log.new }
+    ensures ends { IfOk result (λ ends. All (IsEndOf J.setting log.new) ends.items) }
+{
+    let mut ends = Vec::with_capacity(alloc, replicas.len())?;
+    for replica in replicas {
+        extend(log, &replica.seen);
+        ends.push(ReplicaEnd {
+            position: replica.position,
+            commits: replica.commits,
+            is_stopped: replica.stopped,
+        })?;
+    }
+    Ok(ends)
+}
