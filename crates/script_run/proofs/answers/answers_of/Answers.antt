@@ -1,4 +1,4 @@
-use Rattle.std.proofs.Common.{◌≡◌, ◌<◌, ◌∙◌, ◌++◌, [], ◌∷◌, length, get_or, map, slice_get, sym, subst, ap, arith}
+use Rattle.std.proofs.Common.{◌≡◌, ◌<◌, ◌∙◌, length, get_or, map, slice_get, sym, subst, ap, arith}
 use Rattle.std.specs.Prelude.{All, Some, vec_len}
 use Rattle.script_run.specs.Answered.{AreFoundOf, AreToldOf, IsMadeCall}
 use Rattle.script_run.proofs.AnsweredLemmas.{answers_longer, found_longer, told_more}

@@ -1,5 +1,4 @@
-use Rattle.std.proofs.Common.{◌≡◌, ◌∙◌, length, map, ap, subst, sym, arith}
-use Rattle.std.specs.Prelude.{vec_len}
+use Rattle.std.proofs.Common.{◌≡◌, ◌∙◌, length, map, ap, subst, arith}
 use Rattle.script_run.specs.Answered.{AreToldOf}
 use Rattle.std.proofs.lemmas.List.{length-map}
 use Rattle.script_run.proofs.AnsweredLemmas.{answers_longer}

@@ -1,4 +1,4 @@
-use Rattle.std.proofs.Common.{◌≡◌, All, map}
+use Rattle.std.proofs.Common.{All, map}
 use Rattle.script_run.specs.Answered.{IsMadeCall}
 use Rattle.script_run.proofs.asking.Asking.ask_from.Given as goal
 
