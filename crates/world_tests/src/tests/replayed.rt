@@ -16,6 +16,7 @@ use scarce::Scarce;
 use schema::Schema;
 use std::alloc::Global;
 use std::process::Abort;
+use txn_view::{Gone, Store};
 
 /// How many worlds are drawn.
 const WORLDS: u64 = 320;
@@ -176,17 +177,60 @@ fn are_rows(found: &[Row], rows: &[Row]) -> bool {
     found.len() == rows.len()
 }
 
-/// Whether each replica has the rows of the replay after its position.
+/// Whether each of these rows is found.
+fn finds_rows<S: Store>(store: &S, rows: &[Row]) -> bool {
+    rows.iter().all(|row| store.get(row.table(), row.key()) == Ok(Some(row.bytes())))
+}
+
+/// Whether a replica that has come to a position shows the rows of the replay after one before it, and none after one to
+/// which it hasn't come. Rows are gone where more than the window came since.
+fn shows_rows(
+    drawn: &DrawnWorld<'_>,
+    replay: &CompletedReplay,
+    number: u32,
+    last: u32,
+    before: u32,
+) -> bool {
+    let position = last.saturating_sub(before);
+    let rows = replay.rows(position as usize).unwrap_or(&[]);
+    let shown = match drawn.world.at(number, position) {
+        Some(at) if before > drawn.window => at.get(1, 1) == Err(Gone),
+        Some(at) => finds_rows(&at, rows),
+        None => false,
+    };
+    shown && drawn.world.at(number, last.saturating_add(1)).is_none()
+}
+
+/// Whether a replica has the rows of the replay after its position, and shows those after positions before it.
+fn has_rows(
+    rt: &impl Abort,
+    alloc: Global,
+    drawn: &DrawnWorld<'_>,
+    replay: &CompletedReplay,
+    number: u32,
+) -> bool {
+    let Some(listed) = drawn.world.rows(alloc, number).expect(rt, "memory") else {
+        return false;
+    };
+    let last = listed.position;
+    let rows = replay.rows(last as usize);
+    rows.is_some_and(|rows| are_rows(&listed.rows, rows))
+        && shows_rows(drawn, replay, number, last, 0)
+        && shows_rows(drawn, replay, number, last, drawn.window.min(last))
+        && shows_rows(drawn, replay, number, last, last)
+}
+
+/// Whether each replica has the rows of the replay, and there are no more replicas.
 fn have_rows(
     rt: &impl Abort,
     alloc: Global,
-    replicas: &[Replica<&Scarce>],
+    drawn: &DrawnWorld<'_>,
     replay: &CompletedReplay,
 ) -> bool {
-    for replica in replicas {
-        let found = replica.rows(alloc).expect(rt, "memory");
-        let rows = replay.rows(replica.position() as usize);
-        if !rows.is_some_and(|rows| are_rows(&found, rows)) {
+    let replicas = drawn.world.replicas().len() as u32;
+    for number in 0..replicas.saturating_add(2) {
+        let is_there = number >= 1 && number <= replicas;
+        if has_rows(rt, alloc, drawn, replay, number) != is_there {
             return false;
         }
     }
@@ -237,11 +281,11 @@ fn replay_of(rt: &impl Abort, alloc: Global, drawn: &DrawnWorld<'_>) -> Complete
 /// Where a world isn't what the replay of its log says, before and after its replicas are brought to the end.
 fn find_difference(rt: &impl Abort, alloc: Global, drawn: &mut DrawnWorld<'_>) -> Difference {
     let replay = replay_of(rt, alloc, drawn);
-    if !have_rows(rt, alloc, drawn.world.replicas(), &replay) {
+    if !have_rows(rt, alloc, drawn, &replay) {
         return Difference::Rows;
     }
     drawn.finish(rt);
-    if !have_rows(rt, alloc, drawn.world.replicas(), &replay) {
+    if !have_rows(rt, alloc, drawn, &replay) {
         return Difference::LastRows;
     }
     let mut events = drawn.history.events;
