@@ -4,7 +4,7 @@ use Rattle.byte_output.specs.Writes.{AppendsBeginning}
 use Rattle.engines.specs.declared.failure.CommandFailure.{CommandFailure}
 use Rattle.engines.specs.declared.failure.CommandFailure.TheVariants.{OutOfMemory, Input, Output}
 
--- where the output failed something may have been begun; where memory was wanting or the input failed the output is as it was
+-- where the output failed, `Begun` says what it has; where memory was wanting or the input failed it is as it was
 abbrev pub Leaves : Type 0 → Option (List ℕ) → Option (List ℕ) → CommandFailure → Type 0
 Leaves Begun old new (Output error) = Begun
 Leaves Begun old new (Input error) = new ≡ old

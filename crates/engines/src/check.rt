@@ -46,7 +46,7 @@ pub fn check_over<A: Allocator + Copy, R: Read, W: Write, E: Write>(
         Appends (W.contents output.old) (W.contents output.new) (verdict_text verdict))) }
 
     // Else memory was wanting or the input failed, and the output is as it was; or the output failed, and has a beginning of the
-    // line. Which it was is said.
+    // line. What failed is said, as far as the writer takes it.
     ensures failed { result ≡ FAILED → (failure : CommandFailure)
         × Leaves (IfSome (R.remaining input.old) (λ bytes.
         OfVerdict args_len (schema_of tables.now) (program_of bytes) (λ verdict.

@@ -5,7 +5,7 @@ use Rattle.log_model.specs.declared.verdict.Verdict.{Verdict}
 use Rattle.log_model.specs.Log.{Setting, verdict_of}
 use Rattle.log_model.specs.Entries.{items_of}
 use Rattle.log_entry.specs.declared.entry.Entry.{Entry as LogEntry}
-use Rattle.replica.specs.Replica.{AreEntriesOf, entries_of}
+pub use Rattle.replica.specs.Replica.{AreEntriesOf, entries_of}
 use Rattle.locked_replica.specs.Commits.{commits_of}
 use Rattle.node_calls.specs.Asked.{AskedCall}
 use Rattle.node_calls.specs.Answer.{IsAnswer}
@@ -24,13 +24,14 @@ pub record IsHeard {A : Type 0} (w : Setting) (replicas replica : ℕ) (a : Aske
 abbrev pub Entries : Type 0
 Entries = List (LogEntry Global)
 
--- entries of a log reach to this position, and the verdict there is this
-pub record IsVerdictAt (w : Setting) (position : ℕ) (v : Verdict) : Type 0 where
-  pub delivered : Entries
+-- these entries are a log's and reach to this position, and the verdict there is this
+pub record IsVerdictAt (w : Setting) (position : ℕ) (v : Verdict) (delivered : Entries) : Type 0 where
   pub entries : AreEntriesOf w (entries_of delivered)
   pub reached : position ≤ length delivered
   pub verdict : verdict_of w (items_of (entries_of delivered)) position ≡ Some v
 
--- a replica has ended with these entries: at this position, and so many of them commit
-abbrev pub IsEndAt : Setting → Entries → ℕ → ℕ → Type 0
-IsEndAt w delivered position commits = (position ≡ length delivered) × (commits ≡ commits_of w (items_of (entries_of delivered)))
+-- a replica has ended with these entries, which are a log's: at this position, and so many of them commit
+pub record IsEndAt (w : Setting) (delivered : Entries) (position commits : ℕ) : Type 0 where
+  pub entries : AreEntriesOf w (entries_of delivered)
+  pub reached : position ≡ length delivered
+  pub committed : commits ≡ commits_of w (items_of (entries_of delivered))

@@ -147,17 +147,22 @@ impl<J: LogSetting + Ledgers + Send + Sync + 'static, G: Gate + Drop + Send + Sy
         (answer, None)
     }
 
-    /// The verdict on the entry at a position, where there is such a replica and it has come there.
-    pub fn verdict<R: Wait>(&self, rt: &R, replica: u32, position: u32) -> Option<Verdict>
+    /// The verdict on the entry at a position, where there is such a replica and it has come there, and what the replica has
+    /// delivered by now.
+    pub fn verdict<R: Wait>(
+        &self,
+        rt: &R,
+        replica: u32,
+        position: u32,
+    ) -> Option<(Verdict, Seen<J>)>
         ensures some { IfSome result (λ _. (1 ≤ replica) × (replica ≤ self.now.replicas) × (1 ≤ position)) }
-        // It is the verdict on a log whose entries the replica has delivered.
-        ensures verdict { IfSome result (IsVerdictAt J.setting position) }
+        ensures verdict { IfSome result (λ found. IsVerdictAt J.setting position found.0 found.1) }
     {
         let locked = self.shared.locked(replica)?.read(rt);
         if position == 0 || position > locked.position() {
             return None;
         }
         locked.keeps_what_was_delivered();
-        Some(locked.verdict_at(position))
+        Some((locked.verdict_at(position), locked.seen()))
     }
 }

@@ -2,7 +2,7 @@
 
 ghost use Rattle.std.specs.Prelude.{◌≡◌, length};
 ghost use Rattle.log_model.specs.Entries.{items_of};
-ghost use Rattle.replica.specs.Replica.{entries_of};
+ghost use Rattle.replica.specs.Replica.{AreEntriesOf, entries_of};
 ghost use Rattle.locked_replica.specs.Commits.{commits_of};
 ghost use Rattle.node.specs.Agreement.{OneBegins, AgreeBy};
 
@@ -27,7 +27,9 @@ impl<J: LogSetting, P: Allocator + Copy> EndedReplica<J, P> {
     pub fn of<A: Allocator + Copy>(replica: &LockedReplica<J, A, P>) -> EndedReplica<J, P>
         ensures seen { result.seen ≡ replica.now.entries }
         ensures stopped { result.stopped ≡ replica.now.replica.stopped }
+        ensures entries { AreEntriesOf J.setting (entries_of result.seen) }
     {
+        replica.keeps_what_was_delivered();
         EndedReplica {
             position: replica.position(),
             commits: replica.commits(),

@@ -1,7 +1,8 @@
 //! A node: replicas of one log, their threads, and what callers share.
 
-ghost use Rattle.std.specs.Prelude.{◌≡◌, ◌≤◌, ◌+◌, true, IfOk, IfErr, IfSome, IfNone, OnOk, Err, length, vec_len, vec_capacity};
+ghost use Rattle.std.specs.Prelude.{◌≡◌, ◌≤◌, ◌<◌, ◌+◌, true, All, IfOk, IfErr, IfSome, IfNone, OnOk, Err, length, vec_len, vec_capacity};
 ghost use Rattle.std.specs.Arc.{arc_value};
+ghost use Rattle.replica.specs.Replica.{AreEntriesOf, entries_of};
 ghost use Rattle.tallies.specs.Shared.{names_by_place};
 ghost use Rattle.served_replicas.specs.Added.{IsAddedAnswer};
 ghost use Rattle.served_replicas.specs.Replicas.{IsNoReplica};
@@ -204,6 +205,7 @@ impl<J: LogSetting + Ledgers + Send + Sync + 'static, G: Gate + Drop + Send + Sy
         ensures totals { result.totals ≡ result.shares.counted }
         ensures shares { result.shares.parts ≡ 129 }
         ensures replicas { length result.replicas.items ≡ self.replicas }
+        ensures entries { All (λ e. AreEntriesOf J.setting (entries_of e.seen)) result.replicas.items }
         ensures agreement { AgreeBy (λ e. e.seen) result.replicas.items }
         ensures agree { result.agreement ≡ true }
     {
@@ -222,9 +224,7 @@ impl<J: LogSetting + Ledgers + Send + Sync + 'static, G: Gate + Drop + Send + Sy
         crew.end(rt, &shared, &mut shares);
         let totals = shared.gather(rt, &mut shares);
         for place in 0..shared.replicas() as u32 {
-            if let Some(replica) = shared.locked(place + 1) {
-                ended.push_reserved(EndedReplica::of(&replica.read(rt)));
-            }
+            push_end(rt, &shared, place + 1, &mut ended);
         }
         agree_all(&ended);
         Finish {
@@ -277,6 +277,25 @@ impl<J: LogSetting + Ledgers, G: Gate> Finish<J, G> {
         ensures none { IfNone result (IsNoReplica (vec_len self.now.replicas) number) }
     {
         self.shared.locked(number)
+    }
+}
+
+/// Adds how a replica has ended, by its number, in room that there is.
+fn push_end<J: LogSetting + Ledgers, G: Gate, R: Wait>(
+    rt: &R,
+    shared: &Shared<J, Global, Global, G>,
+    number: u32,
+    ended: &mut Vec<EndedReplica<J>>,
+)
+    requires number { (1 ≤ number) × (number ≤ shared.now.replicas) }
+    requires room { vec_len ended.old < vec_capacity ended.old }
+    requires entries { All (λ e. AreEntriesOf J.setting (entries_of e.seen)) ended.old.items }
+    ensures len { vec_len ended.new ≡ vec_len ended.old + 1 }
+    ensures room { vec_capacity ended.old ≤ vec_capacity ended.new }
+    ensures entries { All (λ e. AreEntriesOf J.setting (entries_of e.seen)) ended.new.items }
+{
+    if let Some(replica) = shared.locked(number) {
+        ended.push_reserved(EndedReplica::of(&replica.read(rt)));
     }
 }
 

@@ -49,7 +49,7 @@ number_named procedures name = option_map (λ p. p.number) (by_name procedures n
 abbrev pub asked_for : ScriptCall (List ℕ) → ℕ → AskedCall
 asked_for call number = record { least = 0; procedure = number; args = call.args; request = call.request }
 
--- it is asked so, and a caller hears what is printed, having seen so much of the log
+-- a caller who asks so hears what is printed, having seen so much of the log
 pub record IsHeardAs (w : Setting) (replicas : ℕ) (call : ScriptCall (List ℕ)) (number : ℕ) (what : CallAnswer) (seen : Option Entries) : Type 0 where
   pub answer : Answer
   pub heard : IsHeard w replicas call.replica (asked_for call number) answer seen
@@ -61,6 +61,7 @@ IsUnnamed replicas replica what =
     (IsNoReplica replicas replica × (what ≡ said.Refused refusal.NoReplica))
     ⊎ ((IsNoReplica replicas replica → ⊥) × (what ≡ said.Refused refusal.NoProcedure))
 
+-- the same, by whether there is such a procedure, and which number it has
 abbrev pub IsToldUnder : Setting → ℕ → ScriptCall (List ℕ) → Option ℕ → CallAnswer → Option Entries → Type 0
 IsToldUnder w replicas call (Some number) what seen = IsHeardAs w replicas call number what seen
 IsToldUnder w replicas call None what seen = (seen ≡ None) × IsUnnamed replicas call.replica what
@@ -71,7 +72,7 @@ IsTold w replicas call what seen = IsToldUnder w replicas call (number_named w.c
 
 -- ---- all of it of one log
 
--- it is told so by who has seen a beginning of this log, or nothing
+-- it is told so by one who has seen a beginning of this log, or nothing
 pub record IsToldOf (w : Setting) (replicas : ℕ) (log : Entries) (call : ScriptCall (List ℕ)) (what : CallAnswer) : Type 0 where
   pub seen : Option Entries
   pub told : IsTold w replicas call what seen
@@ -92,12 +93,12 @@ pub record IsMade (w : Setting) (replicas : ℕ) (calls : List (ScriptCall (List
 abbrev pub IsMadeCall : {J : Type 0} → Setting → ℕ → List (ScriptCall (List ℕ)) → MadeCall J → Type 0
 IsMadeCall w replicas calls made = IsMade w replicas calls made.place made.answer made.seen
 
--- each answer that is there is what the call at its place is told
+-- each answer is what the call at its place is told
 pub record AreToldOf (w : Setting) (replicas : ℕ) (log : Entries) (calls : List (ScriptCall (List ℕ))) (answers : List CallAnswer) : Type 0 where
   pub each : (place : ℕ) (call : ScriptCall (List ℕ)) (what : CallAnswer) → slice_get calls place ≡ Some call → slice_get answers place ≡ Some what
       → IsToldOf w replicas log call what
 
--- so is each of these that is there
+-- each answer that was found so far is what the call at its place is told
 pub record AreFoundOf (w : Setting) (replicas : ℕ) (log : Entries) (calls : List (ScriptCall (List ℕ))) (found : List (Option CallAnswer)) : Type 0 where
   pub each : (place : ℕ) (call : ScriptCall (List ℕ)) (what : CallAnswer) → slice_get calls place ≡ Some call → slice_get found place ≡ Some (Some what)
       → IsToldOf w replicas log call what

@@ -1,5 +1,5 @@
 -- What a run of a script prints.
-use Rattle.std.specs.Prelude.{◌≡◌, ℕ, ◌+◌, Bool, true, List, [], ◌∷◌, ◌++◌, All, length, Option, Some, Result, Ok, Err}
+use Rattle.std.specs.Prelude.{◌≡◌, ℕ, ◌+◌, Bool, true, List, [], ◌∷◌, ◌++◌, ◌⊎◌, All, length, Option, Some, IfSome, Result, Ok, Err}
 use Rattle.std.specs.Io.KnownBytes.{Appends}
 use Rattle.byte_output.specs.Writes.{AppendsBeginning}
 use Rattle.tallies.specs.declared.counts.Counts.{Counts}
@@ -48,7 +48,7 @@ run_text r =
 abbrev pub setting_of : ScriptSettings → ℕ → Setting
 setting_of settings window = record { tables = settings.catalogue.tables; catalogue = settings.catalogue.procedures; window = window }
 
--- what these calls come to at so many replicas: there is a log of which each answer and each replica's end is said
+-- what these calls come to at so many replicas: there is one log of which each answer and each replica's end is true
 pub record IsRun (w : Setting) (replicas : ℕ) (calls : List (ScriptCall (List ℕ))) (r : RunReport) : Type 0 where
   pub log : Entries
   pub answered : length r.answers ≡ length calls
@@ -74,11 +74,17 @@ abbrev pub PrintsRun : List ℕ → Option (List ℕ) → Option (List ℕ) → 
 PrintsRun bytes old new =
     (said : Said) × (report : RunReport) × (script_says bytes ≡ Ok said) × IsReportOf said report × Appends old new (run_text report)
 
+-- the output is as it was; or the script says something, and the output has a beginning of what a run of it prints
+abbrev pub PrintsNoMore : Option (List ℕ) → Option (List ℕ) → Option (List ℕ) → Type 0
+PrintsNoMore input old new =
+    (new ≡ old) ⊎ ((said : Said) × (report : RunReport) × IfSome input (λ bytes. script_says bytes ≡ Ok said) × IsReportOf said report
+    × AppendsBeginning old new (run_text report))
+
 -- the script of these bytes is at fault, and that was said, or a beginning of it
 abbrev pub SaysFault : List ℕ → Option (List ℕ) → Option (List ℕ) → Type 0
 SaysFault bytes old new = (fault : ScriptFault) × (script_says bytes ≡ Err fault) × AppendsBeginning old new (fault_line fault)
 
--- the text was written; or a beginning of it, since the output failed, or nothing, for want of memory
+-- the text was written, or a beginning of it, since the output failed or memory was wanting
 abbrev pub PrintsReport : Option (List ℕ) → Option (List ℕ) → List ℕ → Result (Unit {0}) Stop → Type 0
 PrintsReport old new text (Ok done) = Appends old new text
 PrintsReport old new text (Err (stop.Output error)) = AppendsBeginning old new text

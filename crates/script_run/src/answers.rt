@@ -3,6 +3,7 @@
 ghost use Rattle.std.specs.Prelude.{◌≡◌, ℕ, ◌<◌, List, All, IfOk, IfSome, Some, map, length, slice_get, vec_len};
 ghost use mathlib.Core.List.{IsPrefix};
 ghost use Rattle.log_model.specs.Log.{Setting};
+ghost use Rattle.node.specs.Requests.{AreEntriesOf, entries_of};
 ghost use Rattle.script_calls.specs.declared.call.ScriptCall.{ScriptCall};
 ghost use Rattle.script_run.specs.Answered.{AreFoundOf, AreToldOf, IsEndOf, IsMadeCall, IsToldOf};
 
@@ -151,6 +152,7 @@ pub(crate) fn ends_of<J: LogSetting>(
     log: &mut Seen<J>,
     replicas: &[EndedReplica<J>],
 ) -> Result<Vec<ReplicaEnd>, AllocError>
+    requires { All (λ e. AreEntriesOf J.setting (entries_of e.seen)) replicas.now }
     ensures len { IfOk result (λ ends. vec_len ends ≡ length replicas.now) }
     ensures log { IsPrefix log.old log.new }
     ensures ends { IfOk result (λ ends. All (IsEndOf J.setting log.new) ends.items) }

@@ -171,6 +171,7 @@ impl<J: LogSetting + Ledgers + Send + Sync + 'static> Asking<J> {
             return;
         };
         for _ in 0..end {
+            // Room first: a call that was made and not kept would be made again.
             if share.reserve(1).is_err() {
                 break;
             }

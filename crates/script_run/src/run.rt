@@ -1,12 +1,12 @@
 //! A script is run on a node.
 
 ghost use Rattle.std.specs.Prelude.{◌≡◌, ◌⊎◌, ◌<◌, ◌^◌, IfOk, IfSome, false, map, vec_len};
-ghost use Rattle.byte_output.specs.Writes.{AppendsBeginning, WritesText};
+ghost use Rattle.byte_output.specs.Writes.{WritesText};
 ghost use Rattle.engines.specs.declared.status.TheConstants.{FAILED};
 ghost use Rattle.tallies.specs.Shared.{names_by_place};
 ghost use Rattle.script_calls.specs.Reading.{said_by};
 ghost use Rattle.script_run.specs.Answered.{AreToldOf};
-ghost use Rattle.script_run.specs.Printed.{IsReportOf, IsRun, PrintsReport, PrintsRun, RunReport, SaysFault, report_of, run_text};
+ghost use Rattle.script_run.specs.Printed.{IsReportOf, IsRun, PrintsNoMore, PrintsReport, PrintsRun, SaysFault, report_of, run_text};
 
 use crate::answers::{answers_of, ends_of};
 use crate::asking::Asking;
@@ -68,15 +68,15 @@ pub fn run_over<R: Threads + Wait + Copy + Send + Sync + 'static, I: BufRead, W:
     options: RunOptions,
 ) -> u8
     ensures range { ((result ≡ 0) ⊎ (result ≡ 1)) ⊎ (result ≡ FAILED) }
-    // An answer to each call of the script, and how the node has ended.
+    // An answer to each call of the script, and how the node has ended, all of it true of one log.
     ensures done { result ≡ 0 → IfSome (I.remaining input.old) (λ bytes. PrintsRun bytes (W.contents output.old) (W.contents output.new)) }
     // The script's first fault, or as much of its line as the writer takes. Nothing was run.
     ensures fault { result ≡ 1 → IfSome (I.remaining input.old) (λ bytes. SaysFault bytes (E.contents faults.old) (E.contents faults.new)) }
     ensures untouched { result ≡ 1 → output.new ≡ output.old }
     // Nothing is said where all was done, unless progress is to be shown.
     ensures silent { result ≡ 0 → options.shows_progress ≡ false → faults.new ≡ faults.old }
-    // Something failed: what was written is a beginning of what a run prints.
-    ensures failed { result ≡ FAILED → (r : RunReport) × AppendsBeginning (W.contents output.old) (W.contents output.new) (run_text r) }
+    // Something failed: nothing was written, or a beginning of what a run of the script prints.
+    ensures failed { result ≡ FAILED → PrintsNoMore (I.remaining input.old) (W.contents output.old) (W.contents output.new) }
 {
     let script = match read_script(alloc, input) {
         Ok(script) => script,

@@ -1,4 +1,4 @@
-//! What is printed of an answer.
+//! What a call is told, and what is printed of that.
 
 ghost use Rattle.std.specs.Prelude.{◌≡◌, ◌≢◌, Some};
 ghost use Rattle.node_calls.specs.declared.answer.Answer.TheVariants.{Behind};

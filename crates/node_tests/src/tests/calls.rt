@@ -173,8 +173,9 @@ pub(crate) fn numbered<J: LogSetting + Ledgers + Send + Sync + 'static, R: Wait 
         reply: 20,
     };
     assert_eq!(rt; answer, committed);
-    assert_eq!(rt; desk.verdict(rt, 1, 2), Some(Verdict::Repeated(1)));
-    assert_eq!(rt; desk.verdict(rt, 1, 4), None);
+    let second = desk.verdict(rt, 1, 2).map(|found| (found.0, found.1.len()));
+    assert_eq!(rt; second, Some((Verdict::Repeated(1), 3)));
+    assert!(rt; desk.verdict(rt, 1, 4).is_none());
 }
 
 /// A procedure is added through the log, and what isn't accepted isn't.

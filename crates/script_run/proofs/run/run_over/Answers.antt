@@ -1,16 +1,17 @@
 use Rattle.script_calls.specs.Reading.{said_by}
 use Rattle.script_run.specs.Printed.{report_of}
-use Rattle.script_run.proofs.PrintedLemmas.{all_printed, nothing_printed, some_printed}
+use Rattle.std.proofs.Common.{inl, refl}
+use Rattle.script_run.proofs.PrintedLemmas.{all_printed, some_printed}
 use Rattle.script_run.proofs.run.run_over.Goals as goal
 
 pub returns-in-Err-clause-failed : goal.returns-in-Err-clause-failed
-returns-in-Err-clause-failed g c = λ _. nothing_printed (g.W.Write.contents c.args.output.now)
+returns-in-Err-clause-failed g c = λ _. inl refl
 
 pub returns-in-Err-OutOfMemory-clause-failed : goal.returns-in-Err-OutOfMemory-clause-failed
-returns-in-Err-OutOfMemory-clause-failed g c = λ _. nothing_printed (g.W.Write.contents c.args.output.now)
+returns-in-Err-OutOfMemory-clause-failed g c = λ _. inl refl
 
 pub returns-in-Err-Start-clause-failed : goal.returns-in-Err-Start-clause-failed
-returns-in-Err-Start-clause-failed g c = λ _. nothing_printed (g.W.Write.contents c.args.output.now)
+returns-in-Err-Start-clause-failed g c = λ _. inl refl
 
 pub returns-in-Ok-print-clause-done : goal.returns-in-Ok-print-clause-done
 returns-in-Ok-print-clause-done g c = λ _.
@@ -19,5 +20,5 @@ returns-in-Ok-print-clause-done g c = λ _.
 
 pub returns-clause-failed : goal.returns-clause-failed
 returns-clause-failed g c = λ _.
-    some_printed (g.W.Write.contents c.args.output.now) (g.W.Write.contents c.print.new.output) (report_of c.in-Ok-run_script.report) c.in-Err-print.stop
-    c.in-Err-print.ensures
+    some_printed (g.I.Read.remaining c.args.input.now) (g.W.Write.contents c.args.output.now) (g.W.Write.contents c.print.new.output)
+    (said_by c.in-Ok.script) (report_of c.in-Ok-run_script.report) c.in-Err-print.stop c.in-Ok.ensures.exact c.in-Ok-run_script.ensures.report c.in-Err-print.ensures
