@@ -227,7 +227,7 @@ fn have_rows(
     drawn: &DrawnWorld<'_>,
     replay: &CompletedReplay,
 ) -> bool {
-    let replicas = drawn.world.replicas().len() as u32;
+    let replicas = u32::try_from(drawn.world.replicas().len()).unwrap_or(0);
     for number in 0..replicas.saturating_add(2) {
         let is_there = number >= 1 && number <= replicas;
         if has_rows(rt, alloc, drawn, replay, number) != is_there {
