@@ -68,7 +68,8 @@ impl<J: LogSetting> Found<J> {
 
     /// Puts what a call was answered at its place.
     fn put(&mut self, made: &MadeCall<J>)
-        ensures found { (replicas : ℕ) (calls : List (ScriptCall (List ℕ))) → AreFoundOf J.setting replicas self.old.log calls self.old.answers.items
+        ensures found { (replicas : ℕ) (calls : List (ScriptCall (List ℕ)))
+            → AreFoundOf J.setting replicas self.old.log calls self.old.answers.items
             → IsMadeCall J.setting replicas calls made.now
             → AreFoundOf J.setting replicas self.new.log calls self.new.answers.items }
         ensures len { vec_len self.new.answers ≡ vec_len self.old.answers }
@@ -81,7 +82,8 @@ impl<J: LogSetting> Found<J> {
 
     /// Puts what the calls of a share were answered at their places.
     fn put_share(&mut self, share: &Vec<MadeCall<J>>)
-        ensures found { (replicas : ℕ) (calls : List (ScriptCall (List ℕ))) → AreFoundOf J.setting replicas self.old.log calls self.old.answers.items
+        ensures found { (replicas : ℕ) (calls : List (ScriptCall (List ℕ)))
+            → AreFoundOf J.setting replicas self.old.log calls self.old.answers.items
             → All (IsMadeCall J.setting replicas calls) share.now.items
             → AreFoundOf J.setting replicas self.new.log calls self.new.answers.items }
         ensures len { vec_len self.new.answers ≡ vec_len self.old.answers }
@@ -103,8 +105,10 @@ impl<J: LogSetting + Ledgers + Send + Sync + 'static> Found<J> {
     ) -> CallAnswer
         requires place { place < vec_len asking.now.calls }
         requires len { vec_len self.old.answers ≡ vec_len asking.now.calls }
-        requires found { AreFoundOf J.setting desk.now.replicas self.old.log (map (λ planned. planned.call) asking.now.calls.items) self.old.answers.items }
-        ensures told { (call : ScriptCall (List ℕ)) → slice_get (map (λ planned. planned.call) asking.now.calls.items) place ≡ Some call
+        requires found { AreFoundOf J.setting desk.now.replicas self.old.log
+            (map (λ planned. planned.call) asking.now.calls.items) self.old.answers.items }
+        ensures told { (call : ScriptCall (List ℕ))
+            → slice_get (map (λ planned. planned.call) asking.now.calls.items) place ≡ Some call
             → IsToldOf J.setting desk.now.replicas self.new.log call result }
         ensures log { IsPrefix self.old.log self.new.log }
         ensures same { self.new.answers ≡ self.old.answers }
@@ -132,7 +136,8 @@ pub(crate) fn answers_of<J: LogSetting + Ledgers + Send + Sync + 'static, R: Wai
     requires { All (λ share. All
         (IsMadeCall J.setting desk.now.replicas (map (λ planned. planned.call) asking.now.calls.items)) share.items) shares.items }
     ensures len { IfOk result (λ r. vec_len r.0 ≡ vec_len asking.now.calls) }
-    ensures told { IfOk result (λ r. AreToldOf J.setting desk.now.replicas r.1 (map (λ planned. planned.call) asking.now.calls.items) r.0.items) }
+    ensures told { IfOk result (λ r. AreToldOf J.setting desk.now.replicas r.1
+        (map (λ planned. planned.call) asking.now.calls.items) r.0.items) }
 {
     let count = asking.calls.len();
     let mut answers = Vec::with_capacity(alloc, count)?;

@@ -148,7 +148,8 @@ impl<J: LogSetting + Ledgers + Send + Sync + 'static> Asking<J> {
             shares,
             threads,
             &|thread: usize, share: &mut Vec<MadeCall<J>>|
-                requires { All (IsMadeCall J.setting desk.now.replicas (map (λ planned. planned.call) self.now.calls.items)) share.now.items }
+                requires { All (IsMadeCall J.setting desk.now.replicas
+                    (map (λ planned. planned.call) self.now.calls.items)) share.now.items }
             { self.ask_from(rt, desk, thread, end, share) },
         );
     }

@@ -239,7 +239,8 @@ fn ask<J: LogSetting + Ledgers + Send + Sync + 'static, R: Threads + Wait + Sync
     shows_progress: bool,
 ) -> Result<(Vec<CallAnswer>, Seen<J>), AllocError>
     ensures len { IfOk result (λ r. vec_len r.0 ≡ vec_len asking.now.calls) }
-    ensures told { IfOk result (λ r. AreToldOf J.setting desk.now.replicas r.1 (map (λ planned. planned.call) asking.now.calls.items) r.0.items) }
+    ensures told { IfOk result (λ r. AreToldOf J.setting desk.now.replicas r.1
+        (map (λ planned. planned.call) asking.now.calls.items) r.0.items) }
     ensures silent { shows_progress ≡ false → faults.new ≡ faults.old }
 {
     let shares = asking.ask_all(rt, alloc, desk, executors, faults, shows_progress)?;
