@@ -9,7 +9,10 @@ use Rattle.dsm_model.specs.declared.outcome.Outcome.{Outcome}
 use Rattle.dsm_model.specs.declared.outcome.Outcome.TheVariants.{Begun, More, Exit, Stale, NoMemory, Ordered, Read, Cancelled, Delivered, Rebuilt, Added, Refused}
 use Rattle.log_model.specs.Log.{StoredProcedure, Setting, Call, by_number, procedures_after, run_in, verdict_of}
 use Rattle.log_model.specs.Name.{is_name}
-use Rattle.dsm_model.specs.World.{World, Replica, OpenCall, Checked, Passed, Failed, Step, Begin, Turn, Order, Deliver, Rebuild, Add, max_calls, call_count, position_of, has_zero, numbered, open_call, without_call, with_replica, with_begun, new_call, after_begin, is_stale, with_turns, after_turn, with_ordered, after_order_by_run, after_order, after_deliver_next, after_deliver, after_rebuild, with_added, after_add_checked, after_add, after_step, with_stopped, after_refused_memory, after_step_without_memory, IsStep, is_answer}
+use Rattle.dsm_model.specs.World.{World, Replica, Step, Begin, Turn, Order, Deliver, Rebuild, Add, max_calls, call_count, position_of, numbered, open_call, without_call, with_replica, with_begun, new_call, after_begin, is_stale, with_turns, after_turn, with_ordered, after_order_by_run, after_order, after_deliver_next, after_deliver, after_rebuild, with_added, after_add_checked, after_add, after_step, with_stopped, after_refused_memory, after_step_without_memory, IsStep, is_answer}
+use Rattle.call_model.specs.OpenCall.{OpenCall}
+use Rattle.call_model.specs.Request.{has_zero}
+use Rattle.call_model.specs.Check.{ProgramCheck, Passed, Failed}
 use Rattle.log_model.proofs.RunLemmas.{just}
 use Rattle.dsm_model.proofs.Cases.{Done, done, fst, either_if, begin_refused, order_refused, deliver_refused, rebuild_refused, add_refused}
 use Rattle.dsm_model.proofs.StepLemmas.{turn_without, wants_by, add_way}
@@ -74,14 +77,14 @@ rebuild_given : (before after : World) (r : ℕ) (outcome : Outcome) (found : Op
 rebuild_given before after r outcome None e = is_given (Rebuild r) (Refused NoReplica) outcome before after refl e
 rebuild_given before after r outcome (Some replica) e = is_given (Rebuild r) (Rebuilt (length before.log)) outcome (with_replica before r (record { position = length before.log; running = true })) after refl e
 
-checked_given : (before after : World) (name : List ℕ) (number args_len : ℕ) (checked : Checked) (outcome : Outcome) → after_add_checked before name number args_len checked ≡ done outcome after → is_answer (Add name number args_len checked) outcome ≡ true
+checked_given : (before after : World) (name : List ℕ) (number args_len : ℕ) (checked : ProgramCheck) (outcome : Outcome) → after_add_checked before name number args_len checked ≡ done outcome after → is_answer (Add name number args_len checked) outcome ≡ true
 checked_given before after name number args_len (Failed fault) outcome e = is_given (Add name number args_len (Failed fault)) (Refused (ProgramRefused fault)) outcome before after refl e
 checked_given before after name number args_len (Passed program) outcome e = elim (either_if (not (is_name name)) _ _ (outcome, after) e) [
   | inl (t, d) ↦ is_given (Add name number args_len (Passed program)) (Refused NameShape) outcome before after refl d
   | inr (t, d) ↦ is_given (Add name number args_len (Passed program)) (Added (length before.log + 1)) outcome (with_added before (record { name = name; number = number; program = program; args_len = args_len })) after refl d
 ]
 
-add_given : (before after : World) (name : List ℕ) (number args_len : ℕ) (checked : Checked) (outcome : Outcome) → after_add before name number args_len checked ≡ done outcome after → is_answer (Add name number args_len checked) outcome ≡ true
+add_given : (before after : World) (name : List ℕ) (number args_len : ℕ) (checked : ProgramCheck) (outcome : Outcome) → after_add before name number args_len checked ≡ done outcome after → is_answer (Add name number args_len checked) outcome ≡ true
 add_given before after name number args_len checked outcome e = elim (either_if (nat_le max_calls (call_count before)) _ _ (outcome, after) e) [
   | inl (t, d) ↦ is_given (Add name number args_len checked) (Refused TooManyCalls) outcome before after refl d
   | inr (t, d) ↦ elim (either_if (nat_lt 256 args_len) _ _ (outcome, after) d) [
@@ -168,14 +171,14 @@ rebuild_other : (before after : World) (r : ℕ) (outcome : Outcome) (found : Op
 rebuild_other before after r outcome None e = is_other (Refused NoReplica) outcome before after refl e
 rebuild_other before after r outcome (Some replica) e = is_other (Rebuilt (length before.log)) outcome (with_replica before r (record { position = length before.log; running = true })) after refl e
 
-checked_other : (before after : World) (name : List ℕ) (number args_len : ℕ) (checked : Checked) (outcome : Outcome) → after_add_checked before name number args_len checked ≡ done outcome after → is_met outcome ≡ true
+checked_other : (before after : World) (name : List ℕ) (number args_len : ℕ) (checked : ProgramCheck) (outcome : Outcome) → after_add_checked before name number args_len checked ≡ done outcome after → is_met outcome ≡ true
 checked_other before after name number args_len (Failed fault) outcome e = is_other (Refused (ProgramRefused fault)) outcome before after refl e
 checked_other before after name number args_len (Passed program) outcome e = elim (either_if (not (is_name name)) _ _ (outcome, after) e) [
   | inl (t, d) ↦ is_other (Refused NameShape) outcome before after refl d
   | inr (t, d) ↦ is_other (Added (length before.log + 1)) outcome (with_added before (record { name = name; number = number; program = program; args_len = args_len })) after refl d
 ]
 
-add_other : (before after : World) (name : List ℕ) (number args_len : ℕ) (checked : Checked) (outcome : Outcome) → after_add before name number args_len checked ≡ done outcome after → is_met outcome ≡ true
+add_other : (before after : World) (name : List ℕ) (number args_len : ℕ) (checked : ProgramCheck) (outcome : Outcome) → after_add before name number args_len checked ≡ done outcome after → is_met outcome ≡ true
 add_other before after name number args_len checked outcome e = elim (either_if (nat_le max_calls (call_count before)) _ _ (outcome, after) e) [
   | inl (t, d) ↦ is_other (Refused TooManyCalls) outcome before after refl d
   | inr (t, d) ↦ elim (either_if (nat_lt 256 args_len) _ _ (outcome, after) d) [
@@ -259,7 +262,7 @@ rebuild_wants w before r after (inr e) =
     let x = rebuild_some before after r (after_step w before (Rebuild r)).0 (Refused OutOfMemory) e in
     (x.0, (after_step w before (Rebuild r)).1, inl (as_done (after_step w before (Rebuild r)) (Rebuilt x.0) x.1))
 
-pub add_wants : (w : Setting) (before : World) (name : List ℕ) (number args_len : ℕ) (checked : Checked) (after : World) → IsStep w before (Add name number args_len checked) (Refused OutOfMemory) after → (call_count before < max_calls) × (args_len ≤ 256)
+pub add_wants : (w : Setting) (before : World) (name : List ℕ) (number args_len : ℕ) (checked : ProgramCheck) (after : World) → IsStep w before (Add name number args_len checked) (Refused OutOfMemory) after → (call_count before < max_calls) × (args_len ≤ 256)
 unfolding after_step after_step_without_memory
 add_wants w before name number args_len checked after (inl e) = absurd (let x = add_other before after name number args_len checked (Refused OutOfMemory) e in cc)
 add_wants w before name number args_len checked after (inr e) =

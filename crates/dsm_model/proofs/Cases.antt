@@ -11,7 +11,10 @@ use Rattle.log_model.specs.declared.request.RequestId.{RequestId}
 use Rattle.dsm_model.specs.declared.outcome.Outcome.{Outcome}
 use Rattle.dsm_model.specs.declared.outcome.Outcome.TheVariants.{Begun, More, Exit, Stale, NoMemory, Ordered, Read, Cancelled, Delivered, Rebuilt, Refused, Added}
 use Rattle.log_model.specs.Log.{StoredProcedure, Setting, by_number, run_in, verdict_of, moment_at, procedures_after, procedure_of}
-use Rattle.dsm_model.specs.World.{World, Replica, OpenCall, Step, Begin, Turn, Order, Deliver, Rebuild, max_calls, numbered, open_call, without_call, with_replica, with_begun, new_call, after_begin, is_stale, with_turns, after_turn, with_ordered, after_order_by_run, after_order, after_deliver_next, after_deliver, after_rebuild, after_refused, after_step, with_stopped, at_row_helper, after_turn_without_memory, after_refused_memory, after_step_without_memory, IsStep, Checked, Passed, Failed, Add, call_count, position_of, has_zero, with_added, after_add_checked, after_add}
+use Rattle.dsm_model.specs.World.{World, Replica, Step, Begin, Turn, Order, Deliver, Rebuild, max_calls, numbered, open_call, without_call, with_replica, with_begun, new_call, after_begin, is_stale, with_turns, after_turn, with_ordered, after_order_by_run, after_order, after_deliver_next, after_deliver, after_rebuild, after_refused, after_step, with_stopped, after_turn_without_memory, after_refused_memory, after_step_without_memory, IsStep, Add, call_count, position_of, with_added, after_add_checked, after_add}
+use Rattle.call_model.specs.OpenCall.{OpenCall, at_row_helper}
+use Rattle.call_model.specs.Request.{has_zero}
+use Rattle.call_model.specs.Check.{ProgramCheck, Passed, Failed}
 use Rattle.log_model.specs.Name.{is_name}
 use Rattle.log_model.proofs.RunLemmas.{just}
 
@@ -319,7 +322,7 @@ shaped : (b : Bool) → not b ≡ false → b ≡ true
 shaped true e = refl
 shaped false e = absurd cc
 
-checked_case : (w : Setting) (before after : World) (name : List ℕ) (number args_len : ℕ) (checked : Checked) (outcome : Outcome) → call_count before < max_calls → args_len ≤ 256 → after_add_checked before name number args_len checked ≡ (outcome, after) → Case w before (Add name number args_len checked) outcome after
+checked_case : (w : Setting) (before after : World) (name : List ℕ) (number args_len : ℕ) (checked : ProgramCheck) (outcome : Outcome) → call_count before < max_calls → args_len ≤ 256 → after_add_checked before name number args_len checked ≡ (outcome, after) → Case w before (Add name number args_len checked) outcome after
 checked_case w before after name number args_len (Failed fault) outcome few short e = Same (same_case before after (Add name number args_len (Failed fault)) outcome (ProgramRefused fault) (λ x. cc) (λ c x. absurd cc) (λ x. absurd cc) (λ r x y. cc) e)
 checked_case w before after name number args_len (Passed program) outcome few short e = elim (either_if (not (is_name name)) _ _ (outcome, after) e) [
   | inl (t, d) ↦ Same (same_case before after (Add name number args_len (Passed program)) outcome NameShape (λ x. cc) (λ c x. absurd cc) (λ x. absurd cc) (λ r x y. cc) d)
@@ -337,7 +340,7 @@ checked_case w before after name number args_len (Passed program) outcome few sh
   })
 ]
 
-add_case : (w : Setting) (before after : World) (name : List ℕ) (number args_len : ℕ) (checked : Checked) (outcome : Outcome) → after_add before name number args_len checked ≡ (outcome, after) → Case w before (Add name number args_len checked) outcome after
+add_case : (w : Setting) (before after : World) (name : List ℕ) (number args_len : ℕ) (checked : ProgramCheck) (outcome : Outcome) → after_add before name number args_len checked ≡ (outcome, after) → Case w before (Add name number args_len checked) outcome after
 add_case w before after name number args_len checked outcome e = elim (either_if (nat_le max_calls (call_count before)) _ _ (outcome, after) e) [
   | inl (t, d) ↦ Same (same_case before after (Add name number args_len checked) outcome TooManyCalls (λ x. cc) (λ c x. absurd cc) (λ x. absurd cc) (λ r x y. cc) d)
   | inr (few, d) ↦ elim (either_if (nat_lt 256 args_len) _ _ (outcome, after) d) [
@@ -408,7 +411,7 @@ rebuild_refused before after r (Cancelled s n) outcome e = absurd cc
 rebuild_refused before after r (Delivered d v) outcome e = absurd cc
 rebuild_refused before after r (Refused x) outcome e = absurd cc
 
-pub add_refused : (before after : World) (name : List ℕ) (number args_len : ℕ) (checked : Checked) (o outcome : Outcome) → after_refused_memory before (Add name number args_len checked) o ≡ just (outcome, after) → done (Refused OutOfMemory) before ≡ done outcome after
+pub add_refused : (before after : World) (name : List ℕ) (number args_len : ℕ) (checked : ProgramCheck) (o outcome : Outcome) → after_refused_memory before (Add name number args_len checked) o ≡ just (outcome, after) → done (Refused OutOfMemory) before ≡ done outcome after
 add_refused before after name number args_len checked (Added p) outcome e = some_done _ _ e
 add_refused before after name number args_len checked (Rebuilt p) outcome e = absurd cc
 add_refused before after name number args_len checked (Begun a s) outcome e = absurd cc

@@ -2,7 +2,6 @@ pub mod Numbered
 pub mod Cases
 pub mod StepLemmas
 pub mod AnswerLemmas
-mod NextLemmas
 pub mod WorldLemmas
 pub mod SoundLemmas
 pub mod LeadLemmas

@@ -8,15 +8,13 @@ use Rattle.bpf_semantics.specs.Path.{longest_path}
 use Rattle.bpf_semantics.proofs.MomentLemmas.{before_its_length, from_its_length_on}
 use Rattle.log_model.specs.Log.{StoredProcedure, Setting, Call, Log, rows_after, run_in, moment_of, moment_at, procedures_after, procedure_of}
 use Rattle.log_model.specs.Fit.{HasSafeProcedures, IsCall}
-use Rattle.dsm_model.specs.World.{World, OpenCall, open_call}
+use Rattle.dsm_model.specs.World.{World, open_call}
+use Rattle.call_model.specs.OpenCall.{OpenCall}
 use Rattle.dsm_model.specs.Sound.{IsOpenCall, IsWorld, IsSound}
 use Rattle.log_model.proofs.RunLemmas.{just, HasRun, has_run}
 use Rattle.log_model.proofs.GrowthLemmas.{rows_fit, procedures_safe}
+use Rattle.call_model.proofs.NextLemmas.{at_procedure}
 use Rattle.dsm_model.proofs.WorldLemmas.{begun_within}
-
-pub at_procedure : (w : Setting) (log : Log) (call : Call) (p : StoredProcedure) (k : ℕ) → procedure_of w log call ≡ just p → moment_at w log call k ≡ moment p.program w.tables k (entry_state call.args (rows_after w log call.snapshot))
-unfolding moment_at
-at_procedure w log call p k known = ap (λ (o : Option StoredProcedure). moment_of w.tables o call.args (rows_after w log call.snapshot) k) known
 
 -- what is known of the run of an open call
 pub open_run : (w : Setting) (world : World) (o : OpenCall) → HasSafeProcedures w → IsWorld w world → (one : IsOpenCall w world o) → HasRun w.tables (procedures_after w world.log o.call.snapshot) o.call (rows_after w world.log o.call.snapshot) one.is_call

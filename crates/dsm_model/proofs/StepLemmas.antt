@@ -5,14 +5,17 @@ use Rattle.std.proofs.lemmas.Bool.Decides.{nat_tests}
 use Rattle.bpf_code.specs.Program.{Program}
 use Rattle.bpf_semantics.specs.Run.{Run}
 use Rattle.log_model.specs.declared.request.RequestId.{RequestId}
-use Rattle.dsm_model.specs.declared.outcome.ProgramFault.{ProgramFault}
+use Rattle.call_model.specs.declared.fault.ProgramFault.{ProgramFault}
 use Rattle.log_model.specs.declared.verdict.Verdict.{Verdict}
 use Rattle.dsm_model.specs.declared.outcome.StepRefusal.{StepRefusal}
 use Rattle.dsm_model.specs.declared.outcome.StepRefusal.TheVariants.{NoReplica, NoProcedure, ArgumentsLength, NoCall, NotAtExit, NothingToDeliver, ReplicaStopped, LogFull, OutOfMemory, TooManyCalls, ArgumentsLimit, ProgramRefused, NameShape, ZeroInRequest}
 use Rattle.dsm_model.specs.declared.outcome.Outcome.{Outcome}
 use Rattle.dsm_model.specs.declared.outcome.Outcome.TheVariants.{Begun, More, Exit, Stale, NoMemory, Ordered, Read, Cancelled, Delivered, Rebuilt, Refused, Added}
 use Rattle.log_model.specs.Log.{StoredProcedure, Setting, Call, Log, by_number, run_in, verdict_of, moment_at, procedures_after, procedure_of}
-use Rattle.dsm_model.specs.World.{World, Replica, OpenCall, Step, Begin, Turn, Order, Deliver, Rebuild, max_calls, numbered, position_of, open_call, without_call, with_replica, with_begun, after_begin, makes_look, is_stale, with_turns, after_turn, with_ordered, after_order_by_run, after_order, after_deliver_next, after_deliver, after_rebuild, after_step, with_stopped, at_row_helper, after_turn_without_memory, after_refused_memory, after_step_without_memory, IsStep, Checked, Passed, Failed, Add, call_count, or_none, has_zero, with_added, after_add_checked, after_add}
+use Rattle.dsm_model.specs.World.{World, Replica, Step, Begin, Turn, Order, Deliver, Rebuild, max_calls, numbered, position_of, open_call, without_call, with_replica, with_begun, after_begin, is_stale, with_turns, after_turn, with_ordered, after_order_by_run, after_order, after_deliver_next, after_deliver, after_rebuild, after_step, with_stopped, after_turn_without_memory, after_refused_memory, after_step_without_memory, IsStep, Add, call_count, with_added, after_add_checked, after_add}
+use Rattle.call_model.specs.OpenCall.{OpenCall, makes_look, at_row_helper}
+use Rattle.call_model.specs.Request.{or_none, has_zero}
+use Rattle.call_model.specs.Check.{ProgramCheck, Passed, Failed}
 use Rattle.log_model.specs.Name.{is_name}
 use Rattle.log_model.proofs.RunLemmas.{just}
 use Rattle.log_model.proofs.EntryLemmas.{verdict_there}
@@ -613,7 +616,7 @@ rebuilds_nowhere w before r after h = rebuild_nowhere before after r (numbered b
 -- ---- Add
 
 -- the ways in which an addition may be answered
-pub data AddWay (before : World) (name : List ℕ) (number args_len : ℕ) (checked : Checked) (outcome : Outcome) (after : World) : Type 0 where
+pub data AddWay (before : World) (name : List ℕ) (number args_len : ℕ) (checked : ProgramCheck) (outcome : Outcome) (after : World) : Type 0 where
   Full : max_calls ≤ call_count before → outcome ≡ Refused TooManyCalls → AddWay before name number args_len checked outcome after
   Long : call_count before < max_calls → 256 < args_len → outcome ≡ Refused ArgumentsLimit → AddWay before name number args_len checked outcome after
   Faulty : (fault : ProgramFault) → call_count before < max_calls → args_len ≤ 256 → checked ≡ Failed fault → outcome ≡ Refused (ProgramRefused fault) → AddWay before name number args_len checked outcome after
@@ -629,7 +632,7 @@ misshaped : (b : Bool) → not b ≡ true → b ≡ false
 misshaped true e = absurd cc
 misshaped false e = refl
 
-checked_way : (before : World) (name : List ℕ) (number args_len : ℕ) (checked : Checked) (outcome : Outcome) (after : World) → call_count before < max_calls → args_len ≤ 256 → after_add_checked before name number args_len checked ≡ done outcome after → AddWay before name number args_len checked outcome after
+checked_way : (before : World) (name : List ℕ) (number args_len : ℕ) (checked : ProgramCheck) (outcome : Outcome) (after : World) → call_count before < max_calls → args_len ≤ 256 → after_add_checked before name number args_len checked ≡ done outcome after → AddWay before name number args_len checked outcome after
 checked_way before name number args_len (Failed fault) outcome after few short e = Faulty fault few short refl (sym (fst (Refused (ProgramRefused fault), before) (outcome, after) e))
 checked_way before name number args_len (Passed program) outcome after few short e = elim (either_if (not (is_name name)) _ _ (outcome, after) e) [
   | inl (t, d) ↦ Misnamed program few short refl (misshaped (is_name name) t) (sym (fst (Refused NameShape, before) (outcome, after) d))
@@ -638,7 +641,7 @@ checked_way before name number args_len (Passed program) outcome after few short
       (sym (snd (Added (length before.log + 1), with_added before (record { name = name; number = number; program = program; args_len = args_len })) (outcome, after) d))
 ]
 
-pub add_way : (before : World) (name : List ℕ) (number args_len : ℕ) (checked : Checked) (outcome : Outcome) (after : World) → after_add before name number args_len checked ≡ done outcome after → AddWay before name number args_len checked outcome after
+pub add_way : (before : World) (name : List ℕ) (number args_len : ℕ) (checked : ProgramCheck) (outcome : Outcome) (after : World) → after_add before name number args_len checked ≡ done outcome after → AddWay before name number args_len checked outcome after
 add_way before name number args_len checked outcome after e = elim (either_if (nat_le max_calls (call_count before)) _ _ (outcome, after) e) [
   | inl (t, d) ↦ Full (at_most max_calls (call_count before) t) (sym (fst (Refused TooManyCalls, before) (outcome, after) d))
   | inr (few, d) ↦ elim (either_if (nat_lt 256 args_len) _ _ (outcome, after) d) [
@@ -647,12 +650,12 @@ add_way before name number args_len checked outcome after e = elim (either_if (n
   ]
 ]
 
-way_of_add : (w : Setting) (before : World) (name : List ℕ) (number args_len : ℕ) (checked : Checked) (outcome : Outcome) (after : World) → (outcome ≡ Refused OutOfMemory → ⊥) → (outcome ≡ NoMemory → ⊥) → IsStep w before (Add name number args_len checked) outcome after → AddWay before name number args_len checked outcome after
+way_of_add : (w : Setting) (before : World) (name : List ℕ) (number args_len : ℕ) (checked : ProgramCheck) (outcome : Outcome) (after : World) → (outcome ≡ Refused OutOfMemory → ⊥) → (outcome ≡ NoMemory → ⊥) → IsStep w before (Add name number args_len checked) outcome after → AddWay before name number args_len checked outcome after
 unfolding after_step
 way_of_add w before name number args_len checked outcome after f g h = add_way before name number args_len checked outcome after (with_memory w before after (Add name number args_len checked) outcome f g h)
 
 -- whatever is answered where no memory is wanted: there is room for the addition, and its arguments are in range
-pub wants_by : (before : World) (name : List ℕ) (number args_len : ℕ) (checked : Checked) (o outcome : Outcome) (after other : World) → after_refused_memory before (Add name number args_len checked) o ≡ just (outcome, after)
+pub wants_by : (before : World) (name : List ℕ) (number args_len : ℕ) (checked : ProgramCheck) (o outcome : Outcome) (after other : World) → after_refused_memory before (Add name number args_len checked) o ≡ just (outcome, after)
     → AddWay before name number args_len checked o other → (call_count before < max_calls) × (args_len ≤ 256)
 wants_by before name number args_len checked o outcome after other e (Full a is) = absurd (let x = sym (ap (λ (y : Outcome). after_refused_memory before (Add name number args_len checked) y) is) ∙ e in cc)
 wants_by before name number args_len checked o outcome after other e (Long a b is) = absurd (let x = sym (ap (λ (y : Outcome). after_refused_memory before (Add name number args_len checked) y) is) ∙ e in cc)
@@ -666,7 +669,7 @@ same_addition a b e = cc
 same_fault : (a b : ProgramFault) → Refused (ProgramRefused a) ≡ Refused (ProgramRefused b) → a ≡ b
 same_fault a b e = cc
 
-adds_by : (before : World) (name : List ℕ) (number args_len : ℕ) (checked : Checked) (position : ℕ) (outcome : Outcome) (after : World) → outcome ≡ Added position → AddWay before name number args_len checked outcome after
+adds_by : (before : World) (name : List ℕ) (number args_len : ℕ) (checked : ProgramCheck) (position : ℕ) (outcome : Outcome) (after : World) → outcome ≡ Added position → AddWay before name number args_len checked outcome after
     → (program : Program) × (checked ≡ Passed program) × (call_count before < max_calls) × (args_len ≤ 256) × (is_name name ≡ true) × (position ≡ length before.log + 1) × (after ≡ with_added before (record { name = name; number = number; program = program; args_len = args_len }))
 adds_by before name number args_len checked position outcome after is (Full a e) = absurd (let x = sym e ∙ is in cc)
 adds_by before name number args_len checked position outcome after is (Long a b e) = absurd (let x = sym e ∙ is in cc)
@@ -674,68 +677,46 @@ adds_by before name number args_len checked position outcome after is (Faulty fa
 adds_by before name number args_len checked position outcome after is (Misnamed program a b d f e) = absurd (let x = sym e ∙ is in cc)
 adds_by before name number args_len checked position outcome after is (Appends program a b d f e leaves) = (program, d, a, b, f, same_addition (length before.log + 1) position (sym e ∙ is), leaves)
 
-pub adds : (w : Setting) (before : World) (name : List ℕ) (number args_len : ℕ) (checked : Checked) (position : ℕ) (after : World) → IsStep w before (Add name number args_len checked) (Added position) after
+pub adds : (w : Setting) (before : World) (name : List ℕ) (number args_len : ℕ) (checked : ProgramCheck) (position : ℕ) (after : World) → IsStep w before (Add name number args_len checked) (Added position) after
     → (program : Program) × (checked ≡ Passed program) × (call_count before < max_calls) × (args_len ≤ 256) × (is_name name ≡ true) × (position ≡ length before.log + 1) × (after ≡ with_added before (record { name = name; number = number; program = program; args_len = args_len }))
 adds w before name number args_len checked position after h = adds_by before name number args_len checked position (Added position) after refl (way_of_add w before name number args_len checked (Added position) after (λ x. cc) (λ x. cc) h)
 
-full_by : (before : World) (name : List ℕ) (number args_len : ℕ) (checked : Checked) (outcome : Outcome) (after : World) → outcome ≡ Refused TooManyCalls → AddWay before name number args_len checked outcome after → max_calls ≤ call_count before
+full_by : (before : World) (name : List ℕ) (number args_len : ℕ) (checked : ProgramCheck) (outcome : Outcome) (after : World) → outcome ≡ Refused TooManyCalls → AddWay before name number args_len checked outcome after → max_calls ≤ call_count before
 full_by before name number args_len checked outcome after is (Full a e) = a
 full_by before name number args_len checked outcome after is (Long a b e) = absurd (let x = sym e ∙ is in cc)
 full_by before name number args_len checked outcome after is (Faulty fault a b d e) = absurd (let x = sym e ∙ is in cc)
 full_by before name number args_len checked outcome after is (Misnamed program a b d f e) = absurd (let x = sym e ∙ is in cc)
 full_by before name number args_len checked outcome after is (Appends program a b d f e leaves) = absurd (let x = sym e ∙ is in cc)
 
-pub adds_no_more : (w : Setting) (before : World) (name : List ℕ) (number args_len : ℕ) (checked : Checked) (after : World) → IsStep w before (Add name number args_len checked) (Refused TooManyCalls) after → max_calls ≤ call_count before
+pub adds_no_more : (w : Setting) (before : World) (name : List ℕ) (number args_len : ℕ) (checked : ProgramCheck) (after : World) → IsStep w before (Add name number args_len checked) (Refused TooManyCalls) after → max_calls ≤ call_count before
 adds_no_more w before name number args_len checked after h = full_by before name number args_len checked (Refused TooManyCalls) after refl (way_of_add w before name number args_len checked (Refused TooManyCalls) after (λ x. cc) (λ x. cc) h)
 
-long_by : (before : World) (name : List ℕ) (number args_len : ℕ) (checked : Checked) (outcome : Outcome) (after : World) → outcome ≡ Refused ArgumentsLimit → AddWay before name number args_len checked outcome after → (call_count before < max_calls) × (256 < args_len)
+long_by : (before : World) (name : List ℕ) (number args_len : ℕ) (checked : ProgramCheck) (outcome : Outcome) (after : World) → outcome ≡ Refused ArgumentsLimit → AddWay before name number args_len checked outcome after → (call_count before < max_calls) × (256 < args_len)
 long_by before name number args_len checked outcome after is (Full a e) = absurd (let x = sym e ∙ is in cc)
 long_by before name number args_len checked outcome after is (Long a b e) = (a, b)
 long_by before name number args_len checked outcome after is (Faulty fault a b d e) = absurd (let x = sym e ∙ is in cc)
 long_by before name number args_len checked outcome after is (Misnamed program a b d f e) = absurd (let x = sym e ∙ is in cc)
 long_by before name number args_len checked outcome after is (Appends program a b d f e leaves) = absurd (let x = sym e ∙ is in cc)
 
-pub adds_too_long : (w : Setting) (before : World) (name : List ℕ) (number args_len : ℕ) (checked : Checked) (after : World) → IsStep w before (Add name number args_len checked) (Refused ArgumentsLimit) after → (call_count before < max_calls) × (256 < args_len)
+pub adds_too_long : (w : Setting) (before : World) (name : List ℕ) (number args_len : ℕ) (checked : ProgramCheck) (after : World) → IsStep w before (Add name number args_len checked) (Refused ArgumentsLimit) after → (call_count before < max_calls) × (256 < args_len)
 adds_too_long w before name number args_len checked after h = long_by before name number args_len checked (Refused ArgumentsLimit) after refl (way_of_add w before name number args_len checked (Refused ArgumentsLimit) after (λ x. cc) (λ x. cc) h)
 
-faulty_by : (before : World) (name : List ℕ) (number args_len : ℕ) (checked : Checked) (refused : ProgramFault) (outcome : Outcome) (after : World) → outcome ≡ Refused (ProgramRefused refused) → AddWay before name number args_len checked outcome after → (call_count before < max_calls) × (args_len ≤ 256) × (checked ≡ Failed refused)
+faulty_by : (before : World) (name : List ℕ) (number args_len : ℕ) (checked : ProgramCheck) (refused : ProgramFault) (outcome : Outcome) (after : World) → outcome ≡ Refused (ProgramRefused refused) → AddWay before name number args_len checked outcome after → (call_count before < max_calls) × (args_len ≤ 256) × (checked ≡ Failed refused)
 faulty_by before name number args_len checked refused outcome after is (Full a e) = absurd (let x = sym e ∙ is in cc)
 faulty_by before name number args_len checked refused outcome after is (Long a b e) = absurd (let x = sym e ∙ is in cc)
 faulty_by before name number args_len checked refused outcome after is (Faulty fault a b d e) = (a, b, d ∙ ap (λ (f : ProgramFault). Failed f) (same_fault fault refused (sym e ∙ is)))
 faulty_by before name number args_len checked refused outcome after is (Misnamed program a b d f e) = absurd (let x = sym e ∙ is in cc)
 faulty_by before name number args_len checked refused outcome after is (Appends program a b d f e leaves) = absurd (let x = sym e ∙ is in cc)
 
-pub adds_faulty : (w : Setting) (before : World) (name : List ℕ) (number args_len : ℕ) (checked : Checked) (fault : ProgramFault) (after : World) → IsStep w before (Add name number args_len checked) (Refused (ProgramRefused fault)) after → (call_count before < max_calls) × (args_len ≤ 256) × (checked ≡ Failed fault)
+pub adds_faulty : (w : Setting) (before : World) (name : List ℕ) (number args_len : ℕ) (checked : ProgramCheck) (fault : ProgramFault) (after : World) → IsStep w before (Add name number args_len checked) (Refused (ProgramRefused fault)) after → (call_count before < max_calls) × (args_len ≤ 256) × (checked ≡ Failed fault)
 adds_faulty w before name number args_len checked fault after h = faulty_by before name number args_len checked fault (Refused (ProgramRefused fault)) after refl (way_of_add w before name number args_len checked (Refused (ProgramRefused fault)) after (λ x. cc) (λ x. cc) h)
 
-misnamed_by : (before : World) (name : List ℕ) (number args_len : ℕ) (checked : Checked) (outcome : Outcome) (after : World) → outcome ≡ Refused NameShape → AddWay before name number args_len checked outcome after → (program : Program) × (checked ≡ Passed program) × (call_count before < max_calls) × (args_len ≤ 256) × (is_name name ≡ false)
+misnamed_by : (before : World) (name : List ℕ) (number args_len : ℕ) (checked : ProgramCheck) (outcome : Outcome) (after : World) → outcome ≡ Refused NameShape → AddWay before name number args_len checked outcome after → (program : Program) × (checked ≡ Passed program) × (call_count before < max_calls) × (args_len ≤ 256) × (is_name name ≡ false)
 misnamed_by before name number args_len checked outcome after is (Full a e) = absurd (let x = sym e ∙ is in cc)
 misnamed_by before name number args_len checked outcome after is (Long a b e) = absurd (let x = sym e ∙ is in cc)
 misnamed_by before name number args_len checked outcome after is (Faulty fault a b d e) = absurd (let x = sym e ∙ is in cc)
 misnamed_by before name number args_len checked outcome after is (Misnamed program a b d f e) = (program, d, a, b, f)
 misnamed_by before name number args_len checked outcome after is (Appends program a b d f e leaves) = absurd (let x = sym e ∙ is in cc)
 
-pub adds_misnamed : (w : Setting) (before : World) (name : List ℕ) (number args_len : ℕ) (checked : Checked) (after : World) → IsStep w before (Add name number args_len checked) (Refused NameShape) after → (program : Program) × (checked ≡ Passed program) × (call_count before < max_calls) × (args_len ≤ 256) × (is_name name ≡ false)
+pub adds_misnamed : (w : Setting) (before : World) (name : List ℕ) (number args_len : ℕ) (checked : ProgramCheck) (after : World) → IsStep w before (Add name number args_len checked) (Refused NameShape) after → (program : Program) × (checked ≡ Passed program) × (call_count before < max_calls) × (args_len ≤ 256) × (is_name name ≡ false)
 adds_misnamed w before name number args_len checked after h = misnamed_by before name number args_len checked (Refused NameShape) after refl (way_of_add w before name number args_len checked (Refused NameShape) after (λ x. cc) (λ x. cc) h)
-
--- ---- requests
-
-zero_in : (m n : ℕ) → (nat_eq m 0 || nat_eq n 0) ≡ true → (m ≡ 0) ⊎ (n ≡ 0)
-zero_in m n e = elim (nat_eq m 0) as (λ (b : Bool). nat_eq m 0 ≡ b → (b || nat_eq n 0) ≡ true → (m ≡ 0) ⊎ (n ≡ 0)) [
-  | true ↦ λ f g. inl (is_zero m f)
-  | false ↦ λ f g. inr (is_zero n g)
-] refl e
-  where
-    is_zero : (k : ℕ) → nat_eq k 0 ≡ true → k ≡ 0
-    is_zero k f = grind (arith, nat_tests)
-
-in_zero : (m n : ℕ) → (m ≡ 0) ⊎ (n ≡ 0) → (nat_eq m 0 || nat_eq n 0) ≡ true
-in_zero m n (inl e) = ap (λ (k : ℕ). nat_eq k 0 || nat_eq n 0) e
-in_zero m n (inr e) = ap (λ (k : ℕ). nat_eq m 0 || nat_eq k 0) e ∙ or_true (nat_eq m 0)
-  where
-    or_true : (b : Bool) → (b || true) ≡ true
-    or_true true = refl
-    or_true false = refl
-
-pub zero_in_words : (request : RequestId) → IsTrue (has_zero (Some request)) ↔ ((request.session ≡ 0) ⊎ (request.sequence ≡ 0))
-zero_in_words request = (zero_in request.session request.sequence, in_zero request.session request.sequence)

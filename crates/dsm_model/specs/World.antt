@@ -1,22 +1,16 @@
 -- A world of replicas that share one log: what it is made of, and what each step answers and leaves.
 use Rattle.std.specs.Prelude.{◌≡◌, ◌⊎◌, ℕ, zero, suc, ◌+◌, ◌-◌, ◌==◌, nat_le, nat_lt, Bool, true, false, not, ◌&&◌, ◌||◌, if◌then◌else◌, List, [], ◌∷◌, ◌++◌, length, replicate, slice_get, slice_set, Option, Some, None}
 use Rattle.std.specs.FinMap.{len}
-use Rattle.bpf_code.specs.declared.instruction.Instruction.{Instruction}
-use Rattle.bpf_code.specs.declared.instruction.Instruction.TheVariants.{Call as CallInstruction}
-use Rattle.bpf_code.specs.Program.{Program, instruction_at}
-use Rattle.schema.specs.Helper.{helper_of}
-use Rattle.schema.specs.declared.helper.Helper.{Helper}
-use Rattle.schema.specs.declared.helper.Helper.TheVariants.{Cancel}
-use Rattle.bpf_semantics.specs.Step.{Moment, Going}
 use Rattle.bpf_semantics.specs.Run.{Run}
-use Rattle.bpf_semantics.specs.Agree.{looks_of}
 use Rattle.log_model.specs.declared.verdict.Verdict.{Verdict}
 use Rattle.log_model.specs.declared.request.RequestId.{RequestId}
-use Rattle.dsm_model.specs.declared.outcome.ProgramFault.{ProgramFault}
+use Rattle.call_model.specs.OpenCall.{OpenCall, makes_look, at_row_helper}
+use Rattle.call_model.specs.Request.{or_none, has_zero}
+use Rattle.call_model.specs.Check.{ProgramCheck, Passed, Failed}
 use Rattle.dsm_model.specs.declared.outcome.StepRefusal.TheVariants.{NoReplica, NoProcedure, ArgumentsLength, NoCall, NotAtExit, NothingToDeliver, ReplicaStopped, LogFull, OutOfMemory, TooManyCalls, ArgumentsLimit, ProgramRefused, NameShape, ZeroInRequest}
 use Rattle.dsm_model.specs.declared.outcome.Outcome.{Outcome}
 use Rattle.dsm_model.specs.declared.outcome.Outcome.TheVariants.{Begun, More, Exit, Stale, NoMemory, Ordered, Read, Cancelled, Delivered, Rebuilt, Refused, Added}
-use Rattle.log_model.specs.Log.{StoredProcedure, Setting, Call, Log, by_number, moment_at, run_in, verdict_of, CallItem, AdditionItem, no_request, procedures_after, procedure_of}
+use Rattle.log_model.specs.Log.{StoredProcedure, Setting, Call, Log, by_number, moment_at, run_in, verdict_of, CallItem, AdditionItem, procedures_after, procedure_of}
 use Rattle.log_model.specs.Name.{is_name}
 
 -- how far it has delivered the log, and whether it goes on delivering
@@ -24,21 +18,10 @@ pub record Replica : Type 0 where
   pub position : ℕ
   pub running : Bool
 
--- a call that isn't over
-pub record OpenCall : Type 0 where
-  pub replica : ℕ  -- its number
-  pub call : Call
-  pub turns : ℕ  -- how many instructions it has run
-
 pub record World : Type 0 where
   pub log : Log
   pub replicas : List Replica  -- numbered from 1
   pub calls : List (Option OpenCall)  -- numbered from 1; None where the call is over
-
--- what the check of a program came to
-pub data Checked : Type 0 where
-  Passed : Program → Checked
-  Failed : ProgramFault → Checked
 
 pub data Step : Type 0 where
   Begin : ℕ → ℕ → List ℕ → Option RequestId → Step  -- at a replica, of a procedure, with arguments, and with a request
@@ -46,7 +29,7 @@ pub data Step : Type 0 where
   Order : ℕ → Step  -- of a call
   Deliver : ℕ → Step  -- to a replica
   Rebuild : ℕ → Step  -- of a replica
-  Add : List ℕ → ℕ → ℕ → Checked → Step  -- of a procedure: its name, its number, how many bytes its arguments have, its program
+  Add : List ℕ → ℕ → ℕ → ProgramCheck → Step  -- of a procedure: its name, its number, how many bytes its arguments have, its program
 
 -- the most calls and additions of a world, and items of a log
 abbrev pub max_calls : ℕ
@@ -105,15 +88,6 @@ position_of (Some replica) = replica.position
 abbrev pub with_begun : World → ℕ → Call → World
 with_begun world r call = record world { calls = world.calls ++ Some (record { replica = r; call = call; turns = 0 }) ∷ [] }
 
--- a call that is begun without a request carries none
-abbrev pub or_none : Option RequestId → RequestId
-or_none None = no_request
-or_none (Some request) = request
-
-abbrev pub has_zero : Option RequestId → Bool
-has_zero None = false
-has_zero (Some request) = request.session == 0 || request.sequence == 0
-
 abbrev pub new_call : World → ℕ → List ℕ → Option RequestId → ℕ → Call
 new_call world procedure args request snapshot =
     record { number = length world.calls + 1; procedure = procedure; args = args; snapshot = snapshot; request = or_none request }
@@ -129,11 +103,7 @@ after_begin world r procedure args request (Some replica) (Some p) =
 
 -- ---- Turn
 
--- whether the next instruction looks at rows
-abbrev pub makes_look : Setting → Log → OpenCall → Bool
-makes_look w log o = not (length (looks_of (moment_at w log o.call (o.turns + 1))) == length (looks_of (moment_at w log o.call o.turns)))
-
--- and whether those of the snapshot are then kept no longer
+-- whether the next instruction looks at rows, and those of the snapshot are kept no longer
 unfoldable pub is_stale : Setting → World → OpenCall → Bool
 is_stale w world o =
     makes_look w world.log o && nat_lt w.window (position_of (numbered world.replicas o.replica) - o.call.snapshot)
@@ -191,13 +161,13 @@ after_rebuild world r (Some replica) = (Rebuilt (length world.log), with_replica
 abbrev pub with_added : World → StoredProcedure → World
 with_added world p = record world { log = world.log ++ AdditionItem p ∷ [] }
 
-abbrev pub after_add_checked : World → List ℕ → ℕ → ℕ → Checked → Outcome × World
+abbrev pub after_add_checked : World → List ℕ → ℕ → ℕ → ProgramCheck → Outcome × World
 after_add_checked world name number args_len (Failed fault) = (Refused (ProgramRefused fault), world)
 after_add_checked world name number args_len (Passed program) =
     if not (is_name name) then (Refused NameShape, world)
     else (Added (length world.log + 1), with_added world (record { name = name; number = number; program = program; args_len = args_len }))
 
-abbrev pub after_add : World → List ℕ → ℕ → ℕ → Checked → Outcome × World
+abbrev pub after_add : World → List ℕ → ℕ → ℕ → ProgramCheck → Outcome × World
 after_add world name number args_len checked =
     if is_full world then (Refused TooManyCalls, world)
     else if nat_lt 256 args_len then (Refused ArgumentsLimit, world)
@@ -230,19 +200,6 @@ abbrev pub after_refused : World → Step → World
 after_refused world (Order c) = without_call world c
 after_refused world (Deliver r) = with_stopped world r (numbered world.replicas r)
 after_refused world _ = world
-
-abbrev pub is_row_helper : Option Helper → Bool
-is_row_helper None = false
-is_row_helper (Some Cancel) = false
-is_row_helper (Some _) = true
-
-abbrev pub calls_row_helper : Option Instruction → Bool
-calls_row_helper (Some (CallInstruction number)) = is_row_helper (helper_of number)
-calls_row_helper _ = false
-
-abbrev pub at_row_helper : Option StoredProcedure → Moment → Bool
-at_row_helper (Some p) (Going s) = calls_row_helper (instruction_at p.program s.slot)
-at_row_helper _ _ = false
 
 -- a turn that calls one of the row helpers may find no memory, unless it is stale
 abbrev pub after_turn_without_memory : Setting → World → ℕ → Option OpenCall → Option (Outcome × World)

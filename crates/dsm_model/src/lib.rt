@@ -3,16 +3,14 @@
 
 pub use laws::steps::{
     additions_are_appended_at_once, calls_are_ordered_at_their_end,
-    calls_begin_where_their_replica_is, calls_carry_their_requests, each_step_has_its_answers,
+    calls_begin_where_their_replica_is, each_step_has_its_answers,
     memory_is_wanted_in_place_of_an_answer, rebuilt_replicas_are_at_the_end,
-    replicas_deliver_in_order, turns_follow_the_run, what_the_next_instruction_does,
+    replicas_deliver_in_order, turns_follow_the_run,
 };
 pub use laws::world::{
     delivered_verdicts_are_the_logs, open_calls_are_sound, replies_are_serial, steps_keep_a_world,
 };
-pub use outcome::{Outcome, ProgramFault, StepRefusal};
-pub use request::{has_zero, or_none};
+pub use outcome::{Outcome, StepRefusal};
 
 mod laws;
 mod outcome;
-mod request;

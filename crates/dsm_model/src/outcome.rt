@@ -1,16 +1,6 @@
 //! What a step of the world answers.
-use abs_cause::Cause;
-use bpf_code::DecodeFault;
+use call_model::ProgramFault;
 use log_model::Verdict;
-
-/// What is wrong with a program that was to be added.
-#[derive(Clone, Copy, Debug, PartialEq, Eq)]
-pub enum ProgramFault {
-    /// Its bytes are no program.
-    Bytes(DecodeFault),
-    /// The lowest slot, counted from 0, whose instruction the verifier refuses, and its lowest cause.
-    Instruction { slot: u16, cause: Cause },
-}
 
 /// Why a step was refused, in the order of their printed numbers.
 #[derive(Clone, Copy, Debug, PartialEq, Eq)]

@@ -14,10 +14,11 @@ use Rattle.log_model.specs.Entries.{AdditionEntry, items_of}
 use Rattle.log_entry.specs.declared.entry.Entry.{Entry as LogEntry}
 use Rattle.log_entry.specs.declared.entry.Entry.TheVariants.{Call as LogCall, Addition as LogAddition}
 use Rattle.log_entry.specs.Kind.{entry_of}
-use Rattle.dsm_model.specs.declared.outcome.ProgramFault.{ProgramFault}
+use Rattle.call_model.specs.declared.fault.ProgramFault.{ProgramFault}
 use Rattle.dsm_model.specs.declared.outcome.StepRefusal.TheVariants.{OutOfMemory, TooManyCalls, ArgumentsLimit, ProgramRefused, NameShape}
 use Rattle.dsm_model.specs.declared.outcome.Outcome.TheVariants.{Added, Refused}
-use Rattle.dsm_model.specs.World.{World, Add, Checked, Passed, Failed, max_calls, call_count, addition_count, with_added, after_add_checked, after_step, after_refused_memory, after_step_without_memory, IsStep}
+use Rattle.dsm_model.specs.World.{World, Add, max_calls, call_count, addition_count, with_added, after_add_checked, after_step, after_refused_memory, after_step_without_memory, IsStep}
+use Rattle.call_model.specs.Check.{ProgramCheck, Passed, Failed}
 use Rattle.dsm_model.specs.Sound.{IsWorld}
 use Rattle.replica.specs.Replica.{IsForTables, IsNamed, entries_of, writes_in}
 use Rattle.world_calls.specs.OpenCall.{Follows}
@@ -31,37 +32,37 @@ use Rattle.dsm_world.proofs.CallLemmas.{append_map, open_facts, replica_grown, w
 
 -- ---- what a step answers
 
-pub add_too_many : (w : Setting) (world : World) (name : List ℕ) (number args_len : ℕ) (checked : Checked) → max_calls ≤ call_count world → IsStep w world (Add name number args_len checked) (Refused TooManyCalls) world
+pub add_too_many : (w : Setting) (world : World) (name : List ℕ) (number args_len : ℕ) (checked : ProgramCheck) → max_calls ≤ call_count world → IsStep w world (Add name number args_len checked) (Refused TooManyCalls) world
 unfolding after_step
 add_too_many w world name number args_len checked many = inl (yes (nat_le max_calls (call_count world)) _ _ (is_le max_calls (call_count world) many))
 
-pub add_long : (w : Setting) (world : World) (name : List ℕ) (number args_len : ℕ) (checked : Checked) → call_count world < max_calls → 256 < args_len → IsStep w world (Add name number args_len checked) (Refused ArgumentsLimit) world
+pub add_long : (w : Setting) (world : World) (name : List ℕ) (number args_len : ℕ) (checked : ProgramCheck) → call_count world < max_calls → 256 < args_len → IsStep w world (Add name number args_len checked) (Refused ArgumentsLimit) world
 unfolding after_step
 add_long w world name number args_len checked few long = inl (no (nat_le max_calls (call_count world)) _ _ (not_le max_calls (call_count world) few) ∙ yes (nat_lt 256 args_len) _ _ (is_lt 256 args_len long))
 
-adds_checked : (w : Setting) (world : World) (name : List ℕ) (number args_len : ℕ) (checked : Checked) → call_count world < max_calls → args_len ≤ 256 → after_step w world (Add name number args_len checked) ≡ after_add_checked world name number args_len checked
+adds_checked : (w : Setting) (world : World) (name : List ℕ) (number args_len : ℕ) (checked : ProgramCheck) → call_count world < max_calls → args_len ≤ 256 → after_step w world (Add name number args_len checked) ≡ after_add_checked world name number args_len checked
 unfolding after_step
 adds_checked w world name number args_len checked few short = no (nat_le max_calls (call_count world)) _ _ (not_le max_calls (call_count world) few) ∙ no (nat_lt 256 args_len) _ _ (not_lt 256 args_len short)
 
-pub add_failed : (w : Setting) (world : World) (name : List ℕ) (number args_len : ℕ) (checked : Checked) (fault : ProgramFault) → call_count world < max_calls → args_len ≤ 256 → checked ≡ Failed fault
+pub add_failed : (w : Setting) (world : World) (name : List ℕ) (number args_len : ℕ) (checked : ProgramCheck) (fault : ProgramFault) → call_count world < max_calls → args_len ≤ 256 → checked ≡ Failed fault
     → IsStep w world (Add name number args_len checked) (Refused (ProgramRefused fault)) world
 add_failed w world name number args_len checked fault few short failed = inl (adds_checked w world name number args_len checked few short ∙ ap (after_add_checked world name number args_len) failed)
 
-adds_passed : (w : Setting) (world : World) (name : List ℕ) (number args_len : ℕ) (checked : Checked) (program : Program) → call_count world < max_calls → args_len ≤ 256 → checked ≡ Passed program
+adds_passed : (w : Setting) (world : World) (name : List ℕ) (number args_len : ℕ) (checked : ProgramCheck) (program : Program) → call_count world < max_calls → args_len ≤ 256 → checked ≡ Passed program
     → after_step w world (Add name number args_len checked)
     ≡ cond (not (is_name name)) (Refused NameShape, world) (Added (length world.log + 1), with_added world (record { name = name; number = number; program = program; args_len = args_len }))
 adds_passed w world name number args_len checked program few short passed = adds_checked w world name number args_len checked few short ∙ ap (after_add_checked world name number args_len) passed
 
-pub add_no_name : (w : Setting) (world : World) (name : List ℕ) (number args_len : ℕ) (checked : Checked) (program : Program) → call_count world < max_calls → args_len ≤ 256 → checked ≡ Passed program → is_name name ≡ false
+pub add_no_name : (w : Setting) (world : World) (name : List ℕ) (number args_len : ℕ) (checked : ProgramCheck) (program : Program) → call_count world < max_calls → args_len ≤ 256 → checked ≡ Passed program → is_name name ≡ false
     → IsStep w world (Add name number args_len checked) (Refused NameShape) world
 add_no_name w world name number args_len checked program few short passed shape = inl (adds_passed w world name number args_len checked program few short passed ∙ yes (not (is_name name)) _ _ (ap not shape))
 
-pub add_new : (w : Setting) (world : World) (name : List ℕ) (number args_len : ℕ) (checked : Checked) (program : Program) → call_count world < max_calls → args_len ≤ 256 → checked ≡ Passed program → is_name name ≡ true
+pub add_new : (w : Setting) (world : World) (name : List ℕ) (number args_len : ℕ) (checked : ProgramCheck) (program : Program) → call_count world < max_calls → args_len ≤ 256 → checked ≡ Passed program → is_name name ≡ true
     → IsStep w world (Add name number args_len checked) (Added (length world.log + 1)) (with_added world (record { name = name; number = number; program = program; args_len = args_len }))
 add_new w world name number args_len checked program few short passed shape = inl (adds_passed w world name number args_len checked program few short passed ∙ no (not (is_name name)) _ _ (ap not shape))
 
 -- whatever its program and its name are
-pub add_without_memory : (w : Setting) (world : World) (name : List ℕ) (number args_len : ℕ) (checked : Checked) → call_count world < max_calls → args_len ≤ 256 → IsStep w world (Add name number args_len checked) (Refused OutOfMemory) world
+pub add_without_memory : (w : Setting) (world : World) (name : List ℕ) (number args_len : ℕ) (checked : ProgramCheck) → call_count world < max_calls → args_len ≤ 256 → IsStep w world (Add name number args_len checked) (Refused OutOfMemory) world
 unfolding after_step_without_memory
 add_without_memory w world name number args_len checked few short = inr (ap (λ (d : Done). after_refused_memory world (Add name number args_len checked) d.0) (adds_checked w world name number args_len checked few short) ∙ by checked)
   where
@@ -72,7 +73,7 @@ add_without_memory w world name number args_len checked few short = inr (ap (λ 
     named p true = refl
     named p false = refl
 
-    by : (c : Checked) → wanted (after_add_checked world name number args_len c) ≡ Some (Refused OutOfMemory, world)
+    by : (c : ProgramCheck) → wanted (after_add_checked world name number args_len c) ≡ Some (Refused OutOfMemory, world)
     by (Failed fault) = refl
     by (Passed program) = named (record { name = name; number = number; program = program; args_len = args_len }) (is_name name)
 
@@ -81,7 +82,7 @@ add_without_memory w world name number args_len checked few short = inr (ap (λ 
 abbrev pub added_procedure : List ℕ → ℕ → Procedure → StoredProcedure
 added_procedure name number accepted = record { name = name; number = number; program = accepted.program; args_len = accepted.args_len }
 
-pub added : (s : SystemWorld) (name : List ℕ) (number args_len : ℕ) (checked : Checked) (program : Program) → call_count (world_of s) < max_calls → args_len ≤ 256 → checked ≡ Passed program → is_name name ≡ true
+pub added : (s : SystemWorld) (name : List ℕ) (number args_len : ℕ) (checked : ProgramCheck) (program : Program) → call_count (world_of s) < max_calls → args_len ≤ 256 → checked ≡ Passed program → is_name name ≡ true
     → IsStep (setting_of s) (world_of s) (Add name number args_len checked) (Added (length s.entries + 1)) (world_of (with_entry s (AdditionEntry (record { name = name; number = number; program = program; args_len = args_len }))))
 added s name number args_len checked program few short passed shape =
     let p : StoredProcedure = record { name = name; number = number; program = program; args_len = args_len } in

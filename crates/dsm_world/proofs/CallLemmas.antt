@@ -19,7 +19,9 @@ use Rattle.schema.specs.Schema.{Tables}
 use Rattle.log_entry.specs.declared.entry.Entry.{Entry as LogEntry}
 use Rattle.log_entry.specs.declared.entry.Entry.TheVariants.{Call as LogCall, Addition as LogAddition}
 use Rattle.dsm_model.specs.World as model
-use Rattle.dsm_model.specs.World.{World, OpenCall, Step, Begin, Turn, Order, numbered, with_numbered, flatten, open_call, with_open_call, without_call, with_ordered, with_begun, new_call, has_zero, or_none, position_of, max_calls, addition_count, call_count, IsStep}
+use Rattle.dsm_model.specs.World.{World, Step, Begin, Turn, Order, numbered, with_numbered, flatten, open_call, with_open_call, without_call, with_ordered, with_begun, new_call, position_of, max_calls, addition_count, call_count, IsStep}
+use Rattle.call_model.specs.OpenCall.{OpenCall}
+use Rattle.call_model.specs.Request.{has_zero, or_none}
 use Rattle.dsm_model.specs.Sound.{IsWorld}
 use Rattle.bpf_verify.specs.Flow.{Procedure}
 use Rattle.catalogue.specs.Catalogue.{accepted_of}

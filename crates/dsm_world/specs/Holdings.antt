@@ -10,7 +10,8 @@ use Rattle.replica.specs.Replica.{Replica, StandsFor, AreEntriesOf, IsForTables,
 use Rattle.log_model.specs.declared.verdict.Verdict.{Verdict}
 use Rattle.log_model.specs.Log.{Catalogue, verdict_of, Setting}
 use Rattle.log_model.specs.Entries.{Entry, items_of}
-use Rattle.dsm_model.specs.World.{OpenCall, addition_count}
+use Rattle.dsm_model.specs.World.{addition_count}
+use Rattle.call_model.specs.OpenCall.{OpenCall}
 use Rattle.dsm_model.specs.Sound.{IsWorld}
 use Rattle.world_calls.specs.OpenCall.{open_call_of, Follows}
 use Rattle.world_calls.specs.declared.open_call.OpenCall.{OpenCall as OpenCallState}

@@ -3,10 +3,11 @@
 ghost use Rattle.std.specs.Prelude.{◌≡◌, ◌⊎◌, ◌≤◌, ◌++◌, [], ◌∷◌, IfOk, IfErr, OnOk, OnErr};
 ghost use Rattle.bpf_code.specs.Program.{IsProgram};
 ghost use Rattle.bpf_verify.specs.Flow.{IsAccepted};
-ghost use Rattle.dsm_model.specs.declared.outcome.ProgramFault.{ProgramFault};
+ghost use Rattle.call_model.specs.declared.fault.ProgramFault.{ProgramFault};
 ghost use Rattle.dsm_model.specs.declared.outcome.StepRefusal.TheVariants.{OutOfMemory, ProgramRefused};
 ghost use Rattle.dsm_model.specs.Sound.{IsGiven};
-ghost use Rattle.dsm_model.specs.World.{Add, Passed, Failed, IsStep};
+ghost use Rattle.dsm_model.specs.World.{Add, IsStep};
+ghost use Rattle.call_model.specs.Check.{Passed, Failed};
 ghost use Rattle.log_entry.specs.declared.entry.Entry.TheVariants.{Addition};
 ghost use Rattle.program_checks.specs.Check.{check_of};
 ghost use Rattle.dsm_world.specs.System.{setting_of, world_of};

@@ -10,7 +10,8 @@ ghost use Rattle.log_model.specs.Log.{Call, Log, StoredProcedure, by_name, proce
 ghost use Rattle.log_model.specs.Entries.{CallEntry, ExecutedCall};
 ghost use Rattle.log_entry.specs.Kind.{entry_of};
 ghost use Rattle.log_model.specs.Fit.{HasSafeProcedures};
-ghost use Rattle.dsm_model.specs.World.{OpenCall as ModelCall, Turn as TurnStep, Order as OrderStep};
+ghost use Rattle.dsm_model.specs.World.{Turn as TurnStep, Order as OrderStep};
+ghost use Rattle.call_model.specs.OpenCall.{OpenCall as ModelCall};
 ghost use Rattle.dsm_model.specs.World.{IsStep, AreSteps, first_world, numbered, open_call};
 ghost use Rattle.dsm_model.specs.Sound.{IsGiven, IsSound, IsSerialReply, IsWorld};
 ghost use Rattle.model_laws.specs.Worlds.{HasExited, IsCallNumbered, turns_of};

@@ -6,7 +6,9 @@ use Rattle.log_model.specs.declared.request.RequestId.{RequestId}
 use Rattle.dsm_model.specs.declared.outcome.Outcome.{Outcome}
 use Rattle.dsm_model.specs.declared.outcome.Outcome.TheVariants.{Stale, NoMemory, Refused}
 use Rattle.log_model.specs.Log.{Setting}
-use Rattle.dsm_model.specs.World.{World, Replica, OpenCall, Step, Begin, Turn, Order, Deliver, Rebuild, Checked, Add, max_calls, numbered, open_call, with_open_call, without_call, with_replica, with_stopped, after_refused, IsStep}
+use Rattle.dsm_model.specs.World.{World, Replica, Step, Begin, Turn, Order, Deliver, Rebuild, Add, max_calls, numbered, open_call, with_open_call, without_call, with_replica, with_stopped, after_refused, IsStep}
+use Rattle.call_model.specs.OpenCall.{OpenCall}
+use Rattle.call_model.specs.Check.{ProgramCheck}
 use Rattle.dsm_model.specs.Sound.{IsWorld}
 use Rattle.log_model.proofs.RunLemmas.{just}
 use Rattle.dsm_model.proofs.Numbered.{numbered_gone, numbered_count}
@@ -167,5 +169,5 @@ case_full w before step outcome after world is (Put c) = let e = sym c.answer �
 pub never_full : (w : Setting) (before : World) (step : Step) (after : World) → IsWorld w before → IsStep w before step (Refused LogFull) after → ⊥
 never_full w before step after is e = case_full w before step (Refused LogFull) after is refl (step_case w before step (Refused LogFull) after e)
 
-pub add_memory : (w : Setting) (before : World) (name : List ℕ) (number args_len : ℕ) (checked : Checked) (after : World) → IsStep w before (Add name number args_len checked) (Refused OutOfMemory) after → after ≡ before
+pub add_memory : (w : Setting) (before : World) (name : List ℕ) (number args_len : ℕ) (checked : ProgramCheck) (after : World) → IsStep w before (Add name number args_len checked) (Refused OutOfMemory) after → after ≡ before
 add_memory w before name number args_len checked after e = refused_memory_leaves w before (Add name number args_len checked) after e

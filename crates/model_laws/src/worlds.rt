@@ -6,7 +6,10 @@ ghost use Rattle.log_model.specs.declared.request.RequestId.{RequestId};
 ghost use Rattle.dsm_model.specs.declared.outcome.Outcome.{Outcome};
 ghost use Rattle.dsm_model.specs.declared.outcome.Outcome.TheVariants.{Begun, Exit, More, Stale, NoMemory, Refused};
 ghost use Rattle.log_model.specs.Log.{Call, Setting, StoredProcedure, Log, procedure_of, run_in};
-ghost use Rattle.dsm_model.specs.World.{World, Replica, OpenCall, Step, Begin, Turn, Order, Deliver, Rebuild, Checked, Add, or_none};
+ghost use Rattle.dsm_model.specs.World.{World, Replica, Step, Begin, Turn, Order, Deliver, Rebuild, Add};
+ghost use Rattle.call_model.specs.OpenCall.{OpenCall};
+ghost use Rattle.call_model.specs.Request.{or_none};
+ghost use Rattle.call_model.specs.Check.{ProgramCheck};
 ghost use Rattle.dsm_model.specs.World.{max_calls, first_world, numbered, open_call, with_open_call, with_replica};
 ghost use Rattle.dsm_model.specs.World.{IsStep, AreSteps};
 ghost use Rattle.std.specs.List.{AllByRecursion};
@@ -122,7 +125,7 @@ pub fn refused_steps_change_nothing()
         × (after ≡ with_replica before r (record { position = replica.position; running = false })) }
     ensures rebuild { (w : Setting) (before : World) (r : ℕ) (after : World)
         → IsStep w before (Rebuild r) (Refused OutOfMemory) after → after ≡ before }
-    ensures add { (w : Setting) (before : World) (name : List ℕ) (number args_len : ℕ) (checked : Checked) (after : World)
+    ensures add { (w : Setting) (before : World) (name : List ℕ) (number args_len : ℕ) (checked : ProgramCheck) (after : World)
         → IsStep w before (Add name number args_len checked) (Refused OutOfMemory) after → after ≡ before }
 {}
 

@@ -3,7 +3,7 @@
 ghost use Rattle.std.specs.Prelude.{◌≡◌, ◌≤◌, length, false};
 ghost use Rattle.log_model.specs.Fit.{IsCall};
 ghost use Rattle.replica.specs.Replica.{AreEntriesOf, entries_of};
-ghost use Rattle.dsm_model.specs.World.{has_zero};
+ghost use Rattle.call_model.specs.Request.{has_zero};
 ghost use Rattle.ordered_entries.specs.Ordered.{IsOrderedCall};
 ghost use Rattle.running_calls.specs.Running.{log_seen};
 ghost use Rattle.world_calls.specs.OpenCall.{IsCompletion};
@@ -16,7 +16,7 @@ use crate::bells::{Bells, Waiter};
 use crate::gate::Gate;
 use crate::order::{answer_by, await_verdict, order};
 use crate::run::{Ran, run};
-use dsm_model::{has_zero, or_none};
+use call_model::{has_zero, or_none};
 use locked_replica::{Begin, BegunCall, LockedReplica};
 use log_entry::ExecutedCall;
 use order_log::{AppendFault, Fact, OrderLog, Seen};

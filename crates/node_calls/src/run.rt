@@ -2,7 +2,7 @@
 
 ghost use Rattle.std.specs.Prelude.{◌≡◌, ◌≢◌, ◌≤◌, true, length, IfSome};
 ghost use Rattle.bpf_vm.specs.declared.turn.Turn.TheVariants.{More};
-ghost use Rattle.dsm_model.specs.World.{or_none};
+ghost use Rattle.call_model.specs.Request.{or_none};
 ghost use Rattle.world_calls.specs.OpenCall.{stays_open};
 ghost use Rattle.running_calls.specs.Running.{node_call};
 ghost use Rattle.node_calls.specs.Ran.{IsAdvance, IsRan};

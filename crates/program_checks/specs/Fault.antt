@@ -1,13 +1,13 @@
 -- Why a program is not accepted.
 use Rattle.std.specs.Prelude.{◌≡◌}
 use Rattle.bpf_verify.specs.Flow.{Procedure, IsRefused}
-use Rattle.dsm_model.specs.declared.outcome.ProgramFault.TheVariants.{Bytes, Instruction}
-use Rattle.dsm_model.specs.World.{Checked, Failed}
+use Rattle.call_model.specs.declared.fault.ProgramFault.TheVariants.{Bytes, Instruction}
+use Rattle.call_model.specs.Check.{ProgramCheck, Failed}
 use Rattle.program_checks.specs.declared.check.CheckFault.{CheckFault}
 use Rattle.program_checks.specs.declared.check.CheckFault.TheVariants.{OutOfMemory, Program}
 
 -- there is no memory, or the check comes to this very fault
-abbrev pub IsFaultOf : Checked → CheckFault → Type 0
+abbrev pub IsFaultOf : ProgramCheck → CheckFault → Type 0
 IsFaultOf checked OutOfMemory = Unit {0}
 IsFaultOf checked (Program fault) = checked ≡ Failed fault
 

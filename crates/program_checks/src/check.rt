@@ -3,14 +3,14 @@
 ghost use Rattle.std.specs.Prelude.{◌≡◌, ◌≤◌, IfOk, IfErr};
 ghost use Rattle.bpf_code.specs.Program.{IsProgram};
 ghost use Rattle.bpf_verify.specs.Flow.{IsAccepted};
-ghost use Rattle.dsm_model.specs.World.{Passed};
+ghost use Rattle.call_model.specs.Check.{Passed};
 ghost use Rattle.program_checks.specs.Check.{check_of};
 ghost use Rattle.program_checks.specs.Fault.{IsFaultOf, IsRefusedFor};
 
 use crate::laws::programs_pass_where_they_are_accepted;
 use bpf_code::{Code, DecodeCause, decode};
 use bpf_verify::{Accepted, Refusal, verify};
-use dsm_model::ProgramFault;
+use call_model::ProgramFault;
 use schema::Schema;
 use std::alloc::Allocator;
 

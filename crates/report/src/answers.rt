@@ -2,7 +2,8 @@
 
 ghost use Rattle.std.specs.Prelude.{◌≡◌, ℕ, List, Option, IfOk};
 ghost use Rattle.log_model.specs.declared.request.RequestId.{RequestId};
-ghost use Rattle.dsm_model.specs.World.{Begin, Turn, Order, Deliver, Rebuild, Add, Checked};
+ghost use Rattle.dsm_model.specs.World.{Begin, Turn, Order, Deliver, Rebuild, Add};
+ghost use Rattle.call_model.specs.Check.{ProgramCheck};
 ghost use Rattle.report.specs.declared.printed.DeliveredEntry.{DeliveredEntry};
 ghost use Rattle.report.specs.Answers.{answer_line, text_of, call_report, replica_report};
 
@@ -31,7 +32,7 @@ pub fn begin_line(replica: u32, outcome: Outcome) -> Option<Line<'static>>
 /// The line of what the addition of a procedure answered; none of an answer that says neither that it was appended nor
 /// that it was refused.
 pub fn add_line(outcome: Outcome) -> Option<Line<'static>>
-    ensures { (name : List ℕ) (number args_len : ℕ) (checked : Checked) (entry : DeliveredEntry)
+    ensures { (name : List ℕ) (number args_len : ℕ) (checked : ProgramCheck) (entry : DeliveredEntry)
         → result ≡ answer_line (Add name number args_len checked) outcome entry }
 {
     match outcome {

@@ -12,7 +12,8 @@ ghost use Rattle.report.specs.declared.printed.Line.TheVariants as line;
 use crate::printed::{CallAnswer, CallReport, DeliveredEntry, LoggedEntry, ReplicaReport};
 use crate::refusal::step_refusal_number;
 use byte_output::line::{Line as Words, push, push_column, push_right, push_unsigned};
-use dsm_model::{ProgramFault, StepRefusal};
+use call_model::ProgramFault;
+use dsm_model::StepRefusal;
 use log_model::{Identifier, Verdict};
 use tallies::Counts;
 

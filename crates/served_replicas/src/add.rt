@@ -5,7 +5,7 @@ ghost use Rattle.served_replicas.specs.Added.{IsAskedFor, IsNotAdded, IsAddedAns
 
 use crate::shared::Shared;
 use bpf_verify::Accepted;
-use dsm_model::ProgramFault;
+use call_model::ProgramFault;
 use log_entry::{AddedProcedure, Entry};
 use node_calls::Gate;
 use order_log::{AppendFault, Fact, OrderLog, Seen};

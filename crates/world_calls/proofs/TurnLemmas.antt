@@ -20,7 +20,7 @@ use Rattle.bpf_semantics.proofs.MomentLemmas.{from_its_length_on}
 use Rattle.bpf_vm.specs.Turns.{MachineState, MayWantMemory}
 use Rattle.bpf_vm.specs.Run.{Effects, HasRun, HasEnded, IsStaleAt, AfterTurn}
 use Rattle.log_model.specs.Log.{StoredProcedure, Setting, Call, Log, or_idle, run_of_procedure, run_of_call, rows_after, run_in, moment_of, moment_at, procedure_of}
-use Rattle.dsm_model.specs.World.{OpenCall, makes_look, is_row_helper, calls_row_helper, at_row_helper}
+use Rattle.call_model.specs.OpenCall.{OpenCall, makes_look, is_row_helper, calls_row_helper, at_row_helper}
 use Rattle.catalogue.specs.Catalogue.{accepted_of}
 use Rattle.bpf_vm.specs.declared.turn.Turn.{Turn}
 use Rattle.bpf_vm.specs.declared.turn.Turn.TheVariants.{More, Exit, Stale, NoMemory}

@@ -10,7 +10,7 @@ use Rattle.bpf_vm.specs.Run.{Effects, IsAcceptedProcedure, HasRun, HasEnded, own
 use Rattle.log_model.specs.Log.{Setting, Call, Log, rows_after, run_in, moment_at, procedure_of}
 use Rattle.log_model.specs.Entries.{CarriesRun}
 use Rattle.log_model.specs.Fit.{IsCall}
-use Rattle.dsm_model.specs.World.{OpenCall, makes_look, at_row_helper}
+use Rattle.call_model.specs.OpenCall.{OpenCall, makes_look, at_row_helper}
 use Rattle.catalogue.specs.Catalogue.{accepted_of}
 use Rattle.world_calls.specs.declared.open_call.OpenCall.{OpenCall as OpenCallState}
 use Rattle.world_calls.specs.declared.completion.Completion.{Completion}

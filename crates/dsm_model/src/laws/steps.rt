@@ -5,18 +5,10 @@
 ghost use Rattle.std.specs.Prelude.{◌≡◌, ◌≢◌, ◌⊎◌, ◌↔◌, ◌+◌, ◌<◌, ◌≤◌, ℕ, ℤ, true, false};
 ghost use Rattle.std.specs.Prelude.{List, [], ◌∷◌, ◌++◌, length, Option, Some, None, IsSome, IsTrue};
 ghost use Rattle.std.specs.FinMap.{len};
-ghost use Rattle.bpf_code.specs.declared.instruction.Instruction.TheVariants.{Call as CallInstruction};
-ghost use Rattle.bpf_code.specs.Program.{instruction_at};
-ghost use Rattle.schema.specs.declared.look.Look.{Look};
-ghost use Rattle.schema.specs.declared.helper.Helper.{Helper};
-ghost use Rattle.schema.specs.declared.helper.Helper.TheVariants.{Cancel};
-ghost use Rattle.schema.specs.Helper.{helper_of};
-ghost use Rattle.bpf_semantics.specs.State.{State};
-ghost use Rattle.bpf_semantics.specs.Step.{Going, Ended};
 ghost use Rattle.bpf_code.specs.Program.{Program};
 ghost use Rattle.log_model.specs.declared.request.RequestId.{RequestId};
 ghost use Rattle.log_model.specs.declared.verdict.Verdict.{Verdict};
-ghost use Rattle.dsm_model.specs.declared.outcome.ProgramFault.{ProgramFault};
+ghost use Rattle.call_model.specs.declared.fault.ProgramFault.{ProgramFault};
 ghost use Rattle.dsm_model.specs.declared.outcome.StepRefusal.TheVariants.{NoReplica, NoProcedure, ArgumentsLength, NoCall};
 ghost use Rattle.dsm_model.specs.declared.outcome.StepRefusal.TheVariants.{NotAtExit, NothingToDeliver, ReplicaStopped, LogFull};
 ghost use Rattle.dsm_model.specs.declared.outcome.StepRefusal.TheVariants.{OutOfMemory, TooManyCalls, ArgumentsLimit};
@@ -25,15 +17,17 @@ ghost use Rattle.dsm_model.specs.declared.outcome.Outcome.{Outcome};
 ghost use Rattle.dsm_model.specs.declared.outcome.Outcome.TheVariants.{Begun, More, Exit, Stale, NoMemory, Ordered, Read};
 ghost use Rattle.dsm_model.specs.declared.outcome.Outcome.TheVariants.{Cancelled, Delivered, Rebuilt, Added, Refused};
 ghost use Rattle.log_model.specs.Log.{StoredProcedure, Setting, CallItem, AdditionItem, by_number, procedures_after};
-ghost use Rattle.log_model.specs.Log.{no_request, procedure_of, run_in, verdict_of};
+ghost use Rattle.log_model.specs.Log.{procedure_of, run_in, verdict_of};
 ghost use Rattle.log_model.specs.Name.{is_name};
-ghost use Rattle.log_model.specs.Fit.{HasSafeProcedures};
-ghost use Rattle.dsm_model.specs.Sound.{IsWorld};
-ghost use Rattle.dsm_model.specs.World.{World, Replica, OpenCall, Step, Begin, Turn, Order, Deliver, Rebuild, max_calls};
-ghost use Rattle.dsm_model.specs.World.{Checked, Passed, Failed, Add, call_count, or_none, has_zero};
+ghost use Rattle.dsm_model.specs.World.{World, Replica, Step, Begin, Turn, Order, Deliver, Rebuild, max_calls};
+ghost use Rattle.call_model.specs.OpenCall.{OpenCall};
+ghost use Rattle.dsm_model.specs.World.{Add, call_count};
+ghost use Rattle.call_model.specs.Request.{or_none, has_zero};
+ghost use Rattle.call_model.specs.Check.{ProgramCheck, Passed, Failed};
 ghost use Rattle.dsm_model.specs.World.{is_answer, numbered, position_of, open_call, with_open_call, with_replica};
 ghost use Rattle.log_model.specs.Log.{moment_at};
-ghost use Rattle.dsm_model.specs.World.{makes_look, at_row_helper, IsStep};
+ghost use Rattle.dsm_model.specs.World.{IsStep};
+ghost use Rattle.call_model.specs.OpenCall.{makes_look, at_row_helper};
 
 /// A call begins as the next of the world's, at the position of its replica, with no instruction run. It doesn't where
 /// there is no such replica; else, where there is no such procedure at its position; else, where the arguments have another
@@ -77,16 +71,6 @@ pub fn calls_begin_where_their_replica_is()
         → (replica : Replica) × (stored : StoredProcedure) × (numbered before.replicas r ≡ Some replica)
         × (by_number (procedures_after w before.log replica.position) procedure ≡ Some stored)
         × (length args ≡ stored.args_len) × (has_zero request ≡ false) × (max_calls ≤ call_count before) }
-{}
-
-/// A call carries the request that it is begun with, and where it is begun without one that which stands for none. A request
-/// has a 0 where its session or its sequence number is 0.
-pub fn calls_carry_their_requests()
-    ensures carried { (request : RequestId) → or_none (Some request) ≡ request }
-    ensures none { or_none None ≡ no_request }
-    ensures zero { (request : RequestId)
-        → IsTrue (has_zero (Some request)) ↔ ((request.session ≡ 0) ⊎ (request.sequence ≡ 0)) }
-    ensures without { has_zero None ≡ false }
 {}
 
 /// A turn is one instruction of the call's run on the rows of its snapshot: more, while there is a next one; else Exit
@@ -192,7 +176,7 @@ pub fn rebuilt_replicas_are_at_the_end()
 /// and additions; else, where its arguments would be longer than 256 bytes; else, where its program didn't pass the check;
 /// else, where its name isn't one.
 pub fn additions_are_appended_at_once()
-    ensures added { (w : Setting) (before : World) (name : List ℕ) (number args_len : ℕ) (checked : Checked) (position : ℕ)
+    ensures added { (w : Setting) (before : World) (name : List ℕ) (number args_len : ℕ) (checked : ProgramCheck) (position : ℕ)
         (after : World) → IsStep w before (Add name number args_len checked) (Added position) after
         → (program : Program) × (checked ≡ Passed program) × (call_count before < max_calls) × (args_len ≤ 256)
         × (is_name name ≡ true) × (position ≡ length before.log + 1)
@@ -201,17 +185,17 @@ pub fn additions_are_appended_at_once()
           replicas = before.replicas;
           calls = before.calls;
         }) }
-    ensures many { (w : Setting) (before : World) (name : List ℕ) (number args_len : ℕ) (checked : Checked) (after : World)
+    ensures many { (w : Setting) (before : World) (name : List ℕ) (number args_len : ℕ) (checked : ProgramCheck) (after : World)
         → IsStep w before (Add name number args_len checked) (Refused TooManyCalls) after
         → max_calls ≤ call_count before }
-    ensures long { (w : Setting) (before : World) (name : List ℕ) (number args_len : ℕ) (checked : Checked) (after : World)
+    ensures long { (w : Setting) (before : World) (name : List ℕ) (number args_len : ℕ) (checked : ProgramCheck) (after : World)
         → IsStep w before (Add name number args_len checked) (Refused ArgumentsLimit) after
         → (call_count before < max_calls) × (256 < args_len) }
-    ensures program { (w : Setting) (before : World) (name : List ℕ) (number args_len : ℕ) (checked : Checked)
+    ensures program { (w : Setting) (before : World) (name : List ℕ) (number args_len : ℕ) (checked : ProgramCheck)
         (fault : ProgramFault) (after : World)
         → IsStep w before (Add name number args_len checked) (Refused (ProgramRefused fault)) after
         → (call_count before < max_calls) × (args_len ≤ 256) × (checked ≡ Failed fault) }
-    ensures name { (w : Setting) (before : World) (name : List ℕ) (number args_len : ℕ) (checked : Checked) (after : World)
+    ensures name { (w : Setting) (before : World) (name : List ℕ) (number args_len : ℕ) (checked : ProgramCheck) (after : World)
         → IsStep w before (Add name number args_len checked) (Refused NameShape) after
         → (program : Program) × (checked ≡ Passed program) × (call_count before < max_calls) × (args_len ≤ 256)
         × (is_name name ≡ false) }
@@ -239,24 +223,7 @@ pub fn memory_is_wanted_in_place_of_an_answer()
     ensures rebuild { (w : Setting) (before : World) (r : ℕ) (after : World)
         → IsStep w before (Rebuild r) (Refused OutOfMemory) after
         → (position : ℕ) × (other : World) × IsStep w before (Rebuild r) (Rebuilt position) other }
-    ensures add { (w : Setting) (before : World) (name : List ℕ) (number args_len : ℕ) (checked : Checked) (after : World)
+    ensures add { (w : Setting) (before : World) (name : List ℕ) (number args_len : ℕ) (checked : ProgramCheck) (after : World)
         → IsStep w before (Add name number args_len checked) (Refused OutOfMemory) after
         → (call_count before < max_calls) × (args_len ≤ 256) }
-{}
-
-/// The next instruction of an open call looks exactly where its run goes on over it with one look more, so never at its
-/// end; and it calls a helper that reads or writes rows exactly where it calls one that isn't the cancel.
-pub fn what_the_next_instruction_does()
-    ensures look { (w : Setting) (world : World) (c : ℕ) (o : OpenCall)
-        → HasSafeProcedures w → IsWorld w world → open_call world c ≡ Some o
-        → IsTrue (makes_look w world.log o)
-        ↔ ((s : State) × (t : State) × (look : Look)
-        × (moment_at w world.log o.call o.turns ≡ Going s) × (moment_at w world.log o.call (o.turns + 1) ≡ Going t)
-        × (t.looks ≡ s.looks ++ look ∷ [])) }
-    ensures helper { (p : StoredProcedure) (s : State)
-        → IsTrue (at_row_helper (Some p) (Going s))
-        ↔ ((n : ℤ) × (h : Helper) × (instruction_at p.program s.slot ≡ Some (CallInstruction n))
-        × (helper_of n ≡ Some h) × (h ≢ Cancel)) }
-    ensures ended { (p : Option StoredProcedure) (reply : ℕ) (s : State)
-        → at_row_helper p (Ended reply s) ≡ false }
 {}

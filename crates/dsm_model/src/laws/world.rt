@@ -10,7 +10,9 @@ ghost use Rattle.dsm_model.specs.declared.outcome.Outcome.TheVariants.{Exit, Ord
 ghost use Rattle.log_model.specs.Log.{Setting, verdict_of, procedure_of, StoredProcedure, Log, run_in};
 ghost use Rattle.bpf_semantics.specs.Path.{longest_path};
 ghost use Rattle.log_model.specs.Fit.{HasSafeProcedures};
-ghost use Rattle.dsm_model.specs.World.{World, OpenCall, Step, Turn, Order, first_world, open_call, IsStep, AreSteps, Checked};
+ghost use Rattle.dsm_model.specs.World.{World, Step, Turn, Order, first_world, open_call, IsStep, AreSteps};
+ghost use Rattle.call_model.specs.OpenCall.{OpenCall};
+ghost use Rattle.call_model.specs.Check.{ProgramCheck};
 ghost use Rattle.dsm_model.specs.World.{Add, Replica, Begin, Deliver, Rebuild, max_calls, numbered, with_open_call, with_replica};
 ghost use Rattle.dsm_model.specs.Sound.{IsWorld, IsSound, IsSerialReply, IsGiven, AreGiven, IsOpenCall};
 

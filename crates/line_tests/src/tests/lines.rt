@@ -1,6 +1,7 @@
 use abs_cause::Cause;
 use bpf_code::{DecodeCause, DecodeFault};
-use dsm_model::{Outcome, ProgramFault, StepRefusal};
+use call_model::ProgramFault;
+use dsm_model::{Outcome, StepRefusal};
 use log_model::{Identifier, Verdict};
 use report::{
     CallAnswer, CallReport, DeliveredEntry, Line, LoggedEntry, ReplicaReport, add_line, call_line,

@@ -6,7 +6,8 @@ use Rattle.log_entry.specs.Kind.{entry_of}
 use Rattle.dsm_model.specs.declared.outcome.StepRefusal.{StepRefusal}
 use Rattle.dsm_model.specs.declared.outcome.StepRefusal.TheVariants.{OutOfMemory}
 use Rattle.dsm_model.specs.declared.outcome.Outcome.TheVariants.{Added, Refused}
-use Rattle.dsm_model.specs.World.{Add, Checked, IsStep, max_calls, call_count}
+use Rattle.dsm_model.specs.World.{Add, IsStep, max_calls, call_count}
+use Rattle.call_model.specs.Check.{ProgramCheck}
 use Rattle.dsm_model.specs.Sound.{IsGiven, IsWorld}
 use Rattle.program_checks.specs.Check.{check_of}
 use Rattle.program_checks.proofs.CheckLemmas.{accepted_for}
@@ -111,7 +112,7 @@ returns-in-Ok-append-clause-given g c =
     let tables = s.catalogue.tables in
     let p = c.in-Ok.accepted in
     let own = c.in-Ok.ensures.given.0 ∙ c.schema.ensures.tables in
-    subst (λ (k : Checked). IsGiven (setting_of s) (Add c.args.name.now c.args.number c.args.args_len k) (Added (c.len-2.result + 1)))
+    subst (λ (k : ProgramCheck). IsGiven (setting_of s) (Add c.args.name.now c.args.number c.args.args_len k) (Added (c.len-2.result + 1)))
     (sym (ap (λ (t : Tables). check_of t c.args.args_len c.args.bytes.now) (sym c.schema.ensures.tables) ∙ c.in-Ok.ensures.passed))
     (c.accepted_procedures_are_safe.ensures tables (record { name = c.args.name.now; number = c.args.number; program = p.program; args_len = c.args.args_len }) c.in-Ok.ensures.accepted.0 c.each_catalogue_is_consistent.ensures.tables
     (accepted_for p tables c.args.args_len own c.in-Ok.ensures.given.1 c.in-Ok.ensures.accepted.1))

@@ -1,6 +1,6 @@
 use Rattle.std.proofs.Common.{◌≡◌}
 use Rattle.bpf_verify.specs.Flow.{Procedure, IsAccepted}
-use Rattle.dsm_model.specs.World.{Passed}
+use Rattle.call_model.specs.Check.{Passed}
 use Rattle.program_checks.specs.declared.check.CheckFault.{CheckFault}
 use Rattle.program_checks.specs.Check.{check_of}
 use Rattle.program_checks.specs.Fault.{IsFaultOf, IsRefusedFor}

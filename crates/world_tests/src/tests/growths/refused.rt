@@ -2,7 +2,8 @@
 
 use super::{ADD_SEVEN, ADD_TEN, Script, described, run_script, same, steps_of, two_replicas};
 use abs_cause::Cause;
-use dsm_model::{Outcome, ProgramFault, StepRefusal};
+use call_model::ProgramFault;
+use dsm_model::{Outcome, StepRefusal};
 use dsm_world::{Step, World};
 use log_model::Verdict;
 use sample_entries::catalogue_of;

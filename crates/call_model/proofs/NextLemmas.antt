@@ -1,5 +1,5 @@
 -- What the next instruction of an open call does.
-use Rattle.std.proofs.Common.{◌≡◌, inl, inr, ◌↔◌, ℕ, ℤ, suc, ◌+◌, true, false, not, List, [], ◌∷◌, ◌++◌, length, nat_eq, Option, Some, None, IsTrue, refl, sym, ap, ◌∙◌, arith}
+use Rattle.std.proofs.Common.{◌≡◌, ◌≢◌, inl, inr, ◌↔◌, ℕ, ℤ, suc, ◌+◌, true, false, not, List, [], ◌∷◌, ◌++◌, length, nat_eq, Option, Some, None, IsTrue, refl, sym, ap, ◌∙◌, arith}
 use Rattle.std.proofs.lemmas.Bool.Decides.{nat_tests}
 use Rattle.std.proofs.lemmas.List.{length-append}
 use Rattle.bpf_code.specs.declared.instruction.Instruction.{Instruction}
@@ -9,18 +9,16 @@ use Rattle.schema.specs.declared.look.Look.{Look}
 use Rattle.schema.specs.declared.helper.Helper.{Helper}
 use Rattle.schema.specs.declared.helper.Helper.TheVariants.{RowGet, RowPut, RowDelete, RangeCount, RangeNext, Cancel}
 use Rattle.schema.specs.Helper.{helper_of}
-use Rattle.bpf_semantics.specs.State.{State}
+use Rattle.bpf_semantics.specs.State.{State, entry_state}
 use Rattle.bpf_semantics.specs.Step.{Moment, Going, Ended, Stuck, step}
 use Rattle.bpf_semantics.specs.Run.{moment, next_moment}
 use Rattle.bpf_semantics.specs.Agree.{looks_of}
 use Rattle.bpf_semantics.proofs.RunLemmas.{exit_is, step_runs, going_runs, ended_runs}
 use Rattle.bpf_semantics.proofs.LookLemmas.{execute_looks}
-use Rattle.log_model.specs.Log.{StoredProcedure, Setting, Call, Log, moment_at, procedure_of}
-use Rattle.log_model.specs.Fit.{HasSafeProcedures}
-use Rattle.dsm_model.specs.World.{World, OpenCall, open_call, makes_look, is_row_helper, calls_row_helper, at_row_helper}
-use Rattle.dsm_model.specs.Sound.{IsWorld, IsSound}
+use Rattle.log_model.specs.Log.{StoredProcedure, Setting, Call, Log, rows_after, moment_of, moment_at, procedure_of}
+use Rattle.log_model.specs.Fit.{IsCall}
+use Rattle.call_model.specs.OpenCall.{OpenCall, makes_look, is_row_helper, calls_row_helper, at_row_helper}
 use Rattle.log_model.proofs.RunLemmas.{just}
-use Rattle.dsm_model.proofs.SoundLemmas.{at_procedure, open_sound}
 
 -- ---- looks
 
@@ -31,6 +29,11 @@ record LooksNext (w : Setting) (log : Log) (o : OpenCall) : Type 0 where
   now : moment_at w log o.call o.turns ≡ Going s
   next : moment_at w log o.call (o.turns + 1) ≡ Going t
   one_more : t.looks ≡ s.looks ++ look ∷ []
+
+-- a call's moments are those of its procedure
+pub at_procedure : (w : Setting) (log : Log) (call : Call) (p : StoredProcedure) (k : ℕ) → procedure_of w log call ≡ just p → moment_at w log call k ≡ moment p.program w.tables k (entry_state call.args (rows_after w log call.snapshot))
+unfolding moment_at
+at_procedure w log call p k known = ap (λ (o : Option StoredProcedure). moment_of w.tables o call.args (rows_after w log call.snapshot) k) known
 
 one_further : (w : Setting) (log : Log) (call : Call) (p : StoredProcedure) (k : ℕ) → procedure_of w log call ≡ just p → moment_at w log call (k + 1) ≡ next_moment (step p.program w.tables) (moment_at w log call k)
 unfolding moment
@@ -57,17 +60,15 @@ going w log o p s (Ended r t) is next apart now h =
     absurd (no_more w log o (ap looks_of next ∙ ap (λ (x : State). x.looks) (sym (exit_is w.tables runs.0 s r t runs.2)) ∙ sym (ap looks_of now)) h)
 going w log o p s Stuck is next apart now h = absurd (apart refl)
 
-looks_next : (w : Setting) (world : World) (o : OpenCall) → IsSound w world.log o → IsTrue (makes_look w world.log o) → LooksNext w world.log o
-looks_next w world o sound h = elim sound.so_far [
-  | inl on ↦
-      let p = sound.is_call.procedure in
-      let next : moment_at w world.log o.call (o.turns + 1) ≡ step p.program w.tables on.0 = one_further w world.log o.call p o.turns sound.is_call.known ∙ ap (next_moment (step p.program w.tables)) on.1 in
-      going w world.log o p on.0 (step p.program w.tables on.0) refl next (λ stuck. sound.not_stuck (next ∙ stuck)) on.1 h
-  | inr end ↦
-      let p = sound.is_call.procedure in
-      let next = one_further w world.log o.call p o.turns sound.is_call.known ∙ ap (next_moment (step p.program w.tables)) end.1 in
-      absurd (no_more w world.log o (ap looks_of next ∙ sym (ap looks_of end.1)) h)
-]
+looks_next : (w : Setting) (log : Log) (o : OpenCall) → (p : StoredProcedure) → procedure_of w log o.call ≡ just p → (moment_at w log o.call (o.turns + 1) ≡ Stuck → ⊥) → (m : Moment) → moment_at w log o.call o.turns ≡ m → IsTrue (makes_look w log o) → LooksNext w log o
+looks_next w log o p known apart (Going s) now h =
+    let next : moment_at w log o.call (o.turns + 1) ≡ step p.program w.tables s = one_further w log o.call p o.turns known ∙ ap (next_moment (step p.program w.tables)) now in
+    going w log o p s (step p.program w.tables s) refl next (λ stuck. apart (next ∙ stuck)) now h
+looks_next w log o p known apart (Ended reply s) now h =
+    let next = one_further w log o.call p o.turns known ∙ ap (next_moment (step p.program w.tables)) now in
+    absurd (no_more w log o (ap looks_of next ∙ sym (ap looks_of now)) h)
+looks_next w log o p known apart Stuck now h =
+    absurd (apart (one_further w log o.call p o.turns known ∙ ap (next_moment (step p.program w.tables)) now))
 
 longer : (m n : ℕ) → m ≡ n + 1 → not (nat_eq m n) ≡ true
 longer m n e = grind (arith, nat_tests)
@@ -77,11 +78,11 @@ looks_there w log o x =
     longer (length (looks_of (moment_at w log o.call (o.turns + 1)))) (length (looks_of (moment_at w log o.call o.turns)))
     (ap (λ (m : Moment). length (looks_of m)) x.next ∙ ap (λ (l : List Look). length l) x.one_more ∙ length-append x.s.looks (x.look ∷ []) ∙ ap (λ (m : Moment). length (looks_of m) + 1) (sym x.now))
 
-pub next_looks : (w : Setting) (world : World) (c : ℕ) (o : OpenCall) → HasSafeProcedures w → IsWorld w world → open_call world c ≡ Some o
-    → IsTrue (makes_look w world.log o) ↔ ((s : State) × (t : State) × (look : Look) × (moment_at w world.log o.call o.turns ≡ Going s) × (moment_at w world.log o.call (o.turns + 1) ≡ Going t) × (t.looks ≡ s.looks ++ look ∷ []))
-next_looks w world c o safe is e = (
-  λ h. let x = looks_next w world o (open_sound w world c o safe is e) h in (x.s, x.t, x.look, x.now, x.next, x.one_more),
-  λ x. looks_there w world.log o (record { s = x.0; t = x.1; look = x.2; now = x.3; next = x.4; one_more = x.5 }),
+pub next_looks : (w : Setting) (log : Log) (o : OpenCall) → IsCall w log o.call → moment_at w log o.call (o.turns + 1) ≢ Stuck
+    → IsTrue (makes_look w log o) ↔ ((s : State) × (t : State) × (look : Look) × (moment_at w log o.call o.turns ≡ Going s) × (moment_at w log o.call (o.turns + 1) ≡ Going t) × (t.looks ≡ s.looks ++ look ∷ []))
+next_looks w log o is apart = (
+  λ h. let x = looks_next w log o is.procedure is.known apart (moment_at w log o.call o.turns) refl h in (x.s, x.t, x.look, x.now, x.next, x.one_more),
+  λ x. looks_there w log o (record { s = x.0; t = x.1; look = x.2; now = x.3; next = x.4; one_more = x.5 }),
 )
 
 -- ---- helpers

@@ -1,7 +1,7 @@
 //! What a call is asked with.
 
 ghost use Rattle.std.specs.Prelude.{◌≡◌};
-ghost use Rattle.dsm_model.specs.World.{has_zero, or_none};
+ghost use Rattle.call_model.specs.Request.{has_zero, or_none};
 
 use log_model::RequestId;
 

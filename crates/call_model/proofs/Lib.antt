@@ -1,0 +1,2 @@
+pub mod NextLemmas
+mod RequestLemmas

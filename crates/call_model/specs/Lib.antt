@@ -1,0 +1,3 @@
+pub mod OpenCall
+pub mod Request
+pub mod Check

@@ -1,0 +1,12 @@
+//! Why a program isn't added.
+use abs_cause::Cause;
+use bpf_code::DecodeFault;
+
+/// What is wrong with a program that was to be added.
+#[derive(Clone, Copy, Debug, PartialEq, Eq)]
+pub enum ProgramFault {
+    /// Its bytes are no program.
+    Bytes(DecodeFault),
+    /// The lowest slot, counted from 0, whose instruction the verifier refuses, and its lowest cause.
+    Instruction { slot: u16, cause: Cause },
+}
