@@ -64,9 +64,9 @@ order_given w before after c outcome (Some o) e = elim (either_if (nat_lt o.turn
 
 next_given : (before after : World) (r : ℕ) (outcome : Outcome) (replica : Replica) (o : Option Verdict) → after_deliver_next before r replica o ≡ done outcome after → is_answer (Deliver r) outcome ≡ true
 next_given before after r outcome replica None e = is_given (Deliver r) (Refused NothingToDeliver) outcome before after refl e
-next_given before after r outcome replica (Some v) e = elim (either_if replica.running _ _ (outcome, after) e) [
-  | inl (t, d) ↦ is_given (Deliver r) (Delivered (replica.position + 1) v) outcome (with_replica before r (record replica { position = replica.position + 1 })) after refl d
-  | inr (t, d) ↦ is_given (Deliver r) (Refused ReplicaStopped) outcome before after refl d
+next_given before after r outcome replica (Some v) e = elim (either_if replica.stopped _ _ (outcome, after) e) [
+  | inr (t, d) ↦ is_given (Deliver r) (Delivered (replica.position + 1) v) outcome (with_replica before r (record replica { position = replica.position + 1 })) after refl d
+  | inl (t, d) ↦ is_given (Deliver r) (Refused ReplicaStopped) outcome before after refl d
 ]
 
 deliver_given : (w : Setting) (before after : World) (r : ℕ) (outcome : Outcome) (found : Option Replica) → after_deliver w before r found ≡ done outcome after → is_answer (Deliver r) outcome ≡ true
@@ -75,7 +75,7 @@ deliver_given w before after r outcome (Some replica) e = next_given before afte
 
 rebuild_given : (before after : World) (r : ℕ) (outcome : Outcome) (found : Option Replica) → after_rebuild before r found ≡ done outcome after → is_answer (Rebuild r) outcome ≡ true
 rebuild_given before after r outcome None e = is_given (Rebuild r) (Refused NoReplica) outcome before after refl e
-rebuild_given before after r outcome (Some replica) e = is_given (Rebuild r) (Rebuilt (length before.log)) outcome (with_replica before r (record { position = length before.log; running = true })) after refl e
+rebuild_given before after r outcome (Some replica) e = is_given (Rebuild r) (Rebuilt (length before.log)) outcome (with_replica before r (record { position = length before.log; stopped = false })) after refl e
 
 checked_given : (before after : World) (name : List ℕ) (number args_len : ℕ) (checked : ProgramCheck) (outcome : Outcome) → after_add_checked before name number args_len checked ≡ done outcome after → is_answer (Add name number args_len checked) outcome ≡ true
 checked_given before after name number args_len (Failed fault) outcome e = is_given (Add name number args_len (Failed fault)) (Refused (ProgramRefused fault)) outcome before after refl e
@@ -158,9 +158,9 @@ order_other w before after c outcome (Some o) e = elim (either_if (nat_lt o.turn
 
 next_other : (before after : World) (r : ℕ) (outcome : Outcome) (replica : Replica) (o : Option Verdict) → after_deliver_next before r replica o ≡ done outcome after → is_met outcome ≡ true
 next_other before after r outcome replica None e = is_other (Refused NothingToDeliver) outcome before after refl e
-next_other before after r outcome replica (Some v) e = elim (either_if replica.running _ _ (outcome, after) e) [
-  | inl (t, d) ↦ is_other (Delivered (replica.position + 1) v) outcome (with_replica before r (record replica { position = replica.position + 1 })) after refl d
-  | inr (t, d) ↦ is_other (Refused ReplicaStopped) outcome before after refl d
+next_other before after r outcome replica (Some v) e = elim (either_if replica.stopped _ _ (outcome, after) e) [
+  | inr (t, d) ↦ is_other (Delivered (replica.position + 1) v) outcome (with_replica before r (record replica { position = replica.position + 1 })) after refl d
+  | inl (t, d) ↦ is_other (Refused ReplicaStopped) outcome before after refl d
 ]
 
 deliver_other : (w : Setting) (before after : World) (r : ℕ) (outcome : Outcome) (found : Option Replica) → after_deliver w before r found ≡ done outcome after → is_met outcome ≡ true
@@ -169,7 +169,7 @@ deliver_other w before after r outcome (Some replica) e = next_other before afte
 
 rebuild_other : (before after : World) (r : ℕ) (outcome : Outcome) (found : Option Replica) → after_rebuild before r found ≡ done outcome after → is_met outcome ≡ true
 rebuild_other before after r outcome None e = is_other (Refused NoReplica) outcome before after refl e
-rebuild_other before after r outcome (Some replica) e = is_other (Rebuilt (length before.log)) outcome (with_replica before r (record { position = length before.log; running = true })) after refl e
+rebuild_other before after r outcome (Some replica) e = is_other (Rebuilt (length before.log)) outcome (with_replica before r (record { position = length before.log; stopped = false })) after refl e
 
 checked_other : (before after : World) (name : List ℕ) (number args_len : ℕ) (checked : ProgramCheck) (outcome : Outcome) → after_add_checked before name number args_len checked ≡ done outcome after → is_met outcome ≡ true
 checked_other before after name number args_len (Failed fault) outcome e = is_other (Refused (ProgramRefused fault)) outcome before after refl e

@@ -93,7 +93,7 @@ pub record StopCase (before : World) (step : Step) (outcome : Outcome) (after : 
   pub replica : Replica
   pub stands : numbered before.replicas r ≡ just replica
   pub answer : outcome ≡ Refused OutOfMemory
-  pub leaves : after ≡ with_replica before r (record replica { running = false })
+  pub leaves : after ≡ with_replica before r (record replica { stopped = true })
 
 pub record RebuildCase (before : World) (step : Step) (outcome : Outcome) (after : World) : Type 0 where
   pub r : ℕ
@@ -101,7 +101,7 @@ pub record RebuildCase (before : World) (step : Step) (outcome : Outcome) (after
   pub replica : Replica
   pub stands : numbered before.replicas r ≡ just replica
   pub answer : outcome ≡ Rebuilt (length before.log)
-  pub leaves : after ≡ with_replica before r (record { position = length before.log; running = true })
+  pub leaves : after ≡ with_replica before r (record { position = length before.log; stopped = false })
 
 pub record AddCase (before : World) (step : Step) (outcome : Outcome) (after : World) : Type 0 where
   pub name : List ℕ
@@ -287,8 +287,8 @@ order_case w before after c outcome (Some o) f e = elim (either_if (nat_lt o.tur
 next_case : (w : Setting) (before after : World) (r : ℕ) (outcome : Outcome) (replica : Replica) (v : Option Verdict) → numbered before.replicas r ≡ just replica → verdict_of w before.log (replica.position + 1) ≡ v
     → after_deliver_next before r replica v ≡ (outcome, after) → Case w before (Deliver r) outcome after
 next_case w before after r outcome replica None f g e = Same (same_case before after (Deliver r) outcome NothingToDeliver (λ x. cc) (λ c x. absurd cc) (λ x. absurd cc) (λ r x y. cc) e)
-next_case w before after r outcome replica (Some v) f g e = elim (either_if replica.running _ _ (outcome, after) e) [
-  | inl (t, d) ↦ Verdicted (record {
+next_case w before after r outcome replica (Some v) f g e = elim (either_if replica.stopped _ _ (outcome, after) e) [
+  | inr (t, d) ↦ Verdicted (record {
     r = r;
     is = refl;
     replica = replica;
@@ -298,7 +298,7 @@ next_case w before after r outcome replica (Some v) f g e = elim (either_if repl
     answer = sym (fst (Delivered (replica.position + 1) v, with_replica before r (record replica { position = replica.position + 1 })) (outcome, after) d);
     leaves = sym (snd (Delivered (replica.position + 1) v, with_replica before r (record replica { position = replica.position + 1 })) (outcome, after) d);
   })
-  | inr (t, d) ↦ Same (same_case before after (Deliver r) outcome ReplicaStopped (λ x. cc) (λ c x. absurd cc) (λ x. absurd cc) (λ r x y. cc) d)
+  | inl (t, d) ↦ Same (same_case before after (Deliver r) outcome ReplicaStopped (λ x. cc) (λ c x. absurd cc) (λ x. absurd cc) (λ r x y. cc) d)
 ]
 
 deliver_case : (w : Setting) (before after : World) (r : ℕ) (outcome : Outcome) (o : Option Replica) → numbered before.replicas r ≡ o → after_deliver w before r o ≡ (outcome, after) → Case w before (Deliver r) outcome after
@@ -312,8 +312,8 @@ rebuild_case w before after r outcome (Some replica) f e = Anew (record {
   is = refl;
   replica = replica;
   stands = f;
-  answer = sym (fst (Rebuilt (length before.log), with_replica before r (record { position = length before.log; running = true })) (outcome, after) e);
-  leaves = sym (snd (Rebuilt (length before.log), with_replica before r (record { position = length before.log; running = true })) (outcome, after) e);
+  answer = sym (fst (Rebuilt (length before.log), with_replica before r (record { position = length before.log; stopped = false })) (outcome, after) e);
+  leaves = sym (snd (Rebuilt (length before.log), with_replica before r (record { position = length before.log; stopped = false })) (outcome, after) e);
 })
 
 -- ---- Add
@@ -461,8 +461,8 @@ stop_case w before after r outcome (Some replica) d v f g e = Stop (record {
   is = refl;
   replica = replica;
   stands = f;
-  answer = sym (fst (Refused OutOfMemory, with_replica before r (record replica { running = false })) (outcome, after) e);
-  leaves = sym (snd (Refused OutOfMemory, with_replica before r (record replica { running = false })) (outcome, after) e);
+  answer = sym (fst (Refused OutOfMemory, with_replica before r (record replica { stopped = true })) (outcome, after) e);
+  leaves = sym (snd (Refused OutOfMemory, with_replica before r (record replica { stopped = true })) (outcome, after) e);
 })
 
 turn_memory_case : (w : Setting) (before after : World) (c : ℕ) (outcome : Outcome) (o : Option OpenCall) → after_turn_without_memory w before c o ≡ just (outcome, after) → Case w before (Turn c) outcome after

@@ -492,26 +492,26 @@ same_delivery a b u v e = (cc, cc)
 record Delivery (w : Setting) (before : World) (r position : ℕ) (v : Verdict) (found : Option Replica) (after : World) : Type 0 where
   replica : Replica
   stands : found ≡ just replica
-  running : replica.running ≡ true
+  going : replica.stopped ≡ false
   next : position ≡ replica.position + 1
   verdict : verdict_of w before.log position ≡ just v
-  leaves : after ≡ with_replica before r (record { position = position; running = true })
+  leaves : after ≡ with_replica before r (record { position = position; stopped = false })
 
 deliver_next : (w : Setting) (before after : World) (r position : ℕ) (v : Verdict) (replica : Replica) (o : Option Verdict) → verdict_of w before.log (replica.position + 1) ≡ o → after_deliver_next before r replica o ≡ done (Delivered position v) after → Delivery w before r position v (just replica) after
 deliver_next w before after r position v replica None f e = absurd (let x = fst (Refused NothingToDeliver, before) (Delivered position v, after) e in cc)
-deliver_next w before after r position v replica (Some u) f e = elim (either_if replica.running _ _ (Delivered position v, after) e) [
-  | inr (t, d) ↦ absurd (let x = fst (Refused ReplicaStopped, before) (Delivered position v, after) d in cc)
-  | inl (t, d) ↦ (
+deliver_next w before after r position v replica (Some u) f e = elim (either_if replica.stopped _ _ (Delivered position v, after) e) [
+  | inl (t, d) ↦ absurd (let x = fst (Refused ReplicaStopped, before) (Delivered position v, after) d in cc)
+  | inr (t, d) ↦ (
       let same = same_delivery (replica.position + 1) position u v (fst (Delivered (replica.position + 1) u, with_replica before r (record replica { position = replica.position + 1 })) (Delivered position v, after) d) in
       record {
         replica = replica;
         stands = refl;
-        running = t;
+        going = t;
         next = same.0;
         verdict = ap (verdict_of w before.log) same.0 ∙ f ∙ ap just same.1;
         leaves = sym (snd (Delivered (replica.position + 1) u, with_replica before r (record replica { position = replica.position + 1 })) (Delivered position v, after) d)
-            ∙ ap (λ (n : ℕ). with_replica before r (record { position = n; running = replica.running })) (sym same.0)
-            ∙ ap (λ (b : Bool). with_replica before r (record { position = position; running = b })) t;
+            ∙ ap (λ (n : ℕ). with_replica before r (record { position = n; stopped = replica.stopped })) (sym same.0)
+            ∙ ap (λ (b : Bool). with_replica before r (record { position = position; stopped = b })) t;
       })
 ]
 
@@ -520,11 +520,11 @@ deliver_answered w before after r position v None e = absurd (let x = fst (Refus
 deliver_answered w before after r position v (Some replica) e = deliver_next w before after r position v replica (verdict_of w before.log (replica.position + 1)) refl e
 
 pub delivers : (w : Setting) (before : World) (r position : ℕ) (v : Verdict) (after : World) → IsStep w before (Deliver r) (Delivered position v) after
-    → (replica : Replica) × (numbered before.replicas r ≡ Some replica) × (replica.running ≡ true) × (position ≡ replica.position + 1) × (verdict_of w before.log position ≡ Some v) × (after ≡ with_replica before r (record { position = position; running = true }))
+    → (replica : Replica) × (numbered before.replicas r ≡ Some replica) × (replica.stopped ≡ false) × (position ≡ replica.position + 1) × (verdict_of w before.log position ≡ Some v) × (after ≡ with_replica before r (record { position = position; stopped = false }))
 unfolding after_step
 delivers w before r position v after h =
     let x = deliver_answered w before after r position v (numbered before.replicas r) (with_memory w before after (Deliver r) (Delivered position v) (λ x. cc) (λ x. cc) h) in
-    (x.replica, x.stands, x.running, x.next, x.verdict, x.leaves)
+    (x.replica, x.stands, x.going, x.next, x.verdict, x.leaves)
 
 some_verdict : (w : Setting) (log : Log) (d : ℕ) → verdict_of w log (suc d) ≡ None → length log ≤ d
 some_verdict w log d e = elim (at_end (length log) d) [
@@ -545,9 +545,9 @@ next_nothing : (w : Setting) (before after : World) (r : ℕ) (replica : Replica
 next_nothing w before after r replica None f e =
     let one : suc replica.position ≡ replica.position + 1 = omega arith in
     some_verdict w before.log replica.position (ap (verdict_of w before.log) one ∙ f)
-next_nothing w before after r replica (Some v) f e = absurd (elim (either_if replica.running _ _ (Refused NothingToDeliver, after) e) [
-  | inl (t, d) ↦ (let x = fst (Delivered (replica.position + 1) v, with_replica before r (record replica { position = replica.position + 1 })) (Refused NothingToDeliver, after) d in cc)
-  | inr (t, d) ↦ (let x = fst (Refused ReplicaStopped, before) (Refused NothingToDeliver, after) d in cc)
+next_nothing w before after r replica (Some v) f e = absurd (elim (either_if replica.stopped _ _ (Refused NothingToDeliver, after) e) [
+  | inr (t, d) ↦ (let x = fst (Delivered (replica.position + 1) v, with_replica before r (record replica { position = replica.position + 1 })) (Refused NothingToDeliver, after) d in cc)
+  | inl (t, d) ↦ (let x = fst (Refused ReplicaStopped, before) (Refused NothingToDeliver, after) d in cc)
 ])
 
 deliver_nothing : (w : Setting) (before after : World) (r : ℕ) (found : Option Replica) → after_deliver w before r found ≡ done (Refused NothingToDeliver) after → (replica : Replica) × (found ≡ just replica) × (length before.log ≤ replica.position)
@@ -558,28 +558,28 @@ pub delivers_nothing : (w : Setting) (before : World) (r : ℕ) (after : World) 
 unfolding after_step
 delivers_nothing w before r after h = deliver_nothing w before after r (numbered before.replicas r) (with_memory w before after (Deliver r) (Refused NothingToDeliver) (λ x. cc) (λ x. cc) h)
 
-next_stopped : (w : Setting) (before after : World) (r : ℕ) (replica : Replica) (o : Option Verdict) → verdict_of w before.log (replica.position + 1) ≡ o → after_deliver_next before r replica o ≡ done (Refused ReplicaStopped) after → (replica.position < length before.log) × (replica.running ≡ false)
+next_stopped : (w : Setting) (before after : World) (r : ℕ) (replica : Replica) (o : Option Verdict) → verdict_of w before.log (replica.position + 1) ≡ o → after_deliver_next before r replica o ≡ done (Refused ReplicaStopped) after → (replica.position < length before.log) × (replica.stopped ≡ true)
 next_stopped w before after r replica None f e = absurd (let x = fst (Refused NothingToDeliver, before) (Refused ReplicaStopped, after) e in cc)
-next_stopped w before after r replica (Some v) f e = elim (either_if replica.running _ _ (Refused ReplicaStopped, after) e) [
-  | inl (t, d) ↦ absurd (let x = fst (Delivered (replica.position + 1) v, with_replica before r (record replica { position = replica.position + 1 })) (Refused ReplicaStopped, after) d in cc)
-  | inr (t, d) ↦ (
+next_stopped w before after r replica (Some v) f e = elim (either_if replica.stopped _ _ (Refused ReplicaStopped, after) e) [
+  | inr (t, d) ↦ absurd (let x = fst (Delivered (replica.position + 1) v, with_replica before r (record replica { position = replica.position + 1 })) (Refused ReplicaStopped, after) d in cc)
+  | inl (t, d) ↦ (
       let one : suc replica.position ≡ replica.position + 1 = omega arith in
       (verdict_within w before.log replica.position v (ap (verdict_of w before.log) one ∙ f), t))
 ]
 
-deliver_stopped : (w : Setting) (before after : World) (r : ℕ) (found : Option Replica) → after_deliver w before r found ≡ done (Refused ReplicaStopped) after → (replica : Replica) × (found ≡ just replica) × (replica.position < length before.log) × (replica.running ≡ false)
+deliver_stopped : (w : Setting) (before after : World) (r : ℕ) (found : Option Replica) → after_deliver w before r found ≡ done (Refused ReplicaStopped) after → (replica : Replica) × (found ≡ just replica) × (replica.position < length before.log) × (replica.stopped ≡ true)
 deliver_stopped w before after r None e = absurd (let x = fst (Refused NoReplica, before) (Refused ReplicaStopped, after) e in cc)
 deliver_stopped w before after r (Some replica) e = let x = next_stopped w before after r replica (verdict_of w before.log (replica.position + 1)) refl e in (replica, refl, x.0, x.1)
 
-pub delivers_stopped : (w : Setting) (before : World) (r : ℕ) (after : World) → IsStep w before (Deliver r) (Refused ReplicaStopped) after → (replica : Replica) × (numbered before.replicas r ≡ Some replica) × (replica.position < length before.log) × (replica.running ≡ false)
+pub delivers_stopped : (w : Setting) (before : World) (r : ℕ) (after : World) → IsStep w before (Deliver r) (Refused ReplicaStopped) after → (replica : Replica) × (numbered before.replicas r ≡ Some replica) × (replica.position < length before.log) × (replica.stopped ≡ true)
 unfolding after_step
 delivers_stopped w before r after h = deliver_stopped w before after r (numbered before.replicas r) (with_memory w before after (Deliver r) (Refused ReplicaStopped) (λ x. cc) (λ x. cc) h)
 
 next_no_replica : (before after : World) (r : ℕ) (replica : Replica) (o : Option Verdict) → after_deliver_next before r replica o ≡ done (Refused NoReplica) after → ⊥
 next_no_replica before after r replica None e = let x = fst (Refused NothingToDeliver, before) (Refused NoReplica, after) e in cc
-next_no_replica before after r replica (Some v) e = elim (either_if replica.running _ _ (Refused NoReplica, after) e) [
-  | inl (t, d) ↦ (let x = fst (Delivered (replica.position + 1) v, with_replica before r (record replica { position = replica.position + 1 })) (Refused NoReplica, after) d in cc)
-  | inr (t, d) ↦ (let x = fst (Refused ReplicaStopped, before) (Refused NoReplica, after) d in cc)
+next_no_replica before after r replica (Some v) e = elim (either_if replica.stopped _ _ (Refused NoReplica, after) e) [
+  | inr (t, d) ↦ (let x = fst (Delivered (replica.position + 1) v, with_replica before r (record replica { position = replica.position + 1 })) (Refused NoReplica, after) d in cc)
+  | inl (t, d) ↦ (let x = fst (Refused ReplicaStopped, before) (Refused NoReplica, after) d in cc)
 ]
 
 deliver_nowhere : (w : Setting) (before after : World) (r : ℕ) (found : Option Replica) → after_deliver w before r found ≡ done (Refused NoReplica) after → found ≡ None
@@ -595,19 +595,19 @@ delivers_nowhere w before r after h = deliver_nowhere w before after r (numbered
 same_end : (a b : ℕ) → Rebuilt a ≡ Rebuilt b → b ≡ a
 same_end a b e = cc
 
-rebuild_answered : (before after : World) (r position : ℕ) (found : Option Replica) → after_rebuild before r found ≡ done (Rebuilt position) after → IsSome found × (position ≡ length before.log) × (after ≡ with_replica before r (record { position = position; running = true }))
+rebuild_answered : (before after : World) (r position : ℕ) (found : Option Replica) → after_rebuild before r found ≡ done (Rebuilt position) after → IsSome found × (position ≡ length before.log) × (after ≡ with_replica before r (record { position = position; stopped = false }))
 rebuild_answered before after r position None e = absurd (let x = fst (Refused NoReplica, before) (Rebuilt position, after) e in cc)
 rebuild_answered before after r position (Some replica) e =
-    let same = same_end (length before.log) position (fst (Rebuilt (length before.log), with_replica before r (record { position = length before.log; running = true })) (Rebuilt position, after) e) in
-    (refl, same, sym (snd (Rebuilt (length before.log), with_replica before r (record { position = length before.log; running = true })) (Rebuilt position, after) e) ∙ ap (λ (n : ℕ). with_replica before r (record { position = n; running = true })) (sym same))
+    let same = same_end (length before.log) position (fst (Rebuilt (length before.log), with_replica before r (record { position = length before.log; stopped = false })) (Rebuilt position, after) e) in
+    (refl, same, sym (snd (Rebuilt (length before.log), with_replica before r (record { position = length before.log; stopped = false })) (Rebuilt position, after) e) ∙ ap (λ (n : ℕ). with_replica before r (record { position = n; stopped = false })) (sym same))
 
-pub rebuilds : (w : Setting) (before : World) (r position : ℕ) (after : World) → IsStep w before (Rebuild r) (Rebuilt position) after → IsSome (numbered before.replicas r) × (position ≡ length before.log) × (after ≡ with_replica before r (record { position = position; running = true }))
+pub rebuilds : (w : Setting) (before : World) (r position : ℕ) (after : World) → IsStep w before (Rebuild r) (Rebuilt position) after → IsSome (numbered before.replicas r) × (position ≡ length before.log) × (after ≡ with_replica before r (record { position = position; stopped = false }))
 unfolding after_step
 rebuilds w before r position after h = rebuild_answered before after r position (numbered before.replicas r) (with_memory w before after (Rebuild r) (Rebuilt position) (λ x. cc) (λ x. cc) h)
 
 rebuild_nowhere : (before after : World) (r : ℕ) (found : Option Replica) → after_rebuild before r found ≡ done (Refused NoReplica) after → found ≡ None
 rebuild_nowhere before after r None e = refl
-rebuild_nowhere before after r (Some replica) e = absurd (let x = fst (Rebuilt (length before.log), with_replica before r (record { position = length before.log; running = true })) (Refused NoReplica, after) e in cc)
+rebuild_nowhere before after r (Some replica) e = absurd (let x = fst (Rebuilt (length before.log), with_replica before r (record { position = length before.log; stopped = false })) (Refused NoReplica, after) e in cc)
 
 pub rebuilds_nowhere : (w : Setting) (before : World) (r : ℕ) (after : World) → IsStep w before (Rebuild r) (Refused NoReplica) after → numbered before.replicas r ≡ None
 unfolding after_step

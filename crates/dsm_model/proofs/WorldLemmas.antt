@@ -204,10 +204,10 @@ case_keeps w before step outcome after bytes is (Verdicted c) =
     let one : suc c.replica.position ≡ c.replica.position + 1 = omega arith in
     let lt = verdict_within w before.log c.replica.position c.verdict (ap (verdict_of w before.log) one ∙ c.known) in
     subst (IsWorld w) (sym c.leaves) (moved_keeps w before c.r c.replica (record c.replica { position = c.replica.position + 1 }) c.stands (omega arith) (omega arith) is)
-case_keeps w before step outcome after bytes is (Stop c) = subst (IsWorld w) (sym c.leaves) (moved_keeps w before c.r c.replica (record c.replica { running = false }) c.stands (omega arith) (is.positions c.r c.replica c.stands) is)
+case_keeps w before step outcome after bytes is (Stop c) = subst (IsWorld w) (sym c.leaves) (moved_keeps w before c.r c.replica (record c.replica { stopped = true }) c.stands (omega arith) (is.positions c.r c.replica c.stands) is)
 case_keeps w before step outcome after bytes is (Anew c) =
     let within = is.positions c.r c.replica c.stands in
-    subst (IsWorld w) (sym c.leaves) (moved_keeps w before c.r c.replica (record { position = length before.log; running = true }) c.stands (omega arith) (omega arith) is)
+    subst (IsWorld w) (sym c.leaves) (moved_keeps w before c.r c.replica (record { position = length before.log; stopped = false }) c.stands (omega arith) (omega arith) is)
 case_keeps w before step outcome after bytes is (Put c) =
     subst (IsWorld w) (sym c.leaves) (added_keeps w before (record { name = c.name; number = c.number; program = c.program; args_len = c.args_len }) (safe_of w step c.name c.number c.args_len c.program (length before.log + 1) outcome bytes c.is c.answer) c.few is)
 
@@ -226,7 +226,7 @@ pub first_is_world : (w : Setting) (replicas : ℕ) → IsWorld w (first_world r
 first_is_world w replicas = record {
   log = tt;
   items = tt;
-  positions = λ r replica e. subst (λ (x : Replica). x.position ≤ 0) (numbered_replicate replicas r (record { position = 0; running = true }) replica e) (omega arith);
+  positions = λ r replica e. subst (λ (x : Replica). x.position ≤ 0) (numbered_replicate replicas r (record { position = 0; stopped = false }) replica e) (omega arith);
   open_calls = λ c o e. absurd (none c o (flat_is (numbered [] c) o e));
   numbers = λ c o e. absurd (none c o (flat_is (numbered [] c) o e));
   calls_limit = omega arith;

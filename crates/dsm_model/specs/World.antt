@@ -13,10 +13,10 @@ use Rattle.dsm_model.specs.declared.outcome.Outcome.TheVariants.{Begun, More, Ex
 use Rattle.log_model.specs.Log.{StoredProcedure, Setting, Call, Log, by_number, moment_at, run_in, verdict_of, CallItem, AdditionItem, procedures_after, procedure_of}
 use Rattle.log_model.specs.Name.{is_name}
 
--- how far it has delivered the log, and whether it goes on delivering
+-- how far it has delivered the log, and whether it found no memory and delivers no more
 pub record Replica : Type 0 where
   pub position : ℕ
-  pub running : Bool
+  pub stopped : Bool
 
 pub record World : Type 0 where
   pub log : Log
@@ -37,7 +37,7 @@ max_calls = 1048576
 
 -- at first so many replicas run, and there is neither a log nor a call
 abbrev pub first_world : ℕ → World
-first_world replicas = record { log = []; replicas = replicate replicas (record { position = 0; running = true }); calls = [] }
+first_world replicas = record { log = []; replicas = replicate replicas (record { position = 0; stopped = false }); calls = [] }
 
 -- ---- by number, from 1 on
 
@@ -145,8 +145,8 @@ after_order w world c (Some o) =
 abbrev pub after_deliver_next : World → ℕ → Replica → Option Verdict → Outcome × World
 after_deliver_next world r replica None = (Refused NothingToDeliver, world)
 after_deliver_next world r replica (Some verdict) =
-    if replica.running then (Delivered (replica.position + 1) verdict, with_replica world r (record replica { position = replica.position + 1 }))
-    else (Refused ReplicaStopped, world)
+    if replica.stopped then (Refused ReplicaStopped, world)
+    else (Delivered (replica.position + 1) verdict, with_replica world r (record replica { position = replica.position + 1 }))
 
 abbrev pub after_deliver : Setting → World → ℕ → Option Replica → Outcome × World
 after_deliver w world r None = (Refused NoReplica, world)
@@ -154,7 +154,7 @@ after_deliver w world r (Some replica) = after_deliver_next world r replica (ver
 
 abbrev pub after_rebuild : World → ℕ → Option Replica → Outcome × World
 after_rebuild world r None = (Refused NoReplica, world)
-after_rebuild world r (Some replica) = (Rebuilt (length world.log), with_replica world r (record { position = length world.log; running = true }))
+after_rebuild world r (Some replica) = (Rebuilt (length world.log), with_replica world r (record { position = length world.log; stopped = false }))
 
 -- ---- Add
 
@@ -187,12 +187,9 @@ after_step w world (Deliver r) = after_deliver w world r (numbered world.replica
 after_step w world (Rebuild r) = after_rebuild world r (numbered world.replicas r)
 after_step w world (Add name number args_len checked) = after_add world name number args_len checked
 
-abbrev pub stopped : Replica → Replica
-stopped replica = record replica { running = false }
-
 abbrev pub with_stopped : World → ℕ → Option Replica → World
 with_stopped world r None = world
-with_stopped world r (Some replica) = with_replica world r (stopped replica)
+with_stopped world r (Some replica) = with_replica world r (record replica { stopped = true })
 
 -- what a step leaves that is refused for want of memory: a call that was to be ordered is over, and a replica that was to
 -- deliver is stopped

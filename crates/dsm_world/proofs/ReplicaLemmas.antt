@@ -102,7 +102,7 @@ pub stopped_before : {A : Type 0} (s : SystemWorld) (slots : List (Option (OpenC
     → IsStep (setting_of s) (world_of s) (Deliver r) (Refused ReplicaStopped) (world_of s)
 stopped_before s slots r k old e have h is at next stopped =
     let v = some_to_deliver s old e have next in
-    deliver_stopped (setting_of s) (world_of s) r (progress_of old) v.0 (replica_at s r k old is at) v.1 (ap not stopped)
+    deliver_stopped (setting_of s) (world_of s) r (progress_of old) v.0 (replica_at s r k old is at) v.1 stopped
 
 -- the verdict of a delivery is that of the log
 verdict_is : {A : Type 0} (s : SystemWorld) (slots : List (Option (OpenCallState A))) (k : ℕ) (old new : Replica) (e : Entry) (v : Verdict) → VerdictsGrow → IsTogether s slots → slice_get s.replicas k ≡ Some old → slice_get s.entries old.position ≡ Some e → HasDelivered s.catalogue.tables old new e v
@@ -126,9 +126,9 @@ verdict_is s slots k old new e v verdicts h at next d =
 pub delivered : {A : Type 0} (s : SystemWorld) (slots : List (Option (OpenCallState A))) (r k : ℕ) (old new : Replica) (e : Entry) (v : Verdict) → VerdictsGrow → IsTogether s slots → r ≡ k + 1 → slice_get s.replicas k ≡ Some old → slice_get s.entries old.position ≡ Some e → old.stopped ≡ false → HasDelivered s.catalogue.tables old new e v
     → IsStep (setting_of s) (world_of s) (Deliver r) (Delivered (old.position + 1) v) (world_of (with_one s k new))
 delivered s slots r k old new e v verdicts h is at next going d =
-    let progress : record { position = old.position + 1; running = not old.stopped } ≡ progress_of new = ap (λ n. record { position = n; running = not old.stopped }) (sym d.position) ∙ ap (λ b. record { position = new.position; running = not b }) (going ∙ sym d.running) in
+    let progress : record { position = old.position + 1; stopped = old.stopped } ≡ progress_of new = ap (λ n. record { position = n; stopped = old.stopped }) (sym d.position) ∙ ap (λ b. record { position = new.position; stopped = b }) (going ∙ sym d.running) in
     subst (λ (x : World). IsStep (setting_of s) (world_of s) (Deliver r) (Delivered (old.position + 1) v) x) (world_with s r k new _ is progress)
-    (deliver_new (setting_of s) (world_of s) r (progress_of old) v (replica_at s r k old is at) (verdict_is s slots k old new e v verdicts h at next d) (ap not going))
+    (deliver_new (setting_of s) (world_of s) r (progress_of old) v (replica_at s r k old is at) (verdict_is s slots k old new e v verdicts h at next d) going)
 
 same_tables : (tables : Tables) (old new : Replica) → TablesKept → HasSameTables old new → HaveTables tables old.versions.tables → HaveTables tables new.versions.tables
 same_tables tables old new kept same have = kept tables old.versions.tables new.versions.tables same.widths same.count have
@@ -149,9 +149,9 @@ pub stops : {A : Type 0} (s : SystemWorld) (slots : List (Option (OpenCallState 
     → IsStep (setting_of s) (world_of s) (Deliver r) (Refused OutOfMemory) (world_of (with_one s k new))
 stops s slots r k old new e have h is at next going d =
     let v = some_to_deliver s old e have next in
-    let progress : record { position = old.position; running = false } ≡ progress_of new = ap (λ n. record { position = n; running = false }) (sym d.position) ∙ ap (λ b. record { position = new.position; running = not b }) (sym d.stopped) in
+    let progress : record { position = old.position; stopped = true } ≡ progress_of new = ap (λ n. record { position = n; stopped = true }) (sym d.position) ∙ ap (λ b. record { position = new.position; stopped = b }) (sym d.stopped) in
     subst (λ (x : World). IsStep (setting_of s) (world_of s) (Deliver r) (Refused OutOfMemory) x) (world_with s r k new _ is progress)
-    (deliver_without_memory (setting_of s) (world_of s) r (progress_of old) v.0 (replica_at s r k old is at) v.1 (ap not going))
+    (deliver_without_memory (setting_of s) (world_of s) r (progress_of old) v.0 (replica_at s r k old is at) v.1 going)
 
 pub stopped_replica : {A : Type 0} (s : SystemWorld) (slots : List (Option (OpenCallState A))) (k : ℕ) (old new : Replica) → TablesKept → IsTogether s slots → slice_get s.replicas k ≡ Some old → HasStopped old new → IsReplicaOf s.catalogue s.window s.entries new
 stopped_replica s slots k old new kept h at d =
@@ -184,8 +184,8 @@ pub rebuilt : (s : SystemWorld) (r k : ℕ) (old new : Replica) → r ≡ k + 1 
     → IsStep (setting_of s) (world_of s) (Rebuild r) (Rebuilt (length s.entries)) (world_of (with_one s k new))
 rebuilt s r k old new is at stands going =
     let count = log_count s in
-    let progress : record { position = length (world_of s).log; running = true } ≡ progress_of new =
-    ap (λ n. record { position = n; running = true }) (count ∙ sym stands.position) ∙ ap (λ b. record { position = new.position; running = not b }) (sym going) in
+    let progress : record { position = length (world_of s).log; stopped = false } ≡ progress_of new =
+    ap (λ n. record { position = n; stopped = false }) (count ∙ sym stands.position) ∙ ap (λ b. record { position = new.position; stopped = b }) (sym going) in
     subst (λ (n : ℕ). IsStep (setting_of s) (world_of s) (Rebuild r) (Rebuilt n) (world_of (with_one s k new))) count
     (subst (λ (x : World). IsStep (setting_of s) (world_of s) (Rebuild r) (Rebuilt (length (world_of s).log)) x) (world_with s r k new _ is progress)
     (rebuild_new (setting_of s) (world_of s) r (progress_of old) (replica_at s r k old is at)))

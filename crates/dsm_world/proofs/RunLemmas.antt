@@ -106,20 +106,20 @@ first_replica catalogue window r stands same have for_tables = record {
     nothing zero = refl
     nothing (suc n) = refl
 
-pub first_progress : (base : Catalogue) (r : Replica) → StandsFor base r [] → r.stopped ≡ false → progress_of r ≡ record { position = 0; running = true }
-first_progress base r stands running = ap (λ n. record { position = n; running = not r.stopped }) stands.position ∙ ap (λ b. record { position = 0; running = not b }) running
+pub first_progress : (base : Catalogue) (r : Replica) → StandsFor base r [] → r.stopped ≡ false → progress_of r ≡ record { position = 0; stopped = false }
+first_progress base r stands running = ap (λ n. record { position = n; stopped = r.stopped }) stands.position ∙ ap (λ b. record { position = 0; stopped = b }) running
 
 pub all_alike : {X Y : Type 0} (f : X → Y) (xs : List X) (y : Y) → ((k : ℕ) (x : X) → slice_get xs k ≡ Some x → f x ≡ y) → map f xs ≡ replicate (length xs) y
 all_alike f [] y h = refl
 all_alike f (x ∷ xs) y h = ap (λ z. z ∷ map f xs) (h 0 x refl) ∙ ap (λ ys. y ∷ ys) (all_alike f xs y (λ k. h (suc k)))
 
-pub first_of : (catalogue : SystemCatalogue) (window n : ℕ) (replicas : List Replica) → length replicas ≡ n → ((k : ℕ) (r : Replica) → slice_get replicas k ≡ Some r → progress_of r ≡ record { position = 0; running = true })
+pub first_of : (catalogue : SystemCatalogue) (window n : ℕ) (replicas : List Replica) → length replicas ≡ n → ((k : ℕ) (r : Replica) → slice_get replicas k ≡ Some r → progress_of r ≡ record { position = 0; stopped = false })
     → world_of (record { catalogue = catalogue; window = window; entries = []; replicas = replicas; calls = [] }) ≡ first_world n
 first_of catalogue window n replicas count fresh =
-    ap (λ (rs : List ModelReplica). record { log = []; replicas = rs; calls = [] }) (all_alike progress_of replicas (record { position = 0; running = true }) fresh ∙ ap (λ (m : ℕ). replicate m (record { position = 0; running = true })) count)
+    ap (λ (rs : List ModelReplica). record { log = []; replicas = rs; calls = [] }) (all_alike progress_of replicas (record { position = 0; stopped = false }) fresh ∙ ap (λ (m : ℕ). replicate m (record { position = 0; stopped = false })) count)
 
 pub first_together : {A : Type 0} (catalogue : SystemCatalogue) (window n : ℕ) (replicas : List Replica) → ((w : Setting) (n : ℕ) → IsWorld w (first_world n)) → HasSafeProcedures (record { tables = catalogue.tables; catalogue = catalogue.procedures; window = window }) → length replicas ≡ n
-    → ((k : ℕ) (r : Replica) → slice_get replicas k ≡ Some r → IsReplicaOf catalogue window [] r) → ((k : ℕ) (r : Replica) → slice_get replicas k ≡ Some r → progress_of r ≡ record { position = 0; running = true })
+    → ((k : ℕ) (r : Replica) → slice_get replicas k ≡ Some r → IsReplicaOf catalogue window [] r) → ((k : ℕ) (r : Replica) → slice_get replicas k ≡ Some r → progress_of r ≡ record { position = 0; stopped = false })
     → IsTogether {A = A} (record { catalogue = catalogue; window = window; entries = []; replicas = replicas; calls = [] }) []
 first_together catalogue window n replicas law safe count each fresh = record {
   entries = record { procedures = safe; log = tt; items = tt; runs = tt };

@@ -198,22 +198,22 @@ delivers_next w world r k v e f = delivers w world r (just k) e ∙ ap (after_de
 pub deliver_nothing : (w : Setting) (world : World) (r : ℕ) (k : Replica) → numbered world.replicas r ≡ Some k → verdict_of w world.log (k.position + 1) ≡ None → IsStep w world (Deliver r) (Refused NothingToDeliver) world
 deliver_nothing w world r k e f = inl (delivers_next w world r k None e f)
 
-pub deliver_stopped : (w : Setting) (world : World) (r : ℕ) (k : Replica) (v : Verdict) → numbered world.replicas r ≡ Some k → verdict_of w world.log (k.position + 1) ≡ Some v → k.running ≡ false → IsStep w world (Deliver r) (Refused ReplicaStopped) world
-deliver_stopped w world r k v e f stopped = inl (delivers_next w world r k (just v) e f ∙ no k.running _ _ stopped)
+pub deliver_stopped : (w : Setting) (world : World) (r : ℕ) (k : Replica) (v : Verdict) → numbered world.replicas r ≡ Some k → verdict_of w world.log (k.position + 1) ≡ Some v → k.stopped ≡ true → IsStep w world (Deliver r) (Refused ReplicaStopped) world
+deliver_stopped w world r k v e f stopped = inl (delivers_next w world r k (just v) e f ∙ yes k.stopped _ _ stopped)
 
-delivers_new : (w : Setting) (world : World) (r : ℕ) (k : Replica) (v : Verdict) → numbered world.replicas r ≡ just k → verdict_of w world.log (k.position + 1) ≡ just v → k.running ≡ true
+delivers_new : (w : Setting) (world : World) (r : ℕ) (k : Replica) (v : Verdict) → numbered world.replicas r ≡ just k → verdict_of w world.log (k.position + 1) ≡ just v → k.stopped ≡ false
     → after_step w world (Deliver r) ≡ (Delivered (k.position + 1) v, with_replica world r (record k { position = k.position + 1 }))
-delivers_new w world r k v e f running = delivers_next w world r k (just v) e f ∙ yes k.running _ _ running
+delivers_new w world r k v e f going = delivers_next w world r k (just v) e f ∙ no k.stopped _ _ going
 
-pub deliver_new : (w : Setting) (world : World) (r : ℕ) (k : Replica) (v : Verdict) → numbered world.replicas r ≡ Some k → verdict_of w world.log (k.position + 1) ≡ Some v → k.running ≡ true
+pub deliver_new : (w : Setting) (world : World) (r : ℕ) (k : Replica) (v : Verdict) → numbered world.replicas r ≡ Some k → verdict_of w world.log (k.position + 1) ≡ Some v → k.stopped ≡ false
     → IsStep w world (Deliver r) (Delivered (k.position + 1) v) (with_replica world r (record k { position = k.position + 1 }))
-deliver_new w world r k v e f running = inl (delivers_new w world r k v e f running)
+deliver_new w world r k v e f going = inl (delivers_new w world r k v e f going)
 
-pub deliver_without_memory : (w : Setting) (world : World) (r : ℕ) (k : Replica) (v : Verdict) → numbered world.replicas r ≡ Some k → verdict_of w world.log (k.position + 1) ≡ Some v → k.running ≡ true
-    → IsStep w world (Deliver r) (Refused OutOfMemory) (with_replica world r (record k { running = false }))
+pub deliver_without_memory : (w : Setting) (world : World) (r : ℕ) (k : Replica) (v : Verdict) → numbered world.replicas r ≡ Some k → verdict_of w world.log (k.position + 1) ≡ Some v → k.stopped ≡ false
+    → IsStep w world (Deliver r) (Refused OutOfMemory) (with_replica world r (record k { stopped = true }))
 unfolding after_step_without_memory
-deliver_without_memory w world r k v e f running = inr (
-    ap (λ (d : Done). after_refused_memory world (Deliver r) d.0) (delivers_new w world r k v e f running)
+deliver_without_memory w world r k v e f going = inr (
+    ap (λ (d : Done). after_refused_memory world (Deliver r) d.0) (delivers_new w world r k v e f going)
     ∙ ap (λ (x : Option Replica). just (Refused OutOfMemory, with_stopped world r x)) e
     )
 
@@ -226,7 +226,7 @@ rebuilds w world r k e = ap (after_rebuild world r) e
 pub rebuild_no_replica : (w : Setting) (world : World) (r : ℕ) → numbered world.replicas r ≡ None → IsStep w world (Rebuild r) (Refused NoReplica) world
 rebuild_no_replica w world r e = inl (rebuilds w world r None e)
 
-pub rebuild_new : (w : Setting) (world : World) (r : ℕ) (k : Replica) → numbered world.replicas r ≡ Some k → IsStep w world (Rebuild r) (Rebuilt (length world.log)) (with_replica world r (record { position = length world.log; running = true }))
+pub rebuild_new : (w : Setting) (world : World) (r : ℕ) (k : Replica) → numbered world.replicas r ≡ Some k → IsStep w world (Rebuild r) (Rebuilt (length world.log)) (with_replica world r (record { position = length world.log; stopped = false }))
 rebuild_new w world r k e = inl (rebuilds w world r (just k) e)
 
 pub rebuild_without_memory : (w : Setting) (world : World) (r : ℕ) (k : Replica) → numbered world.replicas r ≡ Some k → IsStep w world (Rebuild r) (Refused OutOfMemory) world

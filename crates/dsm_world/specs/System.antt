@@ -1,5 +1,5 @@
 -- A world of replicas as contracts see it, and the world of the definitions that it is.
-use Rattle.std.specs.Prelude.{◌≡◌, ℕ, ◌-◌, ◌≤◌, not, List, map, take, Option, Some, None}
+use Rattle.std.specs.Prelude.{◌≡◌, ℕ, ◌-◌, ◌≤◌, List, map, take, Option, Some, None}
 use Rattle.catalogue.specs.Catalogue.{SystemCatalogue}
 use Rattle.rows_mv.specs.Versions.{AnswersFrom}
 use Rattle.replica.specs.Replica.{Replica, StandsFor, AreEntriesOf}
@@ -26,9 +26,9 @@ pub record SystemWorld : Type 0 where
 abbrev pub setting_of : SystemWorld → Setting
 setting_of s = record { tables = s.catalogue.tables; catalogue = s.catalogue.procedures; window = s.window }
 
--- how far a replica has come, and whether it goes on
+-- how far a replica has come, and whether it has stopped
 abbrev pub progress_of : Replica → model.Replica
-progress_of r = record { position = r.position; running = not r.stopped }
+progress_of r = record { position = r.position; stopped = r.stopped }
 
 abbrev pub world_of : SystemWorld → World
 world_of s = record { log = items_of s.entries; replicas = map progress_of s.replicas; calls = s.calls }

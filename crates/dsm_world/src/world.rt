@@ -113,7 +113,7 @@ fn replicas_of<A: Allocator + Copy>(
     ensures first { IfOk result (λ v. (k : ℕ) (r : ReplicaState) → slice_get v.items k ≡ Some r
         → IsReplicaOf catalogue.now window [] r) }
     ensures running { IfOk result (λ v. (k : ℕ) (r : ReplicaState) → slice_get v.items k ≡ Some r
-        → progress_of r ≡ record { position = 0; running = true }) }
+        → progress_of r ≡ record { position = 0; stopped = false }) }
 {
     let mut replicas = Vec::new(alloc);
     for _ in 0..count {

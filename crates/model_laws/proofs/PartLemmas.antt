@@ -69,11 +69,11 @@ no_replica (suc n) (suc k) replica le = no_replica n k replica (omega arith)
 one_more : (k : ℕ) → k + 1 ≡ suc k
 one_more k = omega arith
 
-pub first_replicas : (n k : ℕ) → k < n → numbered (first_world n).replicas (k + 1) ≡ Some (record { position = 0; running = true })
-first_replicas n k lt = ap (numbered (first_world n).replicas) (one_more k) ∙ get_replica n k (record { position = 0; running = true }) lt
+pub first_replicas : (n k : ℕ) → k < n → numbered (first_world n).replicas (k + 1) ≡ Some (record { position = 0; stopped = false })
+first_replicas n k lt = ap (numbered (first_world n).replicas) (one_more k) ∙ get_replica n k (record { position = 0; stopped = false }) lt
 
 pub no_more_replicas : (n k : ℕ) → n ≤ k → numbered (first_world n).replicas (k + 1) ≡ None
-no_more_replicas n k le = ap (numbered (first_world n).replicas) (one_more k) ∙ no_replica n k (record { position = 0; running = true }) le
+no_more_replicas n k le = ap (numbered (first_world n).replicas) (one_more k) ∙ no_replica n k (record { position = 0; stopped = false }) le
 
 pub nothing_yet : (n : ℕ) → ((first_world n).log ≡ []) × ((first_world n).calls ≡ [])
 nothing_yet n = (refl, refl)

@@ -70,7 +70,7 @@ one_deliver : (r q : ℕ) → Deliver r ≡ Deliver q → r ≡ q
 one_deliver r q e = cc
 
 case_stopped : (w : Setting) (before : World) (step : Step) (r : ℕ) (outcome : Outcome) (after : World) → step ≡ Deliver r → outcome ≡ Refused OutOfMemory → Case w before step outcome after
-    → (replica : Replica) × (numbered before.replicas r ≡ just replica) × (after ≡ with_replica before r (record { position = replica.position; running = false }))
+    → (replica : Replica) × (numbered before.replicas r ≡ just replica) × (after ≡ with_replica before r (record { position = replica.position; stopped = true }))
 case_stopped w before step r outcome after is answer (Same c) = absurd (c.deliver r is (one_refusal c.refusal OutOfMemory (sym c.answer ∙ answer)))
 case_stopped w before step r outcome after is answer (New c) = absurd (let e = sym c.is ∙ is in cc)
 case_stopped w before step r outcome after is answer (Over c) = absurd (elim c.is [ inl turn ↦ (let e = sym turn ∙ is in cc) | inr order ↦ (let e = sym order ∙ is in cc) ])
@@ -79,12 +79,12 @@ case_stopped w before step r outcome after is answer (Appended c) = absurd (let 
 case_stopped w before step r outcome after is answer (Verdicted c) = absurd (let e = sym c.answer ∙ answer in cc)
 case_stopped w before step r outcome after is answer (Stop c) =
     let same = one_deliver c.r r (sym c.is ∙ is) in
-    (c.replica, ap (numbered before.replicas) (sym same) ∙ c.stands, c.leaves ∙ ap (λ (n : ℕ). with_replica before n (record c.replica { running = false })) same)
+    (c.replica, ap (numbered before.replicas) (sym same) ∙ c.stands, c.leaves ∙ ap (λ (n : ℕ). with_replica before n (record c.replica { stopped = true })) same)
 case_stopped w before step r outcome after is answer (Anew c) = absurd (let e = sym c.is ∙ is in cc)
 case_stopped w before step r outcome after is answer (Put c) = absurd (let e = sym c.is ∙ is in cc)
 
 pub deliver_memory : (w : Setting) (before : World) (r : ℕ) (after : World) → IsStep w before (Deliver r) (Refused OutOfMemory) after
-    → (replica : Replica) × (numbered before.replicas r ≡ Some replica) × (after ≡ with_replica before r (record { position = replica.position; running = false }))
+    → (replica : Replica) × (numbered before.replicas r ≡ Some replica) × (after ≡ with_replica before r (record { position = replica.position; stopped = true }))
 deliver_memory w before r after e = case_stopped w before (Deliver r) r (Refused OutOfMemory) after refl refl (step_case w before (Deliver r) (Refused OutOfMemory) after e)
 
 -- ---- Order

@@ -48,7 +48,7 @@ pub fn each_change_is_of_one()
 /// leads on.
 pub fn there_are_worlds()
     ensures replicas { (n k : ℕ) → k < n
-        → numbered (first_world n).replicas (k + 1) ≡ Some (record { position = 0; running = true }) }
+        → numbered (first_world n).replicas (k + 1) ≡ Some (record { position = 0; stopped = false }) }
     ensures no_more { (n k : ℕ) → n ≤ k → numbered (first_world n).replicas (k + 1) ≡ None }
     ensures nothing { (n : ℕ) → ((first_world n).log ≡ []) × ((first_world n).calls ≡ []) }
     ensures steps { (w : Setting) (before : World) (steps : List Step)
@@ -122,7 +122,7 @@ pub fn refused_steps_change_nothing()
     ensures deliver { (w : Setting) (before : World) (r : ℕ) (after : World)
         → IsStep w before (Deliver r) (Refused OutOfMemory) after
         → (replica : Replica) × (numbered before.replicas r ≡ Some replica)
-        × (after ≡ with_replica before r (record { position = replica.position; running = false })) }
+        × (after ≡ with_replica before r (record { position = replica.position; stopped = true })) }
     ensures rebuild { (w : Setting) (before : World) (r : ℕ) (after : World)
         → IsStep w before (Rebuild r) (Refused OutOfMemory) after → after ≡ before }
     ensures add { (w : Setting) (before : World) (name : List ℕ) (number args_len : ℕ) (checked : ProgramCheck) (after : World)

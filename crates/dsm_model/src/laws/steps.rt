@@ -148,16 +148,16 @@ pub fn calls_are_ordered_at_their_end()
 pub fn replicas_deliver_in_order()
     ensures delivered { (w : Setting) (before : World) (r position : ℕ) (v : Verdict) (after : World)
         → IsStep w before (Deliver r) (Delivered position v) after
-        → (replica : Replica) × (numbered before.replicas r ≡ Some replica) × (replica.running ≡ true)
+        → (replica : Replica) × (numbered before.replicas r ≡ Some replica) × (replica.stopped ≡ false)
         × (position ≡ replica.position + 1) × (verdict_of w before.log position ≡ Some v)
-        × (after ≡ with_replica before r (record { position = position; running = true })) }
+        × (after ≡ with_replica before r (record { position = position; stopped = false })) }
     ensures nothing { (w : Setting) (before : World) (r : ℕ) (after : World)
         → IsStep w before (Deliver r) (Refused NothingToDeliver) after
         → (replica : Replica) × (numbered before.replicas r ≡ Some replica) × (length before.log ≤ replica.position) }
     ensures stopped { (w : Setting) (before : World) (r : ℕ) (after : World)
         → IsStep w before (Deliver r) (Refused ReplicaStopped) after
         → (replica : Replica) × (numbered before.replicas r ≡ Some replica) × (replica.position < length before.log)
-        × (replica.running ≡ false) }
+        × (replica.stopped ≡ true) }
     ensures no_replica { (w : Setting) (before : World) (r : ℕ) (after : World)
         → IsStep w before (Deliver r) (Refused NoReplica) after → numbered before.replicas r ≡ None }
 {}
@@ -167,7 +167,7 @@ pub fn rebuilt_replicas_are_at_the_end()
     ensures rebuilt { (w : Setting) (before : World) (r position : ℕ) (after : World)
         → IsStep w before (Rebuild r) (Rebuilt position) after
         → IsSome (numbered before.replicas r) × (position ≡ length before.log)
-        × (after ≡ with_replica before r (record { position = position; running = true })) }
+        × (after ≡ with_replica before r (record { position = position; stopped = false })) }
     ensures no_replica { (w : Setting) (before : World) (r : ℕ) (after : World)
         → IsStep w before (Rebuild r) (Refused NoReplica) after → numbered before.replicas r ≡ None }
 {}

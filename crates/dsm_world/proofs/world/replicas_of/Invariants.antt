@@ -8,5 +8,5 @@ abbrev pub invariant-loop : goal.invariant-loop
 invariant-loop g l = record {
   counted : length l.replicas.items ≡ l.counter;
   each : (k : ℕ) (r : Replica) → slice_get l.replicas.items k ≡ Some r → IsReplicaOf l.catalogue l.window [] r;
-  fresh : (k : ℕ) (r : Replica) → slice_get l.replicas.items k ≡ Some r → progress_of r ≡ record { position = 0; running = true };
+  fresh : (k : ℕ) (r : Replica) → slice_get l.replicas.items k ≡ Some r → progress_of r ≡ record { position = 0; stopped = false };
 }
