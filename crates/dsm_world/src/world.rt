@@ -1,6 +1,6 @@
 //! A world of replicas.
 
-ghost use Rattle.std.specs.Prelude.{◌≡◌, ℕ, ◌+◌, ◌<◌, ◌≤◌, ◌++◌, [], ◌∷◌, length, map};
+ghost use Rattle.std.specs.Prelude.{false, ◌≡◌, ℕ, ◌+◌, ◌<◌, ◌≤◌, ◌++◌, [], ◌∷◌, length, map};
 ghost use Rattle.std.specs.Prelude.{option_map, slice_get, Some, None, IsSome, true, IfOk, OnErr, vec_len, vec_capacity};
 ghost use Rattle.log_model.specs.declared.verdict.Verdict.{Verdict as ModelVerdict};
 ghost use Rattle.log_model.specs.declared.verdict.Verdict.TheVariants.{Commit};

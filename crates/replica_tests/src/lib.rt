@@ -1,5 +1,4 @@
-//! Tests of replicas: on logs that the plain replayer replays too verdicts, comparisons and rows are the same, and what stands where
-//! memory is refused.
+//! Tests of replicas: on logs that the plain replayer replays too verdicts, comparisons and rows are the same.
 #![tactic(auto)]
 
 #[cfg(test)]

@@ -1,5 +1,4 @@
 mod drawn;
-mod growths;
 mod replayed;
 mod steps;
 mod stores;

@@ -1,4 +1,4 @@
-//! Tests of worlds: those that are drawn from seeds come to what the plain replayer says, and what stands where memory is refused.
+//! Tests of worlds: those that are drawn from seeds come to what the plain replayer says.
 #![tactic(auto)]
 
 #[cfg(test)]

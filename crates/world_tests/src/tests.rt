@@ -2,7 +2,6 @@ use sample_procedures::{ADD, COUNT, DELETE, NEXT, PUT, SKEW};
 
 mod drawn;
 mod events;
-mod growths;
 mod replayed;
 
 /// Replies the row at a key, and writes nothing.

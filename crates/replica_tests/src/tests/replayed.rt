@@ -328,19 +328,30 @@ fn is_varied(window: u32, outcome: &Outcome) -> bool {
         && (outcome.of(Kind::Stale) > 0 || window == 4_096)
 }
 
+/// Compares a log under a window, and adds how many items it has of each kind.
+fn compare(
+    rt: &impl Abort,
+    alloc: Global,
+    catalogue: &Catalogue,
+    window: u32,
+    all: &mut [u32; KINDS],
+) {
+    let outcome = outcome_of(rt, alloc, catalogue, window);
+    let counts = outcome.counts;
+    assert_eq!(rt; outcome.difference, None, "window {window}: {counts:?}");
+    assert!(rt; is_varied(window, &outcome), "window {window}: {counts:?}");
+    assert_eq!(rt; outcome.items(), ITEMS);
+    for (sum, count) in all.iter_mut().zip(counts) {
+        *sum = sum.wrapping_add(count);
+    }
+}
+
 #[test]
 fn replicas_come_to_what_the_plain_replay_says(rt: HostRuntime) {
     let catalogue = catalogue_of(rt.alloc(), &TABLES, &PROCEDURES).expect(&rt, "memory");
     let mut all = [0u32; KINDS];
     for window in [1, 7, 8, 9, 4_096] {
-        let outcome = outcome_of(&rt, rt.alloc(), &catalogue, window);
-        let counts = outcome.counts;
-        assert_eq!(rt; outcome.difference, None, "window {window}: {counts:?}");
-        assert!(rt; is_varied(window, &outcome), "window {window}: {counts:?}");
-        assert_eq!(rt; outcome.items(), ITEMS);
-        for (sum, count) in all.iter_mut().zip(counts) {
-            *sum = sum.wrapping_add(count);
-        }
+        compare(&rt, rt.alloc(), &catalogue, window, &mut all);
     }
     assert!(rt; all.iter().all(|count| *count > 100), "{all:?}");
 }

@@ -245,6 +245,18 @@ const NONE: Difference = Difference {
     procedures: false,
 };
 
+/// Whether a step has this verdict and count.
+fn takes(
+    rt: &impl Abort,
+    alloc: Global,
+    catalogue: &Catalogue,
+    checked: &mut CheckedReplica,
+    (case, verdict, compared): (EntryCase, Verdict, u64),
+) -> bool {
+    let entry = entry_of(alloc, catalogue.schema(), case).expect(rt, "memory");
+    comes_to(checked, &entry, verdict, compared)
+}
+
 /// The position of the first step with another verdict or count.
 fn wrong_step(
     rt: &impl Abort,
@@ -253,9 +265,8 @@ fn wrong_step(
     checked: &mut CheckedReplica,
     steps: &[(EntryCase, Verdict, u64)],
 ) -> Option<u32> {
-    for (case, verdict, compared) in steps {
-        let entry = entry_of(alloc, catalogue.schema(), *case).expect(rt, "memory");
-        if !comes_to(checked, &entry, *verdict, *compared) {
+    for step in steps {
+        if !takes(rt, alloc, catalogue, checked, *step) {
             return Some(checked.replica().position());
         }
     }

@@ -45,7 +45,40 @@ fn wrong_position(replica: &Replica, delivered: u32) -> Option<u32> {
     None
 }
 
+/// Delivers one more call, and looks where the replica reads otherwise then.
+fn differs(
+    rt: &impl Abort,
+    alloc: Global,
+    catalogue: &Catalogue,
+    checked: &mut CheckedReplica,
+    delivered: u32,
+) -> Option<u32> {
+    let byte = u8::try_from(delivered).ok();
+    let put = EntryCase::Call(delivered.saturating_sub(1), 9, 9, 1, byte);
+    let entry = entry_of(alloc, catalogue.schema(), put).expect(rt, "memory");
+    let told = checked.deliver(&entry);
+    if matches!(told, Some(Ok(_))) {
+        wrong_position(checked.replica(), delivered)
+    } else {
+        Some(0)
+    }
+}
+
 /// After how many calls, and where, a replica first reads otherwise.
+fn difference_in(
+    rt: &impl Abort,
+    alloc: Global,
+    catalogue: &Catalogue,
+    checked: &mut CheckedReplica,
+) -> Option<(u32, u32)> {
+    for delivered in 1..=30u32 {
+        if let Some(position) = differs(rt, alloc, catalogue, checked, delivered) {
+            return Some((delivered, position));
+        }
+    }
+    None
+}
+
 fn difference_of(
     rt: &impl Abort,
     alloc: Global,
@@ -53,16 +86,7 @@ fn difference_of(
     window: u32,
 ) -> Option<(u32, u32)> {
     let mut checked = CheckedReplica::new(alloc, window, catalogue).expect(rt, "memory");
-    for delivered in 1..=30u32 {
-        let put = EntryCase::Call(delivered.saturating_sub(1), 9, 9, 1, Some(delivered as u8));
-        let entry = entry_of(alloc, catalogue.schema(), put).expect(rt, "memory");
-        let told = checked.deliver(&entry);
-        let wrong = wrong_position(checked.replica(), delivered);
-        if !matches!(told, Some(Ok(_))) || wrong.is_some() {
-            return Some((delivered, wrong.unwrap_or(0)));
-        }
-    }
-    None
+    difference_in(rt, alloc, catalogue, &mut checked)
 }
 
 #[test]

@@ -77,7 +77,8 @@ const INDEX: &str = "7912000000000000 25020300f8000000 0f21000000000000 79100000
 const INDEX_TOO_FAR: &str = "7912000000000000 25020300f9000000 0f21000000000000 7910000000000000 \
     9500000000000000 b700000000000000 9500000000000000";
 
-static CASES: [Case; 57] = [
+/// Adds and puts.
+static PUTS: [Case; 12] = [
     Case {
         program: "b700000001000000 9500000000000000",
         args: &[],
@@ -152,6 +153,10 @@ static CASES: [Case; 57] = [
         rows: &[(1, 7, 1)],
         outcome: "0 in 8 put 1:7=0200000000000000 row 1:7=0200000000000000",
     },
+];
+
+/// Counts and nexts over a range, and removals.
+static RANGES: [Case; 9] = [
     // An empty range looks at nothing.
     Case {
         program: COUNT,
@@ -215,6 +220,10 @@ static CASES: [Case; 57] = [
         rows: &[(1, 8, 1), (1, 9, 2)],
         outcome: "0 in 4 remove 1:9 row 1:8=0100000000000000",
     },
+];
+
+/// Calls that cancel, or are stuck.
+static CANCELS: [Case; 6] = [
     // A call that cancelled has no writes, and the rows stay as they were.
     Case {
         program: PUT_AND_CANCEL,
@@ -254,6 +263,22 @@ static CASES: [Case; 57] = [
         rows: &[],
         outcome: "0 in 5 cancelled 2",
     },
+    // After a cancel a get still reads what was put and is no look, and a later put is dropped too.
+    Case {
+        program: "7a0af8ff03000000 b702000005000000 bfa3000000000000 07030000f8ffffff \
+            b701000001000000 8500000002000000 b701000009000000 8500000006000000 \
+            b702000005000000 bfa3000000000000 07030000f0ffffff b701000001000000 \
+            8500000001000000 79a8f0ff00000000 7a0af8ff04000000 b702000006000000 \
+            bfa3000000000000 07030000f8ffffff b701000001000000 8500000002000000 \
+            bf80000000000000 9500000000000000",
+        args: &[],
+        rows: &[(1, 5, 1)],
+        outcome: "3 in 22 cancelled 9 row 1:5=0100000000000000",
+    },
+];
+
+/// What a run sees of its own writes.
+static OWN_WRITES: [Case; 11] = [
     // A get of a key that was put or removed before is no look.
     Case {
         program: "7a0af8ff03000000 b702000005000000 bfa3000000000000 07030000f8ffffff \
@@ -329,6 +354,38 @@ static CASES: [Case; 57] = [
         rows: &[(1, 9, 1), (1, 12, 1)],
         outcome: "1 in 9 look 1:10-12 row 1:9=0100000000000000 row 1:12=0100000000000000",
     },
+    // A next finds a row that the run put, and none that it removed. Key and row are added.
+    Case {
+        program: "7a0af8ff03000000 b70200000c000000 bfa3000000000000 07030000f8ffffff \
+            b701000001000000 8500000002000000 b70200000a000000 b703000014000000 \
+            bfa4000000000000 07040000f0ffffff bfa5000000000000 07050000e8ffffff \
+            b701000001000000 8500000005000000 79a0f0ff00000000 79a6e8ff00000000 \
+            0f60000000000000 9500000000000000",
+        args: &[],
+        rows: &[(1, 13, 9)],
+        outcome: "15 in 18 look 1:10-12 put 1:12=0300000000000000 row 1:12=0300000000000000 row 1:13=0900000000000000",
+    },
+    Case {
+        program: "b70200000c000000 b701000001000000 8500000003000000 b70200000a000000 \
+            b703000014000000 bfa4000000000000 07040000f0ffffff bfa5000000000000 \
+            07050000e8ffffff b701000001000000 8500000005000000 79a0f0ff00000000 \
+            79a6e8ff00000000 0f60000000000000 9500000000000000",
+        args: &[],
+        rows: &[(1, 12, 1), (1, 13, 9)],
+        outcome: "22 in 15 look 1:10-13 remove 1:12 row 1:13=0900000000000000",
+    },
+    // A count leaves out what the run removed, and looks there.
+    Case {
+        program: "b702000005000000 b701000001000000 8500000003000000 b702000001000000 \
+            b703000009000000 b701000001000000 8500000004000000 9500000000000000",
+        args: &[],
+        rows: &[(1, 5, 1), (1, 6, 1)],
+        outcome: "1 in 8 look 1:1-9 remove 1:5 row 1:6=0100000000000000",
+    },
+];
+
+/// Jumps, and loads at a place that isn't fixed.
+static JUMPS: [Case; 5] = [
     // A jump over the reading of a register that holds nothing, and one that isn't taken.
     Case {
         program: "b700000001000000 1500010001000000 bf60000000000000 9500000000000000",
@@ -364,6 +421,10 @@ static CASES: [Case; 57] = [
         rows: &[],
         outcome: "1 in 3",
     },
+];
+
+/// More than one table.
+static TABLE_CASES: [Case; 14] = [
     // Rows are taken in any order, and the last at a key stands.
     Case {
         program: "b700000000000000 9500000000000000",
@@ -466,46 +527,6 @@ static CASES: [Case; 57] = [
         args: &[],
         rows: &[(9, 3, 4)],
         outcome: "stuck",
-    },
-    // After a cancel a get still reads what was put and is no look, and a later put is dropped too.
-    Case {
-        program: "7a0af8ff03000000 b702000005000000 bfa3000000000000 07030000f8ffffff \
-            b701000001000000 8500000002000000 b701000009000000 8500000006000000 \
-            b702000005000000 bfa3000000000000 07030000f0ffffff b701000001000000 \
-            8500000001000000 79a8f0ff00000000 7a0af8ff04000000 b702000006000000 \
-            bfa3000000000000 07030000f8ffffff b701000001000000 8500000002000000 \
-            bf80000000000000 9500000000000000",
-        args: &[],
-        rows: &[(1, 5, 1)],
-        outcome: "3 in 22 cancelled 9 row 1:5=0100000000000000",
-    },
-    // A next finds a row that the run put, and none that it removed. Key and row are added.
-    Case {
-        program: "7a0af8ff03000000 b70200000c000000 bfa3000000000000 07030000f8ffffff \
-            b701000001000000 8500000002000000 b70200000a000000 b703000014000000 \
-            bfa4000000000000 07040000f0ffffff bfa5000000000000 07050000e8ffffff \
-            b701000001000000 8500000005000000 79a0f0ff00000000 79a6e8ff00000000 \
-            0f60000000000000 9500000000000000",
-        args: &[],
-        rows: &[(1, 13, 9)],
-        outcome: "15 in 18 look 1:10-12 put 1:12=0300000000000000 row 1:12=0300000000000000 row 1:13=0900000000000000",
-    },
-    Case {
-        program: "b70200000c000000 b701000001000000 8500000003000000 b70200000a000000 \
-            b703000014000000 bfa4000000000000 07040000f0ffffff bfa5000000000000 \
-            07050000e8ffffff b701000001000000 8500000005000000 79a0f0ff00000000 \
-            79a6e8ff00000000 0f60000000000000 9500000000000000",
-        args: &[],
-        rows: &[(1, 12, 1), (1, 13, 9)],
-        outcome: "22 in 15 look 1:10-13 remove 1:12 row 1:13=0900000000000000",
-    },
-    // A count leaves out what the run removed, and looks there.
-    Case {
-        program: "b702000005000000 b701000001000000 8500000003000000 b702000001000000 \
-            b703000009000000 b701000001000000 8500000004000000 9500000000000000",
-        args: &[],
-        rows: &[(1, 5, 1), (1, 6, 1)],
-        outcome: "1 in 8 look 1:1-9 remove 1:5 row 1:6=0100000000000000",
     },
 ];
 
@@ -616,8 +637,17 @@ fn comes_to(rt: &impl Abort, alloc: Global, case: &Case) {
 
 #[test]
 fn programs_do_what_they_are_to_do(rt: HostRuntime) {
-    for case in &CASES {
-        comes_to(&rt, rt.alloc(), case);
+    for cases in [
+        &PUTS[..],
+        &RANGES,
+        &CANCELS,
+        &OWN_WRITES,
+        &JUMPS,
+        &TABLE_CASES,
+    ] {
+        for case in cases {
+            comes_to(&rt, rt.alloc(), case);
+        }
     }
 }
 

@@ -278,20 +278,29 @@ fn replay_of(rt: &impl Abort, alloc: Global, drawn: &DrawnWorld<'_>) -> Complete
     replay_log(alloc, &setting, short(&log)).expect(rt, "memory")
 }
 
-/// Where a world isn't what the replay of its log says, before and after its replicas are brought to the end.
-fn find_difference(rt: &impl Abort, alloc: Global, drawn: &mut DrawnWorld<'_>) -> Difference {
-    let replay = replay_of(rt, alloc, drawn);
-    if !have_rows(rt, alloc, drawn, &replay) {
+/// Where a world isn't what this replay of its log says, before and after its replicas are brought to the end.
+fn difference_to(
+    rt: &impl Abort,
+    alloc: Global,
+    drawn: &mut DrawnWorld<'_>,
+    replay: &CompletedReplay,
+) -> Difference {
+    if !have_rows(rt, alloc, drawn, replay) {
         return Difference::Rows;
     }
     drawn.finish(rt);
-    if !have_rows(rt, alloc, drawn, &replay) {
+    if !have_rows(rt, alloc, drawn, replay) {
         return Difference::LastRows;
     }
     let mut events = drawn.history.events;
     events.count_all(&drawn.history, drawn.window, replay.reports());
     drawn.history.events = events;
-    difference_of_answers(drawn, &replay)
+    difference_of_answers(drawn, replay)
+}
+
+fn find_difference(rt: &impl Abort, alloc: Global, drawn: &mut DrawnWorld<'_>) -> Difference {
+    let replay = replay_of(rt, alloc, drawn);
+    difference_to(rt, alloc, drawn, &replay)
 }
 
 /// Takes the steps of a drawn world, and compares it.

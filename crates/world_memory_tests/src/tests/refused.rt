@@ -350,9 +350,14 @@ static CASES: [Case; 10] = [
 ];
 
 /// What the step of a case answers where the growth of this number is refused, and what is answered then.
-fn answers(rt: &impl Abort, alloc: Global, case: &Case, growth: u64) -> (Outcome, Outcome) {
-    let scarce = Scarce::new(alloc);
-    let mut world = two_replicas(rt, &scarce);
+fn answers_in(
+    rt: &impl Abort,
+    alloc: Global,
+    scarce: &Scarce,
+    world: &mut World<&Scarce>,
+    case: &Case,
+    growth: u64,
+) -> (Outcome, Outcome) {
     for step in &steps_of(rt, alloc, case.before) {
         let _ = world.step(*step);
     }
@@ -360,6 +365,13 @@ fn answers(rt: &impl Abort, alloc: Global, case: &Case, growth: u64) -> (Outcome
     let answer = world.step(case.step);
     scarce.refuse_nth(0);
     (answer, world.step(case.next))
+}
+
+/// The same in a world of its own.
+fn answers(rt: &impl Abort, alloc: Global, case: &Case, growth: u64) -> (Outcome, Outcome) {
+    let scarce = Scarce::new(alloc);
+    let mut world = two_replicas(rt, &scarce);
+    answers_in(rt, alloc, &scarce, &mut world, case, growth)
 }
 
 #[test]
@@ -394,10 +406,7 @@ static BEGINNINGS: [(u32, u16, &[u8], u32, u32, StepRefusal); 5] = [
     (1, 1, &ADD_TEN, 1, 0, StepRefusal::ZeroInRequest),
 ];
 
-#[test]
-fn the_lowest_refusal_is_given(rt: HostRuntime) {
-    let scarce = Scarce::new(rt.alloc());
-    let mut world = two_replicas(&rt, &scarce);
+fn refuse_beginnings(rt: &impl Abort, world: &mut World<&Scarce>) {
     for (replica, procedure, args, session, sequence, refusal) in &BEGINNINGS {
         let told = world.step(Step::BeginNumbered {
             replica: *replica,
@@ -406,9 +415,12 @@ fn the_lowest_refusal_is_given(rt: HostRuntime) {
             session: *session,
             sequence: *sequence,
         });
-        same(&rt, "beginning", told, Outcome::Refused(*refusal));
+        same(rt, "beginning", told, Outcome::Refused(*refusal));
     }
-    // Neither its program nor its name would do.
+}
+
+/// Neither its program nor its name would do.
+fn refuse_an_addition(rt: &impl Abort, world: &mut World<&Scarce>) {
     let long = world.step(Step::Add {
         name: b"a-b",
         number: 7,
@@ -416,9 +428,17 @@ fn the_lowest_refusal_is_given(rt: HostRuntime) {
         bytes: &NOTHING,
     });
     same(
-        &rt,
+        rt,
         "addition",
         long,
         Outcome::Refused(StepRefusal::ArgumentsLimit),
     );
+}
+
+#[test]
+fn the_lowest_refusal_is_given(rt: HostRuntime) {
+    let scarce = Scarce::new(rt.alloc());
+    let mut world = two_replicas(&rt, &scarce);
+    refuse_beginnings(&rt, &mut world);
+    refuse_an_addition(&rt, &mut world);
 }

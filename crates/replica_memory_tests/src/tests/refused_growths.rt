@@ -236,9 +236,9 @@ fn attempt(
     is_delivered(alloc, &scarce, &mut checked, entries, case, refused)
 }
 
-/// How many growths were refused, each in turn, before the last entry was delivered; none where something isn't as the case
-/// says.
-fn refused_of(
+/// How many growths were refused, each in turn, before the last of these entries was delivered; none where something isn't
+/// as the case says.
+fn refused_among(
     rt: &impl Abort,
     alloc: Global,
     catalogue: &Catalogue,
@@ -255,14 +255,21 @@ fn refused_of(
     None
 }
 
+fn refused_of(
+    rt: &impl Abort,
+    alloc: Global,
+    catalogue: &Catalogue,
+    case: &RefusedCase,
+) -> Option<u64> {
+    let entries = entries_of(alloc, catalogue.schema(), case.entries).expect(rt, "memory");
+    refused_among(rt, alloc, catalogue, &entries, case)
+}
+
 #[test]
 fn a_refused_growth_stops_the_replica(rt: HostRuntime) {
     let catalogue = small_catalogue(rt.alloc()).expect(&rt, "memory");
     for case in &CASES {
-        let entries = entries_of(rt.alloc(), catalogue.schema(), case.entries).expect(
-            &rt, "memory",
-        );
-        let refused = refused_of(&rt, rt.alloc(), &catalogue, &entries, case);
+        let refused = refused_of(&rt, rt.alloc(), &catalogue, case);
         assert_eq!(rt; refused, Some(case.growths));
     }
 }
@@ -303,17 +310,19 @@ fn add_turn(
     let second = EntryCase::Call(before, 99, 99, key.wrapping_add(1), Some(1));
     let number = u16::try_from(before).unwrap_or(0);
     let name = [b'a'.wrapping_add((number / 3).to_le_bytes()[0])];
-    entries
-        .push(entry_of(alloc, schema, first).expect(rt, "memory"))
-        .expect(rt, "memory");
-    entries
-        .push(entry_of(alloc, schema, second).expect(rt, "memory"))
-        .expect(rt, "memory");
-    entries
-        .push(addition_of(alloc, schema, &name, number.wrapping_add(100), ONE, 0).expect(
-            rt, "memory",
-        ))
-        .expect(rt, "memory");
+    push(rt, entries, entry_of(alloc, schema, first));
+    push(rt, entries, entry_of(alloc, schema, second));
+    let number = number.wrapping_add(100);
+    push(
+        rt,
+        entries,
+        addition_of(alloc, schema, &name, number, ONE, 0),
+    );
+}
+
+fn push(rt: &impl Abort, entries: &mut Vec<Entry>, entry: Option<Entry>) {
+    let entry = entry.expect(rt, "memory");
+    entries.push(entry).expect(rt, "memory");
 }
 
 /// How many growths each of these deliveries makes; none where one doesn't commit.
@@ -337,11 +346,12 @@ fn growths_of(
     rt: &impl Abort,
     alloc: Global,
     catalogue: &Catalogue,
-    entries: &[Entry],
+    session: u32,
 ) -> Option<[u64; 48]> {
+    let entries = probing_entries(rt, alloc, catalogue.schema(), session);
     let scarce = Scarce::new(alloc);
     let mut checked = CheckedReplica::new(&scarce, 4, catalogue).expect(rt, "memory");
-    growths_in(&scarce, &mut checked, entries)
+    growths_in(&scarce, &mut checked, &entries)
 }
 
 /// Growths of the first of each three together, and whether the others are as many.
@@ -362,10 +372,8 @@ fn compared(with: [u64; 48], without: [u64; 48]) -> (u64, u64, bool) {
 #[test]
 fn kept_requests_cost_other_entries_no_growth(rt: HostRuntime) {
     let catalogue = small_catalogue(rt.alloc()).expect(&rt, "memory");
-    let numbered = probing_entries(&rt, rt.alloc(), catalogue.schema(), 7);
-    let with = growths_of(&rt, rt.alloc(), &catalogue, &numbered);
-    let unnumbered = probing_entries(&rt, rt.alloc(), catalogue.schema(), 0);
-    let without = growths_of(&rt, rt.alloc(), &catalogue, &unnumbered);
+    let with = growths_of(&rt, rt.alloc(), &catalogue, 7);
+    let without = growths_of(&rt, rt.alloc(), &catalogue, 0);
     assert!(rt; with.is_some() && without.is_some());
     let (first, second, same) = compared(with.unwrap_or([0; 48]), without.unwrap_or([0; 48]));
     assert!(rt; same && first > second, "{first}, {second}");

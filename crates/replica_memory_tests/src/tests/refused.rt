@@ -256,27 +256,32 @@ fn refuse_listing<A: Allocator + Copy>(
 }
 
 /// Of a rebuilding and of a list of the rows, how many growths were refused, and whether the replica was each time as before.
-fn refuse_each(
-    rt: &impl Abort,
+fn refuse_each<A: Allocator + Copy>(
     alloc: Global,
-    catalogue: &Catalogue,
+    scarce: &Scarce,
+    checked: &mut CheckedReplica<A, Global>,
     entries: &[Entry],
 ) -> [(u64, bool); 2] {
-    let scarce = Scarce::new(alloc);
-    let mut checked = CheckedReplica::new(&scarce, 2, catalogue).expect(rt, "memory");
-    if stop(&scarce, &mut checked, entries) != Some(true) {
+    if stop(scarce, checked, entries) != Some(true) {
         return [(0, false), (0, false)];
     }
-    let rebuilding = refuse_rebuilding(alloc, &scarce, &mut checked, entries);
-    let listing = refuse_listing(alloc, &scarce, checked.replica());
+    let rebuilding = refuse_rebuilding(alloc, scarce, checked, entries);
+    let listing = refuse_listing(alloc, scarce, checked.replica());
     [rebuilding, listing]
+}
+
+/// The same of a replica of its own.
+fn refuse_in_turn(rt: &impl Abort, alloc: Global, catalogue: &Catalogue) -> [(u64, bool); 2] {
+    let entries = entries_of(alloc, catalogue.schema(), &DELIVERIES).expect(rt, "memory");
+    let scarce = Scarce::new(alloc);
+    let mut checked = CheckedReplica::new(&scarce, 2, catalogue).expect(rt, "memory");
+    refuse_each(alloc, &scarce, &mut checked, &entries)
 }
 
 #[test]
 fn a_refused_growth_leaves_the_replica_as_it_was(rt: HostRuntime) {
     let catalogue = small_catalogue(rt.alloc()).expect(&rt, "memory");
-    let entries = entries_of(rt.alloc(), catalogue.schema(), &DELIVERIES).expect(&rt, "memory");
-    let [rebuilding, listing] = refuse_each(&rt, rt.alloc(), &catalogue, &entries);
+    let [rebuilding, listing] = refuse_in_turn(&rt, rt.alloc(), &catalogue);
     assert!(rt;
         rebuilding.0 > 10 && rebuilding.0 < MOST && rebuilding.1,
         "{rebuilding:?}"

@@ -1,0 +1,80 @@
+//! The pages of a table, and versions for which there is no memory.
+
+use checked_replica::CheckedVersions;
+use row_sets::WriteSet;
+use rows_mv::Versions;
+use sample_procedures::TABLES;
+use scarce::Scarce;
+use schema::Schema;
+use std::alloc::{Allocator, Global};
+use std::process::Abort;
+
+/// A put of a key's own number.
+fn put_of(rt: &impl Abort, alloc: Global, key: u64) -> WriteSet {
+    let mut writes = WriteSet::new(alloc);
+    writes.put(1, key, &key.to_le_bytes()).expect(rt, "memory");
+    writes
+}
+
+fn removal_of(rt: &impl Abort, alloc: Global, key: u64) -> WriteSet {
+    let mut writes = WriteSet::new(alloc);
+    writes.remove(1, key).expect(rt, "memory");
+    writes
+}
+
+/// How many pages table 1 has once so many keys were put in rising order (counted by hand: a page of 64 keys is split
+/// into 32 and 32 by the next, which goes into the upper one).
+const PAGES: [(u64, usize); 7] = [
+    (1, 1),
+    (64, 1),
+    (65, 2),
+    (96, 2),
+    (97, 3),
+    (128, 3),
+    (1_000, 31),
+];
+
+fn install(rt: &impl Abort, checked: &mut CheckedVersions, position: u32, writes: &WriteSet) {
+    let installed = checked.install(position, writes).expect(rt, "memory");
+    assert!(rt; installed);
+}
+
+/// Puts the keys from 1 to 1,000 in turn: how many of the rows of `PAGES` were seen.
+fn put_all(rt: &impl Abort, alloc: Global, checked: &mut CheckedVersions) -> usize {
+    let mut seen = 0usize;
+    for key in 1..=1_000u64 {
+        install(rt, checked, key as u32, &put_of(rt, alloc, key));
+        for (keys, pages) in &PAGES {
+            if *keys == key {
+                assert_eq!(rt; checked.versions().pages(1), *pages, "{key} keys");
+                seen = seen.wrapping_add(1);
+            }
+        }
+    }
+    seen
+}
+
+fn remove_all(rt: &impl Abort, alloc: Global, checked: &mut CheckedVersions) {
+    for key in 1..=1_000u64 {
+        install(rt, checked, 1_001, &removal_of(rt, alloc, key));
+    }
+}
+
+/// How many pages are left where a position is the oldest that is kept.
+fn pages_from(checked: &mut CheckedVersions, position: u32) -> usize {
+    checked.prune(position);
+    checked.versions().pages(1)
+}
+
+#[test]
+fn pages_are_split_when_they_are_full(rt: HostRuntime) {
+    let schema = Schema::new(rt.alloc(), &TABLES).expect(&rt, "memory");
+    let mut checked = CheckedVersions::new(rt.alloc(), &schema).expect(&rt, "memory");
+    let seen = put_all(&rt, rt.alloc(), &mut checked);
+    remove_all(&rt, rt.alloc(), &mut checked);
+    let left = [
+        pages_from(&mut checked, 1_000),
+        pages_from(&mut checked, 1_001),
+    ];
+    assert_eq!(rt; (seen, left), (PAGES.len(), [31, 0]));
+}
