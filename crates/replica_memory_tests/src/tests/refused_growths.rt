@@ -5,21 +5,13 @@ use catalogue::Catalogue;
 use checked_replica::CheckedReplica;
 use log_entry::Entry;
 use log_model::{Identifier, Verdict};
-use replica::{Replica, Stopped};
+use replica::Stopped;
 use sample_entries::{EntryCase, addition_of, entries_of, entry_of, small_catalogue};
 use sample_procedures::ONE;
 use scarce::Scarce;
 use schema::Schema;
 use std::alloc::{Allocator, Global};
 use std::process::Abort;
-
-#[test]
-fn a_refused_growth_makes_no_replica(rt: HostRuntime) {
-    let catalogue = small_catalogue(rt.alloc()).expect(&rt, "memory");
-    let scarce = Scarce::new(rt.alloc());
-    let failed = scarce.refuse_each(|| Replica::new(&scarce, 2, &catalogue).is_ok());
-    assert!(rt; matches!(failed, Some(count) if count > 0));
-}
 
 /// Entries, of which the last is delivered with a growth refused, and how many growths that has: six make room for the
 /// keys and rows of a write where there are none, four for requests or procedures where there is none, one for a name, and
@@ -194,62 +186,101 @@ fn stays_stopped<A: Allocator + Copy>(
     left && again && same && rebuilt && is_in(alloc, checked.replica(), &case.after, false)
 }
 
-/// Delivers entries, the last with the growth of this number refused: whether it was delivered; none where something isn't
-/// as the case says.
-fn is_delivered<A: Allocator + Copy>(
+/// What came of a replica of a case.
+#[derive(Clone, Copy, PartialEq, Eq)]
+enum Came {
+    /// It wasn't made, for want of memory.
+    Unmade,
+    /// The last entry found no memory.
+    Refused,
+    Delivered,
+    /// Something isn't as the case says.
+    Unlike,
+}
+
+/// Delivers entries, the last with the growth of this number refused.
+fn came_of<A: Allocator + Copy>(
     alloc: Global,
     scarce: &Scarce,
     checked: &mut CheckedReplica<A, Global>,
     entries: &[Entry],
     case: &RefusedCase,
     refused: u64,
-) -> Option<bool> {
-    let (last, before) = entries.split_last()?;
+) -> Came {
+    let Some((last, before)) = entries.split_last() else {
+        return Came::Unlike;
+    };
     for entry in before {
         let _told = checked.deliver(entry);
     }
     let begun = is_in(alloc, checked.replica(), &case.before, false);
     scarce.refuse_nth(refused);
-    let told = checked.deliver(last)?;
+    let told = checked.deliver(last);
     scarce.refuse_nth(0);
-    let same = match told {
-        Ok(_) => is_in(alloc, checked.replica(), &case.after, false),
-        Err(_) => stays_stopped(alloc, checked, entries, last, case),
+    let (came, same) = match told {
+        Some(Ok(_)) => (
+            Came::Delivered,
+            is_in(alloc, checked.replica(), &case.after, false),
+        ),
+        Some(Err(_)) => (
+            Came::Refused,
+            stays_stopped(alloc, checked, entries, last, case),
+        ),
+        None => (Came::Unlike, false),
     };
-    if begun && same {
-        Some(told.is_ok())
-    } else {
-        None
-    }
+    if begun && same { came } else { Came::Unlike }
 }
 
+/// Which growth is refused: of a replica that is made, or of the last delivery.
+#[derive(Clone, Copy)]
+enum Growth {
+    Making(u64),
+    Delivering(u64),
+}
+
+/// Makes a replica and delivers the entries of a case with a growth refused. One function owns the replica in all tests, since
+/// each that does takes long to be proved.
 fn attempt(
-    rt: &impl Abort,
     alloc: Global,
     catalogue: &Catalogue,
     entries: &[Entry],
     case: &RefusedCase,
-    refused: u64,
-) -> Option<bool> {
+    growth: Growth,
+) -> Came {
+    let (making, delivering) = match growth {
+        Growth::Making(number) => (number, 0),
+        Growth::Delivering(number) => (0, number),
+    };
     let scarce = Scarce::new(alloc);
-    let mut checked = CheckedReplica::new(&scarce, 2, catalogue).expect(rt, "memory");
-    is_delivered(alloc, &scarce, &mut checked, entries, case, refused)
+    scarce.refuse_nth(making);
+    let Ok(mut checked) = CheckedReplica::new(&scarce, 2, catalogue) else {
+        return Came::Unmade;
+    };
+    scarce.refuse_nth(0);
+    came_of(alloc, &scarce, &mut checked, entries, case, delivering)
 }
 
-/// How many growths were refused, each in turn, before the last of these entries was delivered; none where something isn't
+/// How many growths of this kind were refused, each in turn with this outcome, before all went well; none where something isn't
 /// as the case says.
 fn refused_among(
-    rt: &impl Abort,
     alloc: Global,
     catalogue: &Catalogue,
     entries: &[Entry],
     case: &RefusedCase,
+    outcome: Came,
 ) -> Option<u64> {
-    for growth in 1..100u64 {
-        match attempt(rt, alloc, catalogue, entries, case, growth) {
-            Some(false) => (),
-            Some(true) => return Some(growth - 1),
-            None => return None,
+    for number in 1..100u64 {
+        let growth = if outcome == Came::Unmade {
+            Growth::Making(number)
+        } else {
+            Growth::Delivering(number)
+        };
+        let came = attempt(alloc, catalogue, entries, case, growth);
+        if came == Came::Delivered {
+            return Some(number - 1);
+        }
+        if came != outcome {
+            return None;
         }
     }
     None
@@ -260,17 +291,20 @@ fn refused_of(
     alloc: Global,
     catalogue: &Catalogue,
     case: &RefusedCase,
+    outcome: Came,
 ) -> Option<u64> {
     let entries = entries_of(alloc, catalogue.schema(), case.entries).expect(rt, "memory");
-    refused_among(rt, alloc, catalogue, &entries, case)
+    refused_among(alloc, catalogue, &entries, case, outcome)
 }
 
 #[test]
 fn a_refused_growth_stops_the_replica(rt: HostRuntime) {
     let catalogue = small_catalogue(rt.alloc()).expect(&rt, "memory");
     for case in &CASES {
-        let refused = refused_of(&rt, rt.alloc(), &catalogue, case);
+        let refused = refused_of(&rt, rt.alloc(), &catalogue, case, Came::Refused);
         assert_eq!(rt; refused, Some(case.growths));
+        let unmade = refused_of(&rt, rt.alloc(), &catalogue, case, Came::Unmade);
+        assert!(rt; unmade.is_some_and(|count| count > 0));
     }
 }
 

@@ -2,6 +2,7 @@
 
 use log_model::Verdict;
 use replica::Replica;
+use row_values::Row;
 use sample_entries::{byte_at, certification_at};
 use std::alloc::{Allocator, Global};
 
@@ -17,17 +18,23 @@ pub(super) struct State {
     pub one: Option<u16>,
 }
 
+fn counted(rows: &[Row]) -> (usize, u64) {
+    let mut sum = 0u64;
+    for row in rows {
+        let byte = row.bytes().first().copied().unwrap_or(0);
+        sum = sum.wrapping_add(row.key().wrapping_mul(u64::from(byte)));
+    }
+    (rows.len(), sum)
+}
+
 fn listed_now<A: Allocator + Copy>(
     alloc: Global,
     replica: &Replica<A, Global>,
 ) -> Option<(usize, u64)> {
-    let rows = replica.rows(alloc).ok()?;
-    let mut sum = 0u64;
-    for row in &rows {
-        let byte = row.bytes().first().copied().unwrap_or(0);
-        sum = sum.wrapping_add(row.key().wrapping_mul(u64::from(byte)));
+    match replica.rows(alloc) {
+        Ok(rows) => Some(counted(&rows)),
+        Err(_) => None,
     }
-    Some((rows.len(), sum))
 }
 
 /// Whether these became of the entries, and there are no more.

@@ -177,9 +177,18 @@ fn are_rows(found: &[Row], rows: &[Row]) -> bool {
     found.len() == rows.len()
 }
 
+fn finds<S: Store>(store: &S, row: &Row) -> bool {
+    store.get(row.table(), row.key()) == Ok(Some(row.bytes()))
+}
+
 /// Whether each of these rows is found.
 fn finds_rows<S: Store>(store: &S, rows: &[Row]) -> bool {
-    rows.iter().all(|row| store.get(row.table(), row.key()) == Ok(Some(row.bytes())))
+    for row in rows {
+        if !finds(store, row) {
+            return false;
+        }
+    }
+    true
 }
 
 /// Whether a replica that has come to a position shows the rows of the replay after one before it, and none after one to
@@ -325,17 +334,20 @@ fn compare(
     found
 }
 
+/// How many kinds of outcomes came more than 100 times.
+fn common(kinds: &[u32; KINDS]) -> usize {
+    kinds.iter().filter(|count| **count > 100).count()
+}
+
 #[test]
 fn worlds_come_to_what_the_plain_replay_says(rt: HostRuntime) {
-    let alloc = rt.alloc();
     let mut kinds = [0; KINDS];
     let mut events = Events::new();
     for seed in 0..WORLDS {
-        let found = compare(&rt, alloc, seed, &mut kinds, &mut events);
+        let found = compare(&rt, rt.alloc(), seed, &mut kinds, &mut events);
         assert_eq!(rt; found, Difference::None, "seed {seed}");
     }
-    let common = kinds.iter().filter(|count| **count > 100).count();
     // All but a full log and too many calls.
-    assert_eq!(rt; common, KINDS - 2, "{kinds:?}");
+    assert_eq!(rt; common(&kinds), KINDS - 2, "{kinds:?}");
     assert!(rt; events.all_above(50), "{events:?}");
 }
