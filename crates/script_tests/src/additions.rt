@@ -3,7 +3,7 @@
 use crate::stories::Story;
 
 /// A procedure is added and called, where it was delivered; its name and its number are taken from then on.
-pub(crate) const ADDED: Story = Story {
+pub(crate) static ADDED: Story = Story {
     lines: &[
         "window 4",
         "replicas 2",
@@ -55,7 +55,7 @@ pub(crate) const ADDED: Story = Story {
 };
 
 /// What isn't added leaves the log as it was; settings don't stand behind an addition.
-const NOT_ADDED: Story = Story {
+static NOT_ADDED: Story = Story {
     lines: &[
         "window 4",
         "replicas 2",
@@ -76,4 +76,7 @@ const NOT_ADDED: Story = Story {
     fault: "line 8: L5",
 };
 
-pub(crate) const ADDITIONS: [Story; 2] = [ADDED, NOT_ADDED];
+/// Those of additions.
+pub(crate) fn of_additions() -> [&'static Story; 2] {
+    [&ADDED, &NOT_ADDED]
+}

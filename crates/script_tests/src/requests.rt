@@ -3,7 +3,7 @@
 use crate::stories::{ADD_LINE, PUT_LINE, Story};
 
 /// A call that was sent twice commits once.
-pub(crate) const SENT_TWICE: Story = Story {
+pub(crate) static SENT_TWICE: Story = Story {
     lines: &[
         "window 4",
         "replicas 2",
@@ -48,7 +48,7 @@ pub(crate) const SENT_TWICE: Story = Story {
 };
 
 /// A copy that is past the window is still known.
-const SENT_AGAIN_LATE: Story = Story {
+static SENT_AGAIN_LATE: Story = Story {
     lines: &[
         "window 1",
         "replicas 1",
@@ -91,7 +91,7 @@ const SENT_AGAIN_LATE: Story = Story {
 };
 
 /// The reply that is told is the first call's, whatever the second called and replied.
-const TOLD_AGAIN: Story = Story {
+static TOLD_AGAIN: Story = Story {
     lines: &[
         "window 4",
         "replicas 1",
@@ -139,7 +139,7 @@ const CLAIM_LINE: &str = "proc claim 8 16 \
 
 /// A call that writes nothing when it is asked again is answered by what it reads; a request of a call that was refused may
 /// be used again.
-const ASKED_AGAIN: Story = Story {
+static ASKED_AGAIN: Story = Story {
     lines: &[
         "window 4",
         "replicas 1",
@@ -189,4 +189,7 @@ const ASKED_AGAIN: Story = Story {
     fault: "",
 };
 
-pub(crate) const REQUESTS: [Story; 4] = [SENT_TWICE, SENT_AGAIN_LATE, TOLD_AGAIN, ASKED_AGAIN];
+/// Those of requests.
+pub(crate) fn of_requests() -> [&'static Story; 4] {
+    [&SENT_TWICE, &SENT_AGAIN_LATE, &TOLD_AGAIN, &ASKED_AGAIN]
+}

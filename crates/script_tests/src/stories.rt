@@ -73,7 +73,7 @@ pub(crate) const ADD_ENTRY: &str =
     010a00000000000000";
 
 /// One increment, of which each line that acts prints a line.
-pub(crate) const INCREMENT: Story = Story {
+pub(crate) static INCREMENT: Story = Story {
     lines: &[
         "window 4",
         "replicas 1",
@@ -92,7 +92,7 @@ pub(crate) const INCREMENT: Story = Story {
 };
 
 /// A call that reads nothing and writes nothing.
-const READS: Story = Story {
+static READS: Story = Story {
     lines: &[
         "window 4",
         "replicas 1",
@@ -117,14 +117,14 @@ const READS: Story = Story {
 };
 
 /// A jump into a wide load is no program.
-pub(crate) const JUMPS_INTO_A_LOAD: Story = Story {
+pub(crate) static JUMPS_INTO_A_LOAD: Story = Story {
     lines: &["window 4", INTO_LOAD_LINE, "jump"],
     prints: &[],
     fault: "line 2: L7 B10 slot 0",
 };
 
 /// One to its first slot is.
-pub(crate) const JUMPS_TO_A_LOAD: Story = Story {
+pub(crate) static JUMPS_TO_A_LOAD: Story = Story {
     lines: &[
         "window 4",
         "replicas 8",
@@ -144,28 +144,28 @@ pub(crate) const JUMPS_TO_A_LOAD: Story = Story {
 };
 
 /// A register that may hold either of two kinds can't be read.
-pub(crate) const JOINS: Story = Story {
+pub(crate) static JOINS: Story = Story {
     lines: &[JOINED_LINE],
     prints: &[],
     fault: "line 1: L7 V1 slot 4",
 };
 
 /// Each place inside the arguments may be read.
-pub(crate) const INDEXES: Story = Story {
+pub(crate) static INDEXES: Story = Story {
     lines: &[INDEX_LINE],
     prints: &[],
     fault: "",
 };
 
 /// And none beyond.
-pub(crate) const INDEXES_PAST_THE_END: Story = Story {
+pub(crate) static INDEXES_PAST_THE_END: Story = Story {
     lines: &[INDEX_PAST_LINE],
     prints: &[],
     fault: "line 1: L7 V4 slot 3",
 };
 
 /// Two increments of one row; the second commits when it is called again.
-pub(crate) const TWO_INCREMENTS: Story = Story {
+pub(crate) static TWO_INCREMENTS: Story = Story {
     lines: &[
         "window 4",
         "replicas 2",
@@ -213,7 +213,7 @@ pub(crate) const TWO_INCREMENTS: Story = Story {
 };
 
 /// Each reads what the other writes.
-pub(crate) const SKEWED_WRITES: Story = Story {
+pub(crate) static SKEWED_WRITES: Story = Story {
     lines: &[
         "window 4",
         "replicas 2",
@@ -241,7 +241,7 @@ pub(crate) const SKEWED_WRITES: Story = Story {
 };
 
 /// Two writes of one row that read nothing.
-pub(crate) const BLIND_WRITES: Story = Story {
+pub(crate) static BLIND_WRITES: Story = Story {
     lines: &[
         "window 4",
         "replicas 2",
@@ -273,7 +273,7 @@ pub(crate) const BLIND_WRITES: Story = Story {
 };
 
 /// A count and a search beside a row that comes.
-const INTERVALS: Story = Story {
+static INTERVALS: Story = Story {
     lines: &[
         "window 4",
         "replicas 2",
@@ -325,7 +325,7 @@ const INTERVALS: Story = Story {
 };
 
 /// Calls that fall more than the window behind; one that had come to its end before isn't stale.
-const FALLS_BEHIND: Story = Story {
+static FALLS_BEHIND: Story = Story {
     lines: &[
         "window 2",
         "replicas 1",
@@ -393,7 +393,7 @@ const FALLS_BEHIND: Story = Story {
 };
 
 /// Keys that share a bit are compared.
-pub(crate) const SHARED_BITS: Story = Story {
+pub(crate) static SHARED_BITS: Story = Story {
     lines: &[
         "window 4",
         "replicas 1",
@@ -429,7 +429,7 @@ pub(crate) const SHARED_BITS: Story = Story {
 };
 
 /// A look of seventeen keys is compared with all that committed.
-pub(crate) const LONG_LOOK: Story = Story {
+pub(crate) static LONG_LOOK: Story = Story {
     lines: &[
         "window 4",
         "replicas 1",
@@ -470,7 +470,7 @@ pub(crate) const LONG_LOOK: Story = Story {
 };
 
 /// A removal of a row that isn't there is a write of a look.
-pub(crate) const REMOVALS: Story = Story {
+pub(crate) static REMOVALS: Story = Story {
     lines: &[
         "window 4",
         "replicas 1",
@@ -501,7 +501,7 @@ pub(crate) const REMOVALS: Story = Story {
 };
 
 /// A count from 20 to 10 looks at nothing.
-pub(crate) const EMPTY_INTERVAL: Story = Story {
+pub(crate) static EMPTY_INTERVAL: Story = Story {
     lines: &[
         "window 4",
         "replicas 1",
@@ -533,7 +533,7 @@ pub(crate) const EMPTY_INTERVAL: Story = Story {
 };
 
 /// A call that puts a row and cancels.
-pub(crate) const CANCELS: Story = Story {
+pub(crate) static CANCELS: Story = Story {
     lines: &[
         "window 4",
         "replicas 1",
@@ -558,7 +558,7 @@ pub(crate) const CANCELS: Story = Story {
 };
 
 /// A replica that is made anew from the log has delivered it.
-pub(crate) const REBUILDS: Story = Story {
+pub(crate) static REBUILDS: Story = Story {
     lines: &[
         "window 4",
         "replicas 2",
@@ -596,7 +596,7 @@ pub(crate) const REBUILDS: Story = Story {
 };
 
 /// What is asked of no replica, no procedure and no call.
-pub(crate) const REFUSED_STEPS: Story = Story {
+pub(crate) static REFUSED_STEPS: Story = Story {
     lines: &[
         "window 4",
         "replicas 2",
@@ -633,7 +633,7 @@ pub(crate) const REFUSED_STEPS: Story = Story {
 };
 
 /// A replica that finds no memory for its second entry: it is stopped until it is made anew.
-pub(crate) const STOPS: Story = Story {
+pub(crate) static STOPS: Story = Story {
     lines: &[
         "window 4",
         "replicas 2",
@@ -679,23 +679,26 @@ pub(crate) const STOPS: Story = Story {
     fault: "",
 };
 
-pub(crate) const STORIES: [Story; 18] = [
-    READS,
-    JUMPS_INTO_A_LOAD,
-    JUMPS_TO_A_LOAD,
-    JOINS,
-    INDEXES,
-    INDEXES_PAST_THE_END,
-    TWO_INCREMENTS,
-    SKEWED_WRITES,
-    BLIND_WRITES,
-    INTERVALS,
-    FALLS_BEHIND,
-    SHARED_BITS,
-    LONG_LOOK,
-    REMOVALS,
-    EMPTY_INTERVAL,
-    CANCELS,
-    REBUILDS,
-    REFUSED_STEPS,
-];
+/// The stories of calls.
+pub(crate) fn all_stories() -> [&'static Story; 18] {
+    [
+        &READS,
+        &JUMPS_INTO_A_LOAD,
+        &JUMPS_TO_A_LOAD,
+        &JOINS,
+        &INDEXES,
+        &INDEXES_PAST_THE_END,
+        &TWO_INCREMENTS,
+        &SKEWED_WRITES,
+        &BLIND_WRITES,
+        &INTERVALS,
+        &FALLS_BEHIND,
+        &SHARED_BITS,
+        &LONG_LOOK,
+        &REMOVALS,
+        &EMPTY_INTERVAL,
+        &CANCELS,
+        &REBUILDS,
+        &REFUSED_STEPS,
+    ]
+}

@@ -1,6 +1,6 @@
-use crate::additions::{ADDED, ADDITIONS};
-use crate::requests::{REQUESTS, SENT_TWICE};
-use crate::stories::{ADD_ENTRY, INCREMENT, STOPS, STORIES, Story, TWO_INCREMENTS};
+use crate::additions::{ADDED, of_additions};
+use crate::requests::{SENT_TWICE, of_requests};
+use crate::stories::{ADD_ENTRY, INCREMENT, STOPS, Story, TWO_INCREMENTS, all_stories};
 use crate::streams::{Full, Input, Output};
 use scarce::Scarce;
 use script_replay::replay_over;
@@ -50,10 +50,10 @@ fn tells(alloc: Global, lines: &[&str], prints: &[&str], fault: &str) -> Result<
 
 #[test]
 fn stories_print_what_they_should(rt: HostRuntime) {
-    for (at, story) in STORIES
+    for (at, story) in all_stories()
         .iter()
-        .chain(&ADDITIONS)
-        .chain(&REQUESTS)
+        .chain(&of_additions())
+        .chain(&of_requests())
         .enumerate()
     {
         let told = tells(rt.alloc(), story.lines, story.prints, story.fault).expect(&rt, "memory");
@@ -385,7 +385,7 @@ fn goes_well(rt: &impl Abort, alloc: Global, scarce: &Scarce, story: &Story) -> 
 #[test]
 fn growths_are_refused_in_turn(rt: HostRuntime) {
     let scarce = Scarce::new(rt.alloc());
-    for (at, story) in [TWO_INCREMENTS, ADDED, SENT_TWICE].iter().enumerate() {
+    for (at, story) in [&TWO_INCREMENTS, &ADDED, &SENT_TWICE].iter().enumerate() {
         assert!(rt; goes_well(&rt, rt.alloc(), &scarce, story), "story {at}");
     }
 }
