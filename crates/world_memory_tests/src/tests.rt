@@ -18,6 +18,20 @@ const ADD_TEN: [u8; 16] = [5, 0, 0, 0, 0, 0, 0, 0, 10, 0, 0, 0, 0, 0, 0, 0];
 /// Arguments by which 7 is added to it.
 const ADD_SEVEN: [u8; 16] = [5, 0, 0, 0, 0, 0, 0, 0, 7, 0, 0, 0, 0, 0, 0, 0];
 
+/// A call that adds 10, at replica 1.
+const BEGIN_TEN: Step<'static> = Step::Begin {
+    replica: 1,
+    procedure: 1,
+    args: &ADD_TEN,
+};
+
+/// A call that adds 7, at replica 2.
+const BEGIN_SEVEN: Step<'static> = Step::Begin {
+    replica: 2,
+    procedure: 1,
+    args: &ADD_SEVEN,
+};
+
 /// Asserts that a value is the one that is wanted. It stands in a function of its own, since a proof of many
 /// comparisons in one function beside values to be dropped takes long.
 fn same<T: PartialEq + Debug + Copy>(rt: &impl Abort, case: &str, found: T, wanted: T) {

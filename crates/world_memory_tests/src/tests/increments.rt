@@ -1,6 +1,6 @@
 //! Two increments of one row, of which the second conflicts and is begun anew.
 
-use super::{ADD_SEVEN, ADD_TEN, described, run_script, same, steps_of, two_replicas};
+use super::{BEGIN_SEVEN, BEGIN_TEN, described, run_script, same, steps_of, two_replicas};
 use dsm_model::Outcome;
 use dsm_world::{Step, World};
 use log_model::Verdict;
@@ -9,36 +9,15 @@ use std::alloc::Global;
 use std::process::Abort;
 
 static STEPS: [(Step<'static>, usize); 12] = [
-    (
-        Step::Begin {
-            replica: 1,
-            procedure: 1,
-            args: &ADD_TEN,
-        },
-        1,
-    ),
-    (
-        Step::Begin {
-            replica: 2,
-            procedure: 1,
-            args: &ADD_SEVEN,
-        },
-        1,
-    ),
+    (BEGIN_TEN, 1),
+    (BEGIN_SEVEN, 1),
     (Step::Turn { call: 1 }, 17),
     (Step::Turn { call: 2 }, 17),
     (Step::Order { call: 1 }, 1),
     (Step::Order { call: 2 }, 1),
     (Step::Deliver { replica: 1 }, 2),
     (Step::Deliver { replica: 2 }, 2),
-    (
-        Step::Begin {
-            replica: 2,
-            procedure: 1,
-            args: &ADD_SEVEN,
-        },
-        1,
-    ),
+    (BEGIN_SEVEN, 1),
     (Step::Turn { call: 3 }, 17),
     (Step::Order { call: 3 }, 1),
     (Step::Deliver { replica: 2 }, 1),

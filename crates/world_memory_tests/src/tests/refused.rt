@@ -1,6 +1,8 @@
 //! Memory that is refused to a world.
 
-use super::{ADD_SEVEN, ADD_TEN, Script, described, run_script, same, steps_of, two_replicas};
+use super::{
+    ADD_TEN, BEGIN_SEVEN, BEGIN_TEN, Script, described, run_script, same, steps_of, two_replicas,
+};
 use abs_cause::Cause;
 use call_model::ProgramFault;
 use dsm_model::{Outcome, StepRefusal};
@@ -20,14 +22,7 @@ const PUT_ONE: [u8; 16] = [6, 0, 0, 0, 0, 0, 0, 0, 1, 0, 0, 0, 0, 0, 0, 0];
 
 /// Two calls are ordered, and the first is delivered to replica 2.
 static BEFORE: [(Step<'static>, usize); 7] = [
-    (
-        Step::Begin {
-            replica: 1,
-            procedure: 1,
-            args: &ADD_TEN,
-        },
-        1,
-    ),
+    (BEGIN_TEN, 1),
     (
         Step::Begin {
             replica: 2,
@@ -48,14 +43,7 @@ static AFTER: [(Step<'static>, usize); 7] = [
     (Step::Deliver { replica: 2 }, 1),
     (Step::Deliver { replica: 1 }, 2),
     (Step::Rebuild { replica: 2 }, 1),
-    (
-        Step::Begin {
-            replica: 2,
-            procedure: 1,
-            args: &ADD_SEVEN,
-        },
-        1,
-    ),
+    (BEGIN_SEVEN, 1),
     (Step::Turn { call: 3 }, 17),
     (Step::Order { call: 3 }, 1),
     (Step::Deliver { replica: 2 }, 1),
@@ -187,12 +175,6 @@ struct Case {
     left: Outcome,
 }
 
-const BEGIN: Step<'static> = Step::Begin {
-    replica: 1,
-    procedure: 1,
-    args: &ADD_TEN,
-};
-
 const NO_MEMORY: Outcome = Outcome::Refused(StepRefusal::OutOfMemory);
 
 const NOTHING_LEFT: Outcome = Outcome::Refused(StepRefusal::NothingToDeliver);
@@ -291,7 +273,7 @@ static CASES: [Case; 10] = [
     },
     Case {
         before: &[],
-        step: BEGIN,
+        step: BEGIN_TEN,
         answer: Outcome::Begun {
             call: 1,
             snapshot: 0,
@@ -302,7 +284,7 @@ static CASES: [Case; 10] = [
     },
     // Its seventh instruction gets a row.
     Case {
-        before: &[(BEGIN, 1), (Step::Turn { call: 1 }, 6)],
+        before: &[(BEGIN_TEN, 1), (Step::Turn { call: 1 }, 6)],
         step: Step::Turn { call: 1 },
         answer: Outcome::More,
         refused: Outcome::NoMemory,
@@ -310,7 +292,7 @@ static CASES: [Case; 10] = [
         left: NO_CALL,
     },
     Case {
-        before: &[(BEGIN, 1), (Step::Turn { call: 1 }, 17)],
+        before: &[(BEGIN_TEN, 1), (Step::Turn { call: 1 }, 17)],
         step: Step::Order { call: 1 },
         answer: Outcome::Ordered { position: 1 },
         refused: NO_MEMORY,
@@ -319,7 +301,7 @@ static CASES: [Case; 10] = [
     },
     Case {
         before: &[
-            (BEGIN, 1),
+            (BEGIN_TEN, 1),
             (Step::Turn { call: 1 }, 17),
             (Step::Order { call: 1 }, 1),
         ],
@@ -334,7 +316,7 @@ static CASES: [Case; 10] = [
     },
     Case {
         before: &[
-            (BEGIN, 1),
+            (BEGIN_TEN, 1),
             (Step::Turn { call: 1 }, 17),
             (Step::Order { call: 1 }, 1),
         ],
