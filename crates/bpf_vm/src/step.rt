@@ -13,7 +13,7 @@ use bpf_verify::Accepted;
 use schema::{Helper, Schema};
 use std::alloc::Allocator;
 use txn_view::{Store, View};
-use vm_calls::CallAnswer;
+use vm_helpers::CallAnswer;
 use vm_state::{WordState, registers_are_held};
 
 /// The instruction at the slot.
@@ -81,7 +81,7 @@ fn call<B: Allocator, S: Store, C: Allocator + Copy>(
     let Some(helper) = Helper::from_number(number) else {
         unreachable!();
     };
-    match vm_calls::call(words, view, schema, helper) {
+    match vm_helpers::call(words, view, schema, helper) {
         CallAnswer::Done => Turn::More,
         CallAnswer::Stale => Turn::Stale,
         CallAnswer::NoMemory => Turn::NoMemory,

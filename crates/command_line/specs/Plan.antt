@@ -4,7 +4,7 @@ use Rattle.std.specs.Prelude.{◌≡◌, ◌≤◌, true, ℕ, List, [], ◌∷�
 use Rattle.std.specs.Option.{option_and_then, unwrap_or}
 use Rattle.clap.specs.Words.{App, Rule, Row, Text, all_of, first_of, new_app, new_rule, with_rule, with_subcommand}
 use Rattle.clap.specs.declared.builder.ArgAction.TheVariants.{Set, Append}
-use Rattle.engines.specs.Number.{number_in, table_word}
+use Rattle.program_commands.specs.Number.{number_in, table_word}
 use Rattle.command_line.specs.declared.request.Plan.{Plan}
 use Rattle.command_line.specs.declared.request.Plan.TheVariants as plan
 

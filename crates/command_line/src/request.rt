@@ -4,7 +4,7 @@ ghost use Rattle.std.specs.Prelude.{◌≡◌};
 ghost use Rattle.command_line.specs.Fault.{fault_status, kind_status};
 
 use clap::error::ErrorKind;
-use engines::FAILED;
+use exit_status::FAILED;
 use explanations::Explanation;
 use std::alloc::{AllocError, AllocFailed};
 use thiserror::Error;

@@ -3,7 +3,7 @@
 ghost use Rattle.std.specs.Prelude.{◌≡◌, ◌≤◌, [], codes, false, Some, IfOk, map};
 ghost use Rattle.std.specs.Option.{unwrap_or};
 ghost use Rattle.clap.specs.Words.{all_of, app_of, found_of, rows_of, rule_of, subcommand_of, subcommand_rows_of};
-ghost use Rattle.engines.specs.Number.{table_word};
+ghost use Rattle.program_commands.specs.Number.{table_word};
 ghost use Rattle.command_line.specs.Plan.{args_rule, check_line, command_line, executors_rule, explain_line, file_rule};
 ghost use Rattle.command_line.specs.Plan.{list_line, log_rule, number_rule, replay_line, run_line, script_rule, table_rule};
 ghost use Rattle.command_line.specs.Plan.{IsPlanOf, IsListOf, IsCheckOf, IsReplayOf, IsRunOf, IsExplainOf, IsWithinLimits};
@@ -12,8 +12,8 @@ ghost use Rattle.command_line.specs.Plan.{number_of};
 use crate::help::{RUN_HELP, SCRIPT_HELP};
 use crate::request::{Plan, PlanFault};
 use clap::{Arg, ArgAction, ArgMatches, Command};
-use engines::{number_in, table};
 use explanations::explain;
+use program_commands::{number_in, table};
 use std::alloc::{AllocError, Global};
 use std::convert::AsStr;
 

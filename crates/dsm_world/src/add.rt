@@ -15,14 +15,13 @@ ghost use Rattle.dsm_world.specs.Holdings.{system_of, AreConsistentHoldings};
 
 use crate::begin::MAX_CALLS;
 use crate::holdings::Holdings;
-use accepted_calls::accepted_procedures_are_safe;
 use bpf_verify::Accepted;
-use catalogue::each_catalogue_is_consistent;
+use catalogue::{accepted_procedures_are_safe, each_catalogue_is_consistent};
 use dsm_model::{Outcome, StepRefusal, steps_keep_a_world};
 use log_entry::{AddedProcedure, Entry};
 use log_model::{a_log_only_grows, one_more_entry_carries_its_run};
 use program_checks::{CheckFault, check_program};
-use row_values::Bytes;
+use row_sets::Bytes;
 use schema::Schema;
 use std::alloc::{AllocError, Allocator};
 use std::sync::Arc;

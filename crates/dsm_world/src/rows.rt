@@ -9,7 +9,7 @@ ghost use Rattle.dsm_world.specs.System.{setting_of, world_of};
 use crate::world::World;
 use log_model::entries_suffice;
 use replica::At;
-use row_values::Row;
+use row_sets::Row;
 use std::alloc::{AllocError, Allocator, Global};
 use txn_view::Store;
 

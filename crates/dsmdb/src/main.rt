@@ -4,8 +4,9 @@
 ghost use Rattle.std.specs.Prelude.{◌≤◌};
 
 use command_line::{Plan, PlanFault, plan};
-use engines::{FAILED, check_over, list_over};
+use exit_status::FAILED;
 use explanations::Explanation;
+use program_commands::{check_over, list_over};
 use script_replay::replay_over;
 use script_run::{RunOptions, run_over};
 use std::fs::File;

@@ -2,8 +2,7 @@
 
 use bpf_verify::Accepted;
 use log_model::RequestId;
-use row_sets::{ReadSet, WriteSet};
-use row_values::Bytes;
+use row_sets::{Bytes, ReadSet, WriteSet};
 use std::alloc::{Allocator, Global};
 use std::marker::Model;
 use std::sync::Arc;

@@ -9,7 +9,7 @@ use log_model::{RequestId, Verdict};
 use node_calls::{Answer, Asked, CallRefusal, Gate};
 use order_log::{Fact, Seen};
 use ordered_entries::{LogSetting, OrderedEntries};
-use row_values::Bytes;
+use row_sets::Bytes;
 use served_replicas::{Reply, Request, Shared};
 use std::alloc::Global;
 use std::marker::Model;

@@ -3,15 +3,15 @@
 ghost use Rattle.std.specs.Prelude.{◌<◌, ◌^◌, length};
 
 use crate::procedures::ACCOUNTS;
-use dsm_replayer::{
-    CompletedReplay, PlainCall, PlainItem, PlainItemKind, PlainSetting, Row, replay_log,
-};
 use locked_replica::LockedReplica;
 use log_entry::Entry;
 use node::Finish;
 use node_calls::OpenGate;
 use order_log::LIMIT;
 use ordered_entries::LogSetting;
+use plain_replayer::{
+    CompletedReplay, PlainCall, PlainItem, PlainItemKind, PlainSetting, Row, replay_log,
+};
 use schema::Look;
 use std::alloc::Global;
 use std::sync::Wait;

@@ -2,11 +2,11 @@
 //! from 0 on.
 
 use catalogue::Catalogue;
-use dsm_replayer::PlainSetting;
-use sample_entries::catalogue_of;
-use sample_procedures::{ADD, COUNT, NEXT, ONE, PUT, TABLES, digit_of, procedure_of};
+use plain_replayer::PlainSetting;
 use schema::Schema;
 use std::alloc::Global;
+use test_entries::catalogue_of;
+use test_procedures::{ADD, COUNT, NEXT, ONE, PUT, TABLES, digit_of, procedure_of};
 
 /// How many accounts there are.
 pub(crate) const ACCOUNTS: u32 = 64;

@@ -1,7 +1,7 @@
 //! What is asked of a node.
 
 use log_model::RequestId;
-use row_values::Bytes;
+use row_sets::Bytes;
 use std::alloc::{Allocator, Global};
 use std::marker::Model;
 

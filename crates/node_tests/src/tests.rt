@@ -8,14 +8,14 @@ use node::{Finish, Node, Size};
 use node_calls::Answer;
 use order_log::GroupCells;
 use ordered_entries::LogSetting;
-use sample_entries::catalogue_of;
-use sample_procedures::{ONE, PROCEDURES, TABLES};
 use std::alloc::Global;
 use std::marker::Brand;
 use std::process::Abort;
 use std::sync::{Arc, Wait};
 use std::thread::Threads;
 use tallies::{Blanks, Counts, Ledgers};
+use test_entries::catalogue_of;
+use test_procedures::{ONE, PROCEDURES, TABLES};
 
 mod calls;
 mod gate;

@@ -1,8 +1,7 @@
 use log_entry::{Entry, ExecutedCall};
 use log_model::RequestId;
 use order_log::Fact;
-use row_sets::{ReadSet, WriteSet};
-use row_values::Bytes;
+use row_sets::{Bytes, ReadSet, WriteSet};
 use std::alloc::Global;
 
 mod refused;

@@ -9,7 +9,7 @@ ghost use Rattle.order_log.specs.Facts.{HasFactAfter};
 ghost use Rattle.replica.specs.Replica.{AreEntriesOf, IsForTables, IsNamed, entries_of, writes_in};
 ghost use Rattle.ordered_entries.specs.Ordered.{IsOrdered};
 
-use accepted_calls::accepted_procedures_are_safe;
+use catalogue::accepted_procedures_are_safe;
 use log_model::calls_ask_up_to_their_snapshots;
 use replica::one_more_entry;
 use std::alloc::Allocator;

@@ -6,7 +6,7 @@ ghost use Rattle.std.specs.FinMap.{empty, get, insert, remove, entries, retain_k
 ghost use Rattle.schema.specs.Rows.{covers};
 ghost use Rattle.plain_rows.specs.Listed.{rows_of};
 
-use row_values::{Bytes, Keyed, Row};
+use row_sets::{Bytes, Keyed, Row};
 use schema::Look;
 use std::alloc::{AllocError, Allocator};
 use std::collections::BTreeMap;

@@ -2,6 +2,6 @@
 #![tactic(auto)]
 
 pub use key_map::KeyMap;
-pub use row_values::{Bytes, Keyed, Row, Write};
+pub use row_sets::{Bytes, Keyed, Row, Write};
 
 mod key_map;

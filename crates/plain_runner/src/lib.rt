@@ -1,6 +1,6 @@
 //! A plain runner of programs: it computes what `bpf_semantics` defines, slow and plain on purpose.
 //!
-//! Begin with `run_program` in `run.rt`. `step.rt`, and `plain_calls` and `plain_memory` below it, have a
+//! Begin with `run_program` in `run.rt`. `step.rt`, and `plain_helpers` and `plain_memory` below it, have a
 //! function for each definition of a step, each with that definition as its contract.
 #![tactic(auto)]
 

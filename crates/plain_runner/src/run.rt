@@ -5,13 +5,13 @@ ghost use Rattle.std.specs.FinMap.{entries};
 ghost use Rattle.bpf_semantics.specs.State.{entry_state};
 ghost use Rattle.bpf_semantics.specs.Run.{run, run_at, run_of};
 ghost use Rattle.plain_rows.specs.Listed.{rows_of};
-ghost use Rattle.plain_calls.specs.State.{state_of};
+ghost use Rattle.plain_helpers.specs.State.{state_of};
 ghost use Rattle.plain_runner.specs.Runner.{moment_of};
 
 use crate::step::Moment;
 use bpf_code::Code;
 use bpf_semantics::Value;
-use plain_calls::State;
+use plain_helpers::State;
 use plain_rows::{KeyMap, Row, Write};
 use schema::{Look, Schema};
 use std::alloc::{AllocError, Allocator, Global};

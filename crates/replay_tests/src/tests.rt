@@ -1,14 +1,16 @@
 ghost use Rattle.std.specs.Prelude.{◌<◌, ◌^◌, length};
 
-use dsm_replayer::{CompletedReplay, ItemReport, PlainCall, PlainItem, PlainItemKind, replay_log};
 use log_model::{Identifier, RequestId, Verdict};
+use plain_replayer::{
+    CompletedReplay, ItemReport, PlainCall, PlainItem, PlainItemKind, replay_log,
+};
 use plain_runner::{Row, Write};
-use sample_procedures::{ONE, PUT, args_of, procedure_of, setting_of};
 use scarce::Scarce;
 use schema::Look;
 use std::alloc::Global;
 use std::fmt::Write as _;
 use std::process::Abort;
+use test_procedures::{ONE, PUT, args_of, procedure_of, setting_of};
 
 mod drawn;
 

@@ -24,7 +24,7 @@ use catalogue::Catalogue;
 use certify::Certifier;
 use log_entry::Entry;
 use log_model::Verdict;
-use row_values::Row;
+use row_sets::Row;
 use rows_mv::{Versions, empty_versions_answer_from_no_rows};
 use std::alloc::{AllocError, Allocator, Global};
 use std::marker::Model;

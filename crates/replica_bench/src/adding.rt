@@ -4,13 +4,13 @@ use crate::delivering::{catalogue_of, deliver};
 use bpf_code::decode;
 use bpf_verify::{Accepted, verify};
 use catalogue::Catalogue;
-use checked_replica::CheckedReplica;
 use log_entry::{AddedProcedure, Entry};
 use log_model::Verdict;
-use row_values::Bytes;
+use row_sets::Bytes;
 use schema::Schema;
 use std::alloc::Global;
 use std::sync::Arc;
+use test_replicas::CheckedReplica;
 
 /// Replies 1.
 const PROGRAM: [u8; 16] = [0xb7, 0, 0, 0, 1, 0, 0, 0, 0x95, 0, 0, 0, 0, 0, 0, 0];

@@ -3,14 +3,13 @@
 ghost use Rattle.std.specs.Prelude.{◌≡◌, IfSome};
 
 use catalogue::Catalogue;
-use checked_replica::CheckedReplica;
 use log_entry::{Entry, ExecutedCall};
 use log_model::{RequestId, Verdict};
 use replica::Replica;
-use row_sets::{ReadSet, WriteSet};
-use row_values::Bytes;
+use row_sets::{Bytes, ReadSet, WriteSet};
 use schema::Schema;
 use std::alloc::Global;
+use test_replicas::CheckedReplica;
 use txn_view::Store;
 
 /// A put of a number at its own key of table 1, by a call that looked at nothing.

@@ -1,10 +1,12 @@
-//! What a call has looked at and what it has written, and whether they share a key.
+//! The values that rows and writes are, what a call has looked at and what it has written, and whether these share a key.
 #![tactic(auto)]
 
 pub use read_set::ReadSet;
+pub use row::{Bytes, Keyed, Row, Write};
 pub use share::shares_key;
 pub use write_set::WriteSet;
 
 mod read_set;
+mod row;
 mod share;
 mod write_set;

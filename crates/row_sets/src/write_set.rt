@@ -6,7 +6,7 @@ ghost use Rattle.std.specs.Map.Iter.{ShowsInOrder, deref_pair};
 ghost use Rattle.std.specs.FinMap.{empty, get, contains_key, entries, keys, len};
 ghost use Rattle.schema.specs.Rows.{covers, with_write};
 
-use row_values::Bytes;
+use crate::row::Bytes;
 use schema::Look;
 use std::alloc::{AllocError, Allocator, Global};
 use std::collections::BTreeMap;

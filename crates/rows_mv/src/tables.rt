@@ -10,8 +10,7 @@ ghost use Rattle.rows_mv.specs.Versions.{slots_of, width_of, IsTableReserved, Is
 ghost use Rattle.rows_mv.specs.Versions.{HaveWidths, IsInstalled, IsPrunedAt, IsTablePruned, AreEmpty};
 
 use key_table::KeyTable;
-use row_sets::WriteSet;
-use row_values::Bytes;
+use row_sets::{Bytes, WriteSet};
 use schema::Schema;
 use std::alloc::{AllocError, Allocator};
 

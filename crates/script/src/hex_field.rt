@@ -6,7 +6,7 @@ ghost use Rattle.script.specs.declared.fault.LineFault.TheVariants.{OutOfMemory,
 
 use crate::fault::LineFault;
 use hex::FromHexError;
-use row_values::Bytes;
+use row_sets::Bytes;
 use std::alloc::Allocator;
 
 /// The bytes that a field gives in hex, or none where it is `-`.

@@ -12,7 +12,7 @@ use crate::fields::{fields, readable_text};
 use crate::hex_field::read_hex;
 use crate::number::{read_count, read_number, read_u8, read_u16, read_u32};
 use crate::word::{Word, first_word};
-use row_values::Bytes;
+use row_sets::Bytes;
 use std::alloc::{AllocError, Allocator};
 
 /// What a line, given without its LF, says: a command, or nothing where it is empty or a comment.

@@ -15,7 +15,7 @@ use bpf_code::MAX_SLOTS;
 use byte_output::paged::PagedOutput;
 use dsm_world::World;
 use log_model::RequestId;
-use row_values::Bytes;
+use row_sets::Bytes;
 use script::Command;
 use std::alloc::Allocator;
 use std::io::Write;

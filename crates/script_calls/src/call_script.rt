@@ -7,7 +7,7 @@ ghost use Rattle.script_calls.specs.Reading.{so_far, said_by, IsStopOf};
 use crate::call::ScriptCall;
 use crate::reading::Reading;
 use catalogue::Catalogue;
-use row_values::Bytes;
+use row_sets::Bytes;
 use script::{LineFault, MAX_LINE, Next, lines_that_are_too_long_are_at_fault, next_line};
 use script_settings::FaultCause;
 use script_stops::{Stop, fault_at, out_of_memory};

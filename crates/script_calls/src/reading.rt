@@ -7,7 +7,7 @@ ghost use Rattle.script_calls.specs.Calls.{after_line, nothing_said, with_call, 
 ghost use Rattle.script_calls.specs.Reading.{so_far};
 
 use crate::call::{ScriptCall, call_of};
-use row_values::Bytes;
+use row_sets::Bytes;
 use script::{Command, command};
 use script_settings::{FaultCause, Settings, is_setting};
 use std::alloc::{AllocError, Allocator};

@@ -10,7 +10,7 @@ ghost use Rattle.script_replay.specs.Doing.{stage_of, IsFaultOf, GivesAction, St
 
 use crate::stage::Stage;
 use byte_output::paged::PagedOutput;
-use row_values::Bytes;
+use row_sets::Bytes;
 use script::{Command, command};
 use script_actions::{Failure, World, act};
 use script_settings::{FaultCause, Settings, is_setting};

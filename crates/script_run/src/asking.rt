@@ -10,7 +10,7 @@ use node_calls::OpenGate;
 use order_log::{Fact, Seen};
 use ordered_entries::{LogSetting, OrderedEntries};
 use report::CallAnswer;
-use row_values::Bytes;
+use row_sets::Bytes;
 use script_calls::ScriptCall;
 use std::alloc::{AllocError, Global};
 use std::io::Write;

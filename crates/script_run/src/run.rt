@@ -2,7 +2,7 @@
 
 ghost use Rattle.std.specs.Prelude.{◌≡◌, ◌⊎◌, ◌<◌, ◌^◌, IfOk, IfSome, false, map, vec_len};
 ghost use Rattle.byte_output.specs.Writes.{WritesText};
-ghost use Rattle.engines.specs.declared.status.TheConstants.{FAILED};
+ghost use Rattle.exit_status.specs.declared.status.TheConstants.{FAILED};
 ghost use Rattle.tallies.specs.Shared.{names_by_place};
 ghost use Rattle.script_calls.specs.Reading.{said_by};
 ghost use Rattle.script_run.specs.Answered.{AreToldOf};
@@ -13,13 +13,13 @@ use crate::asking::Asking;
 use crate::text::{ReplicaEnd, text_of};
 use byte_output::put;
 use catalogue::Catalogue;
-use engines::FAILED;
+use exit_status::FAILED;
 use node::{Desk, Node, Size, StartFault};
 use node_calls::OpenGate;
 use order_log::{Fact, GroupCells, Seen};
 use ordered_entries::{LogSetting, OrderedEntries};
 use report::CallAnswer;
-use row_values::Bytes;
+use row_sets::Bytes;
 use script_calls::{CallScript, ScriptCall, read_script};
 use script_stops::{Stop, out_of_memory, tell};
 use std::alloc::{AllocError, Global};

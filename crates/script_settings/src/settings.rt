@@ -9,7 +9,7 @@ use crate::cause::FaultCause;
 use crate::procedure::add_procedure;
 use crate::table::add_table;
 use catalogue::Catalogue;
-use row_values::Bytes;
+use row_sets::Bytes;
 use schema::{Schema, SchemaFault};
 use script::Command;
 use std::alloc::{AllocError, Allocator, Global};

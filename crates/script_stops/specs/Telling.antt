@@ -1,8 +1,8 @@
 -- What is said of a script that ends before its end, and its exit status.
 use Rattle.std.specs.Prelude.{◌≡◌, ℕ, List, ◌++◌, codes, Option}
 use Rattle.byte_output.specs.Writes.{AppendsBeginning}
-pub use Rattle.engines.specs.declared.status.TheConstants.{FAILED}
-pub use Rattle.engines.specs.Failures.{SaysStream}
+pub use Rattle.exit_status.specs.declared.status.TheConstants.{FAILED}
+pub use Rattle.exit_status.specs.Failure.{SaysStream}
 use Rattle.script_settings.specs.declared.cause.FaultCause.{FaultCause}
 use Rattle.script_settings.specs.declared.cause.FaultCause.TheVariants.{OutOfMemory}
 use Rattle.script_settings.specs.declared.cause.ScriptFault.{ScriptFault}

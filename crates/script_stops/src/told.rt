@@ -2,13 +2,13 @@
 
 ghost use Rattle.std.specs.Prelude.{◌≡◌, ◌⊎◌};
 ghost use Rattle.byte_output.specs.Writes.{WritesText};
-ghost use Rattle.engines.specs.declared.status.TheConstants.{FAILED};
+ghost use Rattle.exit_status.specs.declared.status.TheConstants.{FAILED};
 ghost use Rattle.script_stops.specs.Telling.{fault_line, status_of_cause, SaysEnd};
 
 use crate::stop::Stop;
 use byte_output::line::Line;
 use byte_output::put;
-use engines::{FAILED, put_error};
+use exit_status::{FAILED, put_error};
 use script_settings::{FaultCause, ScriptFault};
 use std::io;
 use std::io::Write;

@@ -11,7 +11,7 @@ use node_calls::Gate;
 use order_log::{AppendFault, Fact, OrderLog, Seen};
 use ordered_entries::{LogSetting, OrderedEntries};
 use program_checks::{CheckFault, check_program};
-use row_values::Bytes;
+use row_sets::Bytes;
 use std::alloc::{AllocError, Allocator};
 use std::sync::{Arc, Wait};
 use stored_procedures::is_name;

@@ -4,7 +4,7 @@ ghost use Rattle.std.specs.Prelude.{◌≡◌, IfOk};
 ghost use Rattle.std.specs.Arc.{arc_value};
 
 use bpf_verify::Accepted;
-use row_values::Bytes;
+use row_sets::Bytes;
 use std::alloc::{AllocError, Allocator};
 use std::marker::Model;
 use std::sync::Arc;

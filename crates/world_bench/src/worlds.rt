@@ -6,9 +6,9 @@ use catalogue::Catalogue;
 use dsm_model::Outcome;
 use dsm_world::World;
 use log_model::Verdict;
-use sample_procedures::{ADD, TABLES};
 use schema::Schema;
 use std::alloc::Global;
+use test_procedures::{ADD, TABLES};
 
 fn catalogue_of(alloc: Global) -> Option<Catalogue> {
     let mut bytes = Vec::new(alloc);

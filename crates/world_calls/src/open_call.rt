@@ -14,7 +14,7 @@ use bpf_verify::Accepted;
 use bpf_vm::{Machine, Turn, open_calls_can_turn};
 use log_entry::ExecutedCall;
 use log_model::RequestId;
-use row_values::Bytes;
+use row_sets::Bytes;
 use std::alloc::{AllocError, Allocator, Global};
 use std::mem;
 use txn_view::{Own, Store, View};

@@ -2,12 +2,12 @@
 
 use dsm_model::Outcome;
 use dsm_world::{Step, World};
-use sample_entries::catalogue_of;
-use sample_procedures::{PROCEDURES, TABLES};
 use scarce::Scarce;
 use std::alloc::Global;
 use std::fmt::{Debug, Write as _};
 use std::process::Abort;
+use test_entries::catalogue_of;
+use test_procedures::{PROCEDURES, TABLES};
 
 mod increments;
 mod refused;

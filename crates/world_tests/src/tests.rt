@@ -1,4 +1,4 @@
-use sample_procedures::{ADD, COUNT, DELETE, NEXT, PUT, SKEW};
+use test_procedures::{ADD, COUNT, DELETE, NEXT, PUT, SKEW};
 
 mod drawn;
 mod events;

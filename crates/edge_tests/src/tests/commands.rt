@@ -1,4 +1,4 @@
-use engines::{check_over, list_over, number_in, table};
+use program_commands::{check_over, list_over, number_in, table};
 use scarce::Scarce;
 use std::alloc::Global;
 use std::io;

@@ -3,10 +3,10 @@
 use bpf_vm::Turn;
 use plain_rows::KeyMap;
 use plain_runner::CompletedRun;
+use plain_site::SiteRun;
 use plain_store::PlainStore;
 use row_sets::WriteSet;
 use schema::Look;
-use single_site::SiteRun;
 use std::alloc::{AllocError, Global};
 use std::fmt::Write as _;
 use txn_view::View;

@@ -1,6 +1,6 @@
 use crate::tests::scripts::Input;
 use log_model::RequestId;
-use row_values::Bytes;
+use row_sets::Bytes;
 use scarce::Scarce;
 use script_calls::{CallScript, ScriptCall, read_script};
 use script_settings::FaultCause;

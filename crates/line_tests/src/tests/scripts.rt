@@ -1,4 +1,4 @@
-use row_values::Bytes;
+use row_sets::Bytes;
 use scarce::Scarce;
 use script::{Command, LineFault, MAX_LINE, Next, command, next_line};
 use std::alloc::{Allocator, Global};

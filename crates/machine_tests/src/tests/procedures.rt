@@ -6,7 +6,7 @@ use super::{
 use bpf_verify::Accepted;
 use plain_rows::Row;
 use plain_runner::{CompletedRun, run_program};
-use single_site::{SiteFault, complete_call, run_call};
+use plain_site::{SiteFault, complete_call, run_call};
 use std::alloc::Global;
 use std::process::Abort;
 

@@ -5,7 +5,6 @@ use log_model::{RequestId, Verdict};
 use node::{Added, Desk, Node, ProgramRefusal};
 use node_calls::{Answer, CallRefusal};
 use ordered_entries::LogSetting;
-use sample_procedures::{ONE as ONE_PROGRAM, args_of, bytes_of};
 use session::Session;
 use std::alloc::Global;
 use std::process::Abort;
@@ -13,6 +12,7 @@ use std::sync::Wait;
 use std::thread;
 use std::thread::Threads;
 use tallies::Ledgers;
+use test_procedures::{ONE as ONE_PROGRAM, args_of, bytes_of};
 
 const ADD: u16 = 1;
 

@@ -9,9 +9,7 @@ use crossbeam_channel::{Receiver, Sender, bounded};
 use node_calls::{Answer, Asked, OpenGate};
 use order_log::{Fact, GroupCells, LIMIT, OrderLog};
 use ordered_entries::{LogSetting, OrderedEntries};
-use row_values::Bytes;
-use sample_entries::catalogue_of;
-use sample_procedures::{PROCEDURES, TABLES};
+use row_sets::Bytes;
 use scarce::Scarce;
 use served_replicas::{RebuildFault, Reply, Request, Shared, deliver_all, serve};
 use std::alloc::{Allocator, Global};
@@ -21,6 +19,8 @@ use std::sync::Wait;
 use std::thread;
 use std::thread::Threads;
 use tallies::{Blanks, Ledgers};
+use test_entries::catalogue_of;
+use test_procedures::{PROCEDURES, TABLES};
 
 /// What two replicas share, each in memory of its own; calls and entries take memory of the second kind.
 type TwoReplicas<'a, J, P> = Shared<J, &'a Scarce, P, OpenGate>;

@@ -1,17 +1,17 @@
 //! A log that is drawn: what commits in it ran alike on the rows just before it.
 
 use super::{addition_of, call_of, rows_text, run_text, short};
-use dsm_replayer::{
+use log_model::{Identifier, RequestId, Verdict};
+use plain_replayer::{
     CompletedReplay, ItemReport, PlainCall, PlainItem, PlainItemKind, PlainSetting,
     procedure_by_number, replay_log,
 };
-use log_model::{Identifier, RequestId, Verdict};
 use plain_runner::{Row, run_program};
 use rand_core::utils::NextWord;
 use rand_pcg::Pcg32;
-use sample_procedures::{PROCEDURES, PUT, setting_of};
 use std::alloc::Global;
 use std::process::Abort;
+use test_procedures::{PROCEDURES, PUT, setting_of};
 
 /// How many items there are.
 const ITEMS: u32 = 200;

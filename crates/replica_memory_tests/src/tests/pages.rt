@@ -1,13 +1,13 @@
 //! The pages of a table, and versions for which there is no memory.
 
-use checked_replica::CheckedVersions;
 use row_sets::WriteSet;
 use rows_mv::Versions;
-use sample_procedures::TABLES;
 use scarce::Scarce;
 use schema::Schema;
 use std::alloc::{Allocator, Global};
 use std::process::Abort;
+use test_procedures::TABLES;
+use test_replicas::CheckedVersions;
 
 /// A put of a key's own number.
 fn put_of(rt: &impl Abort, alloc: Global, key: u64) -> WriteSet {

@@ -2,18 +2,18 @@
 
 use super::states::{State, is_in};
 use catalogue::Catalogue;
-use checked_replica::{CheckedReplica, CheckedVersions};
 use log_entry::Entry;
 use log_model::Verdict;
 use replica::Replica;
 use row_sets::WriteSet;
 use rows_mv::{Gone, Versions};
-use sample_entries::{EntryCase, entries_of, small_catalogue};
-use sample_procedures::TABLES;
 use scarce::Scarce;
 use schema::Schema;
 use std::alloc::{AllocError, Allocator, Global};
 use std::process::Abort;
+use test_entries::{EntryCase, entries_of, small_catalogue};
+use test_procedures::TABLES;
+use test_replicas::{CheckedReplica, CheckedVersions};
 
 /// More growths than any call of these tests makes: none of them is refused that often.
 const MOST: u64 = 200;

@@ -2,16 +2,16 @@
 
 use super::states::{State, is_in};
 use catalogue::Catalogue;
-use checked_replica::CheckedReplica;
 use log_entry::Entry;
 use log_model::{Identifier, Verdict};
 use replica::Stopped;
-use sample_entries::{EntryCase, addition_of, entries_of, entry_of, small_catalogue};
-use sample_procedures::ONE;
 use scarce::Scarce;
 use schema::Schema;
 use std::alloc::{Allocator, Global};
 use std::process::Abort;
+use test_entries::{EntryCase, addition_of, entries_of, entry_of, small_catalogue};
+use test_procedures::ONE;
+use test_replicas::CheckedReplica;
 
 /// Entries, of which the last is delivered with a growth refused, and how many growths that has: six make room for the
 /// keys and rows of a write where there are none, four for requests or procedures where there is none, one for a name, and

@@ -1,16 +1,16 @@
 //! Logs that are drawn from a seed, and the entries that they are shipped as.
 
-use dsm_replayer::{ItemReport, PlainCall, PlainItem, PlainItemKind, PlainProcedure};
 use log_entry::{Entry, ExecutedCall};
 use log_model::RequestId;
+use plain_replayer::{ItemReport, PlainCall, PlainItem, PlainItemKind, PlainProcedure};
 use rand_core::utils::NextWord;
 use rand_pcg::Pcg32;
-use row_values::Bytes;
-use sample_entries::{addition_of, idle_call};
-use sample_procedures::{ONE, PROCEDURES, args_of, procedure_of};
+use row_sets::Bytes;
 use schema::Schema;
 use std::alloc::Global;
 use std::process::Abort;
+use test_entries::{addition_of, idle_call};
+use test_procedures::{ONE, PROCEDURES, args_of, procedure_of};
 
 /// Keys are drawn from as many from 1 on.
 pub(super) const KEYS: u32 = 40;

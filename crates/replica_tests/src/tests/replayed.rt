@@ -4,18 +4,18 @@ ghost use Rattle.std.specs.Prelude.{◌<◌, ◌^◌, length};
 
 use super::drawn::{KEYS, NUMBERS, drawn_log, name_of, shipped};
 use catalogue::Catalogue;
-use checked_replica::CheckedReplica;
-use dsm_replayer::{
+use log_model::{Identifier, RequestId, Verdict};
+use plain_replayer::{
     CompletedReplay, ItemReport, PlainCall, PlainItem, PlainItemKind, PlainSetting, Row,
     procedure_by_name, procedure_by_number, replay_log,
 };
-use log_model::{Identifier, RequestId, Verdict};
 use replica::Replica;
-use sample_entries::{catalogue_of, certification_at};
-use sample_procedures::{PROCEDURES, TABLES, setting_of};
 use schema::{Look, Schema};
 use std::alloc::Global;
 use std::process::Abort;
+use test_entries::{catalogue_of, certification_at};
+use test_procedures::{PROCEDURES, TABLES, setting_of};
+use test_replicas::CheckedReplica;
 use txn_view::Store;
 
 /// How many items a log has.

@@ -1,13 +1,13 @@
 //! Logs that are written down, with the verdicts, rows and procedures that a replica comes to.
 
 use catalogue::Catalogue;
-use checked_replica::CheckedReplica;
 use log_entry::Entry;
 use log_model::{Identifier, Verdict};
 use replica::Replica;
-use sample_entries::{EntryCase, byte_at, certification_at, entry_of, small_catalogue};
 use std::alloc::Global;
 use std::process::Abort;
+use test_entries::{EntryCase, byte_at, certification_at, entry_of, small_catalogue};
+use test_replicas::CheckedReplica;
 
 /// A log under a window: of each entry the verdict on it and how many comparisons that takes; positions and keys with what
 /// is found there after all entries; and the procedures then, in order of entry.

@@ -1,11 +1,11 @@
 //! Rows at a position, while later calls are delivered.
 
 use catalogue::Catalogue;
-use checked_replica::CheckedReplica;
 use replica::Replica;
-use sample_entries::{EntryCase, entry_of, small_catalogue};
 use std::alloc::Global;
 use std::process::Abort;
+use test_entries::{EntryCase, entry_of, small_catalogue};
+use test_replicas::CheckedReplica;
 use txn_view::{Gone, Store};
 
 /// The byte at key 1 of table 1 after a position that was reached.

@@ -8,11 +8,11 @@ use call_model::ProgramFault;
 use dsm_model::{Outcome, StepRefusal};
 use dsm_world::{Step, World};
 use log_model::Verdict;
-use sample_entries::catalogue_of;
-use sample_procedures::{PROCEDURES, TABLES};
 use scarce::Scarce;
 use std::alloc::Global;
 use std::process::Abort;
+use test_entries::catalogue_of;
+use test_procedures::{PROCEDURES, TABLES};
 
 /// More growths than any call of these tests makes.
 const MOST: u64 = 200;

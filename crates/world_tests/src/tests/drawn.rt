@@ -7,11 +7,11 @@ use dsm_world::{Step, World};
 use log_model::{Identifier, RequestId, Verdict};
 use rand_core::utils::NextWord;
 use rand_pcg::Pcg32;
-use sample_entries::catalogue_of;
-use sample_procedures::{TABLES, bytes_of};
 use scarce::Scarce;
 use std::alloc::Global;
 use std::process::Abort;
+use test_entries::catalogue_of;
+use test_procedures::{TABLES, bytes_of};
 
 /// How many kinds of outcomes there are.
 pub(super) const KINDS: usize = 30;

@@ -2,9 +2,9 @@
 
 use super::drawn::{Call, History, Ordered, UnknownProcedure};
 use super::is_of_catalogue;
-use dsm_replayer::ItemReport;
 use log_model::{Identifier, RequestId, Verdict};
-use sample_procedures::digit_of;
+use plain_replayer::ItemReport;
+use test_procedures::digit_of;
 
 /// What is counted.
 #[derive(Clone, Copy)]

@@ -5,17 +5,17 @@ ghost use Rattle.std.specs.Prelude.{◌<◌, ◌^◌, length};
 use super::PROCEDURES;
 use super::drawn::{DrawnWorld, History, KINDS, Ordered, new_world, program_of};
 use super::events::Events;
-use dsm_replayer::{
-    CompletedReplay, ItemReport, PlainCall, PlainItem, PlainItemKind, PlainSetting, Row, replay_log,
-};
 use dsm_world::World;
 use log_entry::Entry;
+use plain_replayer::{
+    CompletedReplay, ItemReport, PlainCall, PlainItem, PlainItemKind, PlainSetting, Row, replay_log,
+};
 use replica::Replica;
-use sample_procedures::{TABLES, digit_of, procedure_of};
 use scarce::Scarce;
 use schema::Schema;
 use std::alloc::Global;
 use std::process::Abort;
+use test_procedures::{TABLES, digit_of, procedure_of};
 use txn_view::{Gone, Store};
 
 /// How many worlds are drawn.

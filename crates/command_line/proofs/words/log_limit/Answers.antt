@@ -2,7 +2,7 @@ use Rattle.std.proofs.Common.{◌≡◌, ◌∙◌, ap, sym, codes, Some}
 use Rattle.std.specs.Option.{option_and_then}
 use Rattle.clap.specs.Words.{first_of, found_of, rows_of}
 use Rattle.clap.proofs.WalkLemmas.{first_value-rows}
-use Rattle.engines.specs.Number.{number_in}
+use Rattle.program_commands.specs.Number.{number_in}
 use Rattle.command_line.proofs.words.log_limit.Goals as goal
 
 pub returns-in-Some-number_in-clause-number : goal.returns-in-Some-number_in-clause-number

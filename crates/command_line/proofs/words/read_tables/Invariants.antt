@@ -1,5 +1,5 @@
 use Rattle.std.proofs.Common.{◌≡◌, map, take, Some}
-use Rattle.engines.specs.Number.{table_word}
+use Rattle.program_commands.specs.Number.{table_word}
 use Rattle.command_line.proofs.words.read_tables.Given as goal
 
 -- the words so far are the tables so far

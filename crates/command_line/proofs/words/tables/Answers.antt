@@ -3,7 +3,7 @@ use Rattle.std.specs.Option.{unwrap_or}
 use Rattle.std.specs.Borrow.{Bor}
 use Rattle.clap.specs.Words.{found_of}
 use Rattle.clap.proofs.WalkLemmas.{raw_values-rows}
-use Rattle.engines.specs.Number.{table_word}
+use Rattle.program_commands.specs.Number.{table_word}
 use Rattle.command_line.proofs.LocalLemmas.{ok_gives}
 use Rattle.command_line.proofs.words.tables.Goals as goal
 

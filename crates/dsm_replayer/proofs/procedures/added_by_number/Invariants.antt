@@ -1,8 +1,0 @@
-use Rattle.std.proofs.Common.{◌≡◌, drop}
-use Rattle.log_model.specs.Log.{by_number}
-use Rattle.dsm_replayer.specs.Replay.{added_from}
-use Rattle.dsm_replayer.proofs.procedures.added_by_number.Given as goal
-
--- those that are left answer what all do
-abbrev pub invariant-loop-place : goal.invariant-loop-place
-invariant-loop-place g l = by_number (added_from l.log 0 l.reports) l.number ≡ by_number (added_from l.log l.place (drop l.place l.reports)) l.number

@@ -1,0 +1,23 @@
+-- What a command that fails leaves, and what is said of it.
+use Rattle.std.specs.Prelude.{◌≡◌, ℕ, List, codes, Option}
+use Rattle.byte_output.specs.Writes.{AppendsBeginning}
+use Rattle.exit_status.specs.Failure.{SaysStream}
+use Rattle.program_commands.specs.declared.failure.CommandFailure.{CommandFailure}
+use Rattle.program_commands.specs.declared.failure.CommandFailure.TheVariants.{OutOfMemory, Input, Output}
+
+-- where the output failed, `Begun` says what it has; where memory was wanting or the input failed it is as it was
+abbrev pub Leaves : Type 0 → Option (List ℕ) → Option (List ℕ) → CommandFailure → Type 0
+Leaves Begun old new (Output error) = Begun
+Leaves Begun old new (Input error) = new ≡ old
+Leaves Begun old new OutOfMemory = new ≡ old
+
+-- what is said of a failure, or a beginning of it
+abbrev pub IsSaid : Option (List ℕ) → Option (List ℕ) → CommandFailure → Type 0
+IsSaid old new OutOfMemory = AppendsBeginning old new (codes "dsmdb: out of memory\n")
+IsSaid old new (Input error) = SaysStream old new
+IsSaid old new (Output error) = SaysStream old new
+
+-- it isn't the output that failed
+abbrev pub IsBeforeOutput : CommandFailure → Type 0
+IsBeforeOutput (Output error) = ⊥
+IsBeforeOutput _ = Unit {0}

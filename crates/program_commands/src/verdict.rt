@@ -1,0 +1,79 @@
+//! What is said of a program, and how it is printed.
+
+ghost use Rattle.std.specs.Prelude.{◌≡◌};
+ghost use Rattle.program_commands.specs.Checking.{verdict_text, verdict_status};
+
+use crate::list::refused_line;
+use abs_cause::Cause;
+use bpf_code::DecodeFault;
+use byte_output::line::{Line, push, push_unsigned};
+use schema::SchemaFault;
+
+/// What is said of a program's bytes, with the tables and the length of its arguments.
+#[derive(Clone, Copy, Debug, PartialEq, Eq)]
+pub enum CheckVerdict {
+    /// It is accepted; how many slots it has, and the most instructions that it may run.
+    Accepted { slots: usize, bound: u32 },
+    /// The tables are no schema.
+    NoSchema(SchemaFault),
+    /// The bytes are no program.
+    NoProgram(DecodeFault),
+    /// The lowest slot, counted from 0, whose instruction is refused, and its lowest cause.
+    Refused { slot: u16, cause: Cause },
+}
+
+impl CheckVerdict {
+    /// The exit status: 0 where the program is accepted, and else 1.
+    pub fn status(self) -> u8
+        ensures { result ≡ verdict_status self }
+    {
+        match self {
+            CheckVerdict::Accepted { .. } => 0,
+            _ => 1,
+        }
+    }
+
+    /// The line that is printed.
+    pub(crate) fn line(self) -> Line
+        ensures { result.items ≡ verdict_text self }
+    {
+        match self {
+            CheckVerdict::Accepted { slots, bound } => accepted_line(slots, bound),
+            CheckVerdict::NoSchema(fault) => schema_line(fault),
+            CheckVerdict::NoProgram(fault) => refused_line(fault),
+            CheckVerdict::Refused { slot, cause } => cause_line(slot, cause),
+        }
+    }
+}
+
+/// As `accepted slots 17 bound 17`.
+fn accepted_line(slots: usize, bound: u32) -> Line
+    ensures { result.items ≡ verdict_text (CheckVerdict.Accepted slots bound) }
+{
+    let mut line = Line::new();
+    push_unsigned(&mut line, "accepted slots ", slots as u64);
+    push_unsigned(&mut line, " bound ", u64::from(bound));
+    push(&mut line, b"\n");
+    line
+}
+
+/// As `refused S3`.
+fn schema_line(fault: SchemaFault) -> Line
+    ensures { result.items ≡ verdict_text (CheckVerdict.NoSchema fault) }
+{
+    let mut line = Line::new();
+    push_unsigned(&mut line, "refused S", u64::from(fault.number()));
+    push(&mut line, b"\n");
+    line
+}
+
+/// As `refused V4 slot 1`.
+fn cause_line(slot: u16, cause: Cause) -> Line
+    ensures { result.items ≡ verdict_text (CheckVerdict.Refused slot cause) }
+{
+    let mut line = Line::new();
+    push_unsigned(&mut line, "refused V", u64::from(cause.number()));
+    push_unsigned(&mut line, " slot ", u64::from(slot));
+    push(&mut line, b"\n");
+    line
+}

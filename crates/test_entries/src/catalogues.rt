@@ -1,0 +1,49 @@
+use bpf_code::decode;
+use bpf_verify::{Accepted, verify};
+use catalogue::Catalogue;
+use schema::Schema;
+use std::alloc::{Allocator, Global};
+use test_procedures::{ONE, bytes_of, digit_of};
+
+/// A program in hex that takes so many words, as it is accepted. None, here and below, where memory is wanting or it isn't.
+pub(crate) fn accepted_of<A: Allocator + Copy>(
+    alloc: A,
+    schema: &Schema<A>,
+    hex: &str,
+    words: usize,
+) -> Option<Accepted<A, A>> {
+    let code = decode(alloc, &bytes_of(alloc, hex)?).ok()?;
+    let args_len = u16::try_from(words).unwrap_or(0).wrapping_mul(8);
+    verify(alloc, code, schema, args_len.min(256)).ok()
+}
+
+fn add_to<A: Allocator + Copy>(
+    alloc: A,
+    catalogue: &mut Catalogue<A>,
+    number: u16,
+    hex: &str,
+    words: usize,
+) -> Option<()> {
+    let accepted = accepted_of(alloc, catalogue.schema(), hex, words)?;
+    catalogue.add(&digit_of(number), number, accepted).ok()
+}
+
+/// A catalogue for these tables, in which each procedure, a number with a program and how many words that takes, has its
+/// digit as its name.
+pub fn catalogue_of<A: Allocator + Copy>(
+    alloc: A,
+    tables: &[(u8, u16)],
+    procedures: &[(u16, &str, usize)],
+) -> Option<Catalogue<A>> {
+    let schema = Schema::new(alloc, tables).ok()?;
+    let mut catalogue = Catalogue::new(alloc, schema);
+    for (number, hex, words) in procedures {
+        add_to(alloc, &mut catalogue, *number, hex, *words)?;
+    }
+    Some(catalogue)
+}
+
+/// A catalogue for table 1 of rows of one byte, with a procedure `1` of number 1.
+pub fn small_catalogue(alloc: Global) -> Option<Catalogue> {
+    catalogue_of(alloc, &[(1, 1)], &[(1, ONE, 0)])
+}
