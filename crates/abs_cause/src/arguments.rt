@@ -3,35 +3,32 @@ ghost use Rattle.std.specs.Prelude.{◌≡◌, ◌+◌, ◌≤◌, Some, IfSome,
 ghost use Rattle.std.specs.List.{list_any};
 ghost use Rattle.abs_state.specs.State.{kind_of};
 ghost use Rattle.abs_value.specs.Kind.{is_nothing};
-ghost use Rattle.abs_cause.specs.Cause.{call_arguments, is_unknown_table, is_no_number, is_no_buffer, lacks_room};
+ghost use Rattle.abs_cause.specs.Cause.{call_arguments, is_unknown_table, is_no_number, is_no_buffer, buffer_length, lacks_room};
 ghost use Rattle.abs_cause.specs.Cause.{row_is_uninitialised, some_uninitialised};
 
 use abs_state::{AbsState, Kind};
 use abs_value::{ByteSpan, are_initialised, buffer_span, is_nothing, is_number, table_width};
 use bpf_code::Register;
-use schema::{Helper, Schema};
+use schema::{ArgumentKind, Helper, Schema};
 use std::alloc::Allocator;
+
+/// The registers in which the arguments of a call stand, in their order.
+pub static ARGUMENT_REGISTERS: [Register; 5] = [
+    Register::R1,
+    Register::R2,
+    Register::R3,
+    Register::R4,
+    Register::R5,
+];
 
 /// Whether an argument holds nothing.
 pub(crate) fn argument_is_nothing(helper: Helper, state: &AbsState) -> bool
-    ensures { result ≡ list_any (λ r. is_nothing (kind_of state.now r)) (map (λ a. a.1) (call_arguments (Some helper))) }
+    ensures { result ≡ list_any (λ r. is_nothing (kind_of state.now r))
+        (map (λ a. a.1) (call_arguments (Some helper))) }
 {
-    let nothing = |register| is_nothing(state.kind(register));
-    let table = nothing(Register::R1);
-    match helper {
-        Helper::Cancel => table,
-        Helper::RowDelete => table || nothing(Register::R2),
-        Helper::RowGet | Helper::RowPut | Helper::RangeCount => {
-            table || nothing(Register::R2) || nothing(Register::R3)
-        }
-        Helper::RangeNext => {
-            table
-                || nothing(Register::R2)
-                || nothing(Register::R3)
-                || nothing(Register::R4)
-                || nothing(Register::R5)
-        }
-    }
+    let arguments = helper.arguments().iter().zip(&ARGUMENT_REGISTERS);
+    let mut registers = arguments.map(|(_, register)| *register);
+    registers.any(|register| is_nothing(state.kind(register)))
 }
 
 /// Whether the table isn't one known number of the schema.
@@ -40,11 +37,22 @@ pub(crate) fn table_is_unknown<A: Allocator>(
     state: &AbsState,
     schema: &Schema<A>,
 ) -> bool
-    ensures { result ≡ list_any (λ a. is_unknown_table schema.now a.0 (kind_of state.now a.1)) (call_arguments (Some helper)) }
+    ensures { result ≡ list_any (λ a. is_unknown_table schema.now a.0 (kind_of state.now a.1))
+        (call_arguments (Some helper)) }
 {
-    match helper {
-        Helper::Cancel => false,
-        _ => table_width(schema, state.kind(Register::R1)).is_none(),
+    let mut arguments = helper.arguments().iter().zip(&ARGUMENT_REGISTERS);
+    arguments.any(|(argument, register)| {
+        is_unknown_table(schema, *argument, state.kind(*register))
+    })
+}
+
+/// Whether what is to be a table's number isn't one known number of the schema.
+fn is_unknown_table<A: Allocator>(schema: &Schema<A>, argument: ArgumentKind, kind: Kind) -> bool
+    ensures { result ≡ is_unknown_table schema.now argument kind }
+{
+    match argument {
+        ArgumentKind::Table => table_width(schema, kind).is_none(),
+        _ => false,
     }
 }
 
@@ -52,12 +60,20 @@ pub(crate) fn table_is_unknown<A: Allocator>(
 pub(crate) fn number_is_missing(helper: Helper, state: &AbsState) -> bool
     ensures { result ≡ list_any (λ a. is_no_number a.0 (kind_of state.now a.1)) (call_arguments (Some helper)) }
 {
-    match helper {
-        Helper::Cancel => !is_number(state.kind(Register::R1)),
-        Helper::RowGet | Helper::RowPut | Helper::RowDelete => !is_number(state.kind(Register::R2)),
-        Helper::RangeCount | Helper::RangeNext => {
-            !is_number(state.kind(Register::R2)) || !is_number(state.kind(Register::R3))
-        }
+    let mut arguments = helper.arguments().iter().zip(&ARGUMENT_REGISTERS);
+    arguments.any(|(argument, register)| {
+        *argument == ArgumentKind::Number && !is_number(state.kind(*register))
+    })
+}
+
+/// How long an argument's buffer is, where the table has this width.
+fn buffer_length(argument: ArgumentKind, width: Option<usize>) -> Option<usize>
+    ensures { result ≡ buffer_length width argument }
+{
+    match argument {
+        ArgumentKind::RowRead | ArgumentKind::RowWritten => width,
+        ArgumentKind::KeyWritten => Some(8),
+        ArgumentKind::Table | ArgumentKind::Number => None,
     }
 }
 
@@ -75,14 +91,10 @@ fn lacks_room(count: Option<usize>, kind: Kind) -> bool
 pub(crate) fn buffer_is_missing(helper: Helper, state: &AbsState, width: Option<usize>) -> bool
     ensures { result ≡ list_any (λ a. is_no_buffer width a.0 (kind_of state.now a.1)) (call_arguments (Some helper)) }
 {
-    match helper {
-        Helper::RowGet | Helper::RowPut => lacks_room(width, state.kind(Register::R3)),
-        Helper::RangeNext => {
-            lacks_room(Some(8), state.kind(Register::R4))
-                || lacks_room(width, state.kind(Register::R5))
-        }
-        Helper::RowDelete | Helper::RangeCount | Helper::Cancel => false,
-    }
+    let mut arguments = helper.arguments().iter().zip(&ARGUMENT_REGISTERS);
+    arguments.any(|(argument, register)| {
+        lacks_room(buffer_length(*argument, width), state.kind(*register))
+    })
 }
 
 /// Whether some of the stack's bytes aren't initialised.
@@ -98,13 +110,15 @@ pub(crate) fn some_uninitialised(state: &AbsState, bytes: Option<ByteSpan>) -> b
 
 /// Whether the row that is put has a byte that isn't initialised.
 pub(crate) fn row_is_uninitialised(helper: Helper, state: &AbsState, width: Option<usize>) -> bool
-    ensures { result ≡ list_any (λ a. row_is_uninitialised state.now width a.0 (kind_of state.now a.1)) (call_arguments (Some helper)) }
+    ensures { result ≡ list_any (λ a. row_is_uninitialised state.now width a.0 (kind_of state.now a.1))
+        (call_arguments (Some helper)) }
 {
-    match helper {
-        Helper::RowPut => match width {
-            Some(width) => some_uninitialised(state, buffer_span(state.kind(Register::R3), width)),
-            None => false,
-        },
-        _ => false,
-    }
+    let Some(width) = width else {
+        return false;
+    };
+    let mut arguments = helper.arguments().iter().zip(&ARGUMENT_REGISTERS);
+    arguments.any(|(argument, register)| {
+        *argument == ArgumentKind::RowRead
+            && some_uninitialised(state, buffer_span(state.kind(*register), width))
+    })
 }

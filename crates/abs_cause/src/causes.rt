@@ -10,7 +10,8 @@ ghost use Rattle.abs_value.specs.Kind.{is_nothing, table_width};
 ghost use Rattle.abs_cause.specs.Cause.{source_registers, operation_registers, holds_nothing, writes_frame_pointer};
 ghost use Rattle.abs_cause.specs.Cause.{move_uses_pointer, binary_uses_pointer, operands_use_pointer, uses_pointer};
 ghost use Rattle.abs_cause.specs.Cause.{load_is_outside, store_is_outside, is_outside, is_args, stores_to_arguments};
-ghost use Rattle.abs_cause.specs.Cause.{bytes_loaded, reads_uninitialised, is_unknown_helper, has_argument, is_unknown_table};
+ghost use Rattle.abs_cause.specs.Cause.{bytes_loaded, reads_uninitialised, is_unknown_helper, has_argument};
+ghost use Rattle.abs_cause.specs.Cause.{is_unknown_table};
 ghost use Rattle.abs_cause.specs.Cause.{is_no_number, is_no_buffer, replies_pointer, cause_of};
 
 use crate::arguments::{
@@ -328,7 +329,8 @@ fn lacks_buffer<A: Allocator>(
     instruction: Instruction,
     state: &AbsState,
 ) -> bool
-    ensures { result ≡ has_argument (is_no_buffer (table_width schema.now (kind_of state.now R1))) instruction state.now }
+    ensures { result ≡ has_argument
+        (is_no_buffer (table_width schema.now (kind_of state.now R1))) instruction state.now }
 {
     match instruction {
         Instruction::Call { helper } => match Helper::from_number(helper) {

@@ -1,6 +1,7 @@
 -- What is known after an instruction that has no cause to be refused, on each edge that may be taken.
 use Rattle.std.specs.Prelude.{ℕ, ◌*◌, ◌%◌, ◌^◌, ℤ, Bool, true, false, ◌==◌, if◌then◌else◌, Option, Some, None}
 use Rattle.std.specs.Int.{w64, cast_unsigned}
+use Rattle.std.specs.List.{fold}
 use Rattle.std.specs.Ordering.{int_eq}
 use Rattle.bpf_words.specs.declared.condition.Condition.{Condition}
 use Rattle.bpf_words.specs.declared.operation.Operation.TheVariants.{Neg, Movsx}
@@ -9,7 +10,7 @@ use Rattle.bpf_words.specs.declared.operation.EndWidth.{EndWidth}
 use Rattle.bpf_code.specs.declared.instruction.LoadKind.{LoadKind}
 use Rattle.bpf_code.specs.declared.instruction.LoadKind.TheVariants.{I8, I16, I32}
 use Rattle.bpf_code.specs.declared.instruction.Register.{Register}
-use Rattle.bpf_code.specs.declared.instruction.Register.TheVariants.{R1, R3, R4, R5}
+use Rattle.bpf_code.specs.declared.instruction.Register.TheVariants.{R1}
 use Rattle.bpf_code.specs.declared.instruction.Width.{Width}
 use Rattle.bpf_code.specs.declared.instruction.Width.TheVariants.{Bits32}
 use Rattle.bpf_code.specs.declared.instruction.Source.{Source}
@@ -21,7 +22,8 @@ use Rattle.bpf_code.specs.Sizes.{width_bits, size_bytes, load_bytes, extension_w
 use Rattle.schema.specs.Schema.{Tables}
 use Rattle.schema.specs.Helper.{helper_of, answer_of}
 use Rattle.schema.specs.declared.helper.Helper.{Helper}
-use Rattle.schema.specs.declared.helper.Helper.TheVariants.{RowGet, RangeNext}
+use Rattle.schema.specs.declared.helper.ArgumentKind.{ArgumentKind}
+use Rattle.schema.specs.declared.helper.ArgumentKind.TheVariants as argument
 use Rattle.schema.specs.declared.helper.AnswerKind.{AnswerKind}
 use Rattle.schema.specs.declared.helper.AnswerKind.TheVariants.{Flag, Zero, Count}
 use Rattle.bpf_semantics.specs.Step.{low_bits}
@@ -35,6 +37,7 @@ use Rattle.abs_state.specs.State.{kind_of, with_known_answer, with_kind, with_in
 use Rattle.abs_value.specs.Kind.{operand_kind, operation_kind, number_kind, table_width}
 use Rattle.abs_value.specs.declared.access.ByteSpan.{ByteSpan}
 use Rattle.abs_value.specs.Access.{stack_span, buffer_span}
+use Rattle.abs_cause.specs.Cause.{call_arguments}
 
 -- ---- loads and stores
 
@@ -65,12 +68,17 @@ abbrev pub with_buffer : AbsState → Kind → Option ℕ → AbsState
 with_buffer s k None = s
 with_buffer s k (Some count) = with_span (buffer_span k count) s
 
--- a get initialises its row's buffer, a next its key's and its row's
+-- how many bytes a helper writes to an argument's buffer, where the table has this width
+abbrev pub written_length : Option ℕ → ArgumentKind → Option ℕ
+written_length width argument.RowWritten = width
+written_length width argument.KeyWritten = Some 8
+written_length width _ = None
+
+-- each buffer that a helper writes is initialised
 abbrev pub with_buffers : Tables → Helper → AbsState → AbsState
-with_buffers tables RowGet s = with_buffer s (kind_of s R3) (table_width tables (kind_of s R1))
-with_buffers tables RangeNext s =
-    with_buffer (with_buffer s (kind_of s R4) (Some 8)) (kind_of s R5) (table_width tables (kind_of s R1))
-with_buffers tables _ s = s
+with_buffers tables helper s =
+    let width = table_width tables (kind_of s R1) in
+    fold (λ after a. with_buffer after (kind_of s a.1) (written_length width a.0)) s (call_arguments (Some helper))
 
 abbrev pub after_call : Tables → Option Helper → AbsState → AbsState
 after_call tables None s = s

@@ -1,12 +1,13 @@
 //! What is known after a call.
 ghost use Rattle.std.specs.Prelude.{◌≡◌, ◌+◌, ◌≤◌, Some, IfSome};
-ghost use Rattle.abs_step.specs.Result.{answer_range, with_buffer, with_buffers, with_span, after_call};
+ghost use Rattle.abs_step.specs.Result.{answer_range, with_buffer, with_buffers, with_span, written_length, after_call};
 
+use abs_cause::ARGUMENT_REGISTERS;
 use abs_state::{AbsState, Kind};
 use abs_value::{ByteSpan, buffer_span, table_width};
 use bpf_code::Register;
 use interval::Range;
-use schema::{AnswerKind, Helper, Schema};
+use schema::{AnswerKind, ArgumentKind, Helper, Schema};
 use std::alloc::Allocator;
 
 fn answer_range(answer: AnswerKind) -> Range
@@ -37,17 +38,24 @@ fn set_buffer(state: &mut AbsState, kind: Kind, count: Option<usize>)
     }
 }
 
+/// How many bytes a helper writes to an argument's buffer, where the table has this width.
+fn written_length(argument: ArgumentKind, width: Option<usize>) -> Option<usize>
+    ensures { result ≡ written_length width argument }
+{
+    match argument {
+        ArgumentKind::RowWritten => width,
+        ArgumentKind::KeyWritten => Some(8),
+        ArgumentKind::Table | ArgumentKind::Number | ArgumentKind::RowRead => None,
+    }
+}
+
+/// Each buffer that a helper writes is initialised.
 fn set_buffers<A: Allocator>(state: &mut AbsState, schema: &Schema<A>, helper: Helper)
     ensures { state.new ≡ with_buffers schema.now helper state.old }
 {
     let width = table_width(schema, state.kind(Register::R1));
-    match helper {
-        Helper::RowGet => set_buffer(state, state.kind(Register::R3), width),
-        Helper::RangeNext => {
-            set_buffer(state, state.kind(Register::R4), Some(8));
-            set_buffer(state, state.kind(Register::R5), width);
-        }
-        _ => {}
+    for (argument, register) in helper.arguments().iter().zip(&ARGUMENT_REGISTERS) {
+        set_buffer(state, state.kind(*register), written_length(*argument, width));
     }
 }
 

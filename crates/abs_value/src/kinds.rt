@@ -224,12 +224,9 @@ pub fn table_width<A: Allocator>(schema: &Schema<A>, kind: Kind) -> Option<usize
 {
     match kind {
         Kind::Number(range) if range.is_single() => {
-            // Asked for in any case: its contract says that the schema's tables are below 256.
-            let table = (range.lo() % 256) as u8;
-            match schema.width(table) {
-                Some(width) if range.lo() < 256 => Some(usize::from(width)),
-                _ => None,
-            }
+            schema.known();
+            let table = u8::try_from(range.lo()).ok()?;
+            schema.width(table).map(usize::from)
         }
         _ => None,
     }

@@ -33,6 +33,13 @@ impl<A: Allocator> Code<A> {
         Code { slots }
     }
 
+    /// What is known of every program. To call this does nothing.
+    pub fn known(&self)
+        ensures { IsProgram self.now }
+    {
+        let _ = &self.slots;
+    }
+
     /// How many slots of eight bytes the program has, 1 to 4,096.
     pub fn slots(&self) -> usize
         ensures count { result ≡ length self.now }

@@ -5,7 +5,8 @@ ghost use Rattle.bpf_code.specs.Program.{max_slots};
 ghost use Rattle.bpf_code.specs.declared.fault.DecodeCause.TheVariants.{OutOfMemory};
 ghost use Rattle.bpf_code.specs.Fields.{bytes_of, slots_of};
 ghost use Rattle.bpf_code.specs.declared.fields.Fields.{Fields};
-ghost use Rattle.bpf_code.specs.Program.{Program, IsInRange, AllInRange, spelling, is_wide as wide, distance_of, instruction_at, IsProgram};
+ghost use Rattle.bpf_code.specs.Program.{Program, IsInRange, AllInRange, spelling, is_wide as wide, distance_of};
+ghost use Rattle.bpf_code.specs.Program.{instruction_at, IsProgram};
 ghost use Rattle.bpf_code.specs.Decoding.{fault as fault_at, with_front, completed_load as completed_by};
 ghost use Rattle.bpf_code.specs.Decoding.{reading_of_slots as slots_read, jump_fault as fault_of_jump, jump_faults};
 ghost use Rattle.bpf_code.specs.Decoding.{exit_fault, program_of};
@@ -58,7 +59,8 @@ fn read_slot<A: Allocator>(
         ≡ with_front slots.new.items (slots_read next (slot + 1) rest)) }
     ensures ends { IfErr result (λ e. (rest : List Fields) → slots_read half slot (fields.now ∷ rest) ≡ Err e) }
     ensures half { IfOk result IsHalf }
-    ensures count { IfOk result (λ next. vec_len slots.new + half_count next ≡ vec_len slots.old + half_count half + 1) }
+    ensures count { IfOk result (λ next. vec_len slots.new + half_count next
+        ≡ vec_len slots.old + half_count half + 1) }
     ensures bytes { IfOk result (λ next. spelling slots.new.items ++ half_bytes next
         ≡ (spelling slots.old.items ++ half_bytes half) ++ bytes_of fields.now) }
     ensures in_range { OnOk result (AllInRange slots.old.items → AllInRange slots.new.items) }

@@ -7,8 +7,10 @@ ghost use Rattle.bpf_code.specs.Spelling.{slot as slot_of};
 ghost use Rattle.bpf_code.specs.Register.{number_of};
 ghost use Rattle.bpf_code.specs.declared.instruction.Register.{Register};
 ghost use Rattle.bpf_code.specs.declared.instruction.Register.TheVariants.{R0};
-ghost use Rattle.bpf_code.specs.declared.instruction.Source.TheVariants.{Register as InRegister, Immediate as InImmediate};
-ghost use Rattle.bpf_code.specs.declared.opcode.SourceKind.TheVariants.{Register as OfRegister, Immediate as OfImmediate};
+ghost use Rattle.bpf_code.specs.declared.instruction.Source.TheVariants.{Register as InRegister};
+ghost use Rattle.bpf_code.specs.declared.instruction.Source.TheVariants.{Immediate as InImmediate};
+ghost use Rattle.bpf_code.specs.declared.opcode.SourceKind.TheVariants.{Register as OfRegister};
+ghost use Rattle.bpf_code.specs.declared.opcode.SourceKind.TheVariants.{Immediate as OfImmediate};
 
 use crate::code::Code;
 use crate::fields::Fields;

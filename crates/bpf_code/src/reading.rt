@@ -1,6 +1,7 @@
 ghost use Rattle.std.specs.Prelude.{◌≡◌, IsTrue, IfOk, IfSome, true, false, pos};
 ghost use Rattle.std.specs.Int.{w32};
-ghost use Rattle.bpf_code.specs.Reading.{reading_of as read_of, half_reading_of as half_of, unused_are_zero as unused_of};
+ghost use Rattle.bpf_code.specs.Reading.{reading_of as read_of, half_reading_of as half_of};
+ghost use Rattle.bpf_code.specs.Reading.{unused_are_zero as unused_of};
 ghost use Rattle.bpf_code.specs.Reading.{uses_of, offset_chooses, operation_of, extension_of, end_width_of};
 ghost use Rattle.bpf_code.specs.Reading.{on_register as register_form, instruction_of};
 ghost use Rattle.bpf_code.specs.Register.{number_of};
@@ -65,7 +66,14 @@ fn unused_are_zero(used: Uses, fields: &Fields) -> bool
         && (used.immediate || fields.immediate == 0)
 }
 
-#[tactic(auto, unfolding(crate::specs::Reading::instruction_of, crate::specs::Spelling::fields_of, crate::specs::Reading::unused_are_zero))]
+#[tactic(
+    auto,
+    unfolding(
+        crate::specs::Reading::instruction_of,
+        crate::specs::Spelling::fields_of,
+        crate::specs::Reading::unused_are_zero
+    )
+)]
 fn instruction(opcode: Opcode, dst: Register, src: Register, fields: &Fields) -> Option<Instruction>
     requires opcode { byte_of opcode ≡ fields.now.opcode }
     requires dst { number_of dst ≡ fields.now.dst }

@@ -37,7 +37,8 @@ fn push_name(line: &mut Line, instruction: Instruction)
 
 fn push_bytes(line: &mut Line, instruction: Instruction)
     requires { array_vec_len line.old + 32 ≤ LINE_BYTES }
-    ensures items { line.new.items ≡ line.old.items ++ (slot_hex (Some (fields_of instruction)) ++ slot_hex (second_slot instruction)) }
+    ensures items { line.new.items ≡ line.old.items
+        ++ (slot_hex (Some (fields_of instruction)) ++ slot_hex (second_slot instruction)) }
     ensures len { array_vec_len line.new ≤ array_vec_len line.old + 32 }
 {
     push_hex(line, &instruction.fields().to_bytes());

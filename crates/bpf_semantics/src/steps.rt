@@ -1,6 +1,7 @@
 //! Single steps: where one leads, what it looks at and leaves, how far a place goes.
 
-ghost use Rattle.std.specs.Prelude.{◌≡◌, ◌≢◌, ◌⊎◌, ℕ, ℤ, ◌+◌, ◌<◌, ◌≤◌, ◌+ℤ◌, List, [], ◌∷◌, ◌++◌, length, Some, None, IsSome};
+ghost use Rattle.std.specs.Prelude.{◌≡◌, ◌≢◌, ◌⊎◌, ℕ, ℤ, ◌+◌, ◌<◌, ◌≤◌, ◌+ℤ◌, List, [], ◌∷◌, ◌++◌, length, Some, None};
+ghost use Rattle.std.specs.Prelude.{IsSome};
 ghost use Rattle.std.specs.FinMap.{get};
 ghost use Rattle.bpf_code.specs.declared.instruction.Instruction.{Instruction};
 ghost use Rattle.bpf_code.specs.declared.instruction.Instruction.TheVariants.{Call};
@@ -10,7 +11,8 @@ ghost use Rattle.schema.specs.Schema.{Tables};
 ghost use Rattle.schema.specs.Rows.{Key, first_in};
 ghost use Rattle.schema.specs.Helper.{helper_of};
 ghost use Rattle.schema.specs.declared.helper.Helper.{Helper};
-ghost use Rattle.schema.specs.declared.helper.Helper.TheVariants.{RowGet, RowPut, RowDelete, RangeCount, RangeNext, Cancel};
+ghost use Rattle.schema.specs.declared.helper.Helper.TheVariants.{RowGet, RowPut, RowDelete, RangeCount, RangeNext};
+ghost use Rattle.schema.specs.declared.helper.Helper.TheVariants.{Cancel};
 ghost use Rattle.bpf_semantics.specs.declared.value.Value.TheVariants.{Number, Stack, Args};
 ghost use Rattle.bpf_semantics.specs.State.{State, register, past};
 ghost use Rattle.bpf_semantics.specs.Helpers.{look_at, state_after_call};

@@ -1,6 +1,7 @@
 -- Why a procedure isn't accepted, and how that is printed: `V4 slot 1`.
 use Rattle.std.specs.Prelude.{ℕ, List, ◌++◌, codes}
 use Rattle.std.specs.Fmt.{decimal}
+pub use Rattle.abs_cause.specs.declared.cause.Cause.{Cause}
 use Rattle.abs_cause.specs.Number.{cause_number}
 use Rattle.bpf_verify.specs.declared.refusal.Refusal.{Refusal}
 use Rattle.bpf_verify.specs.declared.refusal.Refusal.TheVariants.{At, OutOfMemory}

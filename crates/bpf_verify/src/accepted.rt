@@ -1,6 +1,9 @@
 //! An accepted program.
-ghost use Rattle.std.specs.Prelude.{◌≡◌, ◌≤◌};
+ghost use Rattle.std.specs.Prelude.{◌≡◌, ◌≤◌, ◌<◌, ◌^◌};
 ghost use Rattle.bpf_semantics.specs.Path.{longest_path};
+ghost use Rattle.bpf_code.specs.Program.{IsProgram};
+ghost use Rattle.schema.specs.Schema.{AreTables};
+ghost use Rattle.schema.specs.declared.limits.TheConstants.{MAX_ARGUMENTS};
 ghost use Rattle.bpf_verify.specs.Flow.{IsAccepted};
 
 use bpf_code::Code;
@@ -21,6 +24,7 @@ pub struct Accepted<A: Allocator = Global, B: Allocator = Global> {
 impl<A: Allocator, B: Allocator> Model for Accepted<A, B> {
     ghost use Rattle.std.specs.Prelude.{◌≡◌, ◌≤◌};
     ghost use Rattle.bpf_semantics.specs.Path.{longest_path};
+    ghost use Rattle.schema.specs.declared.limits.TheConstants.{MAX_ARGUMENTS};
     ghost use Rattle.bpf_verify.specs.Flow.{Procedure, IsAccepted};
     ghost use Rattle.bpf_verify.specs.Procedure.{procedure_code};
 
@@ -32,13 +36,13 @@ impl<A: Allocator, B: Allocator> Model for Accepted<A, B> {
 
     ghost invariant = { λ a.
         IsAccepted (record { program = a.code; tables = a.schema; args_len = a.args_len })
-        × (a.args_len ≤ 256) × (a.bound ≡ longest_path a.code) };
+        × (a.args_len ≤ MAX_ARGUMENTS) × (a.bound ≡ longest_path a.code) };
 }
 
 impl<A: Allocator, B: Allocator> Accepted<A, B> {
     pub(crate) fn new(code: Code<A>, schema: Schema<B>, args_len: u16, bound: u32) -> Accepted<A, B>
         requires accepted { IsAccepted (record { program = code; tables = schema; args_len = args_len }) }
-        requires few { args_len ≤ 256 }
+        requires few { args_len ≤ MAX_ARGUMENTS }
         requires bound { bound ≡ longest_path code }
         ensures { result ≡ record { program = code; tables = schema; args_len = args_len } }
     {
@@ -50,11 +54,21 @@ impl<A: Allocator, B: Allocator> Accepted<A, B> {
         }
     }
 
+    /// What is known of every accepted program. To call this does nothing.
+    pub fn known(&self)
+        ensures program { IsProgram self.now.program }
+        ensures tables { AreTables self.now.tables }
+        ensures accepted { IsAccepted self.now }
+        ensures few { self.now.args_len ≤ MAX_ARGUMENTS }
+        ensures bound { longest_path self.now.program < 2 ^ 32 }
+    {
+        self.code.known();
+        self.schema.known();
+    }
+
     /// The program.
     pub fn code(&self) -> &Code<A>
-        ensures code { result.now ≡ self.now.program }
-        // What is known of every accepted program.
-        ensures accepted { IsAccepted self.now }
+        ensures { result.now ≡ self.now.program }
     {
         &self.code
     }
@@ -69,7 +83,7 @@ impl<A: Allocator, B: Allocator> Accepted<A, B> {
     /// How many bytes its arguments have, at most 256.
     pub fn args_len(&self) -> u16
         ensures length { result ≡ self.now.args_len }
-        ensures few { result ≤ 256 }
+        ensures few { result ≤ MAX_ARGUMENTS }
     {
         self.args_len
     }

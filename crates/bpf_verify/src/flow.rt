@@ -2,6 +2,7 @@
 ghost use Rattle.std.specs.Prelude.{◌≡◌, ℕ, ◌+◌, ◌<◌, ◌≤◌, ◌^◌, ◌==◌, length, slice_index_or, replicate};
 ghost use Rattle.std.specs.Prelude.{if◌then◌else◌, [], ◌∷◌, Some, None, IfSome, IfNone, IfErr, IfOk};
 ghost use Rattle.bpf_code.specs.Program.{instruction_at};
+ghost use Rattle.schema.specs.declared.limits.TheConstants.{MAX_ARGUMENTS};
 ghost use Rattle.bpf_verify.specs.Flow.{join_one, join_with, states_from, cause_if, IsAccepted, edge_states, IsRefused};
 ghost use Rattle.bpf_verify.specs.Refusal.{RefusedBy};
 
@@ -23,7 +24,7 @@ pub fn verify<A: Allocator, B: Allocator + Clone, C: Allocator>(
     schema: &Schema<B>,
     args_len: u16,
 ) -> Result<Accepted<A, B>, Refusal>
-    requires { args_len ≤ 256 }
+    requires { args_len ≤ MAX_ARGUMENTS }
     ensures given { IfOk result (λ accepted.
         accepted ≡ record { program = code; tables = schema.now; args_len = args_len }) }
     ensures accepted { IfOk result IsAccepted }
@@ -56,7 +57,8 @@ fn scan<A: Allocator, B: Allocator>(
 ) -> Option<(usize, Cause)>
     requires empty { pending.old ≡ replicate (length code.now) None }
     requires short { length pending.old < 2 ^ 32 }
-    ensures accepted { IfNone result (IsAccepted (record { program = code.now; tables = schema.now; args_len = args_len })) }
+    ensures accepted { IfNone result
+        (IsAccepted (record { program = code.now; tables = schema.now; args_len = args_len })) }
     ensures refused { IfSome result (λ r.
         IsRefused (record { program = code.now; tables = schema.now; args_len = args_len }) r.0 r.1) }
     ensures inside { IfSome result (λ r. r.0 < length code.now) }
@@ -80,7 +82,8 @@ fn visit<A: Allocator, B: Allocator>(
 ) -> Option<Cause>
     requires slot { slot < length pending.old }
     requires short { slot < 2 ^ 32 }
-    ensures cause { result ≡ cause_if schema.now args_len (instruction_at code.now slot) (slice_index_or pending.old slot None) }
+    ensures cause { result ≡ cause_if schema.now args_len (instruction_at code.now slot)
+        (slice_index_or pending.old slot None) }
     ensures sent { result ≡ None → (j : ℕ) → slot < j → j < length pending.old
         → slice_index_or pending.new j None
         ≡ join_with (slice_index_or pending.old j None)
@@ -117,7 +120,8 @@ fn send(
     requires short { slot < 2 ^ 32 }
     requires near { IfSome slots (λ n. n < 2 ^ 32) }
     ensures { (j : ℕ) → j < length pending.old
-        → slice_index_or pending.new j None ≡ join_with (slice_index_or pending.old j None) (edge_states slot j slots state) }
+        → slice_index_or pending.new j None ≡ join_with (slice_index_or pending.old j None)
+        (edge_states slot j slots state) }
 {
     let Some(slots) = slots else {
         return;
@@ -128,7 +132,11 @@ fn send(
     arrive(pending, slot + slots, state);
 }
 
-#[tactic(auto, using(crate::proofs::FlowLemmas::arrived, crate::proofs::FlowLemmas::not_arrived), unfolding(crate::specs::Flow::join_with))]
+#[tactic(
+    auto,
+    using(crate::proofs::FlowLemmas::arrived, crate::proofs::FlowLemmas::not_arrived),
+    unfolding(crate::specs::Flow::join_with)
+)]
 fn arrive(pending: &mut [Option<AbsState>], target: usize, state: AbsState)
     ensures { (j : ℕ) → j < length pending.old → slice_index_or pending.new j None
         ≡ join_with (slice_index_or pending.old j None) (if j == target then state ∷ [] else []) }

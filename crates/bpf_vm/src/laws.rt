@@ -28,8 +28,8 @@ pub fn open_calls_can_turn<S: Store, C: Allocator + Copy>(view: &View<S, C>)
     states_fit();
 }
 
-/// An accepted procedure's run that goes on after so many instructions has one more on its longest path; where that ends
-/// it, the run is what it leaves there.
+/// An accepted procedure's run that goes on after so many instructions has one more on its longest path; where that
+/// ends it, the run is what it leaves there.
 pub fn runs_go_on_or_end()
     ensures short { (p : Procedure) (args : List ℕ) (rows : Rows) (k : ℕ) (s : State)
         → IsAcceptedProcedure p → Suits p args rows

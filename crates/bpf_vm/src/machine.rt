@@ -55,9 +55,7 @@ impl Machine {
             → HasRun procedure.now args.now rows 0 m no_effects) }
         ensures length { IsErr result ↔ (length args.now ≢ procedure.now.args_len) }
     {
-        // Asked for in any case: their contracts say what is known of an accepted procedure.
-        let _slots = procedure.code().slots();
-        let _width = procedure.schema().width(0);
+        procedure.known();
         if args.len() != usize::from(procedure.args_len()) {
             return Err(ArgsLength);
         }
@@ -104,7 +102,8 @@ impl Machine {
         ensures run { (args : List ℕ) (rows : Rows) (k : ℕ) → Suits procedure.now args rows
             → S.answers_from view.old.store rows
             → HasRun procedure.now args rows k self.old (own_effects view.old.own)
-            → AfterTurn procedure.now args rows (S.is_gone view.old.store) k result self.new (own_effects view.new.own) }
+            → AfterTurn procedure.now args rows (S.is_gone view.old.store) k result self.new
+            (own_effects view.new.own) }
         ensures short { (args : List ℕ) (rows : Rows) (k : ℕ) → Suits procedure.now args rows
             → HasRun procedure.now args rows k self.old (own_effects view.old.own)
             → k < longest_path procedure.now.program }
@@ -154,7 +153,8 @@ impl Machine {
             → S.answers_from view.old.store rows
             → HasRun procedure.now args rows k self.old (own_effects view.old.own)
             → (n : ℕ) × (k ≤ n) × (n < longest_path procedure.now.program)
-            × AfterTurn procedure.now args rows (S.is_gone view.old.store) n result self.new (own_effects view.new.own) }
+            × AfterTurn procedure.now args rows (S.is_gone view.old.store) n result self.new
+            (own_effects view.new.own) }
     {
         runs_go_on_or_end();
         for _ in 0..procedure.bound() {

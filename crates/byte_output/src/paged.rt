@@ -45,7 +45,8 @@ impl<'a, W: Write> PagedOutput<'a, W> {
 
         // Where there is room nothing leaves, so nothing can fail.
         ensures succeeds { length (pending_of self.old) + length bytes.now ≤ PAGE_BYTES → IsOk result }
-        ensures kept { length (pending_of self.old) + length bytes.now ≤ PAGE_BYTES → (output_of self.new).now ≡ (output_of self.old).now }
+        ensures kept { length (pending_of self.old) + length bytes.now ≤ PAGE_BYTES
+            → (output_of self.new).now ≡ (output_of self.old).now }
     {
         if bytes.len() > self.pending.remaining_capacity() {
             self.put_out()?;
@@ -59,7 +60,8 @@ impl<'a, W: Write> PagedOutput<'a, W> {
 
     /// Puts out what is pending, and flushes the output.
     pub fn finish(self) -> io::Result<()>
-        ensures { WritesText (W.contents (output_of self.entry).now) (W.contents self.exit.0.now) result (pending_of self.entry) }
+        ensures { WritesText (W.contents (output_of self.entry).now) (W.contents self.exit.0.now) result
+            (pending_of self.entry) }
     {
         let PagedOutput { output, pending } = self;
         put(output, &pending)?;

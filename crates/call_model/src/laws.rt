@@ -15,8 +15,8 @@ ghost use Rattle.log_model.specs.Fit.{IsCall};
 ghost use Rattle.call_model.specs.OpenCall.{OpenCall, makes_look, at_row_helper};
 ghost use Rattle.call_model.specs.Request.{or_none, has_zero};
 
-/// A call carries the request that it is begun with, and where it is begun without one that which stands for none. A request
-/// has a 0 where its session or its sequence number is 0.
+/// A call carries the request that it is begun with, and where it is begun without one that which stands for none. A
+/// request has a 0 where its session or its sequence number is 0.
 pub fn calls_carry_their_requests()
     ensures carried { (request : RequestId) → or_none (Some request) ≡ request }
     ensures none { or_none None ≡ no_request }
@@ -25,8 +25,8 @@ pub fn calls_carry_their_requests()
     ensures without { has_zero None ≡ false }
 {}
 
-/// The next instruction of a call that isn't stuck looks exactly where its run goes on over it with one look more, so never
-/// at its end; and it calls a helper that reads or writes rows exactly where it calls one that isn't the cancel.
+/// The next instruction of a call that isn't stuck looks exactly where its run goes on over it with one look more, so
+/// never at its end; and it calls a helper that reads or writes rows exactly where it calls one that isn't the cancel.
 pub fn what_the_next_instruction_does()
     ensures look { (w : Setting) (log : Log) (o : OpenCall)
         → IsCall w log o.call → moment_at w log o.call (o.turns + 1) ≢ Stuck

@@ -1,4 +1,5 @@
-//! Open calls, what a call is asked with, and what the check of a program comes to: definitions that worlds and nodes share.
+//! Open calls, what a call is asked with, and what the check of a program comes to: definitions that worlds and nodes
+//! share.
 #![tactic(auto)]
 
 pub use fault::ProgramFault;

@@ -9,8 +9,8 @@ ghost use Rattle.log_model.specs.Fit.{IsSafe, HasSafeProcedures};
 
 use acceptance::accepted_programs_never_go_wrong;
 
-/// A stored procedure that was accepted, with the tables and the length of its arguments, is safe: the one premise of the
-/// model's laws is what the verifier gives.
+/// A stored procedure that was accepted, with the tables and the length of its arguments, is safe: the one premise of
+/// the model's laws is what the verifier gives.
 pub fn accepted_procedures_are_safe()
     ensures { (tables : Tables) (p : StoredProcedure) → IsProgram p.program → AreTables tables
         → IsAccepted (record { program = p.program; tables = tables; args_len = p.args_len })

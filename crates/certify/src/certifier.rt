@@ -53,7 +53,8 @@ impl<A: Allocator + Copy> Model for Certifier<A> {
       room = spare c.requests;
     } };
 
-    ghost invariant = { λ c. HasPlaces (record { blocks = c.blocks.items; writes = c.writes.items }) × (c.window ≤ length c.writes.items) };
+    ghost invariant = { λ c. HasPlaces (record { blocks = c.blocks.items; writes = c.writes.items })
+        × (c.window ≤ length c.writes.items) };
 }
 
 impl<A: Allocator + Copy> Certifier<A> {
@@ -88,7 +89,8 @@ impl<A: Allocator + Copy> Certifier<A> {
         ensures verdict { (past : List CertifiedItem) → StandsFor self.old.memory past
             → result ≡ verdict_after self.old.memory.window past entry.now.call entry.now.looks }
         ensures compared { (past : List CertifiedItem) → StandsFor self.old.memory past
-            → self.new.compared ≡ length (comparisons_after self.old.memory.window past entry.now.call entry.now.looks) }
+            → self.new.compared ≡ length
+            (comparisons_after self.old.memory.window past entry.now.call entry.now.looks) }
         ensures memory { self.new.memory ≡ self.old.memory }
     {
         if let Some(repeated) = repeated_in(&self.requests, entry.request) {

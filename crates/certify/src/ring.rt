@@ -47,7 +47,8 @@ fn put_signature<A: Allocator>(
     ensures count { length blocks.new.items ≡ length blocks.old.items }
     ensures put { (bit : ℕ) → has_bit (signature_at (slice_index_or blocks.new.items (place / 8) []) (place % 8)) bit
         ≡ (committed && has_bit signature.now bit) }
-    ensures others { (other : ℕ) → other ≢ place → signature_at (slice_index_or blocks.new.items (other / 8) []) (other % 8)
+    ensures others { (other : ℕ) → other ≢ place
+        → signature_at (slice_index_or blocks.new.items (other / 8) []) (other % 8)
         ≡ signature_at (slice_index_or blocks.old.items (other / 8) []) (other % 8) }
 {
     if committed {

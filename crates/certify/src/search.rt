@@ -1,6 +1,7 @@
 //! The search for the first conflict.
 
-ghost use Rattle.std.specs.Prelude.{◌≡◌, ◌==◌, ◌↔◌, Bool, List, IsTrue, ◌-◌, ◌+◌, ◌/◌, ◌*◌, ◌%◌, ◌<◌, ◌≤◌, ◌^◌, ℕ, length};
+ghost use Rattle.std.specs.Prelude.{◌≡◌, ◌==◌, ◌↔◌, Bool, List, IsTrue, ◌-◌, ◌+◌, ◌/◌, ◌*◌, ◌%◌, ◌<◌, ◌≤◌, ◌^◌, ℕ};
+ghost use Rattle.std.specs.Prelude.{length};
 ghost use Rattle.std.specs.Int.{bit_at};
 ghost use Rattle.row_model.specs.Signature.{looks_set_bit};
 ghost use Rattle.sig_lanes.specs.Bits.{has_bit};
@@ -31,8 +32,8 @@ fn has_met(met: u8, lane: usize) -> bool
     met >> lane & 1 == 1
 }
 
-/// Searches calls that stand in one block, of which these lanes met: from the one that has so many before it to another,
-/// which isn't searched.
+/// Searches calls that stand in one block, of which these lanes met: from the one that has so many before it to
+/// another, which isn't searched.
 pub fn search_lanes<A: Allocator + Copy, B: Allocator>(
     met: u8,
     kept: &[WriteSet<A>],
@@ -121,8 +122,8 @@ pub fn search_since<A: Allocator + Copy, B: Allocator>(
     }
 }
 
-/// The verdict on a call of this snapshot and these looks that has so many before it and repeats none of them, and how many
-/// exact comparisons it takes.
+/// The verdict on a call of this snapshot and these looks that has so many before it and repeats none of them, and how
+/// many exact comparisons it takes.
 pub fn find_verdict<A: Allocator + Copy, B: Allocator>(
     window: u32,
     count: u32,
@@ -134,11 +135,15 @@ pub fn find_verdict<A: Allocator + Copy, B: Allocator>(
     requires places { HasPlaces (record { blocks = blocks.now; writes = kept.now }) }
     requires enough { window ≤ length kept.now }
     requires snapshot { snapshot ≤ count }
-    ensures verdict { (past : List CertifiedItem) (call : Call) → call.snapshot ≡ snapshot → first_repeated past call ≡ None
-        → StandsForLatest (record { window = window; count = count; ring = record { blocks = blocks.now; writes = kept.now } }) past
+    ensures verdict { (past : List CertifiedItem) (call : Call) → call.snapshot ≡ snapshot
+        → first_repeated past call ≡ None
+        → StandsForLatest (record { window = window; count = count;
+        ring = record { blocks = blocks.now; writes = kept.now } }) past
         → result.0 ≡ verdict_after window past call reads.now }
-    ensures compared { (past : List CertifiedItem) (call : Call) → call.snapshot ≡ snapshot → first_repeated past call ≡ None
-        → StandsForLatest (record { window = window; count = count; ring = record { blocks = blocks.now; writes = kept.now } }) past
+    ensures compared { (past : List CertifiedItem) (call : Call) → call.snapshot ≡ snapshot
+        → first_repeated past call ≡ None
+        → StandsForLatest (record { window = window; count = count;
+        ring = record { blocks = blocks.now; writes = kept.now } }) past
         → result.1 ≡ length (comparisons_after window past call reads.now) }
 {
     shared_bits_are_of_both();

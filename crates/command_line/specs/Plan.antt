@@ -2,6 +2,7 @@
 -- `dsmdb run SCRIPT --executors N --log N` and `dsmdb explain NUMBER`, and what they ask for.
 use Rattle.std.specs.Prelude.{◌≡◌, ◌≤◌, true, ℕ, List, [], ◌∷◌, codes, map, Option, Some, None}
 use Rattle.std.specs.Option.{option_and_then, unwrap_or}
+use Rattle.schema.specs.declared.limits.TheConstants.{MAX_ARGUMENTS, MAX_EXECUTORS, MAX_LOG}
 use Rattle.clap.specs.Words.{App, Rule, Row, Text, all_of, first_of, new_app, new_rule, with_rule, with_subcommand}
 use Rattle.clap.specs.declared.builder.ArgAction.TheVariants.{Set, Append}
 use Rattle.program_commands.specs.Number.{number_in, table_word}
@@ -75,7 +76,7 @@ number_of rows name least most = option_and_then (number_in least most) (first_o
 abbrev pub IsCheckOf : List Row → Plan → Type 0
 IsCheckOf rows (plan.Check file args_len tables) =
     (first_of (codes "FILE") rows ≡ Some file.now)
-    × (number_of rows (codes "ARGS") 0 256 ≡ Some args_len)
+    × (number_of rows (codes "ARGS") 0 MAX_ARGUMENTS ≡ Some args_len)
     × (map table_word (unwrap_or (all_of (codes "T:W") rows) []) ≡ map (λ t. Some t) tables.items)
 IsCheckOf rows _ = ⊥
 
@@ -86,8 +87,8 @@ IsReplayOf rows _ = ⊥
 abbrev pub IsRunOf : List Row → Plan → Type 0
 IsRunOf rows (plan.Run script executors log_limit) =
     (first_of (codes "SCRIPT") rows ≡ Some script.now)
-    × (number_of rows (codes "executors") 1 16 ≡ Some executors)
-    × (number_of rows (codes "log") 1 1048576 ≡ Some log_limit)
+    × (number_of rows (codes "executors") 1 MAX_EXECUTORS ≡ Some executors)
+    × (number_of rows (codes "log") 1 MAX_LOG ≡ Some log_limit)
 IsRunOf rows _ = ⊥
 
 -- what is explained has the number that was asked for
@@ -106,6 +107,6 @@ IsPlanOf (Some command) (plan.Explain explanation) = (command.0 ≡ codes "expla
 
 -- arguments have at most 256 bytes; there are 1 to 16 executing threads, and 1 to 1,048,576 entries
 abbrev pub IsWithinLimits : Plan → Type 0
-IsWithinLimits (plan.Check file args_len tables) = args_len ≤ 256
-IsWithinLimits (plan.Run script executors log_limit) = (1 ≤ executors) × (executors ≤ 16) × (1 ≤ log_limit) × (log_limit ≤ 1048576)
+IsWithinLimits (plan.Check file args_len tables) = args_len ≤ MAX_ARGUMENTS
+IsWithinLimits (plan.Run script executors log_limit) = (1 ≤ executors) × (executors ≤ MAX_EXECUTORS) × (1 ≤ log_limit) × (log_limit ≤ MAX_LOG)
 IsWithinLimits _ = Unit

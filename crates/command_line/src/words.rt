@@ -2,11 +2,14 @@
 
 ghost use Rattle.std.specs.Prelude.{◌≡◌, ◌≤◌, [], codes, false, Some, IfOk, map};
 ghost use Rattle.std.specs.Option.{unwrap_or};
+ghost use Rattle.schema.specs.declared.limits.TheConstants.{MAX_EXECUTORS, MAX_LOG};
 ghost use Rattle.clap.specs.Words.{all_of, app_of, found_of, rows_of, rule_of, subcommand_of, subcommand_rows_of};
 ghost use Rattle.program_commands.specs.Number.{table_word};
 ghost use Rattle.command_line.specs.Plan.{args_rule, check_line, command_line, executors_rule, explain_line, file_rule};
-ghost use Rattle.command_line.specs.Plan.{list_line, log_rule, number_rule, replay_line, run_line, script_rule, table_rule};
-ghost use Rattle.command_line.specs.Plan.{IsPlanOf, IsListOf, IsCheckOf, IsReplayOf, IsRunOf, IsExplainOf, IsWithinLimits};
+ghost use Rattle.command_line.specs.Plan.{list_line, log_rule, number_rule, replay_line, run_line, script_rule};
+ghost use Rattle.command_line.specs.Plan.{table_rule};
+ghost use Rattle.command_line.specs.Plan.{IsPlanOf, IsListOf, IsCheckOf, IsReplayOf, IsRunOf, IsExplainOf};
+ghost use Rattle.command_line.specs.Plan.{IsWithinLimits};
 ghost use Rattle.command_line.specs.Plan.{number_of};
 
 use crate::help::{RUN_HELP, SCRIPT_HELP};
@@ -14,6 +17,7 @@ use crate::request::{Plan, PlanFault};
 use clap::{Arg, ArgAction, ArgMatches, Command};
 use explanations::explain;
 use program_commands::{number_in, table};
+use schema::{MAX_ARGUMENTS, MAX_EXECUTORS, MAX_LOG};
 use std::alloc::{AllocError, Global};
 use std::convert::AsStr;
 
@@ -57,7 +61,7 @@ fn check_plan<'a>(alloc: Global, values: &ArgMatches<'a>) -> Result<Plan<'a>, Pl
     let Some(word) = values.get_str("ARGS") else {
         return Err(PlanFault::NoCommand);
     };
-    let Some(args_len) = number_in(word, 0, 256) else {
+    let Some(args_len) = number_in(word, 0, u32::from(MAX_ARGUMENTS)) else {
         return Err(PlanFault::Arguments { word });
     };
     let tables = tables(alloc, values)?;
@@ -70,7 +74,8 @@ fn check_plan<'a>(alloc: Global, values: &ArgMatches<'a>) -> Result<Plan<'a>, Pl
 
 /// The tables of `check`.
 fn tables<'a>(alloc: Global, values: &ArgMatches<'a>) -> Result<Vec<(u8, u16)>, PlanFault<'a>>
-    ensures { IfOk result (λ tables. map table_word (unwrap_or (all_of (codes "T:W") (rows_of (found_of values.now))) [])
+    ensures { IfOk result
+        (λ tables. map table_word (unwrap_or (all_of (codes "T:W") (rows_of (found_of values.now))) [])
         ≡ map (λ t. Some t) tables.items) }
 {
     match values.get_raw("T:W") {
@@ -122,13 +127,13 @@ fn run_plan<'a>(values: &ArgMatches<'a>) -> Result<Plan<'a>, PlanFault<'a>>
 
 /// How many executing threads each replica has.
 fn executors<'a>(values: &ArgMatches<'a>) -> Result<u32, PlanFault<'a>>
-    ensures number { IfOk result (λ n. number_of (rows_of (found_of values.now)) (codes "executors") 1 16 ≡ Some n) }
-    ensures range { IfOk result (λ n. (1 ≤ n) × (n ≤ 16)) }
+    ensures number { IfOk result (λ n. number_of (rows_of (found_of values.now)) (codes "executors") 1 MAX_EXECUTORS ≡ Some n) }
+    ensures range { IfOk result (λ n. (1 ≤ n) × (n ≤ MAX_EXECUTORS)) }
 {
     let Some(word) = values.get_str("executors") else {
         return Err(PlanFault::NoCommand);
     };
-    match number_in(word, 1, 16) {
+    match number_in(word, 1, MAX_EXECUTORS) {
         Some(executors) => Ok(executors),
         None => Err(PlanFault::Executors { word }),
     }
@@ -136,13 +141,13 @@ fn executors<'a>(values: &ArgMatches<'a>) -> Result<u32, PlanFault<'a>>
 
 /// How many entries the log has at most.
 fn log_limit<'a>(values: &ArgMatches<'a>) -> Result<u32, PlanFault<'a>>
-    ensures number { IfOk result (λ n. number_of (rows_of (found_of values.now)) (codes "log") 1 1048576 ≡ Some n) }
-    ensures range { IfOk result (λ n. (1 ≤ n) × (n ≤ 1048576)) }
+    ensures number { IfOk result (λ n. number_of (rows_of (found_of values.now)) (codes "log") 1 MAX_LOG ≡ Some n) }
+    ensures range { IfOk result (λ n. (1 ≤ n) × (n ≤ MAX_LOG)) }
 {
     let Some(word) = values.get_str("log") else {
         return Err(PlanFault::NoCommand);
     };
-    match number_in(word, 1, 1_048_576) {
+    match number_in(word, 1, MAX_LOG) {
         Some(log_limit) => Ok(log_limit),
         None => Err(PlanFault::LogLimit { word }),
     }
@@ -169,7 +174,8 @@ fn matches<'a, S: AsStr>(alloc: Global, words: &'a [S]) -> Result<ArgMatches<'a>
     Ok(command.try_get_matches_from(words)?)
 }
 
-/// The whole command line. Each command is made where it is added, so that few have to be let go where memory is wanting.
+/// The whole command line. Each command is made where it is added, so that few have to be let go where memory is
+/// wanting.
 fn dsmdb_command<'a>(alloc: Global) -> Result<Command<'a>, AllocError>
     ensures { IfOk result (λ c. app_of c ≡ command_line) }
 {

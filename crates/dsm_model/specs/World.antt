@@ -1,6 +1,7 @@
 -- A world of replicas that share one log: what it is made of, and what each step answers and leaves.
 use Rattle.std.specs.Prelude.{◌≡◌, ◌⊎◌, ℕ, zero, suc, ◌+◌, ◌-◌, ◌==◌, nat_le, nat_lt, Bool, true, false, not, ◌&&◌, ◌||◌, if◌then◌else◌, List, [], ◌∷◌, ◌++◌, length, replicate, slice_get, slice_set, Option, Some, None}
 use Rattle.std.specs.FinMap.{len}
+use Rattle.schema.specs.declared.limits.TheConstants.{MAX_ARGUMENTS, MAX_LOG}
 use Rattle.bpf_semantics.specs.Run.{Run}
 use Rattle.log_model.specs.declared.verdict.Verdict.{Verdict}
 use Rattle.log_model.specs.declared.request.RequestId.{RequestId}
@@ -33,7 +34,7 @@ pub data Step : Type 0 where
 
 -- the most calls and additions of a world, and items of a log
 abbrev pub max_calls : ℕ
-max_calls = 1048576
+max_calls = MAX_LOG
 
 -- at first so many replicas run, and there is neither a log nor a call
 abbrev pub first_world : ℕ → World
@@ -170,7 +171,7 @@ after_add_checked world name number args_len (Passed program) =
 abbrev pub after_add : World → List ℕ → ℕ → ℕ → ProgramCheck → Outcome × World
 after_add world name number args_len checked =
     if is_full world then (Refused TooManyCalls, world)
-    else if nat_lt 256 args_len then (Refused ArgumentsLimit, world)
+    else if nat_lt MAX_ARGUMENTS args_len then (Refused ArgumentsLimit, world)
     else after_add_checked world name number args_len checked
 
 -- ---- a step

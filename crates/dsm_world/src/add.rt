@@ -1,6 +1,7 @@
 //! A procedure is added.
 
 ghost use Rattle.std.specs.Prelude.{◌≡◌, ◌⊎◌, ◌≤◌, ◌++◌, [], ◌∷◌, IfOk, IfErr, OnOk, OnErr};
+ghost use Rattle.schema.specs.declared.limits.TheConstants.{MAX_ARGUMENTS};
 ghost use Rattle.bpf_code.specs.Program.{IsProgram};
 ghost use Rattle.bpf_verify.specs.Flow.{IsAccepted};
 ghost use Rattle.call_model.specs.declared.fault.ProgramFault.{ProgramFault};
@@ -22,13 +23,10 @@ use log_entry::{AddedProcedure, Entry};
 use log_model::{a_log_only_grows, one_more_entry_carries_its_run};
 use program_checks::{CheckFault, check_program};
 use row_sets::Bytes;
-use schema::Schema;
+use schema::{MAX_ARGUMENTS, Schema};
 use std::alloc::{AllocError, Allocator};
 use std::sync::Arc;
 use stored_procedures::is_name;
-
-/// The most bytes that the arguments of a procedure have.
-const MAX_ARGS: u16 = 256;
 
 /// Appends a procedure to the log, where its program is accepted for the tables.
 pub(crate) fn add<A: Allocator + Copy>(
@@ -55,7 +53,7 @@ pub(crate) fn add<A: Allocator + Copy>(
     if world.calls.len() + world.additions as usize >= MAX_CALLS {
         return Outcome::Refused(StepRefusal::TooManyCalls);
     }
-    if args_len > MAX_ARGS {
+    if args_len > MAX_ARGUMENTS {
         return Outcome::Refused(StepRefusal::ArgumentsLimit);
     }
     let alloc = world.alloc;
@@ -83,12 +81,13 @@ fn checked<A: Allocator + Copy>(
     schema: &Schema<A>,
     args_len: u16,
 ) -> Result<Accepted<A, A>, StepRefusal>
-    requires { args_len ≤ 256 }
+    requires { args_len ≤ MAX_ARGUMENTS }
     ensures given { IfOk result (λ accepted. (accepted.tables ≡ schema.now) × (accepted.args_len ≡ args_len)) }
     ensures passed { IfOk result (λ accepted. check_of schema.now args_len bytes.now ≡ Passed accepted.program) }
     ensures accepted { IfOk result (λ accepted. IsProgram accepted.program × IsAccepted accepted) }
     ensures refused { IfErr result (λ refusal. (refusal ≡ OutOfMemory)
-        ⊎ ((fault : ProgramFault) × (refusal ≡ ProgramRefused fault) × (check_of schema.now args_len bytes.now ≡ Failed fault))) }
+        ⊎ ((fault : ProgramFault) × (refusal ≡ ProgramRefused fault)
+        × (check_of schema.now args_len bytes.now ≡ Failed fault))) }
 {
     match check_program(alloc, bytes, schema, args_len) {
         Ok(accepted) => Ok(accepted),

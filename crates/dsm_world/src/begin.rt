@@ -12,11 +12,12 @@ use call_model::{has_zero, or_none};
 use dsm_model::{Outcome, StepRefusal, steps_keep_a_world};
 use log_model::{RequestId, a_log_only_grows, rows_fit_the_schema};
 use replica::replicas_follow_the_log;
+use schema::MAX_LOG;
 use std::alloc::Allocator;
 use world_calls::OpenCall;
 
 /// The most calls and additions of a world, and entries of its log.
-pub(crate) const MAX_CALLS: usize = 1_048_576;
+pub(crate) const MAX_CALLS: usize = MAX_LOG as usize;
 
 /// Begins a call of a procedure at a replica, with a request or without one.
 pub(crate) fn begin<A: Allocator + Copy>(
@@ -27,7 +28,8 @@ pub(crate) fn begin<A: Allocator + Copy>(
     request: Option<RequestId>,
 ) -> Outcome
     requires { AreConsistentHoldings world.old }
-    ensures step { IsStep (setting_of (system_of world.old)) (world_of (system_of world.old)) (Begin replica procedure args.now request)
+    ensures step { IsStep (setting_of (system_of world.old)) (world_of (system_of world.old))
+        (Begin replica procedure args.now request)
         result (world_of (system_of world.new)) }
     ensures setting { setting_of (system_of world.new) ≡ setting_of (system_of world.old) }
     ensures consistent { AreConsistentHoldings world.new }

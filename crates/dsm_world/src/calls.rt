@@ -36,7 +36,8 @@ pub(crate) fn take_call<A: Allocator + Copy>(
         ≡ Some (Some r.1.value)) }
     ensures taken { IfSome result (λ r. map (λ slot. option_map (λ b. b.value) slot) calls.new.items
         ≡ slice_set (map (λ slot. option_map (λ b. b.value) slot) calls.old.items) r.0 None) }
-    ensures none { result ≡ None → flatten (numbered (map (λ slot. option_map (λ b. b.value) slot) calls.old.items) number) ≡ None }
+    ensures none { result ≡ None
+        → flatten (numbered (map (λ slot. option_map (λ b. b.value) slot) calls.old.items) number) ≡ None }
     ensures unchanged { result ≡ None → calls.new.items ≡ calls.old.items }
 {
     let at = index_of(number, calls.len())?;

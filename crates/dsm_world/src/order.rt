@@ -46,8 +46,10 @@ pub(crate) fn order<A: Allocator + Copy>(world: &mut Holdings<A>, call: u32) -> 
 
 /// Puts a call behind the other entries.
 fn append<A: Allocator + Copy>(entries: &mut Vec<Entry<A>, A>, call: ExecutedCall<A>) -> Outcome
-    ensures appended { IsAppended (entries_of entries.old.items) (CallEntry call) result (entries_of entries.new.items) }
-    ensures left { (entries.new.items ≡ entries.old.items) ⊎ (entries.new.items ≡ entries.old.items ++ LogCall call ∷ []) }
+    ensures appended { IsAppended (entries_of entries.old.items) (CallEntry call) result
+        (entries_of entries.new.items) }
+    ensures left { (entries.new.items ≡ entries.old.items)
+        ⊎ (entries.new.items ≡ entries.old.items ++ LogCall call ∷ []) }
 {
     if entries.len() >= MAX_CALLS {
         return Outcome::Refused(StepRefusal::LogFull);

@@ -21,7 +21,8 @@ pub struct ListedRows<B: Allocator + Copy = Global> {
 }
 
 impl<A: Allocator + Copy> World<A> {
-    /// The rows of a replica, by its number, after the position to which it has come; none where there is no such replica.
+    /// The rows of a replica, by its number, after the position to which it has come; none where there is no such
+    /// replica.
     pub fn rows<B: Allocator + Copy>(
         &self,
         alloc: B,
@@ -45,8 +46,8 @@ impl<A: Allocator + Copy> World<A> {
         }))
     }
 
-    /// The rows of a replica, by its number, after a position; none where there is no such replica, or it hasn't come so far.
-    /// They are gone where more than the window was delivered to it since.
+    /// The rows of a replica, by its number, after a position; none where there is no such replica, or it hasn't come
+    /// so far. They are gone where more than the window was delivered to it since.
     pub fn at<'a>(&'a self, replica: u32, position: u32) -> Option<At<'a, A>>
         ensures there { IsSome result → IsSome (numbered (world_of self.now).replicas replica) }
         ensures reached { (r : ModelReplica) → numbered (world_of self.now).replicas replica ≡ Some r

@@ -1,12 +1,15 @@
 //! A world of replicas.
 
 ghost use Rattle.std.specs.Prelude.{false, ◌≡◌, ℕ, ◌+◌, ◌<◌, ◌≤◌, ◌++◌, [], ◌∷◌, length, map};
-ghost use Rattle.std.specs.Prelude.{option_map, slice_get, Some, None, IsSome, true, IfOk, OnErr, vec_len, vec_capacity};
+ghost use Rattle.std.specs.Prelude.{option_map, slice_get, Some, None, IsSome, true, IfOk, OnErr, vec_len};
+ghost use Rattle.std.specs.Prelude.{vec_capacity};
+ghost use Rattle.schema.specs.declared.limits.TheConstants.{MAX_REPLICAS, MAX_WINDOW};
 ghost use Rattle.log_model.specs.declared.verdict.Verdict.{Verdict as ModelVerdict};
 ghost use Rattle.log_model.specs.declared.verdict.Verdict.TheVariants.{Commit};
 ghost use Rattle.dsm_model.specs.declared.outcome.Outcome.TheVariants.{Exit, Ordered, Delivered};
 ghost use Rattle.bpf_semantics.specs.Path.{longest_path};
-ghost use Rattle.log_model.specs.Log.{Call, Log, StoredProcedure, by_name, procedure_of, procedures_after, run_in, verdict_of};
+ghost use Rattle.log_model.specs.Log.{Call, Log, StoredProcedure, by_name, procedure_of, procedures_after, run_in};
+ghost use Rattle.log_model.specs.Log.{verdict_of};
 ghost use Rattle.log_model.specs.Entries.{CallEntry, ExecutedCall};
 ghost use Rattle.log_entry.specs.Kind.{entry_of};
 ghost use Rattle.log_model.specs.Fit.{HasSafeProcedures};
@@ -71,7 +74,8 @@ fn take_step<A: Allocator + Copy>(world: &mut Holdings<A>, step: Step<'_>) -> Ou
         (step_of (setting_of (system_of world.old)) step.entry) result (world_of (system_of world.new)) }
     ensures setting { setting_of (system_of world.new) ≡ setting_of (system_of world.old) }
     ensures consistent { AreConsistentHoldings world.new }
-    ensures given { IsGiven (setting_of (system_of world.old)) (step_of (setting_of (system_of world.old)) step.entry) result }
+    ensures given { IsGiven (setting_of (system_of world.old))
+        (step_of (setting_of (system_of world.old)) step.entry) result }
 {
     match step {
         Step::Begin {
@@ -134,16 +138,16 @@ fn push_within<A: Allocator>(outcomes: &mut Vec<Outcome, A>, outcome: Outcome)
 }
 
 impl<A: Allocator + Copy> World<A> {
-    /// A world of so many replicas that run at position 0, in which nothing was begun or ordered. It has 1 to 8 replicas, and
-    /// each keeps the rows of 1 to 4,096 positions besides the last.
+    /// A world of so many replicas that run at position 0, in which nothing was begun or ordered. It has 1 to 8
+    /// replicas, and each keeps the rows of 1 to 4,096 positions besides the last.
     pub fn new(
         alloc: A,
         replicas: u32,
         window: u32,
         catalogue: Catalogue<A>,
     ) -> Result<World<A>, AllocError>
-        requires replicas { (1 ≤ replicas) × (replicas ≤ 8) }
-        requires window { (1 ≤ window) × (window ≤ 4096) }
+        requires replicas { (1 ≤ replicas) × (replicas ≤ MAX_REPLICAS) }
+        requires window { (1 ≤ window) × (window ≤ MAX_WINDOW) }
         ensures first { IfOk result (λ w. world_of w ≡ first_world replicas) }
         ensures setting { IfOk result (λ w. setting_of w ≡ record {
           tables = catalogue.tables;
@@ -178,13 +182,13 @@ impl<A: Allocator + Copy> World<A> {
         take_step(&mut self.holdings, step)
     }
 
-    /// Steps, one after another: what each answers. Room for all answers is made first; where there is no memory for it,
-    /// no step is taken.
+    /// Steps, one after another: what each answers. Room for all answers is made first; where there is no memory for
+    /// it, no step is taken.
     ///
-    /// Whatever the steps are, and whichever of them find no memory: they go on as the definitions of the world say; each
-    /// open call is sound; each ordered call is committed exactly where the written test says so; what a replica keeps are
-    /// the verdicts, rows and procedures of the log as far as it has come; a reply that was answered is that of the call run in
-    /// its turn, where it commits; and enough turns have answered one.
+    /// Whatever the steps are, and whichever of them find no memory: they go on as the definitions of the world say;
+    /// each open call is sound; each ordered call is committed exactly where the written test says so; what a replica
+    /// keeps are the verdicts, rows and procedures of the log as far as it has come; a reply that was answered is that
+    /// of the call run in its turn, where it commits; and enough turns have answered one.
     pub fn run(&mut self, steps: &[Step<'_>]) -> Result<Vec<Outcome, A>, AllocError>
         ensures steps { IfOk result (λ outcomes. AreSteps (setting_of self.old) (world_of self.old)
             (map (step_of (setting_of self.old)) steps.now) outcomes.items (world_of self.new)) }
@@ -201,7 +205,8 @@ impl<A: Allocator + Copy> World<A> {
             → slice_get outcomes.items j ≡ Some (Ordered position)
             → i < j → verdict_of (setting_of self.new) (world_of self.new).log position ≡ Some Commit
             → IsSerialReply (setting_of self.new) (world_of self.new).log position reply) }
-        // A call of which as many turns ran an instruction as its longest path has was answered Exit, by one of these steps.
+        // A call of which as many turns ran an instruction as its longest path has was answered Exit, by one of these
+        // steps.
         ensures exits { IfOk result (λ outcomes. (c : ℕ) (call : Call) (p : StoredProcedure)
             → IsCallNumbered (world_of self.old) (map (step_of (setting_of self.old)) steps.now) outcomes.items c call
             → procedure_of (setting_of self.new) (world_of self.new).log call ≡ Some p
@@ -225,17 +230,19 @@ impl<A: Allocator + Copy> World<A> {
         Ok(outcomes)
     }
 
-    /// What is known of every world: steps lead to such a one, its catalogue's procedures were accepted and are safe, its
-    /// entries are those of a log and carry their runs, and what each replica keeps are the verdicts, rows and procedures of
-    /// the log as far as it has come. Each open call is sound, and its run, with the reply that a turn answers at its end, stays
-    /// the same however long the log becomes; an entry carries the reply of its call's run, and where it commits that of the
-    /// call run in its turn. So whoever takes single steps knows what becomes of a reply.
+    /// What is known of every world: steps lead to such a one, its catalogue's procedures were accepted and are safe,
+    /// its entries are those of a log and carry their runs, and what each replica keeps are the verdicts, rows and
+    /// procedures of the log as far as it has come. Each open call is sound, and its run, with the reply that a turn
+    /// answers at its end, stays the same however long the log becomes; an entry carries the reply of its call's run,
+    /// and where it commits that of the call run in its turn. So whoever takes single steps knows what becomes of a
+    /// reply.
     pub fn keeps_what_was_delivered(&self)
         ensures world { IsWorld (setting_of self.now) (world_of self.now) }
         ensures catalogue { IsCatalogue self.now.catalogue }
         ensures procedures { HasSafeProcedures (setting_of self.now) }
         ensures entries { AreEntriesOf (setting_of self.now) self.now.entries }
-        ensures replicas { (r : ℕ) (k : ReplicaState) → numbered self.now.replicas r ≡ Some k → KeepsDelivered self.now k }
+        ensures replicas { (r : ℕ) (k : ReplicaState) → numbered self.now.replicas r ≡ Some k
+            → KeepsDelivered self.now k }
         ensures sound { (c : ℕ) (o : ModelCall) → open_call (world_of self.now) c ≡ Some o
             → IsSound (setting_of self.now) (world_of self.now).log o }
         ensures stays { (c : ℕ) (o : ModelCall) (more : Log) → open_call (world_of self.now) c ≡ Some o

@@ -1,5 +1,5 @@
-//! A program that opens a node of its own: three replicas, four callers with a session each, and a look at what came of it.
-//! docs/EMBEDDING.md goes through it.
+//! A program that opens a node of its own: three replicas, four callers with a session each, and a look at what came of
+//! it. docs/EMBEDDING.md goes through it.
 #![tactic(auto)]
 
 ghost use Rattle.std.specs.Prelude.{◌≡◌};
@@ -84,7 +84,8 @@ fn call<J: LogSetting + Ledgers + Send + Sync + 'static, R: Wait>(
     done
 }
 
-/// Opens a node, has callers call, and ends it. How many additions were done, how many committed, and whether the replicas agree.
+/// Opens a node, has callers call, and ends it. How many additions were done, how many committed, and whether the
+/// replicas agree.
 fn use_node<
     J: LogSetting + Ledgers + Send + Sync + 'static,
     R: Threads + Wait + Copy + Send + Sync + 'static,

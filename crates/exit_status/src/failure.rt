@@ -11,7 +11,8 @@ use std::io::Write;
 
 /// Writes a line with what a stream says of its failure, as far as a line has room for it.
 pub fn put_error<E: Write>(faults: &mut E, error: &io::Error) -> io::Result<()>
-    ensures { (message : List ℕ) × WritesText (E.contents faults.old) (E.contents faults.new) result (failure_line message) }
+    ensures { (message : List ℕ) × WritesText (E.contents faults.old) (E.contents faults.new) result
+        (failure_line message) }
 {
     let mut message = Line::new();
     let _ = write!(message, "{error}");

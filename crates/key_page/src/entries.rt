@@ -176,7 +176,8 @@ pub fn split<A: Allocator + Copy>(
 /// Makes room for one more version at a place.
 pub fn reserve_at<A: Allocator>(entries: &mut Vec<Entry<A>, A>, at: usize) -> Result<(), AllocError>
     requires { at < length entries.old.items }
-    ensures { (d : Slot) → IsReserved (is_ok result) (slice_index_or entries.old.items at d) (slice_index_or entries.new.items at d)
+    ensures { (d : Slot) → IsReserved (is_ok result) (slice_index_or entries.old.items at d)
+        (slice_index_or entries.new.items at d)
         × (entries.new.items ≡ slice_set entries.old.items at (slice_index_or entries.new.items at d)) }
 {
     entries[at].reserve()
@@ -193,7 +194,8 @@ pub fn push_at<A: Allocator>(
     requires room { (d : Slot) → HasRoom (slice_index_or entries.old.items at d).chain }
     requires width { (d : Slot) → IfSome row (λ r. length r.now ≡ (slice_index_or entries.old.items at d).chain.width) }
     ensures { (d : Slot)
-        → IsPushed position (option_copied row.entry) (slice_index_or entries.old.items at d) (slice_index_or entries.new.items at d)
+        → IsPushed position (option_copied row.entry) (slice_index_or entries.old.items at d)
+        (slice_index_or entries.new.items at d)
         × (entries.new.items ≡ slice_set entries.old.items at (slice_index_or entries.new.items at d)) }
 {
     entries[at].push(position, row);
@@ -202,7 +204,8 @@ pub fn push_at<A: Allocator>(
 /// Drops what no position from the horizon on sees.
 pub fn prune_at<A: Allocator>(entries: &mut Vec<Entry<A>, A>, at: usize, horizon: u32)
     requires { at < length entries.old.items }
-    ensures { (d : Slot) → IsPruned horizon (slice_index_or entries.old.items at d) (slice_index_or entries.new.items at d)
+    ensures { (d : Slot) → IsPruned horizon (slice_index_or entries.old.items at d)
+        (slice_index_or entries.new.items at d)
         × (entries.new.items ≡ slice_set entries.old.items at (slice_index_or entries.new.items at d)) }
 {
     entries[at].prune(horizon);

@@ -126,7 +126,8 @@ impl<A: Allocator> Page<A> {
         requires at { at < length self.old }
         requires room { (d : Slot) → HasRoom (slice_index_or self.old at d).chain }
         requires width { (d : Slot) → IfSome row (λ r. length r.now ≡ (slice_index_or self.old at d).chain.width) }
-        ensures { (d : Slot) → IsPushed position (option_copied row.entry) (slice_index_or self.old at d) (slice_index_or self.new at d)
+        ensures { (d : Slot) → IsPushed position (option_copied row.entry) (slice_index_or self.old at d)
+            (slice_index_or self.new at d)
             × (self.new ≡ slice_set self.old at (slice_index_or self.new at d)) }
     {
         entries::push_at(&mut self.entries, at, position, row);

@@ -32,7 +32,8 @@ pub fn reserve_at<A: Allocator>(
         → IsReserved (is_ok result) (slice_index_or (slice_index_or pages.old.items page p) at d)
         (slice_index_or (slice_index_or pages.new.items page p) at d)
         × (pages.new.items ≡ slice_set pages.old.items page
-        (slice_set (slice_index_or pages.old.items page p) at (slice_index_or (slice_index_or pages.new.items page p) at d))) }
+        (slice_set (slice_index_or pages.old.items page p) at
+        (slice_index_or (slice_index_or pages.new.items page p) at d))) }
 {
     pages[page].reserve_at(at)
 }
@@ -47,14 +48,16 @@ pub fn push_at<A: Allocator>(
 )
     requires page { page < length pages.old.items }
     requires at { (p : List Slot) → at < length (slice_index_or pages.old.items page p) }
-    requires room { (p : List Slot) (d : Slot) → HasRoom (slice_index_or (slice_index_or pages.old.items page p) at d).chain }
+    requires room { (p : List Slot) (d : Slot) → HasRoom
+        (slice_index_or (slice_index_or pages.old.items page p) at d).chain }
     requires width { (p : List Slot) (d : Slot)
         → IfSome row (λ r. length r.now ≡ (slice_index_or (slice_index_or pages.old.items page p) at d).chain.width) }
     ensures { (p : List Slot) (d : Slot)
         → IsPushed position (option_copied row.entry) (slice_index_or (slice_index_or pages.old.items page p) at d)
         (slice_index_or (slice_index_or pages.new.items page p) at d)
         × (pages.new.items ≡ slice_set pages.old.items page
-        (slice_set (slice_index_or pages.old.items page p) at (slice_index_or (slice_index_or pages.new.items page p) at d))) }
+        (slice_set (slice_index_or pages.old.items page p) at
+        (slice_index_or (slice_index_or pages.new.items page p) at d))) }
 {
     pages[page].push_at(at, position, row);
 }
@@ -221,7 +224,8 @@ pub fn reserve<A: Allocator + Copy>(
 ) -> Result<(), AllocError>
     requires { ArePages width pages.old.items }
     ensures pages { ArePages width pages.new.items }
-    ensures inserted { OnOk result (chain_at (all_slots pages.old.items) key ≡ None → IsInserted key pages.old.items pages.new.items) }
+    ensures inserted { OnOk result (chain_at (all_slots pages.old.items) key ≡ None
+        → IsInserted key pages.old.items pages.new.items) }
     ensures versions { (q : ℕ) → versions_at (all_slots pages.new.items) q ≡ versions_at (all_slots pages.old.items) q }
     ensures room { OnOk result (HasRoomAt (all_slots pages.new.items) key) }
     ensures more { (q : ℕ) → HasRoomAt (all_slots pages.old.items) q → HasRoomAt (all_slots pages.new.items) q }
@@ -241,12 +245,15 @@ pub fn push<A: Allocator>(pages: &mut Vec<Page<A>, A>, key: u64, position: u32, 
     requires rising { AreRising (all_slots pages.old.items) }
     requires filled { AreFilled pages.old.items }
     requires room { HasRoomAt (all_slots pages.old.items) key }
-    requires width { IfSome row (λ r. IsSomeAnd (chain_at (all_slots pages.old.items) key) (λ k. length r.now ≡ k.width)) }
+    requires width { IfSome row
+        (λ r. IsSomeAnd (chain_at (all_slots pages.old.items) key) (λ k. length r.now ≡ k.width)) }
     ensures pages { (w : ℕ) → ArePages w pages.old.items → ArePages w pages.new.items }
     ensures versions { (q : ℕ) → versions_at (all_slots pages.new.items) q ≡ (if key == q
-        then versions_at (all_slots pages.old.items) q ++ record { position = position; row = option_copied row.entry } ∷ []
+        then versions_at (all_slots pages.old.items) q ++ record { position = position; row = option_copied row.entry }
+        ∷ []
         else versions_at (all_slots pages.old.items) q) }
-    ensures room { (q : ℕ) → key ≢ q → HasRoomAt (all_slots pages.old.items) q → HasRoomAt (all_slots pages.new.items) q }
+    ensures room { (q : ℕ) → key ≢ q → HasRoomAt (all_slots pages.old.items) q
+        → HasRoomAt (all_slots pages.new.items) q }
 {
     let found = find(pages, key);
     prove!(found.is_some());
@@ -258,7 +265,8 @@ pub fn push<A: Allocator>(pages: &mut Vec<Page<A>, A>, key: u64, position: u32, 
 /// Prunes a page.
 fn prune_at<A: Allocator>(pages: &mut Vec<Page<A>, A>, page: usize, horizon: u32)
     requires { page < length pages.old.items }
-    ensures { (p : List Slot) → IsPrunedTo horizon (slice_index_or pages.old.items page p) (slice_index_or pages.new.items page p)
+    ensures { (p : List Slot) → IsPrunedTo horizon (slice_index_or pages.old.items page p)
+        (slice_index_or pages.new.items page p)
         × (pages.new.items ≡ slice_set pages.old.items page (slice_index_or pages.new.items page p)) }
 {
     pages[page].prune(horizon);

@@ -67,7 +67,8 @@ impl<A: Allocator> KeyTable<A> {
 
     /// The first row in a range at a position, with its key.
     pub fn first(&self, position: u32, lo: u64, hi: u64) -> Option<(u64, &[u8])>
-        ensures first { option_map (λ f. (f.0, f.1.now)) result ≡ slice_get (rows_between position lo hi self.now.slots) 0 }
+        ensures first { option_map (λ f. (f.0, f.1.now)) result
+            ≡ slice_get (rows_between position lo hi self.now.slots) 0 }
         ensures rising { AreRising self.now.slots }
         // What is known of every table: a greater number than any key has no versions.
         ensures words { (q : ℕ) → 2 ^ 64 ≤ q → versions_at self.now.slots q ≡ [] }
@@ -104,7 +105,8 @@ impl<A: Allocator> KeyTable<A> {
 
     /// Drops from each key the versions that no position from the horizon on sees, and the keys of which none is left.
     pub fn prune(&mut self, horizon: u32)
-        ensures versions { (q : ℕ) → versions_at self.new.slots q ≡ needed_versions horizon (versions_at self.old.slots q) }
+        ensures versions { (q : ℕ) → versions_at self.new.slots q
+            ≡ needed_versions horizon (versions_at self.old.slots q) }
         ensures kept { (q : ℕ) → IsSome (chain_at self.new.slots q) → versions_at self.new.slots q ≢ [] }
         ensures width { self.new.width ≡ self.old.width }
     {

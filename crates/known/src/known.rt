@@ -6,8 +6,8 @@ ghost use Rattle.once_cell.specs.Once.{noted};
 use once_cell::race::Note;
 use std::marker::{Model, PhantomData};
 
-/// What shows that the set-once cell `cell` holds `value` for good. It has no bytes, and threads share it by reference: a
-/// `Note` of `once_cell` says the same, but lets neither be had of it.
+/// What shows that the set-once cell `cell` holds `value` for good. It has no bytes, and threads share it by reference:
+/// a `Note` of `once_cell` says the same, but lets neither be had of it.
 pub struct Known<T> {
     marker: PhantomData<T>,
     pub ghost cell: { ℕ },

@@ -9,8 +9,8 @@ use crate::known::Known;
 use once_cell::race::Note;
 use std::marker::{Model, PhantomData};
 
-/// What shows of each cell in a row that it holds its value for good. It has no bytes, however long it is, so that it can be
-/// had again, compared and added to without a loop and without memory.
+/// What shows of each cell in a row that it holds its value for good. It has no bytes, however long it is, so that it
+/// can be had again, compared and added to without a loop and without memory.
 pub struct Row<T> {
     marker: PhantomData<T>,
     pub ghost known: { List (ℕ × T) } by { coded_list (coded× coded_ℕ T.code) },

@@ -11,8 +11,8 @@ use std::alloc::{Allocator, Global};
 use std::marker::Model;
 use std::sync::Arc;
 
-/// A call that begins: what it has seen of the log, whose rows it reads, and the program of its procedure after that. Only a
-/// replica makes one. Contracts see what it has seen, the procedure's number and the program.
+/// A call that begins: what it has seen of the log, whose rows it reads, and the program of its procedure after that.
+/// Only a replica makes one. Contracts see what it has seen, the procedure's number and the program.
 #[derive(Drop)]
 pub struct BegunCall<J: LogSetting, P: Allocator + Copy = Global> {
     seen: Seen<J, P>,

@@ -13,9 +13,11 @@ use std::alloc::Allocator;
 /// What was seen of a log says of its last position what every longer list of its entries says.
 pub(crate) fn beginnings_say_the_same<A: Allocator>()
     ensures rows { (w : Setting) (seen entries : List (LogEntry A)) → IsPrefix seen entries
-        → rows_after w (items_of (entries_of entries)) (length seen) ≡ rows_after w (items_of (entries_of seen)) (length seen) }
+        → rows_after w (items_of (entries_of entries)) (length seen)
+        ≡ rows_after w (items_of (entries_of seen)) (length seen) }
     ensures verdicts { (w : Setting) (seen entries : List (LogEntry A)) → IsPrefix seen entries → 1 ≤ length seen
-        → verdict_of w (items_of (entries_of entries)) (length seen) ≡ verdict_of w (items_of (entries_of seen)) (length seen) }
+        → verdict_of w (items_of (entries_of entries)) (length seen)
+        ≡ verdict_of w (items_of (entries_of seen)) (length seen) }
 {
     a_log_only_grows();
 }

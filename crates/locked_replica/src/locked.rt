@@ -1,6 +1,8 @@
 //! A replica beside what was delivered to it.
 
-ghost use Rattle.std.specs.Prelude.{◌≡◌, ◌-◌, ◌<◌, ◌≤◌, ℕ, [], length, nat_lt, false, IfOk, IsFalse, IsTrue, Some, cond, slice_get, ◌+◌};
+ghost use Rattle.std.specs.Prelude.{◌≡◌, ◌-◌, ◌<◌, ◌≤◌, ℕ, [], length, nat_lt, false, IfOk, IsFalse, IsTrue, Some};
+ghost use Rattle.std.specs.Prelude.{cond, slice_get, ◌+◌};
+ghost use Rattle.schema.specs.declared.limits.TheConstants.{MAX_LOG};
 ghost use Rattle.schema.specs.Schema.{AreTables};
 ghost use Rattle.rows_mv.specs.Versions.{AnswersFrom};
 ghost use Rattle.log_model.specs.Log.{is_commit, procedures_after, rows_after, verdict_of};
@@ -38,8 +40,8 @@ fn commits_of_one(verdict: Verdict) -> u32
     }
 }
 
-/// A replica beside what was delivered to it. Contracts see both. Each value of the type stands for what was delivered, so
-/// that it does wherever a lock that guards it is free.
+/// A replica beside what was delivered to it. Contracts see both. Each value of the type stands for what was delivered,
+/// so that it does wherever a lock that guards it is free.
 #[derive(Drop)]
 pub struct LockedReplica<J: LogSetting, A: Allocator + Copy = Global, P: Allocator + Copy = A> {
     replica: Replica<A, P>,
@@ -84,7 +86,7 @@ impl<J: LogSetting, A: Allocator + Copy, P: Allocator + Copy> LockedReplica<J, A
     /// How many entries were delivered.
     pub fn position(&self) -> u32
         ensures position { result ≡ length self.now.entries }
-        ensures few { length self.now.entries ≤ 1048576 }
+        ensures few { length self.now.entries ≤ MAX_LOG }
     {
         self.seen.len()
     }
@@ -136,7 +138,8 @@ impl<J: LogSetting, A: Allocator + Copy, P: Allocator + Copy> LockedReplica<J, A
         }
     }
 
-    /// The rows after what a call has seen, whatever was delivered since. They are gone where that is more than the window.
+    /// The rows after what a call has seen, whatever was delivered since. They are gone where that is more than the
+    /// window.
     pub fn at<'a>(&'a self, seen: &Seen<J, P>) -> At<'a, A>
         requires { length seen.now ≤ length self.now.entries }
         ensures answers { ⟦<At<'a, A> as Store>⟧.answers_from result
@@ -150,8 +153,8 @@ impl<J: LogSetting, A: Allocator + Copy, P: Allocator + Copy> LockedReplica<J, A
         self.replica.at(seen.len())
     }
 
-    /// How a call of a procedure begins here, which may not see less of the log than some least position. It sees what was
-    /// delivered.
+    /// How a call of a procedure begins here, which may not see less of the log than some least position. It sees what
+    /// was delivered.
     pub fn begin(&self, least: u32, procedure: u16, args: &[u8]) -> Result<Begin<J, P>, AllocError>
         ensures { IfOk result (λ begin. Begins J.setting self.now least procedure args.now begin) }
     {
@@ -222,8 +225,8 @@ impl<J: LogSetting, A: Allocator + Copy, P: Allocator + Copy> LockedReplica<J, A
         true
     }
 
-    /// The entries are of a log of this setting, the replica's verdicts and procedures are that log's, and so are its rows at
-    /// each position within the window.
+    /// The entries are of a log of this setting, the replica's verdicts and procedures are that log's, and so are its
+    /// rows at each position within the window.
     pub fn keeps_what_was_delivered(&self)
         ensures schema { AreTables J.setting.tables }
         ensures position { self.now.replica.position ≡ length self.now.entries }
@@ -233,7 +236,8 @@ impl<J: LogSetting, A: Allocator + Copy, P: Allocator + Copy> LockedReplica<J, A
         ensures verdicts { (before : ℕ) (c : Certification) → slice_get self.now.replica.certifications before ≡ Some c
             → verdict_of J.setting (items_of (entries_of self.now.entries)) (before + 1) ≡ Some c.verdict }
         ensures rows { (s : ℕ) → s ≤ length self.now.entries → length self.now.entries - s ≤ J.setting.window
-            → AnswersFrom self.now.replica.versions.tables s (rows_after J.setting (items_of (entries_of self.now.entries)) s) }
+            → AnswersFrom self.now.replica.versions.tables s
+            (rows_after J.setting (items_of (entries_of self.now.entries)) s) }
         ensures procedures { stored_procedures self.now.replica.procedures
             ≡ procedures_after J.setting (items_of (entries_of self.now.entries)) (length self.now.entries) }
     {

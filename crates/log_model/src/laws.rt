@@ -1,6 +1,7 @@
 //! Laws of the log: its verdicts, and the rows after each position.
 
-ghost use Rattle.std.specs.Prelude.{◌≡◌, ◌≢◌, ◌↔◌, ◌+◌, ◌-◌, ◌<◌, ◌≤◌, ℕ, suc, List, ◌++◌, length, slice_get, Some, None, IsSome};
+ghost use Rattle.std.specs.Prelude.{◌≡◌, ◌≢◌, ◌↔◌, ◌+◌, ◌-◌, ◌<◌, ◌≤◌, ℕ, suc, List, ◌++◌, length, slice_get, Some};
+ghost use Rattle.std.specs.Prelude.{None, IsSome};
 ghost use Rattle.std.specs.Prelude.{◌==◌, IsTrue, [], ◌∷◌};
 ghost use Rattle.std.specs.List.{list_any};
 ghost use Rattle.schema.specs.declared.look.Look.{Look};
@@ -10,10 +11,12 @@ ghost use Rattle.log_model.specs.declared.verdict.Verdict.TheVariants.{Commit, C
 ghost use Rattle.log_model.specs.declared.verdict.Identifier.TheVariants.{Name, Number};
 ghost use Rattle.log_model.specs.declared.verdict.Verdict.{Verdict};
 ghost use Rattle.log_model.specs.Comparisons.{comparisons_after, AreRising, IsCompared};
-ghost use Rattle.log_model.specs.Log.{StoredProcedure, CertifiedItem, Setting, Call, CallItem, AdditionItem, Log, IsPlaced};
+ghost use Rattle.log_model.specs.Log.{StoredProcedure, CertifiedItem, Setting, Call, CallItem, AdditionItem, Log};
+ghost use Rattle.log_model.specs.Log.{IsPlaced};
 ghost use Rattle.log_model.specs.declared.request.RequestId.{RequestId};
 ghost use Rattle.log_model.specs.Log.{IsLog, no_request, same_request};
-ghost use Rattle.log_model.specs.Log.{by_number, by_name, if_commits, history, rows_after, procedures_after, verdict_of, run_on, run_in};
+ghost use Rattle.log_model.specs.Log.{by_number, by_name, if_commits, history, rows_after, procedures_after};
+ghost use Rattle.log_model.specs.Log.{verdict_of, run_on, run_in};
 ghost use Rattle.log_model.specs.Fit.{AreSafe, HasSafeProcedures, IsCall, AreItems};
 ghost use Rattle.log_model.specs.Verdicts.{IsConflict, IsLeastConflict, IsRepetition, IsNew};
 ghost use Rattle.log_model.specs.Entries.{Entry, ExecutedCall, item_of, items_of, CarriesRun, IsCarried, CarryRuns};
@@ -85,8 +88,8 @@ pub fn verdicts_on_additions_in_words_of_the_log()
         × (by_number (procedures_after w log d) p.number ≡ None)) }
 {}
 
-/// An exact comparison is made exactly with those that committed since the snapshot and share a bit with the
-/// looks, up to the first that conflicts, once with each, in rising order; where the call is repeated or stale, with none.
+/// An exact comparison is made exactly with those that committed since the snapshot and share a bit with the looks, up
+/// to the first that conflicts, once with each, in rising order; where the call is repeated or stale, with none.
 pub fn comparisons_in_words_of_the_log()
     ensures rising { (window : ℕ) (past : List CertifiedItem) (call : Call) (looks : List Look)
         → AreRising (comparisons_after window past call looks) }
@@ -134,8 +137,8 @@ pub fn procedures_stay_safe()
         → AreSafe w.tables (procedures_after w log position) }
 {}
 
-/// Where each entry that is a call carries its run's looks and writes, the verdicts and procedures by these alone are the
-/// log's, and the rows after each position are the write sets of those that commit, laid on in order.
+/// Where each entry that is a call carries its run's looks and writes, the verdicts and procedures by these alone are
+/// the log's, and the rows after each position are the write sets of those that commit, laid on in order.
 pub fn entries_suffice()
     ensures verdicts { (w : Setting) (entries : List Entry)
         → IsLog (items_of entries) → CarryRuns w entries
@@ -151,7 +154,8 @@ pub fn entries_suffice()
         ≡ rows_after w (items_of entries) position }
 {}
 
-/// What a call asks of the log it asks of the items up to its snapshot alone: that it is one, and that an entry carries its run.
+/// What a call asks of the log it asks of the items up to its snapshot alone: that it is one, and that an entry carries
+/// its run.
 pub fn calls_ask_up_to_their_snapshots()
     ensures is_call { (w : Setting) (log more : Log) (call : Call) → call.snapshot ≤ length log
         → (IsCall w (log ++ more) call ↔ IsCall w log call) }

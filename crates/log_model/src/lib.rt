@@ -1,5 +1,5 @@
-//! The log: calls and additions of procedures in their order, the verdict on each, and the rows and procedures after each
-//! position. Definitions, and laws about them.
+//! The log: calls and additions of procedures in their order, the verdict on each, and the rows and procedures after
+//! each position. Definitions, and laws about them.
 #![tactic(auto)]
 
 pub use laws::{

@@ -5,7 +5,8 @@ ghost use Rattle.std.specs.List.{fold};
 ghost use Rattle.log_model.specs.Log.{Setting, Log, IsPlaced, IsLog, verdict_of};
 ghost use Rattle.log_model.specs.Fit.{HasSafeProcedures, AreItems};
 ghost use Rattle.log_model.specs.Entries.{Entry, item_of, items_of, IsCarried, CarryRuns};
-ghost use Rattle.model_laws.specs.Contents.{ReplicaContents, IsContentsOf, first_contents, certified_next, with_delivered};
+ghost use Rattle.model_laws.specs.Contents.{ReplicaContents, IsContentsOf, first_contents, certified_next};
+ghost use Rattle.model_laws.specs.Contents.{with_delivered};
 
 /// A copy that is what the log says of its position is so after a delivery too, and the verdict is the log's;
 /// a log that grows keeps it.

@@ -38,8 +38,8 @@ pub fn what_commits_is_serial()
         → rows_after w log (suc d) ≡ after_writes (run_in w log call).writes (rows_after w log d) }
 {}
 
-/// What is told of a call that commits is its reply where it runs in its turn; of one that is repeated, that of the call
-/// that it repeats.
+/// What is told of a call that commits is its reply where it runs in its turn; of one that is repeated, that of the
+/// call that it repeats.
 pub fn what_is_told_is_serial()
     ensures committed { (w : Setting) (log : Log) (d : ℕ) (call : Call)
         → HasSafeProcedures w → IsLog log → AreItems w log → slice_get log d ≡ Some (CallItem call)
@@ -50,12 +50,13 @@ pub fn what_is_told_is_serial()
         → verdict_of w log (suc d) ≡ Some (Repeated earlier)
         → (reply : ℕ) × (told_reply w log (suc d) ≡ Some reply) × IsSerialReply w log earlier reply }
     ensures untold { (w : Setting) (log : Log) (position : ℕ)
-        → verdict_of w log position ≢ Some Commit → ((earlier : ℕ) → verdict_of w log position ≢ Some (Repeated earlier))
+        → verdict_of w log position ≢ Some Commit
+        → ((earlier : ℕ) → verdict_of w log position ≢ Some (Repeated earlier))
         → told_reply w log position ≡ None }
 {}
 
-/// An entry of those that carry their runs carries the reply of its call's run on the rows of its snapshot, and where it
-/// commits, of the run on the rows just before it.
+/// An entry of those that carry their runs carries the reply of its call's run on the rows of its snapshot, and where
+/// it commits, of the run on the rows just before it.
 pub fn entries_carry_serial_replies()
     ensures carried { (w : Setting) (entries : List Entry) (position : ℕ) (e : ExecutedCall)
         → CarryRuns w entries → numbered entries position ≡ Some (CallEntry e)

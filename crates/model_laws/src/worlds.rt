@@ -1,7 +1,8 @@
-//! Laws of worlds: what there is at first, that a change of one call or replica is one of that alone, what refused steps
-//! leave, where calls end, and that replicas agree.
+//! Laws of worlds: what there is at first, that a change of one call or replica is one of that alone, what refused
+//! steps leave, where calls end, and that replicas agree.
 
-ghost use Rattle.std.specs.Prelude.{◌≡◌, ◌≢◌, ◌+◌, ◌<◌, ◌≤◌, ◌++◌, ℕ, true, List, [], ◌∷◌, Some, None, IsSome, Option, ◌⊎◌, false, length};
+ghost use Rattle.std.specs.Prelude.{◌≡◌, ◌≢◌, ◌+◌, ◌<◌, ◌≤◌, ◌++◌, ℕ, true, List, [], ◌∷◌, Some, None, IsSome, Option};
+ghost use Rattle.std.specs.Prelude.{◌⊎◌, false, length};
 ghost use Rattle.log_model.specs.declared.request.RequestId.{RequestId};
 ghost use Rattle.dsm_model.specs.declared.outcome.Outcome.{Outcome};
 ghost use Rattle.dsm_model.specs.declared.outcome.Outcome.TheVariants.{Begun, Exit, More, Stale, NoMemory, Refused};
@@ -39,7 +40,8 @@ pub fn each_change_is_of_one()
         → IsStep w before (Begin r procedure args request) (Begun c snapshot) after
         → open_call after c ≡ Some (record {
           replica = r;
-          call = record { number = c; procedure = procedure; args = args; snapshot = snapshot; request = or_none request };
+          call = record { number = c; procedure = procedure; args = args; snapshot = snapshot;
+          request = or_none request };
           turns = 0;
         }) }
 {}
@@ -65,9 +67,9 @@ pub fn turns_that_run_are_counted()
         → d ≢ c → turns_of c (Turn d ∷ steps) (outcome ∷ outcomes) ≡ turns_of c steps outcomes }
 {}
 
-/// A call of which as many turns ran an instruction as its procedure's longest path has has come to its end: one of these
-/// turns has answered Exit, with the reply of its run. It was open before these steps, or one of them began it, and it may
-/// be over since. Where it is still open it is at its end.
+/// A call of which as many turns ran an instruction as its procedure's longest path has has come to its end: one of
+/// these turns has answered Exit, with the reply of its run. It was open before these steps, or one of them began it,
+/// and it may be over since. Where it is still open it is at its end.
 pub fn enough_turns_reach_exit()
     ensures exit { (w : Setting) (before : World) (steps : List Step) (outcomes : List Outcome)
         (after : World) (c : ℕ) (call : Call) (p : StoredProcedure)
@@ -85,12 +87,13 @@ pub fn enough_turns_reach_exit()
         → open_call after c ≡ Some o → o.turns ≡ (run_in w after.log o.call).steps }
 {}
 
-/// A step leaves the log or appends to it, and a call stays the same while it is open. The reply that a turn answered at
-/// Exit is that of the call's run however much longer the log becomes, and so the one that its entry carries.
+/// A step leaves the log or appends to it, and a call stays the same while it is open. The reply that a turn answered
+/// at Exit is that of the call's run however much longer the log becomes, and so the one that its entry carries.
 pub fn open_calls_keep_their_replies()
     ensures log { (w : Setting) (before : World) (step : Step) (outcome : Outcome) (after : World)
         → IsStep w before step outcome after → (more : Log) × (after.log ≡ before.log ++ more) }
-    ensures call { (w : Setting) (before : World) (step : Step) (outcome : Outcome) (after : World) (c : ℕ) (o later : OpenCall)
+    ensures call { (w : Setting) (before : World) (step : Step) (outcome : Outcome) (after : World) (c : ℕ)
+        (o later : OpenCall)
         → IsStep w before step outcome after → open_call before c ≡ Some o → open_call after c ≡ Some later
         → later.call ≡ o.call }
     ensures reply { (w : Setting) (world : World) (c : ℕ) (o : OpenCall) (more : Log)
@@ -125,7 +128,8 @@ pub fn refused_steps_change_nothing()
         × (after ≡ with_replica before r (record { position = replica.position; stopped = true })) }
     ensures rebuild { (w : Setting) (before : World) (r : ℕ) (after : World)
         → IsStep w before (Rebuild r) (Refused OutOfMemory) after → after ≡ before }
-    ensures add { (w : Setting) (before : World) (name : List ℕ) (number args_len : ℕ) (checked : ProgramCheck) (after : World)
+    ensures add { (w : Setting) (before : World) (name : List ℕ) (number args_len : ℕ) (checked : ProgramCheck)
+        (after : World)
         → IsStep w before (Add name number args_len checked) (Refused OutOfMemory) after → after ≡ before }
 {}
 

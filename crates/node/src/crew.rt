@@ -1,6 +1,7 @@
 //! The threads of a node.
 
 ghost use Rattle.std.specs.Prelude.{◌≡◌, ◌+◌, ◌<◌, ◌≤◌, OnOk, IfErr};
+ghost use Rattle.schema.specs.declared.limits.TheConstants.{MAX_EXECUTORS};
 ghost use Rattle.node.specs.Size.{IsWant};
 
 use crate::size::StartFault;
@@ -73,7 +74,8 @@ impl<J: LogSetting + Ledgers + Send + Sync + 'static> Crew<J> {
         }
     }
 
-    /// Starts the threads of the replica of a number: so many that answer calls, and one that delivers. Where their requests go.
+    /// Starts the threads of the replica of a number: so many that answer calls, and one that delivers. Where their
+    /// requests go.
     pub(crate) fn start_replica<
         G: Gate + Drop + Send + Sync + 'static,
         R: Threads + Wait + Copy + Send + Sync + 'static,
@@ -85,7 +87,7 @@ impl<J: LogSetting + Ledgers + Send + Sync + 'static> Crew<J> {
         replica: u32,
         executors: u32,
     ) -> Result<Sender<Request<J>>, StartFault>
-        requires executors { executors ≤ 16 }
+        requires executors { executors ≤ MAX_EXECUTORS }
         requires parts { 17 ≤ shares.old.parts }
         ensures all { OnOk result (shares.new.parts + self.new.executors ≡ shares.old.parts + self.old.executors) }
         ensures parts { OnOk result (shares.old.parts ≤ shares.new.parts + 16) }
@@ -170,8 +172,8 @@ impl<J: LogSetting + Ledgers + Send + Sync + 'static> Crew<J> {
         Ok(())
     }
 
-    /// Waits until all threads have ended: those that answer calls when nobody sends requests any more, then those that deliver,
-    /// at the end of the log. What was counted is in the shares then.
+    /// Waits until all threads have ended: those that answer calls when nobody sends requests any more, then those that
+    /// deliver, at the end of the log. What was counted is in the shares then.
     pub(crate) fn end<G: Gate, R: Threads + Wait>(
         self,
         rt: &R,

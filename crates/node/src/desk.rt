@@ -72,8 +72,8 @@ impl<J: LogSetting + Ledgers + Send + Sync + 'static, G: Gate + Drop + Send + Sy
         self.ask(rt, replica, least, procedure, args, None)
     }
 
-    /// That to a call with a request: of the calls that carry one request at most one commits, and each other one that is
-    /// ordered is answered what that one replied.
+    /// That to a call with a request: of the calls that carry one request at most one commits, and each other one that
+    /// is ordered is answered what that one replied.
     pub fn execute_numbered<R: Wait>(
         &self,
         rt: &R,
@@ -84,7 +84,8 @@ impl<J: LogSetting + Ledgers + Send + Sync + 'static, G: Gate + Drop + Send + Sy
         request: RequestId,
     ) -> Answered<J>
         ensures { IsHeard J.setting self.now.replicas replica
-            (record { least = least; procedure = procedure; args = args.now; request = Some request }) result.0 result.1 }
+            (record { least = least; procedure = procedure; args = args.now;
+            request = Some request }) result.0 result.1 }
     {
         self.ask(rt, replica, least, procedure, args, Some(request))
     }
@@ -125,7 +126,8 @@ impl<J: LogSetting + Ledgers + Send + Sync + 'static, G: Gate + Drop + Send + Sy
         request: Option<RequestId>,
     ) -> Option<Answered<J>>
         ensures { IfSome result (λ r.
-            IsAnswer J.setting (record { least = least; procedure = procedure; args = args.now; request = request }) r.0 r.1) }
+            IsAnswer J.setting (record { least = least; procedure = procedure; args = args.now;
+            request = request }) r.0 r.1) }
     {
         let (reply, replies) = bounded(self.alloc, 1).ok()?;
         let asked = Asked {
@@ -147,8 +149,8 @@ impl<J: LogSetting + Ledgers + Send + Sync + 'static, G: Gate + Drop + Send + Sy
         (answer, None)
     }
 
-    /// The verdict on the entry at a position, where there is such a replica and it has come there, and what the replica has
-    /// delivered by now.
+    /// The verdict on the entry at a position, where there is such a replica and it has come there, and what the
+    /// replica has delivered by now.
     pub fn verdict<R: Wait>(
         &self,
         rt: &R,

@@ -1,6 +1,7 @@
 //! A node: replicas of one log, their threads, and what callers share.
 
-ghost use Rattle.std.specs.Prelude.{◌≡◌, ◌≤◌, ◌<◌, ◌+◌, true, All, IfOk, IfErr, IfSome, IfNone, OnOk, Err, length, vec_len, vec_capacity};
+ghost use Rattle.std.specs.Prelude.{◌≡◌, ◌≤◌, ◌<◌, ◌+◌, true, All, IfOk, IfErr, IfSome, IfNone, OnOk, Err, length};
+ghost use Rattle.std.specs.Prelude.{vec_len, vec_capacity};
 ghost use Rattle.std.specs.Arc.{arc_value};
 ghost use Rattle.replica.specs.Replica.{AreEntriesOf, entries_of};
 ghost use Rattle.tallies.specs.Shared.{names_by_place};
@@ -18,8 +19,9 @@ use catalogue::Catalogue;
 use crossbeam_channel::Sender;
 use locked_replica::LockedReplica;
 use node_calls::{Gate, OpenGate};
-use order_log::{Fact, GroupCells, LIMIT, OrderLog, Seen};
+use order_log::{Fact, GroupCells, OrderLog, Seen};
 use ordered_entries::{LogSetting, OrderedEntries};
+use schema::MAX_LOG;
 use served_replicas::{Added, RebuildFault, Request, Shared};
 use std::alloc::Global;
 use std::marker::Model;
@@ -69,13 +71,14 @@ where
     OrderedEntries<J>: Fact,
 {
     ghost use Rattle.std.specs.Prelude.{◌≡◌, ◌≤◌, ◌+◌, vec_len, vec_capacity};
+    ghost use Rattle.schema.specs.declared.limits.TheConstants.{MAX_REPLICAS};
     ghost use Rattle.node.specs.Nodes.{NodeState};
 
     ghost Value = { NodeState };
 
     ghost view = { λ n. record { replicas = n.desk.replicas } };
 
-    ghost invariant = { λ n. (n.shares.parts + n.crew.executors ≡ 129) × (n.desk.replicas ≤ 8)
+    ghost invariant = { λ n. (n.shares.parts + n.crew.executors ≡ 129) × (n.desk.replicas ≤ MAX_REPLICAS)
         × (vec_len n.ended ≡ 0) × (n.desk.replicas ≤ vec_capacity n.ended) };
 }
 
@@ -83,8 +86,8 @@ impl<J: LogSetting + Ledgers + Send + Sync + 'static, G: Gate + Drop + Send + Sy
     J,
     G,
 > {
-    /// Starts the threads of a node of this size, whose executing threads pass a gate before they read or write rows. The
-    /// ledgers, the log's cells and the catalogue are the node's own.
+    /// Starts the threads of a node of this size, whose executing threads pass a gate before they read or write rows.
+    /// The ledgers, the log's cells and the catalogue are the node's own.
     pub fn start_sized<R: Threads + Wait + Copy + Send + Sync + 'static>(
         rt: &R,
         alloc: Global,
@@ -151,7 +154,7 @@ impl<J: LogSetting + Ledgers + Send + Sync + 'static, G: Gate + Drop + Send + Sy
             replicas,
             executors,
             window,
-            limit: LIMIT,
+            limit: MAX_LOG,
         };
         Node::start_sized(rt, alloc, cells, blanks, size, catalogue, gate)
     }
@@ -163,8 +166,8 @@ impl<J: LogSetting + Ledgers + Send + Sync + 'static, G: Gate + Drop + Send + Sy
         &self.desk
     }
 
-    /// Adds a procedure through the log, where its program is accepted for the node's tables. What was seen of the log then, the
-    /// addition being the last entry, where it was appended.
+    /// Adds a procedure through the log, where its program is accepted for the node's tables. What was seen of the log
+    /// then, the addition being the last entry, where it was appended.
     pub fn add<R: Wait>(
         &self,
         rt: &R,
@@ -200,7 +203,8 @@ impl<J: LogSetting + Ledgers + Send + Sync + 'static, G: Gate + Drop + Send + Sy
         }
     }
 
-    /// Ends the threads when all that was asked is answered and all that was ordered is delivered, or its replica has stopped.
+    /// Ends the threads when all that was asked is answered and all that was ordered is delivered, or its replica has
+    /// stopped.
     pub fn finish<R: Threads + Wait>(self, rt: &R) -> Finish<J, G>
         ensures totals { result.totals ≡ result.shares.counted }
         ensures shares { result.shares.parts ≡ 129 }

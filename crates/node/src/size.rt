@@ -3,7 +3,7 @@
 ghost use Rattle.std.specs.Prelude.{◌≤◌, ◌↔◌, IsTrue, OnOk, IfErr};
 ghost use Rattle.node.specs.Size.{IsSize, IsSizeFault, IsWithin};
 
-use order_log::LIMIT;
+use schema::{MAX_EXECUTORS, MAX_LOG, MAX_REPLICAS, MAX_WINDOW};
 
 /// Why a node doesn't start.
 #[derive(Clone, Copy, Debug, PartialEq, Eq, Drop)]
@@ -47,16 +47,16 @@ impl Size {
         ensures size { OnOk result (IsSize self.now) }
         ensures fault { IfErr result (IsSizeFault self.now) }
     {
-        if !is_within(8, self.replicas) {
+        if !is_within(MAX_REPLICAS, self.replicas) {
             return Err(StartFault::Replicas);
         }
-        if !is_within(16, self.executors) {
+        if !is_within(MAX_EXECUTORS, self.executors) {
             return Err(StartFault::Executors);
         }
-        if !is_within(4096, self.window) {
+        if !is_within(MAX_WINDOW, self.window) {
             return Err(StartFault::Window);
         }
-        if !is_within(LIMIT, self.limit) {
+        if !is_within(MAX_LOG, self.limit) {
             return Err(StartFault::Limit);
         }
         Ok(())

@@ -233,8 +233,8 @@ pub(crate) fn open_accounts<J: LogSetting + Ledgers + Send + Sync + 'static, R: 
     counts
 }
 
-/// What a caller does, by its place from 0 on: its share of the calls, at one replica and by a session of its own. What they were
-/// answered.
+/// What a caller does, by its place from 0 on: its share of the calls, at one replica and by a session of its own. What
+/// they were answered.
 fn call_from<J: LogSetting + Ledgers + Send + Sync + 'static, R: Wait>(
     rt: &R,
     desk: &Desk<J, OpenGate>,
@@ -268,7 +268,8 @@ fn call_from<J: LogSetting + Ledgers + Send + Sync + 'static, R: Wait>(
     counts
 }
 
-/// Makes so many calls by as many callers as there are executing threads. What they were answered; the error is want of memory.
+/// Makes so many calls by as many callers as there are executing threads. What they were answered; the error is want of
+/// memory.
 pub(crate) fn call_all<J: LogSetting + Ledgers + Send + Sync + 'static, R: Threads + Wait + Sync>(
     rt: &R,
     alloc: Global,

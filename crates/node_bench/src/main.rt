@@ -1,7 +1,8 @@
-//! Many callers at a node of many replicas: transfers between accounts, counts, searches, calls that cancel, that only read and
-//! that are asked for again. What came of them is compared with the plain replay of the log, and it fails where something isn't as
-//! it should be: `node_bench soak REPLICAS EXECUTORS CALLS SEED`. For measurements from outside `write`, `read` and `start` in place
-//! of `soak` only call, and compare nothing: the time is taken by whoever starts it (bench/node does).
+//! Many callers at a node of many replicas: transfers between accounts, counts, searches, calls that cancel, that only
+//! read and that are asked for again. What came of them is compared with the plain replay of the log, and it fails
+//! where something isn't as it should be: `node_bench soak REPLICAS EXECUTORS CALLS SEED`. For measurements from
+//! outside `write`, `read` and `start` in place of `soak` only call, and compare nothing: the time is taken by whoever
+//! starts it (bench/node does).
 #![tactic(auto)]
 
 ghost use Rattle.std.specs.Prelude.{◌≡◌};

@@ -1,5 +1,5 @@
-//! The procedures that callers call, for the node and for the plain replay. Table 1 has rows of 8 bytes; the accounts are at keys
-//! from 0 on.
+//! The procedures that callers call, for the node and for the plain replay. Table 1 has rows of 8 bytes; the accounts
+//! are at keys from 0 on.
 
 use catalogue::Catalogue;
 use plain_replayer::PlainSetting;
@@ -28,8 +28,8 @@ pub(crate) const ADD_NUMBER: u16 = 6;
 
 pub(crate) const BALANCE_NUMBER: u16 = 7;
 
-/// Moves an amount from one account to another: the arguments are both and the amount. It cancels with 1 where the first has less,
-/// and with 2 where both are the same.
+/// Moves an amount from one account to another: the arguments are both and the amount. It cancels with 1 where the
+/// first has less, and with 2 where both are the same.
 const TRANSFER: &str = "7916000000000000 7917080000000000 7918100000000000 1d76200000000000 \
     b701000001000000 bf62000000000000 bfa3000000000000 07030000f8ffffff \
     8500000001000000 79a9f8ff00000000 2d98160000000000 1f89000000000000 \

@@ -12,7 +12,8 @@ pub enum CallRefusal {
     ZeroInRequest,
 }
 
-/// What a call is answered. Positions are those of the log, from 1 on; a snapshot is the position after which it read the rows.
+/// What a call is answered. Positions are those of the log, from 1 on; a snapshot is the position after which it read
+/// the rows.
 #[derive(Clone, Copy, Debug, PartialEq, Eq, Drop)]
 pub enum Answer {
     Committed {

@@ -1,5 +1,5 @@
-//! Who wakes whom: an executing thread waits until its replica has come to a position, a delivering thread until there is
-//! something to deliver. Each waits at a place of its own, so that nobody is woken for another's sake.
+//! Who wakes whom: an executing thread waits until its replica has come to a position, a delivering thread until there
+//! is something to deliver. Each waits at a place of its own, so that nobody is woken for another's sake.
 
 use crossbeam_utils::CachePadded;
 use crossbeam_utils::sync::{EventCount, Key};

@@ -1,5 +1,6 @@
-//! A call of a node from its begin to its answer, by an executing thread: it begins at a replica behind a lock, runs with the
-//! lock taken for each helper that reads or writes rows, is ordered where it wrote something, and waits for its verdict.
+//! A call of a node from its begin to its answer, by an executing thread: it begins at a replica behind a lock, runs
+//! with the lock taken for each helper that reads or writes rows, is ordered where it wrote something, and waits for
+//! its verdict.
 #![tactic(auto)]
 
 pub use answer::{Answer, CallRefusal};

@@ -62,8 +62,8 @@ fn next_at<J: LogSetting, A: Allocator + Copy, P: Allocator + Copy>(
     }
 }
 
-/// Waits until a replica has come to a position. It has, where a call began at it, unless another was put in its place that
-/// has come less far.
+/// Waits until a replica has come to a position. It has, where a call began at it, unless another was put in its place
+/// that has come less far.
 fn await_position<J: LogSetting, A: Allocator + Copy, P: Allocator + Copy, R: Wait>(
     rt: &R,
     replica: &RwLock<LockedReplica<J, A, P>>,

@@ -1,5 +1,5 @@
-//! Appends entries by threads, to the log and to a vector behind a mutex, for measurements from outside: the time is taken by
-//! whoever starts it (bench/order does).
+//! Appends entries by threads, to the log and to a vector behind a mutex, for measurements from outside: the time is
+//! taken by whoever starts it (bench/order does).
 #![tactic(auto)]
 
 ghost use Rattle.std.specs.Prelude.{◌≡◌};

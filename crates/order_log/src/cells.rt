@@ -7,8 +7,8 @@ use once_cell::race::OnceBox;
 use std::alloc::{AllocError, Allocator, Global};
 use std::marker::Model;
 
-/// The cells of a log's groups, of which each is made when it is first needed. Contracts see their names, which tell a log
-/// from others.
+/// The cells of a log's groups, of which each is made when it is first needed. Contracts see their names, which tell a
+/// log from others.
 #[derive(Drop)]
 pub struct GroupCells<A: Allocator + Copy = Global> {
     groups: Vec<OnceBox<Group<A>>>,

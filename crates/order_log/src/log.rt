@@ -1,5 +1,7 @@
-ghost use Rattle.std.specs.Prelude.{◌≡◌, ◌<◌, ◌≤◌, ◌+◌, ◌-◌, ◌/◌, ◌%◌, ◌↔◌, ◌++◌, ◌∷◌, [], List, Some, length, slice_get};
+ghost use Rattle.std.specs.Prelude.{◌≡◌, ◌<◌, ◌≤◌, ◌+◌, ◌-◌, ◌/◌, ◌%◌, ◌↔◌, ◌++◌, ◌∷◌, [], List, Some, length};
+ghost use Rattle.std.specs.Prelude.{slice_get};
 ghost use Rattle.std.specs.Prelude.{take, IfSome, IfNone, IfOk, vec_len};
+ghost use Rattle.schema.specs.declared.limits.TheConstants.{MAX_LOG};
 ghost use mathlib.Core.List.{IsPrefix};
 ghost use Rattle.log_entry.specs.declared.entry.Entry.{Entry as LogEntry};
 ghost use Rattle.once_cell.specs.Once.{cell_name};
@@ -15,10 +17,8 @@ use crate::seen::{LogIdentity, Seen};
 use known::Known;
 use log_entry::Entry;
 use once_cell::race::{Note, OnceBox};
+use schema::MAX_LOG;
 use std::alloc::{AllocError, Allocator, Global};
-
-/// The most entries of a log.
-pub const LIMIT: u32 = 1_048_576;
 
 /// What came of an entry at the place after what was seen.
 enum Attempt<A: Allocator + Copy = Global> {
@@ -38,7 +38,7 @@ pub struct OrderLog<J: LogIdentity, F: Fact, A: Allocator + Copy = Global> {
     alloc: Global,
     ghost named: { groups ≡ J.groups },
     ghost sized: { vec_len facts ≡ 1024 },
-    ghost few: { limit ≤ 1048576 },
+    ghost few: { limit ≤ MAX_LOG },
 }
 
 /// How many entries a call's run saw; none for an addition.
@@ -51,8 +51,8 @@ fn snapshot_of<A: Allocator + Copy>(entry: &Entry<A>) -> u32
     }
 }
 
-/// Puts an entry into a cell that is empty, and has a note know what then stands there. A cell that isn't is only looked at,
-/// since an exchange that fails takes its line from whoever reads it.
+/// Puts an entry into a cell that is empty, and has a note know what then stands there. A cell that isn't is only
+/// looked at, since an exchange that fails takes its line from whoever reads it.
 fn place<A: Allocator + Copy>(
     cell: &OnceBox<Entry<A>>,
     note: &mut Note<Entry<A>>,
@@ -72,12 +72,12 @@ fn place<A: Allocator + Copy>(
 }
 
 impl<J: LogIdentity, F: Fact, A: Allocator + Copy> OrderLog<J, F, A> {
-    /// An empty log over these cells, which takes `LIMIT` entries.
+    /// An empty log over these cells, which takes as many entries as a log may have.
     pub fn new(alloc: Global, groups: GroupCells<A>) -> Result<OrderLog<J, F, A>, AllocError>
         requires { groups ≡ J.groups }
-        ensures { IfOk result (λ log. log.limit ≡ 1048576) }
+        ensures { IfOk result (λ log. log.limit ≡ MAX_LOG) }
     {
-        OrderLog::with_limit(alloc, groups, LIMIT)
+        OrderLog::with_limit(alloc, groups, MAX_LOG)
     }
 
     /// An empty log over these cells, which takes so many entries.
@@ -87,7 +87,7 @@ impl<J: LogIdentity, F: Fact, A: Allocator + Copy> OrderLog<J, F, A> {
         limit: u32,
     ) -> Result<OrderLog<J, F, A>, AllocError>
         requires named { groups ≡ J.groups }
-        requires limit { (1 ≤ limit) × (limit ≤ 1048576) }
+        requires limit { (1 ≤ limit) × (limit ≤ MAX_LOG) }
         ensures { IfOk result (λ log. log.limit ≡ limit) }
     {
         let mut facts = Vec::with_capacity(alloc, GROUP)?;
@@ -115,7 +115,7 @@ impl<J: LogIdentity, F: Fact, A: Allocator + Copy> OrderLog<J, F, A> {
         ensures entry { IfSome result (λ e. seen.new ≡ seen.old ++ e.now ∷ []) }
         ensures fact { IfSome result (λ e. HasFactAfter F.shows seen.old e.now) }
         ensures limit { IfSome result (λ _. length seen.new ≤ self.now.limit) }
-        ensures few { IfSome result (λ _. length seen.new ≤ 1048576) }
+        ensures few { IfSome result (λ _. length seen.new ≤ MAX_LOG) }
     {
         let at = seen.len() as usize;
         if at >= self.limit as usize {
@@ -151,7 +151,8 @@ impl<J: LogIdentity, F: Fact, A: Allocator + Copy> OrderLog<J, F, A> {
     pub fn append(&self, seen: &mut Seen<J, A>, entry: Entry<A>) -> Result<u32, AppendFault>
         requires { snapshot_of entry ≤ length seen.old → F.shows (take (snapshot_of entry) seen.old) entry }
         ensures position { IfOk result (λ position. position ≡ length seen.new) }
-        ensures entry { IfOk result (λ _. (between : List (LogEntry A)) × (seen.new ≡ (seen.old ++ between) ++ entry ∷ [])) }
+        ensures entry { IfOk result (λ _. (between : List (LogEntry A))
+            × (seen.new ≡ (seen.old ++ between) ++ entry ∷ [])) }
         ensures snapshot { IfOk result (λ _. snapshot_of entry ≤ length seen.old) }
         ensures seen { IsPrefix seen.old seen.new }
         ensures within { IfOk result (λ _. length seen.new ≤ self.now.limit) }
@@ -213,7 +214,7 @@ impl<J: LogIdentity, F: Fact, A: Allocator + Copy> OrderLog<J, F, A> {
         let Some(at) = (seen.len() as usize).checked_sub(1) else {
             return;
         };
-        if at >= LIMIT as usize {
+        if at >= MAX_LOG as usize {
             return;
         }
         *fact = Some(EntryFact::new(seen.again()));

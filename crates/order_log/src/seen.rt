@@ -1,4 +1,6 @@
-ghost use Rattle.std.specs.Prelude.{◌≡◌, ℕ, ◌+◌, ◌<◌, ◌≤◌, ◌/◌, ◌%◌, ◌^◌, List, [], ◌∷◌, ◌++◌, length, slice_index, slice_get, Some};
+ghost use Rattle.std.specs.Prelude.{◌≡◌, ℕ, ◌+◌, ◌<◌, ◌≤◌, ◌/◌, ◌%◌, ◌^◌, List, [], ◌∷◌, ◌++◌, length, slice_index};
+ghost use Rattle.std.specs.Prelude.{slice_get, Some};
+ghost use Rattle.schema.specs.declared.limits.TheConstants.{MAX_LOG};
 ghost use mathlib.Core.List.{IsPrefix};
 ghost use Rattle.log_entry.specs.declared.entry.Entry.{Entry as LogEntry};
 
@@ -45,7 +47,7 @@ impl<J: LogIdentity, A: Allocator + Copy> Model for Seen<J, A> {
 
     ghost view = { λ s. known_entries s.cells.known };
 
-    ghost invariant = { λ s. (s.count ≡ length s.cells.known) × (s.count ≤ 1048576)
+    ghost invariant = { λ s. (s.count ≡ length s.cells.known) × (s.count ≤ MAX_LOG)
         × AreCellsOf J.groups 0 s.groups.known s.cells.known };
 }
 
@@ -65,7 +67,7 @@ impl<J: LogIdentity, A: Allocator + Copy> Seen<J, A> {
     /// How many entries were seen.
     pub fn len(&self) -> u32
         ensures len { result ≡ length self.now }
-        ensures few { length self.now ≤ 1048576 }
+        ensures few { length self.now ≤ MAX_LOG }
     {
         self.count
     }
@@ -122,7 +124,7 @@ impl<J: LogIdentity, A: Allocator + Copy> Seen<J, A> {
 
     /// One entry more, in the log's next cell.
     pub(crate) fn push(&mut self, group: &Known<Group<A>>, cell: &Known<Entry<A>>)
-        requires room { length self.old < 1048576 }
+        requires room { length self.old < MAX_LOG }
         requires group { group.now.cell ≡ slice_index J.groups (length self.old / 1024) }
         requires cell { cell.now.cell ≡ slice_index group.now.value (length self.old % 1024) }
         ensures { self.new ≡ self.old ++ cell.now.value ∷ [] }

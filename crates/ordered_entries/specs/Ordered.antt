@@ -1,5 +1,6 @@
 -- What is known of an entry of a database's log: of a call by the entries that its run saw, of an addition by itself.
 use Rattle.std.specs.Prelude.{◌≡◌, ◌≤◌, true, List}
+use Rattle.schema.specs.declared.limits.TheConstants.{MAX_ARGUMENTS}
 use Rattle.schema.specs.Schema.{Tables}
 use Rattle.schema.specs.Rows.{AreWrites}
 use Rattle.log_model.specs.Log.{Setting}
@@ -21,7 +22,7 @@ pub record IsOrderedCall (w : Setting) (before : List Entry) (e : ExecutedCall) 
 pub record IsOrderedAddition (schema : Tables) (p : ListedProcedure) : Type 0 where
   pub name : is_name p.name ≡ true
   pub tables : p.accepted.tables ≡ schema
-  pub args : p.accepted.args_len ≤ 256
+  pub args : p.accepted.args_len ≤ MAX_ARGUMENTS
   pub accepted : WasAccepted p.accepted
 
 abbrev pub IsOrdered : {A : Type 0} → Setting → List (LogEntry A) → LogEntry A → Type 0

@@ -16,8 +16,8 @@ impl LogSetting for Brand {
     ghost setting = { record { tables = empty; catalogue = []; window = 0 } };
 }
 
-/// The fact of the entries of a database's log: a call is one, carries its run, and writes what is the schema's; an addition
-/// has a name and a program that was accepted for the schema.
+/// The fact of the entries of a database's log: a call is one, carries its run, and writes what is the schema's; an
+/// addition has a name and a program that was accepted for the schema.
 #[derive(Drop)]
 pub struct OrderedEntries<J: LogSetting> {
     of: PhantomData<J>,

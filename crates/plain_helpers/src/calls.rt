@@ -5,7 +5,8 @@ ghost use Rattle.bpf_semantics.specs.declared.value.Value.TheVariants.{Nothing, 
 ghost use Rattle.schema.specs.Schema.{Tables};
 ghost use Rattle.schema.specs.Helper.{helper_of};
 ghost use Rattle.bpf_semantics.specs.Memory.{and_then};
-ghost use Rattle.schema.specs.declared.helper.Helper.TheVariants.{RowGet, RowPut, RowDelete, RangeCount, RangeNext, Cancel};
+ghost use Rattle.schema.specs.declared.helper.Helper.TheVariants.{RowGet, RowPut, RowDelete, RangeCount, RangeNext};
+ghost use Rattle.schema.specs.declared.helper.Helper.TheVariants.{Cancel};
 ghost use Rattle.bpf_semantics.specs.Helpers.{Table, table_of, with_answer, with_look, with_point_look};
 ghost use Rattle.bpf_semantics.specs.Helpers.{with_range_look, with_row_write, with_row_read, with_next_read};
 ghost use Rattle.bpf_semantics.specs.Helpers.{row_get, row_put, range_next, state_after_call};
@@ -27,12 +28,10 @@ fn table_of<B: Allocator>(schema: &Schema<B>, value: Value) -> Option<(u8, usize
 {
     match value {
         Value::Number(number) => {
-            // Asked for in any case: its contract says that the schema's tables are below 256.
-            let table = (number % 256) as u8;
-            match schema.width(table) {
-                Some(width) if number < 256 => Some((table, usize::from(width))),
-                _ => None,
-            }
+            schema.known();
+            let table = u8::try_from(number).ok()?;
+            let width = schema.width(table)?;
+            Some((table, usize::from(width)))
         }
         Value::Nothing | Value::Stack(_) | Value::Args(_) => None,
     }

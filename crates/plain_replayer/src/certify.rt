@@ -81,7 +81,8 @@ fn add_compared<A: Allocator, B: Allocator>(
     report: &ItemReport<A>,
 ) -> Result<(), AllocError>
     requires { position < 2 ^ 32 }
-    ensures { OnOk result (list.new.items ≡ list.old.items ++ comparison_at looks.now position (certified_of report.now)) }
+    ensures { OnOk result (list.new.items ≡ list.old.items
+        ++ comparison_at looks.now position (certified_of report.now)) }
 {
     if is_commit(report.verdict()) && shares_bit(looks, report.writes()) {
         list.push(position as u32)?;

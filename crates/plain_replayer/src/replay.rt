@@ -1,12 +1,15 @@
 //! A log as the definitions say it, item by item.
 
-ghost use Rattle.std.specs.Prelude.{◌≡◌, ◌<◌, ◌≤◌, ◌^◌, ℕ, length, map, take, slice_get, slice_index_or, option_map, Some, []};
+ghost use Rattle.std.specs.Prelude.{◌≡◌, ◌<◌, ◌≤◌, ◌^◌, ℕ, length, map, take, slice_get, slice_index_or, option_map};
+ghost use Rattle.std.specs.Prelude.{Some, []};
 ghost use Rattle.std.specs.Prelude.{◌∷◌, ◌++◌, IfOk, OnOk};
 ghost use Rattle.std.specs.FinMap.{empty, entries};
 ghost use Rattle.plain_rows.specs.Listed.{rows_of};
-ghost use Rattle.log_model.specs.Log.{Item, CallItem, IsLog, by_number, or_idle, run_of_procedure, procedures_after, if_commits, history};
+ghost use Rattle.log_model.specs.Log.{Item, CallItem, IsLog, by_number, or_idle, run_of_procedure, procedures_after};
+ghost use Rattle.log_model.specs.Log.{if_commits, history};
 ghost use Rattle.plain_log.specs.Report.{Report};
-ghost use Rattle.plain_replayer.specs.Replay.{IsReportOf, procedures_at, procedures_of, report_after, rows_after_next, run_by, told_by};
+ghost use Rattle.plain_replayer.specs.Replay.{IsReportOf, procedures_at, procedures_of, report_after, rows_after_next};
+ghost use Rattle.plain_replayer.specs.Replay.{run_by, told_by};
 
 use crate::certify::{comparisons_after, is_commit, verdict_after};
 use crate::procedures::{procedure_of_call, verdict_on_addition};

@@ -1,6 +1,7 @@
 //! The check of a program.
 
 ghost use Rattle.std.specs.Prelude.{◌≡◌, ◌≤◌, IfOk, IfErr};
+ghost use Rattle.schema.specs.declared.limits.TheConstants.{MAX_ARGUMENTS};
 ghost use Rattle.bpf_code.specs.Program.{IsProgram};
 ghost use Rattle.bpf_verify.specs.Flow.{IsAccepted};
 ghost use Rattle.call_model.specs.Check.{Passed};
@@ -28,7 +29,7 @@ pub fn check_program<A: Allocator + Copy>(
     schema: &Schema<A>,
     args_len: u16,
 ) -> Result<Accepted<A, A>, CheckFault>
-    requires { args_len ≤ 256 }
+    requires { args_len ≤ MAX_ARGUMENTS }
     ensures given { IfOk result (λ accepted. (accepted.tables ≡ schema.now) × (accepted.args_len ≡ args_len)) }
     ensures passed { IfOk result (λ accepted. check_of schema.now args_len bytes.now ≡ Passed accepted.program) }
     ensures accepted { IfOk result (λ accepted. IsProgram accepted.program × IsAccepted accepted) }
@@ -51,10 +52,12 @@ fn verified<A: Allocator + Copy>(
     schema: &Schema<A>,
     args_len: u16,
 ) -> Result<Accepted<A, A>, CheckFault>
-    requires { args_len ≤ 256 }
-    ensures given { IfOk result (λ accepted. accepted ≡ record { program = code; tables = schema.now; args_len = args_len }) }
+    requires { args_len ≤ MAX_ARGUMENTS }
+    ensures given { IfOk result (λ accepted. accepted
+        ≡ record { program = code; tables = schema.now; args_len = args_len }) }
     ensures accepted { IfOk result IsAccepted }
-    ensures refused { IfErr result (IsRefusedFor (record { program = code; tables = schema.now; args_len = args_len })) }
+    ensures refused { IfErr result
+        (IsRefusedFor (record { program = code; tables = schema.now; args_len = args_len })) }
 {
     match verify(alloc, code, schema, args_len) {
         Ok(accepted) => Ok(accepted),

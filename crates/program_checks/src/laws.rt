@@ -5,7 +5,7 @@ ghost use Rattle.bpf_code.specs.declared.fault.DecodeFault.{DecodeFault};
 ghost use Rattle.bpf_code.specs.Program.{Program};
 ghost use Rattle.bpf_code.specs.Decoding.{program_of};
 ghost use Rattle.schema.specs.Schema.{Tables};
-ghost use Rattle.abs_cause.specs.declared.cause.Cause.{Cause};
+ghost use Rattle.bpf_verify.specs.Refusal.{Cause};
 ghost use Rattle.bpf_verify.specs.Flow.{IsAccepted, IsRefused};
 ghost use Rattle.call_model.specs.declared.fault.ProgramFault.TheVariants.{Bytes, Instruction};
 ghost use Rattle.call_model.specs.Check.{Passed, Failed};

@@ -4,6 +4,7 @@ use Rattle.std.specs.Option.{option_and_then, option_map}
 use Rattle.std.specs.List.{list_all, before_first, after_first}
 use Rattle.std.specs.Char.{digit_value}
 use Rattle.std.specs.Str.Parse.{digits_value}
+use Rattle.schema.specs.declared.limits.TheConstants.{MAX_TABLE, MAX_WIDTH}
 
 -- one decimal digit or more, and nothing else
 abbrev pub is_numeral : List ℕ → Bool
@@ -30,5 +31,5 @@ is_colon c = c == 58
 
 -- `T:W`: a table's number, 1 to 64, and the width of its rows, 1 to 128, round the first colon
 abbrev pub table_word : List ℕ → Option (ℕ × ℕ)
-table_word text = option_and_then (λ table. option_map (λ width. (table, width)) (number_in 1 128 (after_first is_colon text)))
-    (number_in 1 64 (before_first is_colon text))
+table_word text = option_and_then (λ table. option_map (λ width. (table, width)) (number_in 1 MAX_WIDTH (after_first is_colon text)))
+    (number_in 1 MAX_TABLE (before_first is_colon text))

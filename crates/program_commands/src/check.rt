@@ -2,6 +2,7 @@
 
 ghost use Rattle.std.specs.Prelude.{◌≡◌, ◌≢◌, ◌⊎◌, ◌≤◌, Err, IfErr, IfOk, IfSome};
 ghost use Rattle.std.specs.Io.KnownBytes.{Appends};
+ghost use Rattle.schema.specs.declared.limits.TheConstants.{MAX_ARGUMENTS};
 ghost use Rattle.byte_output.specs.Writes.{AppendsBeginning, WritesText};
 ghost use Rattle.schema.specs.Schema.{schema_of};
 ghost use Rattle.bpf_code.specs.Decoding.{program_of};
@@ -33,7 +34,7 @@ pub fn check_over<A: Allocator + Copy, R: Read, W: Write, E: Write>(
     args_len: u16,
     tables: &[(u8, u16)],
 ) -> u8
-    requires { args_len ≤ 256 }
+    requires { args_len ≤ MAX_ARGUMENTS }
 
     // The status is that of the verdict, or something failed.
     ensures range { ((result ≡ 0) ⊎ (result ≡ 1)) ⊎ (result ≡ FAILED) }
@@ -45,8 +46,8 @@ pub fn check_over<A: Allocator + Copy, R: Read, W: Write, E: Write>(
         OfVerdict args_len (schema_of tables.now) (program_of bytes) (λ verdict.
         Appends (W.contents output.old) (W.contents output.new) (verdict_text verdict))) }
 
-    // Else memory was wanting or the input failed, and the output is as it was; or the output failed, and has a beginning of the
-    // line. What failed is said, as far as the writer takes it.
+    // Else memory was wanting or the input failed, and the output is as it was; or the output failed, and has a
+    // beginning of the line. What failed is said, as far as the writer takes it.
     ensures failed { result ≡ FAILED → (failure : CommandFailure)
         × Leaves (IfSome (R.remaining input.old) (λ bytes.
         OfVerdict args_len (schema_of tables.now) (program_of bytes) (λ verdict.
@@ -77,7 +78,7 @@ fn check<A: Allocator + Copy, R: Read, W: Write>(
     args_len: u16,
     tables: &[(u8, u16)],
 ) -> Result<CheckVerdict, CommandFailure>
-    requires { args_len ≤ 256 }
+    requires { args_len ≤ MAX_ARGUMENTS }
     ensures verdict { IfOk result (λ verdict. IfSome (R.remaining input.old) (λ bytes.
         IsVerdictOf args_len (schema_of tables.now) (program_of bytes) verdict)) }
     ensures ok { IfOk result (λ verdict.
@@ -110,7 +111,7 @@ fn verdict<A: Allocator + Copy, R: Read>(
     args_len: u16,
     tables: &[(u8, u16)],
 ) -> Result<CheckVerdict, CommandFailure>
-    requires { args_len ≤ 256 }
+    requires { args_len ≤ MAX_ARGUMENTS }
     ensures verdict { IfOk result (λ verdict. IfSome (R.remaining input.old) (λ bytes.
         IsVerdictOf args_len (schema_of tables.now) (program_of bytes) verdict)) }
     // No output is touched, and none has failed.

@@ -1,4 +1,5 @@
-//! The commands about one program, `list` and `check`: an engine for each, over any input, output and writer for faults.
+//! The commands about one program, `list` and `check`: an engine for each, over any input, output and writer for
+//! faults.
 #![tactic(auto)]
 
 pub use check::check_over;

@@ -38,8 +38,8 @@ pub fn list_over<A: Allocator + Copy, R: Read, W: Write, E: Write>(
     ensures whole { IfSome (R.remaining input.old) (λ bytes.
         result ≢ FAILED → Appends (W.contents output.old) (W.contents output.new) (listing_text (program_of bytes))) }
 
-    // Else memory was wanting or the input failed, and the output is as it was; or the output failed, and has a beginning of the
-    // text. What failed is said, as far as the writer takes it.
+    // Else memory was wanting or the input failed, and the output is as it was; or the output failed, and has a
+    // beginning of the text. What failed is said, as far as the writer takes it.
     ensures failed { result ≡ FAILED → (failure : CommandFailure)
         × Leaves (IfSome (R.remaining input.old) (λ bytes.
         AppendsBeginning (W.contents output.old) (W.contents output.new) (listing_text (program_of bytes))))

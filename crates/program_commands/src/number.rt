@@ -3,6 +3,8 @@
 ghost use Rattle.std.specs.Prelude.{◌≡◌, ◌==◌, ◌≤◌, slice_index, Some, IfSome};
 ghost use Rattle.program_commands.specs.Number.{has_leading_zero, within, number_in, table_word};
 
+use schema::{MAX_TABLE, MAX_WIDTH};
+
 /// The number that a word gives in decimal digits, without sign and without leading zero, where it
 /// is from `lo` to `hi`.
 pub fn number_in(text: &str, lo: u32, hi: u32) -> Option<u32>
@@ -23,8 +25,8 @@ pub fn table(text: &str) -> Option<(u8, u16)>
     ensures { result ≡ table_word text.now }
 {
     let (table, width) = text.split_once(':')?;
-    let table = number_in(table, 1, 64)?;
-    let width = number_in(width, 1, 128)?;
+    let table = number_in(table, 1, u32::from(MAX_TABLE))?;
+    let width = number_in(width, 1, u32::from(MAX_WIDTH))?;
     Some((table as u8, width as u16))
 }
 

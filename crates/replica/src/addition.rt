@@ -2,7 +2,8 @@
 
 ghost use Rattle.std.specs.Prelude.{◌≡◌, ◌+◌, [], ◌∷◌, ◌++◌, List, true, None, IfOk, OnOk, OnErr};
 ghost use Rattle.log_model.specs.declared.verdict.Verdict.TheVariants.{Commit as Commits};
-ghost use Rattle.log_model.specs.Log.{CertifiedItem, by_name, by_number, certified_addition, if_commits, verdict_on_addition};
+ghost use Rattle.log_model.specs.Log.{CertifiedItem, by_name, by_number, certified_addition, if_commits};
+ghost use Rattle.log_model.specs.Log.{verdict_on_addition};
 ghost use Rattle.log_model.specs.Name.{is_name};
 ghost use Rattle.stored_procedures.specs.Held.{stored, stored_procedures};
 ghost use Rattle.certify.specs.Kept.{StandsFor};
@@ -38,7 +39,8 @@ fn add_to<A: Allocator + Copy, P: Allocator + Copy>(
         ≡ if_commits v (procedures.old ++ added.now ∷ []) procedures.old) }
     ensures unchanged { OnErr result (procedures.new ≡ procedures.old) }
     // A taken name or number needs no memory.
-    ensures needed { OnErr result (verdict_on_addition (stored_procedures procedures.old) (stored added.now) ≡ Commits) }
+    ensures needed { OnErr result (verdict_on_addition (stored_procedures procedures.old) (stored added.now)
+        ≡ Commits) }
 {
     let verdict = verdict_on(procedures, added);
     if !matches!(verdict, Verdict::Commit) {
@@ -61,7 +63,8 @@ pub(crate) fn take_addition<A: Allocator + Copy, P: Allocator + Copy>(
     requires next { position ≡ certifier.old.memory.count + 1 }
     requires shape { is_name added.now.name ≡ true }
     ensures certified { IfOk result (λ c. c
-        ≡ record { verdict = verdict_on_addition (stored_procedures procedures.old) (stored added.now); compared = 0 }) }
+        ≡ record { verdict = verdict_on_addition (stored_procedures procedures.old) (stored added.now);
+        compared = 0 }) }
     ensures memory { OnOk result ((past : List CertifiedItem) → StandsFor certifier.old.memory past
         → StandsFor certifier.new.memory
         (past ++ certified_addition (stored_procedures procedures.old) (stored added.now) ∷ [])) }

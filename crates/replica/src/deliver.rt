@@ -1,6 +1,7 @@
 //! One delivery, in what a replica keeps.
 
-ghost use Rattle.std.specs.Prelude.{◌≡◌, ℕ, ◌+◌, ◌-◌, ◌<◌, ◌≤◌, List, [], ◌∷◌, ◌++◌, length, true, false, IfOk, OnOk, OnErr};
+ghost use Rattle.std.specs.Prelude.{◌≡◌, ℕ, ◌+◌, ◌-◌, ◌<◌, ◌≤◌, List, [], ◌∷◌, ◌++◌, length, true, false, IfOk, OnOk};
+ghost use Rattle.std.specs.Prelude.{OnErr};
 ghost use Rattle.schema.specs.Rows.{Rows};
 ghost use Rattle.rows_mv.specs.Versions.{AnswersFrom, IsInstalled, width_of};
 ghost use Rattle.schema.specs.Schema.{Tables};
@@ -9,7 +10,8 @@ ghost use Rattle.log_model.specs.Entries.{CertifiedEntries, item_of, with_entry}
 ghost use Rattle.log_entry.specs.Kind.{entry_of};
 ghost use Rattle.stored_procedures.specs.Held.{AreForTables};
 ghost use Rattle.certify.specs.Kept.{StandsFor};
-ghost use Rattle.replica.specs.Replica.{FitTables, IsForTables, IsNamed, certification_after, certification_next, writes_in};
+ghost use Rattle.replica.specs.Replica.{FitTables, IsForTables, IsNamed, certification_after, certification_next};
+ghost use Rattle.replica.specs.Replica.{writes_in};
 ghost use Rattle.replica.specs.Delivery.{HasSameVersions, KeepsCertified};
 
 use crate::addition::take_addition;
@@ -70,7 +72,8 @@ fn take_call<A: Allocator + Copy, B: Allocator + Copy>(
         → c ≡ certification_after certifier.old.memory.window past call.now.call call.now.looks) }
     ensures memory { OnOk result ((past : List CertifiedItem) → StandsFor certifier.old.memory past
         → StandsFor certifier.new.memory
-        (past ++ certified_call_after certifier.old.memory.window past call.now.call call.now.looks call.now.writes ∷ [])) }
+        (past ++ certified_call_after certifier.old.memory.window past call.now.call call.now.looks call.now.writes
+        ∷ [])) }
     ensures window { certifier.new.memory.window ≡ certifier.old.memory.window }
     ensures taken { OnOk result (certifier.new.memory.count ≡ position) }
     ensures same_memory { OnErr result (certifier.new.memory ≡ certifier.old.memory) }
@@ -102,8 +105,8 @@ fn take_call<A: Allocator + Copy, B: Allocator + Copy>(
     Ok(certification)
 }
 
-/// Takes an entry in at the next position. Where memory is refused the certifier, the certifications and the procedures are
-/// as before, and each key has the versions that it had.
+/// Takes an entry in at the next position. Where memory is refused the certifier, the certifications and the procedures
+/// are as before, and each key has the versions that it had.
 pub(crate) fn take_entry<A: Allocator + Copy, P: Allocator + Copy>(
     certifier: &mut Certifier<A>,
     versions: &mut Versions<A>,
@@ -116,7 +119,8 @@ pub(crate) fn take_entry<A: Allocator + Copy, P: Allocator + Copy>(
     requires placed { IsPlaced (position - 1) (item_of (entry_of entry.now)) }
     requires fit { FitTables versions.old (writes_in (entry_of entry.now)) }
     requires named { IsNamed (entry_of entry.now) }
-    ensures certified { IfOk result (λ c. (past : CertifiedEntries) → KeepsCertified certifier.old.memory procedures.old past
+    ensures certified { IfOk result (λ c. (past : CertifiedEntries)
+        → KeepsCertified certifier.old.memory procedures.old past
         → c ≡ certification_next certifier.old.memory.window past (entry_of entry.now)) }
     ensures kept { OnOk result ((past : CertifiedEntries) → KeepsCertified certifier.old.memory procedures.old past
         → KeepsCertified certifier.new.memory procedures.new

@@ -1,19 +1,22 @@
 //! What holds of what a replica keeps.
 
-ghost use Rattle.std.specs.Prelude.{◌≡◌, ℕ, suc, ◌-◌, ◌≤◌, List, [], ◌∷◌, ◌++◌, length, slice_get, Some, true, false, ◌+◌};
+ghost use Rattle.std.specs.Prelude.{◌≡◌, ℕ, suc, ◌-◌, ◌≤◌, List, [], ◌∷◌, ◌++◌, length, slice_get, Some, true, false};
+ghost use Rattle.std.specs.Prelude.{◌+◌};
 ghost use Rattle.std.specs.FinMap.{empty};
 ghost use Rattle.schema.specs.Schema.{Tables};
 ghost use Rattle.schema.specs.Rows.{Rows, Writes, AreWrites, after_writes};
 ghost use Rattle.rows_mv.specs.Versions.{Versions, AnswersFrom, HaveTables, width_of};
 ghost use Rattle.log_model.specs.declared.verdict.Verdict.{Verdict};
-ghost use Rattle.log_model.specs.Log.{Catalogue, CertifiedItem, Setting, is_commit, verdict_of, if_commits, rows_after, procedures_after};
+ghost use Rattle.log_model.specs.Log.{Catalogue, CertifiedItem, Setting, is_commit, verdict_of, if_commits, rows_after};
+ghost use Rattle.log_model.specs.Log.{procedures_after};
 ghost use Rattle.log_model.specs.Log.{IsPlaced, certified_addition, verdict_on_addition};
 ghost use Rattle.log_model.specs.Fit.{IsItem};
 ghost use Rattle.certify.specs.Kept as certifier;
 ghost use Rattle.certify.specs.Kept.{Memory};
 ghost use Rattle.rows_mv.specs.Versions.{IsInstalled};
 ghost use Rattle.stored_procedures.specs.Held.{ListedProcedure, AreForTables, stored, stored_procedures};
-ghost use Rattle.log_model.specs.Entries.{Entry, AdditionEntry, CertifiedEntries, item_of, items_of, IsCarried, certified_entry};
+ghost use Rattle.log_model.specs.Entries.{Entry, AdditionEntry, CertifiedEntries, item_of, items_of, IsCarried};
+ghost use Rattle.log_model.specs.Entries.{certified_entry};
 ghost use Rattle.log_model.specs.Entries.{certified_entries_of, with_entry};
 ghost use Rattle.key_table.specs.Table.{Table};
 ghost use Rattle.replica.specs.declared.certification.Certification.{Certification};
@@ -78,14 +81,15 @@ pub(crate) fn no_rows_at_first()
     map_after_each_write_set();
 }
 
-/// Where the delivered entries are a log's and carry their runs, a replica's verdicts are those of the log, and the rows of
-/// the positions within its window and its procedures are the log's.
+/// Where the delivered entries are a log's and carry their runs, a replica's verdicts are those of the log, and the
+/// rows of the positions within its window and its procedures are the log's.
 pub fn replicas_follow_the_log()
     ensures verdicts { (w : Setting) (r : Replica) (entries : List Entry) (before : ℕ) (c : Certification)
         → w.window ≡ r.window → StandsFor w.catalogue r entries → AreEntriesOf w entries
         → slice_get r.certifications before ≡ Some c → verdict_of w (items_of entries) (before + 1) ≡ Some c.verdict }
     ensures rows { (w : Setting) (r : Replica) (entries : List Entry) (s : ℕ)
-        → w.window ≡ r.window → StandsFor w.catalogue r entries → AreEntriesOf w entries → s ≤ r.position → r.position - s ≤ r.window
+        → w.window ≡ r.window → StandsFor w.catalogue r entries → AreEntriesOf w entries → s ≤ r.position
+        → r.position - s ≤ r.window
         → AnswersFrom r.versions.tables s (rows_after w (items_of entries) s) }
     ensures procedures { (w : Setting) (r : Replica) (entries : List Entry)
         → w.window ≡ r.window → StandsFor w.catalogue r entries → AreEntriesOf w entries
@@ -97,10 +101,13 @@ pub fn replicas_follow_the_log()
     entries_suffice();
 }
 
-/// One more entry behind those of a log is of that log too, where it is placed there, is an item of the log and carries its run.
+/// One more entry behind those of a log is of that log too, where it is placed there, is an item of the log and carries
+/// its run.
 pub fn one_more_entry()
-    ensures { (w : Setting) (entries : List Entry) (e : Entry) → AreEntriesOf w entries → IsPlaced (length entries) (item_of e)
-        → IsItem w (items_of entries) (item_of e) → IsCarried w (items_of entries) e → AreEntriesOf w (entries ++ e ∷ []) }
+    ensures { (w : Setting) (entries : List Entry) (e : Entry) → AreEntriesOf w entries
+        → IsPlaced (length entries) (item_of e)
+        → IsItem w (items_of entries) (item_of e) → IsCarried w (items_of entries) e
+        → AreEntriesOf w (entries ++ e ∷ []) }
 {
     one_more_entry_carries_its_run();
 }

@@ -1,12 +1,14 @@
 //! A replica.
 
-ghost use Rattle.std.specs.Prelude.{◌≡◌, ℕ, ◌+◌, ◌-◌, ◌≤◌, ◌<◌, ◌^◌, nat_lt, List, [], ◌∷◌, ◌++◌, length, slice_get, Some, true};
+ghost use Rattle.std.specs.Prelude.{◌≡◌, ℕ, ◌+◌, ◌-◌, ◌≤◌, ◌<◌, ◌^◌, nat_lt, List, [], ◌∷◌, ◌++◌, length, slice_get};
+ghost use Rattle.std.specs.Prelude.{Some, true};
 ghost use Rattle.std.specs.Prelude.{false, is_err};
 ghost use Rattle.schema.specs.Rows.{AreWrites};
 ghost use Rattle.std.specs.Prelude.{All, IfOk, OnOk, OnErr};
 ghost use Rattle.std.specs.FinMap as map;
 ghost use Rattle.schema.specs.Schema.{Tables};
-ghost use Rattle.log_model.specs.Log.{Catalogue as Procedures, IsLog, IsPlaced, Setting, procedures_after, rows_after, verdict_of};
+ghost use Rattle.log_model.specs.Log.{Catalogue as Procedures, IsLog, IsPlaced, Setting, procedures_after, rows_after};
+ghost use Rattle.log_model.specs.Log.{verdict_of};
 ghost use Rattle.log_model.specs.Entries.{Entry as Delivered, item_of, items_of, certified_entry, certified_entries_of};
 ghost use Rattle.log_entry.specs.Kind.{entry_of};
 ghost use Rattle.stored_procedures.specs.Held.{AreForTables, stored_procedures};
@@ -31,8 +33,8 @@ use std::marker::Model;
 use stored_procedures::StoredProcedures;
 use txn_view::Store;
 
-/// A replica of the database. Contracts see what it keeps of the entries that were delivered to it. Programs, in the memory
-/// of `P`, are shared with the catalogue and with the entries that added them.
+/// A replica of the database. Contracts see what it keeps of the entries that were delivered to it. Programs, in the
+/// memory of `P`, are shared with the catalogue and with the entries that added them.
 #[derive(Drop)]
 pub struct Replica<A: Allocator + Copy = Global, P: Allocator + Copy = A> {
     alloc: A,
@@ -162,14 +164,15 @@ impl<A: Allocator + Copy, P: Allocator + Copy> Replica<A, P> {
         self.versions.rows_at(alloc, self.position)
     }
 
-    /// Takes the next entry in and tells its verdict. Where there is no memory the replica stops, and its procedures and the
-    /// rows at each position stay as they were.
+    /// Takes the next entry in and tells its verdict. Where there is no memory the replica stops, and its procedures
+    /// and the rows at each position stay as they were.
     pub fn deliver(&mut self, entry: &Entry<P>) -> Result<Verdict, Stopped>
         requires placed { IsPlaced self.old.position (item_of (entry_of entry.now)) }
         requires room { self.old.position + 1 < 2 ^ 32 }
         requires fit { FitTables self.old.versions (writes_in (entry_of entry.now)) }
         requires named { IsNamed (entry_of entry.now) }
-        ensures verdict { IfOk result (λ v. (base : Procedures) (entries : List Delivered) → StandsFor base self.old entries
+        ensures verdict { IfOk result (λ v. (base : Procedures) (entries : List Delivered)
+            → StandsFor base self.old entries
             → v ≡ (certified_entry self.old.window (certified_entries_of self.old.window base entries)
             (entry_of entry.now)).verdict) }
         ensures stands { OnOk result ((base : Procedures) (entries : List Delivered) → StandsFor base self.old entries

@@ -120,8 +120,8 @@ fn replica_of<'a>(
     Some(checked)
 }
 
-/// Adds so many procedures to each of so many replicas, and keeps the replicas and the entries, so that their memory can be
-/// taken from outside: how many are stored at all of them.
+/// Adds so many procedures to each of so many replicas, and keeps the replicas and the entries, so that their memory
+/// can be taken from outside: how many are stored at all of them.
 pub(crate) fn stored(alloc: Global, count: u64, replicas: u64) -> Option<u64> {
     let catalogue = catalogue_of(alloc)?;
     let entries = additions_of(alloc, catalogue.schema(), count)?;

@@ -1,5 +1,5 @@
-//! Delivers entries to a replica, reads its rows, or asks a certifier for verdicts, for measurements from outside: the time
-//! is taken by whoever starts it (bench/replica does).
+//! Delivers entries to a replica, reads its rows, or asks a certifier for verdicts, for measurements from outside: the
+//! time is taken by whoever starts it (bench/replica does).
 #![tactic(auto)]
 
 ghost use Rattle.std.specs.Prelude.{◌<◌};

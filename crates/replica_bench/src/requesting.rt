@@ -17,7 +17,8 @@ fn numbered_put(alloc: Global, session: u32, sequence: u32) -> Option<ExecutedCa
     Some(call)
 }
 
-/// A certifier that has kept so many requests. Its window is short, so that a call without one of them is stale at once.
+/// A certifier that has kept so many requests. Its window is short, so that a call without one of them is stale at
+/// once.
 fn certifier_with(alloc: Global, requests: u32) -> Option<Certifier>
     ensures { IfSome result (λ c. c.memory.count ≡ requests) }
 {
@@ -30,8 +31,8 @@ fn certifier_with(alloc: Global, requests: u32) -> Option<Certifier>
     Some(certifier)
 }
 
-/// Asks for so many verdicts on calls of a session, whose requests are spread over those that are kept of session 1: how
-/// many repeat one.
+/// Asks for so many verdicts on calls of a session, whose requests are spread over those that are kept of session 1:
+/// how many repeat one.
 pub(crate) fn requests(alloc: Global, session: u32, kept: u32, times: u64) -> Option<u64>
     requires { kept < 4294967295 }
 {

@@ -12,8 +12,8 @@ use crate::text::line;
 use dsm_model::Outcome;
 use std::alloc::{AllocError, Allocator};
 
-/// The line of what the beginning of a call at a replica answered; none of an answer that says neither that it began nor
-/// that it was refused.
+/// The line of what the beginning of a call at a replica answered; none of an answer that says neither that it began
+/// nor that it was refused.
 pub fn begin_line(replica: u32, outcome: Outcome) -> Option<Line<'static>>
     ensures { (procedure : ℕ) (args : List ℕ) (request : Option RequestId) (entry : DeliveredEntry)
         → result ≡ answer_line (Begin replica procedure args request) outcome entry }
@@ -42,8 +42,8 @@ pub fn add_line(outcome: Outcome) -> Option<Line<'static>>
     }
 }
 
-/// The line of what a turn of a call, or ordering it, answered: whatever either may answer has one. None of an answer that
-/// no call gets.
+/// The line of what a turn of a call, or ordering it, answered: whatever either may answer has one. None of an answer
+/// that no call gets.
 pub fn call_line(call: u32, outcome: Outcome) -> Option<Line<'static>>
     ensures turn { (entry : DeliveredEntry) → result ≡ answer_line (Turn call) outcome entry }
     ensures order { (entry : DeliveredEntry) → result ≡ answer_line (Order call) outcome entry }
@@ -52,8 +52,8 @@ pub fn call_line(call: u32, outcome: Outcome) -> Option<Line<'static>>
     Some(Line::Call { call, report })
 }
 
-/// The line of what a delivery to a replica, or rebuilding it, answered, with what is said of the delivered entry: whatever
-/// either may answer has one. None of an answer that no replica gets.
+/// The line of what a delivery to a replica, or rebuilding it, answered, with what is said of the delivered entry:
+/// whatever either may answer has one. None of an answer that no replica gets.
 pub fn replica_line(replica: u32, outcome: Outcome, entry: DeliveredEntry) -> Option<Line<'static>>
     ensures deliver { result ≡ answer_line (Deliver replica) outcome entry }
     ensures rebuild { result ≡ answer_line (Rebuild replica) outcome entry }

@@ -77,7 +77,8 @@ fn row<A: Allocator + Copy>(
     bytes: &[u8],
 ) -> Result<Vec<u8, A>, AllocError>
     ensures { IfOk result (λ text. text.items
-        ≡ (right_in 2 (decimal table) ++ codes " " ++ right_in 20 (decimal key) ++ codes " ") ++ encode_lower bytes.now ++ codes "\n") }
+        ≡ (right_in 2 (decimal table) ++ codes " " ++ right_in 20 (decimal key) ++ codes " ") ++ encode_lower bytes.now
+        ++ codes "\n") }
 {
     let mut words = Words::new();
     push_column(&mut words, 2, u64::from(table));

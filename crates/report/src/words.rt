@@ -4,8 +4,10 @@ ghost use Rattle.std.specs.Prelude.{◌≡◌, ◌≤◌, ◌+◌, ◌++◌, cod
 ghost use Rattle.std.specs.Fmt.{decimal};
 ghost use Rattle.arrayvec.specs.ArrayVec.{array_vec_len};
 ghost use Rattle.byte_output.specs.Column.{right_in};
-ghost use Rattle.report.specs.Lines.{program_fault_text, cause_words, step_refusal_words, verdict_words, addition_words, snapshot_words};
-ghost use Rattle.report.specs.Lines.{reply_words, added_words, delivered_words, certified_words, call_words, replica_words};
+ghost use Rattle.report.specs.Lines.{program_fault_text, cause_words, step_refusal_words, verdict_words};
+ghost use Rattle.report.specs.Lines.{addition_words, snapshot_words};
+ghost use Rattle.report.specs.Lines.{reply_words, added_words, delivered_words, certified_words, call_words};
+ghost use Rattle.report.specs.Lines.{replica_words};
 ghost use Rattle.report.specs.Lines.{entry_words, line_words, read_words, cancelled_words, answer_words, mark_words};
 ghost use Rattle.report.specs.declared.printed.Line.TheVariants as line;
 
@@ -420,7 +422,8 @@ pub(crate) fn agreement(agrees: bool) -> Words
 
 /// The first half of the line of totals.
 pub(crate) fn first_totals(counts: Counts) -> Words
-    ensures items { result.items ≡ codes "total committed " ++ decimal counts.committed ++ codes " read " ++ decimal counts.read
+    ensures items { result.items ≡ codes "total committed " ++ decimal counts.committed ++ codes " read "
+        ++ decimal counts.read
         ++ codes " cancelled " ++ decimal counts.cancelled ++ codes " conflict " ++ decimal counts.conflict }
     ensures len { array_vec_len result ≤ 130 }
 {
@@ -434,7 +437,8 @@ pub(crate) fn first_totals(counts: Counts) -> Words
 
 /// The rest of the line of totals.
 pub(crate) fn other_totals(counts: Counts) -> Words
-    ensures items { result.items ≡ codes " stale " ++ decimal counts.stale ++ codes " repeat " ++ decimal counts.repeated
+    ensures items { result.items ≡ codes " stale " ++ decimal counts.stale ++ codes " repeat "
+        ++ decimal counts.repeated
         ++ codes " other " ++ decimal counts.other ++ codes "\n" }
     ensures len { array_vec_len result ≤ 130 }
 {

@@ -4,7 +4,8 @@ ghost use Rattle.std.specs.Prelude.{◌≡◌, ◌<◌, ◌≤◌, ◌↔◌, �
 ghost use Rattle.std.specs.FinMap.{empty};
 ghost use Rattle.schema.specs.declared.look.Look.{Look};
 ghost use Rattle.schema.specs.Rows.{Key, Writes, after_writes, shares_key};
-ghost use Rattle.row_model.specs.Signature.{bit_of, key_count, look_sets_bit, looks_set_bit, writes_set_bit, shares_bit};
+ghost use Rattle.row_model.specs.Signature.{bit_of, key_count, look_sets_bit, looks_set_bit, writes_set_bit};
+ghost use Rattle.row_model.specs.Signature.{shares_bit};
 ghost use Rattle.row_model.specs.InstalledWrites.{InstalledWrites, map_after};
 
 /// Writes that share a key with looks share a bit with them: a test by bits alone leaves out no conflict.

@@ -1,4 +1,5 @@
-//! The values that rows and writes are, what a call has looked at and what it has written, and whether these share a key.
+//! The values that rows and writes are, what a call has looked at and what it has written, and whether these share a
+//! key.
 #![tactic(auto)]
 
 pub use read_set::ReadSet;

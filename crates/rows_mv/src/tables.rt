@@ -29,7 +29,8 @@ pub fn new_tables<A: Allocator + Copy, B: Allocator>(
     alloc: A,
     schema: &Schema<B>,
 ) -> Result<Vec<KeyTable<A>, A>, AllocError>
-    ensures tables { IfOk result (λ tables. (t : ℕ) → t < 65 → width_of tables.items t ≡ unwrap_or (get schema.now t) 0) }
+    ensures tables { IfOk result (λ tables. (t : ℕ) → t < 65
+        → width_of tables.items t ≡ unwrap_or (get schema.now t) 0) }
     ensures count { IfOk result (λ tables. length tables.items ≡ 65) }
     ensures none { IfOk result (λ tables. AreEmpty tables.items) }
 {
@@ -47,7 +48,8 @@ fn reserve_at<A: Allocator + Copy>(
     key: u64,
 ) -> Result<(), AllocError>
     requires { at < length tables.old.items }
-    ensures { (d : Table) → IsTableReserved (is_ok result) key (slice_index_or tables.old.items at d) (slice_index_or tables.new.items at d)
+    ensures { (d : Table) → IsTableReserved (is_ok result) key (slice_index_or tables.old.items at d)
+        (slice_index_or tables.new.items at d)
         × (tables.new.items ≡ slice_set tables.old.items at (slice_index_or tables.new.items at d)) }
 {
     tables[at].reserve(alloc, key)
@@ -61,9 +63,11 @@ pub fn reserve<A: Allocator + Copy>(
     key: u64,
 ) -> Result<(), AllocError>
     requires { table < length tables.old.items }
-    ensures versions { (k : Key) → versions_at (slots_of tables.new.items k.0) k.1 ≡ versions_at (slots_of tables.old.items k.0) k.1 }
+    ensures versions { (k : Key) → versions_at (slots_of tables.new.items k.0) k.1
+        ≡ versions_at (slots_of tables.old.items k.0) k.1 }
     ensures room { OnOk result (HasRoomAt (slots_of tables.new.items table) key) }
-    ensures more { (k : Key) → HasRoomAt (slots_of tables.old.items k.0) k.1 → HasRoomAt (slots_of tables.new.items k.0) k.1 }
+    ensures more { (k : Key) → HasRoomAt (slots_of tables.old.items k.0) k.1
+        → HasRoomAt (slots_of tables.new.items k.0) k.1 }
     ensures widths { (t : ℕ) → width_of tables.new.items t ≡ width_of tables.old.items t }
     ensures count { length tables.new.items ≡ length tables.old.items }
 {
@@ -81,7 +85,8 @@ fn put_at<A: Allocator>(
     requires room { (d : Table) → HasRoomAt (slice_index_or tables.old.items at d).slots key }
     requires width { (d : Table) → IfSome row (λ r. length r.now ≡ (slice_index_or tables.old.items at d).width) }
     ensures { (d : Table)
-        → IsTablePut key position (option_copied row.entry) (slice_index_or tables.old.items at d) (slice_index_or tables.new.items at d)
+        → IsTablePut key position (option_copied row.entry) (slice_index_or tables.old.items at d)
+        (slice_index_or tables.new.items at d)
         × (tables.new.items ≡ slice_set tables.old.items at (slice_index_or tables.new.items at d)) }
 {
     tables[at].push(key, position, row);
@@ -99,7 +104,8 @@ pub fn put<A: Allocator>(
     requires room { (d : Table) → HasRoomAt (slice_index_or tables.old.items table d).slots key }
     requires width { (d : Table) → IfSome row (λ r. length r.now ≡ (slice_index_or tables.old.items table d).width) }
     ensures versions { (k : Key) → versions_at (slots_of tables.new.items k.0) k.1 ≡ (if (table == k.0) && (key == k.1)
-        then versions_at (slots_of tables.old.items k.0) k.1 ++ record { position = position; row = option_copied row.entry } ∷ []
+        then versions_at (slots_of tables.old.items k.0) k.1
+        ++ record { position = position; row = option_copied row.entry } ∷ []
         else versions_at (slots_of tables.old.items k.0) k.1) }
     ensures room { (k : Key) → k ≢ (table, key)
         → HasRoomAt (slots_of tables.old.items k.0) k.1 → HasRoomAt (slots_of tables.new.items k.0) k.1 }
@@ -116,7 +122,8 @@ pub fn reserve_each<A: Allocator + Copy, B: Allocator + Copy>(
     writes: &WriteSet<B>,
 ) -> Result<(), AllocError>
     requires { AreOfTables writes.now tables.old.items }
-    ensures versions { (k : Key) → versions_at (slots_of tables.new.items k.0) k.1 ≡ versions_at (slots_of tables.old.items k.0) k.1 }
+    ensures versions { (k : Key) → versions_at (slots_of tables.new.items k.0) k.1
+        ≡ versions_at (slots_of tables.old.items k.0) k.1 }
     ensures prepared { OnOk result (IsPrepared writes.now tables.new.items) }
     ensures widths { (t : ℕ) → width_of tables.new.items t ≡ width_of tables.old.items t }
     ensures count { length tables.new.items ≡ length tables.old.items }
@@ -157,7 +164,8 @@ pub fn put_each<A: Allocator, B: Allocator + Copy>(
 
 fn prune_at<A: Allocator>(tables: &mut Vec<KeyTable<A>, A>, at: usize, horizon: u32)
     requires { at < length tables.old.items }
-    ensures { (d : Table) → IsTablePruned horizon (slice_index_or tables.old.items at d) (slice_index_or tables.new.items at d)
+    ensures { (d : Table) → IsTablePruned horizon (slice_index_or tables.old.items at d)
+        (slice_index_or tables.new.items at d)
         × (tables.new.items ≡ slice_set tables.old.items at (slice_index_or tables.new.items at d)) }
 {
     tables[at].prune(horizon);

@@ -36,7 +36,8 @@ impl<J: LogSetting, A: Allocator + Copy> Model for RunningCall<J, A> {
 
     ghost coded = { running_code };
 
-    ghost view = { λ r. record { entries = r.begun.entries; progress = open_call_of r.call; last = r.call.machine.last } };
+    ghost view = { λ r. record { entries = r.begun.entries; progress = open_call_of r.call;
+        last = r.call.machine.last } };
 
     ghost invariant = { λ r. stays_open r.call.machine.last ≡ true → IsUnderWay J.setting r.begun r.call };
 }
@@ -118,7 +119,8 @@ impl<J: LogSetting, A: Allocator + Copy> RunningCall<J, A> {
         requires going { self.old.last ≡ More }
         requires reached { length self.old.entries ≤ length replica.now.entries }
         ensures turn { IsTurn J.setting (log_seen self.old.entries)
-            (nat_lt J.setting.window (length replica.now.entries - length self.old.entries)) self.old.progress result self.new.progress }
+            (nat_lt J.setting.window
+            (length replica.now.entries - length self.old.entries)) self.old.progress result self.new.progress }
         ensures entries { self.new.entries ≡ self.old.entries }
         ensures last { self.new.last ≡ result }
     {

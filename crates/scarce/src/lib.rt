@@ -35,7 +35,8 @@ const MOST_CALLS: u64 = 1000;
 struct Refusals {
     growths: AtomicU64,
     refused: AtomicU64,
-    /// The growth that finds 1 is refused. Each growth takes 1 away, and 0 wraps: then none is refused for 2^64 growths.
+    /// The growth that finds 1 is refused. Each growth takes 1 away, and 0 wraps: then none is refused for 2^64
+    /// growths.
     until_refusal: AtomicU64,
     all: AtomicBool,
 }

@@ -5,6 +5,7 @@ use Rattle.std.specs.Cmp.{IsEquivalence, nat_eq_equiv, on_equiv, and_equiv}
 use Rattle.std.specs.Cmp.Lexicographic.{pointwise, lists_equiv}
 use Rattle.std.specs.Fmt.{decimal}
 use Rattle.std.specs.FinMap.{FinMap, empty, get, insert, entries}
+use Rattle.schema.specs.declared.limits.TheConstants.{MAX_TABLE, MAX_WIDTH}
 use Rattle.schema.specs.declared.fault.SchemaFault.{SchemaFault}
 use Rattle.schema.specs.declared.fault.SchemaFault.TheVariants.{TableNumber, Width, RepeatedTable, OutOfMemory}
 
@@ -15,9 +16,9 @@ Tables = FinMap nat_cmp ℕ
 -- what is known of every schema
 pub record IsTable (table width : ℕ) : Type 0 where
   pub table_from : 1 ≤ table
-  pub table_to : table ≤ 64
+  pub table_to : table ≤ MAX_TABLE
   pub width_from : 1 ≤ width
-  pub width_to : width ≤ 128
+  pub width_to : width ≤ MAX_WIDTH
 
 abbrev pub AreTables : Tables → Type 0
 AreTables tables = (table width : ℕ) → get tables table ≡ Some width → IsTable table width
@@ -32,8 +33,8 @@ tables_eq_equiv = on_equiv entries (lists_equiv (and_equiv (on_equiv (λ p. p.0)
 -- what is wrong with a pair, given the tables before it
 abbrev pub fault_of : Tables → ℕ → ℕ → Option SchemaFault
 fault_of tables table width =
-    if not (nat_le 1 table && nat_le table 64) then Some TableNumber
-    else if not (nat_le 1 width && nat_le width 128) then Some Width
+    if not (nat_le 1 table && nat_le table MAX_TABLE) then Some TableNumber
+    else if not (nat_le 1 width && nat_le width MAX_WIDTH) then Some Width
     else if is_some (get tables table) then Some RepeatedTable
     else None
 

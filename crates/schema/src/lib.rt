@@ -1,4 +1,4 @@
-//! The tables of a database, the helpers that its programs call, and the words for its rows.
+//! The tables of a database and its limits, the helpers that its programs call, and the words for its rows.
 #![tactic(auto)]
 
 pub use fault::SchemaFault;
@@ -11,11 +11,15 @@ pub use laws::{
     rows_are_of_bytes_and_words, rows_are_what_stands_at_each_key, rows_stay_the_schemas,
     write_at_with_write, writes_share_a_key_with_looks, writes_stay_the_schemas,
 };
+pub use limits::{
+    MAX_ARGUMENTS, MAX_EXECUTORS, MAX_LOG, MAX_REPLICAS, MAX_TABLE, MAX_WIDTH, MAX_WINDOW,
+};
 pub use look::Look;
 pub use schema::Schema;
 
 mod fault;
 mod helper;
 mod laws;
+mod limits;
 mod look;
 mod schema;

@@ -1,12 +1,14 @@
 //! The tables of a database, and the width of each.
 
-ghost use Rattle.std.specs.Prelude.{◌≡◌, ◌⊎◌, ◌↔◌, ℕ, ◌<◌, ◌^◌, length, IsTrue, Some, None, Ok, Err, IfOk, IfErr, OnOk, OnErr};
+ghost use Rattle.std.specs.Prelude.{◌≡◌, ◌⊎◌, ◌↔◌, ℕ, ◌<◌, ◌^◌, length, IsTrue, Some, None, Ok, Err, IfOk, IfErr, OnOk};
+ghost use Rattle.std.specs.Prelude.{OnErr};
 ghost use Rattle.std.specs.FinMap as map;
 ghost use Rattle.schema.specs.Schema.{Tables, AreTables, fault_of, schema_of, tables_eq};
 ghost use Rattle.schema.specs.Rows.{IsRow};
 ghost use Rattle.schema.specs.declared.fault.SchemaFault.TheVariants.{OutOfMemory};
 
 use crate::fault::SchemaFault;
+use crate::limits::{MAX_TABLE, MAX_WIDTH};
 use std::alloc::{AllocError, Allocator, Global};
 use std::collections::BTreeMap;
 use std::marker::Model;
@@ -68,19 +70,24 @@ impl<A: Allocator + Clone> Schema<A> {
 }
 
 impl<A: Allocator> Schema<A> {
+    /// What is known of every schema. To call this does nothing.
+    pub fn known(&self)
+        ensures { AreTables self.now }
+    {
+        let _ = &self.widths;
+    }
+
     /// The width of a table's rows, 1 to 128; none where the schema hasn't the table.
     pub fn width(&self, table: u8) -> Option<u16>
-        ensures width { result ≡ map.get self.now table }
-        // What is known of every schema.
-        ensures tables { AreTables self.now }
+        ensures { result ≡ map.get self.now table }
     {
         self.widths.get(&table).copied()
     }
 
-    /// Whether these bytes may stand as a row of this table, at this key as at each other.
-    pub fn fits(&self, table: u8, _key: u64, bytes: &[u8]) -> bool
+    /// Whether these bytes may stand as a row of this table, whatever its key.
+    pub fn fits(&self, table: u8, bytes: &[u8]) -> bool
         ensures width { IsTrue result ↔ (map.get self.now table ≡ Some (length bytes.now)) }
-        ensures row { IsTrue result ↔ IsRow self.now table _key bytes.now }
+        ensures row { (key : ℕ) → key < 2 ^ 64 → (IsTrue result ↔ IsRow self.now table key bytes.now) }
     {
         self.width(table)
             .is_some_and(|width| usize::from(width) == bytes.len())
@@ -90,9 +97,9 @@ impl<A: Allocator> Schema<A> {
     fn fault(&self, table: u8, width: u16) -> Option<SchemaFault>
         ensures { result ≡ fault_of self.now table width }
     {
-        if !(1..=64).contains(&table) {
+        if !(1..=MAX_TABLE).contains(&table) {
             Some(SchemaFault::TableNumber)
-        } else if !(1..=128).contains(&width) {
+        } else if !(1..=MAX_WIDTH).contains(&width) {
             Some(SchemaFault::Width)
         } else if self.width(table).is_some() {
             Some(SchemaFault::RepeatedTable)

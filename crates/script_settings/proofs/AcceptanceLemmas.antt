@@ -2,7 +2,7 @@
 use Rattle.std.proofs.Common.{◌≡◌, ℕ, zero, suc, ◌+◌, ◌<◌, ◌≤◌, length, Option, Some, None, Ok, Err, refl, sym, ap, ◌∙◌, arith, inl, inr}
 use Rattle.std.proofs.lemmas.Bool.{cases_lt}
 use Rattle.std.proofs.lemmas.Option.{slice_get_past}
-use Rattle.abs_cause.specs.declared.cause.Cause.{Cause}
+use Rattle.bpf_verify.specs.Refusal.{Cause}
 use Rattle.bpf_code.specs.declared.instruction.Instruction.{Instruction}
 use Rattle.bpf_code.specs.Program.{Program, instruction_at}
 use Rattle.bpf_verify.specs.declared.refusal.Refusal.TheVariants.{At}

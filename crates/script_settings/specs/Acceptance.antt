@@ -1,6 +1,6 @@
 -- Whether a program is accepted, and if not, why.
 use Rattle.std.specs.Prelude.{ℕ, zero, suc, length, Option, Some, None}
-use Rattle.abs_cause.specs.declared.cause.Cause.{Cause}
+use Rattle.bpf_verify.specs.Refusal.{Cause}
 use Rattle.bpf_verify.specs.declared.refusal.Refusal.{Refusal}
 use Rattle.bpf_verify.specs.declared.refusal.Refusal.TheVariants.{At}
 use Rattle.bpf_verify.specs.Flow.{Procedure, cause_at}

@@ -1,5 +1,6 @@
 -- What an addition is answered, and what was seen of the log then.
 use Rattle.std.specs.Prelude.{◌≡◌, ℕ, ◌<◌, ◌≤◌, false, List, [], ◌∷◌, ◌++◌, length, Option, Some, None}
+use Rattle.schema.specs.declared.limits.TheConstants.{MAX_ARGUMENTS}
 use Rattle.bpf_code.specs.Program.{Program as Code}
 use Rattle.schema.specs.Schema.{Tables}
 use Rattle.log_model.specs.Log.{Setting}
@@ -43,11 +44,11 @@ pub record IsAddedAt {A : Type 0} (w : Setting) (a : AskedAddition) (position : 
 abbrev pub IsNotAdded : Setting → AskedAddition → Added → Type 0
 IsNotAdded w a (Ordered position) = ⊥
 IsNotAdded w a Full = (p : ListedProcedure) × IsAskedFor w.tables a p
-IsNotAdded w a NoMemory = a.args_len ≤ 256
-IsNotAdded w a (Program ArgumentsLimit) = 256 < a.args_len
-IsNotAdded w a (Program (Fault fault)) = (a.args_len ≤ 256) × (check_of w.tables a.args_len a.bytes ≡ Failed fault)
+IsNotAdded w a NoMemory = a.args_len ≤ MAX_ARGUMENTS
+IsNotAdded w a (Program ArgumentsLimit) = MAX_ARGUMENTS < a.args_len
+IsNotAdded w a (Program (Fault fault)) = (a.args_len ≤ MAX_ARGUMENTS) × (check_of w.tables a.args_len a.bytes ≡ Failed fault)
 IsNotAdded w a Name =
-    (a.args_len ≤ 256) × ((program : Code) × (check_of w.tables a.args_len a.bytes ≡ Passed program)) × (is_name a.name ≡ false)
+    (a.args_len ≤ MAX_ARGUMENTS) × ((program : Code) × (check_of w.tables a.args_len a.bytes ≡ Passed program)) × (is_name a.name ≡ false)
 
 -- what each answer says, with what was seen of the log: something exactly where the procedure is ordered
 abbrev pub IsAddedAnswer : {A : Type 0} → Setting → AskedAddition → Added → Option (List (LogEntry A)) → Type 0

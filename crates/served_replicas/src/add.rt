@@ -12,13 +12,11 @@ use order_log::{AppendFault, Fact, OrderLog, Seen};
 use ordered_entries::{LogSetting, OrderedEntries};
 use program_checks::{CheckFault, check_program};
 use row_sets::Bytes;
+use schema::MAX_ARGUMENTS;
 use std::alloc::{AllocError, Allocator};
 use std::sync::{Arc, Wait};
 use stored_procedures::is_name;
 use tallies::Ledgers;
-
-/// The most bytes that the arguments of a procedure have.
-const MAX_ARGS: u16 = 256;
 
 /// Why a program isn't added.
 #[derive(Clone, Copy, Debug, PartialEq, Eq, Drop)]
@@ -49,8 +47,8 @@ impl<J: LogSetting + Ledgers, A: Allocator + Copy, P: Allocator + Copy, G: Gate>
     P,
     G,
 > {
-    /// Appends a procedure to the log, where its program is accepted for the tables, and wakes the delivering threads. What was
-    /// seen of the log then, where it was appended.
+    /// Appends a procedure to the log, where its program is accepted for the tables, and wakes the delivering threads.
+    /// What was seen of the log then, where it was appended.
     pub fn add<R: Wait>(
         &self,
         rt: &R,
@@ -90,7 +88,7 @@ impl<J: LogSetting + Ledgers, A: Allocator + Copy, P: Allocator + Copy, G: Gate>
         ensures refused { IfErr result (IsNotAdded J.setting
             (record { name = name.now; number = number; args_len = args_len; bytes = bytes.now })) }
     {
-        if args_len > MAX_ARGS {
+        if args_len > MAX_ARGUMENTS {
             return Err(Added::Program(ProgramRefusal::ArgumentsLimit));
         }
         let accepted = match check_program(self.alloc, bytes, self.catalogue.schema(), args_len) {

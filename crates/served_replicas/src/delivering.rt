@@ -62,8 +62,8 @@ fn deliver_some<J: LogSetting, A: Allocator + Copy, P: Allocator + Copy, R: Wait
     true
 }
 
-/// Delivers to a replica, by its number from 1 on, until the deliveries are stopped and the log shows no more, or the replica has
-/// stopped. It waits at the replica's bell while there is nothing to deliver.
+/// Delivers to a replica, by its number from 1 on, until the deliveries are stopped and the log shows no more, or the
+/// replica has stopped. It waits at the replica's bell while there is nothing to deliver.
 pub fn deliver_all<
     J: LogSetting + Ledgers,
     A: Allocator + Copy,

@@ -52,8 +52,8 @@ fn answer_all<J: LogSetting, A: Allocator + Copy, P: Allocator + Copy, G: Gate, 
     counts
 }
 
-/// One of the executing threads of a replica, by its place from 0 on, the replica by its number from 1 on: it answers requests
-/// until no caller is left, and enters what it counted in its share.
+/// One of the executing threads of a replica, by its place from 0 on, the replica by its number from 1 on: it answers
+/// requests until no caller is left, and enters what it counted in its share.
 pub fn serve<J: LogSetting + Ledgers, A: Allocator + Copy, P: Allocator + Copy, G: Gate, R: Wait>(
     rt: &R,
     shared: &Shared<J, A, P, G>,

@@ -1,5 +1,5 @@
-//! The replicas of a node behind their locks, and what its threads do: they deliver to a replica, answer requests at it, make it
-//! anew, and add procedures through the log.
+//! The replicas of a node behind their locks, and what its threads do: they deliver to a replica, answer requests at
+//! it, make it anew, and add procedures through the log.
 #![tactic(auto)]
 
 pub use add::{Added, ProgramRefusal};

@@ -8,8 +8,8 @@ use schema::Schema;
 use std::alloc::{Allocator, Global};
 use std::marker::{Model, PhantomData};
 
-/// The catalogue and the window of a node's replicas at first. Contracts see the catalogue; both are the setting of the node's
-/// log.
+/// The catalogue and the window of a node's replicas at first. Contracts see the catalogue; both are the setting of the
+/// node's log.
 #[derive(Drop)]
 pub(crate) struct NodeCatalogue<J: LogSetting, P: Allocator + Copy = Global> {
     catalogue: Catalogue<P>,

@@ -60,8 +60,8 @@ impl<J: LogSetting + Ledgers, A: Allocator + Copy, P: Allocator + Copy, G: Gate>
     P,
     G,
 > {
-    /// Makes the replica of a number anew from the log, which then delivers again where it had stopped. Calls go on at the old
-    /// one until the new one is in its place, which has come no less far. The position that it has then.
+    /// Makes the replica of a number anew from the log, which then delivers again where it had stopped. Calls go on at
+    /// the old one until the new one is in its place, which has come no less far. The position that it has then.
     pub fn rebuild<R: Wait>(&self, rt: &R, replica: u32) -> Result<u32, RebuildFault>
         ensures none { result ≡ Err NoReplica → IsNoReplica self.now.replicas replica }
         ensures some { IfOk result (λ _. (1 ≤ replica) × (replica ≤ self.now.replicas)) }

@@ -27,8 +27,8 @@ pub struct ServedReplica<J: LogSetting, A: Allocator + Copy = Global, P: Allocat
     pub(crate) waiters: Vec<CachePadded<Waiter>, P>,
 }
 
-/// What the threads of a node share: the log, the replicas behind their locks, who waits where, and the sums of answers. Contracts
-/// see how many replicas there are.
+/// What the threads of a node share: the log, the replicas behind their locks, who waits where, and the sums of
+/// answers. Contracts see how many replicas there are.
 #[derive(Drop)]
 pub struct Shared<J: LogSetting + Ledgers, A: Allocator + Copy, P: Allocator + Copy, G: Gate>
 where

@@ -65,7 +65,8 @@ impl<
         args: &[u8],
     ) -> (Answer, Option<Seen<J>>)
         ensures answer { IsHeard J.setting self.old.replicas replica
-            (record { least = self.old.position; procedure = procedure; args = args.now; request = None }) result.0 result.1 }
+            (record { least = self.old.position; procedure = procedure; args = args.now;
+            request = None }) result.0 result.1 }
         ensures kept { self.new.position ≡ max self.old.position (position_told result.0) }
         ensures replicas { self.new.replicas ≡ self.old.replicas }
     {
@@ -86,7 +87,8 @@ impl<
         request: RequestId,
     ) -> (Answer, Option<Seen<J>>)
         ensures answer { IsHeard J.setting self.old.replicas replica
-            (record { least = self.old.position; procedure = procedure; args = args.now; request = Some request }) result.0 result.1 }
+            (record { least = self.old.position; procedure = procedure; args = args.now;
+            request = Some request }) result.0 result.1 }
         ensures kept { self.new.position ≡ max self.old.position (position_told result.0) }
         ensures replicas { self.new.replicas ≡ self.old.replicas }
     {
@@ -98,8 +100,8 @@ impl<
     }
 }
 
-/// The position that an answer tells: of the entry of an ordered call whose verdict is known, or of the snapshot of one that
-/// isn't ordered. Others tell none: of a call that is stale, or whose replica has stopped, and of what wasn't run.
+/// The position that an answer tells: of the entry of an ordered call whose verdict is known, or of the snapshot of one
+/// that isn't ordered. Others tell none: of a call that is stale, or whose replica has stopped, and of what wasn't run.
 fn position_told(answer: Answer) -> u32
     ensures { result ≡ position_told answer }
 {

@@ -8,7 +8,8 @@ use std::simd::prelude::*;
 /// Which lanes aren't 0: bit j is set where lane j has some bit.
 #[inline(always)]
 pub(crate) fn lanes_with_bits(lanes: u64x8) -> u8
-    ensures { (j : ℕ) → j < 8 → ((bit_at result j ≡ 1) ↔ ((k : ℕ) × (k < 64) × (bit_at (slice_index_or lanes j 0) k ≡ 1))) }
+    ensures { (j : ℕ) → j < 8
+        → ((bit_at result j ≡ 1) ↔ ((k : ℕ) × (k < 64) × (bit_at (slice_index_or lanes j 0) k ≡ 1))) }
 {
     lanes.simd_ne(u64x8::splat(0)).to_bitmask() as u8
 }

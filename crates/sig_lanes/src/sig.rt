@@ -152,8 +152,10 @@ impl Sig {
 /// The least index of a signature that meets this one.
 pub fn first_meet(sig: &Sig, all: &[Sig]) -> Option<usize>
     ensures found { IfSome result (λ index. (index < length all.now) × Meet sig.now (slice_index_or all.now index [])) }
-    ensures least { IfSome result (λ index. (other : ℕ) → other < index → Meet sig.now (slice_index_or all.now other []) → ⊥) }
-    ensures none { IfNone result ((other : ℕ) → other < length all.now → Meet sig.now (slice_index_or all.now other []) → ⊥) }
+    ensures least { IfSome result (λ index. (other : ℕ) → other < index
+        → Meet sig.now (slice_index_or all.now other []) → ⊥) }
+    ensures none { IfNone result ((other : ℕ) → other < length all.now → Meet sig.now (slice_index_or all.now other [])
+        → ⊥) }
 {
     for index in 0..all.len() {
         if sig.meets(&all[index]) {

@@ -10,8 +10,8 @@ use crate::procedures::StoredProcedures;
 use bpf_verify::Accepted;
 use std::alloc::Allocator;
 
-/// What is known of all stored procedures: each was accepted, no two have a number or a name in common, and each name is
-/// one.
+/// What is known of all stored procedures: each was accepted, no two have a number or a name in common, and each name
+/// is one.
 pub fn stored_procedures_are_consistent<A: Allocator + Copy, P: Allocator>(
     procedures: &StoredProcedures<A, P>,
 )
@@ -35,10 +35,3 @@ pub(crate) fn one_more_is_stored()
         → by_number (stored_procedures procedures) number ≡ None
         → AreStored (procedures ++ record { name = name; number = number; accepted = accepted } ∷ []) }
 {}
-
-/// What is known of every accepted program.
-pub(crate) fn accepted_programs_were_accepted<A: Allocator, B: Allocator>(accepted: &Accepted<A, B>)
-    ensures { WasAccepted accepted.now }
-{
-    let _ = accepted.code().slots();
-}

@@ -1,6 +1,7 @@
 //! Stored procedures.
 
-ghost use Rattle.std.specs.Prelude.{◌≡◌, ◌<◌, ◌^◌, length, ℕ, List, [], ◌∷◌, ◌++◌, true, None, IfOk, OnOk, OnErr, option_map};
+ghost use Rattle.std.specs.Prelude.{◌≡◌, ◌<◌, ◌^◌, length, ℕ, List, [], ◌∷◌, ◌++◌, true, None, IfOk, OnOk, OnErr};
+ghost use Rattle.std.specs.Prelude.{option_map};
 ghost use Rattle.std.specs.Option.{option_copied};
 ghost use Rattle.std.specs.Arc.{arc_value};
 ghost use Rattle.bpf_code.specs.Program.{Program};
@@ -8,7 +9,7 @@ ghost use Rattle.log_model.specs.Log.{by_name, by_number, verdict_on_addition};
 ghost use Rattle.log_model.specs.Name.{is_name};
 ghost use Rattle.stored_procedures.specs.Held.{AreStored, listed_by_number, stored_procedures};
 
-use crate::laws::{accepted_programs_were_accepted, one_more_is_stored};
+use crate::laws::one_more_is_stored;
 use crate::listed::ListedProcedures;
 use crate::named::Named;
 use crate::table::{Table, accepted_by_number, enter, number_by_name, share_all, shared_by_number};
@@ -64,7 +65,7 @@ impl<A: Allocator + Copy, P: Allocator> StoredProcedures<A, P> {
         ensures unchanged { OnErr result (self.new ≡ self.old) }
     {
         one_more_is_stored();
-        accepted_programs_were_accepted(&accepted);
+        accepted.known();
         let name = Vec::from_slice(*self.table.allocator(), name)?;
         enter(&mut self.table, number, Named::new(name, accepted))
     }

@@ -1,5 +1,5 @@
-//! How many answers of each kind the threads of a node gave. Each thread keeps counts of its own and enters them all at once
-//! into sums that a lock guards; ledgers say that the sums are what was counted in all shares together.
+//! How many answers of each kind the threads of a node gave. Each thread keeps counts of its own and enters them all at
+//! once into sums that a lock guards; ledgers say that the sums are what was counted in all shares together.
 #![tactic(auto)]
 
 pub use blanks::Blanks;

@@ -7,7 +7,8 @@ use crate::ledgers::{
 use std::marker::Model;
 use std::sync::ledger::Share;
 
-/// A thread's share of each ledger. Contracts see how many parts it has of each, at least one, and what was counted in it.
+/// A thread's share of each ledger. Contracts see how many parts it has of each, at least one, and what was counted in
+/// it.
 #[derive(Drop)]
 pub struct Shares<J: Ledgers> {
     pub(crate) committed: Share<LedgerOf<J, Committed>>,

@@ -42,7 +42,8 @@ impl<J: Ledgers> Model for Totals<J> {
 }
 
 impl<J: Ledgers> Totals<J> {
-    /// Adds what a thread has counted to its shares and to the sums, all at once, unless a sum is then past what 64 bits hold.
+    /// Adds what a thread has counted to its shares and to the sums, all at once, unless a sum is then past what 64
+    /// bits hold.
     pub fn enter(&mut self, shares: &mut Shares<J>, counts: Counts) -> bool
         ensures fits { IsTrue result ↔ AreBelow (2 ^ 64) (sum_of self.old counts) }
         ensures sums { IsTrue result → self.new ≡ sum_of self.old counts }

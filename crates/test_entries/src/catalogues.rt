@@ -5,7 +5,8 @@ use schema::Schema;
 use std::alloc::{Allocator, Global};
 use test_procedures::{ONE, bytes_of, digit_of};
 
-/// A program in hex that takes so many words, as it is accepted. None, here and below, where memory is wanting or it isn't.
+/// A program in hex that takes so many words, as it is accepted. None, here and below, where memory is wanting or it
+/// isn't.
 pub(crate) fn accepted_of<A: Allocator + Copy>(
     alloc: A,
     schema: &Schema<A>,
@@ -28,8 +29,8 @@ fn add_to<A: Allocator + Copy>(
     catalogue.add(&digit_of(number), number, accepted).ok()
 }
 
-/// A catalogue for these tables, in which each procedure, a number with a program and how many words that takes, has its
-/// digit as its name.
+/// A catalogue for these tables, in which each procedure, a number with a program and how many words that takes, has
+/// its digit as its name.
 pub fn catalogue_of<A: Allocator + Copy>(
     alloc: A,
     tables: &[(u8, u16)],

@@ -10,8 +10,8 @@ use test_procedures::ONE;
 /// An entry of a log that is written down.
 #[derive(Clone, Copy)]
 pub enum EntryCase {
-    /// A call: its snapshot, the keys of table 1 to which it looked, from one to another, and a key at which it puts one
-    /// byte or removes it.
+    /// A call: its snapshot, the keys of table 1 to which it looked, from one to another, and a key at which it puts
+    /// one byte or removes it.
     Call(u32, u64, u64, u64, Option<u8>),
     /// The same with a session and a sequence number in front.
     Numbered(u32, u32, u32, u64, u64, u64, Option<u8>),

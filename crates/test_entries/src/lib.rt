@@ -1,4 +1,5 @@
-//! Entries of logs that are written down in tables, the catalogues that they are for, and what stands at a replica, for tests.
+//! Entries of logs that are written down in tables, the catalogues that they are for, and what stands at a replica, for
+//! tests.
 #![tactic(auto)]
 
 pub use catalogues::{catalogue_of, small_catalogue};

@@ -42,8 +42,8 @@ pub fn writes_fit<A: Allocator, B: Allocator + Copy>(
     true
 }
 
-/// Whether an entry may be delivered where so many came before it: of a call its snapshot was reached and its writes are
-/// the schema's; of an addition its name is one, and its program was accepted for the schema's tables.
+/// Whether an entry may be delivered where so many came before it: of a call its snapshot was reached and its writes
+/// are the schema's; of an addition its name is one, and its program was accepted for the schema's tables.
 pub fn entry_fits<P: Allocator + Copy>(schema: &Schema<P>, entry: &Entry<P>, before: u32) -> bool
     ensures placed { IsTrue result → IsPlaced before (item_of (entry_of entry.now)) }
     ensures writes { IsTrue result → AreWrites schema.now (writes_in (entry_of entry.now)) }

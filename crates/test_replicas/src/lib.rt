@@ -1,4 +1,5 @@
-//! Replicas and versions that take what is handed to them only where their own conditions hold, for tests and benchmarks.
+//! Replicas and versions that take what is handed to them only where their own conditions hold, for tests and
+//! benchmarks.
 #![tactic(auto)]
 
 pub use checked::CheckedReplica;

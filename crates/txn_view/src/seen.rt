@@ -4,7 +4,8 @@
 ghost use Rattle.std.specs.Prelude.{◌≡◌, ℕ, ◌≤◌, ◌%◌, ◌^◌, ◌&&◌, not, nat_le, IsTrue, IfOk, is_err, option_map};
 ghost use Rattle.std.specs.FinMap.{contains_key};
 ghost use Rattle.txn_view.specs.Found.{row_found};
-ghost use Rattle.schema.specs.Rows.{Rows, row_at, count_in, first_in, after_writes, puts, rows_under, rows_elsewhere, lesser_row};
+ghost use Rattle.schema.specs.Rows.{Rows, row_at, count_in, first_in, after_writes, puts, rows_under, rows_elsewhere};
+ghost use Rattle.schema.specs.Rows.{lesser_row};
 
 use crate::store::{Gone, Store};
 use row_sets::WriteSet;

@@ -2,6 +2,7 @@
 
 ghost use Rattle.std.specs.Prelude.{◌≡◌, ◌≢◌, ℕ, ◌≤◌, None, Some, option_map};
 ghost use Rattle.std.specs.FinMap.{get};
+ghost use Rattle.schema.specs.declared.limits.TheConstants.{MAX_WIDTH};
 ghost use Rattle.bpf_code.specs.declared.instruction.Register.TheVariants.{R1};
 ghost use Rattle.bpf_semantics.specs.Helpers.{flag, row_or_zeros, key_or_zeros, row_of};
 ghost use Rattle.txn_view.specs.Found.{row_found};
@@ -19,10 +20,10 @@ pub fn named_table<B: Allocator>(words: &WordState, schema: &Schema<B>) -> (u8, 
     requires { get schema.now (word words.now R1) ≢ None }
     ensures table { result.0 ≡ word words.now R1 }
     ensures width { get schema.now (word words.now R1) ≡ Some result.1 }
-    ensures few { result.1 ≤ 128 }
+    ensures few { result.1 ≤ MAX_WIDTH }
 {
-    // The schema's tables are below 256.
-    let table = (words.word(Register::R1) % 256) as u8;
+    schema.known();
+    let table = words.word(Register::R1) as u8;
     let Some(width) = schema.width(table) else {
         unreachable!();
     };
@@ -42,7 +43,7 @@ pub fn flag<T: Copy>(found: Option<T>) -> u64
 /// The row, or zeros.
 #[tactic(auto, using(crate::proofs::PartLemmas::zeros_taken))]
 pub fn row_or_zeros<'a>(found: Option<&'a [u8]>, width: usize) -> &'a [u8]
-    requires { width ≤ 128 }
+    requires { width ≤ MAX_WIDTH }
     ensures { result.now ≡ row_or_zeros width (option_map (λ row. row.now) found.entry) }
 {
     match found {

@@ -1,6 +1,7 @@
 //! The words, and how they are read and written.
 
 ghost use Rattle.std.specs.Prelude.{◌≡◌, ◌^◌, ◌<◌, ◌≤◌, List, ℕ, length, take, Some};
+ghost use Rattle.schema.specs.declared.limits.TheConstants.{MAX_ARGUMENTS};
 ghost use Rattle.byteorder.specs.Endian.{little_bytes};
 ghost use Rattle.bpf_code.specs.declared.instruction.Register.TheVariants.{R0};
 ghost use Rattle.bpf_code.specs.Sizes.{size_bytes};
@@ -14,6 +15,7 @@ ghost use Rattle.vm_state.specs.Access.{InStack, CanLoad, stack_from, bytes_from
 ghost use Rattle.vm_state.specs.Access.{words_past, with_word, with_bytes};
 
 use bpf_code::{Register, Size};
+use schema::MAX_ARGUMENTS;
 use std::marker::Model;
 
 /// How many bytes the stack has.
@@ -25,32 +27,37 @@ const STACK_END: u64 = 1 << 40;
 /// The address of the first argument.
 const ARGS_START: u64 = 1 << 41;
 
+/// How many bytes there is room for as arguments.
+const ARGUMENT_BYTES: usize = MAX_ARGUMENTS as usize;
+
 /// A run's state in bare words.
 #[derive(Drop)]
 pub struct WordState {
     slot: usize,
     registers: [u64; 11],
     stack: [u8; 512],
-    args: [u8; 256],
+    args: [u8; ARGUMENT_BYTES],
     /// How many of `args` there are.
     args_len: usize,
 }
 
 impl Model for WordState {
     ghost use Rattle.std.specs.Prelude.{◌≤◌, take};
+    ghost use Rattle.schema.specs.declared.limits.TheConstants.{MAX_ARGUMENTS};
     ghost use Rattle.vm_state.specs.Words.{Words};
 
     ghost Value = { Words };
 
-    ghost view = { λ m. record { slot = m.slot; registers = m.registers; stack = m.stack; args = take m.args_len m.args } };
+    ghost view = { λ m. record { slot = m.slot; registers = m.registers; stack = m.stack;
+        args = take m.args_len m.args } };
 
-    ghost invariant = { λ m. m.args_len ≤ 256 };
+    ghost invariant = { λ m. m.args_len ≤ MAX_ARGUMENTS };
 }
 
 impl WordState {
     /// The state in which a run on these arguments begins.
     pub fn start(args: &[u8]) -> WordState
-        requires { length args.now ≤ 256 }
+        requires { length args.now ≤ MAX_ARGUMENTS }
         ensures { (rows : Rows) → Holds (entry_state args.now rows) result }
     {
         WordState {
@@ -170,11 +177,11 @@ impl WordState {
 }
 
 /// These bytes, and zeros behind them.
-fn block(bytes: &[u8]) -> [u8; 256]
-    requires { length bytes.now ≤ 256 }
+fn block(bytes: &[u8]) -> [u8; ARGUMENT_BYTES]
+    requires { length bytes.now ≤ MAX_ARGUMENTS }
     ensures { take (length bytes.now) result ≡ bytes.now }
 {
-    let mut block = [0; 256];
+    let mut block = [0; ARGUMENT_BYTES];
     block[..bytes.len()].copy_from_slice(bytes);
     block
 }

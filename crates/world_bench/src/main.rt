@@ -1,5 +1,5 @@
-//! Takes steps of a world by one call, for measurements from outside: the time is taken by whoever starts it (bench/world
-//! does).
+//! Takes steps of a world by one call, for measurements from outside: the time is taken by whoever starts it
+//! (bench/world does).
 #![tactic(auto)]
 
 mod steps;

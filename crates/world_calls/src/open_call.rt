@@ -5,7 +5,8 @@ ghost use Rattle.schema.specs.Rows.{AreRows};
 ghost use Rattle.log_model.specs.Log.{Setting, Log, StoredProcedure, by_number, procedures_after, rows_after};
 ghost use Rattle.catalogue.specs.Catalogue.{accepted_of};
 ghost use Rattle.bpf_vm.specs.declared.turn.Turn.TheVariants.{More, Exit};
-ghost use Rattle.world_calls.specs.OpenCall.{open_call_of, Follows, CanGoOn, IsTurn, stays_open, call_of, IsReplyOf, IsCompletion};
+ghost use Rattle.world_calls.specs.OpenCall.{open_call_of, Follows, CanGoOn, IsTurn, stays_open, call_of, IsReplyOf};
+ghost use Rattle.world_calls.specs.OpenCall.{IsCompletion};
 
 use crate::completion::Completion;
 use acceptance::accepted_programs_never_go_wrong;
@@ -64,7 +65,8 @@ impl<A: Allocator + Copy> OpenCall<A> {
         requires { length args.now ≡ accepted.now.args_len }
         ensures begun { IfOk result (λ c. open_call_of c ≡ record {
           replica = replica;
-          call = record { number = number; procedure = procedure; args = args.now; snapshot = snapshot; request = request };
+          call = record { number = number; procedure = procedure; args = args.now; snapshot = snapshot;
+          request = request };
           turns = 0;
         }) }
         ensures follows { IfOk result (λ c. (w : Setting) (log : Log) (p : StoredProcedure)
@@ -88,7 +90,8 @@ impl<A: Allocator + Copy> OpenCall<A> {
         })
     }
 
-    /// The next instruction, where there is one, on the rows of the snapshot; none after the end, which is answered again.
+    /// The next instruction, where there is one, on the rows of the snapshot; none after the end, which is answered
+    /// again.
     pub fn turn<P: Allocator, Q: Allocator, S: Store + Drop>(
         &mut self,
         alloc: A,
@@ -124,8 +127,7 @@ impl<A: Allocator + Copy> OpenCall<A> {
         ensures last { self.new.machine.last ≡ result }
     {
         accepted_programs_never_go_wrong();
-        // So that the count of turns is known to fit.
-        let _bound = accepted.bound();
+        accepted.known();
         let own = mem::replace(&mut self.own, Own::new(alloc));
         let mut view = View::over(store, own);
         open_calls_can_turn(&view);
@@ -139,7 +141,8 @@ impl<A: Allocator + Copy> OpenCall<A> {
 
     /// The reply, where the call is at its end.
     pub fn reply(&self) -> Option<u64>
-        ensures run { (w : Setting) (log : Log) → Follows w log self.now → IsReplyOf w log (open_call_of self.now) result }
+        ensures run { (w : Setting) (log : Log) → Follows w log self.now
+            → IsReplyOf w log (open_call_of self.now) result }
         ensures exit { IfSome result (λ reply. self.now.machine.last ≡ Exit reply) }
     {
         accepted_programs_never_go_wrong();

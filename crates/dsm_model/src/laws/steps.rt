@@ -5,16 +5,20 @@
 ghost use Rattle.std.specs.Prelude.{◌≡◌, ◌≢◌, ◌⊎◌, ◌↔◌, ◌+◌, ◌<◌, ◌≤◌, ℕ, ℤ, true, false};
 ghost use Rattle.std.specs.Prelude.{List, [], ◌∷◌, ◌++◌, length, Option, Some, None, IsSome, IsTrue};
 ghost use Rattle.std.specs.FinMap.{len};
+ghost use Rattle.schema.specs.declared.limits.TheConstants.{MAX_ARGUMENTS};
 ghost use Rattle.bpf_code.specs.Program.{Program};
 ghost use Rattle.log_model.specs.declared.request.RequestId.{RequestId};
 ghost use Rattle.log_model.specs.declared.verdict.Verdict.{Verdict};
 ghost use Rattle.call_model.specs.declared.fault.ProgramFault.{ProgramFault};
-ghost use Rattle.dsm_model.specs.declared.outcome.StepRefusal.TheVariants.{NoReplica, NoProcedure, ArgumentsLength, NoCall};
-ghost use Rattle.dsm_model.specs.declared.outcome.StepRefusal.TheVariants.{NotAtExit, NothingToDeliver, ReplicaStopped, LogFull};
+ghost use Rattle.dsm_model.specs.declared.outcome.StepRefusal.TheVariants.{NoReplica, NoProcedure, ArgumentsLength};
+ghost use Rattle.dsm_model.specs.declared.outcome.StepRefusal.TheVariants.{NoCall};
+ghost use Rattle.dsm_model.specs.declared.outcome.StepRefusal.TheVariants.{NotAtExit, NothingToDeliver, ReplicaStopped};
+ghost use Rattle.dsm_model.specs.declared.outcome.StepRefusal.TheVariants.{LogFull};
 ghost use Rattle.dsm_model.specs.declared.outcome.StepRefusal.TheVariants.{OutOfMemory, TooManyCalls, ArgumentsLimit};
 ghost use Rattle.dsm_model.specs.declared.outcome.StepRefusal.TheVariants.{ProgramRefused, NameShape, ZeroInRequest};
 ghost use Rattle.dsm_model.specs.declared.outcome.Outcome.{Outcome};
-ghost use Rattle.dsm_model.specs.declared.outcome.Outcome.TheVariants.{Begun, More, Exit, Stale, NoMemory, Ordered, Read};
+ghost use Rattle.dsm_model.specs.declared.outcome.Outcome.TheVariants.{Begun, More, Exit, Stale, NoMemory, Ordered};
+ghost use Rattle.dsm_model.specs.declared.outcome.Outcome.TheVariants.{Read};
 ghost use Rattle.dsm_model.specs.declared.outcome.Outcome.TheVariants.{Cancelled, Delivered, Rebuilt, Added, Refused};
 ghost use Rattle.log_model.specs.Log.{StoredProcedure, Setting, CallItem, AdditionItem, by_number, procedures_after};
 ghost use Rattle.log_model.specs.Log.{procedure_of, run_in, verdict_of};
@@ -30,8 +34,9 @@ ghost use Rattle.dsm_model.specs.World.{IsStep};
 ghost use Rattle.call_model.specs.OpenCall.{makes_look, at_row_helper};
 
 /// A call begins as the next of the world's, at the position of its replica, with no instruction run. It doesn't where
-/// there is no such replica; else, where there is no such procedure at its position; else, where the arguments have another
-/// length than the procedure's; else, where its request has a 0; else, where the world has had all its calls and additions.
+/// there is no such replica; else, where there is no such procedure at its position; else, where the arguments have
+/// another length than the procedure's; else, where its request has a 0; else, where the world has had all its calls
+/// and additions.
 pub fn calls_begin_where_their_replica_is()
     ensures begun { (w : Setting) (before : World) (r procedure : ℕ) (args : List ℕ) (request : Option RequestId)
         (c snapshot : ℕ) (after : World)
@@ -46,27 +51,34 @@ pub fn calls_begin_where_their_replica_is()
           replicas = before.replicas;
           calls = before.calls ++ Some (record {
             replica = r;
-            call = record { number = c; procedure = procedure; args = args; snapshot = snapshot; request = or_none request };
+            call = record { number = c; procedure = procedure; args = args; snapshot = snapshot;
+            request = or_none request };
             turns = 0;
           }) ∷ [];
         }) }
-    ensures no_replica { (w : Setting) (before : World) (r procedure : ℕ) (args : List ℕ) (request : Option RequestId) (after : World)
-        → IsStep w before (Begin r procedure args request) (Refused NoReplica) after → numbered before.replicas r ≡ None }
-    ensures no_procedure { (w : Setting) (before : World) (r procedure : ℕ) (args : List ℕ) (request : Option RequestId) (after : World)
+    ensures no_replica { (w : Setting) (before : World) (r procedure : ℕ) (args : List ℕ) (request : Option RequestId)
+        (after : World)
+        → IsStep w before (Begin r procedure args request) (Refused NoReplica) after
+        → numbered before.replicas r ≡ None }
+    ensures no_procedure { (w : Setting) (before : World) (r procedure : ℕ) (args : List ℕ)
+        (request : Option RequestId) (after : World)
         → IsStep w before (Begin r procedure args request) (Refused NoProcedure) after
         → (replica : Replica) × (numbered before.replicas r ≡ Some replica)
         × (by_number (procedures_after w before.log replica.position) procedure ≡ None) }
-    ensures arguments { (w : Setting) (before : World) (r procedure : ℕ) (args : List ℕ) (request : Option RequestId) (after : World)
+    ensures arguments { (w : Setting) (before : World) (r procedure : ℕ) (args : List ℕ) (request : Option RequestId)
+        (after : World)
         → IsStep w before (Begin r procedure args request) (Refused ArgumentsLength) after
         → (replica : Replica) × (stored : StoredProcedure) × (numbered before.replicas r ≡ Some replica)
         × (by_number (procedures_after w before.log replica.position) procedure ≡ Some stored)
         × (length args ≢ stored.args_len) }
-    ensures zero { (w : Setting) (before : World) (r procedure : ℕ) (args : List ℕ) (request : Option RequestId) (after : World)
+    ensures zero { (w : Setting) (before : World) (r procedure : ℕ) (args : List ℕ) (request : Option RequestId)
+        (after : World)
         → IsStep w before (Begin r procedure args request) (Refused ZeroInRequest) after
         → (replica : Replica) × (stored : StoredProcedure) × (numbered before.replicas r ≡ Some replica)
         × (by_number (procedures_after w before.log replica.position) procedure ≡ Some stored)
         × (length args ≡ stored.args_len) × (has_zero request ≡ true) }
-    ensures many { (w : Setting) (before : World) (r procedure : ℕ) (args : List ℕ) (request : Option RequestId) (after : World)
+    ensures many { (w : Setting) (before : World) (r procedure : ℕ) (args : List ℕ) (request : Option RequestId)
+        (after : World)
         → IsStep w before (Begin r procedure args request) (Refused TooManyCalls) after
         → (replica : Replica) × (stored : StoredProcedure) × (numbered before.replicas r ≡ Some replica)
         × (by_number (procedures_after w before.log replica.position) procedure ≡ Some stored)
@@ -81,7 +93,8 @@ pub fn turns_follow_the_run()
     ensures more { (w : Setting) (before : World) (c : ℕ) (after : World)
         → IsStep w before (Turn c) More after
         → (o : OpenCall) × (open_call before c ≡ Some o) × (o.turns + 1 < (run_in w before.log o.call).steps)
-        × (after ≡ with_open_call before c (Some (record { replica = o.replica; call = o.call; turns = o.turns + 1 }))) }
+        × (after ≡ with_open_call before c
+        (Some (record { replica = o.replica; call = o.call; turns = o.turns + 1 }))) }
     ensures exit { (w : Setting) (before : World) (c reply : ℕ) (after : World)
         → IsStep w before (Turn c) (Exit reply) after
         → (o : OpenCall) × (open_call before c ≡ Some o) × ((run_in w before.log o.call).steps ≤ o.turns + 1)
@@ -119,7 +132,8 @@ pub fn calls_are_ordered_at_their_end()
         × ((run_in w before.log o.call).cancel_code ≡ None) × (len (run_in w before.log o.call).writes ≢ 0)
         × (position ≡ length before.log + 1) × (length before.log < max_calls)
         × (after ≡ with_open_call
-        (record { log = before.log ++ CallItem o.call ∷ []; replicas = before.replicas; calls = before.calls }) c None) }
+        (record { log = before.log ++ CallItem o.call ∷ []; replicas = before.replicas; calls = before.calls }) c None)
+        }
     ensures full { (w : Setting) (before : World) (c : ℕ) (after : World)
         → IsStep w before (Order c) (Refused LogFull) after
         → (o : OpenCall) × (open_call before c ≡ Some o) × ((run_in w before.log o.call).steps ≤ o.turns)
@@ -172,32 +186,37 @@ pub fn rebuilt_replicas_are_at_the_end()
         → IsStep w before (Rebuild r) (Refused NoReplica) after → numbered before.replicas r ≡ None }
 {}
 
-/// An addition is appended to the log at once, and its position answered. It isn't where the world has had all its calls
-/// and additions; else, where its arguments would be longer than 256 bytes; else, where its program didn't pass the check;
-/// else, where its name isn't one.
+/// An addition is appended to the log at once, and its position answered. It isn't where the world has had all its
+/// calls and additions; else, where its arguments would be longer than 256 bytes; else, where its program didn't pass
+/// the check; else, where its name isn't one.
 pub fn additions_are_appended_at_once()
-    ensures added { (w : Setting) (before : World) (name : List ℕ) (number args_len : ℕ) (checked : ProgramCheck) (position : ℕ)
+    ensures added { (w : Setting) (before : World) (name : List ℕ) (number args_len : ℕ) (checked : ProgramCheck)
+        (position : ℕ)
         (after : World) → IsStep w before (Add name number args_len checked) (Added position) after
-        → (program : Program) × (checked ≡ Passed program) × (call_count before < max_calls) × (args_len ≤ 256)
+        → (program : Program) × (checked ≡ Passed program) × (call_count before < max_calls) × (args_len ≤ MAX_ARGUMENTS)
         × (is_name name ≡ true) × (position ≡ length before.log + 1)
         × (after ≡ record {
-          log = before.log ++ AdditionItem (record { name = name; number = number; program = program; args_len = args_len }) ∷ [];
+          log = before.log ++ AdditionItem
+          (record { name = name; number = number; program = program; args_len = args_len }) ∷ [];
           replicas = before.replicas;
           calls = before.calls;
         }) }
-    ensures many { (w : Setting) (before : World) (name : List ℕ) (number args_len : ℕ) (checked : ProgramCheck) (after : World)
+    ensures many { (w : Setting) (before : World) (name : List ℕ) (number args_len : ℕ) (checked : ProgramCheck)
+        (after : World)
         → IsStep w before (Add name number args_len checked) (Refused TooManyCalls) after
         → max_calls ≤ call_count before }
-    ensures long { (w : Setting) (before : World) (name : List ℕ) (number args_len : ℕ) (checked : ProgramCheck) (after : World)
+    ensures long { (w : Setting) (before : World) (name : List ℕ) (number args_len : ℕ) (checked : ProgramCheck)
+        (after : World)
         → IsStep w before (Add name number args_len checked) (Refused ArgumentsLimit) after
-        → (call_count before < max_calls) × (256 < args_len) }
+        → (call_count before < max_calls) × (MAX_ARGUMENTS < args_len) }
     ensures program { (w : Setting) (before : World) (name : List ℕ) (number args_len : ℕ) (checked : ProgramCheck)
         (fault : ProgramFault) (after : World)
         → IsStep w before (Add name number args_len checked) (Refused (ProgramRefused fault)) after
-        → (call_count before < max_calls) × (args_len ≤ 256) × (checked ≡ Failed fault) }
-    ensures name { (w : Setting) (before : World) (name : List ℕ) (number args_len : ℕ) (checked : ProgramCheck) (after : World)
+        → (call_count before < max_calls) × (args_len ≤ MAX_ARGUMENTS) × (checked ≡ Failed fault) }
+    ensures name { (w : Setting) (before : World) (name : List ℕ) (number args_len : ℕ) (checked : ProgramCheck)
+        (after : World)
         → IsStep w before (Add name number args_len checked) (Refused NameShape) after
-        → (program : Program) × (checked ≡ Passed program) × (call_count before < max_calls) × (args_len ≤ 256)
+        → (program : Program) × (checked ≡ Passed program) × (call_count before < max_calls) × (args_len ≤ MAX_ARGUMENTS)
         × (is_name name ≡ false) }
 {}
 
@@ -209,7 +228,8 @@ pub fn each_step_has_its_answers()
 
 /// Memory is wanted only in place of an answer that takes some.
 pub fn memory_is_wanted_in_place_of_an_answer()
-    ensures begin { (w : Setting) (before : World) (r procedure : ℕ) (args : List ℕ) (request : Option RequestId) (after : World)
+    ensures begin { (w : Setting) (before : World) (r procedure : ℕ) (args : List ℕ) (request : Option RequestId)
+        (after : World)
         → IsStep w before (Begin r procedure args request) (Refused OutOfMemory) after
         → (c : ℕ) × (snapshot : ℕ) × (other : World)
         × IsStep w before (Begin r procedure args request) (Begun c snapshot) other }
@@ -223,7 +243,8 @@ pub fn memory_is_wanted_in_place_of_an_answer()
     ensures rebuild { (w : Setting) (before : World) (r : ℕ) (after : World)
         → IsStep w before (Rebuild r) (Refused OutOfMemory) after
         → (position : ℕ) × (other : World) × IsStep w before (Rebuild r) (Rebuilt position) other }
-    ensures add { (w : Setting) (before : World) (name : List ℕ) (number args_len : ℕ) (checked : ProgramCheck) (after : World)
+    ensures add { (w : Setting) (before : World) (name : List ℕ) (number args_len : ℕ) (checked : ProgramCheck)
+        (after : World)
         → IsStep w before (Add name number args_len checked) (Refused OutOfMemory) after
-        → (call_count before < max_calls) × (args_len ≤ 256) }
+        → (call_count before < max_calls) × (args_len ≤ MAX_ARGUMENTS) }
 {}

@@ -1,4 +1,4 @@
-use abs_cause::Cause;
+use bpf_verify::Cause;
 use bpf_code::{DecodeCause, DecodeFault};
 use call_model::ProgramFault;
 use dsm_model::{Outcome, StepRefusal};

@@ -7,10 +7,11 @@ ghost use Rattle.tallies.specs.Shared.{names_by_place};
 use catalogue::Catalogue;
 use crossbeam_channel::{Receiver, Sender, bounded};
 use node_calls::{Answer, Asked, OpenGate};
-use order_log::{Fact, GroupCells, LIMIT, OrderLog};
+use order_log::{Fact, GroupCells, OrderLog};
 use ordered_entries::{LogSetting, OrderedEntries};
 use row_sets::Bytes;
 use scarce::Scarce;
+use schema::MAX_LOG;
 use served_replicas::{RebuildFault, Reply, Request, Shared, deliver_all, serve};
 use std::alloc::{Allocator, Global};
 use std::marker::Brand;
@@ -122,7 +123,7 @@ fn ask_both<J: LogSetting + Ledgers, P: Allocator + Copy, R: Wait + Abort>(
 /// How many entries the log shows.
 fn length_of<J: LogSetting + Ledgers, P: Allocator + Copy>(shared: &TwoReplicas<'_, J, P>) -> u32 {
     let mut seen = shared.log().seen();
-    for _ in 0..LIMIT {
+    for _ in 0..MAX_LOG {
         if shared.log().get(&mut seen).is_none() {
             break;
         }

@@ -5,7 +5,8 @@ ghost use Rattle.std.specs.Prelude.{IsTrue, IsFalse, IsSome, List, Any, find, co
 ghost use Rattle.std.specs.Option.{option_or, option_map};
 ghost use Rattle.std.specs.FinMap.{get, entries};
 ghost use Rattle.schema.specs.declared.look.Look.{Look};
-ghost use Rattle.schema.specs.Rows.{Key, Rows, covers, any_covers, rows_in, count_in, first_in, AgreeOn, IsFirst, IsVacant};
+ghost use Rattle.schema.specs.Rows.{Key, Rows, covers, any_covers, rows_in, count_in, first_in, AgreeOn, IsFirst};
+ghost use Rattle.schema.specs.Rows.{IsVacant};
 ghost use Rattle.schema.specs.Rows.{low_part, high_part, Writes, after_write, after_writes};
 ghost use Rattle.schema.specs.Rows.{puts, rows_under, rows_elsewhere, lesser_row};
 

@@ -3,7 +3,8 @@
 ghost use Rattle.std.specs.Prelude.{◌≡◌, ◌≢◌, ◌↔◌, List, ℕ, Option, Some, None, IsTrue, IsFalse, IsSome};
 ghost use Rattle.std.specs.FinMap.{get, empty};
 ghost use Rattle.schema.specs.declared.look.Look.{Look};
-ghost use Rattle.schema.specs.Rows.{Key, Rows, Writes, any_covers, with_write, after_write, after_writes, puts, shares_key};
+ghost use Rattle.schema.specs.Rows.{Key, Rows, Writes, any_covers, with_write, after_write, after_writes, puts};
+ghost use Rattle.schema.specs.Rows.{shares_key};
 
 /// After a write what was put stands at its key, or nothing where it is a removal; the others stay.
 pub fn row_at_after_write()

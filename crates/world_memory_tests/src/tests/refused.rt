@@ -3,7 +3,7 @@
 use super::{
     ADD_TEN, BEGIN_SEVEN, BEGIN_TEN, Script, described, run_script, same, steps_of, two_replicas,
 };
-use abs_cause::Cause;
+use bpf_verify::Cause;
 use call_model::ProgramFault;
 use dsm_model::{Outcome, StepRefusal};
 use dsm_world::{Step, World};
