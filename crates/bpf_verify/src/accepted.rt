@@ -64,6 +64,7 @@ impl<A: Allocator, B: Allocator> Accepted<A, B> {
     {
         self.code.known();
         self.schema.known();
+        prove!(self.bound <= u32::MAX);
     }
 
     /// The program.

@@ -96,7 +96,7 @@ row_helper (Some RangeCount) e = (RangeCount, refl, λ f. cc)
 row_helper (Some RangeNext) e = (RangeNext, refl, λ f. cc)
 row_helper (Some Cancel) e = absurd cc
 
-is_row : (h : Helper) → (h ≡ Cancel → ⊥) → is_row_helper (just h) ≡ true
+pub is_row : (h : Helper) → (h ≡ Cancel → ⊥) → is_row_helper (just h) ≡ true
 is_row RowGet apart = refl
 is_row RowPut apart = refl
 is_row RowDelete apart = refl

@@ -1,10 +1,9 @@
 //! Verdicts on calls in the order of their delivery.
 
-ghost use Rattle.std.specs.Prelude.{◌≡◌, ◌+◌, ◌<◌, ◌≤◌, ◌^◌, ◌++◌, [], ◌∷◌, List, length, IfOk, OnOk, IfSome};
-ghost use Rattle.log_model.specs.Log.{CertifiedItem, verdict_after};
+ghost use Rattle.std.specs.Prelude.{◌≡◌, ◌+◌, ◌<◌, ◌≤◌, ◌^◌, ◌++◌, [], ◌∷◌, List, length, IfOk, OnOk};
+ghost use Rattle.log_model.specs.Log.{CertifiedItem, verdict_after, no_request};
 ghost use Rattle.log_model.specs.Comparisons.{comparisons_after};
 ghost use Rattle.std.specs.FinMap.{empty};
-ghost use Rattle.log_model.specs.Log.{no_request};
 ghost use Rattle.certify.specs.Kept.{IsGivenRequest, IsPreparedOf, StandsFor};
 
 use crate::prepared::{Prepared, prepared_of};

@@ -1,11 +1,10 @@
 //! The search for the first conflict.
 
 ghost use Rattle.std.specs.Prelude.{◌≡◌, ◌==◌, ◌↔◌, Bool, List, IsTrue, ◌-◌, ◌+◌, ◌/◌, ◌*◌, ◌%◌, ◌<◌, ◌≤◌, ◌^◌, ℕ};
-ghost use Rattle.std.specs.Prelude.{length};
+ghost use Rattle.std.specs.Prelude.{length, None};
 ghost use Rattle.std.specs.Int.{bit_at};
 ghost use Rattle.row_model.specs.Signature.{looks_set_bit};
 ghost use Rattle.sig_lanes.specs.Bits.{has_bit};
-ghost use Rattle.std.specs.Prelude.{None};
 ghost use Rattle.log_model.specs.Log.{Call, CertifiedItem, first_repeated, verdict_after};
 ghost use Rattle.log_model.specs.Comparisons.{comparisons_after};
 ghost use Rattle.certify.specs.Kept.{HasPlaces, StandsForLatest};

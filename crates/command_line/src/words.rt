@@ -7,10 +7,8 @@ ghost use Rattle.clap.specs.Words.{all_of, app_of, found_of, rows_of, rule_of, s
 ghost use Rattle.program_commands.specs.Number.{table_word};
 ghost use Rattle.command_line.specs.Plan.{args_rule, check_line, command_line, executors_rule, explain_line, file_rule};
 ghost use Rattle.command_line.specs.Plan.{list_line, log_rule, number_rule, replay_line, run_line, script_rule};
-ghost use Rattle.command_line.specs.Plan.{table_rule};
-ghost use Rattle.command_line.specs.Plan.{IsPlanOf, IsListOf, IsCheckOf, IsReplayOf, IsRunOf, IsExplainOf};
-ghost use Rattle.command_line.specs.Plan.{IsWithinLimits};
-ghost use Rattle.command_line.specs.Plan.{number_of};
+ghost use Rattle.command_line.specs.Plan.{table_rule, IsPlanOf, IsListOf, IsCheckOf, IsReplayOf, IsRunOf, IsExplainOf};
+ghost use Rattle.command_line.specs.Plan.{IsWithinLimits, number_of};
 
 use crate::help::{RUN_HELP, SCRIPT_HELP};
 use crate::request::{Plan, PlanFault};

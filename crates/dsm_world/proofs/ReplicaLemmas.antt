@@ -9,7 +9,7 @@ use Rattle.stored_procedures.specs.Held.{ListedProcedure, AreForTables, listed_b
 use Rattle.std.specs.List.{AllByRecursion}
 use Rattle.log_entry.specs.declared.entry.Entry.{Entry as LogEntry}
 use Rattle.log_entry.specs.Kind.{entry_of}
-use Rattle.replica.specs.Replica.{Replica, StandsFor, AreEntriesOf, IsNamed, entries_of, writes_in}
+use Rattle.replica.specs.Replica.{Replica, StandsFor, AreEntriesOf, IsNamed, entries_of, writes_in, HasSameTables, HasDelivered, HasStopped}
 use Rattle.log_model.specs.declared.verdict.Verdict.{Verdict}
 use Rattle.dsm_model.specs.declared.outcome.StepRefusal.TheVariants.{NothingToDeliver, ReplicaStopped, OutOfMemory}
 use Rattle.dsm_model.specs.declared.outcome.Outcome.{Outcome}
@@ -24,7 +24,8 @@ use Rattle.log_model.proofs.GrowthLemmas.{procedures_grown}
 use Rattle.catalogue.specs.Catalogue.{accepted_of}
 use Rattle.catalogue.proofs.HeldLemmas.{numbered_for}
 use Rattle.dsm_world.specs.System.{SystemWorld, setting_of, progress_of, world_of}
-use Rattle.dsm_world.specs.Holdings.{IsReplicaOf, IsTogether, HasSameTables, HasDelivered, HasStopped}
+use Rattle.dsm_world.specs.declared.holdings.Holdings.{Holdings}
+use Rattle.dsm_world.specs.Holdings.{IsReplicaOf, IsTogether, system_of}
 use Rattle.dsm_world.proofs.Numbered.{get_map, set_map, get_set, get_lt, numbered_map, numbered_at, with_numbered_at, numbered_none}
 use Rattle.dsm_world.proofs.StepLemmas.{deliver_nothing, deliver_stopped, deliver_new, deliver_without_memory, rebuild_new}
 use Rattle.replica.proofs.EntryLemmas.{take_all, take_next, take_drop, take_count, items_append, items_count, all_at, placed_at, entries_taken}
@@ -105,7 +106,7 @@ stopped_before s slots r k old e have h is at next stopped =
     deliver_stopped (setting_of s) (world_of s) r (progress_of old) v.0 (replica_at s r k old is at) v.1 stopped
 
 -- the verdict of a delivery is that of the log
-verdict_is : {A : Type 0} (s : SystemWorld) (slots : List (Option (OpenCallState A))) (k : ℕ) (old new : Replica) (e : Entry) (v : Verdict) → VerdictsGrow → IsTogether s slots → slice_get s.replicas k ≡ Some old → slice_get s.entries old.position ≡ Some e → HasDelivered s.catalogue.tables old new e v
+verdict_is : {A : Type 0} (s : SystemWorld) (slots : List (Option (OpenCallState A))) (k : ℕ) (old new : Replica) (e : Entry) (v : Verdict) → VerdictsGrow → IsTogether s slots → slice_get s.replicas k ≡ Some old → slice_get s.entries old.position ≡ Some e → HasDelivered old new e v
     → verdict_of (setting_of s) (world_of s).log (old.position + 1) ≡ Some v
 verdict_is s slots k old new e v verdicts h at next d =
     let w = setting_of s in
@@ -114,7 +115,7 @@ verdict_is s slots k old new e v verdicts h at next d =
     let first = take_next s.entries p e next in
     let is = h.replicas k old at in
     let are = subst (λ (xs : List Entry). AreEntriesOf w xs) (sym first) (entries_taken w s.entries (suc p) h.entries) in
-    let there = d.verdict w (take p s.entries) (sym is.same_window) is.stands are in
+    let there = d.log_verdict w (take p s.entries) (sym is.same_window) is.stands are in
     let at_next : new.position ≡ suc p = (let position = d.position in omega arith) in
     let count : length (items_of (take (suc p) s.entries)) ≡ suc p = items_count (take (suc p) s.entries) ∙ take_count s.entries (suc p) (omega arith) in
     let log : (world_of s).log ≡ items_of (take (suc p) s.entries) ++ items_of (drop (suc p) s.entries) =
@@ -123,7 +124,7 @@ verdict_is s slots k old new e v verdicts h at next d =
     (ap (λ (l : Log). verdict_of w l (suc p)) log ∙ verdicts w (items_of (take (suc p) s.entries)) (items_of (drop (suc p) s.entries)) p (omega arith)
     ∙ ap (λ (xs : List Entry). verdict_of w (items_of xs) (suc p)) (sym first) ∙ ap (verdict_of w (items_of (take p s.entries ++ e ∷ []))) (sym at_next) ∙ there)
 
-pub delivered : {A : Type 0} (s : SystemWorld) (slots : List (Option (OpenCallState A))) (r k : ℕ) (old new : Replica) (e : Entry) (v : Verdict) → VerdictsGrow → IsTogether s slots → r ≡ k + 1 → slice_get s.replicas k ≡ Some old → slice_get s.entries old.position ≡ Some e → old.stopped ≡ false → HasDelivered s.catalogue.tables old new e v
+pub delivered : {A : Type 0} (s : SystemWorld) (slots : List (Option (OpenCallState A))) (r k : ℕ) (old new : Replica) (e : Entry) (v : Verdict) → VerdictsGrow → IsTogether s slots → r ≡ k + 1 → slice_get s.replicas k ≡ Some old → slice_get s.entries old.position ≡ Some e → old.stopped ≡ false → HasDelivered old new e v
     → IsStep (setting_of s) (world_of s) (Deliver r) (Delivered (old.position + 1) v) (world_of (with_one s k new))
 delivered s slots r k old new e v verdicts h is at next going d =
     let progress : record { position = old.position + 1; stopped = old.stopped } ≡ progress_of new = ap (λ n. record { position = n; stopped = old.stopped }) (sym d.position) ∙ ap (λ b. record { position = new.position; stopped = b }) (going ∙ sym d.running) in
@@ -133,16 +134,17 @@ delivered s slots r k old new e v verdicts h is at next going d =
 same_tables : (tables : Tables) (old new : Replica) → TablesKept → HasSameTables old new → HaveTables tables old.versions.tables → HaveTables tables new.versions.tables
 same_tables tables old new kept same have = kept tables old.versions.tables new.versions.tables same.widths same.count have
 
-pub delivered_replica : {A : Type 0} (s : SystemWorld) (slots : List (Option (OpenCallState A))) (k : ℕ) (old new : Replica) (e : Entry) (v : Verdict) → TablesKept → IsTogether s slots → slice_get s.replicas k ≡ Some old → slice_get s.entries old.position ≡ Some e → HasDelivered s.catalogue.tables old new e v
+pub delivered_replica : {A : Type 0} (s : SystemWorld) (slots : List (Option (OpenCallState A))) (k : ℕ) (old new : Replica) (e : Entry) (v : Verdict) → TablesKept → IsTogether s slots → slice_get s.replicas k ≡ Some old → slice_get s.entries old.position ≡ Some e → HasDelivered old new e v
+    → HasSameTables old new → (AreForTables s.catalogue.tables old.procedures → AreForTables s.catalogue.tables new.procedures)
     → IsReplicaOf s.catalogue s.window s.entries new
-delivered_replica s slots k old new e v kept h at next d =
+delivered_replica s slots k old new e v kept h at next d same for_tables =
     let is = h.replicas k old at in
     let position : suc old.position ≡ new.position = (let p = d.position in omega arith) in
     record {
       stands = subst (StandsFor s.catalogue.procedures new) (take_next s.entries old.position e next ∙ ap (λ n. take n s.entries) position) (d.stands s.catalogue.procedures (take old.position s.entries) is.stands);
-      same_window = d.same_tables.window ∙ is.same_window;
-      have = same_tables s.catalogue.tables old new kept d.same_tables is.have;
-      for_tables = d.for_tables is.for_tables;
+      same_window = same.window ∙ is.same_window;
+      have = same_tables s.catalogue.tables old new kept same is.have;
+      for_tables = for_tables is.for_tables;
     }
 
 pub stops : {A : Type 0} (s : SystemWorld) (slots : List (Option (OpenCallState A))) (r k : ℕ) (old new : Replica) (e : Entry) → HaveVerdicts → IsTogether s slots → r ≡ k + 1 → slice_get s.replicas k ≡ Some old → slice_get s.entries old.position ≡ Some e → old.stopped ≡ false → HasStopped old new
@@ -153,13 +155,13 @@ stops s slots r k old new e have h is at next going d =
     subst (λ (x : World). IsStep (setting_of s) (world_of s) (Deliver r) (Refused OutOfMemory) x) (world_with s r k new _ is progress)
     (deliver_without_memory (setting_of s) (world_of s) r (progress_of old) v.0 (replica_at s r k old is at) v.1 going)
 
-pub stopped_replica : {A : Type 0} (s : SystemWorld) (slots : List (Option (OpenCallState A))) (k : ℕ) (old new : Replica) → TablesKept → IsTogether s slots → slice_get s.replicas k ≡ Some old → HasStopped old new → IsReplicaOf s.catalogue s.window s.entries new
-stopped_replica s slots k old new kept h at d =
+pub stopped_replica : {A : Type 0} (s : SystemWorld) (slots : List (Option (OpenCallState A))) (k : ℕ) (old new : Replica) → TablesKept → IsTogether s slots → slice_get s.replicas k ≡ Some old → HasStopped old new → HasSameTables old new → IsReplicaOf s.catalogue s.window s.entries new
+stopped_replica s slots k old new kept h at d same =
     let is = h.replicas k old at in
     record {
       stands = subst (StandsFor s.catalogue.procedures new) (ap (λ n. take n s.entries) (sym d.position)) (d.stands s.catalogue.procedures (take old.position s.entries) is.stands);
-      same_window = d.tables.window ∙ is.same_window;
-      have = same_tables s.catalogue.tables old new kept d.tables is.have;
+      same_window = same.window ∙ is.same_window;
+      have = same_tables s.catalogue.tables old new kept same is.have;
       for_tables = subst (AreForTables s.catalogue.tables) (sym d.procedures) is.for_tables;
     }
 
@@ -278,3 +280,28 @@ get_in_code xs k e at = get_map entry_of xs k ∙ ap (λ o. option_map entry_of 
 
 pub at_in_code : {X : Type 0} (xs items : List X) (n position : ℕ) (e : X) → items ≡ xs → n ≡ position → n < length items → e ≡ get_or items n e → slice_get xs position ≡ Some e
 at_in_code xs items n position e same at lt is = ap (λ (ys : List _). slice_get ys position) (sym same) ∙ ap (slice_get items) (sym at) ∙ get_is items n e lt is
+
+-- the next entry of a replica, as code looks both up
+pub record IsNextOf {A : Type 0} (h : Holdings A) (k n : ℕ) (seen old : Replica) (e : LogEntry A) : Type 0 where
+  pub at : slice_get h.replicas.items k ≡ Some old
+  pub same : seen ≡ old
+  pub position : n ≡ old.position
+  pub logged : slice_get h.entries.items old.position ≡ Some e
+  pub next : slice_get (entries_of h.entries.items) old.position ≡ Some (entry_of e)
+
+pub next_of : {A : Type 0} (h : Holdings A) (k n : ℕ) (seen old : Replica) (items : List (LogEntry A)) (e : LogEntry A)
+    → k < length h.replicas.items → seen ≡ get_or h.replicas.items k seen → old ≡ get_or h.replicas.items k old
+    → items ≡ h.entries.items → n ≡ seen.position → n < length items → e ≡ get_or items n e → IsNextOf h k n seen old e
+next_of h k n seen old items e lt seen_is old_is held position there is =
+    let first = get_is h.replicas.items k seen lt seen_is in
+    let at = get_is h.replicas.items k old lt old_is in
+    let same : seen ≡ old = same_item h.replicas.items k seen old first at in
+    let reached : n ≡ old.position = position ∙ ap (λ (r : Replica). r.position) same in
+    let logged = at_in_code h.entries.items items n old.position e held reached there is in
+    record {
+      at = at;
+      same = same;
+      position = reached;
+      logged = logged;
+      next = get_in_code h.entries.items old.position e logged;
+    }

@@ -58,28 +58,3 @@ pub record AreConsistentHoldings {A : Type 0} (h : Holdings A) : Type 0 where
   pub together : IsTogether (system_of h) (call_slots h)
   pub for_tables : AllByRecursion (IsForTables h.catalogue.tables) h.entries.items
   pub additions : h.additions ≡ addition_count (items_of (entries_of h.entries.items))
-
--- ---- what one replica does
-
-pub record HasSameTables (old new : Replica) : Type 0 where
-  pub window : new.window ≡ old.window
-  pub widths : (t : ℕ) → width_of new.versions.tables t ≡ width_of old.versions.tables t
-  pub count : length new.versions.tables ≡ length old.versions.tables
-
--- it has taken an entry in, with this verdict
-pub record HasDelivered (tables : Tables) (old new : Replica) (e : Entry) (v : Verdict) : Type 0 where
-  pub stands : (base : Catalogue) (past : List Entry) → StandsFor base old past → StandsFor base new (past ++ e ∷ [])
-  pub verdict : (w : Setting) (past : List Entry) → w.window ≡ old.window → StandsFor w.catalogue old past → AreEntriesOf w (past ++ e ∷ [])
-      → verdict_of w (items_of (past ++ e ∷ [])) new.position ≡ Some v
-  pub position : new.position ≡ old.position + 1
-  pub running : new.stopped ≡ false
-  pub same_tables : HasSameTables old new
-  pub for_tables : AreForTables tables old.procedures → AreForTables tables new.procedures
-
--- it found no memory
-pub record HasStopped (old new : Replica) : Type 0 where
-  pub stands : (base : Catalogue) (past : List Entry) → StandsFor base old past → StandsFor base new past
-  pub procedures : new.procedures ≡ old.procedures
-  pub position : new.position ≡ old.position
-  pub stopped : new.stopped ≡ true
-  pub tables : HasSameTables old new

@@ -1,7 +1,7 @@
 //! The calls of a world, each in its place or over.
 
-ghost use Rattle.std.specs.Prelude.{◌≡◌, ◌+◌, ◌<◌, ◌++◌, [], ◌∷◌, map, option_map, slice_get, slice_set};
-ghost use Rattle.std.specs.Prelude.{vec_len, Some, None, IfSome, OnOk, OnErr};
+ghost use Rattle.std.specs.Prelude.{◌≡◌, ◌+◌, ◌<◌, ◌++◌, [], ◌∷◌, map, option_map, slice_get, slice_set, vec_len, Some};
+ghost use Rattle.std.specs.Prelude.{None, IfSome, OnOk, OnErr};
 ghost use Rattle.dsm_model.specs.World.{flatten, numbered};
 
 use crate::numbers::index_of;

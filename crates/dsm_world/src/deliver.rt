@@ -27,11 +27,12 @@ pub(crate) fn deliver<A: Allocator + Copy>(world: &mut Holdings<A>, replica: u32
     let Some(at) = index_of(replica, world.replicas.len()) else {
         return Outcome::Refused(StepRefusal::NoReplica);
     };
-    let position = world.replicas[at].position();
+    let replica = &world.replicas[at];
+    let position = replica.position();
     let Some(entry) = world.entries.get(position as usize) else {
         return Outcome::Refused(StepRefusal::NothingToDeliver);
     };
-    if world.replicas[at].stopped() {
+    if replica.stopped() {
         return Outcome::Refused(StepRefusal::ReplicaStopped);
     }
     match world.replicas[at].deliver(entry) {

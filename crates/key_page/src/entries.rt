@@ -1,13 +1,13 @@
 //! Keys in order.
 
-ghost use Rattle.std.specs.Prelude.{◌≡◌, List, ◌<◌, ◌≤◌, ◌+◌, ◌++◌, length, take, drop, reverse, vec_capacity};
-ghost use Rattle.std.specs.Prelude.{OnOk, OnErr, filter, slice_get, option_map, is_ok, slice_index_or, slice_set};
-ghost use Rattle.std.specs.Prelude.{Some, None, IfOk, IfSome, IfNone, ℕ};
+ghost use Rattle.std.specs.Prelude.{◌≡◌, ◌<◌, ◌≤◌, ◌+◌, ◌++◌, length, take, drop, reverse, vec_capacity, OnOk, OnErr};
+ghost use Rattle.std.specs.Prelude.{filter, slice_get, option_map, is_ok, slice_index_or, slice_set, Some, None, IfOk};
+ghost use Rattle.std.specs.Prelude.{IfSome, IfNone, ℕ};
 ghost use Rattle.std.specs.Option.{option_copied};
 ghost use Rattle.row_chain.specs.Version.{row_up_to, HasRoom};
 ghost use Rattle.key_page.specs.Slots.{Slot, IsReserved, IsPushed, IsPruned, ArePruned, AreRising, below, chain_at};
-ghost use Rattle.key_page.specs.Slots.{versions_at, rows_between, AreFrom, has_versions};
-ghost use Rattle.key_page.specs.Slots.{begins_by, with_slot, IsPrunedTo};
+ghost use Rattle.key_page.specs.Slots.{versions_at, rows_between, AreFrom, has_versions, begins_by, with_slot};
+ghost use Rattle.key_page.specs.Slots.{IsPrunedTo};
 
 use crate::entry::Entry;
 use std::alloc::{AllocError, Allocator};

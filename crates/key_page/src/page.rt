@@ -1,8 +1,7 @@
 //! A page: some keys in order.
 
 ghost use Rattle.std.specs.Prelude.{◌≡◌, ◌==◌, List, [], ◌∷◌, ◌<◌, ◌≤◌, length, take, drop, slice_get, option_map};
-ghost use Rattle.std.specs.Prelude.{is_ok, slice_index_or, slice_set, Some, None, OnOk, OnErr, IfOk, IfErr, IfSome};
-ghost use Rattle.std.specs.Prelude.{IfNone};
+ghost use Rattle.std.specs.Prelude.{is_ok, slice_index_or, slice_set, Some, None, OnOk, OnErr, IfOk, IfSome, IfNone};
 ghost use Rattle.std.specs.Option.{option_copied};
 ghost use Rattle.row_chain.specs.Version.{row_up_to, HasRoom};
 ghost use Rattle.key_page.specs.Slots.{Slot, IsReserved, IsPushed, AreRising, chain_at, versions_at, rows_between};

@@ -1,12 +1,12 @@
 //! Changes of pages in order.
 
-ghost use Rattle.std.specs.Prelude.{◌≡◌, ◌≢◌, ◌==◌, List, [], ◌∷◌, ◌++◌, ◌<◌, ◌≤◌, ◌+◌, ℕ, length, take, drop};
-ghost use Rattle.std.specs.Prelude.{filter, vec_len, vec_capacity, is_ok, slice_index_or, slice_set, Some, None};
-ghost use Rattle.std.specs.Prelude.{OnOk, OnErr, IfOk, IfSome, if◌then◌else◌};
+ghost use Rattle.std.specs.Prelude.{◌≡◌, ◌≢◌, ◌==◌, List, [], ◌∷◌, ◌++◌, ◌<◌, ◌≤◌, ◌+◌, ℕ, length, take, drop, filter};
+ghost use Rattle.std.specs.Prelude.{vec_len, vec_capacity, is_ok, slice_index_or, slice_set, Some, None, OnOk, OnErr};
+ghost use Rattle.std.specs.Prelude.{IfOk, IfSome, if◌then◌else◌};
 ghost use Rattle.std.specs.Option.{option_copied, IsSomeAnd};
 ghost use Rattle.row_chain.specs.Version.{HasRoom};
-ghost use Rattle.key_table.specs.Table.{Slot, IsReserved, IsPushed, AreRising, AreSlotsOf, chain_at, versions_at};
-ghost use Rattle.key_table.specs.Table.{HasRoomAt};
+ghost use Rattle.key_table.specs.declared.edits.TheConstants.{PAGE_KEYS, TABLE_PAGES};
+ghost use Rattle.key_table.specs.Table.{Slot, IsReserved, IsPushed, AreRising, chain_at, versions_at, HasRoomAt};
 ghost use Rattle.key_table.specs.Pages.{all_slots, with_slot, in_page, in_pages, begins_by, has_slots, AreFilled};
 ghost use Rattle.key_table.specs.Pages.{ArePages, IsInserted, IsPrunedTo, ArePagesPruned};
 
@@ -15,10 +15,10 @@ use key_page::{Entry, Page};
 use std::alloc::{AllocError, Allocator};
 
 /// The most keys of a page.
-const PAGE_KEYS: usize = 64;
+pub const PAGE_KEYS: usize = 64;
 
 /// The most pages of a table, more than memory holds, so that its keys can be counted.
-const TABLE_PAGES: usize = 144_115_188_075_855_872;
+pub const TABLE_PAGES: usize = 144_115_188_075_855_872;
 
 /// Makes room for one more version at a place of a page.
 pub fn reserve_at<A: Allocator>(
@@ -100,7 +100,7 @@ fn take_upper<A: Allocator + Copy>(
     page: usize,
 ) -> Result<Page<A>, AllocError>
     requires page { page < length pages.old.items }
-    requires full { (p : List Slot) → length (slice_index_or pages.old.items page p) ≡ 64 }
+    requires full { (p : List Slot) → length (slice_index_or pages.old.items page p) ≡ PAGE_KEYS }
     ensures lower { OnOk result ((p : List Slot)
         → pages.new.items ≡ slice_set pages.old.items page (take 32 (slice_index_or pages.old.items page p))) }
     ensures upper { IfOk result (λ upper. (p : List Slot) → upper ≡ drop 32 (slice_index_or pages.old.items page p)) }
@@ -118,7 +118,7 @@ fn split_at<A: Allocator + Copy>(
     page: usize,
 ) -> Result<(), AllocError>
     requires page { page < length pages.old.items }
-    requires full { (p : List Slot) → length (slice_index_or pages.old.items page p) ≡ 64 }
+    requires full { (p : List Slot) → length (slice_index_or pages.old.items page p) ≡ PAGE_KEYS }
     ensures done { OnOk result ((p : List Slot)
         → pages.new.items ≡ take page pages.old.items ++ take 32 (slice_index_or pages.old.items page p)
         ∷ drop 32 (slice_index_or pages.old.items page p) ∷ drop (page + 1) pages.old.items) }
@@ -199,11 +199,11 @@ fn insert<A: Allocator + Copy>(
 ) -> Result<(), AllocError>
     requires rising { AreRising (all_slots pages.old.items) }
     requires filled { AreFilled pages.old.items }
-    requires few { length pages.old.items ≤ 144115188075855872 }
+    requires few { length pages.old.items ≤ TABLE_PAGES }
     ensures done { OnOk result (pages.new.items ≡ in_pages entry pages.old.items) }
     ensures none { OnErr result (all_slots pages.new.items ≡ all_slots pages.old.items) }
     ensures filled { AreFilled pages.new.items }
-    ensures few { length pages.new.items ≤ 144115188075855872 }
+    ensures few { length pages.new.items ≤ TABLE_PAGES }
 {
     if pages.len() >= TABLE_PAGES {
         return Err(AllocError);

@@ -3,6 +3,7 @@
 ghost use Rattle.std.specs.Prelude.{◌≡◌, ◌≢◌, ◌==◌, ◌≤◌, ◌*◌, ◌^◌, ◌++◌, [], ◌∷◌, ℕ, length, slice_get, if◌then◌else◌};
 ghost use Rattle.std.specs.Prelude.{OnOk, IfSome, IsSome, option_map};
 ghost use Rattle.std.specs.Option.{option_copied};
+ghost use Rattle.key_table.specs.declared.edits.TheConstants.{PAGE_KEYS};
 ghost use Rattle.row_chain.specs.Version.{row_up_to, needed_versions};
 ghost use Rattle.key_table.specs.Table.{AreRising, chain_at, versions_at, HasRoomAt, rows_between};
 
@@ -44,7 +45,7 @@ impl<A: Allocator> KeyTable<A> {
     /// How many pages of 1 to 64 keys it has.
     pub fn pages(&self) -> usize
         ensures few { result ≤ length self.now.slots }
-        ensures enough { length self.now.slots ≤ 64 * result }
+        ensures enough { length self.now.slots ≤ PAGE_KEYS * result }
     {
         let pages: &[Page<A>] = &self.pages;
         pages.len()

@@ -1,8 +1,7 @@
 //! Laws of the log: its verdicts, and the rows after each position.
 
 ghost use Rattle.std.specs.Prelude.{◌≡◌, ◌≢◌, ◌↔◌, ◌+◌, ◌-◌, ◌<◌, ◌≤◌, ℕ, suc, List, ◌++◌, length, slice_get, Some};
-ghost use Rattle.std.specs.Prelude.{None, IsSome};
-ghost use Rattle.std.specs.Prelude.{◌==◌, IsTrue, [], ◌∷◌};
+ghost use Rattle.std.specs.Prelude.{None, IsSome, ◌==◌, IsTrue, [], ◌∷◌};
 ghost use Rattle.std.specs.List.{list_any};
 ghost use Rattle.schema.specs.declared.look.Look.{Look};
 ghost use Rattle.schema.specs.Rows.{AreRows};
@@ -12,16 +11,13 @@ ghost use Rattle.log_model.specs.declared.verdict.Identifier.TheVariants.{Name, 
 ghost use Rattle.log_model.specs.declared.verdict.Verdict.{Verdict};
 ghost use Rattle.log_model.specs.Comparisons.{comparisons_after, AreRising, IsCompared};
 ghost use Rattle.log_model.specs.Log.{StoredProcedure, CertifiedItem, Setting, Call, CallItem, AdditionItem, Log};
-ghost use Rattle.log_model.specs.Log.{IsPlaced};
+ghost use Rattle.log_model.specs.Log.{IsPlaced, IsLog, no_request, same_request, by_number, by_name, if_commits};
+ghost use Rattle.log_model.specs.Log.{history, rows_after, procedures_after, verdict_of, moment_at};
 ghost use Rattle.log_model.specs.declared.request.RequestId.{RequestId};
-ghost use Rattle.log_model.specs.Log.{IsLog, no_request, same_request};
-ghost use Rattle.log_model.specs.Log.{by_number, by_name, if_commits, history, rows_after, procedures_after};
-ghost use Rattle.log_model.specs.Log.{verdict_of, run_on, run_in};
 ghost use Rattle.log_model.specs.Fit.{AreSafe, HasSafeProcedures, IsCall, AreItems};
 ghost use Rattle.log_model.specs.Verdicts.{IsConflict, IsLeastConflict, IsRepetition, IsNew};
 ghost use Rattle.log_model.specs.Entries.{Entry, ExecutedCall, item_of, items_of, CarriesRun, IsCarried, CarryRuns};
 ghost use Rattle.log_model.specs.Entries.{certified_entries_of, installed_from};
-ghost use Rattle.log_model.specs.Log.{moment_at};
 
 /// The procedures after each position: the catalogue's at first; a call leaves them; an addition that commits
 /// comes behind them.

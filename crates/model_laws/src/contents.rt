@@ -2,7 +2,7 @@
 
 ghost use Rattle.std.specs.Prelude.{◌≡◌, ◌≤◌, suc, List, ◌++◌, length, slice_get, Some};
 ghost use Rattle.std.specs.List.{fold};
-ghost use Rattle.log_model.specs.Log.{Setting, Log, IsPlaced, IsLog, verdict_of};
+ghost use Rattle.log_model.specs.Log.{Setting, Log, IsLog, verdict_of};
 ghost use Rattle.log_model.specs.Fit.{HasSafeProcedures, AreItems};
 ghost use Rattle.log_model.specs.Entries.{Entry, item_of, items_of, IsCarried, CarryRuns};
 ghost use Rattle.model_laws.specs.Contents.{ReplicaContents, IsContentsOf, first_contents, certified_next};

@@ -1,8 +1,8 @@
 //! An executing thread answers calls.
 
-ghost use Rattle.std.specs.Prelude.{◌≡◌, ◌≤◌, length, false};
+ghost use Rattle.std.specs.Prelude.{◌≡◌, ◌≤◌, length};
 ghost use Rattle.log_model.specs.Fit.{IsCall};
-ghost use Rattle.replica.specs.Replica.{AreEntriesOf, entries_of};
+ghost use Rattle.replica.specs.Replica.{entries_of};
 ghost use Rattle.call_model.specs.Request.{has_zero};
 ghost use Rattle.ordered_entries.specs.Ordered.{IsOrderedCall};
 ghost use Rattle.running_calls.specs.Running.{log_seen};

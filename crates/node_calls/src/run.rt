@@ -1,9 +1,7 @@
 //! An executing thread runs a call.
 
-ghost use Rattle.std.specs.Prelude.{◌≡◌, ◌≢◌, ◌≤◌, true, length, IfSome};
+ghost use Rattle.std.specs.Prelude.{◌≡◌, ◌≢◌, ◌≤◌, length};
 ghost use Rattle.bpf_vm.specs.declared.turn.Turn.TheVariants.{More};
-ghost use Rattle.call_model.specs.Request.{or_none};
-ghost use Rattle.world_calls.specs.OpenCall.{stays_open};
 ghost use Rattle.running_calls.specs.Running.{node_call};
 ghost use Rattle.node_calls.specs.Ran.{IsAdvance, IsRan};
 ghost use Rattle.node_calls.specs.declared.run.Advance.TheVariants.{Open};

@@ -1,6 +1,5 @@
 ghost use Rattle.std.specs.Prelude.{◌≡◌, ◌<◌, ◌≤◌, ◌+◌, ◌-◌, ◌/◌, ◌%◌, ◌↔◌, ◌++◌, ◌∷◌, [], List, Some, length};
-ghost use Rattle.std.specs.Prelude.{slice_get};
-ghost use Rattle.std.specs.Prelude.{take, IfSome, IfNone, IfOk, vec_len};
+ghost use Rattle.std.specs.Prelude.{slice_get, take, IfSome, IfNone, IfOk, vec_len};
 ghost use Rattle.schema.specs.declared.limits.TheConstants.{MAX_LOG};
 ghost use mathlib.Core.List.{IsPrefix};
 ghost use Rattle.log_entry.specs.declared.entry.Entry.{Entry as LogEntry};

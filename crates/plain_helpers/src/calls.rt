@@ -7,9 +7,9 @@ ghost use Rattle.schema.specs.Helper.{helper_of};
 ghost use Rattle.bpf_semantics.specs.Memory.{and_then};
 ghost use Rattle.schema.specs.declared.helper.Helper.TheVariants.{RowGet, RowPut, RowDelete, RangeCount, RangeNext};
 ghost use Rattle.schema.specs.declared.helper.Helper.TheVariants.{Cancel};
-ghost use Rattle.bpf_semantics.specs.Helpers.{Table, table_of, with_answer, with_look, with_point_look};
-ghost use Rattle.bpf_semantics.specs.Helpers.{with_range_look, with_row_write, with_row_read, with_next_read};
-ghost use Rattle.bpf_semantics.specs.Helpers.{row_get, row_put, range_next, state_after_call};
+ghost use Rattle.bpf_semantics.specs.Helpers.{table_of, with_answer, with_look, with_point_look, with_range_look};
+ghost use Rattle.bpf_semantics.specs.Helpers.{with_row_write, with_row_read, with_next_read, row_get, row_put};
+ghost use Rattle.bpf_semantics.specs.Helpers.{range_next, state_after_call};
 ghost use Rattle.schema.specs.Rows.{row_at, first_in};
 ghost use Rattle.plain_helpers.specs.State.{state_of};
 

@@ -1,6 +1,6 @@
 //! The state of the plain runner.
 
-ghost use Rattle.std.specs.Prelude.{◌≡◌, ◌<◌, ◌^◌, ◌+◌, IfOk};
+ghost use Rattle.std.specs.Prelude.{◌≡◌, ◌<◌, ◌^◌, ◌+◌};
 ghost use Rattle.bpf_semantics.specs.State.{register, with_register, past};
 ghost use Rattle.bpf_semantics.specs.Step.{operand};
 ghost use Rattle.plain_helpers.specs.State.{state_of};

@@ -1,12 +1,10 @@
 //! Loads and stores on the stack and the arguments.
 
-ghost use Rattle.std.specs.Prelude.{◌≡◌, ◌≤◌, ◌^◌, ◌+ℤ◌, unsigned_abs, length, take, drop, IfOk};
-ghost use Rattle.std.specs.Prelude.{Option, Some, None, IfSome, option_map};
-ghost use Rattle.byteorder.specs.Endian.{little_number, little_bytes};
-ghost use Rattle.bpf_semantics.specs.Memory.{load_value, index_in};
-ghost use Rattle.bpf_semantics.specs.Memory.{stack_index, known_bytes, stack_with, memory_bytes};
-ghost use Rattle.bpf_semantics.specs.Memory.{memory_with_store};
-ghost use Rattle.bpf_semantics.specs.Memory.{stack_bytes, args_bytes};
+ghost use Rattle.std.specs.Prelude.{◌≡◌, ◌≤◌, ◌^◌, ◌+ℤ◌, unsigned_abs, length, take, drop, IfOk, Option, Some, None};
+ghost use Rattle.std.specs.Prelude.{IfSome, option_map};
+ghost use Rattle.byteorder.specs.Endian.{little_number};
+ghost use Rattle.bpf_semantics.specs.Memory.{load_value, index_in, stack_index, known_bytes, stack_with, memory_bytes};
+ghost use Rattle.bpf_semantics.specs.Memory.{memory_with_store, stack_bytes, args_bytes};
 ghost use Rattle.bpf_semantics.specs.Helpers.{buffer_of};
 
 use bpf_code::LoadKind;

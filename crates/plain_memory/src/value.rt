@@ -6,8 +6,7 @@ ghost use Rattle.bpf_words.specs.Condition.{holds};
 ghost use Rattle.bpf_code.specs.Sizes.{width_bits};
 ghost use Rattle.bpf_semantics.specs.State.{number};
 ghost use Rattle.bpf_semantics.specs.Step.{near_place, moved_place, is_move_operation, move_result, place_result};
-ghost use Rattle.bpf_semantics.specs.Step.{binary_result};
-ghost use Rattle.bpf_semantics.specs.Step.{operation_result};
+ghost use Rattle.bpf_semantics.specs.Step.{binary_result, operation_result};
 
 use bpf_code::Width;
 use bpf_semantics::Value;

@@ -1,8 +1,7 @@
 //! A log as the definitions say it, item by item.
 
 ghost use Rattle.std.specs.Prelude.{◌≡◌, ◌<◌, ◌≤◌, ◌^◌, ℕ, length, map, take, slice_get, slice_index_or, option_map};
-ghost use Rattle.std.specs.Prelude.{Some, []};
-ghost use Rattle.std.specs.Prelude.{◌∷◌, ◌++◌, IfOk, OnOk};
+ghost use Rattle.std.specs.Prelude.{Some, [], ◌∷◌, ◌++◌, IfOk, OnOk};
 ghost use Rattle.std.specs.FinMap.{empty, entries};
 ghost use Rattle.plain_rows.specs.Listed.{rows_of};
 ghost use Rattle.log_model.specs.Log.{Item, CallItem, IsLog, by_number, or_idle, run_of_procedure, procedures_after};

@@ -1,15 +1,13 @@
 //! One instruction, as the definitions say it.
 
 ghost use Rattle.std.specs.Prelude.{◌≡◌, ◌<◌, ◌≤◌, ◌^◌, IfOk};
-ghost use Rattle.std.specs.Int.{w64, cast_unsigned};
+ghost use Rattle.std.specs.Int.{cast_unsigned};
 ghost use Rattle.byteorder.specs.Endian.{little_bytes};
 ghost use Rattle.bpf_semantics.specs.State.{register, past, with_register};
 ghost use Rattle.bpf_semantics.specs.Memory.{memory_with_store};
 ghost use Rattle.bpf_code.specs.Sizes.{size_bytes};
-ghost use Rattle.bpf_code.specs.declared.instruction.Instruction.TheVariants.{Load, StoreRegister};
-ghost use Rattle.bpf_code.specs.declared.instruction.Instruction.TheVariants.{Arithmetic, Negate};
-ghost use Rattle.bpf_code.specs.declared.instruction.Instruction.TheVariants.{MoveSignExtended};
-ghost use Rattle.bpf_code.specs.declared.instruction.Instruction.TheVariants.{End, Branch, Call};
+ghost use Rattle.bpf_code.specs.declared.instruction.Instruction.TheVariants.{Load, StoreRegister, Arithmetic, Negate};
+ghost use Rattle.bpf_code.specs.declared.instruction.Instruction.TheVariants.{MoveSignExtended, End, Branch, Call};
 ghost use Rattle.bpf_code.specs.declared.instruction.Instruction.TheVariants.{Exit};
 ghost use Rattle.schema.specs.Schema.{Tables};
 ghost use Rattle.bpf_semantics.specs.Step.{after_jump, is_read_only, with_result, with_store, execute, step};

@@ -1,15 +1,16 @@
 -- What a replica keeps, and the delivered entries for which it stands.
-use Rattle.std.specs.Prelude.{◌≡◌, ℕ, ◌-◌, ◌≤◌, Bool, true, List, length, map, take, slice_get, Some}
+use Rattle.std.specs.Prelude.{◌≡◌, ℕ, ◌+◌, ◌-◌, ◌≤◌, Bool, true, false, List, [], ◌∷◌, ◌++◌, length, map, take, slice_get, Some}
 use Rattle.std.specs.FinMap.{empty}
 use Rattle.schema.specs.Schema.{Tables}
 use Rattle.schema.specs.Rows.{Rows, Writes}
 use Rattle.schema.specs.declared.look.Look.{Look}
 use Rattle.row_model.specs.InstalledWrites.{map_after}
-use Rattle.log_model.specs.Log.{Catalogue, Setting, Call as OrderedCall, CertifiedItem, IsLog, verdict_after}
+use Rattle.log_model.specs.declared.verdict.Verdict.{Verdict}
+use Rattle.log_model.specs.Log.{Catalogue, Setting, Call as OrderedCall, CertifiedItem, IsLog, verdict_after, verdict_of, rows_after, procedures_after}
 use Rattle.log_model.specs.Comparisons.{comparisons_after}
 use Rattle.log_model.specs.Entries.{Entry, CallEntry, AdditionEntry, items_of, CarryRuns, CertifiedEntries, certified_entry, certified_entries_of, installed_from}
 use Rattle.log_model.specs.Fit.{HasSafeProcedures, AreItems}
-use Rattle.rows_mv.specs.Versions.{Versions, AnswersFrom, AreOfTables, HaveWidths}
+use Rattle.rows_mv.specs.Versions.{Versions, AnswersFrom, AreOfTables, HaveWidths, width_of}
 use Rattle.stored_procedures.specs.Held.{ListedProcedure, stored_procedures}
 use Rattle.log_model.specs.Name.{is_name}
 use Rattle.log_entry.specs.declared.entry.Entry.{Entry as LogEntry}
@@ -110,3 +111,35 @@ IsForTables tables (Addition p) = p.accepted.tables ≡ tables
 -- entries in code, as the model has them
 abbrev pub entries_of : {A : Type 0} → List (LogEntry A) → List Entry
 entries_of entries = map entry_of entries
+
+-- ---- what a delivery leaves
+
+-- the window and the tables stay
+pub record HasSameTables (old new : Replica) : Type 0 where
+  pub window : new.window ≡ old.window
+  pub widths : (t : ℕ) → width_of new.versions.tables t ≡ width_of old.versions.tables t
+  pub count : length new.versions.tables ≡ length old.versions.tables
+
+-- it has taken an entry in with this verdict, which is that of the entries for which it stood, and where these are of a
+-- setting that of their log, whose rows and procedures it has then
+pub record HasDelivered (old new : Replica) (e : Entry) (v : Verdict) : Type 0 where
+  pub position : new.position ≡ old.position + 1
+  pub running : new.stopped ≡ false
+  pub stands : (base : Catalogue) (past : List Entry) → StandsFor base old past → StandsFor base new (past ++ e ∷ [])
+  pub verdict : (base : Catalogue) (past : List Entry) → StandsFor base old past
+      → v ≡ (certified_entry old.window (certified_entries_of old.window base past) e).verdict
+  pub log_verdict : (w : Setting) (past : List Entry) → w.window ≡ old.window → StandsFor w.catalogue old past
+      → AreEntriesOf w (past ++ e ∷ []) → verdict_of w (items_of (past ++ e ∷ [])) new.position ≡ Some v
+  pub log_rows : (w : Setting) (past : List Entry) → w.window ≡ old.window → StandsFor w.catalogue old past
+      → AreEntriesOf w (past ++ e ∷ [])
+      → AnswersFrom new.versions.tables new.position (rows_after w (items_of (past ++ e ∷ [])) new.position)
+  pub log_procedures : (w : Setting) (past : List Entry) → w.window ≡ old.window → StandsFor w.catalogue old past
+      → AreEntriesOf w (past ++ e ∷ [])
+      → stored_procedures new.procedures ≡ procedures_after w (items_of (past ++ e ∷ [])) new.position
+
+-- there was no memory: it has stopped, and stands for what it stood for
+pub record HasStopped (old new : Replica) : Type 0 where
+  pub position : new.position ≡ old.position
+  pub stopped : new.stopped ≡ true
+  pub procedures : new.procedures ≡ old.procedures
+  pub stands : (base : Catalogue) (past : List Entry) → StandsFor base old past → StandsFor base new past

@@ -1,23 +1,19 @@
 //! What holds of what a replica keeps.
 
-ghost use Rattle.std.specs.Prelude.{◌≡◌, ℕ, suc, ◌-◌, ◌≤◌, List, [], ◌∷◌, ◌++◌, length, slice_get, Some, true, false};
-ghost use Rattle.std.specs.Prelude.{◌+◌};
+ghost use Rattle.std.specs.Prelude.{◌≡◌, ℕ, suc, ◌-◌, ◌≤◌, List, [], ◌∷◌, ◌++◌, length, slice_get, Some, ◌+◌};
 ghost use Rattle.std.specs.FinMap.{empty};
 ghost use Rattle.schema.specs.Schema.{Tables};
-ghost use Rattle.schema.specs.Rows.{Rows, Writes, AreWrites, after_writes};
-ghost use Rattle.rows_mv.specs.Versions.{Versions, AnswersFrom, HaveTables, width_of};
+ghost use Rattle.schema.specs.Rows.{Writes, AreWrites, after_writes};
+ghost use Rattle.rows_mv.specs.Versions.{Versions, AnswersFrom, HaveTables, width_of, IsInstalled};
 ghost use Rattle.log_model.specs.declared.verdict.Verdict.{Verdict};
-ghost use Rattle.log_model.specs.Log.{Catalogue, CertifiedItem, Setting, is_commit, verdict_of, if_commits, rows_after};
-ghost use Rattle.log_model.specs.Log.{procedures_after};
-ghost use Rattle.log_model.specs.Log.{IsPlaced, certified_addition, verdict_on_addition};
+ghost use Rattle.log_model.specs.Log.{Catalogue, CertifiedItem, Setting, verdict_of, if_commits, rows_after};
+ghost use Rattle.log_model.specs.Log.{procedures_after, IsPlaced, certified_addition, verdict_on_addition};
 ghost use Rattle.log_model.specs.Fit.{IsItem};
 ghost use Rattle.certify.specs.Kept as certifier;
 ghost use Rattle.certify.specs.Kept.{Memory};
-ghost use Rattle.rows_mv.specs.Versions.{IsInstalled};
 ghost use Rattle.stored_procedures.specs.Held.{ListedProcedure, AreForTables, stored, stored_procedures};
 ghost use Rattle.log_model.specs.Entries.{Entry, AdditionEntry, CertifiedEntries, item_of, items_of, IsCarried};
-ghost use Rattle.log_model.specs.Entries.{certified_entry};
-ghost use Rattle.log_model.specs.Entries.{certified_entries_of, with_entry};
+ghost use Rattle.log_model.specs.Entries.{certified_entry, certified_entries_of, with_entry};
 ghost use Rattle.key_table.specs.Table.{Table};
 ghost use Rattle.replica.specs.declared.certification.Certification.{Certification};
 ghost use Rattle.replica.specs.Replica.{AreEntriesOf, FitTables, Replica, StandsFor, rows_kept};

@@ -1,10 +1,8 @@
 //! A replica.
 
 ghost use Rattle.std.specs.Prelude.{◌≡◌, ℕ, ◌+◌, ◌-◌, ◌≤◌, ◌<◌, ◌^◌, nat_lt, List, [], ◌∷◌, ◌++◌, length, slice_get};
-ghost use Rattle.std.specs.Prelude.{Some, true};
-ghost use Rattle.std.specs.Prelude.{false, is_err};
+ghost use Rattle.std.specs.Prelude.{Some, true, false, is_err, All, IfOk, OnOk, OnErr};
 ghost use Rattle.schema.specs.Rows.{AreWrites};
-ghost use Rattle.std.specs.Prelude.{All, IfOk, OnOk, OnErr};
 ghost use Rattle.std.specs.FinMap as map;
 ghost use Rattle.schema.specs.Schema.{Tables};
 ghost use Rattle.log_model.specs.Log.{Catalogue as Procedures, IsLog, IsPlaced, Setting, procedures_after, rows_after};
@@ -14,7 +12,7 @@ ghost use Rattle.log_entry.specs.Kind.{entry_of};
 ghost use Rattle.stored_procedures.specs.Held.{AreForTables, stored_procedures};
 ghost use Rattle.rows_mv.specs.Versions.{AnswersFrom, HaveTables, width_of};
 ghost use Rattle.replica.specs.Replica.{AreEntriesOf, FitTables, IsForTables, IsNamed, StandsFor, certification_of};
-ghost use Rattle.replica.specs.Replica.{entries_of, rows_kept, writes_in};
+ghost use Rattle.replica.specs.Replica.{entries_of, rows_kept, writes_in, HasDelivered, HasStopped, HasSameTables};
 
 use crate::at::At;
 use crate::certification::Certification;
@@ -128,11 +126,11 @@ impl<A: Allocator + Copy, P: Allocator + Copy> Replica<A, P> {
         self.window
     }
 
-    /// The snapshot of a call that begins now.
+    /// The snapshot of a call that begins now: the position.
     pub fn begin(&self) -> u32
         ensures { result ≡ self.now.position }
     {
-        self.position
+        self.position()
     }
 
     /// Its procedures, at its position.
@@ -171,35 +169,12 @@ impl<A: Allocator + Copy, P: Allocator + Copy> Replica<A, P> {
         requires room { self.old.position + 1 < 2 ^ 32 }
         requires fit { FitTables self.old.versions (writes_in (entry_of entry.now)) }
         requires named { IsNamed (entry_of entry.now) }
-        ensures verdict { IfOk result (λ v. (base : Procedures) (entries : List Delivered)
-            → StandsFor base self.old entries
-            → v ≡ (certified_entry self.old.window (certified_entries_of self.old.window base entries)
-            (entry_of entry.now)).verdict) }
-        ensures stands { OnOk result ((base : Procedures) (entries : List Delivered) → StandsFor base self.old entries
-            → StandsFor base self.new (entries ++ entry_of entry.now ∷ [])) }
-        ensures log_verdict { IfOk result (λ v. (w : Setting) (entries : List Delivered) → w.window ≡ self.old.window
-            → StandsFor w.catalogue self.old entries → AreEntriesOf w (entries ++ entry_of entry.now ∷ [])
-            → verdict_of w (items_of (entries ++ entry_of entry.now ∷ [])) self.new.position ≡ Some v) }
-        ensures log_rows { OnOk result ((w : Setting) (entries : List Delivered) → w.window ≡ self.old.window
-            → StandsFor w.catalogue self.old entries → AreEntriesOf w (entries ++ entry_of entry.now ∷ [])
-            → AnswersFrom self.new.versions.tables self.new.position
-            (rows_after w (items_of (entries ++ entry_of entry.now ∷ [])) self.new.position)) }
-        ensures log_procedures { OnOk result ((w : Setting) (entries : List Delivered) → w.window ≡ self.old.window
-            → StandsFor w.catalogue self.old entries → AreEntriesOf w (entries ++ entry_of entry.now ∷ [])
-            → stored_procedures self.new.procedures
-            ≡ procedures_after w (items_of (entries ++ entry_of entry.now ∷ [])) self.new.position) }
+        ensures delivered { IfOk result (HasDelivered self.old self.new (entry_of entry.now)) }
+        ensures stopped { OnErr result (HasStopped self.old self.new) }
+        ensures refused { self.old.stopped ≡ true → (is_err result ≡ true) × (self.new ≡ self.old) }
+        ensures same_tables { HasSameTables self.old self.new }
         ensures for_tables { (tables : Tables) → AreForTables tables self.old.procedures → IsForTables tables entry.now
             → AreForTables tables self.new.procedures }
-        ensures same_procedures { OnErr result (self.new.procedures ≡ self.old.procedures) }
-        ensures still { OnErr result ((base : Procedures) (entries : List Delivered)
-            → StandsFor base self.old entries → StandsFor base self.new entries) }
-        ensures next { OnOk result (self.new.position ≡ self.old.position + 1) }
-        ensures same_position { OnErr result (self.new.position ≡ self.old.position) }
-        ensures stopped { self.new.stopped ≡ is_err result }
-        ensures refused { self.old.stopped ≡ true → (is_err result ≡ true) × (self.new ≡ self.old) }
-        ensures window { self.new.window ≡ self.old.window }
-        ensures widths { (t : ℕ) → width_of self.new.versions.tables t ≡ width_of self.old.versions.tables t }
-        ensures tables { length self.new.versions.tables ≡ length self.old.versions.tables }
     {
         deliveries_are_kept();
         replicas_follow_the_log();

@@ -5,10 +5,9 @@ ghost use Rattle.std.specs.Fmt.{decimal};
 ghost use Rattle.arrayvec.specs.ArrayVec.{array_vec_len};
 ghost use Rattle.byte_output.specs.Column.{right_in};
 ghost use Rattle.report.specs.Lines.{program_fault_text, cause_words, step_refusal_words, verdict_words};
-ghost use Rattle.report.specs.Lines.{addition_words, snapshot_words};
-ghost use Rattle.report.specs.Lines.{reply_words, added_words, delivered_words, certified_words, call_words};
-ghost use Rattle.report.specs.Lines.{replica_words};
-ghost use Rattle.report.specs.Lines.{entry_words, line_words, read_words, cancelled_words, answer_words, mark_words};
+ghost use Rattle.report.specs.Lines.{addition_words, snapshot_words, reply_words, added_words, delivered_words};
+ghost use Rattle.report.specs.Lines.{certified_words, call_words, replica_words, entry_words, line_words, read_words};
+ghost use Rattle.report.specs.Lines.{cancelled_words, answer_words, mark_words};
 ghost use Rattle.report.specs.declared.printed.Line.TheVariants as line;
 
 use crate::printed::{CallAnswer, CallReport, DeliveredEntry, LoggedEntry, ReplicaReport};

@@ -1,8 +1,8 @@
 //! A chain of versions: a mark each, and the rows' bytes one after another, so that a version takes no memory of its
 //! own.
 
-ghost use Rattle.std.specs.Prelude.{◌≡◌, ◌==◌, ℕ, List, ◌+◌, ◌*◌, ◌<◌, ◌≤◌, ◌^◌, ◌++◌, [], ◌∷◌, length, map, drop};
-ghost use Rattle.std.specs.Prelude.{OnOk, IfSome, None};
+ghost use Rattle.std.specs.Prelude.{◌≡◌, ◌==◌, ℕ, List, ◌+◌, ◌*◌, ◌<◌, ◌≤◌, ◌^◌, ◌++◌, [], ◌∷◌, length, map, OnOk};
+ghost use Rattle.std.specs.Prelude.{IfSome, None};
 ghost use Rattle.std.specs.Option.{option_copied};
 ghost use Rattle.row_chain.specs.Version.{row_up_to, hidden_count, needed_versions, is_removed, HasRoom};
 ghost use Rattle.row_chain.specs.Marks.{versions_of};

@@ -3,7 +3,6 @@
 ghost use Rattle.std.specs.Prelude.{◌≡◌, ◌↔◌, ◌≤◌, ◌<◌, ◌^◌, length, IsTrue, OnOk, OnErr, Some, None, option_map};
 ghost use Rattle.std.specs.Prelude.{filter};
 ghost use Rattle.std.specs.List.{list_any};
-ghost use Rattle.std.specs.Map.Iter.{ShowsInOrder, deref_pair};
 ghost use Rattle.std.specs.FinMap.{empty, get, contains_key, entries, keys, len};
 ghost use Rattle.schema.specs.Rows.{covers, with_write};
 

@@ -1,11 +1,11 @@
 //! Changes of one key among all tables, and of each key of a write set.
 
-ghost use Rattle.std.specs.Prelude.{◌≡◌, ◌≢◌, ◌==◌, ◌<◌, ◌++◌, [], ◌∷◌, ℕ, length, is_ok, if◌then◌else◌, IfSome};
-ghost use Rattle.std.specs.Prelude.{OnOk, slice_index_or, slice_set, ◌&&◌, IfOk, unwrap_or};
+ghost use Rattle.std.specs.Prelude.{◌≡◌, ◌≢◌, ◌==◌, ◌<◌, ◌++◌, [], ◌∷◌, ℕ, length, is_ok, if◌then◌else◌, IfSome, OnOk};
+ghost use Rattle.std.specs.Prelude.{slice_index_or, slice_set, ◌&&◌, IfOk, unwrap_or};
 ghost use Rattle.std.specs.FinMap.{get};
-ghost use Rattle.std.specs.Option.{option_copied, IsSomeAnd};
+ghost use Rattle.std.specs.Option.{option_copied};
 ghost use Rattle.schema.specs.Rows.{Key};
-ghost use Rattle.key_table.specs.Table.{Table, versions_at, chain_at, HasRoomAt};
+ghost use Rattle.key_table.specs.Table.{Table, versions_at, HasRoomAt};
 ghost use Rattle.rows_mv.specs.Versions.{slots_of, width_of, IsTableReserved, IsTablePut, AreOfTables, IsPrepared};
 ghost use Rattle.rows_mv.specs.Versions.{HaveWidths, IsInstalled, IsPrunedAt, IsTablePruned, AreEmpty};
 

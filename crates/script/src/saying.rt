@@ -1,6 +1,7 @@
 //! Reading what a line says.
 
-ghost use Rattle.std.specs.Prelude.{◌≡◌, ◌≤◌, ◌⊎◌, ◌==◌, ◌||◌, ℕ, List, [], ◌∷◌, length, slice_index, map, Ok, Err, IfOk, IfErr, IfSome};
+ghost use Rattle.std.specs.Prelude.{◌≡◌, ◌≤◌, ◌⊎◌, ◌==◌, ◌||◌, ℕ, List, [], ◌∷◌, length, slice_index, map, Ok, Err};
+ghost use Rattle.std.specs.Prelude.{IfOk, IfErr, IfSome};
 ghost use Rattle.script.specs.Text.{is_skipped};
 ghost use Rattle.script.specs.Script.{ScriptCommand, of_procedure, command_of, said, line_says, IsWithinLimits};
 ghost use Rattle.script.specs.declared.fault.LineFault.TheVariants.{OutOfMemory};

@@ -6,7 +6,8 @@ ghost use Rattle.exit_status.specs.declared.status.TheConstants.{FAILED};
 ghost use Rattle.tallies.specs.Shared.{names_by_place};
 ghost use Rattle.script_calls.specs.Reading.{said_by};
 ghost use Rattle.script_run.specs.Answered.{AreToldOf};
-ghost use Rattle.script_run.specs.Printed.{IsReportOf, IsRun, PrintsNoMore, PrintsReport, PrintsRun, SaysFault, report_of, run_text};
+ghost use Rattle.script_run.specs.Printed.{IsReportOf, IsRun, PrintsNoMore, PrintsReport, PrintsRun, SaysFault};
+ghost use Rattle.script_run.specs.Printed.{report_of, run_text};
 
 use crate::answers::{answers_of, ends_of};
 use crate::asking::Asking;

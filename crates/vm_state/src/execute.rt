@@ -4,8 +4,8 @@ ghost use Rattle.std.specs.Prelude.{◌≡◌, ◌≢◌, ◌^◌, ◌<◌, ℤ}
 ghost use Rattle.schema.specs.Schema.{Tables};
 ghost use Rattle.bpf_code.specs.declared.instruction.Instruction.TheVariants.{Load, StoreImmediate, StoreRegister};
 ghost use Rattle.bpf_code.specs.declared.instruction.Instruction.TheVariants.{LoadWide, Arithmetic, Negate};
-ghost use Rattle.bpf_code.specs.declared.instruction.Instruction.TheVariants.{MoveSignExtended, End, Branch};
-ghost use Rattle.bpf_code.specs.declared.instruction.Instruction.TheVariants.{Call, Exit};
+ghost use Rattle.bpf_code.specs.declared.instruction.Instruction.TheVariants.{MoveSignExtended, End, Branch, Call};
+ghost use Rattle.bpf_code.specs.declared.instruction.Instruction.TheVariants.{Exit};
 ghost use Rattle.bpf_semantics.specs.State.{State};
 ghost use Rattle.bpf_semantics.specs.Step.{after_jump, execute};
 ghost use Rattle.vm_state.specs.Words.{Holds, HoldsNext, CanRun, word};

@@ -11,8 +11,7 @@ ghost use Rattle.bpf_semantics.specs.State.{State, entry_state, past};
 ghost use Rattle.bpf_semantics.specs.Memory.{known_bytes, stack_with};
 ghost use Rattle.bpf_semantics.specs.Helpers.{buffer_of, with_answer, with_stack};
 ghost use Rattle.vm_state.specs.Words.{Holds, IsWordOf, word};
-ghost use Rattle.vm_state.specs.Access.{InStack, CanLoad, stack_from, bytes_from};
-ghost use Rattle.vm_state.specs.Access.{words_past, with_word, with_bytes};
+ghost use Rattle.vm_state.specs.Access.{InStack, CanLoad, stack_from, bytes_from, words_past, with_word, with_bytes};
 
 use bpf_code::{Register, Size};
 use schema::MAX_ARGUMENTS;

@@ -21,6 +21,7 @@ use Rattle.bpf_vm.specs.Turns.{MachineState, MayWantMemory}
 use Rattle.bpf_vm.specs.Run.{Effects, HasRun, HasEnded, IsStaleAt, AfterTurn}
 use Rattle.log_model.specs.Log.{StoredProcedure, Setting, Call, Log, or_idle, run_of_procedure, run_of_call, rows_after, run_in, moment_of, moment_at, procedure_of}
 use Rattle.call_model.specs.OpenCall.{OpenCall, makes_look, is_row_helper, calls_row_helper, at_row_helper}
+use Rattle.call_model.proofs.NextLemmas.{is_row}
 use Rattle.catalogue.specs.Catalogue.{accepted_of}
 use Rattle.bpf_vm.specs.declared.turn.Turn.{Turn}
 use Rattle.bpf_vm.specs.declared.turn.Turn.TheVariants.{More, Exit, Stale, NoMemory}
@@ -105,14 +106,6 @@ looks_at_what_is_gone w log o p gone s known now stale =
     both_true (makes_look w log o) gone (looks_there w log o s stale.0 now next stale.2.1) stale.2.0
 
 -- ---- row helpers
-
-is_row : (h : Helper) → (h ≡ Cancel → ⊥) → is_row_helper (just h) ≡ true
-is_row RowGet apart = refl
-is_row RowPut apart = refl
-is_row RowDelete apart = refl
-is_row RangeCount apart = refl
-is_row RangeNext apart = refl
-is_row Cancel apart = absurd (apart refl)
 
 wants : (i : Option Instruction) → MayWantMemory i → calls_row_helper i ≡ true
 wants (Some (CallInstruction n)) h = ap is_row_helper h.1 ∙ is_row h.0 h.2

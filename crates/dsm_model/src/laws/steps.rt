@@ -2,8 +2,8 @@
 //! suffices, the conditions of a step's answers exclude each other, so that each is given exactly there; want of memory
 //! comes only in place of an answer that takes some.
 
-ghost use Rattle.std.specs.Prelude.{◌≡◌, ◌≢◌, ◌⊎◌, ◌↔◌, ◌+◌, ◌<◌, ◌≤◌, ℕ, ℤ, true, false};
-ghost use Rattle.std.specs.Prelude.{List, [], ◌∷◌, ◌++◌, length, Option, Some, None, IsSome, IsTrue};
+ghost use Rattle.std.specs.Prelude.{◌≡◌, ◌≢◌, ◌⊎◌, ◌↔◌, ◌+◌, ◌<◌, ◌≤◌, ℕ, ℤ, true, false, List, [], ◌∷◌, ◌++◌, length};
+ghost use Rattle.std.specs.Prelude.{Option, Some, None, IsSome, IsTrue};
 ghost use Rattle.std.specs.FinMap.{len};
 ghost use Rattle.schema.specs.declared.limits.TheConstants.{MAX_ARGUMENTS};
 ghost use Rattle.bpf_code.specs.Program.{Program};
@@ -11,27 +11,23 @@ ghost use Rattle.log_model.specs.declared.request.RequestId.{RequestId};
 ghost use Rattle.log_model.specs.declared.verdict.Verdict.{Verdict};
 ghost use Rattle.call_model.specs.declared.fault.ProgramFault.{ProgramFault};
 ghost use Rattle.dsm_model.specs.declared.outcome.StepRefusal.TheVariants.{NoReplica, NoProcedure, ArgumentsLength};
-ghost use Rattle.dsm_model.specs.declared.outcome.StepRefusal.TheVariants.{NoCall};
-ghost use Rattle.dsm_model.specs.declared.outcome.StepRefusal.TheVariants.{NotAtExit, NothingToDeliver, ReplicaStopped};
-ghost use Rattle.dsm_model.specs.declared.outcome.StepRefusal.TheVariants.{LogFull};
-ghost use Rattle.dsm_model.specs.declared.outcome.StepRefusal.TheVariants.{OutOfMemory, TooManyCalls, ArgumentsLimit};
+ghost use Rattle.dsm_model.specs.declared.outcome.StepRefusal.TheVariants.{NoCall, NotAtExit, NothingToDeliver};
+ghost use Rattle.dsm_model.specs.declared.outcome.StepRefusal.TheVariants.{ReplicaStopped, LogFull, OutOfMemory};
+ghost use Rattle.dsm_model.specs.declared.outcome.StepRefusal.TheVariants.{TooManyCalls, ArgumentsLimit};
 ghost use Rattle.dsm_model.specs.declared.outcome.StepRefusal.TheVariants.{ProgramRefused, NameShape, ZeroInRequest};
 ghost use Rattle.dsm_model.specs.declared.outcome.Outcome.{Outcome};
 ghost use Rattle.dsm_model.specs.declared.outcome.Outcome.TheVariants.{Begun, More, Exit, Stale, NoMemory, Ordered};
-ghost use Rattle.dsm_model.specs.declared.outcome.Outcome.TheVariants.{Read};
-ghost use Rattle.dsm_model.specs.declared.outcome.Outcome.TheVariants.{Cancelled, Delivered, Rebuilt, Added, Refused};
+ghost use Rattle.dsm_model.specs.declared.outcome.Outcome.TheVariants.{Read, Cancelled, Delivered, Rebuilt, Added};
+ghost use Rattle.dsm_model.specs.declared.outcome.Outcome.TheVariants.{Refused};
 ghost use Rattle.log_model.specs.Log.{StoredProcedure, Setting, CallItem, AdditionItem, by_number, procedures_after};
-ghost use Rattle.log_model.specs.Log.{procedure_of, run_in, verdict_of};
+ghost use Rattle.log_model.specs.Log.{procedure_of, run_in, verdict_of, moment_at};
 ghost use Rattle.log_model.specs.Name.{is_name};
-ghost use Rattle.dsm_model.specs.World.{World, Replica, Step, Begin, Turn, Order, Deliver, Rebuild, max_calls};
-ghost use Rattle.call_model.specs.OpenCall.{OpenCall};
-ghost use Rattle.dsm_model.specs.World.{Add, call_count};
+ghost use Rattle.dsm_model.specs.World.{World, Replica, Step, Begin, Turn, Order, Deliver, Rebuild, max_calls, Add};
+ghost use Rattle.dsm_model.specs.World.{call_count, is_answer, numbered, position_of, open_call, with_open_call};
+ghost use Rattle.dsm_model.specs.World.{with_replica, IsStep};
+ghost use Rattle.call_model.specs.OpenCall.{OpenCall, makes_look, at_row_helper};
 ghost use Rattle.call_model.specs.Request.{or_none, has_zero};
 ghost use Rattle.call_model.specs.Check.{ProgramCheck, Passed, Failed};
-ghost use Rattle.dsm_model.specs.World.{is_answer, numbered, position_of, open_call, with_open_call, with_replica};
-ghost use Rattle.log_model.specs.Log.{moment_at};
-ghost use Rattle.dsm_model.specs.World.{IsStep};
-ghost use Rattle.call_model.specs.OpenCall.{makes_look, at_row_helper};
 
 /// A call begins as the next of the world's, at the position of its replica, with no instruction run. It doesn't where
 /// there is no such replica; else, where there is no such procedure at its position; else, where the arguments have

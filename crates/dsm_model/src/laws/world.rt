@@ -1,23 +1,15 @@
 //! Laws of the world: over every list of steps, refused ones and want of memory among them.
 
-ghost use Rattle.std.specs.Prelude.{◌≡◌, ◌<◌, ℕ, List, slice_get, Some, Option, ◌≢◌, ◌⊎◌, ◌≤◌, false, length, None};
-ghost use Rattle.std.specs.Prelude.{IsSome};
-ghost use Rattle.std.specs.List.{AllByRecursion};
-ghost use Rattle.log_model.specs.declared.request.RequestId.{RequestId};
+ghost use Rattle.std.specs.Prelude.{◌≡◌, ◌<◌, ℕ, List, slice_get, Some, ◌≢◌, ◌⊎◌, ◌≤◌};
 ghost use Rattle.log_model.specs.declared.verdict.Verdict.{Verdict};
 ghost use Rattle.log_model.specs.declared.verdict.Verdict.TheVariants.{Commit};
 ghost use Rattle.dsm_model.specs.declared.outcome.Outcome.{Outcome};
-ghost use Rattle.dsm_model.specs.declared.outcome.Outcome.TheVariants.{Exit, Ordered, Delivered, Stale, NoMemory};
-ghost use Rattle.dsm_model.specs.declared.outcome.Outcome.TheVariants.{Refused};
-ghost use Rattle.log_model.specs.Log.{Setting, verdict_of, procedure_of, StoredProcedure, Log, run_in};
-ghost use Rattle.bpf_semantics.specs.Path.{longest_path};
+ghost use Rattle.dsm_model.specs.declared.outcome.Outcome.TheVariants.{Exit, Ordered, Delivered};
+ghost use Rattle.log_model.specs.Log.{Setting, verdict_of};
 ghost use Rattle.log_model.specs.Fit.{HasSafeProcedures};
 ghost use Rattle.dsm_model.specs.World.{World, Step, Turn, Order, first_world, open_call, IsStep, AreSteps};
 ghost use Rattle.call_model.specs.OpenCall.{OpenCall};
-ghost use Rattle.call_model.specs.Check.{ProgramCheck};
-ghost use Rattle.dsm_model.specs.World.{Add, Replica, Begin, Deliver, Rebuild, max_calls, numbered, with_open_call};
-ghost use Rattle.dsm_model.specs.World.{with_replica};
-ghost use Rattle.dsm_model.specs.Sound.{IsWorld, IsSound, IsSerialReply, IsGiven, AreGiven, IsOpenCall};
+ghost use Rattle.dsm_model.specs.Sound.{IsWorld, IsSound, IsSerialReply, IsGiven, AreGiven};
 
 /// Every list of steps leads from the first world to one in which the log is a log of calls of its procedures and of
 /// safe additions, no replica is past its end, and each open call is one whose replica has come as far as its

@@ -42,12 +42,12 @@ loop-entry-preserved g c =
     record {
       stands = subst (StandsFor c.args.catalogue.now.procedures c.deliver.new.self)
           (sym (map-append entry_of before (c.entry-item.result ∷ [])) ∙ ap (λ e. entries_of (before ++ e ∷ [])) c.entry-item.is ∙ ap entries_of (sym (take_more c.args.entries.now c.loop-entry.entry-index c.entry-item.result c.loop-entry-test.true)))
-          (c.in-Ok.ensures.stands c.args.catalogue.now.procedures (entries_of before) c.loop-entry.invariant.stands);
-      position = c.in-Ok.ensures.next ∙ ap (λ (n : ℕ). n + 1) c.loop-entry.invariant.position;
-      window = c.deliver.ensures.window ∙ c.loop-entry.invariant.window;
-      running = c.in-Ok.ensures.stopped;
+          (c.in-Ok.ensures.delivered.stands c.args.catalogue.now.procedures (entries_of before) c.loop-entry.invariant.stands);
+      position = c.in-Ok.ensures.delivered.position ∙ ap (λ (n : ℕ). n + 1) c.loop-entry.invariant.position;
+      window = c.deliver.ensures.same_tables.window ∙ c.loop-entry.invariant.window;
+      running = c.in-Ok.ensures.delivered.running;
       tables = c.tables_take_the_schemas_writes.ensures.kept c.args.catalogue.now.tables c.loop-entry.replica.versions.tables c.deliver.new.self.versions.tables
-          c.deliver.ensures.widths c.deliver.ensures.tables c.loop-entry.invariant.tables;
+          c.deliver.ensures.same_tables.widths c.deliver.ensures.same_tables.count c.loop-entry.invariant.tables;
       procedures = c.deliver.ensures.for_tables c.args.catalogue.now.tables c.loop-entry.invariant.procedures (subst (λ e. IsForTables c.args.catalogue.now.tables e) (sym c.entry-item.is) (c.requires.for_tables c.loop-entry.entry-index c.entry-item.result c.loop-entry-test.true));
     }
 

@@ -24,8 +24,8 @@ invariant_of-self g c =
     let fact : HasFactAfter (IsOrdered w) me.seen e = subst (λ (xs : List (LogEntry g.row.P.Denot)). HasFactAfter (IsOrdered w) xs e) c.again-seen.ensures c.in-Some.ensures.fact in
     let now : c.get.new.seen ≡ me.seen ++ e ∷ [] = c.in-Some.ensures.entry ∙ ap (λ (xs : List (LogEntry g.row.P.Denot)). xs ++ e ∷ []) c.again-seen.ensures in
     keeps_more c.entries_with_facts_are_a_logs.ensures.of_log w me.replica c.deliver.new.self me.seen c.get.new.seen e c.self.invariant now fact
-    (c.in-Ok.ensures.stands w.catalogue (entries_of me.seen) c.self.invariant.stands) c.deliver.ensures.window
-    (c.tables_take_the_schemas_writes.ensures.kept w.tables me.replica.versions.tables c.deliver.new.self.versions.tables c.deliver.ensures.widths c.deliver.ensures.tables c.self.invariant.tables)
+    (c.in-Ok.ensures.delivered.stands w.catalogue (entries_of me.seen) c.self.invariant.stands) c.deliver.ensures.same_tables.window
+    (c.tables_take_the_schemas_writes.ensures.kept w.tables me.replica.versions.tables c.deliver.new.self.versions.tables c.deliver.ensures.same_tables.widths c.deliver.ensures.same_tables.count c.self.invariant.tables)
     (c.in-Ok.ensures.for_tables w.tables c.self.invariant.procedures (c.entries_with_facts_are_a_logs.ensures.for_tables w me.seen e fact))
 
 pub returns-in-Ok : goal.returns-in-Ok
@@ -37,6 +37,6 @@ returns-in-Ok g c =
     let now : c.get.new.seen ≡ me.seen ++ e ∷ [] = c.in-Some.ensures.entry ∙ ap (λ (xs : List (LogEntry g.row.P.Denot)). xs ++ e ∷ []) c.again-seen.ensures in (
       ap (λ (l : LockedState g.row.P.Denot). l.replica.stopped) (sym c.self.view_is) ∙ sym c.stopped.ensures ∙ c.if-stopped.false,
       (e, now ∙ ap (λ (l : LockedState g.row.P.Denot). l.entries ++ e ∷ []) c.self.view_is),
-      c.in-Ok.ensures.stopped,
-      verdict_more c.entries_with_facts_are_a_logs.ensures.of_log w me.replica c.deliver.new.self me.seen c.get.new.seen e c.in-Ok.verdict c.self.invariant now fact c.in-Ok.ensures.log_verdict c.in-Ok.ensures.next,
+      c.in-Ok.ensures.delivered.running,
+      verdict_more c.entries_with_facts_are_a_logs.ensures.of_log w me.replica c.deliver.new.self me.seen c.get.new.seen e c.in-Ok.verdict c.self.invariant now fact c.in-Ok.ensures.delivered.log_verdict c.in-Ok.ensures.delivered.position,
     )

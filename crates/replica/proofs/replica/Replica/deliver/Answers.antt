@@ -1,6 +1,6 @@
-use Rattle.std.proofs.Common.{◌≡◌, ◌+◌, List, [], ◌∷◌, ◌++◌, refl, sym, ap, subst, ◌∙◌, arith}
+use Rattle.std.proofs.Common.{◌≡◌, ◌+◌, List, [], ◌∷◌, ◌++◌, refl, sym, ap, subst, ◌∙◌, arith, rules}
 use Rattle.std.specs.Prelude.{Some}
-use Rattle.log_model.specs.Log.{verdict_of}
+use Rattle.log_model.specs.Log.{Catalogue, verdict_of}
 use Rattle.log_entry.specs.Kind.{entry_of}
 use Rattle.log_model.specs.Entries.{Entry, items_of}
 use Rattle.stored_procedures.specs.Held.{AreForTables}
@@ -11,19 +11,10 @@ use Rattle.replica.proofs.replica.Replica.deliver.Goals as goal
 abbrev entries_after : List Entry → Entry → List Entry
 entries_after entries e = entries ++ e ∷ []
 
-pub returns-clause-stands : goal.returns-clause-stands
-returns-clause-stands g c base entries =
-    let new : Replica = record {
-      window = c.self.inside.window;
-      position = c.self.inside.position + 1;
-      stopped = c.self.inside.stopped;
-      certifications = c.take_entry-taken.new.certifications.items;
-      memory = c.take_entry-taken.new.certifier.memory;
-      versions = c.drop_unseen-self-inside.new.versions;
-      procedures = c.take_entry-taken.new.procedures;
-    } in
-    subst (λ (old : Replica). StandsFor base old entries → StandsFor base new (entries_after entries (entry_of c.args.entry.now))) c.self.view_is (λ stands.
-    c.deliveries_are_kept.ensures.delivered base (record {
+pub returns-clause-delivered : goal.returns-clause-delivered
+returns-clause-delivered g c =
+    let e = entry_of c.args.entry.now in
+    let old : Replica = record {
       window = c.self.inside.window;
       position = c.self.inside.position;
       stopped = c.self.inside.stopped;
@@ -31,36 +22,7 @@ returns-clause-stands g c base entries =
       memory = c.self.inside.certifier.memory;
       versions = c.self.inside.versions;
       procedures = c.self.inside.procedures;
-    }) new (entry_of c.args.entry.now) c.in-Ok.certification c.take_entry-taken.new.versions.tables entries
-    (record {
-      window = refl;
-      position = refl;
-      certified = c.in-Ok.ensures.certified;
-      certifications = c.in-Ok.ensures.entered;
-      kept = c.in-Ok.ensures.kept;
-      same_window = c.in-Ok.ensures.window;
-      installs = c.in-Ok.ensures.installs;
-      refuses = c.in-Ok.ensures.refuses;
-      pruned = c.drop_unseen-self-inside.ensures.seen;
-      horizon = c.drop_unseen-self-inside.ensures.horizon;
-    }) stands)
-
-pub returns-clause-log_verdict : goal.returns-clause-log_verdict
-returns-clause-log_verdict g c w entries =
-    subst (λ (old : Replica). w.window ≡ old.window → StandsFor w.catalogue old entries → AreEntriesOf w (entries_after entries (entry_of c.args.entry.now))
-    → verdict_of w (items_of (entries_after entries (entry_of c.args.entry.now))) (c.self.inside.position + 1) ≡ Some c.in-Ok.certification.verdict) c.self.view_is
-    (delivered_verdict c.replicas_follow_the_log.ensures.next w (record {
-      window = c.self.inside.window;
-      position = c.self.inside.position;
-      stopped = c.self.inside.stopped;
-      certifications = c.self.inside.certifications.items;
-      memory = c.self.inside.certifier.memory;
-      versions = c.self.inside.versions;
-      procedures = c.self.inside.procedures;
-    }) entries (entry_of c.args.entry.now) c.in-Ok.certification c.in-Ok.ensures.certified)
-
-pub returns-clause-log_rows : goal.returns-clause-log_rows
-returns-clause-log_rows g c w entries window stands are =
+    } in
     let new : Replica = record {
       window = c.self.inside.window;
       position = c.self.inside.position + 1;
@@ -70,22 +32,36 @@ returns-clause-log_rows g c w entries window stands are =
       versions = c.drop_unseen-self-inside.new.versions;
       procedures = c.take_entry-taken.new.procedures;
     } in
-    c.replicas_follow_the_log.ensures.rows w new (entries_after entries (entry_of c.args.entry.now)) (c.self.inside.position + 1)
-    (window ∙ sym (ap (λ (r : Replica). r.window) c.self.view_is)) (returns-clause-stands g c w.catalogue entries stands) are (omega arith) (omega arith)
-
-pub returns-clause-log_procedures : goal.returns-clause-log_procedures
-returns-clause-log_procedures g c w entries window stands are =
-    let new : Replica = record {
-      window = c.self.inside.window;
-      position = c.self.inside.position + 1;
-      stopped = c.self.inside.stopped;
-      certifications = c.take_entry-taken.new.certifications.items;
-      memory = c.take_entry-taken.new.certifier.memory;
-      versions = c.drop_unseen-self-inside.new.versions;
-      procedures = c.take_entry-taken.new.procedures;
-    } in
-    c.replicas_follow_the_log.ensures.procedures w new (entries_after entries (entry_of c.args.entry.now))
-    (window ∙ sym (ap (λ (r : Replica). r.window) c.self.view_is)) (returns-clause-stands g c w.catalogue entries stands) are
+    let stands : (base : Catalogue) (past : List Entry) → StandsFor base c.args.self.now past → StandsFor base new (entries_after past e) = λ base past.
+        subst (λ (r : Replica). StandsFor base r past → StandsFor base new (entries_after past e)) c.self.view_is
+        (c.deliveries_are_kept.ensures.delivered base old new e c.in-Ok.certification c.take_entry-taken.new.versions.tables past
+        (record {
+          window = refl;
+          position = refl;
+          certified = c.in-Ok.ensures.certified;
+          certifications = c.in-Ok.ensures.entered;
+          kept = c.in-Ok.ensures.kept;
+          same_window = c.in-Ok.ensures.window;
+          installs = c.in-Ok.ensures.installs;
+          refuses = c.in-Ok.ensures.refuses;
+          pruned = c.drop_unseen-self-inside.ensures.seen;
+          horizon = c.drop_unseen-self-inside.ensures.horizon;
+        })) in
+    record {
+      position = search rules;
+      running = search rules;
+      stands = stands;
+      verdict = search rules;
+      log_verdict = λ w past. subst (λ (r : Replica). w.window ≡ r.window → StandsFor w.catalogue r past → AreEntriesOf w (entries_after past e)
+          → verdict_of w (items_of (entries_after past e)) (c.self.inside.position + 1) ≡ Some c.in-Ok.certification.verdict) c.self.view_is
+          (delivered_verdict c.replicas_follow_the_log.ensures.next w old past e c.in-Ok.certification c.in-Ok.ensures.certified);
+      log_rows = λ w past window is are.
+          c.replicas_follow_the_log.ensures.rows w new (entries_after past e) (c.self.inside.position + 1)
+          (window ∙ sym (ap (λ (r : Replica). r.window) c.self.view_is)) (stands w.catalogue past is) are (omega arith) (omega arith);
+      log_procedures = λ w past window is are.
+          c.replicas_follow_the_log.ensures.procedures w new (entries_after past e)
+          (window ∙ sym (ap (λ (r : Replica). r.window) c.self.view_is)) (stands w.catalogue past is) are;
+    }
 
 pub returns-clause-for_tables : goal.returns-clause-for_tables
 returns-clause-for_tables g c tables before added =
