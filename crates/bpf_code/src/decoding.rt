@@ -137,6 +137,12 @@ fn program<A: Allocator>(alloc: A, bytes: &[u8]) -> Result<Code<A>, DecodeFault>
 }
 
 /// The program that the bytes spell. The slots take one allocation, and each byte is read once.
+///
+/// ```text
+/// // r0 = 1; exit
+/// let code = decode(alloc, &[0xb7, 0, 0, 0, 1, 0, 0, 0, 0x95, 0, 0, 0, 0, 0, 0, 0])?;
+/// assert_eq!(rt; code.slots(), 2);
+/// ```
 pub fn decode<A: Allocator>(alloc: A, bytes: &[u8]) -> Result<Code<A>, DecodeFault>
     // What is decoded is a program, and the bytes are its bytes.
     ensures spelled { IfOk result (λ code. spelling code ≡ bytes.now) }

@@ -66,14 +66,7 @@ fn unused_are_zero(used: Uses, fields: &Fields) -> bool
         && (used.immediate || fields.immediate == 0)
 }
 
-#[tactic(
-    auto,
-    unfolding(
-        crate::specs::Reading::instruction_of,
-        crate::specs::Spelling::fields_of,
-        crate::specs::Reading::unused_are_zero
-    )
-)]
+#[tactic(auto, unfolding(crate::specs::Reading::instruction_of, crate::specs::Spelling::fields_of, crate::specs::Reading::unused_are_zero))]
 fn instruction(opcode: Opcode, dst: Register, src: Register, fields: &Fields) -> Option<Instruction>
     requires opcode { byte_of opcode ≡ fields.now.opcode }
     requires dst { number_of dst ≡ fields.now.dst }

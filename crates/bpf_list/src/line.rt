@@ -8,10 +8,10 @@ ghost use Rattle.bpf_code.specs.Spelling.{fields_of, second_slot};
 
 use crate::name::name;
 use bpf_code::Instruction;
-use byte_output::line::{Line, push, push_column, push_signed, push_unsigned};
+use byte_output::line::{LineBuffer, push, push_column, push_signed, push_unsigned};
 use itoa::Buffer;
 
-fn push_hex(line: &mut Line, bytes: &[u8])
+fn push_hex(line: &mut LineBuffer, bytes: &[u8])
     requires eight { length bytes.now ≡ 8 }
     requires room { array_vec_len line.old + 16 ≤ LINE_BYTES }
     ensures items { line.new.items ≡ line.old.items ++ encode_lower bytes.now }
@@ -22,7 +22,7 @@ fn push_hex(line: &mut Line, bytes: &[u8])
     push(line, &digits);
 }
 
-fn push_name(line: &mut Line, instruction: Instruction)
+fn push_name(line: &mut LineBuffer, instruction: Instruction)
     requires { array_vec_len line.old + 9 ≤ LINE_BYTES }
     ensures items { line.new.items ≡ line.old.items ++ (codes " " ++ name_text (name_parts instruction)) }
     ensures len { array_vec_len line.new ≤ array_vec_len line.old + 9 }
@@ -35,7 +35,7 @@ fn push_name(line: &mut Line, instruction: Instruction)
     }
 }
 
-fn push_bytes(line: &mut Line, instruction: Instruction)
+fn push_bytes(line: &mut LineBuffer, instruction: Instruction)
     requires { array_vec_len line.old + 32 ≤ LINE_BYTES }
     ensures items { line.new.items ≡ line.old.items
         ++ (slot_hex (Some (fields_of instruction)) ++ slot_hex (second_slot instruction)) }
@@ -47,7 +47,7 @@ fn push_bytes(line: &mut Line, instruction: Instruction)
     }
 }
 
-fn push_immediate(line: &mut Line, instruction: Instruction)
+fn push_immediate(line: &mut LineBuffer, instruction: Instruction)
     requires { array_vec_len line.old + 25 ≤ LINE_BYTES }
     ensures items { line.new.items ≡ line.old.items ++ (codes " imm " ++ immediate_text instruction) }
     ensures len { array_vec_len line.new ≤ array_vec_len line.old + 25 }
@@ -60,12 +60,12 @@ fn push_immediate(line: &mut Line, instruction: Instruction)
 
 /// The line of the instruction that begins at a slot.
 #[tactic(auto, unfolding(crate::specs::Listing::line))]
-pub fn line(slot: usize, instruction: Instruction) -> Line
+pub fn line(slot: usize, instruction: Instruction) -> LineBuffer
     requires { slot < 10000 }
     ensures { result.items ≡ line_of slot instruction }
 {
     let fields = instruction.fields();
-    let mut line = Line::new();
+    let mut line = LineBuffer::new();
     push_column(&mut line, 4, slot as u64);
     push(&mut line, b" ");
     push_bytes(&mut line, instruction);

@@ -18,6 +18,13 @@ use std::alloc::Allocator;
 
 /// The program, accepted on arguments of so many bytes and with the schema's tables, or why not. It takes as
 /// much memory as there are slots, by one growth, and gives it back; and the copy of the schema.
+///
+/// ```text
+/// let schema = Schema::new(alloc, &[(1, 8)])?;
+/// let accepted = verify(alloc, decode(alloc, bytes)?, &schema, 16)?;
+/// // No call of it runs more instructions than this.
+/// let most = accepted.bound();
+/// ```
 pub fn verify<A: Allocator, B: Allocator + Clone, C: Allocator>(
     alloc: C,
     code: Code<A>,
@@ -132,11 +139,7 @@ fn send(
     arrive(pending, slot + slots, state);
 }
 
-#[tactic(
-    auto,
-    using(crate::proofs::FlowLemmas::arrived, crate::proofs::FlowLemmas::not_arrived),
-    unfolding(crate::specs::Flow::join_with)
-)]
+#[tactic(auto, using(crate::proofs::FlowLemmas::arrived, crate::proofs::FlowLemmas::not_arrived), unfolding(crate::specs::Flow::join_with))]
 fn arrive(pending: &mut [Option<AbsState>], target: usize, state: AbsState)
     ensures { (j : ℕ) → j < length pending.old → slice_index_or pending.new j None
         ≡ join_with (slice_index_or pending.old j None) (if j == target then state ∷ [] else []) }

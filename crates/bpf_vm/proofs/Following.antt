@@ -16,7 +16,7 @@ use Rattle.txn_view.specs.declared.view.Own.{Own}
 use Rattle.txn_view.specs.View.{IsViewOf}
 use Rattle.bpf_vm.specs.declared.turn.Turn.{Turn}
 use Rattle.bpf_vm.specs.declared.turn.Turn.TheVariants.{More, Exit, Stale, NoMemory}
-use Rattle.bpf_vm.specs.Turns.{MachineState, CanStep, Follows, FollowsStep, MayWantMemory, DoesNothing}
+use Rattle.bpf_vm.specs.Turns.{MachineState, CanStep, FollowsMoment, FollowsStep, MayWantMemory, DoesNothing}
 use Rattle.acceptance.specs.Description.{Suits}
 use Rattle.vm_helpers.specs.Calls.{LooksMore}
 use Rattle.bpf_vm.specs.Run.{Effects, effects_of, own_effects, IsAfter, HasRun, HasEnded, IsStaleAt, AfterTurn, IsOnRun, IsNotStale}
@@ -98,7 +98,7 @@ abbrev pub EndsNext : Procedure → List ℕ → Rows → ℕ → State → Type
 EndsNext p args rows k s = (reply : ℕ) (t : State) → step p.program p.tables s ≡ Ended reply t → HasEnded p args rows (k + 1) reply (effects_of t)
 
 more_after : {A : Type 0} (p : Procedure) (args : List ℕ) (rows : Rows) (k : ℕ) (answers_from : Rows → Type 0) (gone : Bool) (i : Option Instruction) (m n : MachineState) (own : Own A) (effects : Effects) (h : HasRun p args rows k m effects) (next : Moment) → step p.program p.tables h.here.state ≡ next
-    → next ≢ Stuck → Follows answers_from gone h.here.state i next More n.words own → n.last ≡ More → HasRun p args rows (k + 1) n (own_effects own)
+    → next ≢ Stuck → FollowsMoment answers_from gone h.here.state i next More n.words own → n.last ≡ More → HasRun p args rows (k + 1) n (own_effects own)
 more_after p args rows k answers_from gone i m n own effects h (Going t) e goes f last = record {
   here = record {
     sound = h.here.sound;
@@ -113,7 +113,7 @@ more_after p args rows k answers_from gone i m n own effects h (Ended reply t) e
 more_after p args rows k answers_from gone i m n own effects h Stuck e goes f last = absurd (goes refl)
 
 exit_after : {A : Type 0} (p : Procedure) (args : List ℕ) (rows : Rows) (k : ℕ) (answers_from : Rows → Type 0) (gone : Bool) (i : Option Instruction) (s : State) (m : Words) (own : Own A) (answer : ℕ) (next : Moment) → step p.program p.tables s ≡ next
-    → EndsNext p args rows k s → next ≢ Stuck → Follows answers_from gone s i next (Exit answer) m own → HasEnded p args rows (k + 1) answer (own_effects own)
+    → EndsNext p args rows k s → next ≢ Stuck → FollowsMoment answers_from gone s i next (Exit answer) m own → HasEnded p args rows (k + 1) answer (own_effects own)
 exit_after p args rows k answers_from gone i s m own answer (Going t) e ends goes f = absurd f
 exit_after p args rows k answers_from gone i s m own answer (Ended reply t) e ends goes f =
     subst (λ (x : Effects). HasEnded p args rows (k + 1) answer x) (sym (done_is answers_from own t f.2))
@@ -130,12 +130,12 @@ stays_after p args rows k m n old new same kept h = record {
   done = kept ∙ h.done;
 }
 
-stale_at : {A : Type 0} (p : Procedure) (answers_from : Rows → Type 0) (gone : Bool) (i : Option Instruction) (s : State) (m : Words) (own : Own A) (next : Moment) → step p.program p.tables s ≡ next → next ≢ Stuck → Follows answers_from gone s i next Stale m own → IsStaleAt p gone s
+stale_at : {A : Type 0} (p : Procedure) (answers_from : Rows → Type 0) (gone : Bool) (i : Option Instruction) (s : State) (m : Words) (own : Own A) (next : Moment) → step p.program p.tables s ≡ next → next ≢ Stuck → FollowsMoment answers_from gone s i next Stale m own → IsStaleAt p gone s
 stale_at p answers_from gone i s m own (Going t) e goes f = (t, e, f)
 stale_at p answers_from gone i s m own (Ended reply t) e goes f = absurd f
 stale_at p answers_from gone i s m own Stuck e goes f = absurd (goes refl)
 
-memory_at : {A : Type 0} (answers_from : Rows → Type 0) (gone : Bool) (i : Option Instruction) (s : State) (m : Words) (own : Own A) (next : Moment) → next ≢ Stuck → Follows answers_from gone s i next NoMemory m own → MayWantMemory i
+memory_at : {A : Type 0} (answers_from : Rows → Type 0) (gone : Bool) (i : Option Instruction) (s : State) (m : Words) (own : Own A) (next : Moment) → next ≢ Stuck → FollowsMoment answers_from gone s i next NoMemory m own → MayWantMemory i
 memory_at answers_from gone i s m own (Going t) goes f = f.0
 memory_at answers_from gone i s m own (Ended reply t) goes f = absurd f
 memory_at answers_from gone i s m own Stuck goes f = absurd (goes refl)
@@ -147,12 +147,12 @@ going_same s t e = cc
 not_due : (p : Procedure) (gone : Bool) (s t : State) → step p.program p.tables s ≡ Going t → (LooksMore gone s t → ⊥) → IsStaleAt p gone s → ⊥
 not_due p gone s t e none (u, f, looks) = none (subst (λ (x : State). LooksMore gone s x) (going_same u t (sym f ∙ e)) looks)
 
-more_not_due : {A : Type 0} (p : Procedure) (answers_from : Rows → Type 0) (gone : Bool) (i : Option Instruction) (s : State) (m : Words) (own : Own A) (next : Moment) → step p.program p.tables s ≡ next → next ≢ Stuck → Follows answers_from gone s i next More m own → IsStaleAt p gone s → ⊥
+more_not_due : {A : Type 0} (p : Procedure) (answers_from : Rows → Type 0) (gone : Bool) (i : Option Instruction) (s : State) (m : Words) (own : Own A) (next : Moment) → step p.program p.tables s ≡ next → next ≢ Stuck → FollowsMoment answers_from gone s i next More m own → IsStaleAt p gone s → ⊥
 more_not_due p answers_from gone i s m own (Going t) e goes f = not_due p gone s t e f.2
 more_not_due p answers_from gone i s m own (Ended reply t) e goes f = absurd f
 more_not_due p answers_from gone i s m own Stuck e goes f = absurd (goes refl)
 
-memory_not_due : {A : Type 0} (p : Procedure) (answers_from : Rows → Type 0) (gone : Bool) (i : Option Instruction) (s : State) (m : Words) (own : Own A) (next : Moment) → step p.program p.tables s ≡ next → next ≢ Stuck → Follows answers_from gone s i next NoMemory m own → IsStaleAt p gone s → ⊥
+memory_not_due : {A : Type 0} (p : Procedure) (answers_from : Rows → Type 0) (gone : Bool) (i : Option Instruction) (s : State) (m : Words) (own : Own A) (next : Moment) → step p.program p.tables s ≡ next → next ≢ Stuck → FollowsMoment answers_from gone s i next NoMemory m own → IsStaleAt p gone s → ⊥
 memory_not_due p answers_from gone i s m own (Going t) e goes f = not_due p gone s t e f.1
 memory_not_due p answers_from gone i s m own (Ended reply t) e goes f = absurd f
 memory_not_due p answers_from gone i s m own Stuck e goes f = absurd (goes refl)

@@ -24,7 +24,7 @@ use Rattle.vm_helpers.specs.Calls.{AfterCall}
 use Rattle.vm_helpers.specs.declared.calls.CallAnswer.TheVariants as answer
 use Rattle.bpf_vm.specs.declared.turn.Turn.{Turn}
 use Rattle.bpf_vm.specs.declared.turn.Turn.TheVariants.{More, Exit, Stale, NoMemory}
-use Rattle.bpf_vm.specs.Turns.{CanStep, CanExecute, Follows, FollowsInstruction, FollowsStep}
+use Rattle.bpf_vm.specs.Turns.{CanStep, CanExecute, FollowsMoment, FollowsInstruction, FollowsStep}
 use Rattle.bpf_vm.proofs.Leaving.{SameEffects, execute_leaves}
 
 -- ---- the instruction at the slot
@@ -49,8 +49,8 @@ can_execute p answers_from m own i (s, h, v, rows, runs) e = (s, h, v, rows, λ 
 pub step_follows : {A : Type 0} (p : Procedure) (answers_from : Rows → Type 0) (gone : Bool) (s : State) (m n : Words) (own : Own A) (i : Instruction) (turn : Turn) → Holds s m → instruction_at p.program m.slot ≡ Some i
     → FollowsInstruction p.tables answers_from gone i s turn n own → FollowsStep p answers_from gone s turn n own
 step_follows p answers_from gone s m n own i turn h e f =
-    subst (λ (x : Moment). Follows answers_from gone s (instruction_at p.program s.slot) x turn n own) (sym (step_is p.program p.tables s m i h e))
-    (subst (λ (o : Option Instruction). Follows answers_from gone s o (execute p.tables i s) turn n own) (sym (here p.program s m (Some i) h e)) f)
+    subst (λ (x : Moment). FollowsMoment answers_from gone s (instruction_at p.program s.slot) x turn n own) (sym (step_is p.program p.tables s m i h e))
+    (subst (λ (o : Option Instruction). FollowsMoment answers_from gone s o (execute p.tables i s) turn n own) (sym (here p.program s m (Some i) h e)) f)
 
 -- a slot that has an instruction is inside
 pub slot_inside : (p : Program) (slot : ℕ) (i : Instruction) → instruction_at p slot ≡ Some i → slot < length p
@@ -76,7 +76,7 @@ same_view answers_from own s t p v = record {
 pub plain_follows : {A : Type 0} (tables : Tables) (answers_from : Rows → Type 0) (gone : Bool) (s : State) (i : Instruction) (m : Words) (own : Own A) → ((n : ℤ) → i ≢ instruction.Call n) → IsViewOf answers_from own s
     → HoldsNext (execute tables i s) m → FollowsInstruction tables answers_from gone i s More m own
 plain_follows tables answers_from gone s i m own no_call v next =
-    elim (execute tables i s) as (λ x. execute tables i s ≡ x → HoldsNext x m → Follows answers_from gone s (Some i) x More m own) [
+    elim (execute tables i s) as (λ x. execute tables i s ≡ x → HoldsNext x m → FollowsMoment answers_from gone s (Some i) x More m own) [
       | Going t ↦ λ e h.
           let p = execute_leaves tables i s t no_call e in
           (h, same_view answers_from own s t p v, λ stale. let more = stale.1 in let same = ap length p.looks in absurd (omega (arith, more, same)))
@@ -97,7 +97,7 @@ stays s m h = record {
 }
 
 ends : {A : Type 0} (answers_from : Rows → Type 0) (gone : Bool) (s : State) (m : Words) (own : Own A) (v : Value) (w : ℕ) → Holds s m → IsViewOf answers_from own s → IsWordOf v w
-    → Follows answers_from gone s (Some instruction.Exit) (or_stuck (number v) (λ reply. Ended reply (past 0 s))) (Exit w) m own
+    → FollowsMoment answers_from gone s (Some instruction.Exit) (or_stuck (number v) (λ reply. Ended reply (past 0 s))) (Exit w) m own
 unfolding or_stuck
 ends answers_from gone s m own (Number n) w h v is = (is, stays s m h, same_view answers_from own s (past 0 s) (record { looks = refl; writes = refl; rows = refl; code = refl }) v)
 ends answers_from gone s m own Nothing w h v is = tt
@@ -128,28 +128,28 @@ unfolding or_stuck
 can_call tables answers_from n helper m own e (s, h, v, rows, runs) = (s, h, v, rows, λ none. runs (call_is tables n helper s e ∙ ap (λ o. or_stuck o (λ t. Going (past 1 t))) none))
 
 done_by : {A : Type 0} (answers_from : Rows → Type 0) (gone : Bool) (helper : Helper) (i : Option Instruction) (s : State) (o : Option State) (m : Words) (own : Own A) → AfterCall answers_from gone helper s o answer.Done m own
-    → Follows answers_from gone s i (or_stuck o (λ t. Going (past 1 t))) More m own
+    → FollowsMoment answers_from gone s i (or_stuck o (λ t. Going (past 1 t))) More m own
 unfolding or_stuck
 done_by answers_from gone helper i s None m own a = tt
 done_by answers_from gone helper i s (Some t) m own (h, v, fresh) = (h, same_view answers_from own t (past 1 t) (record { looks = refl; writes = refl; rows = refl; code = refl }) v, fresh)
 
 stale_by : {A : Type 0} (answers_from : Rows → Type 0) (gone : Bool) (helper : Helper) (i : Option Instruction) (s : State) (o : Option State) (m : Words) (own : Own A) → AfterCall answers_from gone helper s o answer.Stale m own
-    → Follows answers_from gone s i (or_stuck o (λ t. Going (past 1 t))) Stale m own
+    → FollowsMoment answers_from gone s i (or_stuck o (λ t. Going (past 1 t))) Stale m own
 unfolding or_stuck
 stale_by answers_from gone helper i s None m own a = tt
 stale_by answers_from gone helper i s (Some t) m own a = a
 
 memory_by : {A : Type 0} (answers_from : Rows → Type 0) (gone : Bool) (helper : Helper) (n : ℤ) (s : State) (o : Option State) (m : Words) (own : Own A) → helper_of n ≡ Some helper → AfterCall answers_from gone helper s o answer.NoMemory m own
-    → Follows answers_from gone s (Some (instruction.Call n)) (or_stuck o (λ t. Going (past 1 t))) NoMemory m own
+    → FollowsMoment answers_from gone s (Some (instruction.Call n)) (or_stuck o (λ t. Going (past 1 t))) NoMemory m own
 unfolding or_stuck
 memory_by answers_from gone helper n s None m own e a = tt
 memory_by answers_from gone helper n s (Some t) m own e (no_cancel, fresh) = ((helper, e, no_cancel), fresh)
 
 call_as : {A : Type 0} (tables : Tables) (answers_from : Rows → Type 0) (gone : Bool) (n : ℤ) (helper : Helper) (s : State) (turn : Turn) (m : Words) (own : Own A) → helper_of n ≡ Some helper
-    → Follows answers_from gone s (Some (instruction.Call n)) (or_stuck (state_after_call tables helper s) (λ t. Going (past 1 t))) turn m own
+    → FollowsMoment answers_from gone s (Some (instruction.Call n)) (or_stuck (state_after_call tables helper s) (λ t. Going (past 1 t))) turn m own
     → FollowsInstruction tables answers_from gone (instruction.Call n) s turn m own
 call_as tables answers_from gone n helper s turn m own e f =
-    subst (λ (x : Moment). Follows answers_from gone s (Some (instruction.Call n)) x turn m own) (sym (call_is tables n helper s e)) f
+    subst (λ (x : Moment). FollowsMoment answers_from gone s (Some (instruction.Call n)) x turn m own) (sym (call_is tables n helper s e)) f
 
 pub done_follows : {A : Type 0} (tables : Tables) (answers_from : Rows → Type 0) (gone : Bool) (n : ℤ) (helper : Helper) (s : State) (m : Words) (own : Own A) → helper_of n ≡ Some helper
     → AfterCall answers_from gone helper s (state_after_call tables helper s) answer.Done m own → FollowsInstruction tables answers_from gone (instruction.Call n) s More m own

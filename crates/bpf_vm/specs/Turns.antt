@@ -42,18 +42,18 @@ MayWantMemory _ = ⊥
 
 -- of a state that words and view stood for, by its instruction and what comes next in the definition; of what is stuck
 -- nothing is said
-abbrev pub Follows : {A : Type 0} → (Rows → Type 0) → Bool → State → Option Instruction → Moment → Turn → Words → Own A → Type 0
-Follows answers_from gone s i (Going t) More m own = Holds t m × IsViewOf answers_from own t × (LooksMore gone s t → ⊥)
-Follows answers_from gone s i (Going t) Stale m own = LooksMore gone s t
-Follows answers_from gone s i (Going t) NoMemory m own = MayWantMemory i × (LooksMore gone s t → ⊥)
-Follows answers_from gone s i (Ended reply t) (Exit answer) m own = (answer ≡ reply) × Holds t m × IsViewOf answers_from own t
-Follows answers_from gone s i Stuck turn m own = Unit {0}
-Follows answers_from gone s i next turn m own = ⊥
+abbrev pub FollowsMoment : {A : Type 0} → (Rows → Type 0) → Bool → State → Option Instruction → Moment → Turn → Words → Own A → Type 0
+FollowsMoment answers_from gone s i (Going t) More m own = Holds t m × IsViewOf answers_from own t × (LooksMore gone s t → ⊥)
+FollowsMoment answers_from gone s i (Going t) Stale m own = LooksMore gone s t
+FollowsMoment answers_from gone s i (Going t) NoMemory m own = MayWantMemory i × (LooksMore gone s t → ⊥)
+FollowsMoment answers_from gone s i (Ended reply t) (Exit answer) m own = (answer ≡ reply) × Holds t m × IsViewOf answers_from own t
+FollowsMoment answers_from gone s i Stuck turn m own = Unit {0}
+FollowsMoment answers_from gone s i next turn m own = ⊥
 
 -- by a step of the procedure
 abbrev pub FollowsStep : {A : Type 0} → Procedure → (Rows → Type 0) → Bool → State → Turn → Words → Own A → Type 0
 FollowsStep p answers_from gone s turn m own =
-    Follows answers_from gone s (instruction_at p.program s.slot) (step p.program p.tables s) turn m own
+    FollowsMoment answers_from gone s (instruction_at p.program s.slot) (step p.program p.tables s) turn m own
 
 -- a turn that did nothing
 abbrev pub DoesNothing : Turn → Type 0
@@ -71,4 +71,4 @@ CanExecute tables answers_from i m own =
 -- by an instruction
 abbrev pub FollowsInstruction : {A : Type 0} → Tables → (Rows → Type 0) → Bool → Instruction → State → Turn → Words → Own A → Type 0
 FollowsInstruction tables answers_from gone i s turn m own =
-    Follows answers_from gone s (Some i) (execute tables i s) turn m own
+    FollowsMoment answers_from gone s (Some i) (execute tables i s) turn m own

@@ -29,6 +29,15 @@ use vm_state::WordState;
 pub struct ArgsLength;
 
 /// A call of an accepted procedure: its words, and what its last turn answered.
+///
+/// ```text
+/// let mut machine = Machine::start(&accepted, &args)?;
+/// match machine.run(&accepted, &mut view) {
+///     Turn::Exit(reply) => { /* the call is at its end: its looks and writes are the view's */ }
+///     Turn::Stale | Turn::NoMemory => { /* the call is over, and had no effect */ }
+///     Turn::More => { /* it can go on */ }
+/// }
+/// ```
 #[derive(Drop)]
 pub struct Machine {
     words: WordState,

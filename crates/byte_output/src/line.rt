@@ -16,10 +16,10 @@ pub const LINE_BYTES: usize = 160;
 pub const COLUMN_BYTES: usize = 20;
 
 /// A line's bytes so far.
-pub type Line = ArrayVec<u8, LINE_BYTES>;
+pub type LineBuffer = ArrayVec<u8, LINE_BYTES>;
 
 /// Appends a text.
-pub fn push(line: &mut Line, text: &[u8])
+pub fn push(line: &mut LineBuffer, text: &[u8])
     requires { array_vec_len line.old + length text.now ≤ LINE_BYTES }
     ensures items { line.new.items ≡ line.old.items ++ text.now }
     ensures len { array_vec_len line.new ≡ array_vec_len line.old + length text.now }
@@ -28,7 +28,7 @@ pub fn push(line: &mut Line, text: &[u8])
 }
 
 /// Appends a label and a number in decimal.
-pub fn push_unsigned(line: &mut Line, label: &str, number: u64)
+pub fn push_unsigned(line: &mut LineBuffer, label: &str, number: u64)
     requires { array_vec_len line.old + length label.now + 20 ≤ LINE_BYTES }
     ensures items { line.new.items ≡ line.old.items ++ (label.now ++ decimal number) }
     ensures len { array_vec_len line.new ≤ array_vec_len line.old + length label.now + 20 }
@@ -39,7 +39,7 @@ pub fn push_unsigned(line: &mut Line, label: &str, number: u64)
 }
 
 /// Appends a label and a signed number in decimal.
-pub fn push_signed(line: &mut Line, label: &str, number: i32)
+pub fn push_signed(line: &mut LineBuffer, label: &str, number: i32)
     requires { array_vec_len line.old + length label.now + 11 ≤ LINE_BYTES }
     ensures items { line.new.items ≡ line.old.items ++ (label.now ++ signed_decimal number) }
     ensures len { array_vec_len line.new ≤ array_vec_len line.old + length label.now + 11 }
@@ -50,7 +50,7 @@ pub fn push_signed(line: &mut Line, label: &str, number: i32)
 }
 
 /// Appends a text at the right of so many places. One that is longer stands as it is.
-pub fn push_right(line: &mut Line, places: usize, text: &[u8])
+pub fn push_right(line: &mut LineBuffer, places: usize, text: &[u8])
     requires narrow { places ≤ COLUMN_BYTES }
     requires short { length text.now ≤ COLUMN_BYTES }
     requires room { array_vec_len line.old + COLUMN_BYTES ≤ LINE_BYTES }
@@ -63,7 +63,7 @@ pub fn push_right(line: &mut Line, places: usize, text: &[u8])
 }
 
 /// Appends a number in decimal at the right of so many places.
-pub fn push_column(line: &mut Line, places: usize, number: u64)
+pub fn push_column(line: &mut LineBuffer, places: usize, number: u64)
     requires narrow { places ≤ COLUMN_BYTES }
     requires room { array_vec_len line.old + COLUMN_BYTES ≤ LINE_BYTES }
     ensures items { line.new.items ≡ line.old.items ++ right_in places (decimal number) }

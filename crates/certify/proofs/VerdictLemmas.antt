@@ -13,7 +13,7 @@ use Rattle.log_model.specs.Log.{Call, CertifiedItem, is_commit, conflicts, first
 use Rattle.log_model.specs.Comparisons.{comparisons_from, comparisons_after}
 use Rattle.certify.proofs.ListLemmas.{get_drop}
 use Rattle.certify.specs.declared.search.SearchResult.{SearchResult}
-use Rattle.certify.specs.Kept.{Ring, IsKept, Keeps, Latest, StandsForLatest}
+use Rattle.certify.specs.Kept.{Ring, IsKept, Keeps, Latest, IsMemoryOfLatest}
 use Rattle.certify.specs.Search.{search, with_compared, Meets, kept_shares}
 use Rattle.certify.proofs.SearchLemmas.{nothing, found, compared, passed}
 
@@ -221,7 +221,7 @@ compared_of_search window snapshot past call looks same new near =
 -- what a search found that asked, of each call since the snapshot, whether its signature meets
 pub result_is : (m : Latest) (looks : List Look) (past : List CertifiedItem) (snapshot : ℕ) (result : SearchResult)
     → ((k : Key) → bit_of k < 1024) → SharedBits looks → ((c : CertifiedItem) → shares_key looks c.writes ≡ true → shares_bit looks c.writes ≡ true)
-    → StandsForLatest m past → m.window ≤ length m.ring.writes → snapshot ≤ m.count → m.count - snapshot ≤ m.window
+    → IsMemoryOfLatest m past → m.window ≤ length m.ring.writes → snapshot ≤ m.count → m.count - snapshot ≤ m.window
     → ((meets : ℕ → Bool) → ((before : ℕ) → snapshot ≤ before → before < m.count → IsTrue (meets before) ↔ Meets m.ring looks before)
     → result ≡ search meets (kept_shares m.ring.writes looks) snapshot (m.count - snapshot))
     → result ≡ result_of looks snapshot (drop snapshot past)

@@ -57,7 +57,7 @@ pub record Latest : Type 0 where
   pub count : ℕ
   pub ring : Ring
 
-pub record StandsForLatest (m : Latest) (past : List CertifiedItem) : Type 0 where
+pub record IsMemoryOfLatest (m : Latest) (past : List CertifiedItem) : Type 0 where
   pub count : m.count ≡ length past
   pub kept : Keeps m.ring past
 
@@ -85,7 +85,7 @@ pub record Memory : Type 0 where
   pub ring : Ring
   pub requests : List (ℕ × ℕ)
 
-pub record StandsFor (m : Memory) (past : List CertifiedItem) : Type 0 where
+pub record IsMemoryOf (m : Memory) (past : List CertifiedItem) : Type 0 where
   pub count : m.count ≡ length past
   pub kept : Keeps m.ring past
   pub requests : KeepsRequests m.requests past

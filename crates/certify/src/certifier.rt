@@ -4,7 +4,7 @@ ghost use Rattle.std.specs.Prelude.{◌≡◌, ◌+◌, ◌<◌, ◌≤◌, ◌^
 ghost use Rattle.log_model.specs.Log.{CertifiedItem, verdict_after, no_request};
 ghost use Rattle.log_model.specs.Comparisons.{comparisons_after};
 ghost use Rattle.std.specs.FinMap.{empty};
-ghost use Rattle.certify.specs.Kept.{IsGivenRequest, IsPreparedOf, StandsFor};
+ghost use Rattle.certify.specs.Kept.{IsGivenRequest, IsPreparedOf, IsMemoryOf};
 
 use crate::prepared::{Prepared, prepared_of};
 use crate::requests::{Requests, is_none, keep_request, repeated_in};
@@ -20,6 +20,13 @@ use std::marker::Model;
 
 /// Verdicts on calls in the order of their delivery, by what was kept of the latest. Contracts see that, and how many
 /// exact comparisons the last verdict made and for how many requests more there is room.
+///
+/// ```text
+/// let mut certifier = Certifier::new(alloc, 64)?;
+/// let verdict = certifier.verdict(&call, 1);
+/// let prepared = certifier.prepare(&call)?;
+/// certifier.keep(1, verdict, prepared);
+/// ```
 #[derive(Drop)]
 pub struct Certifier<A: Allocator + Copy = Global> {
     alloc: A,
@@ -59,7 +66,7 @@ impl<A: Allocator + Copy> Model for Certifier<A> {
 impl<A: Allocator + Copy> Certifier<A> {
     /// A certifier that has kept nothing. A call is stale where more items than the window came since its snapshot.
     pub fn new(alloc: A, window: u32) -> Result<Certifier<A>, AllocError>
-        ensures stands { IfOk result (λ c. StandsFor c.memory []) }
+        ensures stands { IfOk result (λ c. IsMemoryOf c.memory []) }
         ensures window { IfOk result (λ c. c.memory.window ≡ window) }
         ensures compared { IfOk result (λ c. c.compared ≡ 0) }
     {
@@ -85,9 +92,9 @@ impl<A: Allocator + Copy> Certifier<A> {
     ) -> Verdict
         requires next { position ≡ self.old.memory.count + 1 }
         requires snapshot { entry.now.call.snapshot < position }
-        ensures verdict { (past : List CertifiedItem) → StandsFor self.old.memory past
+        ensures verdict { (past : List CertifiedItem) → IsMemoryOf self.old.memory past
             → result ≡ verdict_after self.old.memory.window past entry.now.call entry.now.looks }
-        ensures compared { (past : List CertifiedItem) → StandsFor self.old.memory past
+        ensures compared { (past : List CertifiedItem) → IsMemoryOf self.old.memory past
             → self.new.compared ≡ length
             (comparisons_after self.old.memory.window past entry.now.call entry.now.looks) }
         ensures memory { self.new.memory ≡ self.old.memory }
@@ -148,9 +155,9 @@ impl<A: Allocator + Copy> Certifier<A> {
     pub fn keep(&mut self, position: u32, verdict: Verdict, prepared: Prepared<A>)
         requires next { position ≡ self.old.memory.count + 1 }
         requires room { IsGivenRequest prepared.request → 0 < self.old.room }
-        ensures stands { (past : List CertifiedItem) (c : CertifiedItem) → StandsFor self.old.memory past
+        ensures stands { (past : List CertifiedItem) (c : CertifiedItem) → IsMemoryOf self.old.memory past
             → c.verdict ≡ verdict → c.request ≡ prepared.request → IsPreparedOf prepared c.writes
-            → StandsFor self.new.memory (past ++ c ∷ []) }
+            → IsMemoryOf self.new.memory (past ++ c ∷ []) }
         ensures window { self.new.memory.window ≡ self.old.memory.window }
         ensures count { self.new.memory.count ≡ position }
         ensures compared { self.new.compared ≡ self.old.compared }

@@ -7,7 +7,7 @@ ghost use Rattle.row_model.specs.Signature.{looks_set_bit};
 ghost use Rattle.sig_lanes.specs.Bits.{has_bit};
 ghost use Rattle.log_model.specs.Log.{Call, CertifiedItem, first_repeated, verdict_after};
 ghost use Rattle.log_model.specs.Comparisons.{comparisons_after};
-ghost use Rattle.certify.specs.Kept.{HasPlaces, StandsForLatest};
+ghost use Rattle.certify.specs.Kept.{HasPlaces, IsMemoryOfLatest};
 ghost use Rattle.certify.specs.Search.{search, lane_met, kept_shares, Meets};
 
 use log_model::Verdict;
@@ -136,13 +136,19 @@ pub fn find_verdict<A: Allocator + Copy, B: Allocator>(
     requires snapshot { snapshot ≤ count }
     ensures verdict { (past : List CertifiedItem) (call : Call) → call.snapshot ≡ snapshot
         → first_repeated past call ≡ None
-        → StandsForLatest (record { window = window; count = count;
-        ring = record { blocks = blocks.now; writes = kept.now } }) past
+        → IsMemoryOfLatest (record {
+          window = window;
+          count = count;
+          ring = record { blocks = blocks.now; writes = kept.now };
+        }) past
         → result.0 ≡ verdict_after window past call reads.now }
     ensures compared { (past : List CertifiedItem) (call : Call) → call.snapshot ≡ snapshot
         → first_repeated past call ≡ None
-        → StandsForLatest (record { window = window; count = count;
-        ring = record { blocks = blocks.now; writes = kept.now } }) past
+        → IsMemoryOfLatest (record {
+          window = window;
+          count = count;
+          ring = record { blocks = blocks.now; writes = kept.now };
+        }) past
         → result.1 ≡ length (comparisons_after window past call reads.now) }
 {
     shared_bits_are_of_both();

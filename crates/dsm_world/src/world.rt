@@ -47,6 +47,14 @@ use std::marker::Model;
 
 /// A world of replicas of one database, which share one log. Contracts see what it holds, and by that the world of the
 /// definitions.
+///
+/// ```text
+/// let mut world = World::new(alloc, 2, 64, catalogue)?;
+/// let outcomes = world.run(&[
+///     Step::Begin { replica: 1, procedure: 1, args: &args },
+///     Step::Turn { call: 1 },
+/// ])?;
+/// ```
 #[derive(Drop)]
 pub struct World<A: Allocator + Copy = Global> {
     holdings: Holdings<A>,

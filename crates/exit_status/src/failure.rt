@@ -4,7 +4,7 @@ ghost use Rattle.std.specs.Prelude.{◌≡◌, ℕ, List};
 ghost use Rattle.byte_output.specs.Writes.{WritesText};
 ghost use Rattle.exit_status.specs.Failure.{failure_line};
 
-use byte_output::line::Line;
+use byte_output::line::LineBuffer;
 use byte_output::put;
 use std::io;
 use std::io::Write;
@@ -14,7 +14,7 @@ pub fn put_error<E: Write>(faults: &mut E, error: &io::Error) -> io::Result<()>
     ensures { (message : List ℕ) × WritesText (E.contents faults.old) (E.contents faults.new) result
         (failure_line message) }
 {
-    let mut message = Line::new();
+    let mut message = LineBuffer::new();
     let _ = write!(message, "{error}");
     put(faults, b"dsmdb: ")?;
     put(faults, &message)?;

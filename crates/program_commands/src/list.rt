@@ -14,7 +14,7 @@ use crate::failure::{CommandFailure, say};
 use crate::source::read_program;
 use bpf_code::{Code, DecodeFault};
 use bpf_list::put_listing;
-use byte_output::line::{Line, push, push_unsigned};
+use byte_output::line::{LineBuffer, push, push_unsigned};
 use byte_output::paged::PagedOutput;
 use exit_status::FAILED;
 use std::alloc::Allocator;
@@ -116,10 +116,10 @@ fn put_decoded<A: Allocator, W: Write>(
 }
 
 /// The line that refuses a program, as `refused B3 slot 0`.
-pub(crate) fn refused_line(fault: DecodeFault) -> Line
+pub(crate) fn refused_line(fault: DecodeFault) -> LineBuffer
     ensures { result.items ≡ refused_text fault }
 {
-    let mut line = Line::new();
+    let mut line = LineBuffer::new();
     push_unsigned(&mut line, "refused B", u64::from(fault.cause.number()));
     push_unsigned(&mut line, " slot ", u64::from(fault.slot));
     push(&mut line, b"\n");

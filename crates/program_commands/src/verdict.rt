@@ -4,9 +4,9 @@ ghost use Rattle.std.specs.Prelude.{◌≡◌};
 ghost use Rattle.program_commands.specs.Checking.{verdict_text, verdict_status};
 
 use crate::list::refused_line;
-use bpf_verify::Cause;
 use bpf_code::DecodeFault;
-use byte_output::line::{Line, push, push_unsigned};
+use bpf_verify::Cause;
+use byte_output::line::{LineBuffer, push, push_unsigned};
 use schema::SchemaFault;
 
 /// What is said of a program's bytes, with the tables and the length of its arguments.
@@ -34,7 +34,7 @@ impl CheckVerdict {
     }
 
     /// The line that is printed.
-    pub(crate) fn line(self) -> Line
+    pub(crate) fn line(self) -> LineBuffer
         ensures { result.items ≡ verdict_text self }
     {
         match self {
@@ -47,10 +47,10 @@ impl CheckVerdict {
 }
 
 /// As `accepted slots 17 bound 17`.
-fn accepted_line(slots: usize, bound: u32) -> Line
+fn accepted_line(slots: usize, bound: u32) -> LineBuffer
     ensures { result.items ≡ verdict_text (CheckVerdict.Accepted slots bound) }
 {
-    let mut line = Line::new();
+    let mut line = LineBuffer::new();
     push_unsigned(&mut line, "accepted slots ", slots as u64);
     push_unsigned(&mut line, " bound ", u64::from(bound));
     push(&mut line, b"\n");
@@ -58,20 +58,20 @@ fn accepted_line(slots: usize, bound: u32) -> Line
 }
 
 /// As `refused S3`.
-fn schema_line(fault: SchemaFault) -> Line
+fn schema_line(fault: SchemaFault) -> LineBuffer
     ensures { result.items ≡ verdict_text (CheckVerdict.NoSchema fault) }
 {
-    let mut line = Line::new();
+    let mut line = LineBuffer::new();
     push_unsigned(&mut line, "refused S", u64::from(fault.number()));
     push(&mut line, b"\n");
     line
 }
 
 /// As `refused V4 slot 1`.
-fn cause_line(slot: u16, cause: Cause) -> Line
+fn cause_line(slot: u16, cause: Cause) -> LineBuffer
     ensures { result.items ≡ verdict_text (CheckVerdict.Refused slot cause) }
 {
-    let mut line = Line::new();
+    let mut line = LineBuffer::new();
     push_unsigned(&mut line, "refused V", u64::from(cause.number()));
     push_unsigned(&mut line, " slot ", u64::from(slot));
     push(&mut line, b"\n");

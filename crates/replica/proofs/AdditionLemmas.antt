@@ -27,11 +27,11 @@ stored_if (Repeated n) before l = refl
 stored_if (Taken n) before l = refl
 
 pub addition_kept : (window : ℕ) (old new : certifier.Memory) (before after : List ListedProcedure) (l : ListedProcedure)
-    → ((past : List CertifiedItem) → certifier.StandsFor old past → certifier.StandsFor new (past ++ certified_addition (stored_procedures before) (stored l) ∷ []))
+    → ((past : List CertifiedItem) → certifier.IsMemoryOf old past → certifier.IsMemoryOf new (past ++ certified_addition (stored_procedures before) (stored l) ∷ []))
     → after ≡ if_commits (verdict_on_addition (stored_procedures before) (stored l)) (before ++ l ∷ []) before
     → (past : CertifiedEntries) → KeepsCertified old before past → KeepsCertified new after (with_entry window past (AdditionEntry (stored l)))
 addition_kept window old new before after l memory is past keeps = record {
-  memory = subst (λ (ps : Catalogue). certifier.StandsFor new (past.certified ++ certified_addition ps (stored l) ∷ [])) keeps.procedures (memory past.certified keeps.memory);
+  memory = subst (λ (ps : Catalogue). certifier.IsMemoryOf new (past.certified ++ certified_addition ps (stored l) ∷ [])) keeps.procedures (memory past.certified keeps.memory);
   procedures = ap stored_procedures is ∙ stored_if (verdict_on_addition (stored_procedures before) (stored l)) before l
       ∙ ap (λ (ps : Catalogue). if_commits (verdict_on_addition ps (stored l)) (ps ++ stored l ∷ []) ps) keeps.procedures;
 }

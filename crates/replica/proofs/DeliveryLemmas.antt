@@ -141,7 +141,7 @@ delivered lays law base old new e c installed entries is stands =
     record {
       position = omega arith;
       window = is.same_window ∙ stands.window ∙ same;
-      memory = subst (λ (w : ℕ). certifier.StandsFor new.memory (certified_entries_of w base all).certified) same kept.memory;
+      memory = subst (λ (w : ℕ). certifier.IsMemoryOf new.memory (certified_entries_of w base all).certified) same kept.memory;
       horizon = is.horizon;
       rows = subst (λ (w : ℕ). KeepsRows w base new.versions all new.position) same keeps;
       certifications = subst (λ (w : ℕ). AreCertificationsOf w base all new.certifications) same
@@ -161,7 +161,7 @@ refused base old new entries is stands =
     record {
       position = is.position ∙ stands.position;
       window = ap (λ (m : certifier.Memory). m.window) is.memory ∙ stands.window ∙ same;
-      memory = subst (λ (w : ℕ). certifier.StandsFor new.memory (certified_entries_of w base entries).certified) same (subst (λ (m : certifier.Memory). certifier.StandsFor m (certified_entries_of old.window base entries).certified) (sym is.memory) stands.memory);
+      memory = subst (λ (w : ℕ). certifier.IsMemoryOf new.memory (certified_entries_of w base entries).certified) same (subst (λ (m : certifier.Memory). certifier.IsMemoryOf m (certified_entries_of old.window base entries).certified) (sym is.memory) stands.memory);
       horizon = omega arith;
       rows = subst (λ (w : ℕ). KeepsRows w base new.versions entries new.position) same keeps;
       certifications = subst (λ (w : ℕ). AreCertificationsOf w base entries new.certifications) same (subst (AreCertificationsOf old.window base entries) (sym is.certifications) stands.certifications);
@@ -170,7 +170,7 @@ refused base old new entries is stands =
 
 -- at first, with no versions
 pub stands_at_first : (base : Catalogue) (r : Replica) → ((s : ℕ) (tables : List Table) → AreEmpty tables → AnswersFrom tables s empty) → ((window s : ℕ) (base : Catalogue) → rows_kept window base [] s ≡ empty)
-    → r.position ≡ 0 → r.memory.window ≡ r.window → certifier.StandsFor r.memory [] → r.versions.horizon ≡ 0 → AreEmpty r.versions.tables → r.certifications ≡ [] → stored_procedures r.procedures ≡ base
+    → r.position ≡ 0 → r.memory.window ≡ r.window → certifier.IsMemoryOf r.memory [] → r.versions.horizon ≡ 0 → AreEmpty r.versions.tables → r.certifications ≡ [] → stored_procedures r.procedures ≡ base
     → StandsFor base r []
 unfolding certified_entries_of
 stands_at_first base r answers rows position window memory horizon none certifications procedures = record {

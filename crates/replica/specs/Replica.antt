@@ -71,7 +71,7 @@ pub record IsReplica (r : Replica) : Type 0 where
 pub record StandsFor (base : Catalogue) (r : Replica) (entries : List Entry) : Type 0 where
   pub position : r.position ≡ length entries
   pub window : r.memory.window ≡ r.window
-  pub memory : certifier.StandsFor r.memory (certified_entries_of r.window base entries).certified
+  pub memory : certifier.IsMemoryOf r.memory (certified_entries_of r.window base entries).certified
   pub horizon : r.versions.horizon ≤ r.position - r.window
   pub rows : KeepsRows r.window base r.versions entries r.position
   pub certifications : AreCertificationsOf r.window base entries r.certifications

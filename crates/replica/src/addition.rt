@@ -6,7 +6,7 @@ ghost use Rattle.log_model.specs.Log.{CertifiedItem, by_name, by_number, certifi
 ghost use Rattle.log_model.specs.Log.{verdict_on_addition};
 ghost use Rattle.log_model.specs.Name.{is_name};
 ghost use Rattle.stored_procedures.specs.Held.{stored, stored_procedures};
-ghost use Rattle.certify.specs.Kept.{StandsFor};
+ghost use Rattle.certify.specs.Kept.{IsMemoryOf};
 
 use crate::certification::Certification;
 use certify::Certifier;
@@ -63,10 +63,12 @@ pub(crate) fn take_addition<A: Allocator + Copy, P: Allocator + Copy>(
     requires next { position ≡ certifier.old.memory.count + 1 }
     requires shape { is_name added.now.name ≡ true }
     ensures certified { IfOk result (λ c. c
-        ≡ record { verdict = verdict_on_addition (stored_procedures procedures.old) (stored added.now);
-        compared = 0 }) }
-    ensures memory { OnOk result ((past : List CertifiedItem) → StandsFor certifier.old.memory past
-        → StandsFor certifier.new.memory
+        ≡ record {
+          verdict = verdict_on_addition (stored_procedures procedures.old) (stored added.now);
+          compared = 0;
+        }) }
+    ensures memory { OnOk result ((past : List CertifiedItem) → IsMemoryOf certifier.old.memory past
+        → IsMemoryOf certifier.new.memory
         (past ++ certified_addition (stored_procedures procedures.old) (stored added.now) ∷ [])) }
     ensures procedures { IfOk result (λ c. procedures.new
         ≡ if_commits c.verdict (procedures.old ++ added.now ∷ []) procedures.old) }

@@ -9,7 +9,7 @@ ghost use Rattle.log_model.specs.Log.{CertifiedItem, IsPlaced, certified_call_af
 ghost use Rattle.log_model.specs.Entries.{CertifiedEntries, item_of, with_entry};
 ghost use Rattle.log_entry.specs.Kind.{entry_of};
 ghost use Rattle.stored_procedures.specs.Held.{AreForTables};
-ghost use Rattle.certify.specs.Kept.{StandsFor};
+ghost use Rattle.certify.specs.Kept.{IsMemoryOf};
 ghost use Rattle.replica.specs.Replica.{FitTables, IsForTables, IsNamed, certification_after, certification_next};
 ghost use Rattle.replica.specs.Replica.{writes_in};
 ghost use Rattle.replica.specs.Delivery.{HasSameVersions, KeepsCertified};
@@ -68,10 +68,10 @@ fn take_call<A: Allocator + Copy, B: Allocator + Copy>(
     requires next { position ≡ certifier.old.memory.count + 1 }
     requires snapshot { call.now.call.snapshot < position }
     requires fit { FitTables versions.old call.now.writes }
-    ensures certified { IfOk result (λ c. (past : List CertifiedItem) → StandsFor certifier.old.memory past
+    ensures certified { IfOk result (λ c. (past : List CertifiedItem) → IsMemoryOf certifier.old.memory past
         → c ≡ certification_after certifier.old.memory.window past call.now.call call.now.looks) }
-    ensures memory { OnOk result ((past : List CertifiedItem) → StandsFor certifier.old.memory past
-        → StandsFor certifier.new.memory
+    ensures memory { OnOk result ((past : List CertifiedItem) → IsMemoryOf certifier.old.memory past
+        → IsMemoryOf certifier.new.memory
         (past ++ certified_call_after certifier.old.memory.window past call.now.call call.now.looks call.now.writes
         ∷ [])) }
     ensures window { certifier.new.memory.window ≡ certifier.old.memory.window }

@@ -59,8 +59,8 @@ pub(crate) fn deliveries_are_kept()
 /// What an addition that is taken in leaves, in words of the entries: it installs nothing.
 pub(crate) fn additions_are_taken_in()
     ensures kept { (window : ℕ) (old new : Memory) (before after : List ListedProcedure) (l : ListedProcedure)
-        → ((past : List CertifiedItem) → certifier.StandsFor old past
-        → certifier.StandsFor new (past ++ certified_addition (stored_procedures before) (stored l) ∷ []))
+        → ((past : List CertifiedItem) → certifier.IsMemoryOf old past
+        → certifier.IsMemoryOf new (past ++ certified_addition (stored_procedures before) (stored l) ∷ []))
         → after ≡ if_commits (verdict_on_addition (stored_procedures before) (stored l)) (before ++ l ∷ []) before
         → (past : CertifiedEntries) → KeepsCertified old before past
         → KeepsCertified new after (with_entry window past (AdditionEntry (stored l))) }

@@ -33,6 +33,14 @@ use txn_view::Store;
 
 /// A replica of the database. Contracts see what it keeps of the entries that were delivered to it. Programs, in the
 /// memory of `P`, are shared with the catalogue and with the entries that added them.
+///
+/// ```text
+/// let mut replica = Replica::new(alloc, 64, &catalogue)?;
+/// let verdict = replica.deliver(&entry)?;
+/// assert_eq!(rt; replica.position(), 1);
+/// // Reads of a call that began before that entry.
+/// let rows = replica.at(0);
+/// ```
 #[derive(Drop)]
 pub struct Replica<A: Allocator + Copy = Global, P: Allocator + Copy = A> {
     alloc: A,

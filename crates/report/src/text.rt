@@ -12,7 +12,7 @@ use crate::words::{
     add_refused, added, agreement, answered, begin_refused, begun, call, certified, first_totals,
     log, no_entry, open, other_totals, replica,
 };
-use byte_output::line::{Line as Words, push, push_column, push_unsigned};
+use byte_output::line::{LineBuffer, push, push_column, push_unsigned};
 use std::alloc::{AllocError, Allocator};
 use tallies::Counts;
 
@@ -61,7 +61,7 @@ pub fn line<A: Allocator + Copy>(alloc: A, line: &Line) -> Result<Vec<u8, A>, Al
 }
 
 /// A line that these words are.
-fn whole<A: Allocator>(alloc: A, words: Words) -> Result<Vec<u8, A>, AllocError>
+fn whole<A: Allocator>(alloc: A, words: LineBuffer) -> Result<Vec<u8, A>, AllocError>
     requires { array_vec_len words ≤ 150 }
     ensures { IfOk result (λ text. text.items ≡ words.items ++ codes "\n") }
 {
@@ -80,7 +80,7 @@ fn row<A: Allocator + Copy>(
         ≡ (right_in 2 (decimal table) ++ codes " " ++ right_in 20 (decimal key) ++ codes " ") ++ encode_lower bytes.now
         ++ codes "\n") }
 {
-    let mut words = Words::new();
+    let mut words = LineBuffer::new();
     push_column(&mut words, 2, u64::from(table));
     push(&mut words, b" ");
     push_column(&mut words, 20, key);
@@ -96,7 +96,7 @@ fn entry<A: Allocator + Copy>(
     ensures { IfOk result (λ text. text.items
         ≡ (codes "entry " ++ decimal position ++ codes " ") ++ encode_lower bytes.now ++ codes "\n") }
 {
-    let mut words = Words::new();
+    let mut words = LineBuffer::new();
     push_unsigned(&mut words, "entry ", u64::from(position));
     push(&mut words, b" ");
     with_bytes(alloc, &words, bytes)
@@ -105,7 +105,7 @@ fn entry<A: Allocator + Copy>(
 /// A line of words with bytes in hex behind them.
 fn with_bytes<A: Allocator + Copy>(
     alloc: A,
-    words: &Words,
+    words: &LineBuffer,
     bytes: &[u8],
 ) -> Result<Vec<u8, A>, AllocError>
     ensures { IfOk result (λ text. text.items ≡ words.now.items ++ encode_lower bytes.now ++ codes "\n") }

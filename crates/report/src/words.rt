@@ -12,13 +12,13 @@ ghost use Rattle.report.specs.declared.printed.Line.TheVariants as line;
 
 use crate::printed::{CallAnswer, CallReport, DeliveredEntry, LoggedEntry, ReplicaReport};
 use crate::refusal::step_refusal_number;
-use byte_output::line::{Line as Words, push, push_column, push_right, push_unsigned};
+use byte_output::line::{LineBuffer, push, push_column, push_right, push_unsigned};
 use call_model::ProgramFault;
 use dsm_model::StepRefusal;
 use log_model::{Identifier, Verdict};
 use tallies::Counts;
 
-pub(crate) fn push_refused(words: &mut Words, refusal: StepRefusal)
+pub(crate) fn push_refused(words: &mut LineBuffer, refusal: StepRefusal)
     requires { array_vec_len words.old ≤ 60 }
     ensures items { words.new.items ≡ words.old.items ++ step_refusal_words refusal }
     ensures len { array_vec_len words.new ≤ 150 }
@@ -28,7 +28,7 @@ pub(crate) fn push_refused(words: &mut Words, refusal: StepRefusal)
 }
 
 /// What a refusal says besides its number.
-fn push_cause(words: &mut Words, refusal: StepRefusal)
+fn push_cause(words: &mut LineBuffer, refusal: StepRefusal)
     requires { array_vec_len words.old ≤ 90 }
     ensures items { words.new.items ≡ words.old.items ++ cause_words refusal }
     ensures len { array_vec_len words.new ≤ array_vec_len words.old + 50 }
@@ -44,7 +44,7 @@ fn push_cause(words: &mut Words, refusal: StepRefusal)
 }
 
 /// As `B1 slot 0` or `V5 slot 6`.
-fn push_program_fault(words: &mut Words, fault: ProgramFault)
+fn push_program_fault(words: &mut LineBuffer, fault: ProgramFault)
     requires { array_vec_len words.old ≤ 91 }
     ensures items { words.new.items ≡ words.old.items ++ program_fault_text fault }
     ensures len { array_vec_len words.new ≤ array_vec_len words.old + 49 }
@@ -57,7 +57,7 @@ fn push_program_fault(words: &mut Words, fault: ProgramFault)
     push_unsigned(words, " slot ", u64::from(slot));
 }
 
-pub(crate) fn push_call(words: &mut Words, report: CallReport)
+pub(crate) fn push_call(words: &mut LineBuffer, report: CallReport)
     requires { array_vec_len words.old ≤ 40 }
     ensures items { words.new.items ≡ words.old.items ++ call_words report }
     ensures len { array_vec_len words.new ≤ 150 }
@@ -74,7 +74,7 @@ pub(crate) fn push_call(words: &mut Words, report: CallReport)
     }
 }
 
-fn push_read(words: &mut Words, snapshot: u32, reply: u64)
+fn push_read(words: &mut LineBuffer, snapshot: u32, reply: u64)
     requires { array_vec_len words.old ≤ 60 }
     ensures items { words.new.items ≡ words.old.items ++ read_words snapshot reply }
     ensures len { array_vec_len words.new ≤ 150 }
@@ -83,7 +83,7 @@ fn push_read(words: &mut Words, snapshot: u32, reply: u64)
     push_unsigned(words, " reply ", reply);
 }
 
-fn push_cancelled(words: &mut Words, snapshot: u32, code: u64)
+fn push_cancelled(words: &mut LineBuffer, snapshot: u32, code: u64)
     requires { array_vec_len words.old ≤ 60 }
     ensures items { words.new.items ≡ words.old.items ++ cancelled_words snapshot code }
     ensures len { array_vec_len words.new ≤ 150 }
@@ -92,7 +92,7 @@ fn push_cancelled(words: &mut Words, snapshot: u32, code: u64)
     push_unsigned(words, " code ", code);
 }
 
-pub(crate) fn push_answer(words: &mut Words, answer: CallAnswer)
+pub(crate) fn push_answer(words: &mut LineBuffer, answer: CallAnswer)
     requires { array_vec_len words.old ≤ 40 }
     ensures items { words.new.items ≡ words.old.items ++ answer_words answer }
     ensures len { array_vec_len words.new ≤ 150 }
@@ -125,7 +125,7 @@ pub(crate) fn push_answer(words: &mut Words, answer: CallAnswer)
     }
 }
 
-fn push_verdict(words: &mut Words, verdict: Verdict)
+fn push_verdict(words: &mut LineBuffer, verdict: Verdict)
     requires { array_vec_len words.old ≤ 120 }
     ensures items { words.new.items ≡ words.old.items ++ verdict_words verdict }
     ensures len { array_vec_len words.new ≤ array_vec_len words.old + 30 }
@@ -140,7 +140,7 @@ fn push_verdict(words: &mut Words, verdict: Verdict)
     }
 }
 
-fn push_addition(words: &mut Words, verdict: Verdict)
+fn push_addition(words: &mut LineBuffer, verdict: Verdict)
     requires { array_vec_len words.old ≤ 120 }
     ensures items { words.new.items ≡ words.old.items ++ addition_words verdict }
     ensures len { array_vec_len words.new ≤ array_vec_len words.old + 30 }
@@ -151,7 +151,7 @@ fn push_addition(words: &mut Words, verdict: Verdict)
     }
 }
 
-fn push_reply(words: &mut Words, reply: Option<u64>)
+fn push_reply(words: &mut LineBuffer, reply: Option<u64>)
     requires { array_vec_len words.old ≤ 120 }
     ensures items { words.new.items ≡ words.old.items ++ reply_words reply }
     ensures len { array_vec_len words.new ≤ array_vec_len words.old + 30 }
@@ -162,7 +162,7 @@ fn push_reply(words: &mut Words, reply: Option<u64>)
 }
 
 /// The procedure of an addition, where it is added.
-fn push_added(words: &mut Words, verdict: Verdict, procedure: u16)
+fn push_added(words: &mut LineBuffer, verdict: Verdict, procedure: u16)
     requires { array_vec_len words.old ≤ 120 }
     ensures items { words.new.items ≡ words.old.items ++ added_words verdict procedure }
     ensures len { array_vec_len words.new ≤ array_vec_len words.old + 30 }
@@ -172,7 +172,7 @@ fn push_added(words: &mut Words, verdict: Verdict, procedure: u16)
     }
 }
 
-fn push_delivered(words: &mut Words, verdict: Verdict, entry: DeliveredEntry)
+fn push_delivered(words: &mut LineBuffer, verdict: Verdict, entry: DeliveredEntry)
     requires { array_vec_len words.old ≤ 90 }
     ensures items { words.new.items ≡ words.old.items ++ delivered_words verdict entry }
     ensures len { array_vec_len words.new ≤ 150 }
@@ -190,7 +190,7 @@ fn push_delivered(words: &mut Words, verdict: Verdict, entry: DeliveredEntry)
 }
 
 /// The verdict on a call of this snapshot, or on an addition, which has none.
-fn push_certified(words: &mut Words, snapshot: Option<u32>, verdict: Verdict)
+fn push_certified(words: &mut LineBuffer, snapshot: Option<u32>, verdict: Verdict)
     requires { array_vec_len words.old ≤ 120 }
     ensures items { words.new.items ≡ words.old.items ++ certified_words snapshot verdict }
     ensures len { array_vec_len words.new ≤ array_vec_len words.old + 30 }
@@ -201,7 +201,7 @@ fn push_certified(words: &mut Words, snapshot: Option<u32>, verdict: Verdict)
     }
 }
 
-pub(crate) fn push_replica(words: &mut Words, report: ReplicaReport)
+pub(crate) fn push_replica(words: &mut LineBuffer, report: ReplicaReport)
     requires { array_vec_len words.old ≤ 40 }
     ensures items { words.new.items ≡ words.old.items ++ replica_words report }
     ensures len { array_vec_len words.new ≤ 150 }
@@ -239,7 +239,7 @@ pub(crate) fn push_replica(words: &mut Words, report: ReplicaReport)
     }
 }
 
-fn push_mark(words: &mut Words, is_stopped: bool)
+fn push_mark(words: &mut LineBuffer, is_stopped: bool)
     requires { array_vec_len words.old ≤ 120 }
     ensures items { words.new.items ≡ words.old.items ++ mark_words is_stopped }
     ensures len { array_vec_len words.new ≤ array_vec_len words.old + 7 }
@@ -252,7 +252,7 @@ fn push_mark(words: &mut Words, is_stopped: bool)
 }
 
 /// The columns that an entry of the log has in any case.
-fn push_entry(words: &mut Words, entry: LoggedEntry)
+fn push_entry(words: &mut LineBuffer, entry: LoggedEntry)
     requires { array_vec_len words.old ≤ 0 }
     ensures items { words.new.items ≡ words.old.items ++ entry_words entry }
     ensures len { array_vec_len words.new ≤ 84 }
@@ -267,7 +267,7 @@ fn push_entry(words: &mut Words, entry: LoggedEntry)
     push(words, b" ");
 }
 
-fn push_snapshot(words: &mut Words, snapshot: Option<u32>)
+fn push_snapshot(words: &mut LineBuffer, snapshot: Option<u32>)
     requires { array_vec_len words.old ≤ 100 }
     ensures items { words.new.items ≡ words.old.items ++ right_in 7 (snapshot_words snapshot) }
     ensures len { array_vec_len words.new ≤ array_vec_len words.old + 20 }
@@ -279,11 +279,11 @@ fn push_snapshot(words: &mut Words, snapshot: Option<u32>)
 }
 
 #[tactic(auto, unfolding(crate::specs::Lines::line_words))]
-pub(crate) fn begun(call: u32, replica: u32, snapshot: u32) -> Words
+pub(crate) fn begun(call: u32, replica: u32, snapshot: u32) -> LineBuffer
     ensures items { result.items ≡ line_words (line.Begun call replica snapshot) }
     ensures len { array_vec_len result ≤ 150 }
 {
-    let mut words = Words::new();
+    let mut words = LineBuffer::new();
     push_unsigned(&mut words, "call ", u64::from(call));
     push_unsigned(&mut words, " replica ", u64::from(replica));
     push_unsigned(&mut words, " snapshot ", u64::from(snapshot));
@@ -291,43 +291,43 @@ pub(crate) fn begun(call: u32, replica: u32, snapshot: u32) -> Words
 }
 
 #[tactic(auto, unfolding(crate::specs::Lines::line_words))]
-pub(crate) fn begin_refused(refusal: StepRefusal) -> Words
+pub(crate) fn begin_refused(refusal: StepRefusal) -> LineBuffer
     ensures items { result.items ≡ line_words (line.BeginRefused refusal) }
     ensures len { array_vec_len result ≤ 150 }
 {
-    let mut words = Words::new();
+    let mut words = LineBuffer::new();
     push(&mut words, b"begin ");
     push_refused(&mut words, refusal);
     words
 }
 
 #[tactic(auto, unfolding(crate::specs::Lines::line_words))]
-pub(crate) fn added(position: u32) -> Words
+pub(crate) fn added(position: u32) -> LineBuffer
     ensures items { result.items ≡ line_words (line.Added position) }
     ensures len { array_vec_len result ≤ 150 }
 {
-    let mut words = Words::new();
+    let mut words = LineBuffer::new();
     push_unsigned(&mut words, "add number ", u64::from(position));
     words
 }
 
 #[tactic(auto, unfolding(crate::specs::Lines::line_words))]
-pub(crate) fn add_refused(refusal: StepRefusal) -> Words
+pub(crate) fn add_refused(refusal: StepRefusal) -> LineBuffer
     ensures items { result.items ≡ line_words (line.AddRefused refusal) }
     ensures len { array_vec_len result ≤ 150 }
 {
-    let mut words = Words::new();
+    let mut words = LineBuffer::new();
     push(&mut words, b"add ");
     push_refused(&mut words, refusal);
     words
 }
 
 #[tactic(auto, unfolding(crate::specs::Lines::line_words))]
-pub(crate) fn call(number: u32, report: CallReport) -> Words
+pub(crate) fn call(number: u32, report: CallReport) -> LineBuffer
     ensures items { result.items ≡ line_words (line.Call number report) }
     ensures len { array_vec_len result ≤ 150 }
 {
-    let mut words = Words::new();
+    let mut words = LineBuffer::new();
     push_unsigned(&mut words, "call ", u64::from(number));
     push(&mut words, b" ");
     push_call(&mut words, report);
@@ -335,11 +335,11 @@ pub(crate) fn call(number: u32, report: CallReport) -> Words
 }
 
 #[tactic(auto, unfolding(crate::specs::Lines::line_words))]
-pub(crate) fn replica(number: u32, report: ReplicaReport) -> Words
+pub(crate) fn replica(number: u32, report: ReplicaReport) -> LineBuffer
     ensures items { result.items ≡ line_words (line.Replica number report) }
     ensures len { array_vec_len result ≤ 150 }
 {
-    let mut words = Words::new();
+    let mut words = LineBuffer::new();
     push_unsigned(&mut words, "replica ", u64::from(number));
     push(&mut words, b" ");
     push_replica(&mut words, report);
@@ -347,11 +347,11 @@ pub(crate) fn replica(number: u32, report: ReplicaReport) -> Words
 }
 
 #[tactic(auto, unfolding(crate::specs::Lines::line_words))]
-pub(crate) fn certified(entry: LoggedEntry, compared: u64, verdict: Verdict) -> Words
+pub(crate) fn certified(entry: LoggedEntry, compared: u64, verdict: Verdict) -> LineBuffer
     ensures items { result.items ≡ line_words (line.Certified entry compared verdict) }
     ensures len { array_vec_len result ≤ 150 }
 {
-    let mut words = Words::new();
+    let mut words = LineBuffer::new();
     push_entry(&mut words, entry);
     push_column(&mut words, 5, compared);
     push(&mut words, b" ");
@@ -360,11 +360,11 @@ pub(crate) fn certified(entry: LoggedEntry, compared: u64, verdict: Verdict) -> 
 }
 
 #[tactic(auto, unfolding(crate::specs::Lines::line_words))]
-pub(crate) fn open(entry: LoggedEntry) -> Words
+pub(crate) fn open(entry: LoggedEntry) -> LineBuffer
     ensures items { result.items ≡ line_words (line.Open entry) }
     ensures len { array_vec_len result ≤ 150 }
 {
-    let mut words = Words::new();
+    let mut words = LineBuffer::new();
     push_entry(&mut words, entry);
     push_right(&mut words, 5, b"-");
     push(&mut words, b" open");
@@ -372,32 +372,32 @@ pub(crate) fn open(entry: LoggedEntry) -> Words
 }
 
 #[tactic(auto, unfolding(crate::specs::Lines::line_words))]
-pub(crate) fn log(entries: u32) -> Words
+pub(crate) fn log(entries: u32) -> LineBuffer
     ensures items { result.items ≡ line_words (line.Log entries) }
     ensures len { array_vec_len result ≤ 150 }
 {
-    let mut words = Words::new();
+    let mut words = LineBuffer::new();
     push_unsigned(&mut words, "log ", u64::from(entries));
     words
 }
 
 #[tactic(auto, unfolding(crate::specs::Lines::line_words))]
-pub(crate) fn no_entry(position: u32) -> Words
+pub(crate) fn no_entry(position: u32) -> LineBuffer
     ensures items { result.items ≡ line_words (line.Entry position None) }
     ensures len { array_vec_len result ≤ 150 }
 {
-    let mut words = Words::new();
+    let mut words = LineBuffer::new();
     push_unsigned(&mut words, "entry ", u64::from(position));
     push(&mut words, b" none");
     words
 }
 
 #[tactic(auto, unfolding(crate::specs::Lines::line_words))]
-pub(crate) fn answered(call: u64, answer: CallAnswer) -> Words
+pub(crate) fn answered(call: u64, answer: CallAnswer) -> LineBuffer
     ensures items { result.items ≡ line_words (line.Answered call answer) }
     ensures len { array_vec_len result ≤ 150 }
 {
-    let mut words = Words::new();
+    let mut words = LineBuffer::new();
     push_unsigned(&mut words, "call ", call);
     push(&mut words, b" ");
     push_answer(&mut words, answer);
@@ -405,11 +405,11 @@ pub(crate) fn answered(call: u64, answer: CallAnswer) -> Words
 }
 
 #[tactic(auto, unfolding(crate::specs::Lines::line_words))]
-pub(crate) fn agreement(agrees: bool) -> Words
+pub(crate) fn agreement(agrees: bool) -> LineBuffer
     ensures items { result.items ≡ line_words (line.Agreement agrees) }
     ensures len { array_vec_len result ≤ 150 }
 {
-    let mut words = Words::new();
+    let mut words = LineBuffer::new();
     push(&mut words, b"agreement ");
     if agrees {
         push(&mut words, b"yes");
@@ -420,13 +420,13 @@ pub(crate) fn agreement(agrees: bool) -> Words
 }
 
 /// The first half of the line of totals.
-pub(crate) fn first_totals(counts: Counts) -> Words
+pub(crate) fn first_totals(counts: Counts) -> LineBuffer
     ensures items { result.items ≡ codes "total committed " ++ decimal counts.committed ++ codes " read "
         ++ decimal counts.read
         ++ codes " cancelled " ++ decimal counts.cancelled ++ codes " conflict " ++ decimal counts.conflict }
     ensures len { array_vec_len result ≤ 130 }
 {
-    let mut words = Words::new();
+    let mut words = LineBuffer::new();
     push_unsigned(&mut words, "total committed ", counts.committed);
     push_unsigned(&mut words, " read ", counts.read);
     push_unsigned(&mut words, " cancelled ", counts.cancelled);
@@ -435,13 +435,13 @@ pub(crate) fn first_totals(counts: Counts) -> Words
 }
 
 /// The rest of the line of totals.
-pub(crate) fn other_totals(counts: Counts) -> Words
+pub(crate) fn other_totals(counts: Counts) -> LineBuffer
     ensures items { result.items ≡ codes " stale " ++ decimal counts.stale ++ codes " repeat "
         ++ decimal counts.repeated
         ++ codes " other " ++ decimal counts.other ++ codes "\n" }
     ensures len { array_vec_len result ≤ 130 }
 {
-    let mut words = Words::new();
+    let mut words = LineBuffer::new();
     push_unsigned(&mut words, " stale ", counts.stale);
     push_unsigned(&mut words, " repeat ", counts.repeated);
     push_unsigned(&mut words, " other ", counts.other);

@@ -15,6 +15,12 @@ use std::marker::Model;
 
 /// Which tables there are, and how wide their rows are. Contracts see a map from a table's number
 /// to its width in bytes.
+///
+/// ```text
+/// let schema = Schema::new(alloc, &[(1, 8), (2, 40)])?;
+/// assert_eq!(rt; schema.width(2), Some(40));
+/// assert!(rt; schema.fits(1, &[0; 8]));
+/// ```
 #[derive(Debug, Drop)]
 pub struct Schema<A: Allocator = Global> {
     widths: BTreeMap<u8, u16, A>,

@@ -6,7 +6,7 @@ ghost use Rattle.exit_status.specs.declared.status.TheConstants.{FAILED};
 ghost use Rattle.script_stops.specs.Telling.{fault_line, status_of_cause, SaysEnd};
 
 use crate::stop::Stop;
-use byte_output::line::Line;
+use byte_output::line::LineBuffer;
 use byte_output::put;
 use exit_status::{FAILED, put_error};
 use script_settings::{FaultCause, ScriptFault};
@@ -44,7 +44,7 @@ fn status_of(cause: FaultCause) -> u8
 fn put_fault<E: Write>(faults: &mut E, fault: ScriptFault) -> io::Result<()>
     ensures { WritesText (E.contents faults.old) (E.contents faults.new) result (fault_line fault) }
 {
-    let mut line = Line::new();
+    let mut line = LineBuffer::new();
     writeln!(line, "{fault}")?;
     put(faults, &line)
 }

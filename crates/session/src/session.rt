@@ -14,6 +14,14 @@ use std::sync::Wait;
 use tallies::Ledgers;
 
 /// A session of a caller. Contracts see what it keeps: the position of the log that its next call sees at least.
+///
+/// ```text
+/// let mut session = Session::new(node.desk());
+/// match session.call(rt, 1, 1, &args).0 {
+///     Answer::Committed { position, reply } => { /* it is entry `position` of the order */ }
+///     _ => { /* docs/EMBEDDING.md says what to do */ }
+/// }
+/// ```
 #[derive(Drop)]
 pub struct Session<'a, J: LogSetting + Ledgers, G: Gate>
 where
@@ -65,8 +73,12 @@ impl<
         args: &[u8],
     ) -> (Answer, Option<Seen<J>>)
         ensures answer { IsHeard J.setting self.old.replicas replica
-            (record { least = self.old.position; procedure = procedure; args = args.now;
-            request = None }) result.0 result.1 }
+            (record {
+              least = self.old.position;
+              procedure = procedure;
+              args = args.now;
+              request = None;
+            }) result.0 result.1 }
         ensures kept { self.new.position ≡ max self.old.position (position_told result.0) }
         ensures replicas { self.new.replicas ≡ self.old.replicas }
     {
@@ -87,8 +99,12 @@ impl<
         request: RequestId,
     ) -> (Answer, Option<Seen<J>>)
         ensures answer { IsHeard J.setting self.old.replicas replica
-            (record { least = self.old.position; procedure = procedure; args = args.now;
-            request = Some request }) result.0 result.1 }
+            (record {
+              least = self.old.position;
+              procedure = procedure;
+              args = args.now;
+              request = Some request;
+            }) result.0 result.1 }
         ensures kept { self.new.position ≡ max self.old.position (position_told result.0) }
         ensures replicas { self.new.replicas ≡ self.old.replicas }
     {

@@ -22,6 +22,13 @@ pub struct Own<A: Allocator + Copy = Global> {
 }
 
 /// A store as a call sees it: its own writes stand over the store's rows.
+///
+/// ```text
+/// let mut view = View::over(store, Own::new(alloc));
+/// view.put(1, 5, &[1; 8])?;
+/// // An own write is read without a look at the store.
+/// let (looks, writes, cancel_code) = view.finish();
+/// ```
 #[derive(Drop)]
 pub struct View<S: Store, A: Allocator + Copy = Global> {
     pub store: S,

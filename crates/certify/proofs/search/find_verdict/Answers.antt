@@ -1,7 +1,7 @@
 use Rattle.std.proofs.Common.{◌≡◌, ◌-◌, ◌≤◌, List, drop, sym, ap, ◌∙◌, arith}
 use Rattle.log_model.specs.Log.{CertifiedItem, unless_conflict}
 use Rattle.certify.specs.declared.search.SearchResult.{SearchResult}
-use Rattle.certify.specs.Kept.{StandsForLatest}
+use Rattle.certify.specs.Kept.{IsMemoryOfLatest}
 use Rattle.certify.proofs.VerdictLemmas.{stale, none_compared, verdict_of_search, compared_of_search, result_of, result_is}
 use Rattle.certify.proofs.search.find_verdict.Given as given
 use Rattle.certify.proofs.search.find_verdict.Goals as goal
@@ -15,7 +15,7 @@ returns-then-count-snapshot-clause-compared g c = λ past call same new stands.
     none_compared c.args.window c.args.count c.args.snapshot past call c.args.reads.now same new stands.count c.if-count-snapshot.true
 
 found-in-Some : (g : given.Over) → (c : goal.In-Some g) → (past : List CertifiedItem)
-    → StandsForLatest (record { window = c.args.window; count = c.args.count; ring = record { blocks = c.args.blocks.now; writes = c.args.kept.now } }) past
+    → IsMemoryOfLatest (record { window = c.args.window; count = c.args.count; ring = record { blocks = c.args.blocks.now; writes = c.args.kept.now } }) past
     → c.search_since-found.result ≡ result_of c.args.reads.now c.args.snapshot (drop c.args.snapshot past)
 found-in-Some g c past stands =
     let near : c.args.count - c.args.snapshot ≤ c.args.window = let test = c.if-count-snapshot.false in omega arith in
@@ -39,7 +39,7 @@ returns-in-Some-clause-compared g c = λ past call same new stands.
     ∙ compared_of_search c.args.window c.args.snapshot past call c.args.reads.now same new (omega arith)
 
 found-in-None : (g : given.Over) → (c : goal.In-None g) → (past : List CertifiedItem)
-    → StandsForLatest (record { window = c.args.window; count = c.args.count; ring = record { blocks = c.args.blocks.now; writes = c.args.kept.now } }) past
+    → IsMemoryOfLatest (record { window = c.args.window; count = c.args.count; ring = record { blocks = c.args.blocks.now; writes = c.args.kept.now } }) past
     → c.search_since-found.result ≡ result_of c.args.reads.now c.args.snapshot (drop c.args.snapshot past)
 found-in-None g c past stands =
     let near : c.args.count - c.args.snapshot ≤ c.args.window = let test = c.if-count-snapshot.false in omega arith in

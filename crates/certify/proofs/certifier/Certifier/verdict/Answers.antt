@@ -3,36 +3,36 @@ use Rattle.schema.specs.Rows.{Writes}
 use Rattle.log_model.specs.Log.{CertifiedItem, Call, first_repeated, verdict_after}
 use Rattle.log_model.specs.Comparisons.{comparisons_after}
 use Rattle.log_model.specs.Entries.{ExecutedCall}
-use Rattle.certify.specs.Kept.{CertifierState, StandsFor, StandsForLatest}
+use Rattle.certify.specs.Kept.{CertifierState, IsMemoryOf, IsMemoryOfLatest}
 use Rattle.certify.proofs.VerdictLemmas.{repeated_verdict, none_compared_again, none_left_of}
 use Rattle.certify.proofs.certifier.Certifier.verdict.Given as given
 use Rattle.certify.proofs.certifier.Certifier.verdict.Goals as goal
 
 pub returns-in-Some-clause-verdict : goal.returns-in-Some-clause-verdict
 returns-in-Some-clause-verdict g c = λ past stands.
-    let inside = subst (λ (s : CertifierState). StandsFor s.memory past) (sym c.self.view_is) stands in
+    let inside = subst (λ (s : CertifierState). IsMemoryOf s.memory past) (sym c.self.view_is) stands in
     let found : first_repeated past c.args.entry.now.call ≡ Some c.in-Some.repeated =
     ap (λ (e : ExecutedCall). first_repeated past e.call) (sym c.entry.view_is) ∙ sym (c.repeated_in.ensures past inside.requests) ∙ c.in-Some.is in
     repeated_verdict c.args.self.now.memory.window past c.args.entry.now.call c.args.entry.now.looks c.in-Some.repeated found
 
 pub returns-in-Some-clause-compared : goal.returns-in-Some-clause-compared
 returns-in-Some-clause-compared g c = λ past stands.
-    let inside = subst (λ (s : CertifierState). StandsFor s.memory past) (sym c.self.view_is) stands in
+    let inside = subst (λ (s : CertifierState). IsMemoryOf s.memory past) (sym c.self.view_is) stands in
     let found : first_repeated past c.args.entry.now.call ≡ Some c.in-Some.repeated =
     ap (λ (e : ExecutedCall). first_repeated past e.call) (sym c.entry.view_is) ∙ sym (c.repeated_in.ensures past inside.requests) ∙ c.in-Some.is in
     none_compared_again c.args.self.now.memory.window past c.args.entry.now.call c.args.entry.now.looks c.in-Some.repeated found
 
-latest : (g : given.Over) → (c : goal.After-self-2-1 g) → (past : List CertifiedItem) → StandsFor c.args.self.now.memory past
-    → StandsForLatest (record { window = c.self.inside.window; count = c.self.inside.count; ring = record { blocks = c.deref.result.now; writes = c.deref-2.result.now } }) past
+latest : (g : given.Over) → (c : goal.After-self-2-1 g) → (past : List CertifiedItem) → IsMemoryOf c.args.self.now.memory past
+    → IsMemoryOfLatest (record { window = c.self.inside.window; count = c.self.inside.count; ring = record { blocks = c.deref.result.now; writes = c.deref-2.result.now } }) past
 latest g c past stands =
-    let inside = subst (λ (s : CertifierState). StandsFor s.memory past) (sym c.self.view_is) stands in
-    subst (λ (blocks : List (List (List ℕ))). StandsForLatest (record { window = c.self.inside.window; count = c.self.inside.count; ring = record { blocks = blocks; writes = c.deref-2.result.now } }) past) (sym c.deref.ensures.value)
-    (subst (λ (writes : List Writes). StandsForLatest (record { window = c.self.inside.window; count = c.self.inside.count; ring = record { blocks = c.self.inside.blocks.items; writes = writes } }) past) (sym c.deref-2.ensures.value)
+    let inside = subst (λ (s : CertifierState). IsMemoryOf s.memory past) (sym c.self.view_is) stands in
+    subst (λ (blocks : List (List (List ℕ))). IsMemoryOfLatest (record { window = c.self.inside.window; count = c.self.inside.count; ring = record { blocks = blocks; writes = c.deref-2.result.now } }) past) (sym c.deref.ensures.value)
+    (subst (λ (writes : List Writes). IsMemoryOfLatest (record { window = c.self.inside.window; count = c.self.inside.count; ring = record { blocks = c.self.inside.blocks.items; writes = writes } }) past) (sym c.deref-2.ensures.value)
     (record { count = inside.count; kept = inside.kept }))
 
-new : (g : given.Over) → (c : goal.After-self-2-1 g) → (past : List CertifiedItem) → StandsFor c.args.self.now.memory past → first_repeated past c.args.entry.now.call ≡ None
+new : (g : given.Over) → (c : goal.After-self-2-1 g) → (past : List CertifiedItem) → IsMemoryOf c.args.self.now.memory past → first_repeated past c.args.entry.now.call ≡ None
 new g c past stands =
-    let inside = subst (λ (s : CertifierState). StandsFor s.memory past) (sym c.self.view_is) stands in
+    let inside = subst (λ (s : CertifierState). IsMemoryOf s.memory past) (sym c.self.view_is) stands in
     ap (λ (e : ExecutedCall). first_repeated past e.call) (sym c.entry.view_is) ∙ sym (c.repeated_in.ensures past inside.requests) ∙ none_left_of c.repeated_in.result c.in_default.not-Some
 
 pub returns-clause-verdict : goal.returns-clause-verdict

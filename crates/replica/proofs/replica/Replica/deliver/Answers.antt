@@ -33,20 +33,20 @@ returns-clause-delivered g c =
       procedures = c.take_entry-taken.new.procedures;
     } in
     let stands : (base : Catalogue) (past : List Entry) → StandsFor base c.args.self.now past → StandsFor base new (entries_after past e) = λ base past.
-        subst (λ (r : Replica). StandsFor base r past → StandsFor base new (entries_after past e)) c.self.view_is
-        (c.deliveries_are_kept.ensures.delivered base old new e c.in-Ok.certification c.take_entry-taken.new.versions.tables past
-        (record {
-          window = refl;
-          position = refl;
-          certified = c.in-Ok.ensures.certified;
-          certifications = c.in-Ok.ensures.entered;
-          kept = c.in-Ok.ensures.kept;
-          same_window = c.in-Ok.ensures.window;
-          installs = c.in-Ok.ensures.installs;
-          refuses = c.in-Ok.ensures.refuses;
-          pruned = c.drop_unseen-self-inside.ensures.seen;
-          horizon = c.drop_unseen-self-inside.ensures.horizon;
-        })) in
+    subst (λ (r : Replica). StandsFor base r past → StandsFor base new (entries_after past e)) c.self.view_is
+    (c.deliveries_are_kept.ensures.delivered base old new e c.in-Ok.certification c.take_entry-taken.new.versions.tables past
+    (record {
+      window = refl;
+      position = refl;
+      certified = c.in-Ok.ensures.certified;
+      certifications = c.in-Ok.ensures.entered;
+      kept = c.in-Ok.ensures.kept;
+      same_window = c.in-Ok.ensures.window;
+      installs = c.in-Ok.ensures.installs;
+      refuses = c.in-Ok.ensures.refuses;
+      pruned = c.drop_unseen-self-inside.ensures.seen;
+      horizon = c.drop_unseen-self-inside.ensures.horizon;
+    })) in
     record {
       position = search rules;
       running = search rules;
