@@ -3,7 +3,8 @@ ghost use Rattle.std.specs.Prelude.{◌≡◌, ◌+◌, ◌≤◌, Some, IfSome,
 ghost use Rattle.std.specs.List.{list_any};
 ghost use Rattle.abs_state.specs.State.{kind_of};
 ghost use Rattle.abs_value.specs.Kind.{is_nothing};
-ghost use Rattle.abs_cause.specs.Cause.{call_arguments, is_unknown_table, is_no_number, is_no_buffer, buffer_length, lacks_room};
+ghost use Rattle.abs_cause.specs.Cause.{call_arguments, is_unknown_table, is_no_number, is_no_buffer, buffer_length};
+ghost use Rattle.abs_cause.specs.Cause.{lacks_room};
 ghost use Rattle.abs_cause.specs.Cause.{row_is_uninitialised, some_uninitialised};
 
 use abs_state::{AbsState, Kind};

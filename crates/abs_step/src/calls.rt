@@ -55,7 +55,11 @@ fn set_buffers<A: Allocator>(state: &mut AbsState, schema: &Schema<A>, helper: H
 {
     let width = table_width(schema, state.kind(Register::R1));
     for (argument, register) in helper.arguments().iter().zip(&ARGUMENT_REGISTERS) {
-        set_buffer(state, state.kind(*register), written_length(*argument, width));
+        set_buffer(
+            state,
+            state.kind(*register),
+            written_length(*argument, width),
+        );
     }
 }
 

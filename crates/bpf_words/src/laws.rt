@@ -36,11 +36,7 @@ pub fn swaps_undo()
 {}
 
 /// A quotient by zero is 0, and a remainder by zero is the dividend's word.
-#[tactic(
-    auto,
-    using(crate::proofs::Words::cut_zero),
-    unfolding(crate::specs::Operation::alu, crate::specs::Operation::binary_value)
-)]
+#[tactic(auto, using(crate::proofs::Words::cut_zero), unfolding(crate::specs::Operation::alu, crate::specs::Operation::binary_value))]
 pub fn division_by_zero()
     ensures quotient { (n a : ℕ) → alu n (Binary Div) a 0 ≡ 0 }
     ensures remainder { (n a : ℕ) → alu n (Binary Mod) a 0 ≡ a % 2 ^ n }
@@ -67,14 +63,7 @@ pub fn signed_reads_words()
 
 /// Of a condition and its opposite just one holds, and the opposite's opposite is the condition. The
 /// bit test alone has none.
-#[tactic(
-    auto,
-    using(
-        crate::proofs::Words::opposite_excludes,
-        crate::proofs::Words::opposite_back,
-        crate::proofs::Words::opposite_none
-    )
-)]
+#[tactic(auto, using(crate::proofs::Words::opposite_excludes, crate::proofs::Words::opposite_back, crate::proofs::Words::opposite_none))]
 pub fn opposites_exclude()
     ensures excludes { (condition : Condition) → IfSome (opposite condition) (λ other.
         (n a b : ℕ) → holds n other a b ≡ not (holds n condition a b)) }
@@ -84,11 +73,7 @@ pub fn opposites_exclude()
 {}
 
 /// What each condition says of two words.
-#[tactic(
-    auto,
-    using(crate::proofs::Words::cut_word),
-    unfolding(crate::specs::Condition::holds, crate::specs::Condition::comparison)
-)]
+#[tactic(auto, using(crate::proofs::Words::cut_word), unfolding(crate::specs::Condition::holds, crate::specs::Condition::comparison))]
 pub fn conditions_compare()
     ensures eq { (n a b : ℕ) → a < 2 ^ n → b < 2 ^ n → IsTrue (holds n Eq a b) ↔ (a ≡ b) }
     ensures ne { (n a b : ℕ) → a < 2 ^ n → b < 2 ^ n → IsTrue (holds n Ne a b) ↔ (a ≢ b) }

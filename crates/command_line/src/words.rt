@@ -125,7 +125,8 @@ fn run_plan<'a>(values: &ArgMatches<'a>) -> Result<Plan<'a>, PlanFault<'a>>
 
 /// How many executing threads each replica has.
 fn executors<'a>(values: &ArgMatches<'a>) -> Result<u32, PlanFault<'a>>
-    ensures number { IfOk result (λ n. number_of (rows_of (found_of values.now)) (codes "executors") 1 MAX_EXECUTORS ≡ Some n) }
+    ensures number { IfOk result (λ n. number_of (rows_of (found_of values.now)) (codes "executors") 1 MAX_EXECUTORS
+        ≡ Some n) }
     ensures range { IfOk result (λ n. (1 ≤ n) × (n ≤ MAX_EXECUTORS)) }
 {
     let Some(word) = values.get_str("executors") else {

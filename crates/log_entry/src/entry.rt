@@ -33,8 +33,13 @@ impl<A: Allocator + Copy> Model for ExecutedCall<A> {
     ghost coded = { executed_code };
 
     ghost view = { λ e. record {
-      call = record { number = e.call; procedure = e.procedure; args = e.args; snapshot = e.snapshot;
-      request = e.request };
+      call = record {
+        number = e.call;
+        procedure = e.procedure;
+        args = e.args;
+        snapshot = e.snapshot;
+        request = e.request;
+      };
       looks = e.reads;
       writes = e.writes;
       reply = e.reply;

@@ -39,8 +39,13 @@ pub fn each_change_is_of_one()
         → IsStep w before (Begin r procedure args request) (Begun c snapshot) after
         → open_call after c ≡ Some (record {
           replica = r;
-          call = record { number = c; procedure = procedure; args = args; snapshot = snapshot;
-          request = or_none request };
+          call = record {
+            number = c;
+            procedure = procedure;
+            args = args;
+            snapshot = snapshot;
+            request = or_none request;
+          };
           turns = 0;
         }) }
 {}

@@ -84,8 +84,12 @@ impl<J: LogSetting + Ledgers + Send + Sync + 'static, G: Gate + Drop + Send + Sy
         request: RequestId,
     ) -> Answered<J>
         ensures { IsHeard J.setting self.now.replicas replica
-            (record { least = least; procedure = procedure; args = args.now;
-            request = Some request }) result.0 result.1 }
+            (record {
+              least = least;
+              procedure = procedure;
+              args = args.now;
+              request = Some request;
+            }) result.0 result.1 }
     {
         self.ask(rt, replica, least, procedure, args, Some(request))
     }
@@ -126,8 +130,12 @@ impl<J: LogSetting + Ledgers + Send + Sync + 'static, G: Gate + Drop + Send + Sy
         request: Option<RequestId>,
     ) -> Option<Answered<J>>
         ensures { IfSome result (λ r.
-            IsAnswer J.setting (record { least = least; procedure = procedure; args = args.now;
-            request = request }) r.0 r.1) }
+            IsAnswer J.setting (record {
+              least = least;
+              procedure = procedure;
+              args = args.now;
+              request = request;
+            }) r.0 r.1) }
     {
         let (reply, replies) = bounded(self.alloc, 1).ok()?;
         let asked = Asked {

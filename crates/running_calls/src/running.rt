@@ -36,8 +36,11 @@ impl<J: LogSetting, A: Allocator + Copy> Model for RunningCall<J, A> {
 
     ghost coded = { running_code };
 
-    ghost view = { λ r. record { entries = r.begun.entries; progress = open_call_of r.call;
-        last = r.call.machine.last } };
+    ghost view = { λ r. record {
+      entries = r.begun.entries;
+      progress = open_call_of r.call;
+      last = r.call.machine.last;
+    } };
 
     ghost invariant = { λ r. stays_open r.call.machine.last ≡ true → IsUnderWay J.setting r.begun r.call };
 }

@@ -63,8 +63,12 @@ impl<J: LogSetting, P: Allocator + Copy> Reply<J, P> {
     ) -> Option<(Answer, Option<Seen<J, P>>)>
         ensures replica { IfSome result (λ _. self.replica ≡ replica) }
         ensures answer { IfSome result (λ r.
-            IsAnswer J.setting (record { least = least; procedure = procedure; args = args.now;
-            request = request }) r.0 r.1) }
+            IsAnswer J.setting (record {
+              least = least;
+              procedure = procedure;
+              args = args.now;
+              request = request;
+            }) r.0 r.1) }
     {
         if self.replica != replica || !is_asked(&self.asked, least, procedure, args, request) {
             return None;

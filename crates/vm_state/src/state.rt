@@ -47,8 +47,12 @@ impl Model for WordState {
 
     ghost Value = { Words };
 
-    ghost view = { λ m. record { slot = m.slot; registers = m.registers; stack = m.stack;
-        args = take m.args_len m.args } };
+    ghost view = { λ m. record {
+      slot = m.slot;
+      registers = m.registers;
+      stack = m.stack;
+      args = take m.args_len m.args;
+    } };
 
     ghost invariant = { λ m. m.args_len ≤ MAX_ARGUMENTS };
 }

@@ -65,8 +65,13 @@ impl<A: Allocator + Copy> OpenCall<A> {
         requires { length args.now ≡ accepted.now.args_len }
         ensures begun { IfOk result (λ c. open_call_of c ≡ record {
           replica = replica;
-          call = record { number = number; procedure = procedure; args = args.now; snapshot = snapshot;
-          request = request };
+          call = record {
+            number = number;
+            procedure = procedure;
+            args = args.now;
+            snapshot = snapshot;
+            request = request;
+          };
           turns = 0;
         }) }
         ensures follows { IfOk result (λ c. (w : Setting) (log : Log) (p : StoredProcedure)

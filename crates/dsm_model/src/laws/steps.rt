@@ -47,8 +47,13 @@ pub fn calls_begin_where_their_replica_is()
           replicas = before.replicas;
           calls = before.calls ++ Some (record {
             replica = r;
-            call = record { number = c; procedure = procedure; args = args; snapshot = snapshot;
-            request = or_none request };
+            call = record {
+              number = c;
+              procedure = procedure;
+              args = args;
+              snapshot = snapshot;
+              request = or_none request;
+            };
             turns = 0;
           }) ∷ [];
         }) }
@@ -128,8 +133,7 @@ pub fn calls_are_ordered_at_their_end()
         × ((run_in w before.log o.call).cancel_code ≡ None) × (len (run_in w before.log o.call).writes ≢ 0)
         × (position ≡ length before.log + 1) × (length before.log < max_calls)
         × (after ≡ with_open_call
-        (record { log = before.log ++ CallItem o.call ∷ []; replicas = before.replicas; calls = before.calls }) c None)
-        }
+        (record { log = before.log ++ CallItem o.call ∷ []; replicas = before.replicas; calls = before.calls }) c None) }
     ensures full { (w : Setting) (before : World) (c : ℕ) (after : World)
         → IsStep w before (Order c) (Refused LogFull) after
         → (o : OpenCall) × (open_call before c ≡ Some o) × ((run_in w before.log o.call).steps ≤ o.turns)
@@ -189,11 +193,12 @@ pub fn additions_are_appended_at_once()
     ensures added { (w : Setting) (before : World) (name : List ℕ) (number args_len : ℕ) (checked : ProgramCheck)
         (position : ℕ)
         (after : World) → IsStep w before (Add name number args_len checked) (Added position) after
-        → (program : Program) × (checked ≡ Passed program) × (call_count before < max_calls) × (args_len ≤ MAX_ARGUMENTS)
+        → (program : Program) × (checked ≡ Passed program) × (call_count before < max_calls)
+        × (args_len ≤ MAX_ARGUMENTS)
         × (is_name name ≡ true) × (position ≡ length before.log + 1)
         × (after ≡ record {
           log = before.log ++ AdditionItem
-          (record { name = name; number = number; program = program; args_len = args_len }) ∷ [];
+              (record { name = name; number = number; program = program; args_len = args_len }) ∷ [];
           replicas = before.replicas;
           calls = before.calls;
         }) }
@@ -212,7 +217,8 @@ pub fn additions_are_appended_at_once()
     ensures name { (w : Setting) (before : World) (name : List ℕ) (number args_len : ℕ) (checked : ProgramCheck)
         (after : World)
         → IsStep w before (Add name number args_len checked) (Refused NameShape) after
-        → (program : Program) × (checked ≡ Passed program) × (call_count before < max_calls) × (args_len ≤ MAX_ARGUMENTS)
+        → (program : Program) × (checked ≡ Passed program) × (call_count before < max_calls)
+        × (args_len ≤ MAX_ARGUMENTS)
         × (is_name name ≡ false) }
 {}
 

@@ -1,5 +1,5 @@
-use bpf_verify::Cause;
 use bpf_code::{DecodeCause, DecodeFault};
+use bpf_verify::Cause;
 use call_model::ProgramFault;
 use dsm_model::{Outcome, StepRefusal};
 use log_model::{Identifier, Verdict};
