@@ -19,6 +19,31 @@ pub record KeepsCertified (m : certifier.Memory) (held : List ListedProcedure) (
   pub memory : certifier.IsMemoryOf m past.certified
   pub procedures : stored_procedures held ≡ past.procedures
 
+-- what an entry changes of what a replica keeps
+pub record Holdings : Type 0 where
+  pub memory : certifier.Memory
+  pub procedures : List ListedProcedure
+  pub tables : List Table
+  pub certifications : List Certification
+
+-- the entry at a position was taken in, with this certification; the writes of one that commits are installed
+pub record IsTakenIn (position : ℕ) (e : Entry) (old new : Holdings) (c : Certification) : Type 0 where
+  pub certified : (past : CertifiedEntries) → KeepsCertified old.memory old.procedures past
+      → c ≡ certification_next old.memory.window past e
+  pub kept : (past : CertifiedEntries) → KeepsCertified old.memory old.procedures past
+      → KeepsCertified new.memory new.procedures (with_entry old.memory.window past e)
+  pub count : new.memory.count ≡ position
+  pub installs : is_commit c.verdict ≡ true → IsInstalled position (writes_in e) old.tables new.tables
+  pub refuses : is_commit c.verdict ≡ false → HasSameVersions old.tables new.tables
+  pub entered : new.certifications ≡ old.certifications ++ c ∷ []
+
+-- there was no memory: all is as before, but for room that was made for versions
+pub record IsLeft (old new : Holdings) : Type 0 where
+  pub memory : new.memory ≡ old.memory
+  pub procedures : new.procedures ≡ old.procedures
+  pub versions : HasSameVersions old.tables new.tables
+  pub certifications : new.certifications ≡ old.certifications
+
 -- what one delivery leaves: the certifier and the procedures have taken the entry in, the writes of one that commits are installed, and then
 -- what no position within the window sees may be dropped
 pub record IsDelivered (old new : Replica) (e : Entry) (c : Certification) (installed : List Table) : Type 0 where

@@ -6,13 +6,12 @@ ghost use Rattle.schema.specs.Rows.{Rows};
 ghost use Rattle.rows_mv.specs.Versions.{AnswersFrom, IsInstalled, width_of};
 ghost use Rattle.schema.specs.Schema.{Tables};
 ghost use Rattle.log_model.specs.Log.{CertifiedItem, IsPlaced, certified_call_after, is_commit};
-ghost use Rattle.log_model.specs.Entries.{CertifiedEntries, item_of, with_entry};
+ghost use Rattle.log_model.specs.Entries.{item_of};
 ghost use Rattle.log_entry.specs.Kind.{entry_of};
 ghost use Rattle.stored_procedures.specs.Held.{AreForTables};
 ghost use Rattle.certify.specs.Kept.{IsMemoryOf};
-ghost use Rattle.replica.specs.Replica.{FitTables, IsForTables, IsNamed, certification_after, certification_next};
-ghost use Rattle.replica.specs.Replica.{writes_in};
-ghost use Rattle.replica.specs.Delivery.{HasSameVersions, KeepsCertified};
+ghost use Rattle.replica.specs.Replica.{FitTables, IsForTables, IsNamed, certification_after, writes_in};
+ghost use Rattle.replica.specs.Delivery.{HasSameVersions, IsLeft, IsTakenIn};
 
 use crate::addition::take_addition;
 use crate::certification::Certification;
@@ -119,25 +118,33 @@ pub(crate) fn take_entry<A: Allocator + Copy, P: Allocator + Copy>(
     requires placed { IsPlaced (position - 1) (item_of (entry_of entry.now)) }
     requires fit { FitTables versions.old (writes_in (entry_of entry.now)) }
     requires named { IsNamed (entry_of entry.now) }
-    ensures certified { IfOk result (λ c. (past : CertifiedEntries)
-        → KeepsCertified certifier.old.memory procedures.old past
-        → c ≡ certification_next certifier.old.memory.window past (entry_of entry.now)) }
-    ensures kept { OnOk result ((past : CertifiedEntries) → KeepsCertified certifier.old.memory procedures.old past
-        → KeepsCertified certifier.new.memory procedures.new
-        (with_entry certifier.old.memory.window past (entry_of entry.now))) }
+    ensures taken { IfOk result (IsTakenIn position (entry_of entry.now) (record {
+      memory = certifier.old.memory;
+      procedures = procedures.old;
+      tables = versions.old.tables;
+      certifications = certifications.old.items;
+    })
+        (record {
+          memory = certifier.new.memory;
+          procedures = procedures.new;
+          tables = versions.new.tables;
+          certifications = certifications.new.items;
+        })) }
+    ensures left { OnErr result (IsLeft (record {
+      memory = certifier.old.memory;
+      procedures = procedures.old;
+      tables = versions.old.tables;
+      certifications = certifications.old.items;
+    })
+        (record {
+          memory = certifier.new.memory;
+          procedures = procedures.new;
+          tables = versions.new.tables;
+          certifications = certifications.new.items;
+        })) }
     ensures window { certifier.new.memory.window ≡ certifier.old.memory.window }
-    ensures taken { OnOk result (certifier.new.memory.count ≡ position) }
-    ensures same_memory { OnErr result (certifier.new.memory ≡ certifier.old.memory) }
-    ensures same_procedures { OnErr result (procedures.new ≡ procedures.old) }
     ensures for_tables { (tables : Tables) → AreForTables tables procedures.old → IsForTables tables entry.now
         → AreForTables tables procedures.new }
-    ensures installs { IfOk result (λ c. is_commit c.verdict ≡ true
-        → IsInstalled position (writes_in (entry_of entry.now)) versions.old.tables versions.new.tables) }
-    ensures refuses { IfOk result (λ c. is_commit c.verdict ≡ false
-        → HasSameVersions versions.old.tables versions.new.tables) }
-    ensures same_versions { OnErr result (HasSameVersions versions.old.tables versions.new.tables) }
-    ensures entered { IfOk result (λ c. certifications.new.items ≡ certifications.old.items ++ c ∷ []) }
-    ensures same_certifications { OnErr result (certifications.new.items ≡ certifications.old.items) }
     ensures widths { (t : ℕ) → width_of versions.new.tables t ≡ width_of versions.old.tables t }
     ensures tables { length versions.new.tables ≡ length versions.old.tables }
     ensures horizon { versions.new.horizon ≡ versions.old.horizon }

@@ -4,12 +4,15 @@
 pub use answers::{add_line, answer, begin_line, call_line, replica_line};
 pub use laws::each_answer_has_a_line;
 pub use printed::{CallAnswer, CallReport, DeliveredEntry, Line, LoggedEntry, ReplicaReport};
+pub use printing::put_line;
 pub use refusal::step_refusal_number;
 pub use text::line;
 
 mod answers;
 mod laws;
+mod parts;
 mod printed;
+mod printing;
 mod refusal;
 mod text;
 mod words;

@@ -27,42 +27,49 @@ pub trait Kind {
     ghost place: { ℕ };
 }
 
+/// Answers that a call committed.
 pub struct Committed;
 
 impl Kind for Committed {
     ghost place = { 0 };
 }
 
+/// Answers that a call wrote nothing.
 pub struct Read;
 
 impl Kind for Read {
     ghost place = { 1 };
 }
 
+/// Answers that a call cancelled.
 pub struct Cancelled;
 
 impl Kind for Cancelled {
     ghost place = { 2 };
 }
 
+/// Answers that a call was in conflict.
 pub struct Conflict;
 
 impl Kind for Conflict {
     ghost place = { 3 };
 }
 
+/// Answers that a call was stale.
 pub struct Stale;
 
 impl Kind for Stale {
     ghost place = { 4 };
 }
 
+/// Answers that a call repeats one that committed.
 pub struct Repeated;
 
 impl Kind for Repeated {
     ghost place = { 5 };
 }
 
+/// All other answers.
 pub struct Other;
 
 impl Kind for Other {

@@ -38,12 +38,12 @@ returns-clause-delivered g c =
     (record {
       window = refl;
       position = refl;
-      certified = c.in-Ok.ensures.certified;
-      certifications = c.in-Ok.ensures.entered;
-      kept = c.in-Ok.ensures.kept;
-      same_window = c.in-Ok.ensures.window;
-      installs = c.in-Ok.ensures.installs;
-      refuses = c.in-Ok.ensures.refuses;
+      certified = c.in-Ok.ensures.taken.certified;
+      certifications = c.in-Ok.ensures.taken.entered;
+      kept = c.in-Ok.ensures.taken.kept;
+      same_window = c.take_entry-taken.ensures.window;
+      installs = c.in-Ok.ensures.taken.installs;
+      refuses = c.in-Ok.ensures.taken.refuses;
       pruned = c.drop_unseen-self-inside.ensures.seen;
       horizon = c.drop_unseen-self-inside.ensures.horizon;
     })) in
@@ -54,7 +54,7 @@ returns-clause-delivered g c =
       verdict = search rules;
       log_verdict = λ w past. subst (λ (r : Replica). w.window ≡ r.window → StandsFor w.catalogue r past → AreEntriesOf w (entries_after past e)
           → verdict_of w (items_of (entries_after past e)) (c.self.inside.position + 1) ≡ Some c.in-Ok.certification.verdict) c.self.view_is
-          (delivered_verdict c.replicas_follow_the_log.ensures.next w old past e c.in-Ok.certification c.in-Ok.ensures.certified);
+          (delivered_verdict c.replicas_follow_the_log.ensures.next w old past e c.in-Ok.certification c.in-Ok.ensures.taken.certified);
       log_rows = λ w past window is are.
           c.replicas_follow_the_log.ensures.rows w new (entries_after past e) (c.self.inside.position + 1)
           (window ∙ sym (ap (λ (r : Replica). r.window) c.self.view_is)) (stands w.catalogue past is) are (omega arith) (omega arith);

@@ -1,0 +1,55 @@
+-- Texts that are given one behind the other, and bytes in hex.
+use Rattle.std.proofs.Common.{◌≡◌, ◌∙◌, ℕ, ◌+◌, ◌<◌, ◌/◌, ◌%◌, List, [], ◌∷◌, ◌++◌, take, drop, length, get_or, slice_index, Option, Result, Ok, Err, refl, sym, ap, subst, append_assoc, take-append-drop}
+use Rattle.std.proofs.lemmas.List.{append-nil, take_more}
+use Rattle.hex.specs.Hex.{encode_with, encode_lower, lower_digits}
+use Rattle.byte_output.specs.declared.paged.PagedOutput.{PagedOutput}
+use Rattle.byte_output.specs.Writes.{AppendsBeginning}
+use Rattle.byte_output.specs.Pending.{output_of, pending_of, Passes, Takes}
+use Rattle.byte_output.proofs.WritesLemmas.{AppendsBeginning-more}
+use Rattle.byte_output.proofs.PendingLemmas.{Passes-then, AppendsBeginning-given}
+
+-- ---- bytes in hex
+
+encode_append : (t xs ys : List ℕ) → encode_with t (xs ++ ys) ≡ encode_with t xs ++ encode_with t ys
+unfolding encode_with
+encode_append t [] ys = refl
+encode_append t (x ∷ xs) ys = ap (λ (l : List ℕ). slice_index t (x / 16) ∷ slice_index t (x % 16) ∷ l) (encode_append t xs ys)
+
+-- one byte more
+pub encode_more : (xs : List ℕ) (i x : ℕ) → i < length xs → x ≡ get_or xs i x
+    → encode_lower (take (i + 1) xs) ≡ encode_lower (take i xs) ++ encode_lower (x ∷ [])
+encode_more xs i x lt is =
+    ap encode_lower (take_more xs i x lt ∙ ap (λ (y : ℕ). take i xs ++ y ∷ []) (sym is))
+    ∙ encode_append lower_digits (take i xs) (x ∷ [])
+
+-- the bytes so far, one more, and the others
+pub encode_split : (xs : List ℕ) (i x : ℕ) → i < length xs → x ≡ get_or xs i x
+    → encode_lower xs ≡ encode_lower (take i xs) ++ (encode_lower (x ∷ []) ++ encode_lower (drop (i + 1) xs))
+encode_split xs i x lt is =
+    ap encode_lower (sym (take-append-drop (i + 1) xs)) ∙ encode_append lower_digits (take (i + 1) xs) (drop (i + 1) xs)
+    ∙ ap (λ (l : List ℕ). l ++ encode_lower (drop (i + 1) xs)) (encode_more xs i x lt is)
+    ∙ append_assoc (encode_lower (take i xs)) (encode_lower (x ∷ [])) (encode_lower (drop (i + 1) xs))
+
+-- ---- one text behind the other
+
+-- what is given next, behind what was given
+pub Takes-then : {W T E : Type 0} (contents : W → Option (List ℕ)) (a b c : PagedOutput W) (front text : List ℕ) (result : Result T E)
+    → Passes contents a b front → Takes contents b c result text → Takes contents a c result (front ++ text)
+Takes-then contents a b c front text (Ok x) p q = Passes-then contents a b c front text p q
+Takes-then contents a b c front text (Err e) p q =
+    subst (λ (t : List ℕ). AppendsBeginning (contents (output_of a).now) (contents (output_of c).now) (pending_of a ++ (front ++ t))) (append-nil text)
+    (AppendsBeginning-given contents a b (contents (output_of c).now) front text [] p q)
+
+-- of three texts the first broke off, or the second behind it
+pub first_breaks : (a b : Option (List ℕ)) (pending first second third : List ℕ)
+    → AppendsBeginning a b (pending ++ first) → AppendsBeginning a b (pending ++ ((first ++ second) ++ third))
+first_breaks a b pending first second third p =
+    subst (AppendsBeginning a b) (append_assoc pending first (second ++ third) ∙ ap (λ (t : List ℕ). pending ++ t) (sym (append_assoc first second third)))
+    (AppendsBeginning-more a b (pending ++ first) (second ++ third) p)
+
+pub second_breaks : {W : Type 0} (contents : W → Option (List ℕ)) (a b : PagedOutput W) (c : Option (List ℕ)) (first second third : List ℕ)
+    → Passes contents a b first → AppendsBeginning (contents (output_of b).now) c (pending_of b ++ second)
+    → AppendsBeginning (contents (output_of a).now) c (pending_of a ++ ((first ++ second) ++ third))
+second_breaks contents a b c first second third p q =
+    subst (λ (t : List ℕ). AppendsBeginning (contents (output_of a).now) c (pending_of a ++ t)) (sym (append_assoc first second third))
+    (AppendsBeginning-given contents a b c first second third p q)
