@@ -1,6 +1,8 @@
 -- Texts that are given one behind the other, and bytes in hex.
-use Rattle.std.proofs.Common.{◌≡◌, ◌∙◌, ℕ, ◌+◌, ◌<◌, ◌/◌, ◌%◌, List, [], ◌∷◌, ◌++◌, take, drop, length, get_or, slice_index, Option, Result, Ok, Err, refl, sym, ap, subst, append_assoc, take-append-drop}
+use Rattle.std.proofs.Common.{◌≡◌, ◌∙◌, ℕ, ◌+◌, ◌<◌, ◌/◌, ◌%◌, List, [], ◌∷◌, ◌++◌, take, drop, length, get_or, slice_index, Option, Some, None, Result, Ok, Err, refl, sym, ap, subst, append_assoc, take-append-drop}
 use Rattle.std.proofs.lemmas.List.{append-nil, take_more}
+use Rattle.std.specs.Prelude.{IsOk, OnOk}
+use Rattle.std.specs.Io.KnownBytes.{Appends}
 use Rattle.hex.specs.Hex.{encode_with, encode_lower, lower_digits}
 use Rattle.byte_output.specs.declared.paged.PagedOutput.{PagedOutput}
 use Rattle.byte_output.specs.Writes.{AppendsBeginning}
@@ -16,21 +18,31 @@ encode_append t [] ys = refl
 encode_append t (x ∷ xs) ys = ap (λ (l : List ℕ). slice_index t (x / 16) ∷ slice_index t (x % 16) ∷ l) (encode_append t xs ys)
 
 -- one byte more
-pub encode_more : (xs : List ℕ) (i x : ℕ) → i < length xs → x ≡ get_or xs i x
-    → encode_lower (take (i + 1) xs) ≡ encode_lower (take i xs) ++ encode_lower (x ∷ [])
-encode_more xs i x lt is =
-    ap encode_lower (take_more xs i x lt ∙ ap (λ (y : ℕ). take i xs ++ y ∷ []) (sym is))
-    ∙ encode_append lower_digits (take i xs) (x ∷ [])
+pub encode_more : (xs : List ℕ) (i : ℕ) → i < length xs
+    → encode_lower (take (i + 1) xs) ≡ encode_lower (take i xs) ++ encode_lower (get_or xs i 0 ∷ [])
+encode_more xs i lt = ap encode_lower (take_more xs i 0 lt) ∙ encode_append lower_digits (take i xs) (get_or xs i 0 ∷ [])
 
 -- the bytes so far, one more, and the others
-pub encode_split : (xs : List ℕ) (i x : ℕ) → i < length xs → x ≡ get_or xs i x
-    → encode_lower xs ≡ encode_lower (take i xs) ++ (encode_lower (x ∷ []) ++ encode_lower (drop (i + 1) xs))
-encode_split xs i x lt is =
+pub encode_split : (xs : List ℕ) (i : ℕ) → i < length xs
+    → encode_lower xs ≡ encode_lower (take i xs) ++ (encode_lower (get_or xs i 0 ∷ []) ++ encode_lower (drop (i + 1) xs))
+encode_split xs i lt =
     ap encode_lower (sym (take-append-drop (i + 1) xs)) ∙ encode_append lower_digits (take (i + 1) xs) (drop (i + 1) xs)
-    ∙ ap (λ (l : List ℕ). l ++ encode_lower (drop (i + 1) xs)) (encode_more xs i x lt is)
-    ∙ append_assoc (encode_lower (take i xs)) (encode_lower (x ∷ [])) (encode_lower (drop (i + 1) xs))
+    ∙ ap (λ (l : List ℕ). l ++ encode_lower (drop (i + 1) xs)) (encode_more xs i lt)
+    ∙ append_assoc (encode_lower (take i xs)) (encode_lower (get_or xs i 0 ∷ [])) (encode_lower (drop (i + 1) xs))
+
+-- what an answer without a fault says
+pub told_ok : {T E P : Type 0} (result : Result T E) → IsOk result → OnOk result P → P
+told_ok (Ok x) ok told = told
+told_ok (Err e) ok told = absurd (let apart = ok in cc)
 
 -- ---- one text behind the other
+
+nothing_appended : (o : Option (List ℕ)) → Appends o o []
+nothing_appended None = tt
+nothing_appended (Some x) = sym (append-nil x)
+
+pub nothing_given : {W : Type 0} (contents : W → Option (List ℕ)) (a : PagedOutput W) → Passes contents a a []
+nothing_given contents a = ([], append-nil (pending_of a), nothing_appended (contents (output_of a).now))
 
 -- what is given next, behind what was given
 pub Takes-then : {W T E : Type 0} (contents : W → Option (List ℕ)) (a b c : PagedOutput W) (front text : List ℕ) (result : Result T E)

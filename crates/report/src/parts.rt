@@ -16,7 +16,7 @@ use tallies::Counts;
 
 /// What a line is made of: words, bytes that stand in hex behind them, and the rest, with the LF at its end.
 #[derive(Drop)]
-pub(crate) struct Parts<'a> {
+pub(crate) struct LineParts<'a> {
     pub(crate) words: LineBuffer,
     pub(crate) bytes: &'a [u8],
     pub(crate) rest: LineBuffer,
@@ -24,7 +24,7 @@ pub(crate) struct Parts<'a> {
 
 /// What a line is made of.
 #[tactic(auto, unfolding(crate::specs::Lines::line_words))]
-pub(crate) fn parts<'a>(line: &Line<'a>) -> Parts<'a>
+pub(crate) fn parts<'a>(line: &Line<'a>) -> LineParts<'a>
     ensures { (result.words.items ++ encode_lower result.bytes.now) ++ result.rest.items ≡ line_text line.now }
 {
     match line {
@@ -77,17 +77,17 @@ fn end() -> LineBuffer
 
 /// A line that these words are.
 #[tactic(auto, unfolding(hex::specs::Hex::encode_with))]
-fn plain(words: LineBuffer) -> Parts<'static>
+fn plain(words: LineBuffer) -> LineParts<'static>
     ensures { (result.words.items ++ encode_lower result.bytes.now) ++ result.rest.items ≡ words.items ++ codes "\n" }
 {
-    Parts {
+    LineParts {
         words,
         bytes: &[],
         rest: end(),
     }
 }
 
-fn row<'a>(table: u8, key: u64, bytes: &'a [u8]) -> Parts<'a>
+fn row<'a>(table: u8, key: u64, bytes: &'a [u8]) -> LineParts<'a>
     ensures { (result.words.items ++ encode_lower result.bytes.now) ++ result.rest.items
         ≡ (right_in 2 (decimal table) ++ codes " " ++ right_in 20 (decimal key) ++ codes " ") ++ encode_lower bytes.now
         ++ codes "\n" }
@@ -97,21 +97,21 @@ fn row<'a>(table: u8, key: u64, bytes: &'a [u8]) -> Parts<'a>
     push(&mut words, b" ");
     push_column(&mut words, 20, key);
     push(&mut words, b" ");
-    Parts {
+    LineParts {
         words,
         bytes,
         rest: end(),
     }
 }
 
-fn entry<'a>(position: u32, bytes: &'a [u8]) -> Parts<'a>
+fn entry<'a>(position: u32, bytes: &'a [u8]) -> LineParts<'a>
     ensures { (result.words.items ++ encode_lower result.bytes.now) ++ result.rest.items
         ≡ (codes "entry " ++ decimal position ++ codes " ") ++ encode_lower bytes.now ++ codes "\n" }
 {
     let mut words = LineBuffer::new();
     push_unsigned(&mut words, "entry ", u64::from(position));
     push(&mut words, b" ");
-    Parts {
+    LineParts {
         words,
         bytes,
         rest: end(),
@@ -120,11 +120,11 @@ fn entry<'a>(position: u32, bytes: &'a [u8]) -> Parts<'a>
 
 /// The line of all counts, which is longer than words that are built in place.
 #[tactic(auto, unfolding(hex::specs::Hex::encode_with))]
-fn totals(counts: Counts) -> Parts<'static>
+fn totals(counts: Counts) -> LineParts<'static>
     ensures { (result.words.items ++ encode_lower result.bytes.now) ++ result.rest.items
         ≡ totals_words counts ++ codes "\n" }
 {
-    Parts {
+    LineParts {
         words: first_totals(counts),
         bytes: &[],
         rest: other_totals(counts),

@@ -1,11 +1,11 @@
 //! Lines that are given to an output without memory.
 
-ghost use Rattle.std.specs.Prelude.{◌≡◌};
+ghost use Rattle.std.specs.Prelude.{◌≡◌, [], OnErr};
 ghost use Rattle.hex.specs.Hex.{encode_lower};
-ghost use Rattle.byte_output.specs.Pending.{output_of, Takes};
+ghost use Rattle.byte_output.specs.Pending.{output_of, pending_of, Takes};
 ghost use Rattle.report.specs.Lines.{line_text};
 
-use crate::parts::{Parts, parts};
+use crate::parts::{LineParts, parts};
 use crate::printed::Line;
 use byte_output::paged::PagedOutput;
 use std::io;
@@ -15,8 +15,9 @@ use std::io::Write;
 pub fn put_line<W: Write>(output: &mut PagedOutput<'_, W>, line: &Line) -> io::Result<()>
     ensures same_output { (output_of output.new).ghost_name ≡ (output_of output.old).ghost_name }
     ensures bytes { Takes W.contents output.old output.new result (line_text line.now) }
+    ensures given_up { OnErr result (pending_of output.new ≡ []) }
 {
-    let Parts { words, bytes, rest } = parts(line);
+    let LineParts { words, bytes, rest } = parts(line);
     output.put(&words)?;
     put_hex(output, bytes)?;
     output.put(&rest)
@@ -26,6 +27,7 @@ pub fn put_line<W: Write>(output: &mut PagedOutput<'_, W>, line: &Line) -> io::R
 fn put_hex<W: Write>(output: &mut PagedOutput<'_, W>, bytes: &[u8]) -> io::Result<()>
     ensures same_output { (output_of output.new).ghost_name ≡ (output_of output.old).ghost_name }
     ensures bytes { Takes W.contents output.old output.new result (encode_lower bytes.now) }
+    ensures given_up { OnErr result (pending_of output.new ≡ []) }
 {
     for byte in bytes {
         let mut digits = [0u8; 2];

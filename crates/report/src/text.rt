@@ -3,7 +3,7 @@
 ghost use Rattle.std.specs.Prelude.{◌≡◌, IfOk};
 ghost use Rattle.report.specs.Lines.{line_text};
 
-use crate::parts::{Parts, parts};
+use crate::parts::{LineParts, parts};
 use crate::printed::Line;
 use std::alloc::{AllocError, Allocator};
 
@@ -11,7 +11,7 @@ use std::alloc::{AllocError, Allocator};
 pub fn line<A: Allocator + Copy>(alloc: A, line: &Line) -> Result<Vec<u8, A>, AllocError>
     ensures { IfOk result (λ text. text.items ≡ line_text line.now) }
 {
-    let Parts { words, bytes, rest } = parts(line);
+    let LineParts { words, bytes, rest } = parts(line);
     let digits = hex::encode(alloc, bytes)?;
     let mut text = Vec::with_capacity(alloc, words.len() + digits.len() + rest.len())?;
     text.extend_from_slice(&words)?;

@@ -86,7 +86,7 @@ fn short_writes_go_on_and_failures_leave_a_beginning(rt: HostRuntime) {
 
 #[test]
 fn a_line_has_its_labels_and_numbers(rt: HostRuntime) {
-    let mut line = line::Line::new();
+    let mut line = line::LineBuffer::new();
     line::push(&mut line, b"a");
     line::push_unsigned(&mut line, " b ", 18446744073709551615);
     line::push_signed(&mut line, " c ", -2147483648);
