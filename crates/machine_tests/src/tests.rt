@@ -10,6 +10,7 @@ use schema::{Look, Schema};
 use std::alloc::{Allocator, Global};
 use std::fmt::{Debug, Write as _};
 use std::process::Abort;
+use test_programs::bytes_of;
 use txn_view::View;
 
 mod procedures;
@@ -25,16 +26,6 @@ const NEVER: u32 = u32::MAX;
 /// comparisons in one function beside values to be dropped takes long.
 fn same<T: PartialEq + Debug + Copy>(rt: &impl Abort, case: &str, found: T, wanted: T) {
     assert_eq!(rt; found, wanted, "{case}");
-}
-
-/// The bytes of a program in hex.
-fn bytes_of(rt: &impl Abort, alloc: Global, hex: &str) -> Vec<u8> {
-    let mut bytes = Vec::new(alloc);
-    for slot in hex.split_whitespace() {
-        let slot = hex::decode(alloc, slot).expect(rt, "hex");
-        bytes.extend_from_slice(&slot).expect(rt, "memory");
-    }
-    bytes
 }
 
 /// A procedure that the verifier accepts, on arguments of so many bytes.
@@ -63,7 +54,8 @@ fn procedure_of(
     words: &[u64],
 ) -> (Accepted, Vec<u8>) {
     let args = args_of(rt, alloc, words);
-    let procedure = accepted(rt, alloc, &bytes_of(rt, alloc, program), args.len());
+    let program = bytes_of(alloc, program).expect(rt, program);
+    let procedure = accepted(rt, alloc, &program, args.len());
     (procedure, args)
 }
 

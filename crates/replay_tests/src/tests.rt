@@ -43,10 +43,12 @@ fn addition_of(
     alloc: Global,
     name: &str,
     number: u16,
-    hex: &str,
+    program: &str,
     words: usize,
 ) -> PlainItem {
-    let procedure = procedure_of(alloc, name.as_bytes(), number, hex, words).expect(rt, "memory");
+    let procedure = procedure_of(alloc, name.as_bytes(), number, program, words).expect(
+        rt, "memory",
+    );
     PlainItem {
         kind: PlainItemKind::Addition(procedure),
     }
@@ -55,8 +57,8 @@ fn addition_of(
 fn item_of(rt: &impl Abort, alloc: Global, item: &ItemCase) -> PlainItem {
     let (mut session, mut sequence) = (0, 0);
     let (procedure, words, snapshot) = match item {
-        ItemCase::Addition(name, number, hex, words) => {
-            return addition_of(rt, alloc, name, *number, hex, *words);
+        ItemCase::Addition(name, number, program, words) => {
+            return addition_of(rt, alloc, name, *number, program, *words);
         }
         ItemCase::Call(procedure, words, snapshot) => (procedure, words, snapshot),
         ItemCase::Numbered(procedure, words, snapshot, first, second) => {

@@ -5,15 +5,14 @@ use schema::Schema;
 use std::alloc::{Allocator, Global};
 use test_procedures::{ONE, bytes_of, digit_of};
 
-/// A program in hex that takes so many words, as it is accepted. None, here and below, where memory is wanting or it
-/// isn't.
+/// A program that takes so many words, as it is accepted. None, here and below, where memory is wanting or it isn't.
 pub(crate) fn accepted_of<A: Allocator + Copy>(
     alloc: A,
     schema: &Schema<A>,
-    hex: &str,
+    program: &str,
     words: usize,
 ) -> Option<Accepted<A, A>> {
-    let code = decode(alloc, &bytes_of(alloc, hex)?).ok()?;
+    let code = decode(alloc, &bytes_of(alloc, program)?).ok()?;
     let args_len = u16::try_from(words).unwrap_or(0).wrapping_mul(8);
     verify(alloc, code, schema, args_len.min(256)).ok()
 }
@@ -22,10 +21,10 @@ fn add_to<A: Allocator + Copy>(
     alloc: A,
     catalogue: &mut Catalogue<A>,
     number: u16,
-    hex: &str,
+    program: &str,
     words: usize,
 ) -> Option<()> {
-    let accepted = accepted_of(alloc, catalogue.schema(), hex, words)?;
+    let accepted = accepted_of(alloc, catalogue.schema(), program, words)?;
     catalogue.add(&digit_of(number), number, accepted).ok()
 }
 
@@ -38,8 +37,8 @@ pub fn catalogue_of<A: Allocator + Copy>(
 ) -> Option<Catalogue<A>> {
     let schema = Schema::new(alloc, tables).ok()?;
     let mut catalogue = Catalogue::new(alloc, schema);
-    for (number, hex, words) in procedures {
-        add_to(alloc, &mut catalogue, *number, hex, *words)?;
+    for (number, program, words) in procedures {
+        add_to(alloc, &mut catalogue, *number, program, *words)?;
     }
     Some(catalogue)
 }

@@ -48,16 +48,16 @@ fn fill(
     }
 }
 
-/// An addition of a program in hex that takes so many words.
+/// An addition of a program that takes so many words.
 pub fn addition_of(
     alloc: Global,
     schema: &Schema,
     name: &[u8],
     number: u16,
-    hex: &str,
+    program: &str,
     words: usize,
 ) -> Option<Entry> {
-    let accepted = accepted_of(alloc, schema, hex, words)?;
+    let accepted = accepted_of(alloc, schema, program, words)?;
     let accepted = Arc::new(alloc, accepted).ok()?;
     let name = Vec::from_slice(alloc, name).ok()?;
     Some(Entry::Addition(AddedProcedure {

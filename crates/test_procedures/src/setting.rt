@@ -4,22 +4,14 @@ use crate::programs::PROCEDURES;
 use bpf_code::decode;
 use plain_replayer::{PlainProcedure, PlainSetting};
 use schema::Schema;
-use std::alloc::{Allocator, Global};
+use std::alloc::Global;
+use test_programs::bytes_of;
 
 /// Table 1 has rows of 8 bytes.
 pub const TABLES: [(u8, u16); 1] = [(1, 8)];
 
-/// The bytes of a program in hex. None, here and below, where memory is wanting or the program is none.
-pub fn bytes_of<A: Allocator + Copy>(alloc: A, hex: &str) -> Option<Vec<u8, A>> {
-    let mut bytes = Vec::new(alloc);
-    for slot in hex.split_whitespace() {
-        let slot = hex::decode(alloc, slot).ok()?;
-        bytes.extend_from_slice(&slot).ok()?;
-    }
-    Some(bytes)
-}
-
-/// The words as an argument block, each least byte first.
+/// The words as an argument block, each least byte first. None, here and below, where memory is wanting or the program
+/// is none.
 pub fn args_of(alloc: Global, words: &[u64]) -> Option<Vec<u8>> {
     let mut args = Vec::new(alloc);
     for word in words {
@@ -38,10 +30,10 @@ pub fn procedure_of(
     alloc: Global,
     name: &[u8],
     number: u16,
-    hex: &str,
+    program: &str,
     words: usize,
 ) -> Option<PlainProcedure> {
-    let code = decode(alloc, &bytes_of(alloc, hex)?).ok()?;
+    let code = decode(alloc, &bytes_of(alloc, program)?).ok()?;
     let args_len = u16::try_from(words).unwrap_or(0).wrapping_mul(8);
     let name = Vec::from_slice(alloc, name).ok()?;
     Some(PlainProcedure::new(name, number, code, args_len))
@@ -50,9 +42,9 @@ pub fn procedure_of(
 /// All of them, each with its digit as its name, under a window.
 pub fn setting_of(alloc: Global, window: u32) -> Option<PlainSetting> {
     let mut catalogue = Vec::new(alloc);
-    for (number, hex, words) in &PROCEDURES {
+    for (number, program, words) in &PROCEDURES {
         let name = digit_of(*number);
-        let procedure = procedure_of(alloc, &name, *number, hex, *words)?;
+        let procedure = procedure_of(alloc, &name, *number, program, *words)?;
         catalogue.push(procedure).ok()?;
     }
     let schema = Schema::new(alloc, &TABLES).ok()?;

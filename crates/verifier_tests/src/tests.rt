@@ -6,13 +6,12 @@ use schema::Schema;
 use std::alloc::Global;
 use std::fmt::Debug;
 use std::process::Abort;
+use test_programs::{ONE, SKIP, STORE_WITHIN, bytes_of};
 
 mod bounds;
 mod programs;
 mod ranges;
 mod refinements;
-
-use programs::{CAUSES, PROGRAMS};
 
 /// Asserts that a value is the one that is wanted. It stands in a function of its own, since a proof of many
 /// comparisons in one function beside values to be dropped takes long.
@@ -20,25 +19,18 @@ fn same<T: PartialEq + Debug + Copy>(rt: &impl Abort, case: &str, found: T, want
     assert_eq!(rt; found, wanted, "{case}");
 }
 
-/// A program in hex, how many bytes its arguments have, the tables, and what the verifier, or the decoder before it,
-/// says.
+/// What a case shows, a program, how many bytes its arguments have, the tables, and what the verifier, or the decoder
+/// before it, says.
 struct Case {
+    name: &'static str,
     program: &'static str,
     args_len: u16,
     tables: &'static [(u8, u16)],
     verdict: &'static str,
 }
 
-/// The bytes of a program in hex.
-fn bytes_of(rt: &impl Abort, alloc: Global, hex: &str) -> Vec<u8> {
-    let mut bytes = Vec::new(alloc);
-    for slot in hex.split_whitespace() {
-        bytes
-            .extend_from_slice(&hex::decode(alloc, slot).expect(rt, "the program"))
-            .expect(rt, "memory");
-    }
-    bytes
-}
+/// A small program, how many bytes its arguments have, and what is said of it where table 1 has rows of 8 bytes.
+type Cause = (&'static str, u16, &'static str);
 
 /// What is said of a program, in a line.
 fn verdict(
@@ -65,24 +57,51 @@ fn verdict(
 
 /// Asserts what is said of a case.
 fn is_said(rt: &impl Abort, alloc: Global, case: &Case) {
-    let bytes = bytes_of(rt, alloc, case.program);
+    let bytes = bytes_of(alloc, case.program).expect(rt, case.name);
     let text = verdict(rt, alloc, &bytes, case.args_len, case.tables);
-    let said = (case.program, case.args_len, text.as_str());
-    same(
-        rt,
-        "program, length, verdict",
-        said,
-        (case.program, case.args_len, case.verdict),
-    );
+    same(rt, case.name, text.as_str(), case.verdict);
 }
 
 #[test]
 fn programs_are_accepted_or_refused(rt: HostRuntime) {
-    for case in &PROGRAMS {
-        is_said(&rt, rt.alloc(), case);
+    for cases in [
+        &programs::OF_ROWS[..],
+        &programs::JUMPS,
+        &programs::PLACES,
+        &programs::NO_PROGRAMS,
+    ] {
+        for case in cases {
+            is_said(&rt, rt.alloc(), case);
+        }
     }
-    for case in &CAUSES {
-        is_said(&rt, rt.alloc(), case);
+}
+
+fn has_cause(rt: &impl Abort, alloc: Global, cause: &Cause) {
+    let (program, args_len, expected) = *cause;
+    let bytes = bytes_of(alloc, program).expect(rt, program);
+    let text = verdict(rt, alloc, &bytes, args_len, &[(1, 8)]);
+    same(rt, program, (args_len, text.as_str()), (args_len, expected));
+}
+
+/// Each cause by a small program, alone and beside others, the lowest of which is given.
+#[test]
+fn causes_are_given(rt: HostRuntime) {
+    for causes in [
+        &programs::HOLDS_NOTHING[..],
+        &programs::HOLDS_NOTHING_IN_MEMORY,
+        &programs::STACK_END_WRITTEN,
+        &programs::NOT_A_NUMBER,
+        &programs::TOO_FAR,
+        &programs::OUTSIDE,
+        &programs::NOT_WRITTEN,
+        &programs::HELPERS_AND_TABLES,
+        &programs::KEYS_AND_BUFFERS,
+        &programs::REPLIES_AND_ARGUMENTS,
+        &programs::LOWEST,
+    ] {
+        for cause in causes {
+            has_cause(&rt, rt.alloc(), cause);
+        }
     }
 }
 
@@ -129,11 +148,9 @@ fn the_longest_programs_are_verified(rt: HostRuntime) {
     }
 }
 
-/// Replies 1.
-const ONE: &str = "b700000001000000 9500000000000000";
-
 fn code_of(rt: &impl Abort, alloc: Global, program: &str) -> Code {
-    decode(alloc, &bytes_of(rt, alloc, program)).expect(rt, "the program")
+    let bytes = bytes_of(alloc, program).expect(rt, "the bytes");
+    decode(alloc, &bytes).expect(rt, "the program")
 }
 
 fn is_as_given(rt: &impl Abort, accepted: &Accepted, schema: &Schema) {
@@ -172,17 +189,11 @@ fn each_refused_growth_is_want_of_memory(rt: HostRuntime) {
     }
 }
 
-const STORES: &str =
-    "7112000000000000 5702000007000000 bfa3000000000000 0f23000000000000 7a0af8ff00000000 \
-    7203f8ff01000000 71a0f8ff00000000 9500000000000000";
-
-const SKIPS: &str = "b700000001000000 1500010001000000 bf60000000000000 9500000000000000";
-
 /// Programs, their one byte of arguments, what they reply, and in how many steps.
 static REPLIES: [(&str, u8, u64, usize); 3] = [
-    (STORES, 0, 1, 8),
-    (STORES, 3, 0, 8),
-    (SKIPS, 0, 1, 3),
+    (STORE_WITHIN, 0, 1, 8),
+    (STORE_WITHIN, 3, 0, 8),
+    (SKIP, 0, 1, 3),
 ];
 
 /// The reply and the steps of a run without rows.

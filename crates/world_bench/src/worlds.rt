@@ -8,15 +8,10 @@ use dsm_world::World;
 use log_model::Verdict;
 use schema::Schema;
 use std::alloc::Global;
-use test_procedures::{ADD, TABLES};
+use test_procedures::{ADD, TABLES, bytes_of};
 
 fn catalogue_of(alloc: Global) -> Option<Catalogue> {
-    let mut bytes = Vec::new(alloc);
-    for slot in ADD.split_whitespace() {
-        let slot = hex::decode(alloc, slot).ok()?;
-        bytes.extend_from_slice(&slot).ok()?;
-    }
-    let code = decode(alloc, &bytes).ok()?;
+    let code = decode(alloc, &bytes_of(alloc, ADD)?).ok()?;
     let schema = Schema::new(alloc, &TABLES).ok()?;
     let accepted = verify(alloc, code, &schema, 16).ok()?;
     let mut catalogue = Catalogue::new(alloc, schema);

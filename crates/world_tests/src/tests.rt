@@ -1,18 +1,10 @@
-use test_procedures::{ADD, COUNT, DELETE, NEXT, PUT, SKEW};
+use test_programs::{ADD, COUNT, DELETE, NEXT, PUT, PUT_AND_CANCEL, READ, SKEW};
 
 mod drawn;
 mod events;
 mod replayed;
 
-/// Replies the row at a key, and writes nothing.
-const READ: &str = "7916000000000000 b701000001000000 bf62000000000000 bfa3000000000000 \
-    07030000f8ffffff 8500000001000000 79a0f8ff00000000 9500000000000000";
-
-/// Puts a value at a key, and cancels with `CANCEL_CODE`.
-const CANCEL: &str = "7912000000000000 7914080000000000 7b4af8ff00000000 bfa3000000000000 \
-    07030000f8ffffff b701000001000000 8500000002000000 b701000009000000 \
-    8500000006000000 9500000000000000";
-
+/// With what `PUT_AND_CANCEL` cancels.
 const CANCEL_CODE: u64 = 9;
 
 /// The procedures of the catalogue: their numbers, each with its program and how many words it takes. The last two are never
@@ -25,7 +17,7 @@ static PROCEDURES: [(u16, &str, usize); 8] = [
     (5, NEXT, 3),
     (6, DELETE, 1),
     (8, READ, 1),
-    (9, CANCEL, 2),
+    (9, PUT_AND_CANCEL, 2),
 ];
 
 const READ_PLACE: usize = 6;

@@ -1,4 +1,4 @@
-use super::{bytes_of, same};
+use super::same;
 use bpf_code::{Code, decode};
 use bpf_list::{listing, put_listing};
 use byte_output::paged::PagedOutput;
@@ -6,6 +6,10 @@ use std::alloc::Global;
 use std::io;
 use std::io::{ErrorKind, Write};
 use std::process::Abort;
+use test_programs::{
+    ADD, COUNT, DELETE, INCREMENT, INDEX, INDEX_TOO_FAR, JUMP_ON, NEXT, ONE, PUT, PUT_AND_CANCEL,
+    PUT_AND_GET, PUT_AND_STICK, READ, SKEW, SKIP, STACK_WORD, STORE_WITHIN, TRANSFER, bytes_of,
+};
 
 /// The first slot of a program that EXIT follows, and how its line goes on: one for each opcode and
 /// each value that changes the name.
@@ -163,7 +167,7 @@ fn is_listed(rt: &impl Abort, alloc: Global, program: &[u8], expected: &str) {
 /// The first slot of the row's program, and EXIT.
 fn program_of(rt: &impl Abort, alloc: Global, row: &str) -> Vec<u8> {
     let digits = row.split_whitespace().next().expect(rt, "sixteen digits");
-    let mut program = bytes_of(rt, alloc, digits);
+    let mut program = bytes_of(alloc, digits).expect(rt, digits);
     program.extend_from_slice(&EXIT).expect(rt, "the exit");
     program
 }
@@ -192,6 +196,41 @@ fn a_wide_load_is_one_line(rt: HostRuntime) {
     let expected =
         "   0 18000000010000000000000002000000 lddw dst 0 src 0 off 0 imm 8589934593\n   2 9500000000000000 exit dst 0 src 0 off 0 imm 0\n";
     is_listed(&rt, rt.alloc(), &WIDE, expected);
+}
+
+/// The test programs.
+static PROGRAMS: [&str; 19] = [
+    ADD,
+    SKEW,
+    PUT,
+    COUNT,
+    NEXT,
+    DELETE,
+    READ,
+    PUT_AND_GET,
+    PUT_AND_CANCEL,
+    PUT_AND_STICK,
+    INCREMENT,
+    TRANSFER,
+    ONE,
+    JUMP_ON,
+    SKIP,
+    INDEX,
+    INDEX_TOO_FAR,
+    STORE_WITHIN,
+    STACK_WORD,
+];
+
+fn is_its_own_listing(rt: &impl Abort, alloc: Global, program: &str) {
+    let bytes = bytes_of(alloc, program).expect(rt, program);
+    is_listed(rt, alloc, &bytes, program.trim_start_matches('\n'));
+}
+
+#[test]
+fn test_programs_are_their_listings(rt: HostRuntime) {
+    for program in &PROGRAMS {
+        is_its_own_listing(&rt, rt.alloc(), program);
+    }
 }
 
 /// Takes so many bytes, then fails.

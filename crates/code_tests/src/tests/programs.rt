@@ -1,5 +1,5 @@
 // What no clause says: that the definitions are the format's, what is printed, and that each call succeeds.
-use super::{bytes_of, same};
+use super::same;
 use bpf_code::{
     Code, DecodeCause, DecodeFault, Instruction, Opcode, Register, SignExtendingMove, Size, Source,
     Uses, Width, decode, encode,
@@ -8,6 +8,7 @@ use bpf_words::{BinaryOperation, ByteOrder, Condition, EndWidth};
 use scarce::Scarce;
 use std::alloc::Global;
 use std::process::Abort;
+use test_programs::{ADD, bytes_of};
 
 // A row has opcodes in hex, what they are, with `_` for each one's name, the names, the fields that they use, and the
 // seven bytes behind the opcode in one slot that is defined. The source of a wide load and of a call counts as used: it
@@ -151,12 +152,6 @@ static VALUES: &str =
 
 static EXIT: &str = "9500000000000000";
 
-// Adds a number to a row's.
-static ADD: &str =
-    "7916000000000000 7917080000000000 b701000001000000 bf62000000000000 bfa3000000000000 \
-    07030000f8ffffff 8500000001000000 79a8f8ff00000000 0f78000000000000 7b8af8ff00000000 b701000001000000 \
-    bf62000000000000 bfa3000000000000 07030000f8ffffff 8500000002000000 bf80000000000000 9500000000000000";
-
 static FAULTS: [[&str; 2]; 61] = [
     ["B1 slot 0", ""],
     ["B1 slot 0", "95000000000000"],
@@ -276,7 +271,7 @@ fn is_printed_as(rt: &impl Abort, alloc: Global, fault: DecodeFault, expected: &
 }
 
 fn is_faulty(rt: &impl Abort, alloc: Global, expected: &str, text: &str) {
-    let bytes = bytes_of(rt, alloc, text);
+    let bytes = bytes_of(alloc, text).expect(rt, text);
     let fault = fault_of(alloc, &bytes).expect(rt, text);
     is_printed_as(rt, alloc, fault, expected);
 }
@@ -295,7 +290,7 @@ fn append(rt: &impl Abort, bytes: &mut Vec<u8>, more: &[u8]) {
 }
 
 fn exits(rt: &impl Abort, alloc: Global, count: usize) -> Vec<u8> {
-    let exit = bytes_of(rt, alloc, EXIT);
+    let exit = bytes_of(alloc, EXIT).expect(rt, EXIT);
     let mut bytes = Vec::new(alloc);
     for _ in 0..count {
         append(rt, &mut bytes, &exit);
@@ -363,7 +358,7 @@ fn are_known_or_refused(rt: &impl Abort, alloc: Global, known: &[u8]) {
 fn opcodes(rt: HostRuntime) {
     let mut known = Vec::new(rt.alloc());
     for row in &OPCODES {
-        let bytes = bytes_of(&rt, rt.alloc(), row[0]);
+        let bytes = bytes_of(rt.alloc(), row[0]).expect(&rt, row[0]);
         has_opcodes(&rt, rt.alloc(), row, &bytes);
         append(&rt, &mut known, &bytes);
     }
@@ -393,15 +388,16 @@ fn append_row(rt: &impl Abort, all: &mut Vec<u8>, opcodes: &[u8], rest: &[u8]) {
 
 #[test]
 fn bytes_come_back(rt: HostRuntime) {
-    let mut bytes = bytes_of(&rt, rt.alloc(), VALUES);
+    let mut bytes = bytes_of(rt.alloc(), VALUES).expect(&rt, VALUES);
     for row in &OPCODES {
-        let opcodes = bytes_of(&rt, rt.alloc(), row[0]);
-        let rest = bytes_of(&rt, rt.alloc(), row[4]);
+        let opcodes = bytes_of(rt.alloc(), row[0]).expect(&rt, row[0]);
+        let rest = bytes_of(rt.alloc(), row[4]).expect(&rt, row[4]);
         append_row(&rt, &mut bytes, &opcodes, &rest);
     }
     // the values, the opcodes and the second half of the wide load
     come_back(&rt, rt.alloc(), &bytes, 19 + 117 + 1);
-    come_back(&rt, rt.alloc(), &bytes_of(&rt, rt.alloc(), ADD), 17);
+    let add = bytes_of(rt.alloc(), ADD).expect(&rt, ADD);
+    come_back(&rt, rt.alloc(), &add, 17);
 }
 
 // A comparison, moves, stores, a byte swap and both jumps, then the wide load of 0x2_0000_0001.
@@ -452,7 +448,8 @@ static INSTRUCTIONS: [Option<Instruction>; 11] = [
 
 #[test]
 fn instructions(rt: HostRuntime) {
-    let code = code_of(&rt, rt.alloc(), &bytes_of(&rt, rt.alloc(), LISTED));
+    let bytes = bytes_of(rt.alloc(), LISTED).expect(&rt, LISTED);
+    let code = code_of(&rt, rt.alloc(), &bytes);
     same(&rt, "slots", code.slots(), 10);
     for (slot, instruction) in INSTRUCTIONS.iter().enumerate() {
         same(
@@ -492,7 +489,7 @@ fn is_encoded(rt: &impl Abort, scarce: &Scarce, code: &Code, bytes: &[u8]) -> bo
 // Each makes one growth in the call that is refused it, and one in the other.
 #[test]
 fn refused_growths(rt: HostRuntime) {
-    let bytes = bytes_of(&rt, rt.alloc(), ADD);
+    let bytes = bytes_of(rt.alloc(), ADD).expect(&rt, ADD);
     let scarce = Scarce::new(rt.alloc());
     let refused = scarce.refuse_each(|| is_decoded(&rt, &scarce, &bytes));
     same(&rt, "decoding", (refused, scarce.growths()), (Some(1), 2));

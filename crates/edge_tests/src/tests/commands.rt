@@ -4,6 +4,7 @@ use std::alloc::Global;
 use std::io;
 use std::io::{ErrorKind, Read, Write};
 use std::process::Abort;
+use test_programs::{ADD, bytes_of};
 
 const EXIT: [u8; 8] = [0x95, 0, 0, 0, 0, 0, 0, 0];
 
@@ -206,38 +207,6 @@ fn each_growth_refused_answers_3(rt: HostRuntime) {
     assert_eq!(rt; failed, Some(2));
 }
 
-/// Adds to the row of table 1 at the key that the arguments begin with the number behind it.
-const ADD: [u64; 17] = [
-    0x7916_0000_0000_0000,
-    0x7917_0800_0000_0000,
-    0xb701_0000_0100_0000,
-    0xbf62_0000_0000_0000,
-    0xbfa3_0000_0000_0000,
-    0x0703_0000_f8ff_ffff,
-    0x8500_0000_0100_0000,
-    0x79a8_f8ff_0000_0000,
-    0x0f78_0000_0000_0000,
-    0x7b8a_f8ff_0000_0000,
-    0xb701_0000_0100_0000,
-    0xbf62_0000_0000_0000,
-    0xbfa3_0000_0000_0000,
-    0x0703_0000_f8ff_ffff,
-    0x8500_0000_0200_0000,
-    0xbf80_0000_0000_0000,
-    0x9500_0000_0000_0000,
-];
-
-/// The bytes of slots that are written as they stand in a file.
-fn bytes_of(rt: &impl Abort, alloc: Global, slots: &[u64]) -> Vec<u8> {
-    let mut bytes = Vec::new(alloc);
-    for slot in slots {
-        bytes
-            .extend_from_slice(&slot.to_be_bytes())
-            .expect(rt, "memory");
-    }
-    bytes
-}
-
 /// The exit status of a check, and what the output then holds.
 fn checked(
     rt: &impl Abort,
@@ -262,36 +231,31 @@ fn checked(
 }
 
 /// A jump into the second half of a wide load.
-const INTO_LOAD: [u64; 4] = [
-    0x0500_0100_0000_0000,
-    0x1800_0000_0100_0000,
-    0,
-    0x9500_0000_0000_0000,
-];
+const INTO_LOAD: &str = "0500010000000000 1800000001000000 0000000000000000 9500000000000000";
 
-/// Slots, how many bytes the arguments have, the tables, the exit status and the line.
-type Check = (&'static [u64], u16, &'static [(u8, u16)], u8, &'static str);
+/// A program, how many bytes the arguments have, the tables, the exit status and the line.
+type Check = (&'static str, u16, &'static [(u8, u16)], u8, &'static str);
 
 const CHECKS: [Check; 12] = [
-    (&ADD, 16, &[(1, 8)], 0, "accepted slots 17 bound 17\n"),
+    (ADD, 16, &[(1, 8)], 0, "accepted slots 17 bound 17\n"),
     (
-        &ADD,
+        ADD,
         256,
         &[(64, 128), (1, 8)],
         0,
         "accepted slots 17 bound 17\n",
     ),
-    (&ADD, 8, &[(1, 8)], 1, "refused V4 slot 1\n"),
-    (&ADD, 16, &[(1, 16)], 1, "refused V9 slot 6\n"),
-    (&ADD, 16, &[(2, 8)], 1, "refused V7 slot 6\n"),
-    (&ADD, 16, &[], 1, "refused V7 slot 6\n"),
-    (&INTO_LOAD, 0, &[], 1, "refused B10 slot 0\n"),
-    (&[], 0, &[], 1, "refused B1 slot 0\n"),
+    (ADD, 8, &[(1, 8)], 1, "refused V4 slot 1\n"),
+    (ADD, 16, &[(1, 16)], 1, "refused V9 slot 6\n"),
+    (ADD, 16, &[(2, 8)], 1, "refused V7 slot 6\n"),
+    (ADD, 16, &[], 1, "refused V7 slot 6\n"),
+    (INTO_LOAD, 0, &[], 1, "refused B10 slot 0\n"),
+    ("", 0, &[], 1, "refused B1 slot 0\n"),
     // The schema's fault comes before the program's.
-    (&ADD, 16, &[(1, 8), (1, 8)], 1, "refused S3\n"),
-    (&[], 0, &[(1, 8), (0, 8)], 1, "refused S1\n"),
-    (&[], 0, &[(65, 8)], 1, "refused S1\n"),
-    (&[], 0, &[(1, 129), (1, 8)], 1, "refused S2\n"),
+    (ADD, 16, &[(1, 8), (1, 8)], 1, "refused S3\n"),
+    ("", 0, &[(1, 8), (0, 8)], 1, "refused S1\n"),
+    ("", 0, &[(65, 8)], 1, "refused S1\n"),
+    ("", 0, &[(1, 129), (1, 8)], 1, "refused S2\n"),
 ];
 
 /// Whether a check over an output answers this status, and leaves this there.
@@ -330,7 +294,7 @@ fn try_check(rt: &impl Abort, alloc: Global, bytes: &[u8], check: &Check) {
 #[test]
 fn a_program_is_accepted_or_refused(rt: HostRuntime) {
     for check in &CHECKS {
-        let bytes = bytes_of(&rt, rt.alloc(), check.0);
+        let bytes = bytes_of(rt.alloc(), check.0).expect(&rt, check.4);
         try_check(&rt, rt.alloc(), &bytes, check);
     }
 }
@@ -338,7 +302,7 @@ fn a_program_is_accepted_or_refused(rt: HostRuntime) {
 /// An input that fails, and each growth refused in turn: nothing is printed, and a fault is told.
 #[test]
 fn a_check_that_fails_answers_3(rt: HostRuntime) {
-    let bytes = bytes_of(&rt, rt.alloc(), &ADD);
+    let bytes = bytes_of(rt.alloc(), ADD).expect(&rt, ADD);
     let input = Input {
         left: &bytes,
         fails: true,

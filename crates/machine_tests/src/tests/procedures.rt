@@ -9,64 +9,12 @@ use plain_runner::{CompletedRun, run_program};
 use plain_site::{SiteFault, complete_call, run_call};
 use std::alloc::Global;
 use std::process::Abort;
+use test_programs::{
+    ADD, COUNT, DELETE, INCREMENT, INDEX, JUMP_ON, NEXT, ONE, PUT, PUT_AND_CANCEL, PUT_AND_GET,
+    SKEW, STACK_WORD,
+};
 
-/// Adds to the row at a key: the arguments are key and amount.
-pub(super) const ADD: &str = "7916000000000000 7917080000000000 b701000001000000 bf62000000000000 \
-    bfa3000000000000 07030000f8ffffff 8500000001000000 79a8f8ff00000000 \
-    0f78000000000000 7b8af8ff00000000 b701000001000000 bf62000000000000 \
-    bfa3000000000000 07030000f8ffffff 8500000002000000 bf80000000000000 \
-    9500000000000000";
-
-/// Gets the rows at two keys and puts 1 at the first.
-pub(super) const SKEW: &str = "7916000000000000 7917080000000000 b701000001000000 bf62000000000000 \
-    bfa3000000000000 07030000f8ffffff 8500000001000000 b701000001000000 \
-    bf72000000000000 bfa3000000000000 07030000f0ffffff 8500000001000000 \
-    7a0af8ff01000000 b701000001000000 bf62000000000000 bfa3000000000000 \
-    07030000f8ffffff 8500000002000000 9500000000000000";
-
-/// Puts a value at a key.
-pub(super) const PUT: &str = "7912000000000000 7914080000000000 7b4af8ff00000000 bfa3000000000000 \
-    07030000f8ffffff b701000001000000 8500000002000000 9500000000000000";
-
-/// Counts the rows from lo to hi, puts the count at a key and replies it.
-pub(super) const COUNT: &str =
-    "7916100000000000 7912000000000000 7913080000000000 b701000001000000 \
-    8500000004000000 bf07000000000000 7b7af8ff00000000 b701000001000000 \
-    bf62000000000000 bfa3000000000000 07030000f8ffffff 8500000002000000 \
-    bf70000000000000 9500000000000000";
-
-/// Puts the first row from lo to hi at a key, and replies the key that was found.
-pub(super) const NEXT: &str = "7916100000000000 7912000000000000 7913080000000000 bfa4000000000000 \
-    07040000f8ffffff bfa5000000000000 07050000f0ffffff b701000001000000 \
-    8500000005000000 b701000001000000 bf62000000000000 bfa3000000000000 \
-    07030000f0ffffff 8500000002000000 79a0f8ff00000000 9500000000000000";
-
-/// Removes the row at a key.
-pub(super) const DELETE: &str =
-    "7912000000000000 b701000001000000 8500000003000000 9500000000000000";
-
-/// PUT that cancels with code 9 before its end.
-const PUT_AND_CANCEL: &str = "7912000000000000 7914080000000000 7b4af8ff00000000 bfa3000000000000 \
-    07030000f8ffffff b701000001000000 8500000002000000 b701000009000000 \
-    8500000006000000 9500000000000000";
-
-/// Puts 3 at key 5 of table 1 and gets it.
-const PUT_AND_GET: &str = "7a0af8ff03000000 b702000005000000 bfa3000000000000 07030000f8ffffff \
-    b701000001000000 8500000002000000 b702000005000000 bfa3000000000000 \
-    07030000f0ffffff b701000001000000 8500000001000000 79a0f0ff00000000 \
-    9500000000000000";
-
-/// Jumps to the next instruction, a wide load of 1.
-const JUMP_ON: &str = "0500000000000000 1800000001000000 0000000000000000 9500000000000000";
-
-/// Replies eight bytes of 256 at the place that the first word gives, or 0 from 249 on.
-const INDEX: &str = "7912000000000000 25020300f8000000 0f21000000000000 7910000000000000 \
-    9500000000000000 b700000000000000 9500000000000000";
-
-/// Replies the number 2^40 - 8 of a wide load, which as an address would be the last eight bytes of the stack.
-const STACK_WORD: &str = "18000000f8ffffff 00000000ff000000 9500000000000000";
-
-/// A program in hex, its arguments, the rows before it, and what comes of it.
+/// A program, its arguments, the rows before it, and what comes of it.
 struct Case {
     program: &'static str,
     args: &'static [u64],
@@ -76,7 +24,7 @@ struct Case {
 
 static CASES: [Case; 18] = [
     Case {
-        program: "b700000001000000 9500000000000000",
+        program: ONE,
         args: &[],
         rows: &[],
         outcome: "1 in 2",
@@ -179,10 +127,7 @@ static CASES: [Case; 18] = [
     },
     // A row of two bytes, the last of the stack.
     Case {
-        program: "b702000005000000 bfa3000000000000 07030000feffffff b701000002000000 \
-            8500000001000000 69a8feff00000000 0708000001000000 6b8afeff00000000 \
-            b702000005000000 bfa3000000000000 07030000feffffff b701000002000000 \
-            8500000002000000 bf80000000000000 9500000000000000",
+        program: INCREMENT,
         args: &[],
         rows: &[(2, 5, 255)],
         outcome: "256 in 15 look 2:5-5 put 2:5=0001",

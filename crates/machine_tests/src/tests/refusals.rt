@@ -1,6 +1,5 @@
 //! Refused memory at each helper.
 
-use super::procedures::{ADD, COUNT, DELETE, NEXT, PUT, SKEW};
 use super::{NEVER, described, procedure_of, rows_of, same};
 use bpf_verify::Accepted;
 use bpf_vm::Turn;
@@ -9,6 +8,7 @@ use plain_site::{SiteFault, run_call};
 use scarce::Scarce;
 use std::alloc::Global;
 use std::process::Abort;
+use test_programs::{ADD, COUNT, DELETE, NEXT, PUT, SKEW};
 
 /// A program, its arguments, which growth is refused, and what comes of it: what the call has looked at and written by
 /// then, nothing of the refused turn among it.

@@ -23,7 +23,7 @@ pub(super) fn name_of(rt: &impl Abort, alloc: Global, number: u32) -> String {
     format!(in alloc; "{number}").expect(rt, "memory")
 }
 
-/// The program of a number, in hex, and how many words it takes: of the sample procedures' numbers their own, of the others
+/// The program of a number, and how many words it takes: of the sample procedures' numbers their own, of the others
 /// these in turn.
 fn program_of(number: u32) -> (&'static str, usize) {
     match PROCEDURES.get((number.saturating_sub(1) % 6) as usize) {

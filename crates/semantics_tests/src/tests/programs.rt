@@ -9,8 +9,12 @@ use schema::{Look, Schema};
 use std::alloc::Global;
 use std::fmt::Write as _;
 use std::process::Abort;
+use test_programs::{
+    ADD, COUNT, DELETE, INCREMENT, INDEX, INDEX_TOO_FAR, JUMP_ON, NEXT, ONE, PUT, PUT_AND_CANCEL,
+    PUT_AND_GET, PUT_AND_STICK, SKEW, SKIP, bytes_of,
+};
 
-/// A program in hex, its arguments, the rows before it (table, key and value), and what comes of it:
+/// A program, its arguments, the rows before it (table, key and value), and what comes of it:
 /// the reply and how many instructions were run, then the looks, the writes, the cancel code and the
 /// rows.
 struct Case {
@@ -20,67 +24,10 @@ struct Case {
     outcome: &'static str,
 }
 
-/// Adds to the row at a key: the arguments are key and amount.
-const ADD: &str = "7916000000000000 7917080000000000 b701000001000000 bf62000000000000 \
-    bfa3000000000000 07030000f8ffffff 8500000001000000 79a8f8ff00000000 \
-    0f78000000000000 7b8af8ff00000000 b701000001000000 bf62000000000000 \
-    bfa3000000000000 07030000f8ffffff 8500000002000000 bf80000000000000 \
-    9500000000000000";
-
-/// Gets the rows at two keys and puts 1 at the first.
-const SKEW: &str = "7916000000000000 7917080000000000 b701000001000000 bf62000000000000 \
-    bfa3000000000000 07030000f8ffffff 8500000001000000 b701000001000000 \
-    bf72000000000000 bfa3000000000000 07030000f0ffffff 8500000001000000 \
-    7a0af8ff01000000 b701000001000000 bf62000000000000 bfa3000000000000 \
-    07030000f8ffffff 8500000002000000 9500000000000000";
-
-/// Puts a value at a key.
-const PUT: &str = "7912000000000000 7914080000000000 7b4af8ff00000000 bfa3000000000000 \
-    07030000f8ffffff b701000001000000 8500000002000000 9500000000000000";
-
-/// Counts the rows from lo to hi, puts the count at a key and replies it.
-const COUNT: &str = "7916100000000000 7912000000000000 7913080000000000 b701000001000000 \
-    8500000004000000 bf07000000000000 7b7af8ff00000000 b701000001000000 \
-    bf62000000000000 bfa3000000000000 07030000f8ffffff 8500000002000000 \
-    bf70000000000000 9500000000000000";
-
-/// Puts the first row from lo to hi at a key, and replies the key that was found.
-const NEXT: &str = "7916100000000000 7912000000000000 7913080000000000 bfa4000000000000 \
-    07040000f8ffffff bfa5000000000000 07050000f0ffffff b701000001000000 \
-    8500000005000000 b701000001000000 bf62000000000000 bfa3000000000000 \
-    07030000f0ffffff 8500000002000000 79a0f8ff00000000 9500000000000000";
-
-/// Removes the row at a key.
-const DELETE: &str = "7912000000000000 b701000001000000 8500000003000000 9500000000000000";
-
-/// PUT that cancels with code 9 before its end.
-const PUT_AND_CANCEL: &str = "7912000000000000 7914080000000000 7b4af8ff00000000 bfa3000000000000 \
-    07030000f8ffffff b701000001000000 8500000002000000 b701000009000000 \
-    8500000006000000 9500000000000000";
-
-/// PUT that is stuck before its end, where it reads r9, which holds nothing.
-const PUT_AND_STICK: &str = "7912000000000000 7914080000000000 7b4af8ff00000000 bfa3000000000000 \
-    07030000f8ffffff b701000001000000 8500000002000000 bf90000000000000 \
-    9500000000000000";
-
-/// Adds 1 to the row of table 2 at key 5.
-const INCREMENT: &str = "b702000005000000 bfa3000000000000 07030000feffffff b701000002000000 \
-    8500000001000000 69a8feff00000000 0708000001000000 6b8afeff00000000 \
-    b702000005000000 bfa3000000000000 07030000feffffff b701000002000000 \
-    8500000002000000 bf80000000000000 9500000000000000";
-
-/// Replies eight bytes of the arguments at the place that the first word gives, or 0 from 249 on.
-const INDEX: &str = "7912000000000000 25020300f8000000 0f21000000000000 7910000000000000 \
-    9500000000000000 b700000000000000 9500000000000000";
-
-/// The same, but 0 only from 250 on.
-const INDEX_TOO_FAR: &str = "7912000000000000 25020300f9000000 0f21000000000000 7910000000000000 \
-    9500000000000000 b700000000000000 9500000000000000";
-
 /// Adds and puts.
 static PUTS: [Case; 12] = [
     Case {
-        program: "b700000001000000 9500000000000000",
+        program: ONE,
         args: &[],
         rows: &[],
         outcome: "1 in 2",
@@ -281,10 +228,7 @@ static CANCELS: [Case; 6] = [
 static OWN_WRITES: [Case; 11] = [
     // A get of a key that was put or removed before is no look.
     Case {
-        program: "7a0af8ff03000000 b702000005000000 bfa3000000000000 07030000f8ffffff \
-            b701000001000000 8500000002000000 b702000005000000 bfa3000000000000 \
-            07030000f0ffffff b701000001000000 8500000001000000 79a0f0ff00000000 \
-            9500000000000000",
+        program: PUT_AND_GET,
         args: &[],
         rows: &[(1, 5, 1)],
         outcome: "3 in 13 put 1:5=0300000000000000 row 1:5=0300000000000000",
@@ -388,7 +332,7 @@ static OWN_WRITES: [Case; 11] = [
 static JUMPS: [Case; 5] = [
     // A jump over the reading of a register that holds nothing, and one that isn't taken.
     Case {
-        program: "b700000001000000 1500010001000000 bf60000000000000 9500000000000000",
+        program: SKIP,
         args: &[],
         rows: &[],
         outcome: "1 in 3",
@@ -416,7 +360,7 @@ static JUMPS: [Case; 5] = [
     },
     // A wide load is one instruction.
     Case {
-        program: "0500000000000000 1800000001000000 0000000000000000 9500000000000000",
+        program: JUMP_ON,
         args: &[],
         rows: &[],
         outcome: "1 in 3",
@@ -530,15 +474,6 @@ static TABLE_CASES: [Case; 14] = [
     },
 ];
 
-/// The bytes of a program in hex.
-fn bytes_of(rt: &impl Abort, alloc: Global, hex: &str) -> Vec<u8> {
-    let mut digits = String::new(alloc);
-    for slot in hex.split_whitespace() {
-        digits.push_str(slot).expect(rt, "the digits");
-    }
-    hex::decode(alloc, digits.as_str()).expect(rt, "the bytes")
-}
-
 /// What came of a run, in a line.
 fn described(rt: &impl Abort, alloc: Global, run: &CompletedRun) -> String {
     let mut text = String::new(alloc);
@@ -629,7 +564,7 @@ fn outcome_of(
 }
 
 fn comes_to(rt: &impl Abort, alloc: Global, case: &Case) {
-    let program = bytes_of(rt, alloc, case.program);
+    let program = bytes_of(alloc, case.program).expect(rt, case.program);
     let args = args_of(rt, alloc, case.args);
     let text = outcome_of(rt, alloc, &program, &args, case.rows);
     same(rt, case.program, text.as_str(), case.outcome);
@@ -671,7 +606,8 @@ fn ends_so(rt: &impl Abort, alloc: Global, program: &str, first: u64, outcome: &
     for word in &REST {
         append_word(rt, &mut args, *word);
     }
-    let text = outcome_of(rt, alloc, &bytes_of(rt, alloc, program), &args, &[]);
+    let bytes = bytes_of(alloc, program).expect(rt, program);
+    let text = outcome_of(rt, alloc, &bytes, &args, &[]);
     same(rt, program, (first, text.as_str()), (first, outcome));
 }
 
@@ -724,7 +660,8 @@ fn has_run(
 
 fn refuse_growths(rt: &impl Abort, alloc: Global, case: &(&str, u64, bool)) {
     let (program, key, ends) = *case;
-    let code = decode(alloc, &bytes_of(rt, alloc, program)).expect(rt, program);
+    let bytes = bytes_of(alloc, program).expect(rt, program);
+    let code = decode(alloc, &bytes).expect(rt, program);
     let rows = [row_of(rt, alloc, 1, key, 0x0101_0101_0101_0101)];
     let scarce = Scarce::new(alloc);
     let schema = Schema::new(alloc, &TABLES).expect(rt, "the schema");

@@ -228,7 +228,7 @@ fn draw_number(generator: &mut Pcg32) -> u16 {
     u16::try_from(number).unwrap_or(0)
 }
 
-/// How many words the program of a number takes, and the program in hex.
+/// How many words the program of a number takes, and the program.
 pub(super) fn program_of(number: u16) -> (usize, &'static str) {
     match PROCEDURES.get(place_of(number)) {
         Some((_number, program, words)) => (*words, program),
@@ -437,7 +437,7 @@ impl<'s> DrawnWorld<'s> {
         let named = draw(&mut self.generator, NUMBERS).wrapping_add(1);
         let number = draw_number(&mut self.generator);
         let (words, program) = program_of(number);
-        let bytes = bytes_of(self.alloc, program).expect(rt, "the program in hex");
+        let bytes = bytes_of(self.alloc, program).expect(rt, "the program");
         let long = u16::try_from(words).unwrap_or(0).wrapping_mul(8);
         let (mark, args_len) = match draw(&mut self.generator, 16) {
             0 => ("", 257),
