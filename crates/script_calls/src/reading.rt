@@ -47,7 +47,8 @@ impl<A: Allocator + Copy> Reading<A> {
     fn set(&mut self, setting: Setting<Bytes<A>>) -> Result<(), FaultCause>
         requires { IsSettingWithinLimits setting }
         ensures ok { OnOk result (with_setting (so_far self.old) setting ≡ Ok (so_far self.new)) }
-        ensures fault { IfErr result (λ cause. (cause ≡ OutOfMemory) ⊎ (with_setting (so_far self.old) setting ≡ Err cause)) }
+        ensures fault { IfErr result (λ cause. (cause ≡ OutOfMemory)
+            ⊎ (with_setting (so_far self.old) setting ≡ Err cause)) }
     {
         if !self.calls.is_empty() {
             return Err(FaultCause::Place);
@@ -70,7 +71,8 @@ impl<A: Allocator + Copy> Reading<A> {
     /// Takes a call.
     fn add(&mut self, call: ScriptCall<Bytes<A>>) -> Result<(), FaultCause>
         ensures ok { OnOk result (with_call (so_far self.old) (Some call) ≡ Ok (so_far self.new)) }
-        ensures fault { IfErr result (λ cause. (cause ≡ OutOfMemory) ⊎ (with_call (so_far self.old) (Some call) ≡ Err cause)) }
+        ensures fault { IfErr result (λ cause. (cause ≡ OutOfMemory)
+            ⊎ (with_call (so_far self.old) (Some call) ≡ Err cause)) }
     {
         if self.settings.window().is_none() || self.settings.replicas().is_none() {
             return Err(FaultCause::Place);
