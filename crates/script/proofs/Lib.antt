@@ -1,3 +1,4 @@
 mod FieldLemmas
 mod LineLemmas
 mod NumberLemmas
+mod SayingLemmas

@@ -1,13 +1,12 @@
 //! The lines of a script: reading them from an input, and what each of them says.
 #![tactic(auto)]
 
-pub use commands::Command;
 pub use fault::LineFault;
 pub use input::{MAX_LINE, Next, next_line};
 pub use laws::lines_that_are_too_long_are_at_fault;
-pub use saying::command;
+pub use saying::statement;
+pub use statements::{Action, Setting, Statement};
 
-mod commands;
 mod fault;
 mod fields;
 mod hex_field;
@@ -15,4 +14,5 @@ mod input;
 mod laws;
 mod number;
 mod saying;
+mod statements;
 mod word;

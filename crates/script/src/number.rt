@@ -1,12 +1,14 @@
-//! Numbers.
+//! Numbers, each within its limits.
 
-ghost use Rattle.std.specs.Prelude.{◌≡◌, ◌^◌, ◌<◌, ◌≤◌, IfSome};
+ghost use Rattle.std.specs.Prelude.{◌≡◌, ◌^◌, ◌<◌, ◌≤◌, IfOk, IfSome, ok_or};
 ghost use Rattle.script.specs.Text.{number_of, u8_of, u16_of, u32_of, count_of};
+ghost use Rattle.script.specs.declared.fault.LineFault.TheVariants.{Field};
 
+use crate::fault::LineFault;
 use itoa::Buffer;
 
 /// The number that a field gives in decimal, where it is from `least` to `most`.
-pub(crate) fn read_number(field: &str, least: u64, most: u64) -> Option<u64>
+fn read_number(field: &str, least: u64, most: u64) -> Option<u64>
     ensures number { result ≡ number_of least most field.now }
     ensures limits { IfSome result (λ number. (least ≤ number) × (number ≤ most)) }
 {
@@ -19,40 +21,58 @@ pub(crate) fn read_number(field: &str, least: u64, most: u64) -> Option<u64>
     }
 }
 
-pub(crate) fn read_u32(field: &str) -> Option<u32>
-    ensures { result ≡ u32_of field.now }
+pub(crate) fn read_u8(field: &str) -> Result<u8, LineFault>
+    ensures { result ≡ ok_or (u8_of field.now) Field }
 {
-    match read_number(field, 0, u64::from(u32::MAX)) {
-        Some(number) => Some(number as u32),
-        None => None,
-    }
+    let number = read_number(field, 0, u64::from(u8::MAX)).ok_or(LineFault::Field)?;
+    Ok(number as u8)
+}
+
+pub(crate) fn read_u16(field: &str) -> Result<u16, LineFault>
+    ensures { result ≡ ok_or (u16_of field.now) Field }
+{
+    let number = read_number(field, 0, u64::from(u16::MAX)).ok_or(LineFault::Field)?;
+    Ok(number as u16)
+}
+
+pub(crate) fn read_u32(field: &str) -> Result<u32, LineFault>
+    ensures { result ≡ ok_or (u32_of field.now) Field }
+{
+    let number = read_number(field, 0, u64::from(u32::MAX)).ok_or(LineFault::Field)?;
+    Ok(number as u32)
 }
 
 /// A number of 32 bits that isn't 0.
-pub(crate) fn read_count(field: &str) -> Option<u32>
-    ensures count { result ≡ count_of field.now }
-    ensures some { IfSome result (λ count. 1 ≤ count) }
+pub(crate) fn read_count(field: &str) -> Result<u32, LineFault>
+    ensures count { result ≡ ok_or (count_of field.now) Field }
+    ensures limits { IfOk result (λ count. 1 ≤ count) }
 {
-    match read_number(field, 1, u64::from(u32::MAX)) {
-        Some(number) => Some(number as u32),
-        None => None,
-    }
+    let count = read_number(field, 1, u64::from(u32::MAX)).ok_or(LineFault::Field)?;
+    Ok(count as u32)
 }
 
-pub(crate) fn read_u16(field: &str) -> Option<u16>
-    ensures { result ≡ u16_of field.now }
+pub(crate) fn read_window(field: &str) -> Result<u32, LineFault>
+    ensures window { result ≡ ok_or (number_of 1 4096 field.now) Field }
+    ensures limits { IfOk result (λ window. (1 ≤ window) × (window ≤ 4096)) }
 {
-    match read_number(field, 0, u64::from(u16::MAX)) {
-        Some(number) => Some(number as u16),
-        None => None,
-    }
+    let window = read_number(field, 1, 4096).ok_or(LineFault::Field)?;
+    Ok(window as u32)
 }
 
-pub(crate) fn read_u8(field: &str) -> Option<u8>
-    ensures { result ≡ u8_of field.now }
+/// How many replicas.
+pub(crate) fn read_replicas(field: &str) -> Result<u32, LineFault>
+    ensures replicas { result ≡ ok_or (number_of 1 8 field.now) Field }
+    ensures limits { IfOk result (λ replicas. (1 ≤ replicas) × (replicas ≤ 8)) }
 {
-    match read_number(field, 0, u64::from(u8::MAX)) {
-        Some(number) => Some(number as u8),
-        None => None,
-    }
+    let replicas = read_number(field, 1, 8).ok_or(LineFault::Field)?;
+    Ok(replicas as u32)
+}
+
+/// The length of a procedure's arguments.
+pub(crate) fn read_args_len(field: &str) -> Result<u16, LineFault>
+    ensures args_len { result ≡ ok_or (number_of 0 256 field.now) Field }
+    ensures limits { IfOk result (λ args_len. args_len ≤ 256) }
+{
+    let args_len = read_number(field, 0, 256).ok_or(LineFault::Field)?;
+    Ok(args_len as u16)
 }

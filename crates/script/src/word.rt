@@ -6,75 +6,100 @@ ghost use Rattle.script.specs.Script.{setting_word_of, step_word_of, print_word_
 /// A line's first word.
 #[derive(Clone, Copy)]
 pub(crate) enum Word {
+    Setting(SettingWord),
+    Step(StepWord),
+    Print(PrintWord),
+}
+
+/// The word of a line that sets something.
+#[derive(Clone, Copy)]
+pub(crate) enum SettingWord {
     Window,
     Replicas,
     Table,
     Proc,
+}
+
+/// The word of a line that takes steps.
+#[derive(Clone, Copy)]
+pub(crate) enum StepWord {
     Begin,
     Add,
     Turn,
     Exec,
     Order,
     Deliver,
+    Rebuild,
+}
+
+/// The word of a line that prints what there is.
+#[derive(Clone, Copy)]
+pub(crate) enum PrintWord {
     Rows,
     Log,
     Entry,
-    Rebuild,
 }
 
 pub(crate) fn first_word(text: &str) -> Option<Word>
     ensures { result ≡ word_of text.now }
 {
-    setting_word(text).or(step_word(text).or(print_word(text)))
+    if let Some(word) = setting_word(text) {
+        return Some(Word::Setting(word));
+    }
+    if let Some(word) = step_word(text) {
+        return Some(Word::Step(word));
+    }
+    let word = print_word(text)?;
+    Some(Word::Print(word))
 }
 
-fn setting_word(text: &str) -> Option<Word>
+fn setting_word(text: &str) -> Option<SettingWord>
     ensures { result ≡ setting_word_of text.now }
 {
     Some(if text == "window" {
-        Word::Window
+        SettingWord::Window
     } else if text == "replicas" {
-        Word::Replicas
+        SettingWord::Replicas
     } else if text == "table" {
-        Word::Table
+        SettingWord::Table
     } else if text == "proc" {
-        Word::Proc
+        SettingWord::Proc
     } else {
         return None;
     })
 }
 
-fn step_word(text: &str) -> Option<Word>
+fn step_word(text: &str) -> Option<StepWord>
     ensures { result ≡ step_word_of text.now }
 {
     Some(if text == "begin" {
-        Word::Begin
+        StepWord::Begin
     } else if text == "add" {
-        Word::Add
+        StepWord::Add
     } else if text == "turn" {
-        Word::Turn
+        StepWord::Turn
     } else if text == "exec" {
-        Word::Exec
+        StepWord::Exec
     } else if text == "order" {
-        Word::Order
+        StepWord::Order
     } else if text == "deliver" {
-        Word::Deliver
+        StepWord::Deliver
     } else if text == "rebuild" {
-        Word::Rebuild
+        StepWord::Rebuild
     } else {
         return None;
     })
 }
 
-fn print_word(text: &str) -> Option<Word>
+fn print_word(text: &str) -> Option<PrintWord>
     ensures { result ≡ print_word_of text.now }
 {
     Some(if text == "rows" {
-        Word::Rows
+        PrintWord::Rows
     } else if text == "log" {
-        Word::Log
+        PrintWord::Log
     } else if text == "entry" {
-        Word::Entry
+        PrintWord::Entry
     } else {
         return None;
     })

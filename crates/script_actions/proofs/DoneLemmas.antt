@@ -10,35 +10,35 @@ use Rattle.log_model.specs.declared.request.RequestId.{RequestId}
 use Rattle.dsm_world.specs.System.{check_of}
 use Rattle.log_model.specs.Log.{Setting, by_number, by_name, procedures_after}
 use Rattle.dsm_model.specs.World.{World, Replica, Begin, Turn, Order, Deliver, Rebuild, Add, IsStep, after_begin, after_step, numbered, position_of}
-use Rattle.script.specs.declared.commands.Command.TheVariants as command
+use Rattle.script.specs.declared.statements.Action.TheVariants as action
 use Rattle.script_actions.specs.Printed.{step_text, rows_text, log_text, entry_text}
-use Rattle.script_actions.specs.Actions.{Repeats, Begins, Does, begin_command, is_more, is_delivery, longest_run, number_of_name}
+use Rattle.script_actions.specs.Actions.{Repeats, Begins, Does, begin_action, is_more, is_delivery, longest_run, number_of_name}
 use Rattle.script_actions.specs.Doing.{Gives, HasDone}
 use Rattle.script_actions.proofs.GivenLemmas.{gives_done}
 use Rattle.script_actions.proofs.RepeatLemmas.{AllRan}
 
-pub orders : (w : Setting) (before : World) (call : ℕ) (outcome : Outcome) (after : World) → IsStep w before (Order call) outcome after → Does w before (command.Order call) (step_text w after.log (Order call) outcome) after
+pub orders : (w : Setting) (before : World) (call : ℕ) (outcome : Outcome) (after : World) → IsStep w before (Order call) outcome after → Does w before (action.Order call) (step_text w after.log (Order call) outcome) after
 unfolding Does
 orders w before call outcome after is = (outcome, is, refl)
 
-pub rebuilds : (w : Setting) (before : World) (r : ℕ) (outcome : Outcome) (after : World) → IsStep w before (Rebuild r) outcome after → Does w before (command.Rebuild r) (step_text w after.log (Rebuild r) outcome) after
+pub rebuilds : (w : Setting) (before : World) (r : ℕ) (outcome : Outcome) (after : World) → IsStep w before (Rebuild r) outcome after → Does w before (action.Rebuild r) (step_text w after.log (Rebuild r) outcome) after
 unfolding Does
 rebuilds w before r outcome after is = (outcome, is, refl)
 
 -- a line that begins a call with a request, or without one, is done by cases of that
 does_begin : (w : Setting) (before : World) (r : ℕ) (name args : List ℕ) (request : Option RequestId) (text : List ℕ) (after : World) → Begins w before r args request (number_of_name w before r name) text after
-    → Does w before (begin_command r name args request) text after
+    → Does w before (begin_action r name args request) text after
 unfolding Does
 does_begin w before r name args None text after begins = begins
 does_begin w before r name args (Some request) text after begins = begins
 
 pub begins : (w : Setting) (before : World) (r : ℕ) (name args : List ℕ) (request : Option RequestId) (procedure : ℕ) (outcome : Outcome) (after : World) → number_of_name w before r name ≡ Some procedure → IsStep w before (Begin r procedure args request) outcome after
-    → Does w before (begin_command r name args request) (step_text w after.log (Begin r procedure args request) outcome) after
+    → Does w before (begin_action r name args request) (step_text w after.log (Begin r procedure args request) outcome) after
 begins w before r name args request procedure outcome after named is = does_begin w before r name args request _ after
     (subst (λ (o : Option ℕ). Begins w before r args request o (step_text w after.log (Begin r procedure args request) outcome) after) (sym named) (outcome, is, refl))
 
 pub begins_unnamed : (w : Setting) (before : World) (r : ℕ) (name args : List ℕ) (request : Option RequestId) (kept : Replica) → number_of_name w before r name ≡ None → numbered before.replicas r ≡ Some kept
-    → Does w before (begin_command r name args request) (step_text w before.log (Begin r 0 args request) (Refused NoProcedure)) before
+    → Does w before (begin_action r name args request) (step_text w before.log (Begin r 0 args request) (Refused NoProcedure)) before
 begins_unnamed w before r name args request kept named there = does_begin w before r name args request _ before
     (subst (λ (o : Option ℕ). Begins w before r args request o (step_text w before.log (Begin r 0 args request) (Refused NoProcedure)) before) (sym named)
     (ap (λ (k : Option Replica). step_text w before.log (Begin r 0 args request) (after_begin before r 0 args request k None).0) (sym there), refl))
@@ -55,7 +55,7 @@ named_at w world r name kept o there is =
     ap (λ (k : Option Replica). option_map (λ p. p.number) (by_name (procedures_after w world.log (position_of k)) name)) there ∙ sym is
 
 pub begins_nowhere : (w : Setting) (before : World) (r : ℕ) (name args : List ℕ) (request : Option RequestId) → numbered before.replicas r ≡ None
-    → Does w before (begin_command r name args request) (step_text w before.log (Begin r 0 args request) (Refused NoReplica)) before
+    → Does w before (begin_action r name args request) (step_text w before.log (Begin r 0 args request) (Refused NoReplica)) before
 begins_nowhere w before r name args request none = does_begin w before r name args request _ before (go (number_of_name w before r name))
   where
     go : (o : Option ℕ) → Begins w before r args request o (step_text w before.log (Begin r 0 args request) (Refused NoReplica)) before
@@ -63,35 +63,35 @@ begins_nowhere w before r name args request none = does_begin w before r name ar
     go (Some p) = (Refused NoReplica, inl (nowhere w before r p args request none), refl)
 
 pub adds : (w : Setting) (before : World) (name : List ℕ) (number args_len : ℕ) (program : List ℕ) (outcome : Outcome) (after : World) → IsStep w before (Add name number args_len (check_of w.tables args_len program)) outcome after
-    → Does w before (command.Add name number args_len program) (step_text w after.log (Add name number args_len (check_of w.tables args_len program)) outcome) after
+    → Does w before (action.Add name number args_len program) (step_text w after.log (Add name number args_len (check_of w.tables args_len program)) outcome) after
 unfolding Does
 adds w before name number args_len program outcome after is = (outcome, is, refl)
 
-pub delivers : (w : Setting) (before : World) (r most : ℕ) (lines : List (List ℕ)) (after : World) → Repeats w (Deliver r) is_delivery most before lines after → Does w before (command.Deliver r most) (concat lines) after
+pub delivers : (w : Setting) (before : World) (r most : ℕ) (lines : List (List ℕ)) (after : World) → Repeats w (Deliver r) is_delivery most before lines after → Does w before (action.Deliver r most) (concat lines) after
 unfolding Does
 delivers w before r most lines after r-is = (lines, r-is, refl)
 
-pub turns : (w : Setting) (before : World) (call most : ℕ) (text : List ℕ) (after : World) → AllRan w (Turn call) is_more most before after text → Does w before (command.Turn call most) text after
+pub turns : (w : Setting) (before : World) (call most : ℕ) (text : List ℕ) (after : World) → AllRan w (Turn call) is_more most before after text → Does w before (action.Turn call most) text after
 unfolding Does
 turns w before call most text after ran = ran
 
 -- `exec` is so many turns
 pub executes : {W T E : Type 0} (contents : W → Option (List ℕ)) (w : Setting) (before : World) (call : ℕ) (old new : PagedOutput W) (result : Result T E) (after : World)
-    → HasDone contents w before (command.Turn call longest_run) old new result after → HasDone contents w before (command.Exec call) old new result after
+    → HasDone contents w before (action.Turn call longest_run) old new result after → HasDone contents w before (action.Exec call) old new result after
 unfolding Does
 executes contents w before call old new (Ok x) after done = done
 executes contents w before call old new (Err x) after done = done
 
 pub shows_rows : {W T E : Type 0} (contents : W → Option (List ℕ)) (w : Setting) (world : World) (r : ℕ) (old new : PagedOutput W) (result : Result T E) → Gives contents old new result (rows_text w world.log r (numbered world.replicas r))
-    → HasDone contents w world (command.Rows r) old new result world
+    → HasDone contents w world (action.Rows r) old new result world
 unfolding Does
-shows_rows contents w world r old new result given = gives_done contents w world (command.Rows r) old new result world (rows_text w world.log r (numbered world.replicas r)) (refl, refl) given
+shows_rows contents w world r old new result given = gives_done contents w world (action.Rows r) old new result world (rows_text w world.log r (numbered world.replicas r)) (refl, refl) given
 
-pub shows_log : {W T E : Type 0} (contents : W → Option (List ℕ)) (w : Setting) (world : World) (old new : PagedOutput W) (result : Result T E) → Gives contents old new result (log_text w world) → HasDone contents w world command.Log old new result world
+pub shows_log : {W T E : Type 0} (contents : W → Option (List ℕ)) (w : Setting) (world : World) (old new : PagedOutput W) (result : Result T E) → Gives contents old new result (log_text w world) → HasDone contents w world action.Log old new result world
 unfolding Does
-shows_log contents w world old new result given = gives_done contents w world command.Log old new result world (log_text w world) (refl, refl) given
+shows_log contents w world old new result given = gives_done contents w world action.Log old new result world (log_text w world) (refl, refl) given
 
 pub shows_entry : {W T E : Type 0} (contents : W → Option (List ℕ)) (w : Setting) (world : World) (position : ℕ) (old new : PagedOutput W) (result : Result T E) → Gives contents old new result (entry_text w world.log position)
-    → HasDone contents w world (command.Entry position) old new result world
+    → HasDone contents w world (action.Entry position) old new result world
 unfolding Does
-shows_entry contents w world position old new result given = gives_done contents w world (command.Entry position) old new result world (entry_text w world.log position) (refl, refl) given
+shows_entry contents w world position old new result given = gives_done contents w world (action.Entry position) old new result world (entry_text w world.log position) (refl, refl) given

@@ -9,7 +9,7 @@ use Rattle.byte_output.proofs.PendingLemmas.{Passes-then}
 use Rattle.byte_output.proofs.WritesLemmas.{Appends-then}
 use Rattle.log_model.specs.Log.{Setting}
 use Rattle.dsm_model.specs.World.{World}
-use Rattle.script.specs.Script.{ScriptCommand}
+use Rattle.script.specs.Script.{ScriptAction}
 use Rattle.script_actions.specs.Actions.{Does}
 use Rattle.script_actions.specs.declared.failure.Failure.{Failure}
 use Rattle.script_actions.specs.declared.failure.Failure.TheVariants.{OutOfMemory, Output}
@@ -53,7 +53,7 @@ beginning_more contents a b xs ys (front, rest, split, p) = (
 )
 
 -- a line that prints a text, of which that was given
-pub gives_done : {W T E : Type 0} (contents : W → Option (List ℕ)) (w : Setting) (before : World) (c : ScriptCommand) (a b : PagedOutput W) (result : Result T E) (after : World) (text : List ℕ)
+pub gives_done : {W T E : Type 0} (contents : W → Option (List ℕ)) (w : Setting) (before : World) (c : ScriptAction) (a b : PagedOutput W) (result : Result T E) (after : World) (text : List ℕ)
     → Does w before c text after → Gives contents a b result text → HasDone contents w before c a b result after
 gives_done contents w before c a b (Ok x) after text does given = (text, does, given)
 gives_done contents w before c a b (Err x) after text does given = (text, after, does, given)

@@ -16,7 +16,7 @@ use Rattle.stored_procedures.specs.Held.{ListedProcedure, stored, stored_procedu
 use Rattle.replica.specs.Replica.{Replica}
 use Rattle.dsm_world.specs.System.{SystemWorld, setting_of, world_of, progress_of, KeepsDelivered}
 use Rattle.dsm_world.proofs.Numbered.{numbered_map}
-use Rattle.script.specs.declared.commands.Command.TheVariants as command
+use Rattle.script.specs.declared.statements.Action.TheVariants as action
 use Rattle.script_actions.specs.Printed.{step_text}
 use Rattle.script_actions.specs.Actions.{Later, Repeats, Does, is_more, last_line}
 
@@ -225,7 +225,7 @@ turns_end w laws c (suc left) k before after lines is short has count r =
 -- ---- an execution
 
 pub execution_ends : (w : Setting) → TurnLaws w → (before : World) (call : ℕ) (text : List ℕ) (after : World) → IsWorld w before → ShortPrograms w before
-    → Does w before (command.Exec call) text after
+    → Does w before (action.Exec call) text after
     → (outcome : Outcome) × (is_more outcome ≡ false) × (text ≡ step_text w after.log (Turn call) outcome)
 unfolding Does
 execution_ends w laws before call text after is short done =

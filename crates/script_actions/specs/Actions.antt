@@ -8,8 +8,8 @@ use Rattle.log_model.specs.Log.{Setting, by_name, procedures_after}
 use Rattle.log_model.specs.declared.request.RequestId.{RequestId}
 use Rattle.dsm_world.specs.System.{check_of}
 use Rattle.dsm_model.specs.World.{World, Step, Begin, Add, Turn, Order, Deliver, Rebuild, IsStep, after_begin, numbered, position_of}
-use Rattle.script.specs.Script.{ScriptCommand}
-use Rattle.script.specs.declared.commands.Command.TheVariants as command
+use Rattle.script.specs.Script.{ScriptAction}
+use Rattle.script.specs.declared.statements.Action.TheVariants as action
 use Rattle.script_actions.specs.Printed.{step_text, rows_text, log_text, entry_text}
 -- a world as its engine sees it
 pub use Rattle.dsm_world.specs.System.{SystemWorld, setting_of, world_of}
@@ -71,28 +71,27 @@ number_of_name w world r name =
 
 -- ---- a line
 
--- the line that begins a call with a request, or without one
-abbrev pub begin_command : ℕ → List ℕ → List ℕ → Option RequestId → ScriptCommand
-begin_command r name args None = command.Begin r name args
-begin_command r name args (Some request) = command.BeginNumbered r name args request.session request.sequence
+-- the action that begins a call with a request, or without one
+abbrev pub begin_action : ℕ → List ℕ → List ℕ → Option RequestId → ScriptAction
+begin_action r name args None = action.Begin r name args
+begin_action r name args (Some request) = action.BeginNumbered r name args request.session request.sequence
 
 -- no program runs more instructions than it has slots, of which there are at most so many
 abbrev pub longest_run : ℕ
 longest_run = max_slots
 
 -- what a line that acts prints, and the world after it; `exec` runs a call to its end
-unfoldable pub Does : Setting → World → ScriptCommand → List ℕ → World → Type 0
-Does w before (command.Begin r name args) text after = Begins w before r args None (number_of_name w before r name) text after
-Does w before (command.BeginNumbered r name args session sequence) text after =
+unfoldable pub Does : Setting → World → ScriptAction → List ℕ → World → Type 0
+Does w before (action.Begin r name args) text after = Begins w before r args None (number_of_name w before r name) text after
+Does w before (action.BeginNumbered r name args session sequence) text after =
     Begins w before r args (Some (record { session = session; sequence = sequence })) (number_of_name w before r name) text after
-Does w before (command.Add name number args_len program) text after =
+Does w before (action.Add name number args_len program) text after =
     OneStep w before (Add name number args_len (check_of w.tables args_len program)) text after
-Does w before (command.Turn call most) text after = Turns w before call most text after
-Does w before (command.Exec call) text after = Turns w before call longest_run text after
-Does w before (command.Order call) text after = OneStep w before (Order call) text after
-Does w before (command.Deliver r most) text after = Deliveries w before r most text after
-Does w before (command.Rebuild r) text after = OneStep w before (Rebuild r) text after
-Does w before (command.Rows r) text after = (text ≡ rows_text w before.log r (numbered before.replicas r)) × (before ≡ after)
-Does w before command.Log text after = (text ≡ log_text w before) × (before ≡ after)
-Does w before (command.Entry position) text after = (text ≡ entry_text w before.log position) × (before ≡ after)
-Does w before _ text after = ⊥
+Does w before (action.Turn call most) text after = Turns w before call most text after
+Does w before (action.Exec call) text after = Turns w before call longest_run text after
+Does w before (action.Order call) text after = OneStep w before (Order call) text after
+Does w before (action.Deliver r most) text after = Deliveries w before r most text after
+Does w before (action.Rebuild r) text after = OneStep w before (Rebuild r) text after
+Does w before (action.Rows r) text after = (text ≡ rows_text w before.log r (numbered before.replicas r)) × (before ≡ after)
+Does w before action.Log text after = (text ≡ log_text w before) × (before ≡ after)
+Does w before (action.Entry position) text after = (text ≡ entry_text w before.log position) × (before ≡ after)

@@ -5,7 +5,7 @@ use Rattle.byte_output.specs.declared.paged.PagedOutput.{PagedOutput}
 use Rattle.byte_output.specs.Pending.{output_of, pending_of, Passes}
 use Rattle.log_model.specs.Log.{Setting}
 use Rattle.dsm_model.specs.World.{World}
-use Rattle.script.specs.Script.{ScriptCommand}
+use Rattle.script.specs.Script.{ScriptAction}
 use Rattle.script_actions.specs.declared.failure.Failure.{Failure}
 use Rattle.script_actions.specs.declared.failure.Failure.TheVariants.{OutOfMemory, Output}
 use Rattle.script_actions.specs.Actions.{Does}
@@ -20,7 +20,7 @@ abbrev pub Gives : {W T E : Type 0} → (W → Option (List ℕ)) → PagedOutpu
 Gives contents old new result text = MatchResult result (λ _. Passes contents old new text) (λ _. PassesBeginning contents old new text)
 
 -- at `Ok` the line was done and its text given, at `Err` a beginning of a text that it may print
-abbrev pub HasDone : {W T E : Type 0} → (W → Option (List ℕ)) → Setting → World → ScriptCommand → PagedOutput W → PagedOutput W
+abbrev pub HasDone : {W T E : Type 0} → (W → Option (List ℕ)) → Setting → World → ScriptAction → PagedOutput W → PagedOutput W
     → Result T E → World → Type 0
 HasDone contents w before c old new (Ok _) after = (text : List ℕ) × Does w before c text after × Passes contents old new text
 HasDone contents w before c old new (Err _) now =

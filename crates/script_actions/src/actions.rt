@@ -1,10 +1,9 @@
-//! Doing what a line says.
+//! Doing the actions of lines.
 
-ghost use Rattle.std.specs.Prelude.{◌≡◌, IfErr, false};
+ghost use Rattle.std.specs.Prelude.{◌≡◌, IfErr};
 ghost use Rattle.byte_output.specs.Pending.{output_of};
 ghost use Rattle.dsm_world.specs.System.{setting_of, world_of};
-ghost use Rattle.script.specs.Script.{IsWithinLimits};
-ghost use Rattle.script_settings.specs.Settings.{is_setting};
+ghost use Rattle.script.specs.Script.{IsActionWithinLimits};
 ghost use Rattle.script_actions.specs.Doing.{HasDone, LosesNothing};
 
 use crate::answers::{add, begin, deliver, order, rebuild, turn};
@@ -16,36 +15,31 @@ use byte_output::paged::PagedOutput;
 use dsm_world::World;
 use log_model::RequestId;
 use row_sets::Bytes;
-use script::Command;
+use script::Action;
 use std::alloc::Allocator;
 use std::io::Write;
 
 /// No program runs more instructions than it has slots.
 const LONGEST_RUN: u32 = MAX_SLOTS as u32;
 
-/// Does what a line says to a world that acts, and gives what it prints to the output. An error is the output's, or want of
-/// memory for what is printed; then a beginning of that was given, and at want of memory nothing that was given is lost.
+/// Does an action to a world, and gives what it prints to the output. An error is the output's, or want of memory for
+/// what is printed; then a beginning of that was given, and at want of memory nothing that was given is lost.
 pub fn act<A: Allocator + Copy, W: Write>(
     alloc: A,
     world: &mut World<A>,
     output: &mut PagedOutput<'_, W>,
-    command: &Command<Bytes<A>>,
+    action: &Action<Bytes<A>>,
 ) -> Result<(), Failure>
-    requires acts { is_setting command.now ≡ false }
-    // As a line's command is.
-    requires limits { IsWithinLimits command.now }
+    // As a line's action is.
+    requires { IsActionWithinLimits action.now }
     ensures same_output { (output_of output.new).ghost_name ≡ (output_of output.old).ghost_name }
     ensures setting { setting_of world.new ≡ setting_of world.old }
-    ensures done { HasDone W.contents (setting_of world.old) (world_of world.old) command.now
+    ensures done { HasDone W.contents (setting_of world.old) (world_of world.old) action.now
         output.old output.new result (world_of world.new) }
     ensures kept { IfErr result (LosesNothing W.contents output.old output.new) }
 {
-    match command {
-        Command::Window(_)
-        | Command::Replicas(_)
-        | Command::Table { .. }
-        | Command::Procedure { .. } => unreachable!(),
-        Command::Begin {
+    match action {
+        Action::Begin {
             replica,
             name,
             args,
@@ -53,7 +47,7 @@ pub fn act<A: Allocator + Copy, W: Write>(
             let (name, args) = (name.as_slice(), args.as_slice());
             begin(alloc, world, output, *replica, name, args, None)
         }
-        Command::BeginNumbered {
+        Action::BeginNumbered {
             replica,
             name,
             args,
@@ -64,7 +58,7 @@ pub fn act<A: Allocator + Copy, W: Write>(
             let (name, args) = (name.as_slice(), args.as_slice());
             begin(alloc, world, output, *replica, name, args, request)
         }
-        Command::Add {
+        Action::Add {
             name,
             number,
             args_len,
@@ -73,14 +67,14 @@ pub fn act<A: Allocator + Copy, W: Write>(
             let (name, bytes) = (name.as_slice(), program.as_slice());
             add(alloc, world, output, name, *number, *args_len, bytes)
         }
-        Command::Turn { call, most } => turn(alloc, world, output, *call, *most),
-        Command::Exec { call } => turn(alloc, world, output, *call, LONGEST_RUN),
-        Command::Order { call } => order(alloc, world, output, *call),
-        Command::Deliver { replica, most } => deliver(alloc, world, output, *replica, *most),
-        Command::Rows { replica } => put_rows(alloc, world, output, *replica),
-        Command::Log => put_log(alloc, world, output),
-        Command::Entry { position } => put_entry(alloc, world, output, *position),
-        Command::Rebuild { replica } => rebuild(alloc, world, output, *replica),
+        Action::Turn { call, most } => turn(alloc, world, output, *call, *most),
+        Action::Exec { call } => turn(alloc, world, output, *call, LONGEST_RUN),
+        Action::Order { call } => order(alloc, world, output, *call),
+        Action::Deliver { replica, most } => deliver(alloc, world, output, *replica, *most),
+        Action::Rows { replica } => put_rows(alloc, world, output, *replica),
+        Action::Log => put_log(alloc, world, output),
+        Action::Entry { position } => put_entry(alloc, world, output, *position),
+        Action::Rebuild { replica } => rebuild(alloc, world, output, *replica),
     }
 }
 

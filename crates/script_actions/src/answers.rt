@@ -8,9 +8,9 @@ ghost use Rattle.dsm_model.specs.Sound.{reply_of, told_by};
 ghost use Rattle.log_model.specs.Log.{Setting};
 ghost use Rattle.dsm_world.specs.System.{setting_of, world_of, step_of};
 ghost use Rattle.report.specs.Answers.{answer_line};
-ghost use Rattle.script.specs.declared.commands.Command.TheVariants as command;
+ghost use Rattle.script.specs.declared.statements.Action.TheVariants as action;
 ghost use Rattle.script_actions.specs.Printed.{delivered_entry, step_text};
-ghost use Rattle.script_actions.specs.Actions.{begin_command, is_more, is_delivery, Turns};
+ghost use Rattle.script_actions.specs.Actions.{begin_action, is_more, is_delivery, Turns};
 ghost use Rattle.script_actions.specs.Doing.{PassesBeginning, HasDone, LosesNothing};
 
 use crate::failure::Failure;
@@ -116,7 +116,7 @@ pub(crate) fn begin<A: Allocator + Copy, W: Write>(
 ) -> Result<(), Failure>
     ensures same_output { (output_of output.new).ghost_name ≡ (output_of output.old).ghost_name }
     ensures setting { setting_of world.new ≡ setting_of world.old }
-    ensures done { HasDone W.contents (setting_of world.old) (world_of world.old) (begin_command replica name.now args.now request)
+    ensures done { HasDone W.contents (setting_of world.old) (world_of world.old) (begin_action replica name.now args.now request)
         output.old output.new result (world_of world.new) }
     ensures kept { IfErr result (LosesNothing W.contents output.old output.new) }
 {
@@ -174,7 +174,7 @@ pub(crate) fn add<A: Allocator + Copy, W: Write>(
 ) -> Result<(), Failure>
     ensures same_output { (output_of output.new).ghost_name ≡ (output_of output.old).ghost_name }
     ensures setting { setting_of world.new ≡ setting_of world.old }
-    ensures done { HasDone W.contents (setting_of world.old) (world_of world.old) (command.Add name.now number args_len bytes.now)
+    ensures done { HasDone W.contents (setting_of world.old) (world_of world.old) (action.Add name.now number args_len bytes.now)
         output.old output.new result (world_of world.new) }
     ensures kept { IfErr result (LosesNothing W.contents output.old output.new) }
 {
@@ -199,7 +199,7 @@ pub(crate) fn turn<A: Allocator + Copy, W: Write>(
     requires { 1 ≤ most }
     ensures same_output { (output_of output.new).ghost_name ≡ (output_of output.old).ghost_name }
     ensures setting { setting_of world.new ≡ setting_of world.old }
-    ensures done { HasDone W.contents (setting_of world.old) (world_of world.old) (command.Turn call most)
+    ensures done { HasDone W.contents (setting_of world.old) (world_of world.old) (action.Turn call most)
         output.old output.new result (world_of world.new) }
     ensures kept { IfErr result (LosesNothing W.contents output.old output.new) }
 {
@@ -238,7 +238,7 @@ pub(crate) fn order<A: Allocator + Copy, W: Write>(
 ) -> Result<(), Failure>
     ensures same_output { (output_of output.new).ghost_name ≡ (output_of output.old).ghost_name }
     ensures setting { setting_of world.new ≡ setting_of world.old }
-    ensures done { HasDone W.contents (setting_of world.old) (world_of world.old) (command.Order call)
+    ensures done { HasDone W.contents (setting_of world.old) (world_of world.old) (action.Order call)
         output.old output.new result (world_of world.new) }
     ensures kept { IfErr result (LosesNothing W.contents output.old output.new) }
 {
@@ -256,7 +256,7 @@ pub(crate) fn deliver<A: Allocator + Copy, W: Write>(
 ) -> Result<(), Failure>
     ensures same_output { (output_of output.new).ghost_name ≡ (output_of output.old).ghost_name }
     ensures setting { setting_of world.new ≡ setting_of world.old }
-    ensures done { HasDone W.contents (setting_of world.old) (world_of world.old) (command.Deliver replica most)
+    ensures done { HasDone W.contents (setting_of world.old) (world_of world.old) (action.Deliver replica most)
         output.old output.new result (world_of world.new) }
     ensures kept { IfErr result (LosesNothing W.contents output.old output.new) }
 {
@@ -284,7 +284,7 @@ pub(crate) fn rebuild<A: Allocator + Copy, W: Write>(
 ) -> Result<(), Failure>
     ensures same_output { (output_of output.new).ghost_name ≡ (output_of output.old).ghost_name }
     ensures setting { setting_of world.new ≡ setting_of world.old }
-    ensures done { HasDone W.contents (setting_of world.old) (world_of world.old) (command.Rebuild replica)
+    ensures done { HasDone W.contents (setting_of world.old) (world_of world.old) (action.Rebuild replica)
         output.old output.new result (world_of world.new) }
     ensures kept { IfErr result (LosesNothing W.contents output.old output.new) }
 {

@@ -6,7 +6,7 @@ ghost use Rattle.dsm_model.specs.World.{World as ModelWorld, Turn};
 ghost use Rattle.dsm_world.specs.System.{setting_of, world_of};
 ghost use Rattle.replica.specs.Replica.{Replica as ReplicaState};
 ghost use Rattle.stored_procedures.specs.Held.{AreStored};
-ghost use Rattle.script.specs.declared.commands.Command.TheVariants as command;
+ghost use Rattle.script.specs.declared.statements.Action.TheVariants as action;
 ghost use Rattle.script_actions.specs.Printed.{step_text};
 ghost use Rattle.script_actions.specs.Actions.{Does, is_more};
 
@@ -22,7 +22,7 @@ use stored_procedures::stored_procedures_are_consistent;
 /// never that there is more.
 pub fn executions_end<A: Allocator + Copy>(world: &World<A>)
     ensures { (call : ℕ) (text : List ℕ) (after : ModelWorld)
-        → Does (setting_of world.now) (world_of world.now) (command.Exec call) text after
+        → Does (setting_of world.now) (world_of world.now) (action.Exec call) text after
         → (outcome : Outcome) × (is_more outcome ≡ false)
         × (text ≡ step_text (setting_of world.now) after.log (Turn call) outcome) }
 {

@@ -6,7 +6,7 @@ use Rattle.script_settings.specs.declared.cause.FaultCause.{FaultCause}
 use Rattle.script_settings.specs.declared.cause.FaultCause.TheVariants.{OutOfMemory}
 use Rattle.script_settings.specs.declared.cause.ScriptFault.{ScriptFault}
 use Rattle.script_stops.specs.declared.stop.Stop.{Stop}
-use Rattle.script_stops.specs.declared.stop.Stop.TheVariants.{Fault, Input, Output}
+use Rattle.script_stops.specs.declared.stop.Stop.TheVariants.{Fault}
 use Rattle.script_calls.specs.Calls.{Said, after_line, at_end, fault_at, said_from, unless_faulty}
 use Rattle.script_calls.specs.Reading.{IsStopOf}
 

@@ -1,15 +1,16 @@
 -- What a script says that has only settings and, behind them, calls.
 use Rattle.std.specs.Prelude.{ℕ, ◌+◌, ◌==◌, Bool, ◌&&◌, if◌then◌else◌, List, [], ◌∷◌, ◌++◌, length, Option, Some, None, is_some, Result, Ok, Err}
-use Rattle.script.specs.declared.commands.Command.{Command}
-use Rattle.script.specs.declared.commands.Command.TheVariants.{Begin, BeginNumbered}
+use Rattle.script.specs.declared.statements.Statement.TheVariants as statement
+use Rattle.script.specs.declared.statements.Action.{Action}
+use Rattle.script.specs.declared.statements.Action.TheVariants.{Begin, BeginNumbered}
 use Rattle.script.specs.declared.fault.LineFault.{LineFault}
 use Rattle.script.specs.Text.{lines_of}
-use Rattle.script.specs.Script.{ScriptCommand, line_says}
+use Rattle.script.specs.Script.{ScriptStatement, ScriptSetting, line_says}
 use Rattle.script_settings.specs.declared.cause.FaultCause.{FaultCause}
 use Rattle.script_settings.specs.declared.cause.FaultCause.TheVariants.{Place}
 use Rattle.script_settings.specs.declared.cause.ScriptFault.{ScriptFault}
 use Rattle.script_settings.specs.Fault.{cause_of_line_fault}
-use Rattle.script_settings.specs.Settings.{ScriptSettings, no_settings, setting_after, is_setting, then_with}
+use Rattle.script_settings.specs.Settings.{ScriptSettings, no_settings, setting_after, then_with}
 use Rattle.script_calls.specs.declared.call.ScriptCall.{ScriptCall}
 
 -- settings, and then calls in the order of their lines
@@ -22,8 +23,8 @@ nothing_said = record { settings = no_settings; calls = [] }
 
 -- ---- a line
 
--- the call that a command begins, where it is one that does
-abbrev pub call_of : {B : Type 0} → Command B → Option (ScriptCall B)
+-- the call that an action begins, where it is one that does
+abbrev pub call_of : {B : Type 0} → Action B → Option (ScriptCall B)
 call_of (Begin replica name args) = Some (record { replica = replica; name = name; args = args; request = None })
 call_of (BeginNumbered replica name args session sequence) =
     Some (record { replica = replica; name = name; args = args; request = Some (record { session = session; sequence = sequence }) })
@@ -33,9 +34,9 @@ abbrev pub are_set : ScriptSettings → Bool
 are_set s = is_some s.window && is_some s.replicas
 
 -- no setting stands behind a call
-abbrev pub with_setting : Said → ScriptCommand → Result Said FaultCause
-with_setting said c =
-    if length said.calls == 0 then then_with (setting_after said.settings c) (λ settings. Ok (record said { settings = settings }))
+abbrev pub with_setting : Said → ScriptSetting → Result Said FaultCause
+with_setting said setting =
+    if length said.calls == 0 then then_with (setting_after said.settings setting) (λ settings. Ok (record said { settings = settings }))
     else Err Place
 
 -- a call stands behind window and replicas; nothing else that acts may stand
@@ -44,10 +45,11 @@ with_call said (Some call) = if are_set said.settings then Ok (record said { cal
 with_call said None = Err Place
 
 -- what is said with one more line
-abbrev pub after_line : Said → Result (Option ScriptCommand) LineFault → Result Said FaultCause
+abbrev pub after_line : Said → Result (Option ScriptStatement) LineFault → Result Said FaultCause
 after_line said (Err fault) = Err (cause_of_line_fault fault)
 after_line said (Ok None) = Ok said
-after_line said (Ok (Some c)) = if is_setting c then with_setting said c else with_call said (call_of c)
+after_line said (Ok (Some (statement.Setting setting))) = with_setting said setting
+after_line said (Ok (Some (statement.Action action))) = with_call said (call_of action)
 
 -- ---- a whole script
 

@@ -1,5 +1,5 @@
 -- What the code's values stand for, and why a script isn't read.
-use Rattle.std.specs.Prelude.{◌≡◌, ◌⊎◌, ℕ, ◌≤◌, Some, Result, Err}
+use Rattle.std.specs.Prelude.{◌≡◌, ◌⊎◌, Some, Result, Err}
 use Rattle.script_settings.specs.declared.cause.FaultCause.TheVariants.{OutOfMemory}
 use Rattle.script_settings.specs.declared.cause.ScriptFault.{ScriptFault}
 use Rattle.script_stops.specs.declared.stop.Stop.{Stop}

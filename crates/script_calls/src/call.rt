@@ -4,7 +4,7 @@ ghost use Rattle.std.specs.Prelude.{◌≡◌};
 ghost use Rattle.script_calls.specs.Calls.{call_of};
 
 use log_model::RequestId;
-use script::Command;
+use script::Action;
 
 /// A call that a line asks for. Its name and its arguments are a `B`.
 #[derive(Drop)]
@@ -18,12 +18,12 @@ pub struct ScriptCall<B> {
     pub request: Option<RequestId>,
 }
 
-/// The call that a line's command asks for, where it is one that begins a call.
-pub(crate) fn call_of<B: Drop>(command: Command<B>) -> Option<ScriptCall<B>>
-    ensures { result ≡ call_of command }
+/// The call that an action begins, where it is one that does.
+pub(crate) fn call_of<B: Drop>(action: Action<B>) -> Option<ScriptCall<B>>
+    ensures { result ≡ call_of action }
 {
-    match command {
-        Command::Begin {
+    match action {
+        Action::Begin {
             replica,
             name,
             args,
@@ -33,7 +33,7 @@ pub(crate) fn call_of<B: Drop>(command: Command<B>) -> Option<ScriptCall<B>>
             args,
             request: None,
         }),
-        Command::BeginNumbered {
+        Action::BeginNumbered {
             replica,
             name,
             args,

@@ -1,15 +1,15 @@
 //! What the lines of a script have said so far.
 
 ghost use Rattle.std.specs.Prelude.{◌≡◌, ◌⊎◌, ◌≤◌, Some, Ok, Err, IfOk, IfErr, OnOk, OnErr};
-ghost use Rattle.script.specs.Script.{IsWithinLimits, line_says};
+ghost use Rattle.script.specs.Script.{IsSettingWithinLimits, line_says};
 ghost use Rattle.script_settings.specs.declared.cause.FaultCause.TheVariants.{OutOfMemory};
-ghost use Rattle.script_calls.specs.Calls.{after_line, nothing_said, with_call, with_setting};
+ghost use Rattle.script_calls.specs.Calls.{after_line, call_of, nothing_said, with_call, with_setting};
 ghost use Rattle.script_calls.specs.Reading.{so_far};
 
 use crate::call::{ScriptCall, call_of};
 use row_sets::Bytes;
-use script::{Command, command};
-use script_settings::{FaultCause, Settings, is_setting};
+use script::{Action, Setting, Statement, statement};
+use script_settings::{FaultCause, Settings};
 use std::alloc::{AllocError, Allocator};
 
 /// What the lines of a script have said so far.
@@ -36,45 +36,43 @@ impl<A: Allocator + Copy> Reading<A> {
         ensures fault { IfErr result (λ cause. (cause ≡ OutOfMemory)
             ⊎ (after_line (so_far self.old) (line_says line.now) ≡ Err cause)) }
     {
-        match command(alloc, line) {
-            Ok(None) => Ok(()),
-            Ok(Some(command)) => self.take(command),
-            Err(fault) => Err(FaultCause::from(fault)),
+        match statement(alloc, line)? {
+            None => Ok(()),
+            Some(Statement::Setting(setting)) => self.set(setting),
+            Some(Statement::Action(action)) => self.begin(action),
         }
     }
 
-    /// Takes what a line says.
-    fn take(&mut self, command: Command<Bytes<A>>) -> Result<(), FaultCause>
-        requires { IsWithinLimits command }
-        ensures ok { OnOk result (after_line (so_far self.old) (Ok (Some command)) ≡ Ok (so_far self.new)) }
+    /// Takes a setting.
+    fn set(&mut self, setting: Setting<Bytes<A>>) -> Result<(), FaultCause>
+        requires { IsSettingWithinLimits setting }
+        ensures ok { OnOk result (with_setting (so_far self.old) setting ≡ Ok (so_far self.new)) }
         ensures fault { IfErr result (λ cause. (cause ≡ OutOfMemory)
-            ⊎ (after_line (so_far self.old) (Ok (Some command)) ≡ Err cause)) }
+            ⊎ (with_setting (so_far self.old) setting ≡ Err cause)) }
     {
-        if is_setting(&command) {
-            return self.set(command);
+        if !self.calls.is_empty() {
+            return Err(FaultCause::Place);
         }
-        match call_of(command) {
+        self.settings.set(setting)
+    }
+
+    /// Takes an action: only one that begins a call may stand.
+    fn begin(&mut self, action: Action<Bytes<A>>) -> Result<(), FaultCause>
+        ensures ok { OnOk result (with_call (so_far self.old) (call_of action) ≡ Ok (so_far self.new)) }
+        ensures fault { IfErr result (λ cause. (cause ≡ OutOfMemory)
+            ⊎ (with_call (so_far self.old) (call_of action) ≡ Err cause)) }
+    {
+        match call_of(action) {
             Some(call) => self.add(call),
             None => Err(FaultCause::Place),
         }
     }
 
-    /// Takes a line that sets something.
-    fn set(&mut self, command: Command<Bytes<A>>) -> Result<(), FaultCause>
-        requires { IsWithinLimits command }
-        ensures ok { OnOk result (with_setting (so_far self.old) command ≡ Ok (so_far self.new)) }
-        ensures fault { IfErr result (λ cause. (cause ≡ OutOfMemory) ⊎ (with_setting (so_far self.old) command ≡ Err cause)) }
-    {
-        if !self.calls.is_empty() {
-            return Err(FaultCause::Place);
-        }
-        self.settings.set(command)
-    }
-
     /// Takes a call.
     fn add(&mut self, call: ScriptCall<Bytes<A>>) -> Result<(), FaultCause>
         ensures ok { OnOk result (with_call (so_far self.old) (Some call) ≡ Ok (so_far self.new)) }
-        ensures fault { IfErr result (λ cause. (cause ≡ OutOfMemory) ⊎ (with_call (so_far self.old) (Some call) ≡ Err cause)) }
+        ensures fault { IfErr result (λ cause. (cause ≡ OutOfMemory)
+            ⊎ (with_call (so_far self.old) (Some call) ≡ Err cause)) }
     {
         if self.settings.window().is_none() || self.settings.replicas().is_none() {
             return Err(FaultCause::Place);

@@ -12,9 +12,9 @@ use Rattle.script_settings.specs.declared.cause.ScriptFault.{ScriptFault}
 use Rattle.script_replay.specs.declared.stage.Stage as code
 use Rattle.script_stops.specs.declared.stop.Stop.{Stop}
 use Rattle.script_stops.specs.declared.stop.Stop.TheVariants.{Fault, Input, Output}
-use Rattle.script_replay.specs.Stage.{Stage, first_stage, action_of}
+use Rattle.script_replay.specs.Stage.{Stage, first_stage, effect_of}
 use Rattle.script_replay.specs.Replay.{Ending, Finished, Faulty, Prints}
-use Rattle.script_replay.specs.Doing.{stage_of, PrintsFrom, GivesBeginning, GivesUpTo, GivesAction, StopsBy, GivesUpToWant, GivesReplay}
+use Rattle.script_replay.specs.Doing.{stage_of, PrintsFrom, GivesBeginning, GivesUpTo, GivesEffect, StopsBy, GivesUpToWant, GivesReplay}
 use Rattle.script_actions.specs.Doing.{PassesBeginning}
 use Rattle.script_replay.proofs.PassesLemmas.{Passes-nothing, PassesBeginning-front, PassesBeginning-then}
 use Rattle.script_replay.proofs.ReplayLemmas.{can_print, nothing_left, prints_line}
@@ -80,14 +80,14 @@ pub ends_at_bytes : {W : Type 0} (contents : W → Option (List ℕ)) (now : Sta
 ends_at_bytes contents now number lines left more line old new stop so_far e says is =
     let fault : ScriptFault = record { line = number; cause = Line Bytes } in
     let p : Prints now number (line ∷ more) [] (Faulty fault) = prints_line now number line more [] (Faulty fault)
-    (subst (λ said. PrintsFrom number (action_of now said) more [] (Faulty fault)) (sym says) (refl, refl)) in
+    (subst (λ said. PrintsFrom number (effect_of now said) more [] (Faulty fault)) (sym says) (refl, refl)) in
     subst (GivesUpTo contents old new (Prints first_stage 1 lines)) (sym is)
     (stopped contents now number lines left old new new (Fault fault) so_far
     (inr ([], subst (λ (ls : List (List ℕ)). Prints now number ls [] (Faulty fault)) (sym e) p, Passes-nothing contents new)))
 
 -- the next line was done
 pub line_goes_on : {A W : Type 0} (contents : W → Option (List ℕ)) (now : Stage) (next : code.Stage A) (number : ℕ) (lines left more : List (List ℕ)) (line : List ℕ) (old mid new : PagedOutput W)
-    → SoFar W contents now number lines left old mid → left ≡ line ∷ more → GivesAction contents number (action_of now (line_says line)) mid new (Ok next)
+    → SoFar W contents now number lines left old mid → left ≡ line ∷ more → GivesEffect contents number (effect_of now (line_says line)) mid new (Ok next)
     → SoFar W contents (stage_of next) (number + 1) lines more old new
 line_goes_on contents now next number lines left more line old mid new so_far e (here, passes, on) = record {
   read = so_far.read ++ line ∷ [];
@@ -101,13 +101,13 @@ line_goes_on contents now next number lines left more line old mid new so_far e 
       (so_far.back (line ∷ left) (here ++ text) ending (prints_line now number line left (here ++ text) ending (on left text ending p))));
 }
 
--- what may be printed from a line on is what its action and then the lines behind it may print
+-- what may be printed from a line on is what its effect and then the lines behind it may print
 stopped_at_line : {W : Type 0} (contents : W → Option (List ℕ)) (now : Stage) (number : ℕ) (line : List ℕ) (left more : List (List ℕ)) (old new : PagedOutput W) (stop : Stop) → left ≡ line ∷ more
-    → GivesUpTo contents old new (PrintsFrom number (action_of now (line_says line)) more) stop → GivesUpTo contents old new (Prints now number left) stop
+    → GivesUpTo contents old new (PrintsFrom number (effect_of now (line_says line)) more) stop → GivesUpTo contents old new (Prints now number left) stop
 stopped_at_line contents now number line left more old new stop e h =
     subst (λ (ls : List (List ℕ)). GivesUpTo contents old new (Prints now number ls) stop) (sym e) (by_cases stop h)
   where
-    by_cases : (s : Stop) → GivesUpTo contents old new (PrintsFrom number (action_of now (line_says line)) more) s → GivesUpTo contents old new (Prints now number (line ∷ more)) s
+    by_cases : (s : Stop) → GivesUpTo contents old new (PrintsFrom number (effect_of now (line_says line)) more) s → GivesUpTo contents old new (Prints now number (line ∷ more)) s
     by_cases (Fault fault) (inl (memory, (text, ending, prints, passes))) = inl (memory, (text, ending, prints_line now number line more text ending prints, passes))
     by_cases (Fault fault) (inr (text, prints, passes)) = inr (text, prints_line now number line more text (Faulty fault) prints, passes)
     by_cases (Input error) (text, ending, prints, passes) = (text, ending, prints_line now number line more text ending prints, passes)
@@ -115,7 +115,7 @@ stopped_at_line contents now number line left more old new stop e h =
 
 -- the next line stopped the script
 pub line_stops : {W : Type 0} (contents : W → Option (List ℕ)) (now : Stage) (number : ℕ) (lines left more : List (List ℕ)) (line : List ℕ) (old mid new : PagedOutput W) (stop : Stop)
-    → SoFar W contents now number lines left old mid → left ≡ line ∷ more → GivesAction {A = ℕ} contents number (action_of now (line_says line)) mid new (Err stop)
+    → SoFar W contents now number lines left old mid → left ≡ line ∷ more → GivesEffect {A = ℕ} contents number (effect_of now (line_says line)) mid new (Err stop)
     → GivesUpTo contents old new (Prints first_stage 1 lines) stop
 line_stops contents now number lines left more line old mid new stop so_far e done =
     stopped contents now number lines left old mid new stop so_far (stopped_at_line contents now number line left more mid new stop e (done more))
@@ -151,9 +151,9 @@ wants_none contents bytes left old new number stop is = subst (GivesUpToWant con
 -- the next line stopped the script
 pub line_wants : {W : Type 0} (contents : W → Option (List ℕ)) (now : Stage) (number : ℕ) (bytes rest : List ℕ) (remaining : Option (List ℕ)) (left : List (List ℕ)) (line : List ℕ) (old mid new : PagedOutput W) (stop : Stop)
     → SoFar W contents now number (lines_of bytes) left old mid → left ≡ line ∷ lines_of rest → remaining ≡ Some rest → StopsBy contents number mid new stop
-    → GivesAction {A = ℕ} contents number (action_of now (line_says line)) mid new (Err stop) → GivesUpToWant contents bytes remaining old new stop
+    → GivesEffect {A = ℕ} contents number (effect_of now (line_says line)) mid new (Err stop) → GivesUpToWant contents bytes remaining old new stop
 line_wants contents now number bytes rest remaining left line old mid new (Fault fault) so_far e read (same, here, passes) given = λ w.
-    let begun = beginning_of contents mid new (PrintsFrom number (action_of now (line_says line)) []) fault (given []) in
+    let begun = beginning_of contents mid new (PrintsFrom number (effect_of now (line_says line)) []) fault (given []) in
     inr (record {
       before = so_far.read;
       line = line;

@@ -13,8 +13,8 @@ use Rattle.script_replay.specs.declared.stage.Stage as code
 use Rattle.script_replay.specs.declared.stage.Stage.TheVariants.{SettingUp as SettingUpCode, Acting as ActingCode}
 use Rattle.script_stops.specs.declared.stop.Stop.{Stop}
 use Rattle.script_stops.specs.declared.stop.Stop.TheVariants.{Fault, Output}
-use Rattle.script_replay.specs.Stage.{Stage, Setup, Acting, Action, Fails, first_stage}
-use Rattle.script_replay.specs.Replay.{Ending, Finished, Faulty, Prints, PrintsAction}
+use Rattle.script_replay.specs.Stage.{Stage, Setup, Acting, Effect, Fails, first_stage}
+use Rattle.script_replay.specs.Replay.{Ending, Finished, Faulty, Prints, PrintsEffect}
 use Rattle.script_replay.specs.Leaving.{StopsAt}
 
 -- what a stage of the code stands for
@@ -26,17 +26,17 @@ stage_of (ActingCode world) = Acting (setting_of world) (world_of world)
 abbrev pub Printable : Type 1
 Printable = List ℕ → Ending → Type 0
 
--- what an action and then these lines may print; the action's line has this number
-abbrev pub PrintsFrom : ℕ → Action → List (List ℕ) → List ℕ → Ending → Type 0
-PrintsFrom number action more text ending =
-    PrintsAction number action (λ stage rest. Prints stage (number + 1) more rest ending) text ending
+-- what an effect and then these lines may print; the effect's line has this number
+abbrev pub PrintsFrom : ℕ → Effect → List (List ℕ) → List ℕ → Ending → Type 0
+PrintsFrom number effect more text ending =
+    PrintsEffect number effect (λ stage rest. Prints stage (number + 1) more rest ending) text ending
 
 -- ---- one line
 
--- a line is at fault for its action, or memory was wanting
-abbrev pub IsFaultOf : ℕ → Action → Stop → Type 0
-IsFaultOf number action (Fault fault) = (fault.line ≡ number) × ((fault.cause ≡ OutOfMemory) ⊎ (action ≡ Fails fault.cause))
-IsFaultOf number action _ = ⊥
+-- a line is at fault by its effect, or memory was wanting
+abbrev pub IsFaultOf : ℕ → Effect → Stop → Type 0
+IsFaultOf number effect (Fault fault) = (fault.line ≡ number) × ((fault.cause ≡ OutOfMemory) ⊎ (effect ≡ Fails fault.cause))
+IsFaultOf number effect _ = ⊥
 
 -- a beginning of what may be printed was given
 abbrev pub GivesBeginning : {W : Type 0} → (W → Option (List ℕ)) → PagedOutput W → PagedOutput W → Printable → Type 0
@@ -48,15 +48,15 @@ GivesUpTo contents old new P (Fault fault) =
     ((fault.cause ≡ OutOfMemory) × GivesBeginning contents old new P) ⊎ ((text : List ℕ) × P text (Faulty fault) × Passes contents old new text)
 GivesUpTo contents old new P _ = GivesBeginning contents old new P
 
--- an action was done, and the lines behind it go on from a stage; or it stopped there
-abbrev pub GivesAction : {A W : Type 0} → (W → Option (List ℕ)) → ℕ → Action → PagedOutput W → PagedOutput W
+-- an effect came about, and the lines behind it go on from a stage; or it stopped there
+abbrev pub GivesEffect : {A W : Type 0} → (W → Option (List ℕ)) → ℕ → Effect → PagedOutput W → PagedOutput W
     → Result (code.Stage A) Stop → Type 0
-GivesAction contents number action old new (Ok next) =
+GivesEffect contents number effect old new (Ok next) =
     (here : List ℕ) × Passes contents old new here
     × ((more : List (List ℕ)) (text : List ℕ) (ending : Ending) → Prints (stage_of next) (number + 1) more text ending
-    → PrintsFrom number action more (here ++ text) ending)
-GivesAction contents number action old new (Err stop) =
-    (more : List (List ℕ)) → GivesUpTo contents old new (PrintsFrom number action more) stop
+    → PrintsFrom number effect more (here ++ text) ending)
+GivesEffect contents number effect old new (Err stop) =
+    (more : List (List ℕ)) → GivesUpTo contents old new (PrintsFrom number effect more) stop
 
 -- a line that is at fault, or at which memory was wanting, is told by its number, and nothing that was given is lost
 abbrev pub StopsBy : {W : Type 0} → (W → Option (List ℕ)) → ℕ → PagedOutput W → PagedOutput W → Stop → Type 0

@@ -5,24 +5,24 @@ use Rattle.script.specs.Text.{lines_of}
 use Rattle.script.specs.Script.{line_says}
 use Rattle.script_settings.specs.declared.cause.ScriptFault.{ScriptFault}
 use Rattle.script_actions.specs.Actions.{Does}
-use Rattle.script_replay.specs.Stage.{Stage, Acting, first_stage, Action, Fails, Goes, Acts, action_of}
+use Rattle.script_replay.specs.Stage.{Stage, Acting, first_stage, Effect, Fails, Goes, Acts, effect_of}
 
 pub data Ending : Type 0 where
   Finished : Ending
   Faulty : ScriptFault → Ending
 
--- what an action prints, followed by what is printed from the stage behind it
-abbrev pub PrintsAction : ℕ → Action → (Stage → List ℕ → Type 0) → List ℕ → Ending → Type 0
-PrintsAction number (Fails cause) Behind text ending = (text ≡ []) × (ending ≡ Faulty (record { line = number; cause = cause }))
-PrintsAction number (Goes stage) Behind text ending = Behind stage text
-PrintsAction number (Acts w before c) Behind text ending =
+-- what an effect prints, followed by what is printed from the stage behind it
+abbrev pub PrintsEffect : ℕ → Effect → (Stage → List ℕ → Type 0) → List ℕ → Ending → Type 0
+PrintsEffect number (Fails cause) Behind text ending = (text ≡ []) × (ending ≡ Faulty (record { line = number; cause = cause }))
+PrintsEffect number (Goes stage) Behind text ending = Behind stage text
+PrintsEffect number (Acts w before c) Behind text ending =
     (here rest : List ℕ) × (after : World) × Does w before c here after × (text ≡ here ++ rest) × Behind (Acting w after) rest
 
 -- what lines print from a stage on, and how they end; the first of them has this number. A line at fault ends the script
 unfoldable pub Prints : Stage → ℕ → List (List ℕ) → List ℕ → Ending → Type 0
 Prints stage number [] text ending = (text ≡ []) × (ending ≡ Finished)
 Prints stage number (line ∷ lines) text ending =
-    PrintsAction number (action_of stage (line_says line)) (λ after rest. Prints after (number + 1) lines rest ending) text ending
+    PrintsEffect number (effect_of stage (line_says line)) (λ after rest. Prints after (number + 1) lines rest ending) text ending
 
 -- what a script of these bytes prints
 abbrev pub ScriptPrints : List ℕ → List ℕ → Ending → Type 0

@@ -1,19 +1,20 @@
 //! Doing a line of a script.
 
-ghost use Rattle.std.specs.Prelude.{◌≡◌, true, false, Some, Ok, IfOk, IfErr};
+ghost use Rattle.std.specs.Prelude.{◌≡◌, Some, Ok, IfOk, IfErr};
 ghost use Rattle.byte_output.specs.Pending.{output_of};
 ghost use Rattle.script_actions.specs.Actions.{setting_of, world_of};
-ghost use Rattle.script.specs.Script.{ScriptCommand, IsWithinLimits, line_says};
-ghost use Rattle.script_settings.specs.Settings.{is_setting};
-ghost use Rattle.script_replay.specs.Stage.{Goes, Acts, first_action, action_of};
-ghost use Rattle.script_replay.specs.Doing.{stage_of, IsFaultOf, GivesAction, StopsBy};
+ghost use Rattle.script.specs.declared.statements.Statement.TheVariants as statement;
+ghost use Rattle.script.specs.Script.{IsSettingWithinLimits, IsActionWithinLimits, IsWithinLimits};
+ghost use Rattle.script.specs.Script.{ScriptAction, line_says};
+ghost use Rattle.script_replay.specs.Stage.{Goes, Acts, first_effect, effect_of};
+ghost use Rattle.script_replay.specs.Doing.{stage_of, IsFaultOf, GivesEffect, StopsBy};
 
 use crate::stage::Stage;
 use byte_output::paged::PagedOutput;
 use row_sets::Bytes;
-use script::{Command, command};
+use script::{Action, Setting, Statement, statement};
 use script_actions::{Failure, World, act};
-use script_settings::{FaultCause, Settings, is_setting};
+use script_settings::{FaultCause, Settings};
 use script_stops::{Stop, fault_at, out_of_memory};
 use std::alloc::Allocator;
 use std::io::Write;
@@ -27,51 +28,53 @@ pub(crate) fn do_line<A: Allocator + Copy, W: Write>(
     number: u64,
 ) -> Result<Stage<A>, Stop>
     ensures same_output { (output_of output.new).ghost_name ≡ (output_of output.old).ghost_name }
-    ensures done { GivesAction W.contents number (action_of (stage_of stage) (line_says line.now)) output.old output.new result }
+    ensures done { GivesEffect W.contents number (effect_of (stage_of stage) (line_says line.now))
+        output.old output.new result }
     ensures stopped { IfErr result (StopsBy W.contents number output.old output.new) }
 {
-    match command(alloc, line) {
+    match statement(alloc, line) {
         Ok(None) => Ok(stage),
-        Ok(Some(command)) => do_command(alloc, stage, output, command, number),
+        Ok(Some(statement)) => do_statement(alloc, stage, output, statement, number),
         Err(fault) => Err(fault_at(number, FaultCause::from(fault))),
     }
 }
 
-/// Does what a command says.
-fn do_command<A: Allocator + Copy, W: Write>(
+/// Does a statement: sets something, or acts.
+fn do_statement<A: Allocator + Copy, W: Write>(
     alloc: A,
     stage: Stage<A>,
     output: &mut PagedOutput<'_, W>,
-    command: Command<Bytes<A>>,
+    statement: Statement<Bytes<A>>,
     number: u64,
 ) -> Result<Stage<A>, Stop>
-    requires { IsWithinLimits command }
+    requires { IsWithinLimits statement }
     ensures same_output { (output_of output.new).ghost_name ≡ (output_of output.old).ghost_name }
-    ensures done { GivesAction W.contents number (action_of (stage_of stage) (Ok (Some command))) output.old output.new result }
+    ensures done { GivesEffect W.contents number (effect_of (stage_of stage) (Ok (Some statement)))
+        output.old output.new result }
     ensures stopped { IfErr result (StopsBy W.contents number output.old output.new) }
 {
-    if is_setting(&command) {
-        return set(stage, command, number);
+    match statement {
+        Statement::Setting(setting) => set(stage, setting, number),
+        Statement::Action(action) => do_action(alloc, stage, output, action, number),
     }
-    let world = acting(alloc, stage, number)?;
-    act_on(alloc, world, output, &command, number)
 }
 
-/// Sets what a command says, before a world acts.
+/// Sets something, before a world acts.
 fn set<A: Allocator + Copy>(
     stage: Stage<A>,
-    command: Command<Bytes<A>>,
+    setting: Setting<Bytes<A>>,
     number: u64,
 ) -> Result<Stage<A>, Stop>
-    requires sets { is_setting command ≡ true }
-    requires limits { IsWithinLimits command }
-    ensures ok { IfOk result (λ next. action_of (stage_of stage) (Ok (Some command)) ≡ Goes (stage_of next)) }
-    ensures fault { IfErr result (IsFaultOf number (action_of (stage_of stage) (Ok (Some command)))) }
+    requires { IsSettingWithinLimits setting }
+    ensures ok { IfOk result (λ next.
+        effect_of (stage_of stage) (Ok (Some (statement.Setting setting))) ≡ Goes (stage_of next)) }
+    ensures fault { IfErr result
+        (IsFaultOf number (effect_of (stage_of stage) (Ok (Some (statement.Setting setting))))) }
 {
     match stage {
         Stage::SettingUp(settings) => {
             let mut settings = settings;
-            match settings.set(command) {
+            match settings.set(setting) {
                 Ok(()) => Ok(Stage::SettingUp(settings)),
                 Err(cause) => Err(fault_at(number, cause)),
             }
@@ -80,12 +83,31 @@ fn set<A: Allocator + Copy>(
     }
 }
 
+/// Does an action, on the world that acts.
+fn do_action<A: Allocator + Copy, W: Write>(
+    alloc: A,
+    stage: Stage<A>,
+    output: &mut PagedOutput<'_, W>,
+    action: Action<Bytes<A>>,
+    number: u64,
+) -> Result<Stage<A>, Stop>
+    requires { IsActionWithinLimits action }
+    ensures same_output { (output_of output.new).ghost_name ≡ (output_of output.old).ghost_name }
+    ensures done { GivesEffect W.contents number (effect_of (stage_of stage) (Ok (Some (statement.Action action))))
+        output.old output.new result }
+    ensures stopped { IfErr result (StopsBy W.contents number output.old output.new) }
+{
+    let world = acting(alloc, stage, number)?;
+    act_on(alloc, world, output, &action, number)
+}
+
 /// The world that acts: at first the one that was set up.
 fn acting<A: Allocator + Copy>(alloc: A, stage: Stage<A>, number: u64) -> Result<World<A>, Stop>
-    ensures ok { IfOk result (λ world. (c : ScriptCommand) → is_setting c ≡ false
-        → action_of (stage_of stage) (Ok (Some c)) ≡ Acts (setting_of world) (world_of world) c) }
-    ensures fault { IfErr result (λ stop. (c : ScriptCommand) → is_setting c ≡ false
-        → IsFaultOf number (action_of (stage_of stage) (Ok (Some c))) stop) }
+    ensures ok { IfOk result (λ world. (action : ScriptAction)
+        → effect_of (stage_of stage) (Ok (Some (statement.Action action)))
+        ≡ Acts (setting_of world) (world_of world) action) }
+    ensures fault { IfErr result (λ stop. (action : ScriptAction)
+        → IsFaultOf number (effect_of (stage_of stage) (Ok (Some (statement.Action action)))) stop) }
 {
     match stage {
         Stage::SettingUp(settings) => set_up(alloc, settings, number),
@@ -99,10 +121,11 @@ fn set_up<A: Allocator + Copy>(
     settings: Settings<A>,
     number: u64,
 ) -> Result<World<A>, Stop>
-    ensures ok { IfOk result (λ world. (c : ScriptCommand)
-        → first_action settings settings.window settings.replicas c ≡ Acts (setting_of world) (world_of world) c) }
-    ensures fault { IfErr result (λ stop. (c : ScriptCommand)
-        → IsFaultOf number (first_action settings settings.window settings.replicas c) stop) }
+    ensures ok { IfOk result (λ world. (action : ScriptAction)
+        → first_effect settings settings.window settings.replicas action
+        ≡ Acts (setting_of world) (world_of world) action) }
+    ensures fault { IfErr result (λ stop. (action : ScriptAction)
+        → IsFaultOf number (first_effect settings settings.window settings.replicas action) stop) }
 {
     let Some(window) = settings.window() else {
         return Err(fault_at(number, FaultCause::Place));
@@ -116,22 +139,22 @@ fn set_up<A: Allocator + Copy>(
     }
 }
 
-/// Does a command of a world that acts.
+/// Does an action of a world.
 fn act_on<A: Allocator + Copy, W: Write>(
     alloc: A,
     world: World<A>,
     output: &mut PagedOutput<'_, W>,
-    command: &Command<Bytes<A>>,
+    action: &Action<Bytes<A>>,
     number: u64,
 ) -> Result<Stage<A>, Stop>
-    requires acts { is_setting command.now ≡ false }
-    requires limits { IsWithinLimits command.now }
+    requires { IsActionWithinLimits action.now }
     ensures same_output { (output_of output.new).ghost_name ≡ (output_of output.old).ghost_name }
-    ensures done { GivesAction W.contents number (Acts (setting_of world) (world_of world) command.now) output.old output.new result }
+    ensures done { GivesEffect W.contents number (Acts (setting_of world) (world_of world) action.now)
+        output.old output.new result }
     ensures stopped { IfErr result (StopsBy W.contents number output.old output.new) }
 {
     let mut world = world;
-    match act(alloc, &mut world, output, command) {
+    match act(alloc, &mut world, output, action) {
         Ok(()) => Ok(Stage::Acting(world)),
         Err(Failure::OutOfMemory) => Err(out_of_memory(number)),
         Err(Failure::Output(error)) => Err(Stop::Output(error)),

@@ -1,11 +1,12 @@
 //! What all calls of a script were answered, and the longest beginning of the log that was seen.
 
-ghost use Rattle.std.specs.Prelude.{◌≡◌, ℕ, ◌<◌, List, All, IfOk, IfSome, Some, map, length, slice_get, vec_len};
+ghost use Rattle.std.specs.Prelude.{◌≡◌, ℕ, ◌<◌, List, All, IfOk, IfSome, Some, length, slice_get, vec_len};
 ghost use mathlib.Core.List.{IsPrefix};
 ghost use Rattle.log_model.specs.Log.{Setting};
 ghost use Rattle.node.specs.Requests.{AreEntriesOf, entries_of};
 ghost use Rattle.script_calls.specs.declared.call.ScriptCall.{ScriptCall};
 ghost use Rattle.script_run.specs.Answered.{AreFoundOf, AreToldOf, IsEndOf, IsMadeCall, IsToldOf};
+ghost use Rattle.script_run.specs.Planned.{planned_calls};
 
 use crate::asking::{Asking, MadeCall};
 use crate::text::ReplicaEnd;
@@ -106,9 +107,9 @@ impl<J: LogSetting + Ledgers + Send + Sync + 'static> Found<J> {
         requires place { place < vec_len asking.now.calls }
         requires len { vec_len self.old.answers ≡ vec_len asking.now.calls }
         requires found { AreFoundOf J.setting desk.now.replicas self.old.log
-            (map (λ planned. planned.call) asking.now.calls.items) self.old.answers.items }
+            (planned_calls asking.now.calls.items) self.old.answers.items }
         ensures told { (call : ScriptCall (List ℕ))
-            → slice_get (map (λ planned. planned.call) asking.now.calls.items) place ≡ Some call
+            → slice_get (planned_calls asking.now.calls.items) place ≡ Some call
             → IsToldOf J.setting desk.now.replicas self.new.log call result }
         ensures log { IsPrefix self.old.log self.new.log }
         ensures same { self.new.answers ≡ self.old.answers }
@@ -134,10 +135,10 @@ pub(crate) fn answers_of<J: LogSetting + Ledgers + Send + Sync + 'static, R: Wai
     shares: Vec<Vec<MadeCall<J>>>,
 ) -> Result<(Vec<CallAnswer>, Seen<J>), AllocError>
     requires { All (λ share. All
-        (IsMadeCall J.setting desk.now.replicas (map (λ planned. planned.call) asking.now.calls.items)) share.items) shares.items }
+        (IsMadeCall J.setting desk.now.replicas (planned_calls asking.now.calls.items)) share.items) shares.items }
     ensures len { IfOk result (λ r. vec_len r.0 ≡ vec_len asking.now.calls) }
     ensures told { IfOk result (λ r. AreToldOf J.setting desk.now.replicas r.1
-        (map (λ planned. planned.call) asking.now.calls.items) r.0.items) }
+        (planned_calls asking.now.calls.items) r.0.items) }
 {
     let count = asking.calls.len();
     let mut answers = Vec::with_capacity(alloc, count)?;

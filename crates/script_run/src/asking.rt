@@ -1,8 +1,10 @@
 //! Calling threads: each replica's calls are taken in the order of the script.
 
-ghost use Rattle.std.specs.Prelude.{◌≡◌, All, IfOk, [], false, map};
-ghost use Rattle.script_run.specs.Answered.{IsMadeCall, number_named};
+ghost use Rattle.std.specs.Prelude.{◌≡◌, All, IfOk, [], false};
+ghost use Rattle.script_run.specs.Answered.{IsMadeCall};
+ghost use Rattle.script_run.specs.Planned.{planned_calls};
 
+use crate::planned::PlannedCall;
 use crate::told::answer_to;
 use catalogue::Catalogue;
 use node::Desk;
@@ -21,15 +23,6 @@ use std::sync::atomic::Ordering::SeqCst;
 use std::thread;
 use std::thread::Threads;
 use tallies::Ledgers;
-
-/// A call of a script, with the number that its procedure has in the log's catalogue: none where no procedure has its name.
-#[derive(Drop)]
-pub(crate) struct PlannedCall<J: LogSetting> {
-    pub(crate) call: ScriptCall<Bytes<Global>>,
-    pub(crate) procedure: Option<u16>,
-    of: PhantomData<J>,
-    ghost numbered: { procedure ≡ number_named J.setting.catalogue call.name },
-}
 
 /// A call that was made.
 #[derive(Drop)]
@@ -58,7 +51,7 @@ impl<J: LogSetting + Ledgers + Send + Sync + 'static> Asking<J> {
         script: Vec<ScriptCall<Bytes<Global>>>,
     ) -> Result<Asking<J>, AllocError>
         requires { catalogue.now.procedures ≡ J.setting.catalogue }
-        ensures { IfOk result (λ asking. map (λ planned. planned.call) asking.calls.items ≡ script.items) }
+        ensures { IfOk result (λ asking. planned_calls asking.calls.items ≡ script.items) }
     {
         let mut calls = Vec::with_capacity(alloc, script.len())?;
         for call in script {
@@ -89,7 +82,7 @@ impl<J: LogSetting + Ledgers + Send + Sync + 'static> Asking<J> {
         shows_progress: bool,
     ) -> Result<Vec<Vec<MadeCall<J>>>, AllocError>
         ensures made { IfOk result (λ shares. All (λ share. All
-            (IsMadeCall J.setting desk.now.replicas (map (λ planned. planned.call) self.now.calls.items)) share.items) shares.items) }
+            (IsMadeCall J.setting desk.now.replicas (planned_calls self.now.calls.items)) share.items) shares.items) }
         ensures silent { shows_progress ≡ false → faults.new ≡ faults.old }
     {
         let mut shares = self.empty_shares(alloc, executors)?;
@@ -135,9 +128,9 @@ impl<J: LogSetting + Ledgers + Send + Sync + 'static> Asking<J> {
         end: usize,
     )
         requires { All (λ share. All
-            (IsMadeCall J.setting desk.now.replicas (map (λ planned. planned.call) self.now.calls.items)) share.items) shares.old }
+            (IsMadeCall J.setting desk.now.replicas (planned_calls self.now.calls.items)) share.items) shares.old }
         ensures { All (λ share. All
-            (IsMadeCall J.setting desk.now.replicas (map (λ planned. planned.call) self.now.calls.items)) share.items) shares.new }
+            (IsMadeCall J.setting desk.now.replicas (planned_calls self.now.calls.items)) share.items) shares.new }
     {
         for next in self.next.iter() {
             next.store(start, SeqCst);
@@ -149,7 +142,7 @@ impl<J: LogSetting + Ledgers + Send + Sync + 'static> Asking<J> {
             threads,
             &|thread: usize, share: &mut Vec<MadeCall<J>>|
                 requires { All (IsMadeCall J.setting desk.now.replicas
-                    (map (λ planned. planned.call) self.now.calls.items)) share.now.items }
+                    (planned_calls self.now.calls.items)) share.now.items }
             { self.ask_from(rt, desk, thread, end, share) },
         );
     }
@@ -164,8 +157,8 @@ impl<J: LogSetting + Ledgers + Send + Sync + 'static> Asking<J> {
         end: usize,
         share: &mut Vec<MadeCall<J>>,
     )
-        requires { All (IsMadeCall J.setting desk.now.replicas (map (λ planned. planned.call) self.now.calls.items)) share.old.items }
-        ensures { All (IsMadeCall J.setting desk.now.replicas (map (λ planned. planned.call) self.now.calls.items)) share.new.items }
+        requires { All (IsMadeCall J.setting desk.now.replicas (planned_calls self.now.calls.items)) share.old.items }
+        ensures { All (IsMadeCall J.setting desk.now.replicas (planned_calls self.now.calls.items)) share.new.items }
     {
         let replica = thread % self.next.len().max(1);
         let Some(next) = self.next.get(replica) else {

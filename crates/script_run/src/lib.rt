@@ -5,6 +5,7 @@ pub use run::{RunOptions, run_over};
 
 mod answers;
 mod asking;
+mod planned;
 mod run;
 mod text;
 mod told;

@@ -1,11 +1,12 @@
 //! A script is run on a node.
 
-ghost use Rattle.std.specs.Prelude.{◌≡◌, ◌⊎◌, ◌<◌, ◌^◌, IfOk, IfSome, false, map, vec_len};
+ghost use Rattle.std.specs.Prelude.{◌≡◌, ◌⊎◌, ◌<◌, ◌^◌, IfOk, IfSome, false, vec_len};
 ghost use Rattle.byte_output.specs.Writes.{WritesText};
 ghost use Rattle.exit_status.specs.declared.status.TheConstants.{FAILED};
 ghost use Rattle.tallies.specs.Shared.{names_by_place};
 ghost use Rattle.script_calls.specs.Reading.{said_by};
 ghost use Rattle.script_run.specs.Answered.{AreToldOf};
+ghost use Rattle.script_run.specs.Planned.{planned_calls};
 ghost use Rattle.script_run.specs.Printed.{IsReportOf, IsRun, PrintsNoMore, PrintsReport, PrintsRun, SaysFault};
 ghost use Rattle.script_run.specs.Printed.{report_of, run_text};
 
@@ -241,7 +242,7 @@ fn ask<J: LogSetting + Ledgers + Send + Sync + 'static, R: Threads + Wait + Sync
 ) -> Result<(Vec<CallAnswer>, Seen<J>), AllocError>
     ensures len { IfOk result (λ r. vec_len r.0 ≡ vec_len asking.now.calls) }
     ensures told { IfOk result (λ r. AreToldOf J.setting desk.now.replicas r.1
-        (map (λ planned. planned.call) asking.now.calls.items) r.0.items) }
+        (planned_calls asking.now.calls.items) r.0.items) }
     ensures silent { shows_progress ≡ false → faults.new ≡ faults.old }
 {
     let shares = asking.ask_all(rt, alloc, desk, executors, faults, shows_progress)?;

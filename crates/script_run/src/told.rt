@@ -4,7 +4,7 @@ ghost use Rattle.std.specs.Prelude.{◌≡◌, ◌≢◌, Some};
 ghost use Rattle.node_calls.specs.declared.answer.Answer.TheVariants.{Behind};
 ghost use Rattle.script_run.specs.Answered.{IsTold, IsUnnamed, refusal_told, told};
 
-use crate::asking::PlannedCall;
+use crate::planned::PlannedCall;
 use dsm_model::StepRefusal;
 use node::Desk;
 use node_calls::{Answer, CallRefusal, OpenGate};

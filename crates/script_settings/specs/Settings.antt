@@ -1,5 +1,5 @@
 -- What the setting lines of a script have set so far.
-use Rattle.std.specs.Prelude.{ℕ, ◌≤◌, ◌==◌, Bool, true, false, if◌then◌else◌, List, [], ◌∷◌, ◌++◌, length, Option, Some, None, Result, Ok, Err, IfSome, refl}
+use Rattle.std.specs.Prelude.{ℕ, ◌≤◌, ◌==◌, if◌then◌else◌, List, [], ◌∷◌, ◌++◌, length, Option, Some, None, Result, Ok, Err, IfSome, refl}
 use Rattle.std.specs.Coded.{Coded, code_by, coded×, coded_ℕ, coded_option}
 use Rattle.std.specs.FinMap.{empty}
 use Rattle.bpf_code.specs.Program.{Program}
@@ -12,8 +12,8 @@ use Rattle.catalogue.specs.Catalogue.{stored_of}
 pub use Rattle.catalogue.specs.Catalogue.{SystemCatalogue}
 use Rattle.catalogue.specs.Held.{catalogue_code}
 use Rattle.catalogue.specs.Fault.{fault_of}
-use Rattle.script.specs.declared.commands.Command.TheVariants as command
-use Rattle.script.specs.Script.{ScriptCommand}
+use Rattle.script.specs.declared.statements.Setting.TheVariants as setting
+use Rattle.script.specs.Script.{ScriptSetting}
 use Rattle.script_settings.specs.declared.cause.FaultCause.{FaultCause}
 use Rattle.script_settings.specs.declared.cause.FaultCause.TheVariants as cause
 use Rattle.script_settings.specs.Acceptance.{refusal_of}
@@ -83,22 +83,14 @@ abbrev pub once : Option ℕ → ℕ → Result (Option ℕ) FaultCause
 once None n = Ok (Some n)
 once (Some _) n = Err cause.Place
 
--- the settings after one more line; a line that sets nothing doesn't stand here
-unfoldable pub setting_after : ScriptSettings → ScriptCommand → Result ScriptSettings FaultCause
-setting_after s (command.Window window) = then_with (once s.window window) (λ window. Ok (record s { window = window }))
-setting_after s (command.Replicas replicas) = then_with (once s.replicas replicas) (λ replicas. Ok (record s { replicas = replicas }))
-setting_after s (command.Table table width) =
+-- the settings after one more line
+unfoldable pub setting_after : ScriptSettings → ScriptSetting → Result ScriptSettings FaultCause
+setting_after s (setting.Window window) = then_with (once s.window window) (λ window. Ok (record s { window = window }))
+setting_after s (setting.Replicas replicas) = then_with (once s.replicas replicas) (λ replicas. Ok (record s { replicas = replicas }))
+setting_after s (setting.Table table width) =
     then_with (with_table s.catalogue table width) (λ catalogue. Ok (record s { catalogue = catalogue }))
-setting_after s (command.Procedure name number args_len program) =
+setting_after s (setting.Procedure name number args_len program) =
     then_with (with_procedure s.catalogue name number args_len program) (λ catalogue. Ok (record s { catalogue = catalogue }))
-setting_after s _ = Err cause.Place
-
-abbrev pub is_setting : ScriptCommand → Bool
-is_setting (command.Window window) = true
-is_setting (command.Replicas replicas) = true
-is_setting (command.Table table width) = true
-is_setting (command.Procedure name number args_len program) = true
-is_setting _ = false
 
 -- what is known of all settings
 pub record AreWithinLimits (window replicas : Option ℕ) : Type 0 where

@@ -2,7 +2,7 @@
 #![tactic(auto)]
 
 pub use cause::{FaultCause, ScriptFault};
-pub use settings::{Settings, is_setting};
+pub use settings::Settings;
 
 mod cause;
 mod procedure;

@@ -1,9 +1,9 @@
 //! What the setting lines of a script have set so far.
 
 ghost use Rattle.std.specs.Prelude.{◌≡◌, ◌⊎◌, ◌≤◌, Ok, Err, IfOk, IfErr, IfSome, OnOk, OnErr};
-ghost use Rattle.script.specs.Script.{IsWithinLimits};
-ghost use Rattle.script_settings.specs.Settings.{no_settings, once, setting_after, is_setting};
-ghost use Rattle.script_settings.specs.declared.cause.FaultCause.TheVariants.{OutOfMemory, Place};
+ghost use Rattle.script.specs.Script.{IsSettingWithinLimits};
+ghost use Rattle.script_settings.specs.Settings.{no_settings, once, setting_after};
+ghost use Rattle.script_settings.specs.declared.cause.FaultCause.TheVariants.{OutOfMemory};
 
 use crate::cause::FaultCause;
 use crate::procedure::add_procedure;
@@ -11,7 +11,7 @@ use crate::table::add_table;
 use catalogue::Catalogue;
 use row_sets::Bytes;
 use schema::{Schema, SchemaFault};
-use script::Command;
+use script::Setting;
 use std::alloc::{AllocError, Allocator, Global};
 use std::marker::Model;
 
@@ -39,19 +39,6 @@ impl<A: Allocator + Copy> Model for Settings<A> {
     ghost invariant = { λ s. (schema_of s.pairs.items ≡ Ok s.catalogue.tables) × AreWithinLimits s.window s.replicas };
 }
 
-/// Whether a line sets something.
-pub fn is_setting<A: Allocator>(command: &Command<Bytes<A>>) -> bool
-    ensures { result ≡ is_setting command.now }
-{
-    matches!(
-        command,
-        Command::Window(_)
-            | Command::Replicas(_)
-            | Command::Table { .. }
-            | Command::Procedure { .. }
-    )
-}
-
 impl<A: Allocator + Copy> Settings<A> {
     /// Nothing is set.
     pub fn new(alloc: A) -> Result<Settings<A>, AllocError>
@@ -71,20 +58,20 @@ impl<A: Allocator + Copy> Settings<A> {
 
     /// Sets what a line says.
     #[tactic(auto, unfolding(crate::specs::Settings::setting_after))]
-    pub fn set(&mut self, command: Command<Bytes<A>>) -> Result<(), FaultCause>
-        // As a line's command is.
-        requires { IsWithinLimits command }
-        ensures ok { OnOk result (setting_after self.old command ≡ Ok self.new) }
-        ensures fault { IfErr result (λ cause. (cause ≡ OutOfMemory) ⊎ (setting_after self.old command ≡ Err cause)) }
+    pub fn set(&mut self, setting: Setting<Bytes<A>>) -> Result<(), FaultCause>
+        // As a line's setting is.
+        requires { IsSettingWithinLimits setting }
+        ensures ok { OnOk result (setting_after self.old setting ≡ Ok self.new) }
+        ensures fault { IfErr result (λ cause. (cause ≡ OutOfMemory) ⊎ (setting_after self.old setting ≡ Err cause)) }
         ensures unchanged { OnErr result (self.new ≡ self.old) }
     {
-        match command {
-            Command::Window(window) => set_once(&mut self.window, window),
-            Command::Replicas(replicas) => set_once(&mut self.replicas, replicas),
-            Command::Table { table, width } => {
+        match setting {
+            Setting::Window(window) => set_once(&mut self.window, window),
+            Setting::Replicas(replicas) => set_once(&mut self.replicas, replicas),
+            Setting::Table { table, width } => {
                 add_table(&mut self.pairs, &mut self.catalogue, table, width)
             }
-            Command::Procedure {
+            Setting::Procedure {
                 name,
                 number,
                 args_len,
@@ -97,7 +84,6 @@ impl<A: Allocator + Copy> Settings<A> {
                 args_len,
                 program.as_slice(),
             ),
-            _ => Err(FaultCause::Place),
         }
     }
 

@@ -1,6 +1,6 @@
 use row_sets::Bytes;
 use scarce::Scarce;
-use script::{Command, LineFault, MAX_LINE, Next, command, next_line};
+use script::{Action, LineFault, MAX_LINE, Next, Statement, next_line, statement};
 use std::alloc::{Allocator, Global};
 use std::io;
 use std::io::{BufRead, ErrorKind, Read};
@@ -88,7 +88,7 @@ const LINES: [(&[u8], u8); 76] = [
 
 /// The number of a line's fault; 0 where it says something.
 fn fault_number<A: Allocator + Copy>(alloc: A, line: &[u8]) -> u8 {
-    match command(alloc, line) {
+    match statement(alloc, line) {
         Ok(_) => 0,
         Err(fault) => fault.number(),
     }
@@ -112,7 +112,7 @@ fn the_longest_lines(rt: HostRuntime) {
         line[0] = first;
         assert_eq!(rt; fault_number(rt.alloc(), &line), number);
     }
-    assert!(rt; matches!(command(rt.alloc(), b""), Ok(None)));
+    assert!(rt; matches!(statement(rt.alloc(), b""), Ok(None)));
 }
 
 /// What a line gives: a name, bytes, and numbers.
@@ -125,14 +125,17 @@ const GIVEN: [(&[u8], Given<'static>); 3] = [
 ];
 
 /// The replica of a line that begins a call, and the request that it carries; or what a line that adds a procedure gives.
-fn given<A: Allocator>(command: &Command<Bytes<A>>) -> Option<Given<'_>> {
-    match command {
-        Command::Begin {
+fn given<A: Allocator>(statement: &Statement<Bytes<A>>) -> Option<Given<'_>> {
+    let Statement::Action(action) = statement else {
+        return None;
+    };
+    match action {
+        Action::Begin {
             replica,
             name,
             args,
         } => Some((name.as_slice(), args.as_slice(), [*replica, 0, 0])),
-        Command::BeginNumbered {
+        Action::BeginNumbered {
             replica,
             name,
             args,
@@ -143,7 +146,7 @@ fn given<A: Allocator>(command: &Command<Bytes<A>>) -> Option<Given<'_>> {
             args.as_slice(),
             [*replica, *session, *sequence],
         )),
-        Command::Add {
+        Action::Add {
             name,
             number,
             args_len,
@@ -159,9 +162,10 @@ fn given<A: Allocator>(command: &Command<Bytes<A>>) -> Option<Given<'_>> {
 
 /// Whether the line is read as what it gives; where it isn't, it was for want of memory.
 fn is_read(rt: &impl Abort, alloc: &Scarce, line: &[u8], expected: &Given<'_>) -> bool {
-    match command(alloc, line) {
-        Ok(said) => {
-            assert!(rt; said.as_ref().and_then(|said| given(said)).as_ref() == Some(expected));
+    match statement(alloc, line) {
+        Ok(statement) => {
+            let found = statement.as_ref().and_then(|statement| given(statement));
+            assert!(rt; found.as_ref() == Some(expected));
             true
         }
         Err(fault) => {

@@ -1,5 +1,5 @@
 use scarce::Scarce;
-use script::command;
+use script::{Statement, statement};
 use script_settings::{FaultCause, ScriptFault, Settings};
 use std::alloc::{Allocator, Global};
 use std::process::Abort;
@@ -10,9 +10,9 @@ fn set<A: Allocator + Copy>(
     alloc: A,
     text: &str,
 ) -> Result<(), FaultCause> {
-    match command(alloc, text.as_bytes())? {
-        Some(said) => settings.set(said),
-        None => Ok(()),
+    match statement(alloc, text.as_bytes())? {
+        Some(Statement::Setting(setting)) => settings.set(setting),
+        _ => Ok(()),
     }
 }
 
@@ -42,12 +42,11 @@ const INCREMENT: &str =
     bf800000000000009500000000000000";
 
 /// Lines, and the fault of the last.
-const FAULTS: [(&[&str], &str); 17] = [
+const FAULTS: [(&[&str], &str); 16] = [
     (&["window 0"], "line 1: L4"),
     (&["# \t"], "line 1: L1"),
     (&["", "jump 1"], "line 2: L2"),
     (&["window"], "line 1: L3"),
-    (&["deliver 1 1"], "line 1: L5"),
     (&["window 4", "replicas 2", "window 4"], "line 3: L5"),
     (&["replicas 2", "replicas 1"], "line 2: L5"),
     (&[ONE, "table 1 8"], "line 2: L5"),

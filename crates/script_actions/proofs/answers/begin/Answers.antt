@@ -8,7 +8,7 @@ use Rattle.dsm_world.proofs.Numbered.{numbered_map}
 use Rattle.replica.specs.Replica.{Replica as ReplicaState}
 use Rattle.report.specs.Answers.{text_of}
 use Rattle.report.specs.declared.printed.DeliveredEntry.TheVariants as delivered
-use Rattle.script_actions.specs.Actions.{begin_command, number_of_name}
+use Rattle.script_actions.specs.Actions.{begin_action, number_of_name}
 use Rattle.script_actions.specs.Printed.{step_text}
 use Rattle.script_actions.specs.Doing.{PassesBeginning, Gives}
 use Rattle.script_actions.proofs.GivenLemmas.{gives_done, lost_by}
@@ -20,7 +20,7 @@ returns-in_default-clause-done g c =
     let w = setting_of c.args.world.now in
     let before = world_of c.args.world.now in
     let none = numbered_map progress_of c.args.world.now.replicas c.args.replica ∙ ap (λ (o : Option ReplicaState). option_map progress_of o) (sym c.in_default.ensures) in
-    gives_done g.W.Write.contents w before (begin_command c.args.replica c.args.name.now c.args.args.now c.args.request) c.args.output.now c.put_answer.new.output c.put_answer.result before _
+    gives_done g.W.Write.contents w before (begin_action c.args.replica c.args.name.now c.args.args.now c.args.request) c.args.output.now c.put_answer.new.output c.put_answer.result before _
     (begins_nowhere w before c.args.replica c.args.name.now c.args.args.now c.args.request none)
     (subst (Gives g.W.Write.contents c.args.output.now c.put_answer.new.output c.put_answer.result) (ap text_of (c.begin_line.ensures 0 c.args.args.now c.args.request (delivered.Call None))) c.put_answer.ensures.given)
 
@@ -31,7 +31,7 @@ returns-in_default-by_name-clause-done g c =
     let there = numbered_map progress_of c.args.world.now.replicas c.args.replica ∙ ap (λ (o : Option ReplicaState). option_map progress_of o) (sym c.in-Some.ensures) in
     let named : number_of_name w before c.args.replica c.args.name.now ≡ None =
     named_at w before c.args.replica c.args.name.now _ None there (c.in_default-by_name.ensures.there c.in-Some._kept.now (sym c.in-Some.ensures)) in
-    gives_done g.W.Write.contents w before (begin_command c.args.replica c.args.name.now c.args.args.now c.args.request) c.args.output.now c.put_answer-in_default-by_name.new.output c.put_answer-in_default-by_name.result before _
+    gives_done g.W.Write.contents w before (begin_action c.args.replica c.args.name.now c.args.args.now c.args.request) c.args.output.now c.put_answer-in_default-by_name.new.output c.put_answer-in_default-by_name.result before _
     (begins_unnamed w before c.args.replica c.args.name.now c.args.args.now c.args.request _ named there)
     (subst (Gives g.W.Write.contents c.args.output.now c.put_answer-in_default-by_name.new.output c.put_answer-in_default-by_name.result) (ap text_of (c.begin_line-in_default-by_name.ensures 0 c.args.args.now c.args.request (delivered.Call None))) c.put_answer-in_default-by_name.ensures.given)
 

@@ -1,12 +1,13 @@
-use Rattle.std.proofs.Common.{◌≡◌, ◌<◌, ◌∙◌, length, get_or, map, slice_get, sym, subst, ap, arith}
+use Rattle.std.proofs.Common.{◌≡◌, ◌<◌, ◌∙◌, length, get_or, slice_get, sym, subst, ap, arith}
 use Rattle.std.specs.Prelude.{All, Some, vec_len}
 use Rattle.script_run.specs.Answered.{AreFoundOf, AreToldOf, IsMadeCall}
+use Rattle.script_run.specs.Planned.{planned_calls}
 use Rattle.script_run.proofs.AnsweredLemmas.{answers_longer, found_longer, told_more}
 use Rattle.script_run.proofs.answers.answers_of.Goals as goal
 
 pub loop-share-preserved : goal.loop-share-preserved
 loop-share-preserved g c =
-    let calls = map (λ planned. planned.call) c.args.asking.now.calls.items in
+    let calls = planned_calls c.args.asking.now.calls.items in
     let test = c.loop-share-test.true in
     let same = c.deref-share-items.ensures.value in
     let shares : length c.deref-share-items.result.now ≡ length c.args.shares.items = ap length same in
@@ -21,7 +22,7 @@ pub loop-place-preserved : goal.loop-place-preserved
 loop-place-preserved g c =
     let w = g.J.LogSetting.setting in
     let replicas = c.args.desk.now.replicas in
-    let calls = map (λ planned. planned.call) c.args.asking.now.calls.items in
+    let calls = planned_calls c.args.asking.now.calls.items in
     let log = c.loop-place.found.log in
     let longer = c.answer.new.self.log in
     let answers = c.loop-place.answers.items in

@@ -1,8 +1,15 @@
 //! What a line says.
 
-/// What a line says. Names, programs and arguments are a `B`.
+/// What a line says: it sets something, or it acts. Names, programs and arguments are a `B`.
 #[derive(Drop)]
-pub enum Command<B> {
+pub enum Statement<B> {
+    Setting(Setting<B>),
+    Action(Action<B>),
+}
+
+/// What a line sets.
+#[derive(Drop)]
+pub enum Setting<B> {
     /// 1 to 4,096.
     Window(u32),
     /// 1 to 8.
@@ -19,6 +26,11 @@ pub enum Command<B> {
         args_len: u16,
         program: B,
     },
+}
+
+/// What a line does to a world, or prints of it.
+#[derive(Drop)]
+pub enum Action<B> {
     Begin {
         replica: u32,
         name: B,
