@@ -37,6 +37,7 @@ pub struct Seen<J: LogIdentity, A: Allocator + Copy = Global> {
 impl<J: LogIdentity, A: Allocator + Copy> Model for Seen<J, A> {
     ghost use Rattle.std.specs.Prelude.{◌≡◌, ◌≤◌, List, length};
     ghost use Rattle.std.specs.Coded.{coded_list};
+    ghost use Rattle.schema.specs.declared.limits.TheConstants.{MAX_LOG};
     ghost use Rattle.log_entry.specs.declared.entry.Entry.{Entry as LogEntry};
     ghost use Rattle.order_log.specs.Codes.{entry_code};
     ghost use Rattle.order_log.specs.Cells.{AreCellsOf, known_entries};

@@ -174,7 +174,7 @@ fn site_rows<A: Allocator + Copy, B: Allocator, D: Allocator>(
     rows_stay_the_schemas();
     let mut map = KeyMap::new(alloc);
     for row in rows {
-        if !schema.fits(row.table(), row.key(), row.bytes()) {
+        if !schema.fits(row.table(), row.bytes()) {
             return Ok(None);
         }
         let bytes = Vec::from_slice(alloc, row.bytes())?;

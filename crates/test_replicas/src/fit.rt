@@ -22,7 +22,7 @@ fn write_fits<A: Allocator, B: Allocator>(
 {
     rows_are_of_bytes_and_words();
     match write {
-        Some(row) => schema.fits(key.0, key.1, row.as_slice()),
+        Some(row) => schema.fits(key.0, row.as_slice()),
         None => schema.width(key.0).is_some(),
     }
 }

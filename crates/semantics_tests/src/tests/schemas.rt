@@ -19,7 +19,7 @@ fn schema_of(rt: &impl Abort, alloc: Global, pairs: &[(u8, u16)]) -> Schema {
 fn a_schema_has_the_tables_of_its_pairs(rt: HostRuntime) {
     let schema = schema_of(&rt, rt.alloc(), &[(2, 128), (64, 1)]);
     for (table, width) in &WIDTHS {
-        let found = (schema.width(*table), schema.fits(*table, u64::MAX, &[0]));
+        let found = (schema.width(*table), schema.fits(*table, &[0]));
         same(
             &rt,
             "table, width, fits",
