@@ -1,19 +1,21 @@
 -- What an addition that is taken in leaves.
-use Rattle.std.proofs.Common.{◌≡◌, ℕ, cond, Option, Some, None, List, [], ◌∷◌, ◌++◌, refl, sym, ap, subst, ◌∙◌}
+use Rattle.std.proofs.Common.{◌≡◌, ℕ, true, false, cond, Option, Some, None, List, [], ◌∷◌, ◌++◌, refl, sym, ap, subst, ◌∙◌}
 use Rattle.std.specs.Prelude.{is_some, Result, Ok, Err, OnOk, IfOk}
 use Rattle.schema.specs.Schema.{Tables}
 use Rattle.log_model.specs.declared.verdict.Identifier.TheVariants.{Name, Number}
 use Rattle.log_model.specs.declared.verdict.Verdict.{Verdict}
 use Rattle.log_model.specs.declared.verdict.Verdict.TheVariants.{Commit, Conflict, Stale, Repeated, Taken}
-use Rattle.log_model.specs.Log.{StoredProcedure, Catalogue, CertifiedItem, certified_addition, by_name, by_number, if_commits, verdict_on_addition}
-use Rattle.log_model.specs.Entries.{AdditionEntry, CertifiedEntries, with_entry}
+use Rattle.log_model.specs.Log.{StoredProcedure, Catalogue, CertifiedItem, certified_addition, certified_call_after, by_name, by_number, if_commits, is_commit, verdict_on_addition}
+use Rattle.log_model.specs.Entries.{Entry, ExecutedCall, CallEntry, AdditionEntry, CertifiedEntries, with_entry}
 use Rattle.std.specs.FinMap.{empty, get-empty}
 use Rattle.schema.specs.Rows.{key_cmp}
 use Rattle.key_table.specs.Table.{Table, versions_at}
 use Rattle.rows_mv.specs.Versions.{IsInstalled, slots_of, with_version}
 use Rattle.stored_procedures.specs.Held.{ListedProcedure, AreForTables, stored, stored_procedures}
 use Rattle.certify.specs.Kept as certifier
-use Rattle.replica.specs.Delivery.{KeepsCertified}
+use Rattle.replica.specs.declared.certification.Certification.{Certification}
+use Rattle.replica.specs.Replica.{certification_next, writes_in}
+use Rattle.replica.specs.Delivery.{KeepsCertified, HasSameVersions, Holdings, IsTakenIn}
 
 one_more_stored : (procedures : List ListedProcedure) (l : ListedProcedure) → stored_procedures (procedures ++ l ∷ []) ≡ stored_procedures procedures ++ stored l ∷ []
 one_more_stored [] l = refl
@@ -63,3 +65,30 @@ commits_new procedures p e = by (by_name procedures p.name) (by_number procedure
 pub where_done : {T E : Type 0} (r : Result T E) (P S : Type 0) (Q R : T → Type 0) → OnOk r P → IfOk r Q → IfOk r R → ((x : T) → P → Q x → R x → S) → OnOk r S
 where_done (Ok x) P S Q R p q r f = f x p q r
 where_done (Err e) P S Q R p q r f = tt
+
+-- ---- an entry that is taken in
+
+pub taken_in : {E : Type 0} (r : Result Certification E) (position : ℕ) (e : Entry) (old new : Holdings)
+    → IfOk r (λ c. (past : CertifiedEntries) → KeepsCertified old.memory old.procedures past → c ≡ certification_next old.memory.window past e)
+    → OnOk r ((past : CertifiedEntries) → KeepsCertified old.memory old.procedures past → KeepsCertified new.memory new.procedures (with_entry old.memory.window past e))
+    → OnOk r (new.memory.count ≡ position)
+    → IfOk r (λ c. is_commit c.verdict ≡ true → IsInstalled position (writes_in e) old.tables new.tables)
+    → IfOk r (λ c. is_commit c.verdict ≡ false → HasSameVersions old.tables new.tables)
+    → IfOk r (λ c. new.certifications ≡ old.certifications ++ c ∷ [])
+    → IfOk r (IsTakenIn position e old new)
+taken_in (Ok c) position e old new certified kept count installs refuses entered = record {
+  certified = certified;
+  kept = kept;
+  count = count;
+  installs = installs;
+  refuses = refuses;
+  entered = entered;
+}
+taken_in (Err failed) position e old new certified kept count installs refuses entered = tt
+
+pub call_kept : {E : Type 0} (r : Result Certification E) (old new : certifier.Memory) (held : List ListedProcedure) (x : ExecutedCall)
+    → OnOk r ((past : List CertifiedItem) → certifier.IsMemoryOf old past
+    → certifier.IsMemoryOf new (past ++ certified_call_after old.window past x.call x.looks x.writes ∷ []))
+    → OnOk r ((past : CertifiedEntries) → KeepsCertified old held past → KeepsCertified new held (with_entry old.window past (CallEntry x)))
+call_kept (Ok c) old new held x memory = λ past keeps. record { memory = memory past.certified keeps.memory; procedures = keeps.procedures }
+call_kept (Err failed) old new held x memory = tt
