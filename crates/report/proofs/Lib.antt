@@ -1,1 +1,1 @@
-mod PrintingLemmas
+pub mod PrintingLemmas

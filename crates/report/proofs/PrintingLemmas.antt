@@ -37,7 +37,7 @@ told_ok (Err e) ok told = absurd (let apart = ok in cc)
 
 -- ---- one text behind the other
 
-nothing_appended : (o : Option (List ℕ)) → Appends o o []
+pub nothing_appended : (o : Option (List ℕ)) → Appends o o []
 nothing_appended None = tt
 nothing_appended (Some x) = sym (append-nil x)
 

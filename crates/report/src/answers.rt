@@ -1,16 +1,14 @@
 //! The lines of a world's answers.
 
-ghost use Rattle.std.specs.Prelude.{◌≡◌, ℕ, List, Option, IfOk};
+ghost use Rattle.std.specs.Prelude.{◌≡◌, ℕ, List, Option};
 ghost use Rattle.log_model.specs.declared.request.RequestId.{RequestId};
 ghost use Rattle.dsm_model.specs.World.{Begin, Turn, Order, Deliver, Rebuild, Add};
 ghost use Rattle.call_model.specs.Check.{ProgramCheck};
 ghost use Rattle.report.specs.declared.printed.DeliveredEntry.{DeliveredEntry};
-ghost use Rattle.report.specs.Answers.{answer_line, text_of, call_report, replica_report};
+ghost use Rattle.report.specs.Answers.{answer_line, call_report, replica_report};
 
 use crate::printed::{CallReport, DeliveredEntry, Line, ReplicaReport};
-use crate::text::line;
 use dsm_model::Outcome;
-use std::alloc::{AllocError, Allocator};
 
 /// The line of what the beginning of a call at a replica answered; none of an answer that says neither that it began
 /// nor that it was refused.
@@ -60,19 +58,6 @@ pub fn replica_line(replica: u32, outcome: Outcome, entry: DeliveredEntry) -> Op
 {
     let report = replica_report(outcome, entry)?;
     Some(Line::Replica { replica, report })
-}
-
-/// The bytes of an answer's line; none where there is no line. An error is want of memory.
-pub fn answer<A: Allocator + Copy>(
-    alloc: A,
-    said: Option<Line<'_>>,
-) -> Result<Vec<u8, A>, AllocError>
-    ensures { IfOk result (λ text. text.items ≡ text_of said.entry) }
-{
-    match said {
-        Some(said) => line(alloc, &said),
-        None => Ok(Vec::new(alloc)),
-    }
 }
 
 fn call_report(outcome: Outcome) -> Option<CallReport>

@@ -1,7 +1,7 @@
 //! The lines that are printed of a world, one for each answer, row and entry, and of the calls that a node takes.
 #![tactic(auto)]
 
-pub use answers::{add_line, answer, begin_line, call_line, replica_line};
+pub use answers::{add_line, begin_line, call_line, replica_line};
 pub use laws::each_answer_has_a_line;
 pub use printed::{CallAnswer, CallReport, DeliveredEntry, Line, LoggedEntry, ReplicaReport};
 pub use printing::put_line;

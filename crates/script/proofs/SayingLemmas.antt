@@ -1,6 +1,7 @@
 -- Fields at fault.
 use Rattle.std.proofs.Common.{◌≡◌, ℕ, ◌<◌, ◌≤◌, List, [], ◌∷◌, length, map, get_or, Option, Some, None, Err, Bor, refl, sym, ap, ◌∙◌, arith}
 use Rattle.std.specs.Prelude.{ok_or}
+use Rattle.schema.specs.declared.limits.TheConstants.{MAX_ARGUMENTS}
 use Rattle.script.specs.Text.{number_of, u16_of, u32_of, count_of, bytes_of_hex}
 use Rattle.script.specs.declared.fault.LineFault.{LineFault}
 use Rattle.script.specs.declared.fault.LineFault.TheVariants.{Field, FieldCount}
@@ -38,14 +39,14 @@ four-third make (Some x) (Some y) z v e = ap (λ z. four make (Some x) (Some y) 
 
 -- of a procedure
 pub proc_args_len : (word : SettingWord) (fields : List (Bor (List ℕ))) (other : Bor (List ℕ)) (fault : LineFault) → word ≡ setting.Proc → 4 ≤ length fields → length fields < 5
-    → Err fault ≡ ok_or (number_of 0 256 (get_or fields 2 other).now) Field → setting_said word (map (λ field. field.now) fields) ≡ Err fault
+    → Err fault ≡ ok_or (number_of 0 MAX_ARGUMENTS (get_or fields 2 other).now) Field → setting_said word (map (λ field. field.now) fields) ≡ Err fault
 unfolding setting_said
 proc_args_len word [] other fault is low high e = absurd (omega arith)
 proc_args_len word (a ∷ []) other fault is low high e = absurd (omega arith)
 proc_args_len word (a ∷ b ∷ []) other fault is low high e = absurd (omega arith)
 proc_args_len word (a ∷ b ∷ c ∷ []) other fault is low high e = absurd (omega arith)
 proc_args_len word (a ∷ b ∷ c ∷ d ∷ []) other fault is low high e =
-    let none = no_value (number_of 0 256 c.now) fault e in rw is (three-second _ (u16_of b.now) (number_of 0 256 c.now) (bytes_of_hex d.now) none.0 ∙ ap Err (sym none.1))
+    let none = no_value (number_of 0 MAX_ARGUMENTS c.now) fault e in rw is (three-second _ (u16_of b.now) (number_of 0 MAX_ARGUMENTS c.now) (bytes_of_hex d.now) none.0 ∙ ap Err (sym none.1))
 proc_args_len word (a ∷ b ∷ c ∷ d ∷ v ∷ more) other fault is low high e = absurd (omega arith)
 
 -- of an addition
@@ -57,18 +58,18 @@ add_number word (a ∷ []) other fault is low high e = absurd (omega arith)
 add_number word (a ∷ b ∷ []) other fault is low high e = absurd (omega arith)
 add_number word (a ∷ b ∷ c ∷ []) other fault is low high e = absurd (omega arith)
 add_number word (a ∷ b ∷ c ∷ d ∷ []) other fault is low high e =
-    let none = no_value (u16_of b.now) fault e in rw is (three-first _ (u16_of b.now) (number_of 0 256 c.now) (bytes_of_hex d.now) none.0 ∙ ap Err (sym none.1))
+    let none = no_value (u16_of b.now) fault e in rw is (three-first _ (u16_of b.now) (number_of 0 MAX_ARGUMENTS c.now) (bytes_of_hex d.now) none.0 ∙ ap Err (sym none.1))
 add_number word (a ∷ b ∷ c ∷ d ∷ v ∷ more) other fault is low high e = absurd (omega arith)
 
 pub add_args_len : (word : StepWord) (fields : List (Bor (List ℕ))) (other : Bor (List ℕ)) (fault : LineFault) → word ≡ step.Add → 4 ≤ length fields → length fields < 5
-    → Err fault ≡ ok_or (number_of 0 256 (get_or fields 2 other).now) Field → step_said word (map (λ field. field.now) fields) ≡ Err fault
+    → Err fault ≡ ok_or (number_of 0 MAX_ARGUMENTS (get_or fields 2 other).now) Field → step_said word (map (λ field. field.now) fields) ≡ Err fault
 unfolding step_said
 add_args_len word [] other fault is low high e = absurd (omega arith)
 add_args_len word (a ∷ []) other fault is low high e = absurd (omega arith)
 add_args_len word (a ∷ b ∷ []) other fault is low high e = absurd (omega arith)
 add_args_len word (a ∷ b ∷ c ∷ []) other fault is low high e = absurd (omega arith)
 add_args_len word (a ∷ b ∷ c ∷ d ∷ []) other fault is low high e =
-    let none = no_value (number_of 0 256 c.now) fault e in rw is (three-second _ (u16_of b.now) (number_of 0 256 c.now) (bytes_of_hex d.now) none.0 ∙ ap Err (sym none.1))
+    let none = no_value (number_of 0 MAX_ARGUMENTS c.now) fault e in rw is (three-second _ (u16_of b.now) (number_of 0 MAX_ARGUMENTS c.now) (bytes_of_hex d.now) none.0 ∙ ap Err (sym none.1))
 add_args_len word (a ∷ b ∷ c ∷ d ∷ v ∷ more) other fault is low high e = absurd (omega arith)
 
 -- of a call with a request

@@ -2,6 +2,7 @@
 use Rattle.std.specs.Prelude.{ℕ, ◌≤◌, not, if◌then◌else◌, List, [], ◌∷◌, codes, Option, Some, None, option_map, Result, Ok, Err}
 use Rattle.std.specs.Option.{option_or}
 use Rattle.std.specs.Str.{bytes_eq}
+use Rattle.schema.specs.declared.limits.TheConstants.{MAX_ARGUMENTS, MAX_REPLICAS, MAX_WINDOW}
 use Rattle.script.specs.declared.fault.LineFault.{LineFault}
 use Rattle.script.specs.declared.fault.LineFault.TheVariants as fault
 use Rattle.script.specs.declared.statements.Statement.{Statement}
@@ -83,11 +84,11 @@ four make _ _ _ _ = Err fault.Field
 
 -- what a word says of the fields behind it, where the line sets something
 unfoldable pub setting_said : SettingWord → List (List ℕ) → Result ScriptSetting LineFault
-setting_said setting.Window (window ∷ []) = one Window (number_of 1 4096 window)
-setting_said setting.Replicas (replicas ∷ []) = one Replicas (number_of 1 8 replicas)
+setting_said setting.Window (window ∷ []) = one Window (number_of 1 MAX_WINDOW window)
+setting_said setting.Replicas (replicas ∷ []) = one Replicas (number_of 1 MAX_REPLICAS replicas)
 setting_said setting.Table (table ∷ width ∷ []) = two Table (u8_of table) (u16_of width)
 setting_said setting.Proc (name ∷ number ∷ args_len ∷ program ∷ []) =
-    three (Procedure name) (u16_of number) (number_of 0 256 args_len) (bytes_of_hex program)
+    three (Procedure name) (u16_of number) (number_of 0 MAX_ARGUMENTS args_len) (bytes_of_hex program)
 setting_said _ _ = Err fault.FieldCount
 
 -- where it takes steps
@@ -96,7 +97,7 @@ step_said step.Begin (replica ∷ name ∷ args ∷ []) = two (λ r bytes. Begin
 step_said step.Begin (replica ∷ name ∷ args ∷ session ∷ sequence ∷ []) =
     four (λ r bytes. BeginNumbered r name bytes) (u32_of replica) (bytes_of_hex args) (count_of session) (count_of sequence)
 step_said step.Add (name ∷ number ∷ args_len ∷ program ∷ []) =
-    three (Add name) (u16_of number) (number_of 0 256 args_len) (bytes_of_hex program)
+    three (Add name) (u16_of number) (number_of 0 MAX_ARGUMENTS args_len) (bytes_of_hex program)
 step_said step.Turn (call ∷ most ∷ []) = two Turn (u32_of call) (count_of most)
 step_said step.Exec (call ∷ []) = one Exec (u32_of call)
 step_said step.Order (call ∷ []) = one Order (u32_of call)
@@ -136,15 +137,15 @@ line_says line =
 
 -- what is known of the numbers of a setting
 abbrev pub IsSettingWithinLimits : ScriptSetting → Type 0
-IsSettingWithinLimits (Window window) = (1 ≤ window) × (window ≤ 4096)
-IsSettingWithinLimits (Replicas replicas) = (1 ≤ replicas) × (replicas ≤ 8)
+IsSettingWithinLimits (Window window) = (1 ≤ window) × (window ≤ MAX_WINDOW)
+IsSettingWithinLimits (Replicas replicas) = (1 ≤ replicas) × (replicas ≤ MAX_REPLICAS)
 IsSettingWithinLimits (Table table width) = Unit {0}
-IsSettingWithinLimits (Procedure name number args_len program) = args_len ≤ 256
+IsSettingWithinLimits (Procedure name number args_len program) = args_len ≤ MAX_ARGUMENTS
 
 -- of an action
 abbrev pub IsActionWithinLimits : ScriptAction → Type 0
 IsActionWithinLimits (BeginNumbered replica name args session sequence) = (1 ≤ session) × (1 ≤ sequence)
-IsActionWithinLimits (Add name number args_len program) = args_len ≤ 256
+IsActionWithinLimits (Add name number args_len program) = args_len ≤ MAX_ARGUMENTS
 IsActionWithinLimits (Turn call most) = 1 ≤ most
 IsActionWithinLimits (Deliver replica most) = 1 ≤ most
 IsActionWithinLimits _ = Unit {0}

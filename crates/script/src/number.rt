@@ -1,11 +1,13 @@
 //! Numbers, each within its limits.
 
 ghost use Rattle.std.specs.Prelude.{◌≡◌, ◌^◌, ◌<◌, ◌≤◌, IfOk, IfSome, ok_or};
+ghost use Rattle.schema.specs.declared.limits.TheConstants.{MAX_ARGUMENTS, MAX_REPLICAS, MAX_WINDOW};
 ghost use Rattle.script.specs.Text.{number_of, u8_of, u16_of, u32_of, count_of};
 ghost use Rattle.script.specs.declared.fault.LineFault.TheVariants.{Field};
 
 use crate::fault::LineFault;
 use itoa::Buffer;
+use schema::{MAX_ARGUMENTS, MAX_REPLICAS, MAX_WINDOW};
 
 /// The number that a field gives in decimal, where it is from `least` to `most`.
 fn read_number(field: &str, least: u64, most: u64) -> Option<u64>
@@ -52,27 +54,27 @@ pub(crate) fn read_count(field: &str) -> Result<u32, LineFault>
 }
 
 pub(crate) fn read_window(field: &str) -> Result<u32, LineFault>
-    ensures window { result ≡ ok_or (number_of 1 4096 field.now) Field }
-    ensures limits { IfOk result (λ window. (1 ≤ window) × (window ≤ 4096)) }
+    ensures window { result ≡ ok_or (number_of 1 MAX_WINDOW field.now) Field }
+    ensures limits { IfOk result (λ window. (1 ≤ window) × (window ≤ MAX_WINDOW)) }
 {
-    let window = read_number(field, 1, 4096).ok_or(LineFault::Field)?;
+    let window = read_number(field, 1, u64::from(MAX_WINDOW)).ok_or(LineFault::Field)?;
     Ok(window as u32)
 }
 
 /// How many replicas.
 pub(crate) fn read_replicas(field: &str) -> Result<u32, LineFault>
-    ensures replicas { result ≡ ok_or (number_of 1 8 field.now) Field }
-    ensures limits { IfOk result (λ replicas. (1 ≤ replicas) × (replicas ≤ 8)) }
+    ensures replicas { result ≡ ok_or (number_of 1 MAX_REPLICAS field.now) Field }
+    ensures limits { IfOk result (λ replicas. (1 ≤ replicas) × (replicas ≤ MAX_REPLICAS)) }
 {
-    let replicas = read_number(field, 1, 8).ok_or(LineFault::Field)?;
+    let replicas = read_number(field, 1, u64::from(MAX_REPLICAS)).ok_or(LineFault::Field)?;
     Ok(replicas as u32)
 }
 
 /// The length of a procedure's arguments.
 pub(crate) fn read_args_len(field: &str) -> Result<u16, LineFault>
-    ensures args_len { result ≡ ok_or (number_of 0 256 field.now) Field }
-    ensures limits { IfOk result (λ args_len. args_len ≤ 256) }
+    ensures args_len { result ≡ ok_or (number_of 0 MAX_ARGUMENTS field.now) Field }
+    ensures limits { IfOk result (λ args_len. args_len ≤ MAX_ARGUMENTS) }
 {
-    let args_len = read_number(field, 0, 256).ok_or(LineFault::Field)?;
+    let args_len = read_number(field, 0, u64::from(MAX_ARGUMENTS)).ok_or(LineFault::Field)?;
     Ok(args_len as u16)
 }

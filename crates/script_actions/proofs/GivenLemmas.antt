@@ -7,6 +7,7 @@ use Rattle.byte_output.specs.Writes.{AppendsBeginning}
 use Rattle.byte_output.specs.Pending.{output_of, pending_of, Passes}
 use Rattle.byte_output.proofs.PendingLemmas.{Passes-then}
 use Rattle.byte_output.proofs.WritesLemmas.{Appends-then}
+pub use Rattle.report.proofs.PrintingLemmas.{nothing_given, nothing_appended}
 use Rattle.log_model.specs.Log.{Setting}
 use Rattle.dsm_model.specs.World.{World}
 use Rattle.script.specs.Script.{ScriptAction}
@@ -14,13 +15,6 @@ use Rattle.script_actions.specs.Actions.{Does}
 use Rattle.script_actions.specs.declared.failure.Failure.{Failure}
 use Rattle.script_actions.specs.declared.failure.Failure.TheVariants.{OutOfMemory, Output}
 use Rattle.script_actions.specs.Doing.{PassesBeginning, Gives, HasDone, LosesNothing}
-
-nothing_appended : (o : Option (List ℕ)) → Appends o o []
-nothing_appended None = tt
-nothing_appended (Some x) = sym (append-nil x)
-
-pub nothing_given : {W : Type 0} (contents : W → Option (List ℕ)) (a : PagedOutput W) → Passes contents a a []
-nothing_given contents a = ([], append-nil (pending_of a), nothing_appended (contents (output_of a).now))
 
 -- nothing is a beginning of any text
 pub nothing_begun : {W : Type 0} (contents : W → Option (List ℕ)) (a : PagedOutput W) (text : List ℕ) → PassesBeginning contents a a text

@@ -45,7 +45,7 @@ pub fn act<A: Allocator + Copy, W: Write>(
             args,
         } => {
             let (name, args) = (name.as_slice(), args.as_slice());
-            begin(alloc, world, output, *replica, name, args, None)
+            begin(world, output, *replica, name, args, None)
         }
         Action::BeginNumbered {
             replica,
@@ -56,7 +56,7 @@ pub fn act<A: Allocator + Copy, W: Write>(
         } => {
             let request = Some(request_of(*session, *sequence));
             let (name, args) = (name.as_slice(), args.as_slice());
-            begin(alloc, world, output, *replica, name, args, request)
+            begin(world, output, *replica, name, args, request)
         }
         Action::Add {
             name,
@@ -65,16 +65,16 @@ pub fn act<A: Allocator + Copy, W: Write>(
             program,
         } => {
             let (name, bytes) = (name.as_slice(), program.as_slice());
-            add(alloc, world, output, name, *number, *args_len, bytes)
+            add(world, output, name, *number, *args_len, bytes)
         }
-        Action::Turn { call, most } => turn(alloc, world, output, *call, *most),
-        Action::Exec { call } => turn(alloc, world, output, *call, LONGEST_RUN),
-        Action::Order { call } => order(alloc, world, output, *call),
-        Action::Deliver { replica, most } => deliver(alloc, world, output, *replica, *most),
+        Action::Turn { call, most } => turn(world, output, *call, *most),
+        Action::Exec { call } => turn(world, output, *call, LONGEST_RUN),
+        Action::Order { call } => order(world, output, *call),
+        Action::Deliver { replica, most } => deliver(world, output, *replica, *most),
         Action::Rows { replica } => put_rows(alloc, world, output, *replica),
-        Action::Log => put_log(alloc, world, output),
+        Action::Log => put_log(world, output),
         Action::Entry { position } => put_entry(alloc, world, output, *position),
-        Action::Rebuild { replica } => rebuild(alloc, world, output, *replica),
+        Action::Rebuild { replica } => rebuild(world, output, *replica),
     }
 }
 

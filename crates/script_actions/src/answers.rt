@@ -26,7 +26,6 @@ use std::io::Write;
 
 /// One step, and its line.
 fn step<A: Allocator + Copy, W: Write>(
-    alloc: A,
     world: &mut World<A>,
     output: &mut PagedOutput<'_, W>,
     step: Step<'_>,
@@ -45,7 +44,7 @@ fn step<A: Allocator + Copy, W: Write>(
 {
     let outcome = world.step(step);
     let entry = delivered_entry(world, outcome);
-    put_answer(alloc, output, answer_line(step, outcome, entry))?;
+    put_answer(output, answer_line(step, outcome, entry))?;
     Ok(outcome)
 }
 
@@ -106,7 +105,6 @@ fn reply_at<A: Allocator + Copy>(world: &World<A>, position: u32) -> Option<u64>
 
 /// A call begins, of the procedure of a name, with a request or without one.
 pub(crate) fn begin<A: Allocator + Copy, W: Write>(
-    alloc: A,
     world: &mut World<A>,
     output: &mut PagedOutput<'_, W>,
     replica: u32,
@@ -122,18 +120,14 @@ pub(crate) fn begin<A: Allocator + Copy, W: Write>(
 {
     let Some(_kept) = world.replica(replica) else {
         let refused = Outcome::Refused(StepRefusal::NoReplica);
-        return put_answer(alloc, output, begin_line(replica, refused));
+        return put_answer(output, begin_line(replica, refused));
     };
     let Some(procedure) = world.by_name(replica, name) else {
         let refused = Outcome::Refused(StepRefusal::NoProcedure);
-        return put_answer(alloc, output, begin_line(replica, refused));
+        return put_answer(output, begin_line(replica, refused));
     };
-    step(
-        alloc,
-        world,
-        output,
-        begin_step(replica, procedure, args, request),
-    )?;
+    let begin = begin_step(replica, procedure, args, request);
+    step(world, output, begin)?;
     Ok(())
 }
 
@@ -164,7 +158,6 @@ fn begin_step<'a>(
 
 /// A procedure is added.
 pub(crate) fn add<A: Allocator + Copy, W: Write>(
-    alloc: A,
     world: &mut World<A>,
     output: &mut PagedOutput<'_, W>,
     name: &[u8],
@@ -184,13 +177,12 @@ pub(crate) fn add<A: Allocator + Copy, W: Write>(
         args_len,
         bytes,
     };
-    step(alloc, world, output, add)?;
+    step(world, output, add)?;
     Ok(())
 }
 
 /// Up to so many turns of a call, as long as there is more to run, and the line of the last.
 pub(crate) fn turn<A: Allocator + Copy, W: Write>(
-    alloc: A,
     world: &mut World<A>,
     output: &mut PagedOutput<'_, W>,
     call: u32,
@@ -204,7 +196,7 @@ pub(crate) fn turn<A: Allocator + Copy, W: Write>(
     ensures kept { IfErr result (LosesNothing W.contents output.old output.new) }
 {
     let outcome = last_turn(world, call, most);
-    put_answer(alloc, output, call_line(call, outcome))
+    put_answer(output, call_line(call, outcome))
 }
 
 /// What the last of up to so many turns of a call answers.
@@ -231,7 +223,6 @@ fn is_more(outcome: Outcome) -> bool
 
 /// A call is ordered.
 pub(crate) fn order<A: Allocator + Copy, W: Write>(
-    alloc: A,
     world: &mut World<A>,
     output: &mut PagedOutput<'_, W>,
     call: u32,
@@ -242,13 +233,12 @@ pub(crate) fn order<A: Allocator + Copy, W: Write>(
         output.old output.new result (world_of world.new) }
     ensures kept { IfErr result (LosesNothing W.contents output.old output.new) }
 {
-    step(alloc, world, output, Step::Order { call })?;
+    step(world, output, Step::Order { call })?;
     Ok(())
 }
 
 /// Up to so many deliveries to a replica, each with its line; the first that is refused is the last.
 pub(crate) fn deliver<A: Allocator + Copy, W: Write>(
-    alloc: A,
     world: &mut World<A>,
     output: &mut PagedOutput<'_, W>,
     replica: u32,
@@ -261,7 +251,7 @@ pub(crate) fn deliver<A: Allocator + Copy, W: Write>(
     ensures kept { IfErr result (LosesNothing W.contents output.old output.new) }
 {
     for _ in 0..most {
-        let outcome = step(alloc, world, output, Step::Deliver { replica })?;
+        let outcome = step(world, output, Step::Deliver { replica })?;
         if !is_delivery(outcome) {
             return Ok(());
         }
@@ -277,7 +267,6 @@ fn is_delivery(outcome: Outcome) -> bool
 
 /// A replica is made anew.
 pub(crate) fn rebuild<A: Allocator + Copy, W: Write>(
-    alloc: A,
     world: &mut World<A>,
     output: &mut PagedOutput<'_, W>,
     replica: u32,
@@ -288,6 +277,6 @@ pub(crate) fn rebuild<A: Allocator + Copy, W: Write>(
         output.old output.new result (world_of world.new) }
     ensures kept { IfErr result (LosesNothing W.contents output.old output.new) }
 {
-    step(alloc, world, output, Step::Rebuild { replica })?;
+    step(world, output, Step::Rebuild { replica })?;
     Ok(())
 }

@@ -22,7 +22,6 @@ use std::io::Write;
 
 /// Prints a line for each entry of the log.
 pub(crate) fn put_log<A: Allocator + Copy, W: Write>(
-    alloc: A,
     world: &World<A>,
     output: &mut PagedOutput<'_, W>,
 ) -> Result<(), Failure>
@@ -33,9 +32,9 @@ pub(crate) fn put_log<A: Allocator + Copy, W: Write>(
     let entries = world.log_len();
     for before in 0..entries {
         let line = logged(world, before);
-        put_line(alloc, output, &line)?;
+        put_line(output, &line)?;
     }
-    put_line(alloc, output, &Line::Log { entries })
+    put_line(output, &Line::Log { entries })
 }
 
 /// The line of the entry that has so many before it.
@@ -113,12 +112,12 @@ pub(crate) fn put_entry<A: Allocator + Copy, W: Write>(
             position,
             bytes: None,
         };
-        return put_line(alloc, output, &none);
+        return put_line(output, &none);
     };
     let bytes = to_bytes(alloc, entry)?;
     let line = Line::Entry {
         position,
         bytes: Some(&bytes),
     };
-    put_line(alloc, output, &line)
+    put_line(output, &line)
 }

@@ -8,13 +8,11 @@ ghost use Rattle.script_actions.specs.Doing.{Gives, LosesNothing};
 
 use crate::failure::Failure;
 use byte_output::paged::PagedOutput;
-use report::{Line, answer, line};
-use std::alloc::Allocator;
+use report::Line;
 use std::io::Write;
 
 /// Gives a line to the output.
-pub(crate) fn put_line<A: Allocator + Copy, W: Write>(
-    alloc: A,
+pub(crate) fn put_line<W: Write>(
     output: &mut PagedOutput<'_, W>,
     said: &Line,
 ) -> Result<(), Failure>
@@ -22,13 +20,14 @@ pub(crate) fn put_line<A: Allocator + Copy, W: Write>(
     ensures given { Gives W.contents output.old output.new result (line_text said.now) }
     ensures kept { IfErr result (LosesNothing W.contents output.old output.new) }
 {
-    let text = line(alloc, said)?;
-    put(output, &text)
+    match report::put_line(output, said) {
+        Ok(()) => Ok(()),
+        Err(error) => Err(Failure::Output(error)),
+    }
 }
 
 /// Gives the line of an answer to the output, where it has one.
-pub(crate) fn put_answer<A: Allocator + Copy, W: Write>(
-    alloc: A,
+pub(crate) fn put_answer<W: Write>(
     output: &mut PagedOutput<'_, W>,
     said: Option<Line<'static>>,
 ) -> Result<(), Failure>
@@ -36,17 +35,8 @@ pub(crate) fn put_answer<A: Allocator + Copy, W: Write>(
     ensures given { Gives W.contents output.old output.new result (text_of said.entry) }
     ensures kept { IfErr result (LosesNothing W.contents output.old output.new) }
 {
-    let text = answer(alloc, said)?;
-    put(output, &text)
-}
-
-fn put<W: Write>(output: &mut PagedOutput<'_, W>, text: &[u8]) -> Result<(), Failure>
-    ensures same_output { (output_of output.new).ghost_name ≡ (output_of output.old).ghost_name }
-    ensures given { Gives W.contents output.old output.new result text.now }
-    ensures kept { IfErr result (LosesNothing W.contents output.old output.new) }
-{
-    match output.put(text) {
-        Ok(()) => Ok(()),
-        Err(error) => Err(Failure::Output(error)),
+    match said {
+        Some(said) => put_line(output, &said),
+        None => Ok(()),
     }
 }

@@ -30,7 +30,7 @@ pub(crate) fn put_rows<A: Allocator + Copy, W: Write>(
 {
     let Some(listed) = world.rows(alloc, replica)? else {
         let report = ReplicaReport::Refused(StepRefusal::NoReplica);
-        return put_line(alloc, output, &Line::Replica { replica, report });
+        return put_line(output, &Line::Replica { replica, report });
     };
     for row in &listed.rows {
         let line = Line::Row {
@@ -38,11 +38,11 @@ pub(crate) fn put_rows<A: Allocator + Copy, W: Write>(
             key: row.key(),
             bytes: row.bytes(),
         };
-        put_line(alloc, output, &line)?;
+        put_line(output, &line)?;
     }
     let report = ReplicaReport::Rows {
         position: listed.position,
         rows: listed.rows.len(),
     };
-    put_line(alloc, output, &Line::Replica { replica, report })
+    put_line(output, &Line::Replica { replica, report })
 }

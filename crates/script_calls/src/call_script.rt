@@ -1,6 +1,7 @@
 //! Reading a whole script.
 
 ghost use Rattle.std.specs.Prelude.{◌≡◌, ◌≤◌, ℕ, List, Some, Ok, IfOk, IfErr};
+ghost use Rattle.schema.specs.declared.limits.TheConstants.{MAX_REPLICAS, MAX_WINDOW};
 ghost use Rattle.script_calls.specs.Calls.{at_end, script_says};
 ghost use Rattle.script_calls.specs.Reading.{so_far, said_by, IsStopOf};
 
@@ -35,8 +36,8 @@ pub fn read_script<A: Allocator + Copy, R: BufRead>(
     ensures exact { IfOk result (λ s. (bytes : List ℕ) → R.remaining input.old ≡ Some bytes → script_says bytes ≡ Ok (said_by s)) }
     // The first fault; or memory is wanting, or the input failed.
     ensures stop { IfErr result (λ stop. (bytes : List ℕ) → R.remaining input.old ≡ Some bytes → IsStopOf (script_says bytes) stop) }
-    ensures window { IfOk result (λ script. (1 ≤ script.window) × (script.window ≤ 4096)) }
-    ensures replicas { IfOk result (λ script. (1 ≤ script.replicas) × (script.replicas ≤ 8)) }
+    ensures window { IfOk result (λ script. (1 ≤ script.window) × (script.window ≤ MAX_WINDOW)) }
+    ensures replicas { IfOk result (λ script. (1 ≤ script.replicas) × (script.replicas ≤ MAX_REPLICAS)) }
 {
     lines_that_are_too_long_are_at_fault();
     let Ok(mut line) = Vec::with_capacity(alloc, MAX_LINE) else {
@@ -65,8 +66,8 @@ pub fn read_script<A: Allocator + Copy, R: BufRead>(
 fn whole<A: Allocator + Copy>(reading: Reading<A>) -> Result<CallScript<A>, Stop>
     ensures exact { IfOk result (λ script. at_end (so_far reading) ≡ Ok (said_by script)) }
     ensures stop { IfErr result (IsStopOf (at_end (so_far reading))) }
-    ensures window { IfOk result (λ script. (1 ≤ script.window) × (script.window ≤ 4096)) }
-    ensures replicas { IfOk result (λ script. (1 ≤ script.replicas) × (script.replicas ≤ 8)) }
+    ensures window { IfOk result (λ script. (1 ≤ script.window) × (script.window ≤ MAX_WINDOW)) }
+    ensures replicas { IfOk result (λ script. (1 ≤ script.replicas) × (script.replicas ≤ MAX_REPLICAS)) }
 {
     let Reading { settings, calls } = reading;
     let (Some(window), Some(replicas)) = (settings.window(), settings.replicas()) else {

@@ -2,6 +2,7 @@
 use Rattle.std.specs.Prelude.{ℕ, ◌≤◌, ◌==◌, if◌then◌else◌, List, [], ◌∷◌, ◌++◌, length, Option, Some, None, Result, Ok, Err, IfSome, refl}
 use Rattle.std.specs.Coded.{Coded, code_by, coded×, coded_ℕ, coded_option}
 use Rattle.std.specs.FinMap.{empty}
+use Rattle.schema.specs.declared.limits.TheConstants.{MAX_REPLICAS, MAX_WINDOW}
 use Rattle.bpf_code.specs.Program.{Program}
 use Rattle.bpf_code.specs.Decoding.{program_of}
 use Rattle.schema.specs.Schema.{Tables, with_pairs}
@@ -95,9 +96,9 @@ setting_after s (setting.Procedure name number args_len program) =
 -- what is known of all settings
 pub record AreWithinLimits (window replicas : Option ℕ) : Type 0 where
   pub window_from : IfSome window (λ n. 1 ≤ n)
-  pub window_to : IfSome window (λ n. n ≤ 4096)
+  pub window_to : IfSome window (λ n. n ≤ MAX_WINDOW)
   pub replicas_from : IfSome replicas (λ n. 1 ≤ n)
-  pub replicas_to : IfSome replicas (λ n. n ≤ 8)
+  pub replicas_to : IfSome replicas (λ n. n ≤ MAX_REPLICAS)
 
 -- ---- how settings are told from others, as the checker needs it
 

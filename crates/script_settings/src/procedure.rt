@@ -1,6 +1,7 @@
 //! One more procedure.
 
 ghost use Rattle.std.specs.Prelude.{◌≡◌, ◌⊎◌, ◌≤◌, None, Some, Ok, Err, IfOk, IfErr, OnOk, OnErr};
+ghost use Rattle.schema.specs.declared.limits.TheConstants.{MAX_ARGUMENTS};
 ghost use Rattle.bpf_code.specs.Decoding.{program_of};
 ghost use Rattle.script_settings.specs.Settings.{caused, verified, program_for, with_procedure};
 ghost use Rattle.script_settings.specs.declared.cause.FaultCause.TheVariants.{OutOfMemory, Program};
@@ -22,7 +23,7 @@ pub(crate) fn add_procedure<A: Allocator + Copy>(
     args_len: u16,
     bytes: &[u8],
 ) -> Result<(), FaultCause>
-    requires { args_len ≤ 256 }
+    requires { args_len ≤ MAX_ARGUMENTS }
     ensures ok { OnOk result (with_procedure catalogue.old name.now number args_len bytes.now ≡ Ok catalogue.new) }
     ensures fault { IfErr result (λ cause. (cause ≡ OutOfMemory)
         ⊎ (with_procedure catalogue.old name.now number args_len bytes.now ≡ Err cause)) }
@@ -60,7 +61,7 @@ fn accepted<A: Allocator + Copy>(
     schema: &Schema<A>,
     args_len: u16,
 ) -> Result<Accepted<A, A>, FaultCause>
-    requires { args_len ≤ 256 }
+    requires { args_len ≤ MAX_ARGUMENTS }
     ensures tables { IfOk result (λ accepted. accepted.tables ≡ schema.now) }
     ensures ok { IfOk result (λ accepted. verified (program_for schema.now args_len code) ≡ Ok accepted) }
     ensures fault { IfErr result (λ cause. (cause ≡ OutOfMemory) ⊎ (verified (program_for schema.now args_len code) ≡ Err cause)) }

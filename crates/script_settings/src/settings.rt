@@ -1,6 +1,7 @@
 //! What the setting lines of a script have set so far.
 
 ghost use Rattle.std.specs.Prelude.{◌≡◌, ◌⊎◌, ◌≤◌, Ok, Err, IfOk, IfErr, IfSome, OnOk, OnErr};
+ghost use Rattle.schema.specs.declared.limits.TheConstants.{MAX_REPLICAS, MAX_WINDOW};
 ghost use Rattle.script.specs.Script.{IsSettingWithinLimits};
 ghost use Rattle.script_settings.specs.Settings.{no_settings, once, setting_after};
 ghost use Rattle.script_settings.specs.declared.cause.FaultCause.TheVariants.{OutOfMemory};
@@ -91,7 +92,7 @@ impl<A: Allocator + Copy> Settings<A> {
     pub fn window(&self) -> Option<u32>
         ensures window { result ≡ self.now.window }
         ensures from { IfSome result (λ window. 1 ≤ window) }
-        ensures to { IfSome result (λ window. window ≤ 4096) }
+        ensures to { IfSome result (λ window. window ≤ MAX_WINDOW) }
     {
         self.window
     }
@@ -100,7 +101,7 @@ impl<A: Allocator + Copy> Settings<A> {
     pub fn replicas(&self) -> Option<u32>
         ensures replicas { result ≡ self.now.replicas }
         ensures from { IfSome result (λ replicas. 1 ≤ replicas) }
-        ensures to { IfSome result (λ replicas. replicas ≤ 8) }
+        ensures to { IfSome result (λ replicas. replicas ≤ MAX_REPLICAS) }
     {
         self.replicas
     }
