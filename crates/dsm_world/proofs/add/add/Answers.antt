@@ -28,15 +28,15 @@ returns-then-len-world-ge-MAX_CALLS-clause-step g c =
     let additions = c.requires.additions in
     add_too_many (setting_of s) (world_of s) c.args.name.now c.args.number c.args.args_len (check_of s.catalogue.tables c.args.args_len c.args.bytes.now) (omega arith)
 
-pub returns-then-args_len-gt-MAX_ARGS-clause-step : goal.returns-then-args_len-gt-MAX_ARGS-clause-step
-returns-then-args_len-gt-MAX_ARGS-clause-step g c =
+pub returns-then-args_len-gt-MAX_ARGUMENTS-clause-step : goal.returns-then-args_len-gt-MAX_ARGUMENTS-clause-step
+returns-then-args_len-gt-MAX_ARGUMENTS-clause-step g c =
     let s = system_of c.args.world.now in
     let few = c.if-len-world-ge-MAX_CALLS.false in
     let calls = c.len.ensures in
     let slots = map_count (λ slot. option_map (λ b. b.value) slot) c.args.world.now.calls.items in
     let all = calls_are s (call_slots c.args.world.now) c.requires.together in
     let additions = c.requires.additions in
-    add_long (setting_of s) (world_of s) c.args.name.now c.args.number c.args.args_len (check_of s.catalogue.tables c.args.args_len c.args.bytes.now) (omega arith) c.if-args_len-gt-MAX_ARGS.true
+    add_long (setting_of s) (world_of s) c.args.name.now c.args.number c.args.args_len (check_of s.catalogue.tables c.args.args_len c.args.bytes.now) (omega arith) c.if-args_len-gt-MAX_ARGUMENTS.true
 
 pub returns-in-Err-clause-step : goal.returns-in-Err-clause-step
 returns-in-Err-clause-step g c =
@@ -49,7 +49,7 @@ returns-in-Err-clause-step g c =
     let all = calls_are s (call_slots c.args.world.now) c.requires.together in
     let additions = c.requires.additions in
     let room : call_count world < max_calls = omega arith in
-    let long = c.if-args_len-gt-MAX_ARGS.false in
+    let long = c.if-args_len-gt-MAX_ARGUMENTS.false in
     let short : c.args.args_len ≤ 256 = omega arith in
     let checked = check_of s.catalogue.tables c.args.args_len c.args.bytes.now in
     let step = λ (refusal : StepRefusal). IsStep w world (Add c.args.name.now c.args.number c.args.args_len checked) (Refused refusal) world in
@@ -68,7 +68,7 @@ returns-then-not-is_name-clause-step g c =
     let slots = map_count (λ slot. option_map (λ b. b.value) slot) c.args.world.now.calls.items in
     let all = calls_are s (call_slots c.args.world.now) c.requires.together in
     let additions = c.requires.additions in
-    let long = c.if-args_len-gt-MAX_ARGS.false in
+    let long = c.if-args_len-gt-MAX_ARGUMENTS.false in
     add_no_name (setting_of s) (world_of s) c.args.name.now c.args.number c.args.args_len (check_of s.catalogue.tables c.args.args_len c.args.bytes.now) c.in-Ok.accepted.program (omega arith) (omega arith)
     (ap (λ (t : Tables). check_of t c.args.args_len c.args.bytes.now) (sym c.schema.ensures.tables) ∙ c.in-Ok.ensures.passed) (sym c.is_name.ensures ∙ c.if-not-is_name.true)
 
@@ -80,7 +80,7 @@ returns-in-Err-append-clause-step g c =
     let slots = map_count (λ slot. option_map (λ b. b.value) slot) c.args.world.now.calls.items in
     let all = calls_are s (call_slots c.args.world.now) c.requires.together in
     let additions = c.requires.additions in
-    let long = c.if-args_len-gt-MAX_ARGS.false in
+    let long = c.if-args_len-gt-MAX_ARGUMENTS.false in
     let step = Add c.args.name.now c.args.number c.args.args_len (check_of s.catalogue.tables c.args.args_len c.args.bytes.now) in
     subst (λ xs. IsStep (setting_of s) (world_of s) step (Refused OutOfMemory) (world_of (with_entries s (entries_of xs)))) (sym c.in-Err-append.ensures.unchanged)
     (add_without_memory (setting_of s) (world_of s) c.args.name.now c.args.number c.args.args_len (check_of s.catalogue.tables c.args.args_len c.args.bytes.now) (omega arith) (omega arith))
@@ -94,7 +94,7 @@ returns-in-Ok-append-clause-step g c =
     let slots = map_count (λ slot. option_map (λ b. b.value) slot) c.args.world.now.calls.items in
     let all = calls_are s (call_slots c.args.world.now) c.requires.together in
     let additions = c.requires.additions in
-    let long = c.if-args_len-gt-MAX_ARGS.false in
+    let long = c.if-args_len-gt-MAX_ARGUMENTS.false in
     let step = Add c.args.name.now c.args.number c.args.args_len (check_of s.catalogue.tables c.args.args_len c.args.bytes.now) in
     let entered = entered_in_code c.args.world.now.entries.items c.append.new.entries.items l c.in-Ok-append.ensures.appended in
     let same = map_count entry_of c.args.world.now.entries.items in

@@ -4,6 +4,7 @@ use Rattle.log_entry.specs.Kind.{entry_of}
 use Rattle.std.proofs.lemmas.List.{length-map}
 use Rattle.replica.proofs.EntryLemmas.{all_at}
 use Rattle.dsm_model.specs.World.{Deliver, IsStep}
+use Rattle.stored_procedures.specs.Held.{AreForTables}
 use Rattle.replica.specs.Replica.{Replica, IsForTables, writes_in}
 use Rattle.dsm_world.specs.System.{setting_of, world_of}
 use Rattle.dsm_world.specs.Holdings.{system_of, call_slots}
@@ -130,7 +131,7 @@ returns-in-Ok-clause-consistent g c =
     let lookup = c.in-Some-get.ensures.lookup in
     let x = next_of c.args.world.now c.in-Some.at c.position-position.result c.index-replica.result.now old c.deref.result.now e (omega arith) c.index-replica.ensures c.index_mut.ensures.value c.deref.ensures.value c.position-position.ensures lookup.3.0 lookup.1 in
     let new = c.deliver.new.self in
-    let for_tables = λ before. c.deliver.ensures.for_tables s.catalogue.tables before (all_at (λ y. IsForTables s.catalogue.tables y) c.args.world.now.entries.items old.position e c.requires.for_tables x.logged) in
+    let for_tables : AreForTables s.catalogue.tables old.procedures → AreForTables s.catalogue.tables new.procedures = λ before. c.deliver.ensures.for_tables s.catalogue.tables before (all_at (λ y. IsForTables s.catalogue.tables y) c.args.world.now.entries.items old.position e c.requires.for_tables x.logged) in
     record {
       together = one_changed s (call_slots c.args.world.now) c.in-Some.at new c.requires.together
           (delivered_replica s (call_slots c.args.world.now) c.in-Some.at old new (entry_of e) c.in-Ok.verdict c.tables_take_the_schemas_writes.ensures.kept c.requires.together x.at x.next c.in-Ok.ensures.delivered c.deliver.ensures.same_tables for_tables)
