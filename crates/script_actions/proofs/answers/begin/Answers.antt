@@ -45,7 +45,7 @@ returns-in_err-step-clause-done g c =
     let named : number_of_name w before c.args.replica c.args.name.now ≡ Some c.in-Some-by_name.procedure =
     named_at w before c.args.replica c.args.name.now _ (Some c.in-Some-by_name.procedure) there (c.in-Some-by_name.ensures.there c.in-Some._kept.now (sym c.in-Some.ensures)) in
     let q = err_from_is_err_and c.from_residual.result c.from_residual.ensures.1 in
-    let asked = c.begin_step.ensures w in
+    let asked = c.begin_step-begin.ensures w in
     rw q.1 (
       step_text w after.log (Begin c.args.replica c.in-Some-by_name.procedure c.args.args.now c.args.request) f.0,
       after,
@@ -63,8 +63,8 @@ returns-clause-done g c =
     let named : number_of_name w before c.args.replica c.args.name.now ≡ Some c.in-Some-by_name.procedure =
     named_at w before c.args.replica c.args.name.now _ (Some c.in-Some-by_name.procedure) there (c.in-Some-by_name.ensures.there c.in-Some._kept.now (sym c.in-Some.ensures)) in (
       step_text w after.log (Begin c.args.replica c.in-Some-by_name.procedure c.args.args.now c.args.request) c.in_ok-step.field-0,
-      begins w (world_of c.args.world.now) c.args.replica c.args.name.now c.args.args.now c.args.request c.in-Some-by_name.procedure c.in_ok-step.field-0 after named (subst (λ (k : Step). IsStep w before k c.in_ok-step.field-0 after) (c.begin_step.ensures w) s.0),
-      subst (λ (k : Step). Passes g.W.Write.contents c.args.output.now c.step.new.output (step_text w after.log k c.in_ok-step.field-0)) (c.begin_step.ensures w) s.1,
+      begins w (world_of c.args.world.now) c.args.replica c.args.name.now c.args.args.now c.args.request c.in-Some-by_name.procedure c.in_ok-step.field-0 after named (subst (λ (k : Step). IsStep w before k c.in_ok-step.field-0 after) (c.begin_step-begin.ensures w) s.0),
+      subst (λ (k : Step). Passes g.W.Write.contents c.args.output.now c.step.new.output (step_text w after.log k c.in_ok-step.field-0)) (c.begin_step-begin.ensures w) s.1,
     )
 
 pub returns-in_err-step-clause-kept : goal.returns-in_err-step-clause-kept
