@@ -37,8 +37,8 @@ enum Case {
     Added,
 }
 
-/// How a node has to end: the sum of all answers, how many of them committed where that is the same in each run, and each
-/// replica's position where that is.
+/// How a node has to end: the sum of all answers, how many of them committed where that is the same in each run, and
+/// each replica's position where that is.
 #[derive(Clone, Copy)]
 struct End {
     answers: u64,

@@ -1,6 +1,7 @@
 //! Reading lines, no more of one than a line may have.
 
-ghost use Rattle.std.specs.Prelude.{◌≡◌, ◌≢◌, ◌≤◌, ◌<◌, ℕ, List, [], All, length, take, slice_index, IfOk, true, false, vec_len, Some};
+ghost use Rattle.std.specs.Prelude.{◌≡◌, ◌≢◌, ◌≤◌, ◌<◌, ℕ, List, [], All, length, take, slice_index, IfOk, true, false};
+ghost use Rattle.std.specs.Prelude.{vec_len, Some};
 ghost use Rattle.script.specs.Text.{max_line};
 ghost use Rattle.script.specs.Reading.{HasNoLf, IsPiece, IsNext};
 
@@ -83,8 +84,8 @@ fn take_piece<R: BufRead, A: Allocator>(input: &mut R, line: &mut Vec<u8, A>) ->
     }
 }
 
-/// Reads the next line into `line`, without its LF; of one that is too long no more than a line may have is taken. An error
-/// is the input's, or want of memory; then it isn't known how much of a line was taken.
+/// Reads the next line into `line`, without its LF; of one that is too long no more than a line may have is taken. An
+/// error is the input's, or want of memory; then it isn't known how much of a line was taken.
 pub fn next_line<R: BufRead, A: Allocator>(input: &mut R, line: &mut Vec<u8, A>) -> io::Result<Next>
     ensures { IfOk result (λ n. (bytes : List ℕ) → R.remaining input.old ≡ Some bytes
         → IsNext bytes (R.remaining input.new) line.new.items n) }

@@ -33,13 +33,17 @@ fn step<A: Allocator + Copy, W: Write>(
     ensures same_output { (output_of output.new).ghost_name ≡ (output_of output.old).ghost_name }
     ensures setting { setting_of world.new ≡ setting_of world.old }
     ensures stepped { IfOk result (λ outcome.
-        IsStep (setting_of world.old) (world_of world.old) (step_of (setting_of world.old) step.entry) outcome (world_of world.new)
+        IsStep (setting_of world.old) (world_of world.old) (step_of (setting_of world.old) step.entry) outcome
+        (world_of world.new)
         × Passes W.contents output.old output.new
-        (step_text (setting_of world.old) (world_of world.new).log (step_of (setting_of world.old) step.entry) outcome)) }
+        (step_text (setting_of world.old) (world_of world.new).log
+        (step_of (setting_of world.old) step.entry) outcome)) }
     ensures failed { OnErr result ((outcome : ModelOutcome)
-        × IsStep (setting_of world.old) (world_of world.old) (step_of (setting_of world.old) step.entry) outcome (world_of world.new)
+        × IsStep (setting_of world.old) (world_of world.old) (step_of (setting_of world.old) step.entry) outcome
+        (world_of world.new)
         × PassesBeginning W.contents output.old output.new
-        (step_text (setting_of world.old) (world_of world.new).log (step_of (setting_of world.old) step.entry) outcome)) }
+        (step_text (setting_of world.old) (world_of world.new).log
+        (step_of (setting_of world.old) step.entry) outcome)) }
     ensures kept { IfErr result (LosesNothing W.contents output.old output.new) }
 {
     let outcome = world.step(step);
@@ -94,7 +98,8 @@ fn told_reply<A: Allocator + Copy>(world: &World<A>, position: u32, verdict: Ver
 
 /// The reply of the call at a position.
 fn reply_at<A: Allocator + Copy>(world: &World<A>, position: u32) -> Option<u64>
-    ensures { result ≡ reply_of (setting_of world.now) (world_of world.now).log (numbered (world_of world.now).log position) }
+    ensures { result ≡ reply_of (setting_of world.now) (world_of world.now).log
+        (numbered (world_of world.now).log position) }
 {
     world.keeps_what_was_delivered();
     match world.entry(position) {
@@ -114,7 +119,8 @@ pub(crate) fn begin<A: Allocator + Copy, W: Write>(
 ) -> Result<(), Failure>
     ensures same_output { (output_of output.new).ghost_name ≡ (output_of output.old).ghost_name }
     ensures setting { setting_of world.new ≡ setting_of world.old }
-    ensures done { HasDone W.contents (setting_of world.old) (world_of world.old) (begin_action replica name.now args.now request)
+    ensures done { HasDone W.contents (setting_of world.old) (world_of world.old)
+        (begin_action replica name.now args.now request)
         output.old output.new result (world_of world.new) }
     ensures kept { IfErr result (LosesNothing W.contents output.old output.new) }
 {
@@ -167,7 +173,8 @@ pub(crate) fn add<A: Allocator + Copy, W: Write>(
 ) -> Result<(), Failure>
     ensures same_output { (output_of output.new).ghost_name ≡ (output_of output.old).ghost_name }
     ensures setting { setting_of world.new ≡ setting_of world.old }
-    ensures done { HasDone W.contents (setting_of world.old) (world_of world.old) (action.Add name.now number args_len bytes.now)
+    ensures done { HasDone W.contents (setting_of world.old) (world_of world.old)
+        (action.Add name.now number args_len bytes.now)
         output.old output.new result (world_of world.new) }
     ensures kept { IfErr result (LosesNothing W.contents output.old output.new) }
 {

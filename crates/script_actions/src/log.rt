@@ -26,7 +26,8 @@ pub(crate) fn put_log<A: Allocator + Copy, W: Write>(
     output: &mut PagedOutput<'_, W>,
 ) -> Result<(), Failure>
     ensures same_output { (output_of output.new).ghost_name ≡ (output_of output.old).ghost_name }
-    ensures given { Gives W.contents output.old output.new result (log_text (setting_of world.now) (world_of world.now)) }
+    ensures given { Gives W.contents output.old output.new result
+        (log_text (setting_of world.now) (world_of world.now)) }
     ensures kept { IfErr result (LosesNothing W.contents output.old output.new) }
 {
     let entries = world.log_len();
@@ -103,7 +104,8 @@ pub(crate) fn put_entry<A: Allocator + Copy, W: Write>(
     position: u32,
 ) -> Result<(), Failure>
     ensures same_output { (output_of output.new).ghost_name ≡ (output_of output.old).ghost_name }
-    ensures given { Gives W.contents output.old output.new result (entry_text (setting_of world.now) (world_of world.now).log position) }
+    ensures given { Gives W.contents output.old output.new result
+        (entry_text (setting_of world.now) (world_of world.now).log position) }
     ensures kept { IfErr result (LosesNothing W.contents output.old output.new) }
 {
     world.keeps_what_was_delivered();

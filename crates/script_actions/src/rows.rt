@@ -25,7 +25,8 @@ pub(crate) fn put_rows<A: Allocator + Copy, W: Write>(
 ) -> Result<(), Failure>
     ensures same_output { (output_of output.new).ghost_name ≡ (output_of output.old).ghost_name }
     ensures given { Gives W.contents output.old output.new result
-        (rows_text (setting_of world.now) (world_of world.now).log replica (numbered (world_of world.now).replicas replica)) }
+        (rows_text (setting_of world.now) (world_of world.now).log replica
+        (numbered (world_of world.now).replicas replica)) }
     ensures kept { IfErr result (LosesNothing W.contents output.old output.new) }
 {
     let Some(listed) = world.rows(alloc, replica)? else {

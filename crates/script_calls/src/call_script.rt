@@ -33,9 +33,11 @@ pub fn read_script<A: Allocator + Copy, R: BufRead>(
     alloc: A,
     input: &mut R,
 ) -> Result<CallScript<A>, Stop>
-    ensures exact { IfOk result (λ s. (bytes : List ℕ) → R.remaining input.old ≡ Some bytes → script_says bytes ≡ Ok (said_by s)) }
+    ensures exact { IfOk result (λ s. (bytes : List ℕ) → R.remaining input.old ≡ Some bytes
+        → script_says bytes ≡ Ok (said_by s)) }
     // The first fault; or memory is wanting, or the input failed.
-    ensures stop { IfErr result (λ stop. (bytes : List ℕ) → R.remaining input.old ≡ Some bytes → IsStopOf (script_says bytes) stop) }
+    ensures stop { IfErr result (λ stop. (bytes : List ℕ) → R.remaining input.old ≡ Some bytes
+        → IsStopOf (script_says bytes) stop) }
     ensures window { IfOk result (λ script. (1 ≤ script.window) × (script.window ≤ MAX_WINDOW)) }
     ensures replicas { IfOk result (λ script. (1 ≤ script.replicas) × (script.replicas ≤ MAX_REPLICAS)) }
 {

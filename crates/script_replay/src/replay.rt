@@ -7,7 +7,8 @@ ghost use Rattle.script.specs.Text.{lines_of};
 ghost use Rattle.script_replay.specs.Stage.{first_stage};
 ghost use Rattle.script_replay.specs.Replay.{Ending, Prints, ScriptPrints};
 ghost use Rattle.script_replay.specs.Leaving.{Leaves, StopsAt, memory_line};
-ghost use Rattle.script_replay.specs.Doing.{GivesReplay, GivesUpToWant, WritesReplay, WritesUpToWant, has_output_failed};
+ghost use Rattle.script_replay.specs.Doing.{GivesReplay, GivesUpToWant, WritesReplay, WritesUpToWant};
+ghost use Rattle.script_replay.specs.Doing.{has_output_failed};
 ghost use Rattle.byte_output.specs.Writes.{AppendsBeginning};
 
 use crate::line::do_line;
@@ -20,8 +21,8 @@ use std::alloc::Allocator;
 use std::io;
 use std::io::{BufRead, ErrorKind, Write};
 
-/// Replays the script in the input: what it prints goes to the output, and what ends it before its end is said to `faults`.
-/// The exit status is 0 at its end, 1 where a line is at fault, and 3 where a stream or memory failed.
+/// Replays the script in the input: what it prints goes to the output, and what ends it before its end is said to
+/// `faults`. The exit status is 0 at its end, 1 where a line is at fault, and 3 where a stream or memory failed.
 pub fn replay_over<A: Allocator + Copy, R: BufRead, W: Write, E: Write>(
     alloc: A,
     input: &mut R,
@@ -31,10 +32,12 @@ pub fn replay_over<A: Allocator + Copy, R: BufRead, W: Write, E: Write>(
     // The status is that of the script's end, or something failed.
     ensures range { ((result ≡ 0) ⊎ (result ≡ 1)) ⊎ (result ≡ FAILED) }
     // What was written is what the script prints; where something failed, a beginning of it.
-    ensures told { IfSome (R.remaining input.old) (λ bytes. (text : List ℕ) × (ending : Ending) × ScriptPrints bytes text ending
-        × Leaves (W.contents output.old) (W.contents output.new) (E.contents faults.old) (E.contents faults.new) result text ending) }
-    // Where memory was wanting at a line, that line is told, and what the lines before it print was written whole. Else a
-    // stream failed, and that is told.
+    ensures told { IfSome (R.remaining input.old)
+        (λ bytes. (text : List ℕ) × (ending : Ending) × ScriptPrints bytes text ending
+        × Leaves (W.contents output.old) (W.contents output.new) (E.contents faults.old)
+        (E.contents faults.new) result text ending) }
+    // Where memory was wanting at a line, that line is told, and what the lines before it print was written whole. Else
+    // a stream failed, and that is told.
     ensures failed { IfSome (R.remaining input.old) (λ bytes. result ≡ FAILED
         → SaysStream (E.contents faults.old) (E.contents faults.new)
         ⊎ ((number : ℕ) × StopsAt bytes (R.remaining input.new) (W.contents output.old) (W.contents output.new) number

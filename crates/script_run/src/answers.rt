@@ -125,8 +125,8 @@ impl<J: LogSetting + Ledgers + Send + Sync + 'static> Found<J> {
     }
 }
 
-/// What each call was answered, in the order of the script, and the longest beginning of the log that a caller had seen. A call
-/// that no thread has made is made here. The error is want of memory.
+/// What each call was answered, in the order of the script, and the longest beginning of the log that a caller had
+/// seen. A call that no thread has made is made here. The error is want of memory.
 pub(crate) fn answers_of<J: LogSetting + Ledgers + Send + Sync + 'static, R: Wait>(
     rt: &R,
     alloc: Global,

@@ -69,9 +69,9 @@ impl<J: LogSetting + Ledgers + Send + Sync + 'static> Asking<J> {
         Ok(Asking { calls, next })
     }
 
-    /// Makes the calls by so many threads for each replica, and says after each part of them how many were made, where that is
-    /// to be shown: a hundredth, but of no fewer than 1,000 calls. What each thread has made; a call may be left, where memory
-    /// was wanting or there is no such replica. The error is want of memory before any call.
+    /// Makes the calls by so many threads for each replica, and says after each part of them how many were made, where
+    /// that is to be shown: a hundredth, but of no fewer than 1,000 calls. What each thread has made; a call may be
+    /// left, where memory was wanting or there is no such replica. The error is want of memory before any call.
     pub(crate) fn ask_all<R: Threads + Wait + Sync, E: Write>(
         &self,
         rt: &R,
@@ -147,8 +147,8 @@ impl<J: LogSetting + Ledgers + Send + Sync + 'static> Asking<J> {
         );
     }
 
-    /// Makes the calls of a thread's replica that no other thread has taken, before a place in the script, and adds them to its
-    /// share. It ends where there is no memory for one more.
+    /// Makes the calls of a thread's replica that no other thread has taken, before a place in the script, and adds
+    /// them to its share. It ends where there is no memory for one more.
     fn ask_from<R: Wait>(
         &self,
         rt: &R,

@@ -59,8 +59,9 @@ pub struct RunOptions {
     pub shows_progress: bool,
 }
 
-/// Runs the script in the input on a node: reads it whole, makes its calls, and prints what each was answered, and how the node
-/// has ended. The exit status is 0 where all was done; 1 where a line is at fault; 3 where memory, a stream or a thread failed.
+/// Runs the script in the input on a node: reads it whole, makes its calls, and prints what each was answered, and how
+/// the node has ended. The exit status is 0 where all was done; 1 where a line is at fault; 3 where memory, a stream or
+/// a thread failed.
 pub fn run_over<R: Threads + Wait + Copy + Send + Sync + 'static, I: BufRead, W: Write, E: Write>(
     rt: &R,
     alloc: Global,
@@ -71,14 +72,17 @@ pub fn run_over<R: Threads + Wait + Copy + Send + Sync + 'static, I: BufRead, W:
 ) -> u8
     ensures range { ((result ≡ 0) ⊎ (result ≡ 1)) ⊎ (result ≡ FAILED) }
     // An answer to each call of the script, and how the node has ended, all of it true of one log.
-    ensures done { result ≡ 0 → IfSome (I.remaining input.old) (λ bytes. PrintsRun bytes (W.contents output.old) (W.contents output.new)) }
+    ensures done { result ≡ 0 → IfSome (I.remaining input.old)
+        (λ bytes. PrintsRun bytes (W.contents output.old) (W.contents output.new)) }
     // The script's first fault, or as much of its line as the writer takes. Nothing was run.
-    ensures fault { result ≡ 1 → IfSome (I.remaining input.old) (λ bytes. SaysFault bytes (E.contents faults.old) (E.contents faults.new)) }
+    ensures fault { result ≡ 1 → IfSome (I.remaining input.old)
+        (λ bytes. SaysFault bytes (E.contents faults.old) (E.contents faults.new)) }
     ensures untouched { result ≡ 1 → output.new ≡ output.old }
     // Nothing is said where all was done, unless progress is to be shown.
     ensures silent { result ≡ 0 → options.shows_progress ≡ false → faults.new ≡ faults.old }
     // Something failed: nothing was written, or a beginning of what a run of the script prints.
-    ensures failed { result ≡ FAILED → PrintsNoMore (I.remaining input.old) (W.contents output.old) (W.contents output.new) }
+    ensures failed { result ≡ FAILED → PrintsNoMore (I.remaining input.old) (W.contents output.old)
+        (W.contents output.new) }
 {
     let script = match read_script(alloc, input) {
         Ok(script) => script,

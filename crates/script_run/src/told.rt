@@ -14,7 +14,8 @@ use report::CallAnswer;
 use std::sync::Wait;
 use tallies::Ledgers;
 
-/// What a call is told, and what its caller has seen of the log then. Where no procedure has its name the node isn't asked.
+/// What a call is told, and what its caller has seen of the log then. Where no procedure has its name the node isn't
+/// asked.
 pub(crate) fn answer_to<J: LogSetting + Ledgers + Send + Sync + 'static, R: Wait>(
     rt: &R,
     desk: &Desk<J, OpenGate>,

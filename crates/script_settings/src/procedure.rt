@@ -13,7 +13,8 @@ use catalogue::{Catalogue, CatalogueFault};
 use schema::Schema;
 use std::alloc::Allocator;
 
-/// Adds a procedure behind the others: decodes its bytes, verifies the program for the catalogue's tables, and stores it.
+/// Adds a procedure behind the others: decodes its bytes, verifies the program for the catalogue's tables, and stores
+/// it.
 #[tactic(auto, unfolding(crate::specs::Settings::with_procedure))]
 pub(crate) fn add_procedure<A: Allocator + Copy>(
     alloc: A,
@@ -42,7 +43,8 @@ pub(crate) fn add_procedure<A: Allocator + Copy>(
 /// The program of some bytes.
 fn program<A: Allocator>(alloc: A, bytes: &[u8]) -> Result<Code<A>, FaultCause>
     ensures ok { IfOk result (λ code. program_of bytes.now ≡ Ok code) }
-    ensures fault { IfErr result (λ cause. (cause ≡ OutOfMemory) ⊎ (caused Program (program_of bytes.now) ≡ Err cause)) }
+    ensures fault { IfErr result (λ cause. (cause ≡ OutOfMemory)
+        ⊎ (caused Program (program_of bytes.now) ≡ Err cause)) }
 {
     match decode(alloc, bytes) {
         Ok(code) => Ok(code),
@@ -64,7 +66,8 @@ fn accepted<A: Allocator + Copy>(
     requires { args_len ≤ MAX_ARGUMENTS }
     ensures tables { IfOk result (λ accepted. accepted.tables ≡ schema.now) }
     ensures ok { IfOk result (λ accepted. verified (program_for schema.now args_len code) ≡ Ok accepted) }
-    ensures fault { IfErr result (λ cause. (cause ≡ OutOfMemory) ⊎ (verified (program_for schema.now args_len code) ≡ Err cause)) }
+    ensures fault { IfErr result (λ cause. (cause ≡ OutOfMemory)
+        ⊎ (verified (program_for schema.now args_len code) ≡ Err cause)) }
 {
     match verify(alloc, code, schema, args_len) {
         Ok(accepted) => Ok(accepted),

@@ -10,7 +10,8 @@ use catalogue::Catalogue;
 use schema::{Schema, SchemaFault};
 use std::alloc::{AllocError, Allocator};
 
-/// Adds a table to a catalogue that has no procedures yet. `pairs` are its tables with their widths, as they were given.
+/// Adds a table to a catalogue that has no procedures yet. `pairs` are its tables with their widths, as they were
+/// given.
 pub(crate) fn add_table<A: Allocator + Copy>(
     pairs: &mut Vec<(u8, u16), A>,
     catalogue: &mut Catalogue<A>,

@@ -137,8 +137,8 @@ const CLAIM_LINE: &str = "proc claim 8 16 \
     ffffff850000000100000055000600000000007b7af8ff00000000b701000001000000bf62000000000000bfa3\
     00000000000007030000f8ffffff850000000200000079a0f8ff000000009500000000000000";
 
-/// A call that writes nothing when it is asked again is answered by what it reads; a request of a call that was refused may
-/// be used again.
+/// A call that writes nothing when it is asked again is answered by what it reads; a request of a call that was refused
+/// may be used again.
 static ASKED_AGAIN: Story = Story {
     lines: &[
         "window 4",

@@ -30,7 +30,8 @@ fn replayed<A: Allocator + Copy>(
     (status, output, faults)
 }
 
-/// Whether a script prints what it should, with one line said of its fault where it has one, and with the status of that.
+/// Whether a script prints what it should, with one line said of its fault where it has one, and with the status of
+/// that.
 fn tells(alloc: Global, lines: &[&str], prints: &[&str], fault: &str) -> Result<bool, AllocError> {
     let script = joined(alloc, lines)?;
     let expected = joined(alloc, prints)?;
@@ -185,8 +186,8 @@ const ENTRIES: usize = 25;
 
 const ENTRY_LINE: &[u8] = b"entry 1\n";
 
-/// How many bytes are printed before the line for which the page of 4,096 bytes has no room: three short ones, and 22 of
-/// 177 bytes.
+/// How many bytes are printed before the line for which the page of 4,096 bytes has no room: three short ones, and 22
+/// of 177 bytes.
 const FIRST_PAGE: usize = 59 + 22 * 177;
 
 /// How many bytes of the script stand behind that line.
@@ -242,8 +243,8 @@ fn a_failing_input_answers_3(rt: HostRuntime) {
     }
 }
 
-/// Replays a script over an output with so much room: whether the status is 3, something is said of it, the output holds what
-/// there was room for and isn't asked again, and so much of the script wasn't read.
+/// Replays a script over an output with so much room: whether the status is 3, something is said of it, the output
+/// holds what there was room for and isn't asked again, and so much of the script wasn't read.
 fn ends_at(
     alloc: Global,
     script: &[u8],
@@ -261,8 +262,9 @@ fn ends_at(
     said && held && output.after_failure == 0 && input.len() == unread
 }
 
-/// Wherever the output fails, it holds what came before, and the status is 3. Where the first page can't leave, no line is read
-/// behind the one that needs its room; what is printed after it leaves at the end, when the whole script is read.
+/// Wherever the output fails, it holds what came before, and the status is 3. Where the first page can't leave, no line
+/// is read behind the one that needs its room; what is printed after it leaves at the end, when the whole script is
+/// read.
 #[test]
 fn a_script_ends_where_its_output_fails(rt: HostRuntime) {
     let alloc = rt.alloc();
@@ -357,8 +359,8 @@ fn course_of(status: u8, output: &[u8], faults: &[u8], prints: &[u8]) -> Option<
 /// More growths than any replay of these tests makes.
 const MOST: u64 = 2_000;
 
-/// Replays a story with each growth refused in turn, up to the first that it doesn't make: whether each course is one that it may
-/// take, and some growth ends it behind what it printed, and some refuses a step.
+/// Replays a story with each growth refused in turn, up to the first that it doesn't make: whether each course is one
+/// that it may take, and some growth ends it behind what it printed, and some refuses a step.
 fn goes_well(rt: &impl Abort, alloc: Global, scarce: &Scarce, story: &Story) -> bool {
     let script = joined(alloc, story.lines).expect(rt, "memory");
     let prints = joined(alloc, story.prints).expect(rt, "memory");

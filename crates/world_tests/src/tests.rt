@@ -7,8 +7,8 @@ mod replayed;
 /// With what `PUT_AND_CANCEL` cancels.
 const CANCEL_CODE: u64 = 9;
 
-/// The procedures of the catalogue: their numbers, each with its program and how many words it takes. The last two are never
-/// ordered.
+/// The procedures of the catalogue: their numbers, each with its program and how many words it takes. The last two are
+/// never ordered.
 static PROCEDURES: [(u16, &str, usize); 8] = [
     (1, ADD, 2),
     (2, SKEW, 2),
@@ -35,8 +35,8 @@ fn is_of_catalogue(number: u16) -> bool {
     catalogue_place(number).is_some()
 }
 
-/// The place of the procedure whose program a number has: its own, and where the catalogue has none of it one of them in turn,
-/// so that a number tells the program of a procedure that is added too.
+/// The place of the procedure whose program a number has: its own, and where the catalogue has none of it one of them
+/// in turn, so that a number tells the program of a procedure that is added too.
 fn place_of(number: u16) -> usize {
     catalogue_place(number).unwrap_or(usize::from(number % 8))
 }

@@ -194,7 +194,8 @@ static WIDE: [u8; 24] = [
 #[test]
 fn a_wide_load_is_one_line(rt: HostRuntime) {
     let expected =
-        "   0 18000000010000000000000002000000 lddw dst 0 src 0 off 0 imm 8589934593\n   2 9500000000000000 exit dst 0 src 0 off 0 imm 0\n";
+        "   0 18000000010000000000000002000000 lddw dst 0 src 0 off 0 imm 8589934593\n   \
+        2 9500000000000000 exit dst 0 src 0 off 0 imm 0\n";
     is_listed(&rt, rt.alloc(), &WIDE, expected);
 }
 

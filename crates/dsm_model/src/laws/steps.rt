@@ -133,7 +133,11 @@ pub fn calls_are_ordered_at_their_end()
         × ((run_in w before.log o.call).cancel_code ≡ None) × (len (run_in w before.log o.call).writes ≢ 0)
         × (position ≡ length before.log + 1) × (length before.log < max_calls)
         × (after ≡ with_open_call
-        (record { log = before.log ++ CallItem o.call ∷ []; replicas = before.replicas; calls = before.calls }) c None) }
+        (record {
+          log = before.log ++ CallItem o.call ∷ [];
+          replicas = before.replicas;
+          calls = before.calls;
+        }) c None) }
     ensures full { (w : Setting) (before : World) (c : ℕ) (after : World)
         → IsStep w before (Order c) (Refused LogFull) after
         → (o : OpenCall) × (open_call before c ≡ Some o) × ((run_in w before.log o.call).steps ≤ o.turns)

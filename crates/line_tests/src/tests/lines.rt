@@ -148,8 +148,8 @@ static REPLICAS: [Printed; 5] = [
     ),
 ];
 
-/// The position of a call with one write of procedure 1 at snapshot 0, what it was compared with, its verdict, the reply that is
-/// told, and how it is printed where replica 1 delivers it and where the log is.
+/// The position of a call with one write of procedure 1 at snapshot 0, what it was compared with, its verdict, the
+/// reply that is told, and how it is printed where replica 1 delivers it and where the log is.
 type Certified = (u32, u64, Verdict, Option<u64>, &'static str, &'static str);
 
 static CALLS_OF_THE_LOG: [Certified; 4] = [

@@ -124,7 +124,8 @@ const GIVEN: [(&[u8], Given<'static>); 3] = [
     (b"add two 9 16 b7fF", (b"two", &[183, 255], [0, 9, 16])),
 ];
 
-/// The replica of a line that begins a call, and the request that it carries; or what a line that adds a procedure gives.
+/// The replica of a line that begins a call, and the request that it carries; or what a line that adds a procedure
+/// gives.
 fn given<A: Allocator>(statement: &Statement<Bytes<A>>) -> Option<Given<'_>> {
     let Statement::Action(action) = statement else {
         return None;
@@ -236,7 +237,8 @@ impl BufRead for Input<'_> {
     }
 }
 
-/// Inputs, the lines of one that ends, and those of one that fails at its end: a last line is known to be whole by its LF.
+/// Inputs, the lines of one that ends, and those of one that fails at its end: a last line is known to be whole by its
+/// LF.
 const INPUTS: [(&[u8], &[&[u8]], &[&[u8]]); 5] = [
     (b"", &[], &[]),
     (b"a", &[b"a"], &[]),

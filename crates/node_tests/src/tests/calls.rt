@@ -51,8 +51,8 @@ pub(crate) fn one_session<J: LogSetting + Ledgers + Send + Sync + 'static, R: Wa
     assert_eq!(rt; answer, read);
 }
 
-/// A call that is held at its first look while another is answered, where two threads execute; where one does, the other comes
-/// after it. What was answered to both.
+/// A call that is held at its first look while another is answered, where two threads execute; where one does, the
+/// other comes after it. What was answered to both.
 pub(crate) fn overlap<
     J: LogSetting + Ledgers + Send + Sync + 'static,
     R: Threads + Wait + Abort + Sync,

@@ -1,5 +1,5 @@
-//! Replicas that find no memory. One stops beside one that does not: who has seen more is behind there, and it is made anew. And
-//! where each growth of a call is refused in turn, the log has what was answered as ordered.
+//! Replicas that find no memory. One stops beside one that does not: who has seen more is behind there, and it is made
+//! anew. And where each growth of a call is refused in turn, the log has what was answered as ordered.
 
 ghost use Rattle.std.specs.Prelude.{◌≡◌};
 ghost use Rattle.tallies.specs.Shared.{names_by_place};
@@ -53,8 +53,8 @@ fn addition<J: LogSetting, P: Allocator + Copy, R: Abort>(
     (Request { asked, reply }, replies)
 }
 
-/// The answer to an addition of 10 to row 5 at a replica, whose requests these are; while it is asked the n-th growth of this
-/// memory is refused, or none where n is 0. None where the answer is lost for want of memory.
+/// The answer to an addition of 10 to row 5 at a replica, whose requests these are; while it is asked the n-th growth
+/// of this memory is refused, or none where n is 0. None where the answer is lost for want of memory.
 fn add_at<J: LogSetting, P: Allocator + Copy, R: Wait + Abort>(
     rt: &R,
     alloc: P,
@@ -158,8 +158,8 @@ impl Heard {
     }
 }
 
-/// Refuses each growth of a call at the first replica in turn, until a call asks for no more. The log has what was answered as
-/// ordered, whatever was refused; where the replica has stopped it is made anew.
+/// Refuses each growth of a call at the first replica in turn, until a call asks for no more. The log has what was
+/// answered as ordered, whatever was refused; where the replica has stopped it is made anew.
 fn refuse_each<J: LogSetting + Ledgers, P: Allocator + Copy, R: Wait + Abort>(
     rt: &R,
     alloc: P,

@@ -98,8 +98,8 @@ fn append_scarcely<J: LogIdentity>(
     Ok(())
 }
 
-/// Where no growth is refused this only fills a group and begins the next. Run it with `rt try --test --fail-alloc N`, and
-/// one append finds no memory, leaves the log and what was seen as they were, and is made again.
+/// Where no growth is refused this only fills a group and begins the next. Run it with `rt try --test --fail-alloc N`,
+/// and one append finds no memory, leaves the log and what was seen as they were, and is made again.
 #[test]
 fn a_refused_growth_adds_nothing(rt: HostRuntime) -> Result<(), Fail> {
     let cells = GroupCells::new(rt.alloc())?;

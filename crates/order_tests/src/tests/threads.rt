@@ -12,7 +12,8 @@ use std::test::Fail;
 use std::thread;
 use std::thread::Threads;
 
-/// How many threads append, how many entries each tries, how many others read along, and how many entries the log takes.
+/// How many threads append, how many entries each tries, how many others read along, and how many entries the log
+/// takes.
 #[derive(Clone, Copy)]
 struct Crowd {
     appending: u32,
@@ -28,8 +29,8 @@ impl Crowd {
     }
 }
 
-/// What a thread came to: of one that appends the number of each entry, 0 where the log was full; of one that reads along
-/// the replies in order.
+/// What a thread came to: of one that appends the number of each entry, 0 where the log was full; of one that reads
+/// along the replies in order.
 type Came = Result<Vec<u64>, AppendFault>;
 
 /// What tells the entry of a thread from all others.

@@ -211,8 +211,8 @@ fn rebuilt<A: Allocator + Copy>(
     rebuilt?.ok()
 }
 
-/// How many growths of a rebuilding were refused before one went through, and whether the replica was each time as it had
-/// stopped.
+/// How many growths of a rebuilding were refused before one went through, and whether the replica was each time as it
+/// had stopped.
 fn refuse_rebuilding<A: Allocator + Copy>(
     alloc: Global,
     scarce: &Scarce,
@@ -255,7 +255,8 @@ fn refuse_listing<A: Allocator + Copy>(
     (MOST, true)
 }
 
-/// Of a rebuilding and of a list of the rows, how many growths were refused, and whether the replica was each time as before.
+/// Of a rebuilding and of a list of the rows, how many growths were refused, and whether the replica was each time as
+/// before.
 fn refuse_each<A: Allocator + Copy>(
     alloc: Global,
     scarce: &Scarce,

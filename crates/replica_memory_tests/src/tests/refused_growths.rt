@@ -14,8 +14,8 @@ use test_procedures::ONE;
 use test_replicas::CheckedReplica;
 
 /// Entries, of which the last is delivered with a growth refused, and how many growths that has: six make room for the
-/// keys and rows of a write where there are none, four for requests or procedures where there is none, one for a name, and
-/// one at times for the verdict. And what the replica says of itself before the last and after it.
+/// keys and rows of a write where there are none, four for requests or procedures where there is none, one for a name,
+/// and one at times for the verdict. And what the replica says of itself before the last and after it.
 struct RefusedCase {
     entries: &'static [EntryCase],
     growths: u64,
@@ -238,8 +238,8 @@ enum Growth {
     Delivering(u64),
 }
 
-/// Makes a replica and delivers the entries of a case with a growth refused. One function owns the replica in all tests, since
-/// each that does takes long to be proved.
+/// Makes a replica and delivers the entries of a case with a growth refused. One function owns the replica in all
+/// tests, since each that does takes long to be proved.
 fn attempt(
     alloc: Global,
     catalogue: &Catalogue,
@@ -260,8 +260,8 @@ fn attempt(
     came_of(alloc, &scarce, &mut checked, entries, case, delivering)
 }
 
-/// How many growths of this kind were refused, each in turn with this outcome, before all went well; none where something isn't
-/// as the case says.
+/// How many growths of this kind were refused, each in turn with this outcome, before all went well; none where
+/// something isn't as the case says.
 fn refused_among(
     alloc: Global,
     catalogue: &Catalogue,

@@ -190,8 +190,8 @@ fn kind_of(window: u32, past: &[ItemReport], item: &PlainItem, verdict: Verdict)
     }
 }
 
-/// What became of a drawn log: how many items of each kind, and after how many a replica doesn't come to what the plain replay
-/// says.
+/// What became of a drawn log: how many items of each kind, and after how many a replica doesn't come to what the plain
+/// replay says.
 #[derive(Clone, Copy)]
 struct Outcome {
     counts: [u32; KINDS],
@@ -320,8 +320,8 @@ fn outcome_of(rt: &impl Abort, alloc: Global, catalogue: &Catalogue, window: u32
     outcome_of_log(rt, alloc, catalogue, &setting, &log)
 }
 
-/// Whether a log had calls of the kinds that each window has; stale ones are few where the window is nearly as long as the
-/// log.
+/// Whether a log had calls of the kinds that each window has; stale ones are few where the window is nearly as long as
+/// the log.
 fn is_varied(window: u32, outcome: &Outcome) -> bool {
     outcome.of(Kind::Commit) > 1_000
         && outcome.of(Kind::Conflict) > 50

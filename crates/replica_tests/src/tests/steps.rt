@@ -9,8 +9,8 @@ use std::process::Abort;
 use test_entries::{EntryCase, byte_at, certification_at, entry_of, small_catalogue};
 use test_replicas::CheckedReplica;
 
-/// A log under a window: of each entry the verdict on it and how many comparisons that takes; positions and keys with what
-/// is found there after all entries; and the procedures then, in order of entry.
+/// A log under a window: of each entry the verdict on it and how many comparisons that takes; positions and keys with
+/// what is found there after all entries; and the procedures then, in order of entry.
 struct LogCase {
     window: u32,
     steps: &'static [(EntryCase, Verdict, u64)],
@@ -104,8 +104,8 @@ static LOGS: [LogCase; 3] = [
         rows: &[(10, 5, None), (11, 5, Some(None)), (13, 5, Some(Some(2)))],
         procedures: &[(b"1", 1), (b"one", 9), (b"two", 10), (b"One", 65_535)],
     },
-    // A call is repeated within the window and past it, where it would be stale. A conflict and a stale call leave their
-    // request free. A repeated call writes nothing, and a request with its numbers exchanged is another.
+    // A call is repeated within the window and past it, where it would be stale. A conflict and a stale call leave
+    // their request free. A repeated call writes nothing, and a request with its numbers exchanged is another.
     LogCase {
         window: 2,
         steps: &[

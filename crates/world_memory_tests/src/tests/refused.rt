@@ -38,7 +38,8 @@ static BEFORE: [(Step<'static>, usize); 7] = [
     (Step::Deliver { replica: 2 }, 1),
 ];
 
-/// Replica 2 is stopped until it is made anew, replica 1 goes on meanwhile; then a further call is delivered to replica 2.
+/// Replica 2 is stopped until it is made anew, replica 1 goes on meanwhile; then a further call is delivered to replica
+/// 2.
 static AFTER: [(Step<'static>, usize); 7] = [
     (Step::Deliver { replica: 2 }, 1),
     (Step::Deliver { replica: 1 }, 2),
@@ -164,8 +165,8 @@ fn each_refused_growth_is_want_of_memory(rt: HostRuntime) {
     assert!(rt; refused > 4 && refused < 100, "{refused}");
 }
 
-/// A step that takes memory, in a world in which these were taken before: what it answers, and what it does where a growth is
-/// refused; and a step by which is seen what that left, with its answer.
+/// A step that takes memory, in a world in which these were taken before: what it answers, and what it does where a
+/// growth is refused; and a step by which is seen what that left, with its answer.
 struct Case {
     before: Script,
     step: Step<'static>,
@@ -378,8 +379,8 @@ fn each_step_may_find_no_memory(rt: HostRuntime) {
     }
 }
 
-/// Beginnings of calls of which more than one refusal holds: replica, procedure, arguments, session and sequence number, and
-/// the refusal that is given.
+/// Beginnings of calls of which more than one refusal holds: replica, procedure, arguments, session and sequence
+/// number, and the refusal that is given.
 static BEGINNINGS: [(u32, u16, &[u8], u32, u32, StepRefusal); 5] = [
     (3, 7, &ONE, 0, 0, StepRefusal::NoReplica),
     (1, 7, &ONE, 0, 0, StepRefusal::NoProcedure),

@@ -102,8 +102,8 @@ fn is_number_taken(ordered: &[Ordered], past: &[ItemReport], number: u16) -> boo
     is_of_catalogue(number) || items.any(|(it, report)| is_added(it, report, None, Some(number)))
 }
 
-/// Whether name and number are those of one procedure: of one of the catalogue, whose name is its number, or of an addition
-/// that committed.
+/// Whether name and number are those of one procedure: of one of the catalogue, whose name is its number, or of an
+/// addition that committed.
 fn is_one(ordered: &[Ordered], past: &[ItemReport], name: &str, number: u16) -> bool {
     let mut items = ordered.iter().zip(past);
     let own = is_of_catalogue(number) && name.as_bytes() == digit_of(number).as_slice();

@@ -82,8 +82,8 @@ fn log_of(rt: &impl Abort, alloc: Global, history: &History) -> Vec<PlainItem> {
     log
 }
 
-/// Whether what stands at a position of the world's log is what was ordered, a call with the reply that it answered, which is
-/// that of its run in the replay.
+/// Whether what stands at a position of the world's log is what was ordered, a call with the reply that it answered,
+/// which is that of its run in the replay.
 fn is_logged(
     entry: Option<&Entry<&Scarce>>,
     history: &History,
@@ -114,7 +114,8 @@ fn has_replies(world: &World<&Scarce>, history: &History, reports: &[ItemReport]
     history.ordered.len() == reports.len() && world.log_len() == position
 }
 
-/// Whether the row at a key is this word, each in bytes with the least first; where there is none, whether the word is 0.
+/// Whether the row at a key is this word, each in bytes with the least first; where there is none, whether the word is
+/// 0.
 fn is_value_at(rows: &[Row], key: &[u8], word: u64) -> bool {
     for row in rows {
         if row.key().to_le_bytes().as_slice() == key {
@@ -191,8 +192,8 @@ fn finds_rows<S: Store>(store: &S, rows: &[Row]) -> bool {
     true
 }
 
-/// Whether a replica that has come to a position shows the rows of the replay after one before it, and none after one to
-/// which it hasn't come. Rows are gone where more than the window came since.
+/// Whether a replica that has come to a position shows the rows of the replay after one before it, and none after one
+/// to which it hasn't come. Rows are gone where more than the window came since.
 fn shows_rows(
     drawn: &DrawnWorld<'_>,
     replay: &CompletedReplay,
