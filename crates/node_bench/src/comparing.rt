@@ -7,12 +7,11 @@ use locked_replica::LockedReplica;
 use log_entry::Entry;
 use node::Finish;
 use node_calls::OpenGate;
-use order_log::LIMIT;
 use ordered_entries::LogSetting;
 use plain_replayer::{
     CompletedReplay, PlainCall, PlainItem, PlainItemKind, PlainSetting, Row, replay_log,
 };
-use schema::Look;
+use schema::{Look, MAX_LOG};
 use std::alloc::Global;
 use std::sync::Wait;
 use tallies::Ledgers;
@@ -32,7 +31,7 @@ fn items_of<J: LogSetting + Ledgers>(
 ) -> Option<Vec<PlainItem>> {
     let mut items = Vec::new(alloc);
     let mut seen = finish.log().seen();
-    for _ in 0..LIMIT {
+    for _ in 0..MAX_LOG {
         let Some(entry) = finish.log().get(&mut seen) else {
             break;
         };
