@@ -186,11 +186,11 @@ const ENTRIES: usize = 25;
 
 const ENTRY_LINE: &[u8] = b"entry 1\n";
 
-/// How many bytes are printed before the line for which the page of 4,096 bytes has no room: three short ones, and 22
-/// of 177 bytes.
-const FIRST_PAGE: usize = 59 + 22 * 177;
+/// How many bytes the page of 4,096 bytes has when it leaves: three short lines, 22 of 177 bytes, and of one more its 8
+/// bytes of words and 67 bytes in hex.
+const FIRST_PAGE: usize = 59 + 22 * 177 + 8 + 67 * 2;
 
-/// How many bytes of the script stand behind that line.
+/// How many bytes of the script stand behind the line that needs its room.
 const BEHIND_FIRST_PAGE: usize = 2 * 8;
 
 /// A script that prints more than a page, and what it prints: a call, and then its entry again and again.
