@@ -1,5 +1,5 @@
-ghost use Rattle.std.specs.Prelude.{◌≡◌, length, IfSome};
-ghost use Rattle.bpf_code.specs.Program.{instruction_at, IsInRange, IsProgram};
+ghost use Rattle.std.specs.Prelude.{◌≡◌, ◌*◌, length, IfSome};
+ghost use Rattle.bpf_code.specs.Program.{instruction_at, IsInRange, IsProgram, spelling};
 
 use crate::instruction::Instruction;
 use std::alloc::{Allocator, Global};
@@ -43,6 +43,7 @@ impl<A: Allocator> Code<A> {
     /// How many slots of eight bytes the program has, 1 to 4,096.
     pub fn slots(&self) -> usize
         ensures count { result ≡ length self.now }
+        ensures bytes { length (spelling self.now) ≡ 8 * length self.now }
         // What is known of every program.
         ensures program { IsProgram self.now }
     {

@@ -2,7 +2,7 @@ ghost use Rattle.std.specs.Prelude.{◌≡◌, ◌∷◌, Ok, Err, ◌⊎◌, �
 ghost use Rattle.std.specs.Prelude.{Some, None, length, vec_len, vec_capacity, IfOk, IfErr, IfSome, OnOk};
 ghost use Rattle.std.specs.Prelude.{true, false};
 ghost use Rattle.bpf_code.specs.Program.{max_slots};
-ghost use Rattle.bpf_code.specs.declared.fault.DecodeCause.TheVariants.{OutOfMemory};
+ghost use Rattle.bpf_code.specs.declared.fault.DecodeCause.TheVariants.{NoMemory};
 ghost use Rattle.bpf_code.specs.Fields.{bytes_of, slots_of};
 ghost use Rattle.bpf_code.specs.declared.fields.Fields.{Fields};
 ghost use Rattle.bpf_code.specs.Program.{Program, IsInRange, AllInRange, spelling, is_wide as wide, distance_of};
@@ -89,7 +89,7 @@ fn read_slots<A: Allocator>(
     requires some { 0 < length bytes.now }
     requires short { length bytes.now ≤ 8 * max_slots }
     ensures ok { IfOk result (λ slots. slots_read None 0 (slots_of bytes.now) ≡ Ok slots.items) }
-    ensures err { IfErr result (λ e. (e ≡ fault_at OutOfMemory 0) ⊎ (slots_read None 0 (slots_of bytes.now) ≡ Err e)) }
+    ensures err { IfErr result (λ e. (e ≡ fault_at NoMemory 0) ⊎ (slots_read None 0 (slots_of bytes.now) ≡ Err e)) }
     ensures bytes { IfOk result (λ slots. spelling slots.items ≡ bytes.now) }
     ensures count { IfOk result (λ slots. 8 * vec_len slots ≡ length bytes.now) }
     ensures in_range { IfOk result (λ slots. AllInRange slots.items) }
@@ -97,7 +97,7 @@ fn read_slots<A: Allocator>(
     let count = bytes.len() / 8;
     let Ok(mut slots) = Vec::with_capacity(alloc, count) else {
         return Err(DecodeFault {
-            cause: DecodeCause::OutOfMemory,
+            cause: DecodeCause::NoMemory,
             slot: 0,
         });
     };
@@ -121,7 +121,7 @@ fn program<A: Allocator>(alloc: A, bytes: &[u8]) -> Result<Code<A>, DecodeFault>
     ensures spelled { IfOk result (λ code. spelling code ≡ bytes.now) }
     ensures program { IfOk result IsProgram }
     ensures exact { IfOk result (λ code. program_of bytes.now ≡ Ok code) }
-    ensures fault { IfErr result (λ e. (e ≡ fault_at OutOfMemory 0) ⊎ (program_of bytes.now ≡ Err e)) }
+    ensures fault { IfErr result (λ e. (e ≡ fault_at NoMemory 0) ⊎ (program_of bytes.now ≡ Err e)) }
 {
     let fault = |cause: DecodeCause| DecodeFault { cause, slot: 0 };
     if bytes.is_empty() || bytes.len() % 8 != 0 {
@@ -150,10 +150,10 @@ pub fn decode<A: Allocator>(alloc: A, bytes: &[u8]) -> Result<Code<A>, DecodeFau
 
     // The bytes of a program are decoded to it, unless memory runs out.
     ensures only { (p : Program) → IsProgram p → spelling p ≡ bytes.now
-        → (result ≡ Err (fault_at OutOfMemory 0)) ⊎ (result ≡ Ok p) }
+        → (result ≡ Err (fault_at NoMemory 0)) ⊎ (result ≡ Ok p) }
 
     // Other bytes have their one fault, unless memory runs out.
-    ensures fault { IfErr result (λ e. (e ≡ fault_at OutOfMemory 0) ⊎ (program_of bytes.now ≡ Err e)) }
+    ensures fault { IfErr result (λ e. (e ≡ fault_at NoMemory 0) ⊎ (program_of bytes.now ≡ Err e)) }
     ensures exact { IfOk result (λ code. program_of bytes.now ≡ Ok code) }
 {
     program(alloc, bytes)

@@ -1,4 +1,4 @@
-ghost use Rattle.std.specs.Prelude.{◌≡◌, ◌<◌, ◌≤◌, ◌++◌, ◌*◌, ◌+◌, IfOk, OnOk, None, Some, ℤ, pos};
+ghost use Rattle.std.specs.Prelude.{◌≡◌, ◌<◌, ◌≤◌, ◌++◌, ◌*◌, ◌+◌, IfOk, None, Some, ℤ, pos};
 ghost use Rattle.bpf_code.specs.Spelling.{code_of, operation_offset};
 ghost use Rattle.bpf_code.specs.Spelling.{extension_offset as offset_of, end_immediate, fields_of};
 ghost use Rattle.bpf_code.specs.Spelling.{second_slot, instruction_bytes};
@@ -17,6 +17,7 @@ use crate::fields::Fields;
 use crate::instruction::{Instruction, Register, SignExtendingMove, Source, Width};
 use crate::opcode::{ArithmeticCode, Opcode, SourceKind};
 use bpf_words::{BinaryOperation, EndWidth};
+use byte_output::sink::{ByteSink, GrowingBytes};
 use std::alloc::{AllocError, Allocator};
 
 /// The bytes of the program, exactly those that it was decoded from.
@@ -26,26 +27,33 @@ pub fn encode<A: Allocator, B: Allocator>(
 ) -> Result<Vec<u8, B>, AllocError>
     ensures { IfOk result (λ bytes. bytes.items ≡ spelling code.now) }
 {
-    let mut bytes = Vec::with_capacity(alloc, 8 * code.slots())?;
+    let room = Vec::with_capacity(alloc, 8 * code.slots())?;
+    let mut bytes = GrowingBytes::new(room);
+    append_program(&mut bytes, code);
+    bytes.into_bytes()
+}
+
+/// Appends the bytes of the program, an instruction after the other.
+pub fn append_program<A: Allocator, S: ByteSink>(sink: &mut S, code: &Code<A>)
+    ensures { S.appends sink.old sink.new (spelling code.now) }
+{
     for slot in 0..code.slots() {
-        push(&mut bytes, code.at(slot))?;
+        append_at(sink, code.at(slot));
     }
-    Ok(bytes)
 }
 
 /// Appends the bytes of the instruction that begins at a slot, where one does.
 #[tactic(auto, unfolding(crate::specs::Spelling::instruction_bytes))]
-fn push<B: Allocator>(bytes: &mut Vec<u8, B>, begins: Option<Instruction>) -> Result<(), AllocError>
-    ensures { OnOk result (bytes.new.items ≡ bytes.old.items ++ spelling_at begins) }
+fn append_at<S: ByteSink>(sink: &mut S, begins: Option<Instruction>)
+    ensures { S.appends sink.old sink.new (spelling_at begins) }
 {
     let Some(instruction) = begins else {
-        return Ok(());
+        return;
     };
-    bytes.extend_from_slice(&instruction.fields().to_bytes())?;
+    sink.append(&instruction.fields().to_bytes());
     if let Some(half) = instruction.second_slot() {
-        bytes.extend_from_slice(&half.to_bytes())?;
+        sink.append(&half.to_bytes());
     }
-    Ok(())
 }
 
 impl Instruction {

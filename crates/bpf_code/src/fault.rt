@@ -28,7 +28,7 @@ pub enum DecodeCause {
     JumpIntoWideLoad,
     /// The last instruction isn't EXIT.
     NoExit,
-    OutOfMemory,
+    NoMemory,
 }
 
 impl DecodeCause {
@@ -48,7 +48,7 @@ impl DecodeCause {
             DecodeCause::JumpPastEnd => 9,
             DecodeCause::JumpIntoWideLoad => 10,
             DecodeCause::NoExit => 11,
-            DecodeCause::OutOfMemory => 12,
+            DecodeCause::NoMemory => 12,
         }
     }
 }

@@ -4,7 +4,7 @@
 
 pub use code::{Code, MAX_SLOTS};
 pub use decoding::decode;
-pub use encoding::encode;
+pub use encoding::{append_program, encode};
 pub use fault::{DecodeCause, DecodeFault};
 pub use fields::Fields;
 pub use instruction::{Instruction, LoadKind, Register, SignExtendingMove, Size, Source, Width};

@@ -39,7 +39,7 @@ pub fn verify<A: Allocator, B: Allocator + Clone, C: Allocator>(
         (RefusedBy (record { program = code; tables = schema.now; args_len = args_len })) }
 {
     let Ok(mut pending) = vec![in alloc; None; code.slots()] else {
-        return Err(Refusal::OutOfMemory);
+        return Err(Refusal::NoMemory);
     };
     if let Some((slot, cause)) = scan(&code, schema, args_len, &mut pending) {
         return Err(Refusal::At {
@@ -48,7 +48,7 @@ pub fn verify<A: Allocator, B: Allocator + Clone, C: Allocator>(
         });
     }
     let Ok(schema) = schema.clone() else {
-        return Err(Refusal::OutOfMemory);
+        return Err(Refusal::NoMemory);
     };
     let bound = bound(&code);
     Ok(Accepted::new(code, schema, args_len, bound))

@@ -8,7 +8,7 @@ use std::fmt;
 pub enum Refusal {
     /// The lowest slot, counted from 0, whose instruction is refused, and its lowest cause.
     At { slot: u16, cause: Cause },
-    OutOfMemory,
+    NoMemory,
 }
 
 impl fmt::Display for Refusal {
@@ -20,7 +20,7 @@ impl fmt::Display for Refusal {
     fn fmt<W: fmt::Write>(&self, f: &mut fmt::Formatter<W>) -> fmt::Result {
         let (number, slot) = match self {
             Refusal::At { slot, cause } => (cause.number(), *slot),
-            Refusal::OutOfMemory => (12, 0),
+            Refusal::NoMemory => (12, 0),
         };
         write!(f, "V{number} slot {slot}")
     }

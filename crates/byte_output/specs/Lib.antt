@@ -1,3 +1,4 @@
 pub mod Writes
 pub mod Pending
 pub mod Column
+pub mod Sink

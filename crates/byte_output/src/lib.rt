@@ -10,6 +10,7 @@ use std::io::{ErrorKind, Write};
 
 pub mod line;
 pub mod paged;
+pub mod sink;
 
 /// One write. How many bytes it took from the front: none where it was interrupted, an error where
 /// it took none by itself.

@@ -15,5 +15,5 @@ kind_status _ = 2
 
 abbrev pub fault_status : PlanFault → ℕ
 fault_status (fault.CommandLine error) = kind_status (kind_of error)
-fault_status fault.OutOfMemory = 3
+fault_status fault.NoMemory = 3
 fault_status _ = 2

@@ -61,7 +61,7 @@ pub enum PlanFault<'a> {
     #[error("no command was given")]
     NoCommand,
     #[error("out of memory")]
-    OutOfMemory,
+    NoMemory,
 }
 
 /// The exit status where the words are no command.
@@ -74,7 +74,7 @@ impl PlanFault<'_> {
     {
         match self {
             PlanFault::CommandLine(error) => kind_status(error.kind()),
-            PlanFault::OutOfMemory => FAILED,
+            PlanFault::NoMemory => FAILED,
             PlanFault::Arguments { .. }
             | PlanFault::Table { .. }
             | PlanFault::Executors { .. }
@@ -104,12 +104,12 @@ impl From<clap::Error> for PlanFault<'_> {
 
 impl<T: Drop> From<AllocFailed<T>> for PlanFault<'_> {
     fn from(_error: AllocFailed<T>) -> Self {
-        PlanFault::OutOfMemory
+        PlanFault::NoMemory
     }
 }
 
 impl From<AllocError> for PlanFault<'_> {
     fn from(_error: AllocError) -> Self {
-        PlanFault::OutOfMemory
+        PlanFault::NoMemory
     }
 }

@@ -3,7 +3,8 @@ use Rattle.std.proofs.Common.{◌≡◌, inl, inr, ℕ, ◌+◌, ◌<◌, ◌≤
 use Rattle.std.specs.FinMap.{len}
 use Rattle.bpf_semantics.specs.Run.{Run}
 use Rattle.log_model.specs.declared.verdict.Verdict.{Verdict}
-use Rattle.dsm_model.specs.declared.outcome.StepRefusal.TheVariants.{NoReplica, NoProcedure, ArgumentsLength, NoCall, NotAtExit, NothingToDeliver, ReplicaStopped, LogFull, OutOfMemory, TooManyCalls, ArgumentsLimit, ProgramRefused, NameShape, ZeroInRequest}
+use Rattle.dsm_model.specs.declared.outcome.StepRefusal.TheVariants.{NoReplica, NoProcedure, ArgumentsLength, NoCall, NotAtExit, NothingToDeliver, ReplicaStopped, LogFull, TooManyCalls, ArgumentsLimit, ProgramRefused, NameShape, ZeroInRequest}
+use Rattle.dsm_model.specs.declared.outcome.StepRefusal.TheVariants as step_refusal
 use Rattle.log_model.specs.declared.request.RequestId.{RequestId}
 use Rattle.dsm_model.specs.declared.outcome.Outcome.{Outcome}
 use Rattle.dsm_model.specs.declared.outcome.Outcome.TheVariants.{Begun, More, Exit, Stale, NoMemory, Ordered, Read, Cancelled, Delivered, Rebuilt, Added, Refused}
@@ -104,12 +105,12 @@ given w before after (Add name number args_len checked) outcome e = add_given be
 
 refused_given : (w : Setting) (before after : World) (step : Step) (outcome : Outcome) → after_step_without_memory w before step ≡ just (done outcome after) → is_answer step outcome ≡ true
 unfolding after_step_without_memory
-refused_given w before after (Begin r procedure args request) outcome e = is_given (Begin r procedure args request) (Refused OutOfMemory) outcome before after refl (begin_refused before after r procedure args request (after_step w before (Begin r procedure args request)).0 outcome e)
+refused_given w before after (Begin r procedure args request) outcome e = is_given (Begin r procedure args request) (Refused step_refusal.NoMemory) outcome before after refl (begin_refused before after r procedure args request (after_step w before (Begin r procedure args request)).0 outcome e)
 refused_given w before after (Turn c) outcome e = ap (is_answer (Turn c)) (turn_without w before after c outcome (open_call before c) e).answer
-refused_given w before after (Order c) outcome e = is_given (Order c) (Refused OutOfMemory) outcome (without_call before c) after refl (order_refused before after c (after_step w before (Order c)).0 outcome e)
-refused_given w before after (Deliver r) outcome e = is_given (Deliver r) (Refused OutOfMemory) outcome (with_stopped before r (numbered before.replicas r)) after refl (deliver_refused before after r (after_step w before (Deliver r)) outcome e).1
-refused_given w before after (Rebuild r) outcome e = is_given (Rebuild r) (Refused OutOfMemory) outcome before after refl (rebuild_refused before after r (after_step w before (Rebuild r)).0 outcome e)
-refused_given w before after (Add name number args_len checked) outcome e = is_given (Add name number args_len checked) (Refused OutOfMemory) outcome before after refl (add_refused before after name number args_len checked (after_step w before (Add name number args_len checked)).0 outcome e)
+refused_given w before after (Order c) outcome e = is_given (Order c) (Refused step_refusal.NoMemory) outcome (without_call before c) after refl (order_refused before after c (after_step w before (Order c)).0 outcome e)
+refused_given w before after (Deliver r) outcome e = is_given (Deliver r) (Refused step_refusal.NoMemory) outcome (with_stopped before r (numbered before.replicas r)) after refl (deliver_refused before after r (after_step w before (Deliver r)) outcome e).1
+refused_given w before after (Rebuild r) outcome e = is_given (Rebuild r) (Refused step_refusal.NoMemory) outcome before after refl (rebuild_refused before after r (after_step w before (Rebuild r)).0 outcome e)
+refused_given w before after (Add name number args_len checked) outcome e = is_given (Add name number args_len checked) (Refused step_refusal.NoMemory) outcome before after refl (add_refused before after name number args_len checked (after_step w before (Add name number args_len checked)).0 outcome e)
 
 pub own_answers : (w : Setting) (before : World) (step : Step) (outcome : Outcome) (after : World) → IsStep w before step outcome after → IsTrue (is_answer step outcome)
 own_answers w before step outcome after (inl e) = given w before after step outcome e
@@ -119,7 +120,7 @@ own_answers w before step outcome after (inr e) = refused_given w before after s
 
 -- whether an answer isn't want of memory
 abbrev is_met : Outcome → Bool
-is_met (Refused OutOfMemory) = false
+is_met (Refused step_refusal.NoMemory) = false
 is_met _ = true
 
 is_other : (given outcome : Outcome) (leaves after : World) → is_met given ≡ true → done given leaves ≡ done outcome after → is_met outcome ≡ true
@@ -233,38 +234,38 @@ rebuild_some before after r (Cancelled s n) outcome e = absurd cc
 rebuild_some before after r (Delivered d v) outcome e = absurd cc
 rebuild_some before after r (Refused x) outcome e = absurd cc
 
-pub begin_wants : (w : Setting) (before : World) (r procedure : ℕ) (args : List ℕ) (request : Option RequestId) (after : World) → IsStep w before (Begin r procedure args request) (Refused OutOfMemory) after
+pub begin_wants : (w : Setting) (before : World) (r procedure : ℕ) (args : List ℕ) (request : Option RequestId) (after : World) → IsStep w before (Begin r procedure args request) (Refused step_refusal.NoMemory) after
     → (c : ℕ) × (snapshot : ℕ) × (other : World) × IsStep w before (Begin r procedure args request) (Begun c snapshot) other
 unfolding after_step after_step_without_memory
-begin_wants w before r procedure args request after (inl e) = absurd (let x = begin_other before after r procedure args request (Refused OutOfMemory) (numbered before.replicas r) (by_number (procedures_after w before.log (position_of (numbered before.replicas r))) procedure) e in cc)
+begin_wants w before r procedure args request after (inl e) = absurd (let x = begin_other before after r procedure args request (Refused step_refusal.NoMemory) (numbered before.replicas r) (by_number (procedures_after w before.log (position_of (numbered before.replicas r))) procedure) e in cc)
 begin_wants w before r procedure args request after (inr e) =
-    let x = begin_some before after r procedure args request (after_step w before (Begin r procedure args request)).0 (Refused OutOfMemory) e in
+    let x = begin_some before after r procedure args request (after_step w before (Begin r procedure args request)).0 (Refused step_refusal.NoMemory) e in
     (x.0, x.1, (after_step w before (Begin r procedure args request)).1, inl (as_done (after_step w before (Begin r procedure args request)) (Begun x.0 x.1) x.2))
 
-pub order_wants : (w : Setting) (before : World) (c : ℕ) (after : World) → IsStep w before (Order c) (Refused OutOfMemory) after → (position : ℕ) × (other : World) × IsStep w before (Order c) (Ordered position) other
+pub order_wants : (w : Setting) (before : World) (c : ℕ) (after : World) → IsStep w before (Order c) (Refused step_refusal.NoMemory) after → (position : ℕ) × (other : World) × IsStep w before (Order c) (Ordered position) other
 unfolding after_step after_step_without_memory
-order_wants w before c after (inl e) = absurd (let x = order_other w before after c (Refused OutOfMemory) (open_call before c) e in cc)
+order_wants w before c after (inl e) = absurd (let x = order_other w before after c (Refused step_refusal.NoMemory) (open_call before c) e in cc)
 order_wants w before c after (inr e) =
-    let x = order_some before after c (after_step w before (Order c)).0 (Refused OutOfMemory) e in
+    let x = order_some before after c (after_step w before (Order c)).0 (Refused step_refusal.NoMemory) e in
     (x.0, (after_step w before (Order c)).1, inl (as_done (after_step w before (Order c)) (Ordered x.0) x.1))
 
-pub deliver_wants : (w : Setting) (before : World) (r : ℕ) (after : World) → IsStep w before (Deliver r) (Refused OutOfMemory) after → (position : ℕ) × (v : Verdict) × (other : World) × IsStep w before (Deliver r) (Delivered position v) other
+pub deliver_wants : (w : Setting) (before : World) (r : ℕ) (after : World) → IsStep w before (Deliver r) (Refused step_refusal.NoMemory) after → (position : ℕ) × (v : Verdict) × (other : World) × IsStep w before (Deliver r) (Delivered position v) other
 unfolding after_step after_step_without_memory
-deliver_wants w before r after (inl e) = absurd (let x = deliver_other w before after r (Refused OutOfMemory) (numbered before.replicas r) e in cc)
+deliver_wants w before r after (inl e) = absurd (let x = deliver_other w before after r (Refused step_refusal.NoMemory) (numbered before.replicas r) e in cc)
 deliver_wants w before r after (inr e) =
-    let x = (deliver_refused before after r (after_step w before (Deliver r)) (Refused OutOfMemory) e).0 in
+    let x = (deliver_refused before after r (after_step w before (Deliver r)) (Refused step_refusal.NoMemory) e).0 in
     (x.0, x.1, (after_step w before (Deliver r)).1, inl (as_done (after_step w before (Deliver r)) (Delivered x.0 x.1) x.2))
 
-pub rebuild_wants : (w : Setting) (before : World) (r : ℕ) (after : World) → IsStep w before (Rebuild r) (Refused OutOfMemory) after → (position : ℕ) × (other : World) × IsStep w before (Rebuild r) (Rebuilt position) other
+pub rebuild_wants : (w : Setting) (before : World) (r : ℕ) (after : World) → IsStep w before (Rebuild r) (Refused step_refusal.NoMemory) after → (position : ℕ) × (other : World) × IsStep w before (Rebuild r) (Rebuilt position) other
 unfolding after_step after_step_without_memory
-rebuild_wants w before r after (inl e) = absurd (let x = rebuild_other before after r (Refused OutOfMemory) (numbered before.replicas r) e in cc)
+rebuild_wants w before r after (inl e) = absurd (let x = rebuild_other before after r (Refused step_refusal.NoMemory) (numbered before.replicas r) e in cc)
 rebuild_wants w before r after (inr e) =
-    let x = rebuild_some before after r (after_step w before (Rebuild r)).0 (Refused OutOfMemory) e in
+    let x = rebuild_some before after r (after_step w before (Rebuild r)).0 (Refused step_refusal.NoMemory) e in
     (x.0, (after_step w before (Rebuild r)).1, inl (as_done (after_step w before (Rebuild r)) (Rebuilt x.0) x.1))
 
-pub add_wants : (w : Setting) (before : World) (name : List ℕ) (number args_len : ℕ) (checked : ProgramCheck) (after : World) → IsStep w before (Add name number args_len checked) (Refused OutOfMemory) after → (call_count before < max_calls) × (args_len ≤ 256)
+pub add_wants : (w : Setting) (before : World) (name : List ℕ) (number args_len : ℕ) (checked : ProgramCheck) (after : World) → IsStep w before (Add name number args_len checked) (Refused step_refusal.NoMemory) after → (call_count before < max_calls) × (args_len ≤ 256)
 unfolding after_step after_step_without_memory
-add_wants w before name number args_len checked after (inl e) = absurd (let x = add_other before after name number args_len checked (Refused OutOfMemory) e in cc)
+add_wants w before name number args_len checked after (inl e) = absurd (let x = add_other before after name number args_len checked (Refused step_refusal.NoMemory) e in cc)
 add_wants w before name number args_len checked after (inr e) =
-    wants_by before name number args_len checked (after_step w before (Add name number args_len checked)).0 (Refused OutOfMemory) after (after_step w before (Add name number args_len checked)).1 e
+    wants_by before name number args_len checked (after_step w before (Add name number args_len checked)).0 (Refused step_refusal.NoMemory) after (after_step w before (Add name number args_len checked)).1 e
     (add_way before name number args_len checked (after_step w before (Add name number args_len checked)).0 (after_step w before (Add name number args_len checked)).1 refl)

@@ -6,7 +6,8 @@ use Rattle.bpf_code.specs.Program.{Program}
 use Rattle.bpf_semantics.specs.Run.{Run}
 use Rattle.log_model.specs.declared.verdict.Verdict.{Verdict}
 use Rattle.dsm_model.specs.declared.outcome.StepRefusal.{StepRefusal}
-use Rattle.dsm_model.specs.declared.outcome.StepRefusal.TheVariants.{NoReplica, NoProcedure, ArgumentsLength, NoCall, NotAtExit, NothingToDeliver, ReplicaStopped, LogFull, OutOfMemory, TooManyCalls, ArgumentsLimit, ProgramRefused, NameShape, ZeroInRequest}
+use Rattle.dsm_model.specs.declared.outcome.StepRefusal.TheVariants.{NoReplica, NoProcedure, ArgumentsLength, NoCall, NotAtExit, NothingToDeliver, ReplicaStopped, LogFull, TooManyCalls, ArgumentsLimit, ProgramRefused, NameShape, ZeroInRequest}
+use Rattle.dsm_model.specs.declared.outcome.StepRefusal.TheVariants as step_refusal
 use Rattle.log_model.specs.declared.request.RequestId.{RequestId}
 use Rattle.dsm_model.specs.declared.outcome.Outcome.{Outcome}
 use Rattle.dsm_model.specs.declared.outcome.Outcome.TheVariants.{Begun, More, Exit, Stale, NoMemory, Ordered, Read, Cancelled, Delivered, Rebuilt, Refused, Added}
@@ -31,8 +32,8 @@ pub record SameCase (before : World) (step : Step) (outcome : Outcome) (after : 
   pub same : after ≡ before
   pub not_full : refusal ≡ LogFull → ⊥
   pub order : (c : ℕ) → step ≡ Order c → (refusal ≡ NotAtExit) ⊎ (open_call before c ≡ None)
-  pub memory : refusal ≡ OutOfMemory → after_refused before step ≡ before
-  pub deliver : (r : ℕ) → step ≡ Deliver r → refusal ≡ OutOfMemory → ⊥
+  pub memory : refusal ≡ step_refusal.NoMemory → after_refused before step ≡ before
+  pub deliver : (r : ℕ) → step ≡ Deliver r → refusal ≡ step_refusal.NoMemory → ⊥
 
 pub record BeginCase (w : Setting) (before : World) (step : Step) (outcome : Outcome) (after : World) : Type 0 where
   pub r : ℕ
@@ -54,7 +55,7 @@ pub record OverCase (w : Setting) (before : World) (step : Step) (outcome : Outc
   pub c : ℕ
   pub is : (step ≡ Turn c) ⊎ (step ≡ Order c)
   pub leaves : after ≡ without_call before c
-  pub answer : (refusal : StepRefusal) → outcome ≡ Refused refusal → (step ≡ Order c) × ((refusal ≡ OutOfMemory) ⊎ ((refusal ≡ LogFull) × (max_calls ≤ length before.log) × ((o : OpenCall) × (open_call before c ≡ just o))))
+  pub answer : (refusal : StepRefusal) → outcome ≡ Refused refusal → (step ≡ Order c) × ((refusal ≡ step_refusal.NoMemory) ⊎ ((refusal ≡ LogFull) × (max_calls ≤ length before.log) × ((o : OpenCall) × (open_call before c ≡ just o))))
   pub no_exit : (reply : ℕ) → outcome ≡ Exit reply → ⊥
   pub no_number : (d : ℕ) → outcome ≡ Ordered d → ⊥
   pub no_verdict : (d : ℕ) (v : Verdict) → outcome ≡ Delivered d v → ⊥
@@ -92,7 +93,7 @@ pub record StopCase (before : World) (step : Step) (outcome : Outcome) (after : 
   pub is : step ≡ Deliver r
   pub replica : Replica
   pub stands : numbered before.replicas r ≡ just replica
-  pub answer : outcome ≡ Refused OutOfMemory
+  pub answer : outcome ≡ Refused step_refusal.NoMemory
   pub leaves : after ≡ with_replica before r (record replica { stopped = true })
 
 pub record RebuildCase (before : World) (step : Step) (outcome : Outcome) (after : World) : Type 0 where
@@ -139,7 +140,7 @@ fst a b e = ap (λ (d : Done). d.0) e
 pub snd : (a b : Done) → a ≡ b → a.1 ≡ b.1
 snd a b e = ap (λ (d : Done). d.1) e
 
-same_case : (before after : World) (step : Step) (outcome : Outcome) (refusal : StepRefusal) → (refusal ≡ LogFull → ⊥) → ((c : ℕ) → step ≡ Order c → (refusal ≡ NotAtExit) ⊎ (open_call before c ≡ None)) → (refusal ≡ OutOfMemory → after_refused before step ≡ before) → ((r : ℕ) → step ≡ Deliver r → refusal ≡ OutOfMemory → ⊥)
+same_case : (before after : World) (step : Step) (outcome : Outcome) (refusal : StepRefusal) → (refusal ≡ LogFull → ⊥) → ((c : ℕ) → step ≡ Order c → (refusal ≡ NotAtExit) ⊎ (open_call before c ≡ None)) → (refusal ≡ step_refusal.NoMemory → after_refused before step ≡ before) → ((r : ℕ) → step ≡ Deliver r → refusal ≡ step_refusal.NoMemory → ⊥)
     → done (Refused refusal) before ≡ done outcome after → SameCase before step outcome after
 same_case before after step outcome refusal not_full order memory deliver e = record {
   refusal = refusal;
@@ -369,7 +370,7 @@ with_memory_case w before after (Add name number args_len checked) outcome e = a
 some_done : (a b : Done) → just a ≡ just b → a ≡ b
 some_done a b e = cc
 
-pub begin_refused : (before after : World) (r procedure : ℕ) (args : List ℕ) (request : Option RequestId) (o outcome : Outcome) → after_refused_memory before (Begin r procedure args request) o ≡ just (outcome, after) → done (Refused OutOfMemory) before ≡ done outcome after
+pub begin_refused : (before after : World) (r procedure : ℕ) (args : List ℕ) (request : Option RequestId) (o outcome : Outcome) → after_refused_memory before (Begin r procedure args request) o ≡ just (outcome, after) → done (Refused step_refusal.NoMemory) before ≡ done outcome after
 begin_refused before after r procedure args request (Begun c s) outcome e = some_done _ _ e
 begin_refused before after r procedure args request More outcome e = absurd cc
 begin_refused before after r procedure args request (Exit n) outcome e = absurd cc
@@ -383,7 +384,7 @@ begin_refused before after r procedure args request (Rebuilt p) outcome e = absu
 begin_refused before after r procedure args request (Added p) outcome e = absurd cc
 begin_refused before after r procedure args request (Refused x) outcome e = absurd cc
 
-pub order_refused : (before after : World) (c : ℕ) (o outcome : Outcome) → after_refused_memory before (Order c) o ≡ just (outcome, after) → done (Refused OutOfMemory) (without_call before c) ≡ done outcome after
+pub order_refused : (before after : World) (c : ℕ) (o outcome : Outcome) → after_refused_memory before (Order c) o ≡ just (outcome, after) → done (Refused step_refusal.NoMemory) (without_call before c) ≡ done outcome after
 order_refused before after c (Ordered d) outcome e = some_done _ _ e
 order_refused before after c (Begun a s) outcome e = absurd cc
 order_refused before after c More outcome e = absurd cc
@@ -397,7 +398,7 @@ order_refused before after c (Rebuilt p) outcome e = absurd cc
 order_refused before after c (Added p) outcome e = absurd cc
 order_refused before after c (Refused x) outcome e = absurd cc
 
-pub rebuild_refused : (before after : World) (r : ℕ) (o outcome : Outcome) → after_refused_memory before (Rebuild r) o ≡ just (outcome, after) → done (Refused OutOfMemory) before ≡ done outcome after
+pub rebuild_refused : (before after : World) (r : ℕ) (o outcome : Outcome) → after_refused_memory before (Rebuild r) o ≡ just (outcome, after) → done (Refused step_refusal.NoMemory) before ≡ done outcome after
 rebuild_refused before after r (Rebuilt p) outcome e = some_done _ _ e
 rebuild_refused before after r (Added p) outcome e = absurd cc
 rebuild_refused before after r (Begun a s) outcome e = absurd cc
@@ -411,7 +412,7 @@ rebuild_refused before after r (Cancelled s n) outcome e = absurd cc
 rebuild_refused before after r (Delivered d v) outcome e = absurd cc
 rebuild_refused before after r (Refused x) outcome e = absurd cc
 
-pub add_refused : (before after : World) (name : List ℕ) (number args_len : ℕ) (checked : ProgramCheck) (o outcome : Outcome) → after_refused_memory before (Add name number args_len checked) o ≡ just (outcome, after) → done (Refused OutOfMemory) before ≡ done outcome after
+pub add_refused : (before after : World) (name : List ℕ) (number args_len : ℕ) (checked : ProgramCheck) (o outcome : Outcome) → after_refused_memory before (Add name number args_len checked) o ≡ just (outcome, after) → done (Refused step_refusal.NoMemory) before ≡ done outcome after
 add_refused before after name number args_len checked (Added p) outcome e = some_done _ _ e
 add_refused before after name number args_len checked (Rebuilt p) outcome e = absurd cc
 add_refused before after name number args_len checked (Begun a s) outcome e = absurd cc
@@ -431,7 +432,7 @@ add_refused before after name number args_len checked (Refused NotAtExit) outcom
 add_refused before after name number args_len checked (Refused NothingToDeliver) outcome e = absurd cc
 add_refused before after name number args_len checked (Refused ReplicaStopped) outcome e = absurd cc
 add_refused before after name number args_len checked (Refused LogFull) outcome e = absurd cc
-add_refused before after name number args_len checked (Refused OutOfMemory) outcome e = absurd cc
+add_refused before after name number args_len checked (Refused step_refusal.NoMemory) outcome e = absurd cc
 add_refused before after name number args_len checked (Refused TooManyCalls) outcome e = absurd cc
 add_refused before after name number args_len checked (Refused ArgumentsLimit) outcome e = absurd cc
 add_refused before after name number args_len checked (Refused ZeroInRequest) outcome e = absurd cc
@@ -439,7 +440,7 @@ add_refused before after name number args_len checked (Refused (ProgramRefused f
 add_refused before after name number args_len checked (Refused NameShape) outcome e = some_done _ _ e
 
 -- only a delivery that answers a verdict, so of a replica that there is
-pub deliver_refused : (before after : World) (r : ℕ) (o : Done) (outcome : Outcome) → after_refused_memory before (Deliver r) o.0 ≡ just (outcome, after) → ((d : ℕ) × (v : Verdict) × (o.0 ≡ Delivered d v)) × (done (Refused OutOfMemory) (with_stopped before r (numbered before.replicas r)) ≡ done outcome after)
+pub deliver_refused : (before after : World) (r : ℕ) (o : Done) (outcome : Outcome) → after_refused_memory before (Deliver r) o.0 ≡ just (outcome, after) → ((d : ℕ) × (v : Verdict) × (o.0 ≡ Delivered d v)) × (done (Refused step_refusal.NoMemory) (with_stopped before r (numbered before.replicas r)) ≡ done outcome after)
 deliver_refused before after r (Delivered d v, x) outcome e = ((d, v, refl), some_done _ _ e)
 deliver_refused before after r (Begun a s, x) outcome e = absurd cc
 deliver_refused before after r (More, x) outcome e = absurd cc
@@ -454,15 +455,15 @@ deliver_refused before after r (Added p, x) outcome e = absurd cc
 deliver_refused before after r (Refused y, x) outcome e = absurd cc
 
 stop_case : (w : Setting) (before after : World) (r : ℕ) (outcome : Outcome) (o : Option Replica) (d : ℕ) (v : Verdict) → numbered before.replicas r ≡ o → (after_deliver w before r o).0 ≡ Delivered d v
-    → done (Refused OutOfMemory) (with_stopped before r o) ≡ done outcome after → Case w before (Deliver r) outcome after
+    → done (Refused step_refusal.NoMemory) (with_stopped before r o) ≡ done outcome after → Case w before (Deliver r) outcome after
 stop_case w before after r outcome None d v f g e = absurd cc
 stop_case w before after r outcome (Some replica) d v f g e = Stop (record {
   r = r;
   is = refl;
   replica = replica;
   stands = f;
-  answer = sym (fst (Refused OutOfMemory, with_replica before r (record replica { stopped = true })) (outcome, after) e);
-  leaves = sym (snd (Refused OutOfMemory, with_replica before r (record replica { stopped = true })) (outcome, after) e);
+  answer = sym (fst (Refused step_refusal.NoMemory, with_replica before r (record replica { stopped = true })) (outcome, after) e);
+  leaves = sym (snd (Refused step_refusal.NoMemory, with_replica before r (record replica { stopped = true })) (outcome, after) e);
 })
 
 turn_memory_case : (w : Setting) (before after : World) (c : ℕ) (outcome : Outcome) (o : Option OpenCall) → after_turn_without_memory w before c o ≡ just (outcome, after) → Case w before (Turn c) outcome after
@@ -475,13 +476,13 @@ turn_memory_case w before after c outcome (Some o) e = elim (either_if (is_stale
   ]
 ]
 
-order_memory_case : (w : Setting) (before after : World) (c : ℕ) (outcome : Outcome) → done (Refused OutOfMemory) (without_call before c) ≡ done outcome after → OverCase w before (Order c) outcome after
+order_memory_case : (w : Setting) (before after : World) (c : ℕ) (outcome : Outcome) → done (Refused step_refusal.NoMemory) (without_call before c) ≡ done outcome after → OverCase w before (Order c) outcome after
 order_memory_case w before after c outcome e =
-    let same : Refused OutOfMemory ≡ outcome = fst (Refused OutOfMemory, without_call before c) (outcome, after) e in
+    let same : Refused step_refusal.NoMemory ≡ outcome = fst (Refused step_refusal.NoMemory, without_call before c) (outcome, after) e in
     record {
       c = c;
       is = inr refl;
-      leaves = sym (snd (Refused OutOfMemory, without_call before c) (outcome, after) e);
+      leaves = sym (snd (Refused step_refusal.NoMemory, without_call before c) (outcome, after) e);
       answer = λ refusal r. (refl, inl (let x = same ∙ r in cc));
       no_exit = λ reply r. (let x = same ∙ r in cc);
       no_number = λ d r. (let x = same ∙ r in cc);
@@ -491,16 +492,16 @@ order_memory_case w before after c outcome e =
 without_memory_case : (w : Setting) (before after : World) (step : Step) (outcome : Outcome) → after_step_without_memory w before step ≡ just (outcome, after) → Case w before step outcome after
 unfolding after_step_without_memory after_step
 without_memory_case w before after (Begin r procedure args request) outcome e =
-    Same (same_case before after (Begin r procedure args request) outcome OutOfMemory (λ x. cc) (λ c x. absurd cc) (λ x. refl) (λ r x y. cc) (begin_refused before after r procedure args request (after_step w before (Begin r procedure args request)).0 outcome e))
+    Same (same_case before after (Begin r procedure args request) outcome step_refusal.NoMemory (λ x. cc) (λ c x. absurd cc) (λ x. refl) (λ r x y. cc) (begin_refused before after r procedure args request (after_step w before (Begin r procedure args request)).0 outcome e))
 without_memory_case w before after (Turn c) outcome e = turn_memory_case w before after c outcome (open_call before c) e
 without_memory_case w before after (Order c) outcome e = Over (order_memory_case w before after c outcome (order_refused before after c (after_step w before (Order c)).0 outcome e))
 without_memory_case w before after (Deliver r) outcome e =
     let (known, done) = deliver_refused before after r (after_step w before (Deliver r)) outcome e in
     stop_case w before after r outcome (numbered before.replicas r) known.0 known.1 refl known.2 done
 without_memory_case w before after (Rebuild r) outcome e =
-    Same (same_case before after (Rebuild r) outcome OutOfMemory (λ x. cc) (λ c x. absurd cc) (λ x. refl) (λ r x y. cc) (rebuild_refused before after r (after_step w before (Rebuild r)).0 outcome e))
+    Same (same_case before after (Rebuild r) outcome step_refusal.NoMemory (λ x. cc) (λ c x. absurd cc) (λ x. refl) (λ r x y. cc) (rebuild_refused before after r (after_step w before (Rebuild r)).0 outcome e))
 without_memory_case w before after (Add name number args_len checked) outcome e =
-    Same (same_case before after (Add name number args_len checked) outcome OutOfMemory (λ x. cc) (λ c x. absurd cc) (λ x. refl) (λ r x y. cc) (add_refused before after name number args_len checked (after_step w before (Add name number args_len checked)).0 outcome e))
+    Same (same_case before after (Add name number args_len checked) outcome step_refusal.NoMemory (λ x. cc) (λ c x. absurd cc) (λ x. refl) (λ r x y. cc) (add_refused before after name number args_len checked (after_step w before (Add name number args_len checked)).0 outcome e))
 
 pub step_case : (w : Setting) (before : World) (step : Step) (outcome : Outcome) (after : World) → IsStep w before step outcome after → Case w before step outcome after
 step_case w before step outcome after (inl e) = with_memory_case w before after step outcome e

@@ -8,7 +8,8 @@ use Rattle.log_model.specs.declared.request.RequestId.{RequestId}
 use Rattle.call_model.specs.declared.fault.ProgramFault.{ProgramFault}
 use Rattle.log_model.specs.declared.verdict.Verdict.{Verdict}
 use Rattle.dsm_model.specs.declared.outcome.StepRefusal.{StepRefusal}
-use Rattle.dsm_model.specs.declared.outcome.StepRefusal.TheVariants.{NoReplica, NoProcedure, ArgumentsLength, NoCall, NotAtExit, NothingToDeliver, ReplicaStopped, LogFull, OutOfMemory, TooManyCalls, ArgumentsLimit, ProgramRefused, NameShape, ZeroInRequest}
+use Rattle.dsm_model.specs.declared.outcome.StepRefusal.TheVariants.{NoReplica, NoProcedure, ArgumentsLength, NoCall, NotAtExit, NothingToDeliver, ReplicaStopped, LogFull, TooManyCalls, ArgumentsLimit, ProgramRefused, NameShape, ZeroInRequest}
+use Rattle.dsm_model.specs.declared.outcome.StepRefusal.TheVariants as step_refusal
 use Rattle.dsm_model.specs.declared.outcome.Outcome.{Outcome}
 use Rattle.dsm_model.specs.declared.outcome.Outcome.TheVariants.{Begun, More, Exit, Stale, NoMemory, Ordered, Read, Cancelled, Delivered, Rebuilt, Refused, Added}
 use Rattle.log_model.specs.Log.{StoredProcedure, Setting, Call, Log, by_number, run_in, verdict_of, moment_at, procedures_after, procedure_of}
@@ -52,16 +53,16 @@ turn_without w before after c outcome (Some o) e = elim (either_if (is_stale w b
   ]
 ]
 
-memory_answer : (w : Setting) (before after : World) (step : Step) (outcome : Outcome) → after_step_without_memory w before step ≡ just (done outcome after) → (outcome ≡ Refused OutOfMemory) ⊎ (outcome ≡ NoMemory)
+memory_answer : (w : Setting) (before after : World) (step : Step) (outcome : Outcome) → after_step_without_memory w before step ≡ just (done outcome after) → (outcome ≡ Refused step_refusal.NoMemory) ⊎ (outcome ≡ NoMemory)
 unfolding after_step_without_memory
-memory_answer w before after (Begin r procedure args request) outcome e = inl (sym (fst (Refused OutOfMemory, before) (outcome, after) (begin_refused before after r procedure args request (after_step w before (Begin r procedure args request)).0 outcome e)))
+memory_answer w before after (Begin r procedure args request) outcome e = inl (sym (fst (Refused step_refusal.NoMemory, before) (outcome, after) (begin_refused before after r procedure args request (after_step w before (Begin r procedure args request)).0 outcome e)))
 memory_answer w before after (Turn c) outcome e = inr (turn_without w before after c outcome (open_call before c) e).answer
-memory_answer w before after (Order c) outcome e = inl (sym (fst (Refused OutOfMemory, without_call before c) (outcome, after) (order_refused before after c (after_step w before (Order c)).0 outcome e)))
-memory_answer w before after (Deliver r) outcome e = inl (sym (fst (Refused OutOfMemory, with_stopped before r (numbered before.replicas r)) (outcome, after) (deliver_refused before after r (after_step w before (Deliver r)) outcome e).1))
-memory_answer w before after (Rebuild r) outcome e = inl (sym (fst (Refused OutOfMemory, before) (outcome, after) (rebuild_refused before after r (after_step w before (Rebuild r)).0 outcome e)))
-memory_answer w before after (Add name number args_len checked) outcome e = inl (sym (fst (Refused OutOfMemory, before) (outcome, after) (add_refused before after name number args_len checked (after_step w before (Add name number args_len checked)).0 outcome e)))
+memory_answer w before after (Order c) outcome e = inl (sym (fst (Refused step_refusal.NoMemory, without_call before c) (outcome, after) (order_refused before after c (after_step w before (Order c)).0 outcome e)))
+memory_answer w before after (Deliver r) outcome e = inl (sym (fst (Refused step_refusal.NoMemory, with_stopped before r (numbered before.replicas r)) (outcome, after) (deliver_refused before after r (after_step w before (Deliver r)) outcome e).1))
+memory_answer w before after (Rebuild r) outcome e = inl (sym (fst (Refused step_refusal.NoMemory, before) (outcome, after) (rebuild_refused before after r (after_step w before (Rebuild r)).0 outcome e)))
+memory_answer w before after (Add name number args_len checked) outcome e = inl (sym (fst (Refused step_refusal.NoMemory, before) (outcome, after) (add_refused before after name number args_len checked (after_step w before (Add name number args_len checked)).0 outcome e)))
 
-pub with_memory : (w : Setting) (before after : World) (step : Step) (outcome : Outcome) → (outcome ≡ Refused OutOfMemory → ⊥) → (outcome ≡ NoMemory → ⊥) → IsStep w before step outcome after → after_step w before step ≡ done outcome after
+pub with_memory : (w : Setting) (before after : World) (step : Step) (outcome : Outcome) → (outcome ≡ Refused step_refusal.NoMemory → ⊥) → (outcome ≡ NoMemory → ⊥) → IsStep w before step outcome after → after_step w before step ≡ done outcome after
 with_memory w before after step outcome f g (inl e) = e
 with_memory w before after step outcome f g (inr e) = absurd (elim (memory_answer w before after step outcome e) [ inl x ↦ f x | inr y ↦ g y ])
 
@@ -118,7 +119,7 @@ begin_way w before r procedure args request outcome after (Some replica) (Some p
       ]
     ]
 
-way_of_begin : (w : Setting) (before : World) (r procedure : ℕ) (args : List ℕ) (request : Option RequestId) (outcome : Outcome) (after : World) → (outcome ≡ Refused OutOfMemory → ⊥) → (outcome ≡ NoMemory → ⊥) → IsStep w before (Begin r procedure args request) outcome after → BeginWay w before r procedure args request outcome after
+way_of_begin : (w : Setting) (before : World) (r procedure : ℕ) (args : List ℕ) (request : Option RequestId) (outcome : Outcome) (after : World) → (outcome ≡ Refused step_refusal.NoMemory → ⊥) → (outcome ≡ NoMemory → ⊥) → IsStep w before (Begin r procedure args request) outcome after → BeginWay w before r procedure args request outcome after
 unfolding after_step
 way_of_begin w before r procedure args request outcome after f g h =
     begin_way w before r procedure args request outcome after (numbered before.replicas r) (by_number (procedures_after w before.log (position_of (numbered before.replicas r))) procedure) refl refl (with_memory w before after (Begin r procedure args request) outcome f g h)
@@ -400,7 +401,7 @@ order_at_end w before after c (Some o) outcome apart e = elim (either_if (nat_lt
 order_answered : (w : Setting) (before after : World) (c : ℕ) (outcome : Outcome) → ((refusal : StepRefusal) → outcome ≡ Refused refusal → ⊥) → (outcome ≡ NoMemory → ⊥) → IsStep w before (Order c) outcome after
     → (o : OpenCall) × (open_call before c ≡ just o) × ((run_in w before.log o.call).steps ≤ o.turns) × (after_order_by_run before c o.call (run_in w before.log o.call).cancel_code (run_in w before.log o.call) ≡ done outcome after)
 unfolding after_step
-order_answered w before after c outcome apart memory h = order_at_end w before after c (open_call before c) outcome apart (with_memory w before after (Order c) outcome (apart OutOfMemory) memory h)
+order_answered w before after c outcome apart memory h = order_at_end w before after c (open_call before c) outcome apart (with_memory w before after (Order c) outcome (apart step_refusal.NoMemory) memory h)
 
 pub orders : (w : Setting) (before : World) (c position : ℕ) (after : World) → IsStep w before (Order c) (Ordered position) after
     → (o : OpenCall) × (open_call before c ≡ Some o) × ((run_in w before.log o.call).steps ≤ o.turns) × ((run_in w before.log o.call).cancel_code ≡ None) × (len (run_in w before.log o.call).writes ≡ 0 → ⊥) × (position ≡ length before.log + 1) × (length before.log < max_calls) × (after ≡ with_ordered before c o.call)
@@ -650,7 +651,7 @@ add_way before name number args_len checked outcome after e = elim (either_if (n
   ]
 ]
 
-way_of_add : (w : Setting) (before : World) (name : List ℕ) (number args_len : ℕ) (checked : ProgramCheck) (outcome : Outcome) (after : World) → (outcome ≡ Refused OutOfMemory → ⊥) → (outcome ≡ NoMemory → ⊥) → IsStep w before (Add name number args_len checked) outcome after → AddWay before name number args_len checked outcome after
+way_of_add : (w : Setting) (before : World) (name : List ℕ) (number args_len : ℕ) (checked : ProgramCheck) (outcome : Outcome) (after : World) → (outcome ≡ Refused step_refusal.NoMemory → ⊥) → (outcome ≡ NoMemory → ⊥) → IsStep w before (Add name number args_len checked) outcome after → AddWay before name number args_len checked outcome after
 unfolding after_step
 way_of_add w before name number args_len checked outcome after f g h = add_way before name number args_len checked outcome after (with_memory w before after (Add name number args_len checked) outcome f g h)
 

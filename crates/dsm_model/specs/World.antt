@@ -8,7 +8,8 @@ use Rattle.log_model.specs.declared.request.RequestId.{RequestId}
 use Rattle.call_model.specs.OpenCall.{OpenCall, makes_look, at_row_helper}
 use Rattle.call_model.specs.Request.{or_none, has_zero}
 use Rattle.call_model.specs.Check.{ProgramCheck, Passed, Failed}
-use Rattle.dsm_model.specs.declared.outcome.StepRefusal.TheVariants.{NoReplica, NoProcedure, ArgumentsLength, NoCall, NotAtExit, NothingToDeliver, ReplicaStopped, LogFull, OutOfMemory, TooManyCalls, ArgumentsLimit, ProgramRefused, NameShape, ZeroInRequest}
+use Rattle.dsm_model.specs.declared.outcome.StepRefusal.TheVariants.{NoReplica, NoProcedure, ArgumentsLength, NoCall, NotAtExit, NothingToDeliver, ReplicaStopped, LogFull, TooManyCalls, ArgumentsLimit, ProgramRefused, NameShape, ZeroInRequest}
+use Rattle.dsm_model.specs.declared.outcome.StepRefusal.TheVariants as step_refusal
 use Rattle.dsm_model.specs.declared.outcome.Outcome.{Outcome}
 use Rattle.dsm_model.specs.declared.outcome.Outcome.TheVariants.{Begun, More, Exit, Stale, NoMemory, Ordered, Read, Cancelled, Delivered, Rebuilt, Refused, Added}
 use Rattle.log_model.specs.Log.{StoredProcedure, Setting, Call, Log, by_number, moment_at, run_in, verdict_of, CallItem, AdditionItem, procedures_after, procedure_of}
@@ -210,13 +211,13 @@ after_turn_without_memory w world c (Some o) =
 -- a step that would take memory for what it answers may find none; a program can't be checked without memory, so an
 -- addition may want it also where its program or its name is refused
 abbrev pub after_refused_memory : World → Step → Outcome → Option (Outcome × World)
-after_refused_memory world (Begin r procedure args request) (Begun c s) = Some (Refused OutOfMemory, after_refused world (Begin r procedure args request))
-after_refused_memory world (Order c) (Ordered position) = Some (Refused OutOfMemory, after_refused world (Order c))
-after_refused_memory world (Deliver r) (Delivered position verdict) = Some (Refused OutOfMemory, after_refused world (Deliver r))
-after_refused_memory world (Rebuild r) (Rebuilt position) = Some (Refused OutOfMemory, after_refused world (Rebuild r))
-after_refused_memory world (Add name number args_len checked) (Added position) = Some (Refused OutOfMemory, after_refused world (Add name number args_len checked))
-after_refused_memory world (Add name number args_len checked) (Refused (ProgramRefused fault)) = Some (Refused OutOfMemory, after_refused world (Add name number args_len checked))
-after_refused_memory world (Add name number args_len checked) (Refused NameShape) = Some (Refused OutOfMemory, after_refused world (Add name number args_len checked))
+after_refused_memory world (Begin r procedure args request) (Begun c s) = Some (Refused step_refusal.NoMemory, after_refused world (Begin r procedure args request))
+after_refused_memory world (Order c) (Ordered position) = Some (Refused step_refusal.NoMemory, after_refused world (Order c))
+after_refused_memory world (Deliver r) (Delivered position verdict) = Some (Refused step_refusal.NoMemory, after_refused world (Deliver r))
+after_refused_memory world (Rebuild r) (Rebuilt position) = Some (Refused step_refusal.NoMemory, after_refused world (Rebuild r))
+after_refused_memory world (Add name number args_len checked) (Added position) = Some (Refused step_refusal.NoMemory, after_refused world (Add name number args_len checked))
+after_refused_memory world (Add name number args_len checked) (Refused (ProgramRefused fault)) = Some (Refused step_refusal.NoMemory, after_refused world (Add name number args_len checked))
+after_refused_memory world (Add name number args_len checked) (Refused NameShape) = Some (Refused step_refusal.NoMemory, after_refused world (Add name number args_len checked))
 after_refused_memory world step outcome = None
 
 unfoldable pub after_step_without_memory : Setting → World → Step → Option (Outcome × World)
@@ -229,7 +230,7 @@ is_answer (Begin _ _ _ _) (Begun _ _) = true
 is_answer (Begin _ _ _ _) (Refused NoReplica) = true
 is_answer (Begin _ _ _ _) (Refused NoProcedure) = true
 is_answer (Begin _ _ _ _) (Refused ArgumentsLength) = true
-is_answer (Begin _ _ _ _) (Refused OutOfMemory) = true
+is_answer (Begin _ _ _ _) (Refused step_refusal.NoMemory) = true
 is_answer (Begin _ _ _ _) (Refused TooManyCalls) = true
 is_answer (Begin _ _ _ _) (Refused ZeroInRequest) = true
 is_answer (Turn _) More = true
@@ -243,17 +244,17 @@ is_answer (Order _) (Cancelled _ _) = true
 is_answer (Order _) (Refused NoCall) = true
 is_answer (Order _) (Refused NotAtExit) = true
 is_answer (Order _) (Refused LogFull) = true
-is_answer (Order _) (Refused OutOfMemory) = true
+is_answer (Order _) (Refused step_refusal.NoMemory) = true
 is_answer (Deliver _) (Delivered _ _) = true
 is_answer (Deliver _) (Refused NoReplica) = true
 is_answer (Deliver _) (Refused NothingToDeliver) = true
 is_answer (Deliver _) (Refused ReplicaStopped) = true
-is_answer (Deliver _) (Refused OutOfMemory) = true
+is_answer (Deliver _) (Refused step_refusal.NoMemory) = true
 is_answer (Rebuild _) (Rebuilt _) = true
 is_answer (Rebuild _) (Refused NoReplica) = true
-is_answer (Rebuild _) (Refused OutOfMemory) = true
+is_answer (Rebuild _) (Refused step_refusal.NoMemory) = true
 is_answer (Add _ _ _ _) (Added _) = true
-is_answer (Add _ _ _ _) (Refused OutOfMemory) = true
+is_answer (Add _ _ _ _) (Refused step_refusal.NoMemory) = true
 is_answer (Add _ _ _ _) (Refused TooManyCalls) = true
 is_answer (Add _ _ _ _) (Refused ArgumentsLimit) = true
 is_answer (Add _ _ _ _) (Refused (ProgramRefused _)) = true

@@ -14,7 +14,7 @@ pub enum StepRefusal {
     NothingToDeliver,
     ReplicaStopped,
     LogFull,
-    OutOfMemory,
+    NoMemory,
     /// The world has had all its calls and additions.
     TooManyCalls,
     /// An added procedure would have arguments of more than 256 bytes.

@@ -15,7 +15,7 @@ use Rattle.log_entry.specs.declared.entry.Entry.{Entry as LogEntry}
 use Rattle.log_entry.specs.declared.entry.Entry.TheVariants.{Call as LogCall, Addition as LogAddition}
 use Rattle.log_entry.specs.Kind.{entry_of}
 use Rattle.call_model.specs.declared.fault.ProgramFault.{ProgramFault}
-use Rattle.dsm_model.specs.declared.outcome.StepRefusal.TheVariants.{OutOfMemory, TooManyCalls, ArgumentsLimit, ProgramRefused, NameShape}
+use Rattle.dsm_model.specs.declared.outcome.StepRefusal.TheVariants.{NoMemory, TooManyCalls, ArgumentsLimit, ProgramRefused, NameShape}
 use Rattle.dsm_model.specs.declared.outcome.Outcome.TheVariants.{Added, Refused}
 use Rattle.dsm_model.specs.World.{World, Add, max_calls, call_count, addition_count, with_added, after_add_checked, after_step, after_refused_memory, after_step_without_memory, IsStep}
 use Rattle.call_model.specs.Check.{ProgramCheck, Passed, Failed}
@@ -62,18 +62,18 @@ pub add_new : (w : Setting) (world : World) (name : List ℕ) (number args_len :
 add_new w world name number args_len checked program few short passed shape = inl (adds_passed w world name number args_len checked program few short passed ∙ no (not (is_name name)) _ _ (ap not shape))
 
 -- whatever its program and its name are
-pub add_without_memory : (w : Setting) (world : World) (name : List ℕ) (number args_len : ℕ) (checked : ProgramCheck) → call_count world < max_calls → args_len ≤ 256 → IsStep w world (Add name number args_len checked) (Refused OutOfMemory) world
+pub add_without_memory : (w : Setting) (world : World) (name : List ℕ) (number args_len : ℕ) (checked : ProgramCheck) → call_count world < max_calls → args_len ≤ 256 → IsStep w world (Add name number args_len checked) (Refused NoMemory) world
 unfolding after_step_without_memory
 add_without_memory w world name number args_len checked few short = inr (ap (λ (d : Done). after_refused_memory world (Add name number args_len checked) d.0) (adds_checked w world name number args_len checked few short) ∙ by checked)
   where
     wanted : Done → Option Done
     wanted d = after_refused_memory world (Add name number args_len checked) d.0
 
-    named : (p : StoredProcedure) (b : Bool) → wanted (cond (not b) (Refused NameShape, world) (Added (length world.log + 1), with_added world p)) ≡ Some (Refused OutOfMemory, world)
+    named : (p : StoredProcedure) (b : Bool) → wanted (cond (not b) (Refused NameShape, world) (Added (length world.log + 1), with_added world p)) ≡ Some (Refused NoMemory, world)
     named p true = refl
     named p false = refl
 
-    by : (c : ProgramCheck) → wanted (after_add_checked world name number args_len c) ≡ Some (Refused OutOfMemory, world)
+    by : (c : ProgramCheck) → wanted (after_add_checked world name number args_len c) ≡ Some (Refused NoMemory, world)
     by (Failed fault) = refl
     by (Passed program) = named (record { name = name; number = number; program = program; args_len = args_len }) (is_name name)
 

@@ -5,7 +5,8 @@ use Rattle.schema.specs.Rows.{Rows, AreWrites}
 use Rattle.row_model.specs.InstalledWrites.{map_after}
 use Rattle.replica.specs.Replica.{Replica, StandsFor, IsForTables, IsNamed, entries_of, rows_kept, writes_in}
 use Rattle.bpf_vm.specs.declared.turn.Turn.{Turn as TurnAnswer}
-use Rattle.dsm_model.specs.declared.outcome.StepRefusal.TheVariants.{NoReplica, NoProcedure, ArgumentsLength, NoCall, NotAtExit, NothingToDeliver, ReplicaStopped, LogFull, OutOfMemory, TooManyCalls, ArgumentsLimit, ProgramRefused, NameShape, ZeroInRequest}
+use Rattle.dsm_model.specs.declared.outcome.StepRefusal.TheVariants.{NoReplica, NoProcedure, ArgumentsLength, NoCall, NotAtExit, NothingToDeliver, ReplicaStopped, LogFull, TooManyCalls, ArgumentsLimit, ProgramRefused, NameShape, ZeroInRequest}
+use Rattle.dsm_model.specs.declared.outcome.StepRefusal.TheVariants as step_refusal
 use Rattle.dsm_model.specs.declared.outcome.Outcome.{Outcome}
 use Rattle.dsm_model.specs.declared.outcome.Outcome.TheVariants.{Begun, More, Exit, Stale, NoMemory, Ordered, Read, Cancelled, Delivered, Rebuilt, Added, Refused}
 use Rattle.log_model.specs.declared.request.RequestId.{RequestId}
@@ -204,9 +205,9 @@ full s slots n k c e h place f a many =
     (order_full (setting_of s) (world_of s) n (open_call_of c) f.is_open a.end a.kept a.some (let count = log_count s in omega arith))
 
 pub unappended : {A : Type 0} (s : SystemWorld) (slots : List (Option (OpenCallState A))) (n k : ℕ) (c : OpenCallState A) (e : ExecutedCall) → IsTogether s slots → n ≡ k + 1 → (f : OpenFacts s n c) → IsToAppend s c e → length s.entries < max_calls
-    → IsStep (setting_of s) (world_of s) (Order n) (Refused OutOfMemory) (world_of (with_slots s (slice_set slots k None)))
+    → IsStep (setting_of s) (world_of s) (Order n) (Refused step_refusal.NoMemory) (world_of (with_slots s (slice_set slots k None)))
 unappended s slots n k c e h place f a few =
-    subst (λ (x : World). IsStep (setting_of s) (world_of s) (Order n) (Refused OutOfMemory) x) (taken_world s slots n k h place)
+    subst (λ (x : World). IsStep (setting_of s) (world_of s) (Order n) (Refused step_refusal.NoMemory) x) (taken_world s slots n k h place)
     (order_without_memory (setting_of s) (world_of s) n (open_call_of c) f.is_open a.end a.kept a.some (let count = log_count s in omega arith))
 
 abbrev pub with_entry : SystemWorld → Entry → SystemWorld
@@ -350,8 +351,8 @@ append_steps s slots n k c e (Ordered position) new h place f a is =
     subst (λ (xs : List Entry). IsStep (setting_of s) (world_of s) (Order n) (Ordered position) (world_of (with_entries (with_slots s (slice_set slots k None)) xs))) (sym is.2) (appended s slots n k c e position h place f a is.0 is.1)
 append_steps s slots n k c e (Refused LogFull) new h place f a is =
     subst (λ (xs : List Entry). IsStep (setting_of s) (world_of s) (Order n) (Refused LogFull) (world_of (with_entries (with_slots s (slice_set slots k None)) xs))) (sym is.1) (full s slots n k c e h place f a is.0)
-append_steps s slots n k c e (Refused OutOfMemory) new h place f a is =
-    subst (λ (xs : List Entry). IsStep (setting_of s) (world_of s) (Order n) (Refused OutOfMemory) (world_of (with_entries (with_slots s (slice_set slots k None)) xs))) (sym is.1) (unappended s slots n k c e h place f a is.0)
+append_steps s slots n k c e (Refused step_refusal.NoMemory) new h place f a is =
+    subst (λ (xs : List Entry). IsStep (setting_of s) (world_of s) (Order n) (Refused step_refusal.NoMemory) (world_of (with_entries (with_slots s (slice_set slots k None)) xs))) (sym is.1) (unappended s slots n k c e h place f a is.0)
 append_steps s slots n k c e (Refused NoReplica) new h place f a is = absurd is
 append_steps s slots n k c e (Refused NoProcedure) new h place f a is = absurd is
 append_steps s slots n k c e (Refused ArgumentsLength) new h place f a is = absurd is
@@ -379,7 +380,7 @@ append_steps s slots n k c e (Added x) new h place f a is = absurd is
 left_by : (s : SystemWorld) (e : ExecutedCall) (outcome : Outcome) (new : List Entry) → IsAppended s.entries (CallEntry e) outcome new → (new ≡ s.entries) ⊎ (new ≡ s.entries ++ CallEntry e ∷ [])
 left_by s e (Ordered position) new is = inr is.2
 left_by s e (Refused LogFull) new is = inl is.1
-left_by s e (Refused OutOfMemory) new is = inl is.1
+left_by s e (Refused step_refusal.NoMemory) new is = inl is.1
 left_by s e (Refused NoReplica) new is = absurd is
 left_by s e (Refused NoProcedure) new is = absurd is
 left_by s e (Refused ArgumentsLength) new is = absurd is

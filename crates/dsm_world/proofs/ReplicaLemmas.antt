@@ -11,7 +11,7 @@ use Rattle.log_entry.specs.declared.entry.Entry.{Entry as LogEntry}
 use Rattle.log_entry.specs.Kind.{entry_of}
 use Rattle.replica.specs.Replica.{Replica, StandsFor, AreEntriesOf, IsNamed, entries_of, writes_in, HasSameTables, HasDelivered, HasStopped}
 use Rattle.log_model.specs.declared.verdict.Verdict.{Verdict}
-use Rattle.dsm_model.specs.declared.outcome.StepRefusal.TheVariants.{NothingToDeliver, ReplicaStopped, OutOfMemory}
+use Rattle.dsm_model.specs.declared.outcome.StepRefusal.TheVariants.{NothingToDeliver, ReplicaStopped, NoMemory}
 use Rattle.dsm_model.specs.declared.outcome.Outcome.{Outcome}
 use Rattle.dsm_model.specs.declared.outcome.Outcome.TheVariants.{Delivered, Rebuilt, Refused}
 use Rattle.log_model.specs.Log.{Catalogue, Setting, Log, IsPlaced, by_number, procedures_after, verdict_of}
@@ -148,11 +148,11 @@ delivered_replica s slots k old new e v kept h at next d same for_tables =
     }
 
 pub stops : {A : Type 0} (s : SystemWorld) (slots : List (Option (OpenCallState A))) (r k : ℕ) (old new : Replica) (e : Entry) → HaveVerdicts → IsTogether s slots → r ≡ k + 1 → slice_get s.replicas k ≡ Some old → slice_get s.entries old.position ≡ Some e → old.stopped ≡ false → HasStopped old new
-    → IsStep (setting_of s) (world_of s) (Deliver r) (Refused OutOfMemory) (world_of (with_one s k new))
+    → IsStep (setting_of s) (world_of s) (Deliver r) (Refused NoMemory) (world_of (with_one s k new))
 stops s slots r k old new e have h is at next going d =
     let v = some_to_deliver s old e have next in
     let progress : record { position = old.position; stopped = true } ≡ progress_of new = ap (λ n. record { position = n; stopped = true }) (sym d.position) ∙ ap (λ b. record { position = new.position; stopped = b }) (sym d.stopped) in
-    subst (λ (x : World). IsStep (setting_of s) (world_of s) (Deliver r) (Refused OutOfMemory) x) (world_with s r k new _ is progress)
+    subst (λ (x : World). IsStep (setting_of s) (world_of s) (Deliver r) (Refused NoMemory) x) (world_with s r k new _ is progress)
     (deliver_without_memory (setting_of s) (world_of s) r (progress_of old) v.0 (replica_at s r k old is at) v.1 going)
 
 pub stopped_replica : {A : Type 0} (s : SystemWorld) (slots : List (Option (OpenCallState A))) (k : ℕ) (old new : Replica) → TablesKept → IsTogether s slots → slice_get s.replicas k ≡ Some old → HasStopped old new → HasSameTables old new → IsReplicaOf s.catalogue s.window s.entries new

@@ -5,7 +5,7 @@ use Rattle.std.specs.FinMap.{len}
 use Rattle.bpf_vm.specs.declared.turn.Turn.{Turn as TurnAnswer}
 use Rattle.bpf_vm.specs.declared.turn.Turn.TheVariants as answer
 use Rattle.log_model.specs.declared.verdict.Verdict.{Verdict}
-use Rattle.dsm_model.specs.declared.outcome.StepRefusal.TheVariants.{NoReplica, NoProcedure, ArgumentsLength, NoCall, NotAtExit, NothingToDeliver, ReplicaStopped, LogFull, OutOfMemory, TooManyCalls, ZeroInRequest}
+use Rattle.dsm_model.specs.declared.outcome.StepRefusal.TheVariants.{NoReplica, NoProcedure, ArgumentsLength, NoCall, NotAtExit, NothingToDeliver, ReplicaStopped, LogFull, NoMemory, TooManyCalls, ZeroInRequest}
 use Rattle.dsm_model.specs.declared.outcome.Outcome.{Outcome}
 use Rattle.dsm_model.specs.declared.outcome.Outcome.TheVariants.{Begun, More, Exit, Ordered, Read, Cancelled, Delivered, Rebuilt, Refused}
 use Rattle.log_model.specs.declared.request.RequestId.{RequestId}
@@ -95,7 +95,7 @@ pub begin_new : (w : Setting) (world : World) (r p : ℕ) (args : List ℕ) (req
 begin_new w world r p args request k q e f long some few = inl (begins_new w world r p args request k q e f long some few)
 
 pub begin_without_memory : (w : Setting) (world : World) (r p : ℕ) (args : List ℕ) (request : Option RequestId) (k : Replica) (q : StoredProcedure) → numbered world.replicas r ≡ Some k → by_number (procedures_after w world.log k.position) p ≡ Some q → length args ≡ q.args_len → has_zero request ≡ false → call_count world < max_calls
-    → IsStep w world (Begin r p args request) (Refused OutOfMemory) world
+    → IsStep w world (Begin r p args request) (Refused NoMemory) world
 unfolding after_step_without_memory
 begin_without_memory w world r p args request k q e f long some few = inr (ap (λ (d : Done). after_refused_memory world (Begin r p args request) d.0) (begins_new w world r p args request k q e f long some few))
 
@@ -179,7 +179,7 @@ pub order_new : (w : Setting) (world : World) (c : ℕ) (o : OpenCall) → open_
 order_new w world c o e end kept some few = inl (orders_new w world c o e end kept some few)
 
 pub order_without_memory : (w : Setting) (world : World) (c : ℕ) (o : OpenCall) → open_call world c ≡ Some o → o.turns ≡ (run_in w world.log o.call).steps → (run_in w world.log o.call).cancel_code ≡ None → len (run_in w world.log o.call).writes ≢ 0 → length world.log < max_calls
-    → IsStep w world (Order c) (Refused OutOfMemory) (without_call world c)
+    → IsStep w world (Order c) (Refused NoMemory) (without_call world c)
 unfolding after_step_without_memory
 order_without_memory w world c o e end kept some few = inr (ap (λ (d : Done). after_refused_memory world (Order c) d.0) (orders_new w world c o e end kept some few))
 
@@ -210,11 +210,11 @@ pub deliver_new : (w : Setting) (world : World) (r : ℕ) (k : Replica) (v : Ver
 deliver_new w world r k v e f going = inl (delivers_new w world r k v e f going)
 
 pub deliver_without_memory : (w : Setting) (world : World) (r : ℕ) (k : Replica) (v : Verdict) → numbered world.replicas r ≡ Some k → verdict_of w world.log (k.position + 1) ≡ Some v → k.stopped ≡ false
-    → IsStep w world (Deliver r) (Refused OutOfMemory) (with_replica world r (record k { stopped = true }))
+    → IsStep w world (Deliver r) (Refused NoMemory) (with_replica world r (record k { stopped = true }))
 unfolding after_step_without_memory
 deliver_without_memory w world r k v e f going = inr (
     ap (λ (d : Done). after_refused_memory world (Deliver r) d.0) (delivers_new w world r k v e f going)
-    ∙ ap (λ (x : Option Replica). just (Refused OutOfMemory, with_stopped world r x)) e
+    ∙ ap (λ (x : Option Replica). just (Refused NoMemory, with_stopped world r x)) e
     )
 
 -- ---- Rebuild
@@ -229,6 +229,6 @@ rebuild_no_replica w world r e = inl (rebuilds w world r None e)
 pub rebuild_new : (w : Setting) (world : World) (r : ℕ) (k : Replica) → numbered world.replicas r ≡ Some k → IsStep w world (Rebuild r) (Rebuilt (length world.log)) (with_replica world r (record { position = length world.log; stopped = false }))
 rebuild_new w world r k e = inl (rebuilds w world r (just k) e)
 
-pub rebuild_without_memory : (w : Setting) (world : World) (r : ℕ) (k : Replica) → numbered world.replicas r ≡ Some k → IsStep w world (Rebuild r) (Refused OutOfMemory) world
+pub rebuild_without_memory : (w : Setting) (world : World) (r : ℕ) (k : Replica) → numbered world.replicas r ≡ Some k → IsStep w world (Rebuild r) (Refused NoMemory) world
 unfolding after_step_without_memory
 rebuild_without_memory w world r k e = inr (ap (λ (d : Done). after_refused_memory world (Rebuild r) d.0) (rebuilds w world r (just k) e))

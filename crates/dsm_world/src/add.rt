@@ -5,7 +5,7 @@ ghost use Rattle.schema.specs.declared.limits.TheConstants.{MAX_ARGUMENTS};
 ghost use Rattle.bpf_code.specs.Program.{IsProgram};
 ghost use Rattle.bpf_verify.specs.Flow.{IsAccepted};
 ghost use Rattle.call_model.specs.declared.fault.ProgramFault.{ProgramFault};
-ghost use Rattle.dsm_model.specs.declared.outcome.StepRefusal.TheVariants.{OutOfMemory, ProgramRefused};
+ghost use Rattle.dsm_model.specs.declared.outcome.StepRefusal.TheVariants.{NoMemory, ProgramRefused};
 ghost use Rattle.dsm_model.specs.Sound.{IsGiven};
 ghost use Rattle.dsm_model.specs.World.{Add, IsStep};
 ghost use Rattle.call_model.specs.Check.{Passed, Failed};
@@ -70,7 +70,7 @@ pub(crate) fn add<A: Allocator + Copy>(
             world.additions += 1;
             Outcome::Added { position }
         }
-        Err(_) => Outcome::Refused(StepRefusal::OutOfMemory),
+        Err(_) => Outcome::Refused(StepRefusal::NoMemory),
     }
 }
 
@@ -85,13 +85,13 @@ fn checked<A: Allocator + Copy>(
     ensures given { IfOk result (λ accepted. (accepted.tables ≡ schema.now) × (accepted.args_len ≡ args_len)) }
     ensures passed { IfOk result (λ accepted. check_of schema.now args_len bytes.now ≡ Passed accepted.program) }
     ensures accepted { IfOk result (λ accepted. IsProgram accepted.program × IsAccepted accepted) }
-    ensures refused { IfErr result (λ refusal. (refusal ≡ OutOfMemory)
+    ensures refused { IfErr result (λ refusal. (refusal ≡ NoMemory)
         ⊎ ((fault : ProgramFault) × (refusal ≡ ProgramRefused fault)
         × (check_of schema.now args_len bytes.now ≡ Failed fault))) }
 {
     match check_program(alloc, bytes, schema, args_len) {
         Ok(accepted) => Ok(accepted),
-        Err(CheckFault::OutOfMemory) => Err(StepRefusal::OutOfMemory),
+        Err(CheckFault::NoMemory) => Err(StepRefusal::NoMemory),
         Err(CheckFault::Program(fault)) => Err(StepRefusal::ProgramRefused(fault)),
     }
 }

@@ -63,10 +63,10 @@ pub(crate) fn begin<A: Allocator + Copy>(
         alloc, replica, call, procedure, accepted, args, snapshot, request,
     );
     let Ok(open_call) = begun else {
-        return Outcome::Refused(StepRefusal::OutOfMemory);
+        return Outcome::Refused(StepRefusal::NoMemory);
     };
     match enter(&mut world.calls, alloc, open_call) {
         Ok(()) => Outcome::Begun { call, snapshot },
-        Err(_) => Outcome::Refused(StepRefusal::OutOfMemory),
+        Err(_) => Outcome::Refused(StepRefusal::NoMemory),
     }
 }

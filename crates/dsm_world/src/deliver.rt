@@ -40,6 +40,6 @@ pub(crate) fn deliver<A: Allocator + Copy>(world: &mut Holdings<A>, replica: u32
             position: position + 1,
             verdict,
         },
-        Err(_) => Outcome::Refused(StepRefusal::OutOfMemory),
+        Err(_) => Outcome::Refused(StepRefusal::NoMemory),
     }
 }

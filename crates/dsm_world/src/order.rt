@@ -57,6 +57,6 @@ fn append<A: Allocator + Copy>(entries: &mut Vec<Entry<A>, A>, call: ExecutedCal
     let position = entries.len() as u32 + 1;
     match entries.push(Entry::Call(call)) {
         Ok(()) => Outcome::Ordered { position },
-        Err(_) => Outcome::Refused(StepRefusal::OutOfMemory),
+        Err(_) => Outcome::Refused(StepRefusal::NoMemory),
     }
 }

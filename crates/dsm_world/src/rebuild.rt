@@ -24,6 +24,6 @@ pub(crate) fn rebuild<A: Allocator + Copy>(world: &mut Holdings<A>, replica: u32
     };
     match world.replicas[at].rebuild(&world.catalogue, &world.entries) {
         Ok(position) => Outcome::Rebuilt { position },
-        Err(_) => Outcome::Refused(StepRefusal::OutOfMemory),
+        Err(_) => Outcome::Refused(StepRefusal::NoMemory),
     }
 }

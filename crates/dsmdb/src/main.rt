@@ -119,7 +119,7 @@ fn refused(rt: &HostRuntime, fault: &PlanFault<'_>) -> io::Result<u8> {
         | PlanFault::LogLimit { .. }
         | PlanFault::Number { .. }
         | PlanFault::NoCommand
-        | PlanFault::OutOfMemory => {
+        | PlanFault::NoMemory => {
             let _ = writeln!(rt.stderr(), "dsmdb: {fault}");
         }
     }

@@ -1,7 +1,8 @@
 -- What refused steps leave, and that the log is never full.
 use Rattle.std.proofs.Common.{true, ◌≡◌, ◌⊎◌, inl, inr, ℕ, ◌≤◌, false, List, length, Option, Some, None, refl, sym, ap, ◌∙◌, arith}
 use Rattle.dsm_model.specs.declared.outcome.StepRefusal.{StepRefusal}
-use Rattle.dsm_model.specs.declared.outcome.StepRefusal.TheVariants.{NotAtExit, LogFull, OutOfMemory}
+use Rattle.dsm_model.specs.declared.outcome.StepRefusal.TheVariants.{NotAtExit, LogFull}
+use Rattle.dsm_model.specs.declared.outcome.StepRefusal.TheVariants as step_refusal
 use Rattle.log_model.specs.declared.request.RequestId.{RequestId}
 use Rattle.dsm_model.specs.declared.outcome.Outcome.{Outcome}
 use Rattle.dsm_model.specs.declared.outcome.Outcome.TheVariants.{Stale, NoMemory, Refused}
@@ -23,28 +24,28 @@ one_turn c d e = cc
 one_order : (c d : ℕ) → Order c ≡ Order d → c ≡ d
 one_order c d e = cc
 
-case_same : (w : Setting) (before : World) (step : Step) (refusal : StepRefusal) (outcome : Outcome) (after : World) → outcome ≡ Refused refusal → (refusal ≡ OutOfMemory → ⊥) → (refusal ≡ LogFull → ⊥) → Case w before step outcome after → after ≡ before
+case_same : (w : Setting) (before : World) (step : Step) (refusal : StepRefusal) (outcome : Outcome) (after : World) → outcome ≡ Refused refusal → (refusal ≡ step_refusal.NoMemory → ⊥) → (refusal ≡ LogFull → ⊥) → Case w before step outcome after → after ≡ before
 case_same w before step refusal outcome after is apart full (Same c) = c.same
 case_same w before step refusal outcome after is apart full (New c) = absurd (let e = sym c.answer ∙ is in cc)
 case_same w before step refusal outcome after is apart full (Over c) = absurd (elim (c.answer refusal is).1 [ inl m ↦ apart m | inr f ↦ full f.0 ])
 case_same w before step refusal outcome after is apart full (Turned c) = absurd (elim c.answer [ inl m ↦ (let e = sym m ∙ is in cc) | inr x ↦ (let e = sym x.0 ∙ is in cc) ])
 case_same w before step refusal outcome after is apart full (Appended c) = absurd (let e = sym c.answer ∙ is in cc)
 case_same w before step refusal outcome after is apart full (Verdicted c) = absurd (let e = sym c.answer ∙ is in cc)
-case_same w before step refusal outcome after is apart full (Stop c) = absurd (apart (one_refusal refusal OutOfMemory (sym is ∙ c.answer)))
+case_same w before step refusal outcome after is apart full (Stop c) = absurd (apart (one_refusal refusal step_refusal.NoMemory (sym is ∙ c.answer)))
 case_same w before step refusal outcome after is apart full (Anew c) = absurd (let e = sym c.answer ∙ is in cc)
 case_same w before step refusal outcome after is apart full (Put c) = absurd (let e = sym c.answer ∙ is in cc)
 
-pub refused_same : (w : Setting) (before : World) (step : Step) (refusal : StepRefusal) (after : World) → IsStep w before step (Refused refusal) after → (refusal ≡ OutOfMemory → ⊥) → (refusal ≡ LogFull → ⊥) → after ≡ before
+pub refused_same : (w : Setting) (before : World) (step : Step) (refusal : StepRefusal) (after : World) → IsStep w before step (Refused refusal) after → (refusal ≡ step_refusal.NoMemory → ⊥) → (refusal ≡ LogFull → ⊥) → after ≡ before
 refused_same w before step refusal after e apart full = case_same w before step refusal (Refused refusal) after refl apart full (step_case w before step (Refused refusal) after e)
 
 stopped_is : (before : World) (r : ℕ) (replica : Replica) → numbered before.replicas r ≡ just replica → after_refused before (Deliver r) ≡ with_stopped before r (just replica)
 stopped_is before r replica e = ap (with_stopped before r) e
 
-case_memory : (w : Setting) (before : World) (step : Step) (outcome : Outcome) (after : World) → outcome ≡ Refused OutOfMemory → Case w before step outcome after → after ≡ after_refused before step
-case_memory w before step outcome after is (Same c) = c.same ∙ sym (c.memory (one_refusal c.refusal OutOfMemory (sym c.answer ∙ is)))
+case_memory : (w : Setting) (before : World) (step : Step) (outcome : Outcome) (after : World) → outcome ≡ Refused step_refusal.NoMemory → Case w before step outcome after → after ≡ after_refused before step
+case_memory w before step outcome after is (Same c) = c.same ∙ sym (c.memory (one_refusal c.refusal step_refusal.NoMemory (sym c.answer ∙ is)))
 case_memory w before step outcome after is (New c) = absurd (let e = sym c.answer ∙ is in cc)
 case_memory w before step outcome after is (Over c) = elim c.is [
-  | inl turn ↦ absurd (let both = c.answer OutOfMemory is in let e = sym turn ∙ both.0 in cc)
+  | inl turn ↦ absurd (let both = c.answer step_refusal.NoMemory is in let e = sym turn ∙ both.0 in cc)
   | inr order ↦ c.leaves ∙ ap (after_refused before) (sym order)
 ]
 case_memory w before step outcome after is (Turned c) = absurd (elim c.answer [ inl m ↦ (let e = sym m ∙ is in cc) | inr x ↦ (let e = sym x.0 ∙ is in cc) ])
@@ -54,24 +55,24 @@ case_memory w before step outcome after is (Stop c) = c.leaves ∙ sym (stopped_
 case_memory w before step outcome after is (Anew c) = absurd (let e = sym c.answer ∙ is in cc)
 case_memory w before step outcome after is (Put c) = absurd (let e = sym c.answer ∙ is in cc)
 
-pub refused_memory_leaves : (w : Setting) (before : World) (step : Step) (after : World) → IsStep w before step (Refused OutOfMemory) after → after ≡ after_refused before step
-refused_memory_leaves w before step after e = case_memory w before step (Refused OutOfMemory) after refl (step_case w before step (Refused OutOfMemory) after e)
+pub refused_memory_leaves : (w : Setting) (before : World) (step : Step) (after : World) → IsStep w before step (Refused step_refusal.NoMemory) after → after ≡ after_refused before step
+refused_memory_leaves w before step after e = case_memory w before step (Refused step_refusal.NoMemory) after refl (step_case w before step (Refused step_refusal.NoMemory) after e)
 
-pub order_memory : (w : Setting) (before : World) (c : ℕ) (after : World) → IsStep w before (Order c) (Refused OutOfMemory) after → after ≡ with_open_call before c None
+pub order_memory : (w : Setting) (before : World) (c : ℕ) (after : World) → IsStep w before (Order c) (Refused step_refusal.NoMemory) after → after ≡ with_open_call before c None
 order_memory w before c after e = refused_memory_leaves w before (Order c) after e
 
-pub begin_memory : (w : Setting) (before : World) (r procedure : ℕ) (args : List ℕ) (request : Option RequestId) (after : World) → IsStep w before (Begin r procedure args request) (Refused OutOfMemory) after → after ≡ before
+pub begin_memory : (w : Setting) (before : World) (r procedure : ℕ) (args : List ℕ) (request : Option RequestId) (after : World) → IsStep w before (Begin r procedure args request) (Refused step_refusal.NoMemory) after → after ≡ before
 begin_memory w before r procedure args request after e = refused_memory_leaves w before (Begin r procedure args request) after e
 
-pub rebuild_memory : (w : Setting) (before : World) (r : ℕ) (after : World) → IsStep w before (Rebuild r) (Refused OutOfMemory) after → after ≡ before
+pub rebuild_memory : (w : Setting) (before : World) (r : ℕ) (after : World) → IsStep w before (Rebuild r) (Refused step_refusal.NoMemory) after → after ≡ before
 rebuild_memory w before r after e = refused_memory_leaves w before (Rebuild r) after e
 
 one_deliver : (r q : ℕ) → Deliver r ≡ Deliver q → r ≡ q
 one_deliver r q e = cc
 
-case_stopped : (w : Setting) (before : World) (step : Step) (r : ℕ) (outcome : Outcome) (after : World) → step ≡ Deliver r → outcome ≡ Refused OutOfMemory → Case w before step outcome after
+case_stopped : (w : Setting) (before : World) (step : Step) (r : ℕ) (outcome : Outcome) (after : World) → step ≡ Deliver r → outcome ≡ Refused step_refusal.NoMemory → Case w before step outcome after
     → (replica : Replica) × (numbered before.replicas r ≡ just replica) × (after ≡ with_replica before r (record { position = replica.position; stopped = true }))
-case_stopped w before step r outcome after is answer (Same c) = absurd (c.deliver r is (one_refusal c.refusal OutOfMemory (sym c.answer ∙ answer)))
+case_stopped w before step r outcome after is answer (Same c) = absurd (c.deliver r is (one_refusal c.refusal step_refusal.NoMemory (sym c.answer ∙ answer)))
 case_stopped w before step r outcome after is answer (New c) = absurd (let e = sym c.is ∙ is in cc)
 case_stopped w before step r outcome after is answer (Over c) = absurd (elim c.is [ inl turn ↦ (let e = sym turn ∙ is in cc) | inr order ↦ (let e = sym order ∙ is in cc) ])
 case_stopped w before step r outcome after is answer (Turned c) = absurd (let e = sym c.is ∙ is in cc)
@@ -83,9 +84,9 @@ case_stopped w before step r outcome after is answer (Stop c) =
 case_stopped w before step r outcome after is answer (Anew c) = absurd (let e = sym c.is ∙ is in cc)
 case_stopped w before step r outcome after is answer (Put c) = absurd (let e = sym c.is ∙ is in cc)
 
-pub deliver_memory : (w : Setting) (before : World) (r : ℕ) (after : World) → IsStep w before (Deliver r) (Refused OutOfMemory) after
+pub deliver_memory : (w : Setting) (before : World) (r : ℕ) (after : World) → IsStep w before (Deliver r) (Refused step_refusal.NoMemory) after
     → (replica : Replica) × (numbered before.replicas r ≡ Some replica) × (after ≡ with_replica before r (record { position = replica.position; stopped = true }))
-deliver_memory w before r after e = case_stopped w before (Deliver r) r (Refused OutOfMemory) after refl refl (step_case w before (Deliver r) (Refused OutOfMemory) after e)
+deliver_memory w before r after e = case_stopped w before (Deliver r) r (Refused step_refusal.NoMemory) after refl refl (step_case w before (Deliver r) (Refused step_refusal.NoMemory) after e)
 
 -- ---- Order
 
@@ -169,5 +170,5 @@ case_full w before step outcome after world is (Put c) = let e = sym c.answer �
 pub never_full : (w : Setting) (before : World) (step : Step) (after : World) → IsWorld w before → IsStep w before step (Refused LogFull) after → ⊥
 never_full w before step after is e = case_full w before step (Refused LogFull) after is refl (step_case w before step (Refused LogFull) after e)
 
-pub add_memory : (w : Setting) (before : World) (name : List ℕ) (number args_len : ℕ) (checked : ProgramCheck) (after : World) → IsStep w before (Add name number args_len checked) (Refused OutOfMemory) after → after ≡ before
+pub add_memory : (w : Setting) (before : World) (name : List ℕ) (number args_len : ℕ) (checked : ProgramCheck) (after : World) → IsStep w before (Add name number args_len checked) (Refused step_refusal.NoMemory) after → after ≡ before
 add_memory w before name number args_len checked after e = refused_memory_leaves w before (Add name number args_len checked) after e

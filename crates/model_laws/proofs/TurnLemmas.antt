@@ -5,7 +5,8 @@ use Rattle.bpf_semantics.specs.Step.{Ended}
 use Rattle.bpf_semantics.specs.Run.{Run, moment}
 use Rattle.bpf_semantics.specs.Path.{longest_path}
 use Rattle.dsm_model.specs.declared.outcome.StepRefusal.{StepRefusal}
-use Rattle.dsm_model.specs.declared.outcome.StepRefusal.TheVariants.{NoReplica, NoProcedure, ArgumentsLength, NoCall, NotAtExit, NothingToDeliver, ReplicaStopped, LogFull, OutOfMemory, TooManyCalls, ArgumentsLimit, ProgramRefused, NameShape, ZeroInRequest}
+use Rattle.dsm_model.specs.declared.outcome.StepRefusal.TheVariants.{NoReplica, NoProcedure, ArgumentsLength, NoCall, NotAtExit, NothingToDeliver, ReplicaStopped, LogFull, TooManyCalls, ArgumentsLimit, ProgramRefused, NameShape, ZeroInRequest}
+use Rattle.dsm_model.specs.declared.outcome.StepRefusal.TheVariants as step_refusal
 use Rattle.dsm_model.specs.declared.outcome.Outcome.{Outcome}
 use Rattle.dsm_model.specs.declared.outcome.Outcome.TheVariants.{Begun, More, Exit, Stale, NoMemory, Ordered, Read, Cancelled, Delivered, Rebuilt, Added, Refused}
 use Rattle.log_model.specs.declared.request.RequestId.{RequestId}
@@ -83,7 +84,7 @@ refusal_of_turn c NotAtExit e = absurd cc
 refusal_of_turn c NothingToDeliver e = absurd cc
 refusal_of_turn c ReplicaStopped e = absurd cc
 refusal_of_turn c LogFull e = absurd cc
-refusal_of_turn c OutOfMemory e = absurd cc
+refusal_of_turn c step_refusal.NoMemory e = absurd cc
 refusal_of_turn c TooManyCalls e = absurd cc
 refusal_of_turn c ArgumentsLimit e = absurd cc
 refusal_of_turn c (ProgramRefused fault) e = absurd cc

@@ -14,7 +14,8 @@ ghost use Rattle.call_model.specs.OpenCall.{OpenCall};
 ghost use Rattle.call_model.specs.Request.{or_none};
 ghost use Rattle.call_model.specs.Check.{ProgramCheck};
 ghost use Rattle.dsm_model.specs.declared.outcome.StepRefusal.{StepRefusal};
-ghost use Rattle.dsm_model.specs.declared.outcome.StepRefusal.TheVariants.{NotAtExit, LogFull, OutOfMemory};
+ghost use Rattle.dsm_model.specs.declared.outcome.StepRefusal.TheVariants.{NotAtExit, LogFull};
+ghost use Rattle.dsm_model.specs.declared.outcome.StepRefusal.TheVariants as step_refusal;
 ghost use Rattle.bpf_semantics.specs.Path.{longest_path};
 ghost use Rattle.log_model.specs.Fit.{HasSafeProcedures};
 ghost use Rattle.dsm_model.specs.Sound.{AreGiven, IsWorld};
@@ -119,22 +120,22 @@ pub fn replicas_agree()
 /// over, and a replica that was to deliver is stopped at its position.
 pub fn refused_steps_change_nothing()
     ensures nothing { (w : Setting) (before : World) (step : Step) (refusal : StepRefusal) (after : World)
-        → IsStep w before step (Refused refusal) after → refusal ≢ OutOfMemory → refusal ≢ LogFull
+        → IsStep w before step (Refused refusal) after → refusal ≢ step_refusal.NoMemory → refusal ≢ LogFull
         → after ≡ before }
     ensures begin { (w : Setting) (before : World) (r procedure : ℕ) (args : List ℕ) (request : Option RequestId)
         (after : World)
-        → IsStep w before (Begin r procedure args request) (Refused OutOfMemory) after → after ≡ before }
+        → IsStep w before (Begin r procedure args request) (Refused step_refusal.NoMemory) after → after ≡ before }
     ensures order { (w : Setting) (before : World) (c : ℕ) (after : World)
-        → IsStep w before (Order c) (Refused OutOfMemory) after → after ≡ with_open_call before c None }
+        → IsStep w before (Order c) (Refused step_refusal.NoMemory) after → after ≡ with_open_call before c None }
     ensures deliver { (w : Setting) (before : World) (r : ℕ) (after : World)
-        → IsStep w before (Deliver r) (Refused OutOfMemory) after
+        → IsStep w before (Deliver r) (Refused step_refusal.NoMemory) after
         → (replica : Replica) × (numbered before.replicas r ≡ Some replica)
         × (after ≡ with_replica before r (record { position = replica.position; stopped = true })) }
     ensures rebuild { (w : Setting) (before : World) (r : ℕ) (after : World)
-        → IsStep w before (Rebuild r) (Refused OutOfMemory) after → after ≡ before }
+        → IsStep w before (Rebuild r) (Refused step_refusal.NoMemory) after → after ≡ before }
     ensures add { (w : Setting) (before : World) (name : List ℕ) (number args_len : ℕ) (checked : ProgramCheck)
         (after : World)
-        → IsStep w before (Add name number args_len checked) (Refused OutOfMemory) after → after ≡ before }
+        → IsStep w before (Add name number args_len checked) (Refused step_refusal.NoMemory) after → after ≡ before }
 {}
 
 /// A call is over after any answer of its order but that it isn't at EXIT, and after a turn that is stale or finds

@@ -3,7 +3,7 @@ use Rattle.std.specs.Prelude.{◌≡◌, ◌≤◌, ◌⊎◌, ℕ}
 use Rattle.schema.specs.declared.limits.TheConstants.{MAX_REPLICAS, MAX_EXECUTORS, MAX_WINDOW, MAX_LOG}
 use Rattle.node.specs.declared.size.Size.{Size as NodeSize}
 use Rattle.node.specs.declared.size.StartFault.{StartFault}
-use Rattle.node.specs.declared.size.StartFault.TheVariants.{Replicas, Executors, Window, OutOfMemory, NoThread, Limit}
+use Rattle.node.specs.declared.size.StartFault.TheVariants.{Replicas, Executors, Window, NoMemory, NoThread, Limit}
 
 abbrev pub IsWithin : ℕ → ℕ → Type 0
 IsWithin limit n = (1 ≤ n) × (n ≤ limit)
@@ -20,12 +20,12 @@ IsSizeFault s Replicas = IsWithin MAX_REPLICAS s.replicas → ⊥
 IsSizeFault s Executors = IsWithin MAX_REPLICAS s.replicas × (IsWithin MAX_EXECUTORS s.executors → ⊥)
 IsSizeFault s Window = IsWithin MAX_REPLICAS s.replicas × IsWithin MAX_EXECUTORS s.executors × (IsWithin MAX_WINDOW s.window → ⊥)
 IsSizeFault s Limit = IsWithin MAX_REPLICAS s.replicas × IsWithin MAX_EXECUTORS s.executors × IsWithin MAX_WINDOW s.window × (IsWithin MAX_LOG s.limit → ⊥)
-IsSizeFault s OutOfMemory = ⊥
+IsSizeFault s NoMemory = ⊥
 IsSizeFault s NoThread = ⊥
 
 -- memory or a thread is wanting
 abbrev pub IsWant : StartFault → Type 0
-IsWant fault = (fault ≡ OutOfMemory) ⊎ (fault ≡ NoThread)
+IsWant fault = (fault ≡ NoMemory) ⊎ (fault ≡ NoThread)
 
 -- why a node of a size doesn't start: its size is at fault, or it may be of this size, and memory or a thread is wanting
 abbrev pub IsStartFault : NodeSize → StartFault → Type 0

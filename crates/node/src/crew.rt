@@ -94,7 +94,7 @@ impl<J: LogSetting + Ledgers + Send + Sync + 'static> Crew<J> {
         ensures fault { IfErr result IsWant }
     {
         let Ok((sender, receiver)) = bounded(self.alloc, QUEUE) else {
-            return Err(StartFault::OutOfMemory);
+            return Err(StartFault::NoMemory);
         };
         for thread in 0..executors {
             self.start_executor(rt, shared, shares, replica, thread, &receiver)?;
@@ -122,13 +122,13 @@ impl<J: LogSetting + Ledgers + Send + Sync + 'static> Crew<J> {
         ensures fault { IfErr result IsWant }
     {
         if self.executors.reserve(1).is_err() {
-            return Err(StartFault::OutOfMemory);
+            return Err(StartFault::NoMemory);
         }
         let Ok(theirs) = Arc::try_clone(shared) else {
-            return Err(StartFault::OutOfMemory);
+            return Err(StartFault::NoMemory);
         };
         let Ok(requests) = requests.clone() else {
-            return Err(StartFault::OutOfMemory);
+            return Err(StartFault::NoMemory);
         };
         let mine = ThreadShares {
             shares: shares.split(),
@@ -158,10 +158,10 @@ impl<J: LogSetting + Ledgers + Send + Sync + 'static> Crew<J> {
         ensures fault { IfErr result IsWant }
     {
         if self.deliverers.reserve(1).is_err() {
-            return Err(StartFault::OutOfMemory);
+            return Err(StartFault::NoMemory);
         }
         let Ok(theirs) = Arc::try_clone(shared) else {
-            return Err(StartFault::OutOfMemory);
+            return Err(StartFault::NoMemory);
         };
         let runtime = *rt;
         let child = thread::spawn(rt, move || deliver_all(&runtime, &theirs, replica));

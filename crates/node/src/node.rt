@@ -110,20 +110,20 @@ impl<J: LogSetting + Ledgers + Send + Sync + 'static, G: Gate + Drop + Send + Sy
         size.check()?;
         let (totals, shares) = blanks.open();
         let Ok(log) = OrderLog::with_limit(alloc, cells, size.limit) else {
-            return Err(StartFault::OutOfMemory);
+            return Err(StartFault::NoMemory);
         };
         let replicas = size.replicas as usize;
         let shared = Shared::new(alloc, log, catalogue, size.window, totals, gate, replicas);
         let Ok(mut shared) = shared else {
-            return Err(StartFault::OutOfMemory);
+            return Err(StartFault::NoMemory);
         };
         for place in 0..size.replicas {
             if shared.add_replica(alloc, size.executors as usize).is_err() {
-                return Err(StartFault::OutOfMemory);
+                return Err(StartFault::NoMemory);
             }
         }
         let Ok(shared) = Arc::new(alloc, shared) else {
-            return Err(StartFault::OutOfMemory);
+            return Err(StartFault::NoMemory);
         };
         start_threads(rt, alloc, shared, shares, size)
     }
@@ -376,12 +376,12 @@ fn start_replicas<
     ensures fault { IfErr result IsWant }
 {
     let Ok(ended) = Vec::with_capacity(alloc, size.replicas as usize) else {
-        return Err(StartFault::OutOfMemory);
+        return Err(StartFault::NoMemory);
     };
     for place in 0..size.replicas {
         let sender = crew.start_replica(rt, shared, shares, place + 1, size.executors)?;
         if requests.push(sender).is_err() {
-            return Err(StartFault::OutOfMemory);
+            return Err(StartFault::NoMemory);
         }
     }
     Ok(ended)

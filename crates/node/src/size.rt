@@ -14,7 +14,7 @@ pub enum StartFault {
     Executors,
     /// The window isn't 1 to 4,096.
     Window,
-    OutOfMemory,
+    NoMemory,
     /// A thread wasn't started; those that were have ended.
     NoThread,
     /// The log isn't for 1 to 1,048,576 entries.

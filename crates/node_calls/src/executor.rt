@@ -147,7 +147,7 @@ impl<'a, J: LogSetting, A: Allocator + Copy, P: Allocator + Copy, G: Gate> Execu
                 (answer, Some(seen))
             }
             Err(AppendFault::Full) => (Answer::Full, None),
-            Err(AppendFault::OutOfMemory) => (Answer::NoMemory, None),
+            Err(AppendFault::NoMemory) => (Answer::NoMemory, None),
             Err(AppendFault::SnapshotUnseen) => unreachable!(),
         }
     }

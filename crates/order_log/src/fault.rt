@@ -9,7 +9,7 @@ use std::fmt;
 pub enum AppendFault {
     /// The log takes no more entries.
     Full,
-    OutOfMemory,
+    NoMemory,
     /// The snapshot of a call is past what was seen.
     SnapshotUnseen,
 }
@@ -21,7 +21,7 @@ impl AppendFault {
     {
         match self {
             AppendFault::Full => 1,
-            AppendFault::OutOfMemory => 2,
+            AppendFault::NoMemory => 2,
             AppendFault::SnapshotUnseen => 3,
         }
     }

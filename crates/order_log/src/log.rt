@@ -24,7 +24,7 @@ enum Attempt<A: Allocator + Copy = Global> {
     Taken,
     /// Another entry stands there.
     Passed(Box<Entry<A>>),
-    OutOfMemory,
+    NoMemory,
 }
 
 /// The total order of entries, which threads share.
@@ -162,10 +162,10 @@ impl<J: LogIdentity, F: Fact, A: Allocator + Copy> OrderLog<J, F, A> {
             return Err(AppendFault::SnapshotUnseen);
         }
         let Ok(mut entry) = Box::new(self.alloc, entry) else {
-            return Err(AppendFault::OutOfMemory);
+            return Err(AppendFault::NoMemory);
         };
         let Ok(mut fact) = Box::new(self.alloc, None) else {
-            return Err(AppendFault::OutOfMemory);
+            return Err(AppendFault::NoMemory);
         };
         for _ in 0..self.limit {
             if seen.len() >= self.limit {
@@ -177,7 +177,7 @@ impl<J: LogIdentity, F: Fact, A: Allocator + Copy> OrderLog<J, F, A> {
                     return Ok(seen.len());
                 }
                 Attempt::Passed(back) => entry = back,
-                Attempt::OutOfMemory => return Err(AppendFault::OutOfMemory),
+                Attempt::NoMemory => return Err(AppendFault::NoMemory),
             }
         }
         Err(AppendFault::Full)
@@ -190,14 +190,14 @@ impl<J: LogIdentity, F: Fact, A: Allocator + Copy> OrderLog<J, F, A> {
     {
         let at = seen.len() as usize;
         let Ok((group, known_group)) = self.groups.made_group(at / GROUP) else {
-            return Attempt::OutOfMemory;
+            return Attempt::NoMemory;
         };
         let alloc = self.alloc;
         if self.facts[at / GROUP]
             .get_or_try_init(move || FactGroup::new(alloc))
             .is_err()
         {
-            return Attempt::OutOfMemory;
+            return Attempt::NoMemory;
         }
         let cell = group.at(at % GROUP);
         let mut note = cell.note();

@@ -28,7 +28,7 @@ pub enum SiteFault {
     #[error("a row isn't one of the procedure's schema")]
     ForeignRow,
     #[error("out of memory")]
-    OutOfMemory,
+    NoMemory,
 }
 
 /// A call, after its last turn.
@@ -68,7 +68,7 @@ pub fn complete_call<A: Allocator, B: Allocator, C: Allocator + Copy, D: Allocat
     };
     let mut view = View::over(store, Own::new(alloc));
     let Turn::Exit(reply) = machine.run(procedure, &mut view) else {
-        return Err(SiteFault::OutOfMemory);
+        return Err(SiteFault::NoMemory);
     };
     let (reads, writes, cancel_code) = view.finish();
     Ok(CompletedCall {
@@ -111,7 +111,7 @@ fn begin<A: Allocator, B: Allocator, C: Allocator + Copy, D: Allocator>(
     ensures length { IfErr result (λ fault. fault ≡ ArgsLength → length args.now ≢ procedure.now.args_len) }
 {
     let Ok(found) = site_rows(alloc, procedure.schema(), rows) else {
-        return Err(SiteFault::OutOfMemory);
+        return Err(SiteFault::NoMemory);
     };
     let Some(map) = found else {
         return Err(SiteFault::ForeignRow);

@@ -18,7 +18,7 @@ use std::alloc::Allocator;
 /// Why a program is not accepted.
 #[derive(Clone, Copy, Debug, PartialEq, Eq)]
 pub enum CheckFault {
-    OutOfMemory,
+    NoMemory,
     Program(ProgramFault),
 }
 
@@ -39,7 +39,7 @@ pub fn check_program<A: Allocator + Copy>(
     match decode(alloc, bytes) {
         Ok(code) => verified(alloc, code, schema, args_len),
         Err(fault) => match fault.cause {
-            DecodeCause::OutOfMemory => Err(CheckFault::OutOfMemory),
+            DecodeCause::NoMemory => Err(CheckFault::NoMemory),
             _ => Err(CheckFault::Program(ProgramFault::Bytes(fault))),
         },
     }
@@ -61,7 +61,7 @@ fn verified<A: Allocator + Copy>(
 {
     match verify(alloc, code, schema, args_len) {
         Ok(accepted) => Ok(accepted),
-        Err(Refusal::OutOfMemory) => Err(CheckFault::OutOfMemory),
+        Err(Refusal::NoMemory) => Err(CheckFault::NoMemory),
         Err(Refusal::At { slot, cause }) => Err(CheckFault::Program(ProgramFault::Instruction {
             slot,
             cause,

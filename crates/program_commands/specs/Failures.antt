@@ -3,17 +3,17 @@ use Rattle.std.specs.Prelude.{◌≡◌, ℕ, List, codes, Option}
 use Rattle.byte_output.specs.Writes.{AppendsBeginning}
 use Rattle.exit_status.specs.Failure.{SaysStream}
 use Rattle.program_commands.specs.declared.failure.CommandFailure.{CommandFailure}
-use Rattle.program_commands.specs.declared.failure.CommandFailure.TheVariants.{OutOfMemory, Input, Output}
+use Rattle.program_commands.specs.declared.failure.CommandFailure.TheVariants.{NoMemory, Input, Output}
 
 -- where the output failed, `Begun` says what it has; where memory was wanting or the input failed it is as it was
 abbrev pub Leaves : Type 0 → Option (List ℕ) → Option (List ℕ) → CommandFailure → Type 0
 Leaves Begun old new (Output error) = Begun
 Leaves Begun old new (Input error) = new ≡ old
-Leaves Begun old new OutOfMemory = new ≡ old
+Leaves Begun old new NoMemory = new ≡ old
 
 -- what is said of a failure, or a beginning of it
 abbrev pub IsSaid : Option (List ℕ) → Option (List ℕ) → CommandFailure → Type 0
-IsSaid old new OutOfMemory = AppendsBeginning old new (codes "dsmdb: out of memory\n")
+IsSaid old new NoMemory = AppendsBeginning old new (codes "dsmdb: out of memory\n")
 IsSaid old new (Input error) = SaysStream old new
 IsSaid old new (Output error) = SaysStream old new
 

@@ -120,7 +120,7 @@ fn verdict<A: Allocator + Copy, R: Read>(
 {
     let schema = match Schema::new(alloc, tables) {
         Ok(schema) => schema,
-        Err(SchemaFault::OutOfMemory) => return Err(CommandFailure::OutOfMemory),
+        Err(SchemaFault::NoMemory) => return Err(CommandFailure::NoMemory),
         Err(fault) => return Ok(CheckVerdict::NoSchema(fault)),
     };
     let code = match read_program(alloc, input)? {
@@ -134,6 +134,6 @@ fn verdict<A: Allocator + Copy, R: Read>(
             bound: accepted.bound(),
         }),
         Err(Refusal::At { slot, cause }) => Ok(CheckVerdict::Refused { slot, cause }),
-        Err(Refusal::OutOfMemory) => Err(CommandFailure::OutOfMemory),
+        Err(Refusal::NoMemory) => Err(CommandFailure::NoMemory),
     }
 }

@@ -12,7 +12,7 @@ use std::io::Write;
 #[derive(Drop)]
 pub enum CommandFailure {
     /// Memory is wanting, and nothing was written.
-    OutOfMemory,
+    NoMemory,
     /// The input failed, and nothing was written.
     Input(io::Error),
     /// The output failed.
@@ -21,12 +21,12 @@ pub enum CommandFailure {
 
 impl From<AllocError> for CommandFailure {
     ghost use Rattle.std.specs.Prelude.{◌≡◌};
-    ghost use Rattle.program_commands.specs.declared.failure.CommandFailure.TheVariants.{OutOfMemory};
+    ghost use Rattle.program_commands.specs.declared.failure.CommandFailure.TheVariants.{NoMemory};
 
-    ghost from_gives = { λ _ failure. failure ≡ OutOfMemory };
+    ghost from_gives = { λ _ failure. failure ≡ NoMemory };
 
     fn from(_error: AllocError) -> CommandFailure {
-        CommandFailure::OutOfMemory
+        CommandFailure::NoMemory
     }
 }
 
@@ -35,7 +35,7 @@ pub(crate) fn say<E: Write>(faults: &mut E, failure: &CommandFailure)
     ensures { IsSaid (E.contents faults.old) (E.contents faults.new) failure.now }
 {
     let _ = match failure {
-        CommandFailure::OutOfMemory => put(faults, b"dsmdb: out of memory\n"),
+        CommandFailure::NoMemory => put(faults, b"dsmdb: out of memory\n"),
         CommandFailure::Input(error) | CommandFailure::Output(error) => put_error(faults, error),
     };
 }

@@ -121,7 +121,7 @@ fn decode_source<A: Allocator>(
     let fault = |cause: DecodeCause| DecodeFault { cause, slot: 0 };
     match source {
         ProgramSource::Whole(bytes) => match decode(alloc, bytes) {
-            Err(fault) if matches!(fault.cause, DecodeCause::OutOfMemory) => Err(AllocError),
+            Err(fault) if matches!(fault.cause, DecodeCause::NoMemory) => Err(AllocError),
             decoded => Ok(decoded),
         },
         ProgramSource::TooLong(true) => Ok(Err(fault(DecodeCause::TooManySlots))),

@@ -13,7 +13,7 @@ use Rattle.log_model.specs.declared.verdict.Verdict.TheVariants as verdict
 use Rattle.call_model.specs.declared.fault.ProgramFault.{ProgramFault}
 use Rattle.call_model.specs.declared.fault.ProgramFault.TheVariants.{Bytes, Instruction}
 use Rattle.dsm_model.specs.declared.outcome.StepRefusal.{StepRefusal}
-use Rattle.dsm_model.specs.declared.outcome.StepRefusal.TheVariants.{NoReplica, NoProcedure, ArgumentsLength, NoCall, NotAtExit, NothingToDeliver, ReplicaStopped, LogFull, OutOfMemory, TooManyCalls, ArgumentsLimit, ProgramRefused, NameShape, ZeroInRequest}
+use Rattle.dsm_model.specs.declared.outcome.StepRefusal.TheVariants.{NoReplica, NoProcedure, ArgumentsLength, NoCall, NotAtExit, NothingToDeliver, ReplicaStopped, LogFull, NoMemory, TooManyCalls, ArgumentsLimit, ProgramRefused, NameShape, ZeroInRequest}
 use Rattle.tallies.specs.declared.counts.Counts.{Counts}
 use Rattle.report.specs.declared.printed.CallReport.{CallReport}
 use Rattle.report.specs.declared.printed.CallReport.TheVariants as call
@@ -36,7 +36,7 @@ number_of_step_refusal NotAtExit = 5
 number_of_step_refusal NothingToDeliver = 6
 number_of_step_refusal ReplicaStopped = 7
 number_of_step_refusal LogFull = 8
-number_of_step_refusal OutOfMemory = 9
+number_of_step_refusal NoMemory = 9
 number_of_step_refusal TooManyCalls = 10
 number_of_step_refusal ArgumentsLimit = 11
 number_of_step_refusal (ProgramRefused fault) = 11

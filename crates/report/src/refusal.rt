@@ -18,7 +18,7 @@ pub fn step_refusal_number(refusal: StepRefusal) -> u8
         StepRefusal::NothingToDeliver => 6,
         StepRefusal::ReplicaStopped => 7,
         StepRefusal::LogFull => 8,
-        StepRefusal::OutOfMemory => 9,
+        StepRefusal::NoMemory => 9,
         StepRefusal::TooManyCalls => 10,
         StepRefusal::ArgumentsLimit | StepRefusal::ProgramRefused(_) => 11,
         StepRefusal::NameShape => 12,

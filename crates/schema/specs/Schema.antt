@@ -7,7 +7,7 @@ use Rattle.std.specs.Fmt.{decimal}
 use Rattle.std.specs.FinMap.{FinMap, empty, get, insert, entries}
 use Rattle.schema.specs.declared.limits.TheConstants.{MAX_TABLE, MAX_WIDTH}
 use Rattle.schema.specs.declared.fault.SchemaFault.{SchemaFault}
-use Rattle.schema.specs.declared.fault.SchemaFault.TheVariants.{TableNumber, Width, RepeatedTable, OutOfMemory}
+use Rattle.schema.specs.declared.fault.SchemaFault.TheVariants.{TableNumber, Width, RepeatedTable, NoMemory}
 
 -- from the number of a table to the width of its rows, in bytes
 abbrev pub Tables : Type 0
@@ -58,7 +58,7 @@ abbrev pub number_of_fault : SchemaFault → ℕ
 number_of_fault TableNumber = 1
 number_of_fault Width = 2
 number_of_fault RepeatedTable = 3
-number_of_fault OutOfMemory = 4
+number_of_fault NoMemory = 4
 
 -- how a fault is printed: `S1`
 abbrev pub fault_text : SchemaFault → List ℕ

@@ -2,7 +2,7 @@
 
 ghost use Rattle.std.specs.Prelude.{◌≡◌};
 ghost use Rattle.schema.specs.Schema.{number_of_fault};
-ghost use Rattle.schema.specs.declared.fault.SchemaFault.TheVariants.{OutOfMemory};
+ghost use Rattle.schema.specs.declared.fault.SchemaFault.TheVariants.{NoMemory};
 
 use std::alloc::AllocFailed;
 use std::error::Error;
@@ -17,7 +17,7 @@ pub enum SchemaFault {
     Width,
     /// An earlier pair has the same table.
     RepeatedTable,
-    OutOfMemory,
+    NoMemory,
 }
 
 impl SchemaFault {
@@ -29,7 +29,7 @@ impl SchemaFault {
             SchemaFault::TableNumber => 1,
             SchemaFault::Width => 2,
             SchemaFault::RepeatedTable => 3,
-            SchemaFault::OutOfMemory => 4,
+            SchemaFault::NoMemory => 4,
         }
     }
 }
@@ -49,9 +49,9 @@ impl fmt::Display for SchemaFault {
 impl Error for SchemaFault {}
 
 impl<T: Drop> From<AllocFailed<T>> for SchemaFault {
-    ghost from_gives = { λ _ fault. fault ≡ OutOfMemory };
+    ghost from_gives = { λ _ fault. fault ≡ NoMemory };
 
     fn from(_error: AllocFailed<T>) -> SchemaFault {
-        SchemaFault::OutOfMemory
+        SchemaFault::NoMemory
     }
 }

@@ -5,7 +5,7 @@ ghost use Rattle.std.specs.Prelude.{OnErr};
 ghost use Rattle.std.specs.FinMap as map;
 ghost use Rattle.schema.specs.Schema.{Tables, AreTables, fault_of, schema_of, tables_eq};
 ghost use Rattle.schema.specs.Rows.{IsRow};
-ghost use Rattle.schema.specs.declared.fault.SchemaFault.TheVariants.{OutOfMemory};
+ghost use Rattle.schema.specs.declared.fault.SchemaFault.TheVariants.{NoMemory};
 
 use crate::fault::SchemaFault;
 use crate::limits::{MAX_TABLE, MAX_WIDTH};
@@ -47,7 +47,7 @@ impl<A: Allocator + Clone> Schema<A> {
         ensures exact { IfOk result (λ schema. schema_of pairs.now ≡ Ok schema) }
         // Which pair is refused, and why, is the definition's; memory may also run out.
         ensures fault { IfErr result (λ fault.
-            (fault ≡ OutOfMemory) ⊎ (schema_of pairs.now ≡ Err fault)) }
+            (fault ≡ NoMemory) ⊎ (schema_of pairs.now ≡ Err fault)) }
         ensures tables { IfOk result AreTables }
     {
         let mut schema = Schema {
@@ -65,7 +65,7 @@ impl<A: Allocator + Clone> Schema<A> {
         ensures added { OnOk result (self.new ≡ map.insert self.old table width) }
         ensures tables { AreTables self.new }
         ensures fault { IfErr result (λ fault.
-            (fault ≡ OutOfMemory) ⊎ (fault_of self.old table width ≡ Some fault)) }
+            (fault ≡ NoMemory) ⊎ (fault_of self.old table width ≡ Some fault)) }
     {
         if let Some(fault) = self.fault(table, width) {
             return Err(fault);

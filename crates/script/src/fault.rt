@@ -2,7 +2,7 @@
 
 ghost use Rattle.std.specs.Prelude.{◌≡◌};
 ghost use Rattle.script.specs.Fault.{number_of_line_fault};
-ghost use Rattle.script.specs.declared.fault.LineFault.TheVariants.{OutOfMemory};
+ghost use Rattle.script.specs.declared.fault.LineFault.TheVariants.{NoMemory};
 
 use std::alloc::AllocError;
 
@@ -17,7 +17,7 @@ pub enum LineFault {
     FieldCount,
     /// A field can't be read, or is outside its limits.
     Field,
-    OutOfMemory,
+    NoMemory,
 }
 
 impl LineFault {
@@ -30,15 +30,15 @@ impl LineFault {
             LineFault::Word => 2,
             LineFault::FieldCount => 3,
             LineFault::Field => 4,
-            LineFault::OutOfMemory => 9,
+            LineFault::NoMemory => 9,
         }
     }
 }
 
 impl From<AllocError> for LineFault {
-    ghost from_gives = { λ _ fault. fault ≡ OutOfMemory };
+    ghost from_gives = { λ _ fault. fault ≡ NoMemory };
 
     fn from(_error: AllocError) -> LineFault {
-        LineFault::OutOfMemory
+        LineFault::NoMemory
     }
 }

@@ -2,7 +2,7 @@
 
 ghost use Rattle.std.specs.Prelude.{◌≡◌, ◌⊎◌, Some, None, MatchResult};
 ghost use Rattle.script.specs.Text.{bytes_of_hex};
-ghost use Rattle.script.specs.declared.fault.LineFault.TheVariants.{OutOfMemory, Field};
+ghost use Rattle.script.specs.declared.fault.LineFault.TheVariants.{NoMemory, Field};
 
 use crate::fault::LineFault;
 use hex::FromHexError;
@@ -13,7 +13,7 @@ use std::alloc::Allocator;
 #[tactic(auto, unfolding(crate::specs::Text::bytes_of_hex))]
 pub(crate) fn read_hex<A: Allocator>(alloc: A, field: &str) -> Result<Bytes<A>, LineFault>
     ensures { MatchResult result (λ bytes. bytes_of_hex field.now ≡ Some bytes)
-        (λ fault. (fault ≡ OutOfMemory) ⊎ ((fault ≡ Field) × (bytes_of_hex field.now ≡ None))) }
+        (λ fault. (fault ≡ NoMemory) ⊎ ((fault ≡ Field) × (bytes_of_hex field.now ≡ None))) }
 {
     if field == "-" {
         return Ok(Bytes::new(Vec::new(alloc)));
@@ -23,7 +23,7 @@ pub(crate) fn read_hex<A: Allocator>(alloc: A, field: &str) -> Result<Bytes<A>, 
     }
     match hex::decode(alloc, field) {
         Ok(bytes) => Ok(Bytes::new(bytes)),
-        Err(FromHexError::OutOfMemory) => Err(LineFault::OutOfMemory),
+        Err(FromHexError::NoMemory) => Err(LineFault::NoMemory),
         Err(_) => Err(LineFault::Field),
     }
 }

@@ -4,7 +4,7 @@ ghost use Rattle.std.specs.Prelude.{◌≡◌, ◌⊎◌, map, Ok, Err, IfOk, If
 ghost use Rattle.script.specs.Text.{is_skipped};
 ghost use Rattle.script.specs.Script.{setting_said, step_said, print_said, statement_of, line_says};
 ghost use Rattle.script.specs.Script.{IsSettingWithinLimits, IsActionWithinLimits, IsWithinLimits};
-ghost use Rattle.script.specs.declared.fault.LineFault.TheVariants.{OutOfMemory};
+ghost use Rattle.script.specs.declared.fault.LineFault.TheVariants.{NoMemory};
 
 use crate::fault::LineFault;
 use crate::fields::{fields, readable_text};
@@ -25,7 +25,7 @@ pub fn statement<A: Allocator + Copy>(
 ) -> Result<Option<Statement<Bytes<A>>>, LineFault>
     ensures exact { IfOk result (λ statement. line_says line.now ≡ Ok statement) }
     // Of several faults the first; or memory is wanting.
-    ensures fault { IfErr result (λ fault. (fault ≡ OutOfMemory) ⊎ (line_says line.now ≡ Err fault)) }
+    ensures fault { IfErr result (λ fault. (fault ≡ NoMemory) ⊎ (line_says line.now ≡ Err fault)) }
     ensures limits { IfOk result (λ statement. IfSome statement IsWithinLimits) }
 {
     let Some(text) = readable_text(line) else {
@@ -52,7 +52,7 @@ fn statement_of<A: Allocator + Copy>(
     fields: &[&str],
 ) -> Result<Statement<Bytes<A>>, LineFault>
     ensures exact { IfOk result (λ statement. statement_of (map (λ field. field.now) fields.now) ≡ Ok statement) }
-    ensures fault { IfErr result (λ fault. (fault ≡ OutOfMemory)
+    ensures fault { IfErr result (λ fault. (fault ≡ NoMemory)
         ⊎ (statement_of (map (λ field. field.now) fields.now) ≡ Err fault)) }
     ensures limits { IfOk result IsWithinLimits }
 {
@@ -75,7 +75,7 @@ fn setting_said<A: Allocator + Copy>(
     fields: &[&str],
 ) -> Result<Setting<Bytes<A>>, LineFault>
     ensures exact { IfOk result (λ setting. setting_said word (map (λ field. field.now) fields.now) ≡ Ok setting) }
-    ensures fault { IfErr result (λ fault. (fault ≡ OutOfMemory)
+    ensures fault { IfErr result (λ fault. (fault ≡ NoMemory)
         ⊎ (setting_said word (map (λ field. field.now) fields.now) ≡ Err fault)) }
     ensures limits { IfOk result IsSettingWithinLimits }
 {
@@ -104,7 +104,7 @@ fn step_said<A: Allocator + Copy>(
     fields: &[&str],
 ) -> Result<Action<Bytes<A>>, LineFault>
     ensures exact { IfOk result (λ action. step_said word (map (λ field. field.now) fields.now) ≡ Ok action) }
-    ensures fault { IfErr result (λ fault. (fault ≡ OutOfMemory)
+    ensures fault { IfErr result (λ fault. (fault ≡ NoMemory)
         ⊎ (step_said word (map (λ field. field.now) fields.now) ≡ Err fault)) }
     ensures limits { IfOk result IsActionWithinLimits }
 {

@@ -13,7 +13,7 @@ use Rattle.dsm_model.specs.World.{World}
 use Rattle.script.specs.Script.{ScriptAction}
 use Rattle.script_actions.specs.Actions.{Does}
 use Rattle.script_actions.specs.declared.failure.Failure.{Failure}
-use Rattle.script_actions.specs.declared.failure.Failure.TheVariants.{OutOfMemory, Output}
+use Rattle.script_actions.specs.declared.failure.Failure.TheVariants.{NoMemory, Output}
 use Rattle.script_actions.specs.Doing.{PassesBeginning, Gives, HasDone, LosesNothing}
 
 -- nothing is a beginning of any text
@@ -55,11 +55,11 @@ gives_done contents w before c a b (Err x) after text does given = (text, after,
 -- ---- nothing is lost where memory was wanting
 
 pub nothing_lost : {W : Type 0} (contents : W → Option (List ℕ)) (a : PagedOutput W) (failure : Failure) → LosesNothing contents a a failure
-nothing_lost contents a OutOfMemory = ([], nothing_given contents a)
+nothing_lost contents a NoMemory = ([], nothing_given contents a)
 nothing_lost contents a (Output error) = tt
 
 pub nothing_lost_behind : {W : Type 0} (contents : W → Option (List ℕ)) (a b c : PagedOutput W) (text : List ℕ) (failure : Failure) → Passes contents a b text → LosesNothing contents b c failure → LosesNothing contents a c failure
-nothing_lost_behind contents a b c text OutOfMemory given (more, rest) = (text ++ more, Passes-then contents a b c text more given rest)
+nothing_lost_behind contents a b c text NoMemory given (more, rest) = (text ++ more, Passes-then contents a b c text more given rest)
 nothing_lost_behind contents a b c text (Output error) given kept = tt
 
 pub none_lost_behind : {T W : Type 0} (contents : W → Option (List ℕ)) (a b c : PagedOutput W) (text : List ℕ) (result : Result T Failure) → Passes contents a b text → IfErr result (LosesNothing contents b c) → IfErr result (LosesNothing contents a c)

@@ -7,7 +7,7 @@ use Rattle.log_model.specs.Log.{Setting}
 use Rattle.dsm_model.specs.World.{World}
 use Rattle.script.specs.Script.{ScriptAction}
 use Rattle.script_actions.specs.declared.failure.Failure.{Failure}
-use Rattle.script_actions.specs.declared.failure.Failure.TheVariants.{OutOfMemory, Output}
+use Rattle.script_actions.specs.declared.failure.Failure.TheVariants.{NoMemory, Output}
 use Rattle.script_actions.specs.Actions.{Does}
 
 -- what was pending and then a beginning of the text: some of that left, and the rest is pending
@@ -28,5 +28,5 @@ HasDone contents w before c old new (Err _) now =
 
 -- where memory was wanting nothing is lost: what was pending, and what was given since, has left or is pending
 abbrev pub LosesNothing : {W : Type 0} → (W → Option (List ℕ)) → PagedOutput W → PagedOutput W → Failure → Type 0
-LosesNothing contents old new OutOfMemory = (text : List ℕ) × Passes contents old new text
+LosesNothing contents old new NoMemory = (text : List ℕ) × Passes contents old new text
 LosesNothing contents old new (Output error) = Unit {0}

@@ -1,7 +1,7 @@
 //! Why a line wasn't done to its end.
 
 ghost use Rattle.std.specs.Prelude.{◌≡◌};
-ghost use Rattle.script_actions.specs.declared.failure.Failure.TheVariants.{OutOfMemory, Output};
+ghost use Rattle.script_actions.specs.declared.failure.Failure.TheVariants.{NoMemory, Output};
 
 use std::alloc::AllocError;
 use std::io;
@@ -10,16 +10,16 @@ use std::io;
 #[derive(Debug, Drop)]
 pub enum Failure {
     /// There was no memory for what it prints.
-    OutOfMemory,
+    NoMemory,
     /// The output failed.
     Output(io::Error),
 }
 
 impl From<AllocError> for Failure {
-    ghost from_gives = { λ _ failure. failure ≡ OutOfMemory };
+    ghost from_gives = { λ _ failure. failure ≡ NoMemory };
 
     fn from(_error: AllocError) -> Failure {
-        Failure::OutOfMemory
+        Failure::NoMemory
     }
 }
 

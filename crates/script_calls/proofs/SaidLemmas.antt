@@ -3,7 +3,7 @@ use Rattle.std.proofs.Common.{◌≡◌, ◌⊎◌, inl, inr, ℕ, ◌+◌, List
 use Rattle.script.specs.Text.{lines_of}
 use Rattle.script.specs.Script.{line_says}
 use Rattle.script_settings.specs.declared.cause.FaultCause.{FaultCause}
-use Rattle.script_settings.specs.declared.cause.FaultCause.TheVariants.{OutOfMemory}
+use Rattle.script_settings.specs.declared.cause.FaultCause.TheVariants.{NoMemory}
 use Rattle.script_settings.specs.declared.cause.ScriptFault.{ScriptFault}
 use Rattle.script_stops.specs.declared.stop.Stop.{Stop}
 use Rattle.script_stops.specs.declared.stop.Stop.TheVariants.{Fault}
@@ -38,7 +38,7 @@ goes_on whole said next number left more line is first taken =
 
 pub stops : (whole : Result Said ScriptFault) (said : Said) (number : ℕ) (left more : List (List ℕ)) (line : List ℕ) (cause : FaultCause) (stop : Stop)
     → whole ≡ said_from said number left → left ≡ line ∷ more
-    → (cause ≡ OutOfMemory) ⊎ (after_line said (line_says line) ≡ Err cause) → stop ≡ Fault (fault_at number cause) → IsStopOf whole stop
+    → (cause ≡ NoMemory) ⊎ (after_line said (line_says line) ≡ Err cause) → stop ≡ Fault (fault_at number cause) → IsStopOf whole stop
 stops whole said number left more line cause stop is first (inl out) told = rw told (inl out)
 stops whole said number left more line cause stop is first (inr faulty) told =
     rw told (inr (by_line whole said number left more line is first

@@ -1,6 +1,6 @@
 -- What the code's values stand for, and why a script isn't read.
 use Rattle.std.specs.Prelude.{◌≡◌, ◌⊎◌, Some, Result, Err}
-use Rattle.script_settings.specs.declared.cause.FaultCause.TheVariants.{OutOfMemory}
+use Rattle.script_settings.specs.declared.cause.FaultCause.TheVariants.{NoMemory}
 use Rattle.script_settings.specs.declared.cause.ScriptFault.{ScriptFault}
 use Rattle.script_stops.specs.declared.stop.Stop.{Stop}
 use Rattle.script_stops.specs.declared.stop.Stop.TheVariants.{Fault, Input, Output}
@@ -20,6 +20,6 @@ said_by script = record {
 
 -- it is at fault so, or memory was wanting, or the input failed
 abbrev pub IsStopOf : Result Said ScriptFault → Stop → Type 0
-IsStopOf said (Fault fault) = (fault.cause ≡ OutOfMemory) ⊎ (said ≡ Err fault)
+IsStopOf said (Fault fault) = (fault.cause ≡ NoMemory) ⊎ (said ≡ Err fault)
 IsStopOf said (Input error) = Unit {0}
 IsStopOf said (Output error) = ⊥

@@ -2,7 +2,7 @@
 
 ghost use Rattle.std.specs.Prelude.{◌≡◌, ◌⊎◌, ◌≤◌, Some, Ok, Err, IfOk, IfErr, OnOk, OnErr};
 ghost use Rattle.script.specs.Script.{IsSettingWithinLimits, line_says};
-ghost use Rattle.script_settings.specs.declared.cause.FaultCause.TheVariants.{OutOfMemory};
+ghost use Rattle.script_settings.specs.declared.cause.FaultCause.TheVariants.{NoMemory};
 ghost use Rattle.script_calls.specs.Calls.{after_line, call_of, nothing_said, with_call, with_setting};
 ghost use Rattle.script_calls.specs.Reading.{so_far};
 
@@ -33,7 +33,7 @@ impl<A: Allocator + Copy> Reading<A> {
     /// Takes one more line.
     pub(crate) fn take_line(&mut self, alloc: A, line: &[u8]) -> Result<(), FaultCause>
         ensures ok { OnOk result (after_line (so_far self.old) (line_says line.now) ≡ Ok (so_far self.new)) }
-        ensures fault { IfErr result (λ cause. (cause ≡ OutOfMemory)
+        ensures fault { IfErr result (λ cause. (cause ≡ NoMemory)
             ⊎ (after_line (so_far self.old) (line_says line.now) ≡ Err cause)) }
     {
         match statement(alloc, line)? {
@@ -47,7 +47,7 @@ impl<A: Allocator + Copy> Reading<A> {
     fn set(&mut self, setting: Setting<Bytes<A>>) -> Result<(), FaultCause>
         requires { IsSettingWithinLimits setting }
         ensures ok { OnOk result (with_setting (so_far self.old) setting ≡ Ok (so_far self.new)) }
-        ensures fault { IfErr result (λ cause. (cause ≡ OutOfMemory)
+        ensures fault { IfErr result (λ cause. (cause ≡ NoMemory)
             ⊎ (with_setting (so_far self.old) setting ≡ Err cause)) }
     {
         if !self.calls.is_empty() {
@@ -59,7 +59,7 @@ impl<A: Allocator + Copy> Reading<A> {
     /// Takes an action: only one that begins a call may stand.
     fn begin(&mut self, action: Action<Bytes<A>>) -> Result<(), FaultCause>
         ensures ok { OnOk result (with_call (so_far self.old) (call_of action) ≡ Ok (so_far self.new)) }
-        ensures fault { IfErr result (λ cause. (cause ≡ OutOfMemory)
+        ensures fault { IfErr result (λ cause. (cause ≡ NoMemory)
             ⊎ (with_call (so_far self.old) (call_of action) ≡ Err cause)) }
     {
         match call_of(action) {
@@ -71,7 +71,7 @@ impl<A: Allocator + Copy> Reading<A> {
     /// Takes a call.
     fn add(&mut self, call: ScriptCall<Bytes<A>>) -> Result<(), FaultCause>
         ensures ok { OnOk result (with_call (so_far self.old) (Some call) ≡ Ok (so_far self.new)) }
-        ensures fault { IfErr result (λ cause. (cause ≡ OutOfMemory)
+        ensures fault { IfErr result (λ cause. (cause ≡ NoMemory)
             ⊎ (with_call (so_far self.old) (Some call) ≡ Err cause)) }
     {
         if self.settings.window().is_none() || self.settings.replicas().is_none() {
@@ -79,7 +79,7 @@ impl<A: Allocator + Copy> Reading<A> {
         }
         match self.calls.push(call) {
             Ok(()) => Ok(()),
-            Err(_) => Err(FaultCause::OutOfMemory),
+            Err(_) => Err(FaultCause::NoMemory),
         }
     }
 }

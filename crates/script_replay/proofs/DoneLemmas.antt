@@ -11,11 +11,11 @@ use Rattle.script.specs.declared.fault.LineFault.TheVariants as line
 use Rattle.script.specs.declared.statements.Statement.TheVariants as statement
 use Rattle.script.specs.Script.{ScriptStatement, ScriptAction, line_says}
 use Rattle.script_settings.specs.declared.cause.FaultCause.{FaultCause}
-use Rattle.script_settings.specs.declared.cause.FaultCause.TheVariants.{OutOfMemory}
+use Rattle.script_settings.specs.declared.cause.FaultCause.TheVariants.{NoMemory}
 use Rattle.script_settings.specs.Fault.{cause_of_line_fault}
 use Rattle.script_settings.specs.Settings.{ScriptSettings}
 use Rattle.script_actions.specs.declared.failure.Failure.{Failure}
-use Rattle.script_actions.specs.declared.failure.Failure.TheVariants.{OutOfMemory as Wanting}
+use Rattle.script_actions.specs.declared.failure.Failure.TheVariants.{NoMemory as Wanting}
 use Rattle.script_actions.specs.Doing.{HasDone, LosesNothing}
 use Rattle.script_replay.specs.declared.stage.Stage as code
 use Rattle.script_stops.specs.declared.stop.Stop.{Stop}
@@ -76,13 +76,13 @@ broke contents n w before now c old new (here, after, does, passes) more =
     (here ++ rest.0, rest.1, (here, rest.0, after, does, refl, rest.2), PassesBeginning-more contents old new here rest.0 passes)
 
 -- memory was wanting
-pub wanting : {W : Type 0} (contents : W → Option (List ℕ)) (n : ℕ) (old new : PagedOutput W) (P : List ℕ → Ending → Type 0) (stop : Stop) → stop ≡ Fault (record { line = n; cause = OutOfMemory }) → GivesBeginning contents old new P
+pub wanting : {W : Type 0} (contents : W → Option (List ℕ)) (n : ℕ) (old new : PagedOutput W) (P : List ℕ → Ending → Type 0) (stop : Stop) → stop ≡ Fault (record { line = n; cause = NoMemory }) → GivesBeginning contents old new P
     → GivesUpTo contents old new P stop
 wanting contents n old new P stop e h = subst (GivesUpTo contents old new P) (sym e) (inl (refl, h))
 
 -- ---- which stops are faults by an effect
 
-pub fault_of_line : (n : ℕ) (stage : Stage) (said : Result (Option ScriptStatement) LineFault) (fault : LineFault) (cause : FaultCause) (stop : Stop) → (fault ≡ line.OutOfMemory) ⊎ (said ≡ Err fault)
+pub fault_of_line : (n : ℕ) (stage : Stage) (said : Result (Option ScriptStatement) LineFault) (fault : LineFault) (cause : FaultCause) (stop : Stop) → (fault ≡ line.NoMemory) ⊎ (said ≡ Err fault)
     → cause ≡ cause_of_line_fault fault → stop ≡ Fault (record { line = n; cause = cause }) → IsFaultOf n (effect_of stage said) stop
 fault_of_line n stage said fault cause stop (inl memory) is e = subst (IsFaultOf n (effect_of stage said)) (sym e) (refl, inl (is ∙ ap cause_of_line_fault memory))
 fault_of_line n stage said fault cause stop (inr says) is e =
@@ -137,7 +137,7 @@ pub faults_stop_by : {T W : Type 0} (contents : W → Option (List ℕ)) (n : �
 faults_stop_by contents n a page (Ok t) passed stop e same h = tt
 faults_stop_by contents n a page (Err given) passed stop e same h = let is : stop ≡ given = cc in subst (StopsBy contents n page page) is (fault_stops contents n a page stop h)
 
-pub wanting_stops : {W : Type 0} (contents : W → Option (List ℕ)) (n : ℕ) (old new : PagedOutput W) (stop : Stop) (failure : Failure) → stop ≡ Fault (record { line = n; cause = OutOfMemory }) → failure ≡ Wanting
+pub wanting_stops : {W : Type 0} (contents : W → Option (List ℕ)) (n : ℕ) (old new : PagedOutput W) (stop : Stop) (failure : Failure) → stop ≡ Fault (record { line = n; cause = NoMemory }) → failure ≡ Wanting
     → LosesNothing contents old new failure → StopsBy contents n old new stop
 wanting_stops contents n old new stop failure is wants kept =
     let given = subst (LosesNothing contents old new) wants kept in subst (StopsBy contents n old new) (sym is) (refl, given.0, given.1)

@@ -7,7 +7,7 @@ use Rattle.byte_output.proofs.PendingLemmas.{Passes-then}
 use Rattle.script.specs.declared.fault.LineFault.TheVariants.{Bytes}
 use Rattle.script.specs.Text.{lines_of}
 use Rattle.script.specs.Script.{line_says}
-use Rattle.script_settings.specs.declared.cause.FaultCause.TheVariants.{Line, OutOfMemory}
+use Rattle.script_settings.specs.declared.cause.FaultCause.TheVariants.{Line, NoMemory}
 use Rattle.script_settings.specs.declared.cause.ScriptFault.{ScriptFault}
 use Rattle.script_replay.specs.declared.stage.Stage as code
 use Rattle.script_stops.specs.declared.stop.Stop.{Stop}
@@ -138,7 +138,7 @@ beginning_of contents old new P fault (inr (text, prints, passes)) =
     (text, Faulty fault, prints, subst (PassesBeginning contents old new) (append-nil text) (PassesBeginning-front contents old new text [] passes))
 
 -- no line was read
-pub wants_first : {W : Type 0} (contents : W → Option (List ℕ)) (bytes : List ℕ) (left : Option (List ℕ)) (page : PagedOutput W) (stop : Stop) → stop ≡ Fault (record { line = 0; cause = OutOfMemory }) → left ≡ Some bytes
+pub wants_first : {W : Type 0} (contents : W → Option (List ℕ)) (bytes : List ℕ) (left : Option (List ℕ)) (page : PagedOutput W) (stop : Stop) → stop ≡ Fault (record { line = 0; cause = NoMemory }) → left ≡ Some bytes
     → GivesUpToWant contents bytes left page page stop
 wants_first contents bytes left page stop is read =
     subst (GivesUpToWant contents bytes left page page) (sym is) (λ w. inl (record { zero = refl; read = read; given = Passes-nothing contents page }))

@@ -8,7 +8,7 @@ use Rattle.byte_output.specs.Writes.{AppendsBeginning}
 use Rattle.byte_output.proofs.PendingLemmas.{Writes-finished}
 use Rattle.script_stops.specs.Telling.{FAILED, SaysEnd, SaysStream, fault_line, status_of_cause}
 use Rattle.script_settings.specs.declared.cause.FaultCause.{FaultCause}
-use Rattle.script_settings.specs.declared.cause.FaultCause.TheVariants.{Line, Place, Table, Program, Refused, Procedure, OutOfMemory}
+use Rattle.script_settings.specs.declared.cause.FaultCause.TheVariants.{Line, Place, Table, Program, Refused, Procedure, NoMemory}
 use Rattle.script_actions.specs.Doing.{PassesBeginning}
 use Rattle.script_stops.specs.declared.stop.Stop.{Stop}
 use Rattle.script_stops.specs.declared.stop.Stop.TheVariants.{Fault, Input, Output}
@@ -126,7 +126,7 @@ memory_or_not (Table fault) status e = inr e
 memory_or_not (Program fault) status e = inr e
 memory_or_not (Refused refusal) status e = inr e
 memory_or_not (Procedure fault) status e = inr e
-memory_or_not OutOfMemory status e = inl e
+memory_or_not NoMemory status e = inl e
 
 pub told_stopped : (old new old_faults new_faults : Option (List ℕ)) (P : List ℕ → Ending → Type 0) (stop : Stop) (status : ℕ) → WritesReplay {T = ℕ} old new P (Err stop) → SaysEnd old_faults new_faults stop status
     → SomeTold old new old_faults new_faults status P
@@ -146,14 +146,14 @@ if_known (Some bytes) P h = h bytes refl
 
 -- ---- where something failed
 
-wants : (cause : FaultCause) → status_of_cause cause ≡ FAILED → cause ≡ OutOfMemory
+wants : (cause : FaultCause) → status_of_cause cause ≡ FAILED → cause ≡ NoMemory
 wants (Line fault) e = absurd cc
 wants Place e = absurd cc
 wants (Table fault) e = absurd cc
 wants (Program fault) e = absurd cc
 wants (Refused refusal) e = absurd cc
 wants (Procedure fault) e = absurd cc
-wants OutOfMemory e = refl
+wants NoMemory e = refl
 
 -- the line at which memory was wanting is told, or what a stream says
 pub told_failed : (bytes : List ℕ) (left old new old_faults new_faults : Option (List ℕ)) (stop : Stop) (status : ℕ) → WritesUpToWant bytes left old new stop → SaysEnd old_faults new_faults stop status → status ≡ FAILED

@@ -7,7 +7,7 @@ use Rattle.byte_output.specs.Pending.{Passes}
 use Rattle.byte_output.specs.Writes.{AppendsBeginning}
 use Rattle.script.specs.Text.{lines_of}
 use Rattle.script_actions.specs.Actions.{setting_of, world_of}
-use Rattle.script_settings.specs.declared.cause.FaultCause.TheVariants.{OutOfMemory}
+use Rattle.script_settings.specs.declared.cause.FaultCause.TheVariants.{NoMemory}
 use Rattle.script_actions.specs.Doing.{PassesBeginning}
 use Rattle.script_replay.specs.declared.stage.Stage as code
 use Rattle.script_replay.specs.declared.stage.Stage.TheVariants.{SettingUp as SettingUpCode, Acting as ActingCode}
@@ -35,7 +35,7 @@ PrintsFrom number effect more text ending =
 
 -- a line is at fault by its effect, or memory was wanting
 abbrev pub IsFaultOf : ℕ → Effect → Stop → Type 0
-IsFaultOf number effect (Fault fault) = (fault.line ≡ number) × ((fault.cause ≡ OutOfMemory) ⊎ (effect ≡ Fails fault.cause))
+IsFaultOf number effect (Fault fault) = (fault.line ≡ number) × ((fault.cause ≡ NoMemory) ⊎ (effect ≡ Fails fault.cause))
 IsFaultOf number effect _ = ⊥
 
 -- a beginning of what may be printed was given
@@ -45,7 +45,7 @@ GivesBeginning contents old new P = (text : List ℕ) × (ending : Ending) × P 
 -- it was given to a fault that is no want of memory, or up to where something failed
 abbrev pub GivesUpTo : {W : Type 0} → (W → Option (List ℕ)) → PagedOutput W → PagedOutput W → Printable → Stop → Type 0
 GivesUpTo contents old new P (Fault fault) =
-    ((fault.cause ≡ OutOfMemory) × GivesBeginning contents old new P) ⊎ ((text : List ℕ) × P text (Faulty fault) × Passes contents old new text)
+    ((fault.cause ≡ NoMemory) × GivesBeginning contents old new P) ⊎ ((text : List ℕ) × P text (Faulty fault) × Passes contents old new text)
 GivesUpTo contents old new P _ = GivesBeginning contents old new P
 
 -- an effect came about, and the lines behind it go on from a stage; or it stopped there
@@ -90,11 +90,11 @@ pub record GivesNoLines {W : Type 0} (contents : W → Option (List ℕ)) (bytes
 -- where memory was wanting
 abbrev pub GivesUpToWant : {W : Type 0} → (W → Option (List ℕ)) → List ℕ → Option (List ℕ) → PagedOutput W → PagedOutput W → Stop → Type 0
 GivesUpToWant contents bytes left old new (Fault fault) =
-    fault.cause ≡ OutOfMemory → GivesNoLines contents bytes left old new fault.line ⊎ GivesUpToLine contents bytes left old new fault.line
+    fault.cause ≡ NoMemory → GivesNoLines contents bytes left old new fault.line ⊎ GivesUpToLine contents bytes left old new fault.line
 GivesUpToWant contents bytes left old new _ = Unit {0}
 
 abbrev pub WritesUpToWant : List ℕ → Option (List ℕ) → Option (List ℕ) → Option (List ℕ) → Stop → Type 0
-WritesUpToWant bytes left old new (Fault fault) = fault.cause ≡ OutOfMemory → StopsAt bytes left old new fault.line
+WritesUpToWant bytes left old new (Fault fault) = fault.cause ≡ NoMemory → StopsAt bytes left old new fault.line
 WritesUpToWant bytes left old new _ = Unit {0}
 
 abbrev pub GivesReplay : {T W : Type 0} → (W → Option (List ℕ)) → PagedOutput W → PagedOutput W → Printable → Result T Stop → Type 0
@@ -113,5 +113,5 @@ WritesBeginning old new P = (text : List ℕ) × (ending : Ending) × P text end
 abbrev pub WritesReplay : {T : Type 0} → Option (List ℕ) → Option (List ℕ) → Printable → Result T Stop → Type 0
 WritesReplay old new P (Ok _) = (text : List ℕ) × P text Finished × Appends old new text
 WritesReplay old new P (Err (Fault fault)) =
-    ((fault.cause ≡ OutOfMemory) × WritesBeginning old new P) ⊎ ((text : List ℕ) × P text (Faulty fault) × Appends old new text)
+    ((fault.cause ≡ NoMemory) × WritesBeginning old new P) ⊎ ((text : List ℕ) × P text (Faulty fault) × Appends old new text)
 WritesReplay old new P (Err _) = WritesBeginning old new P

@@ -3,7 +3,7 @@ use Rattle.std.specs.Prelude.{◌≡◌, ◌⊎◌, ℕ, ◌+◌, List, [], ◌�
 use Rattle.std.specs.Io.KnownBytes.{Appends}
 use Rattle.byte_output.specs.Writes.{AppendsBeginning}
 use Rattle.script.specs.Text.{lines_of}
-use Rattle.script_settings.specs.declared.cause.FaultCause.TheVariants.{OutOfMemory}
+use Rattle.script_settings.specs.declared.cause.FaultCause.TheVariants.{NoMemory}
 use Rattle.script_stops.specs.Telling.{FAILED, fault_line}
 use Rattle.script_replay.specs.Stage.{first_stage}
 use Rattle.script_replay.specs.Replay.{Ending, Finished, Faulty, Prints}
@@ -55,4 +55,4 @@ StopsAt bytes left old new number = StopsBeforeLines bytes left old new number �
 
 -- as `line 4: L9`
 abbrev pub memory_line : ℕ → List ℕ
-memory_line number = fault_line (record { line = number; cause = OutOfMemory })
+memory_line number = fault_line (record { line = number; cause = NoMemory })

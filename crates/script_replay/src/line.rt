@@ -156,7 +156,7 @@ fn act_on<A: Allocator + Copy, W: Write>(
     let mut world = world;
     match act(alloc, &mut world, output, action) {
         Ok(()) => Ok(Stage::Acting(world)),
-        Err(Failure::OutOfMemory) => Err(out_of_memory(number)),
+        Err(Failure::NoMemory) => Err(out_of_memory(number)),
         Err(Failure::Output(error)) => Err(Stop::Output(error)),
     }
 }

@@ -10,7 +10,7 @@ use Rattle.report.specs.declared.printed.Line.TheVariants.{Answered, Totals, Rep
 use Rattle.log_model.specs.Log.{Setting}
 use Rattle.script_calls.specs.Calls.{Said, script_says}
 use Rattle.script_calls.specs.declared.call.ScriptCall.{ScriptCall}
-use Rattle.script_settings.specs.declared.cause.FaultCause.TheVariants.{OutOfMemory}
+use Rattle.script_settings.specs.declared.cause.FaultCause.TheVariants.{NoMemory}
 use Rattle.script_settings.specs.declared.cause.ScriptFault.{ScriptFault}
 use Rattle.script_settings.specs.Settings.{ScriptSettings}
 use Rattle.script_stops.specs.Telling.{fault_line}
@@ -89,4 +89,4 @@ abbrev pub PrintsReport : Option (List ℕ) → Option (List ℕ) → List ℕ �
 PrintsReport old new text (Ok done) = Appends old new text
 PrintsReport old new text (Err (stop.Output error)) = AppendsBeginning old new text
 PrintsReport old new text (Err (stop.Input error)) = ⊥
-PrintsReport old new text (Err (stop.Fault fault)) = (fault.cause ≡ OutOfMemory) × AppendsBeginning old new text
+PrintsReport old new text (Err (stop.Fault fault)) = (fault.cause ≡ NoMemory) × AppendsBeginning old new text

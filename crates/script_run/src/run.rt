@@ -35,7 +35,7 @@ use tallies::{Blanks, Counts, Ledgers};
 /// Why a run ends before it has printed anything.
 #[derive(Clone, Copy, Drop)]
 enum Failure {
-    OutOfMemory,
+    NoMemory,
     Start(StartFault),
 }
 
@@ -90,7 +90,7 @@ pub fn run_over<R: Threads + Wait + Copy + Send + Sync + 'static, I: BufRead, W:
     };
     let report = match run_script(rt, alloc, script, faults, options) {
         Ok(report) => report,
-        Err(Failure::OutOfMemory) => return tell(faults, out_of_memory(0)),
+        Err(Failure::NoMemory) => return tell(faults, out_of_memory(0)),
         Err(Failure::Start(fault)) => {
             let _ = writeln!(faults, "dsmdb: {}", start_fault_text(fault));
             return FAILED;
@@ -150,7 +150,7 @@ fn run_script<R: Threads + Wait + Copy + Send + Sync + 'static, E: Write>(
         calls,
     } = script;
     let Ok(cells) = GroupCells::new(alloc) else {
-        return Err(Failure::Start(StartFault::OutOfMemory));
+        return Err(Failure::Start(StartFault::NoMemory));
     };
     let size = Size {
         replicas,
@@ -199,7 +199,7 @@ fn run_on_node<
     ensures silent { shows_progress ≡ false → faults.new ≡ faults.old }
 {
     let Ok(asking) = Asking::<J>::new(alloc, &catalogue, size.replicas, calls) else {
-        return Err(Failure::OutOfMemory);
+        return Err(Failure::NoMemory);
     };
     let started = Node::<J, OpenGate>::start_sized(
         rt, alloc, cells, blanks, size, catalogue, OpenGate,
@@ -221,10 +221,10 @@ fn run_on_node<
     let mut totals = finish.totals;
     totals.other = totals.other.saturating_add(asking.unnamed());
     let Ok((answers, mut log)) = answered else {
-        return Err(Failure::OutOfMemory);
+        return Err(Failure::NoMemory);
     };
     let Ok(replicas) = ends_of(alloc, &mut log, &finish.replicas) else {
-        return Err(Failure::OutOfMemory);
+        return Err(Failure::NoMemory);
     };
     Ok(Report {
         answers,
@@ -259,7 +259,7 @@ fn start_fault_text(fault: StartFault) -> &'static str {
         StartFault::Replicas => "N1: replicas outside 1 to 8",
         StartFault::Executors => "N2: executing threads outside 1 to 16",
         StartFault::Window => "N3: window outside 1 to 4096",
-        StartFault::OutOfMemory => "N4: out of memory",
+        StartFault::NoMemory => "N4: out of memory",
         StartFault::NoThread => "N5: a thread wasn't started",
         StartFault::Limit => "N6: limit of the log outside 1 to 1048576",
     }

@@ -4,7 +4,7 @@ use Rattle.std.specs.FinMap.{insert, empty}
 use Rattle.schema.specs.declared.fault.SchemaFault.{SchemaFault}
 use Rattle.catalogue.specs.Catalogue.{SystemCatalogue}
 use Rattle.script_settings.specs.declared.cause.FaultCause.{FaultCause}
-use Rattle.script_settings.specs.declared.cause.FaultCause.TheVariants.{Table, Place, OutOfMemory}
+use Rattle.script_settings.specs.declared.cause.FaultCause.TheVariants.{Table, Place, NoMemory}
 use Rattle.script_settings.specs.Settings.{caused, then_with, without_procedures, with_table}
 use Rattle.schema.specs.Schema.{Tables, fault_of, fault_or, with_pairs, schema_of}
 
@@ -44,7 +44,7 @@ with_table-made c pairs more table width tables e m none made =
     with_table-by_schema c pairs more table width e m none ∙ ap (λ (r : Result Tables SchemaFault). then_with (caused Table r) without_procedures) made
 
 pub with_table-refused : (c : SystemCatalogue) (pairs more given : List (ℕ × ℕ)) (table width : ℕ) (cause : FaultCause) → schema_of pairs ≡ Ok c.tables → more ≡ pairs ++ (table, width) ∷ [] → (length c.procedures == 0) ≡ true → given ≡ more
-    → (cause ≡ OutOfMemory) ⊎ (caused Table (schema_of given) ≡ Err cause) → (cause ≡ OutOfMemory) ⊎ (with_table c table width ≡ Err cause)
+    → (cause ≡ NoMemory) ⊎ (caused Table (schema_of given) ≡ Err cause) → (cause ≡ NoMemory) ⊎ (with_table c table width ≡ Err cause)
 with_table-refused c pairs more given table width cause e m none same (inl out) = inl out
 with_table-refused c pairs more given table width cause e m none same (inr told) =
     inr (with_table-by_schema c pairs more table width e m none ∙ ap (λ (xs : List (ℕ × ℕ)). then_with (caused Table (schema_of xs)) without_procedures) (sym same)

@@ -9,11 +9,11 @@ use Rattle.script.specs.declared.fault.LineFault.{LineFault}
 use Rattle.script.specs.declared.fault.LineFault.TheVariants as line
 use Rattle.script.specs.Fault.{number_of_line_fault}
 use Rattle.script_settings.specs.declared.cause.FaultCause.{FaultCause}
-use Rattle.script_settings.specs.declared.cause.FaultCause.TheVariants.{Line, Place, Table, Program, Refused, Procedure, OutOfMemory}
+use Rattle.script_settings.specs.declared.cause.FaultCause.TheVariants.{Line, Place, Table, Program, Refused, Procedure, NoMemory}
 use Rattle.script_settings.specs.declared.cause.ScriptFault.{ScriptFault}
 
 abbrev pub cause_of_line_fault : LineFault → FaultCause
-cause_of_line_fault line.OutOfMemory = OutOfMemory
+cause_of_line_fault line.NoMemory = NoMemory
 cause_of_line_fault fault = Line fault
 
 -- as `L4`, `L6 S1`, `L7 V5 slot 6` or `L8 C4`
@@ -24,7 +24,7 @@ cause_text (Table fault) = codes "L6 " ++ schema.fault_text fault
 cause_text (Program fault) = codes "L7 " ++ decoding.fault_text fault
 cause_text (Refused refusal) = codes "L7 " ++ refusal_text refusal
 cause_text (Procedure fault) = codes "L8 " ++ catalogue.fault_text fault
-cause_text OutOfMemory = codes "L9"
+cause_text NoMemory = codes "L9"
 
 -- as `line 4: L7 V5 slot 6`
 abbrev pub script_fault_text : ScriptFault → List ℕ

@@ -2,7 +2,7 @@
 
 ghost use Rattle.std.specs.Prelude.{◌≡◌};
 ghost use Rattle.script_settings.specs.Fault.{cause_of_line_fault};
-ghost use Rattle.script_settings.specs.declared.cause.FaultCause.TheVariants.{OutOfMemory};
+ghost use Rattle.script_settings.specs.declared.cause.FaultCause.TheVariants.{NoMemory};
 
 use bpf_code::DecodeFault;
 use bpf_verify::Refusal;
@@ -28,7 +28,7 @@ pub enum FaultCause {
     Refused(Refusal),
     /// The procedure can't be stored.
     Procedure(CatalogueFault),
-    OutOfMemory,
+    NoMemory,
 }
 
 impl fmt::Display for FaultCause {
@@ -48,7 +48,7 @@ impl fmt::Display for FaultCause {
             FaultCause::Program(fault) => write!(f, "L7 {fault}"),
             FaultCause::Refused(refusal) => write!(f, "L7 {refusal}"),
             FaultCause::Procedure(fault) => write!(f, "L8 {fault}"),
-            FaultCause::OutOfMemory => write!(f, "L9"),
+            FaultCause::NoMemory => write!(f, "L9"),
         }
     }
 }
@@ -60,17 +60,17 @@ impl From<LineFault> for FaultCause {
 
     fn from(fault: LineFault) -> FaultCause {
         match fault {
-            LineFault::OutOfMemory => FaultCause::OutOfMemory,
+            LineFault::NoMemory => FaultCause::NoMemory,
             fault => FaultCause::Line(fault),
         }
     }
 }
 
 impl From<AllocError> for FaultCause {
-    ghost from_gives = { λ _ cause. cause ≡ OutOfMemory };
+    ghost from_gives = { λ _ cause. cause ≡ NoMemory };
 
     fn from(_error: AllocError) -> FaultCause {
-        FaultCause::OutOfMemory
+        FaultCause::NoMemory
     }
 }
 

@@ -4,7 +4,7 @@ ghost use Rattle.std.specs.Prelude.{◌≡◌, ◌⊎◌, ◌≤◌, None, Some,
 ghost use Rattle.schema.specs.declared.limits.TheConstants.{MAX_ARGUMENTS};
 ghost use Rattle.bpf_code.specs.Decoding.{program_of};
 ghost use Rattle.script_settings.specs.Settings.{caused, verified, program_for, with_procedure};
-ghost use Rattle.script_settings.specs.declared.cause.FaultCause.TheVariants.{OutOfMemory, Program};
+ghost use Rattle.script_settings.specs.declared.cause.FaultCause.TheVariants.{NoMemory, Program};
 
 use crate::cause::FaultCause;
 use bpf_code::{Code, DecodeCause, decode};
@@ -26,7 +26,7 @@ pub(crate) fn add_procedure<A: Allocator + Copy>(
 ) -> Result<(), FaultCause>
     requires { args_len ≤ MAX_ARGUMENTS }
     ensures ok { OnOk result (with_procedure catalogue.old name.now number args_len bytes.now ≡ Ok catalogue.new) }
-    ensures fault { IfErr result (λ cause. (cause ≡ OutOfMemory)
+    ensures fault { IfErr result (λ cause. (cause ≡ NoMemory)
         ⊎ (with_procedure catalogue.old name.now number args_len bytes.now ≡ Err cause)) }
     ensures unchanged { OnErr result (catalogue.new ≡ catalogue.old) }
     ensures tables { catalogue.new.tables ≡ catalogue.old.tables }
@@ -35,7 +35,7 @@ pub(crate) fn add_procedure<A: Allocator + Copy>(
     let accepted = accepted(alloc, code, catalogue.schema(), args_len)?;
     match catalogue.add(name, number, accepted) {
         Ok(()) => Ok(()),
-        Err(CatalogueFault::OutOfMemory) => Err(FaultCause::OutOfMemory),
+        Err(CatalogueFault::NoMemory) => Err(FaultCause::NoMemory),
         Err(fault) => Err(FaultCause::Procedure(fault)),
     }
 }
@@ -43,13 +43,13 @@ pub(crate) fn add_procedure<A: Allocator + Copy>(
 /// The program of some bytes.
 fn program<A: Allocator>(alloc: A, bytes: &[u8]) -> Result<Code<A>, FaultCause>
     ensures ok { IfOk result (λ code. program_of bytes.now ≡ Ok code) }
-    ensures fault { IfErr result (λ cause. (cause ≡ OutOfMemory)
+    ensures fault { IfErr result (λ cause. (cause ≡ NoMemory)
         ⊎ (caused Program (program_of bytes.now) ≡ Err cause)) }
 {
     match decode(alloc, bytes) {
         Ok(code) => Ok(code),
         Err(fault) => match fault.cause {
-            DecodeCause::OutOfMemory => Err(FaultCause::OutOfMemory),
+            DecodeCause::NoMemory => Err(FaultCause::NoMemory),
             _ => Err(FaultCause::Program(fault)),
         },
     }
@@ -66,12 +66,12 @@ fn accepted<A: Allocator + Copy>(
     requires { args_len ≤ MAX_ARGUMENTS }
     ensures tables { IfOk result (λ accepted. accepted.tables ≡ schema.now) }
     ensures ok { IfOk result (λ accepted. verified (program_for schema.now args_len code) ≡ Ok accepted) }
-    ensures fault { IfErr result (λ cause. (cause ≡ OutOfMemory)
+    ensures fault { IfErr result (λ cause. (cause ≡ NoMemory)
         ⊎ (verified (program_for schema.now args_len code) ≡ Err cause)) }
 {
     match verify(alloc, code, schema, args_len) {
         Ok(accepted) => Ok(accepted),
-        Err(Refusal::OutOfMemory) => Err(FaultCause::OutOfMemory),
+        Err(Refusal::NoMemory) => Err(FaultCause::NoMemory),
         Err(Refusal::At { slot, cause }) => Err(FaultCause::Refused(Refusal::At { slot, cause })),
     }
 }

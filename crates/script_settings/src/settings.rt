@@ -4,7 +4,7 @@ ghost use Rattle.std.specs.Prelude.{◌≡◌, ◌⊎◌, ◌≤◌, Ok, Err, If
 ghost use Rattle.schema.specs.declared.limits.TheConstants.{MAX_REPLICAS, MAX_WINDOW};
 ghost use Rattle.script.specs.Script.{IsSettingWithinLimits};
 ghost use Rattle.script_settings.specs.Settings.{no_settings, once, setting_after};
-ghost use Rattle.script_settings.specs.declared.cause.FaultCause.TheVariants.{OutOfMemory};
+ghost use Rattle.script_settings.specs.declared.cause.FaultCause.TheVariants.{NoMemory};
 
 use crate::cause::FaultCause;
 use crate::procedure::add_procedure;
@@ -63,7 +63,7 @@ impl<A: Allocator + Copy> Settings<A> {
         // As a line's setting is.
         requires { IsSettingWithinLimits setting }
         ensures ok { OnOk result (setting_after self.old setting ≡ Ok self.new) }
-        ensures fault { IfErr result (λ cause. (cause ≡ OutOfMemory) ⊎ (setting_after self.old setting ≡ Err cause)) }
+        ensures fault { IfErr result (λ cause. (cause ≡ NoMemory) ⊎ (setting_after self.old setting ≡ Err cause)) }
         ensures unchanged { OnErr result (self.new ≡ self.old) }
     {
         match setting {

@@ -3,7 +3,7 @@
 ghost use Rattle.std.specs.Prelude.{◌≡◌, ◌⊎◌, ◌==◌, ◌∷◌, ◌++◌, [], length, Ok, Err, IfOk, IfErr, OnOk, OnErr};
 ghost use Rattle.schema.specs.Schema.{schema_of};
 ghost use Rattle.script_settings.specs.Settings.{caused, with_table};
-ghost use Rattle.script_settings.specs.declared.cause.FaultCause.TheVariants.{OutOfMemory, Table};
+ghost use Rattle.script_settings.specs.declared.cause.FaultCause.TheVariants.{NoMemory, Table};
 
 use crate::cause::FaultCause;
 use catalogue::Catalogue;
@@ -21,7 +21,7 @@ pub(crate) fn add_table<A: Allocator + Copy>(
     requires { schema_of pairs.old.items ≡ Ok catalogue.old.tables }
     ensures pairs { schema_of pairs.new.items ≡ Ok catalogue.new.tables }
     ensures ok { OnOk result (with_table catalogue.old table width ≡ Ok catalogue.new) }
-    ensures fault { IfErr result (λ cause. (cause ≡ OutOfMemory) ⊎ (with_table catalogue.old table width ≡ Err cause)) }
+    ensures fault { IfErr result (λ cause. (cause ≡ NoMemory) ⊎ (with_table catalogue.old table width ≡ Err cause)) }
     ensures unchanged { OnErr result (catalogue.new ≡ catalogue.old) }
 {
     if !is_empty(catalogue) {
@@ -58,12 +58,12 @@ fn with_pair<A: Allocator + Copy>(
 /// The schema of some pairs.
 fn schema<A: Allocator + Copy>(alloc: A, pairs: &[(u8, u16)]) -> Result<Schema<A>, FaultCause>
     ensures ok { IfOk result (λ schema. schema_of pairs.now ≡ Ok schema) }
-    ensures fault { IfErr result (λ cause. (cause ≡ OutOfMemory) ⊎ (caused Table (schema_of pairs.now) ≡ Err cause)) }
+    ensures fault { IfErr result (λ cause. (cause ≡ NoMemory) ⊎ (caused Table (schema_of pairs.now) ≡ Err cause)) }
 {
     match Schema::new(alloc, pairs) {
         Ok(schema) => Ok(schema),
         Err(fault) => match fault {
-            SchemaFault::OutOfMemory => Err(FaultCause::OutOfMemory),
+            SchemaFault::NoMemory => Err(FaultCause::NoMemory),
             _ => Err(FaultCause::Table(fault)),
         },
     }

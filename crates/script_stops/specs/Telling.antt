@@ -4,7 +4,7 @@ use Rattle.byte_output.specs.Writes.{AppendsBeginning}
 pub use Rattle.exit_status.specs.declared.status.TheConstants.{FAILED}
 pub use Rattle.exit_status.specs.Failure.{SaysStream}
 use Rattle.script_settings.specs.declared.cause.FaultCause.{FaultCause}
-use Rattle.script_settings.specs.declared.cause.FaultCause.TheVariants.{OutOfMemory}
+use Rattle.script_settings.specs.declared.cause.FaultCause.TheVariants.{NoMemory}
 use Rattle.script_settings.specs.declared.cause.ScriptFault.{ScriptFault}
 use Rattle.script_settings.specs.Fault.{script_fault_text}
 use Rattle.script_stops.specs.declared.stop.Stop.{Stop}
@@ -16,7 +16,7 @@ fault_line fault = script_fault_text fault ++ codes "\n"
 
 -- want of memory isn't the script's fault
 abbrev pub status_of_cause : FaultCause → ℕ
-status_of_cause OutOfMemory = FAILED
+status_of_cause NoMemory = FAILED
 status_of_cause _ = 1
 
 -- the exit status of a script that stopped, and its line of faults or what a stream says, or a beginning of that

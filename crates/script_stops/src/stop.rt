@@ -2,7 +2,7 @@
 
 ghost use Rattle.std.specs.Prelude.{◌≡◌};
 ghost use Rattle.script_stops.specs.declared.stop.Stop.TheVariants.{Fault};
-ghost use Rattle.script_settings.specs.declared.cause.FaultCause.TheVariants.{OutOfMemory};
+ghost use Rattle.script_settings.specs.declared.cause.FaultCause.TheVariants.{NoMemory};
 
 use script_settings::{FaultCause, ScriptFault};
 use std::io;
@@ -27,7 +27,7 @@ pub fn fault_at(line: u64, cause: FaultCause) -> Stop
 
 /// Memory was wanting at a line; 0 stands for the script as a whole.
 pub fn out_of_memory(line: u64) -> Stop
-    ensures { result ≡ Fault (record { line = line; cause = OutOfMemory }) }
+    ensures { result ≡ Fault (record { line = line; cause = NoMemory }) }
 {
-    fault_at(line, FaultCause::OutOfMemory)
+    fault_at(line, FaultCause::NoMemory)
 }

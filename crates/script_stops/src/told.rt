@@ -35,7 +35,7 @@ fn status_of(cause: FaultCause) -> u8
     ensures { result ≡ status_of_cause cause }
 {
     match cause {
-        FaultCause::OutOfMemory => FAILED,
+        FaultCause::NoMemory => FAILED,
         _ => 1,
     }
 }

@@ -70,7 +70,7 @@ impl<J: LogSetting + Ledgers, A: Allocator + Copy, P: Allocator + Copy, G: Gate>
         match appended {
             Ok(position) => (Added::Ordered(position), Some(seen)),
             Err(AppendFault::Full) => (Added::Full, None),
-            Err(AppendFault::OutOfMemory) => (Added::NoMemory, None),
+            Err(AppendFault::NoMemory) => (Added::NoMemory, None),
             Err(AppendFault::SnapshotUnseen) => unreachable!(),
         }
     }
@@ -93,7 +93,7 @@ impl<J: LogSetting + Ledgers, A: Allocator + Copy, P: Allocator + Copy, G: Gate>
         }
         let accepted = match check_program(self.alloc, bytes, self.catalogue.schema(), args_len) {
             Ok(accepted) => accepted,
-            Err(CheckFault::OutOfMemory) => return Err(Added::NoMemory),
+            Err(CheckFault::NoMemory) => return Err(Added::NoMemory),
             Err(CheckFault::Program(fault)) => {
                 return Err(Added::Program(ProgramRefusal::Fault(fault)));
             }

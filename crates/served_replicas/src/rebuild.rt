@@ -20,7 +20,7 @@ pub enum RebuildFault {
     /// There is no replica of this number.
     NoReplica,
     /// The replica is as it was.
-    OutOfMemory,
+    NoMemory,
 }
 
 /// Delivers all that the log shows.
@@ -70,7 +70,7 @@ impl<J: LogSetting + Ledgers, A: Allocator + Copy, P: Allocator + Copy, G: Gate>
             return Err(RebuildFault::NoReplica);
         };
         let Ok(position) = self.exchange(rt, served) else {
-            return Err(RebuildFault::OutOfMemory);
+            return Err(RebuildFault::NoMemory);
         };
         served.ring();
         if let Some(bell) = self.bell(replica) {

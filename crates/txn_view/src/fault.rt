@@ -11,7 +11,7 @@ pub enum ReadFault {
     /// The store has the rows no more.
     Gone,
     /// There is no memory for the look.
-    OutOfMemory,
+    NoMemory,
 }
 
 impl From<Gone> for ReadFault {
@@ -25,11 +25,11 @@ impl From<Gone> for ReadFault {
 }
 
 impl From<AllocError> for ReadFault {
-    ghost use Rattle.txn_view.specs.declared.fault.ReadFault.TheVariants.{OutOfMemory};
+    ghost use Rattle.txn_view.specs.declared.fault.ReadFault.TheVariants.{NoMemory};
 
-    ghost from_gives = { λ _ fault. fault ≡ OutOfMemory };
+    ghost from_gives = { λ _ fault. fault ≡ NoMemory };
 
     fn from(_error: AllocError) -> ReadFault {
-        ReadFault::OutOfMemory
+        ReadFault::NoMemory
     }
 }

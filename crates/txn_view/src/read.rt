@@ -31,7 +31,7 @@ pub fn read_row<'a, S: Store, A: Allocator + Copy>(
         (with_point_look table key s)) }
     ensures gone { (result ≡ Err ReadFault.Gone)
         ↔ (IsTrue (S.is_gone store.now) × (get writes.now (table, key) ≡ None)) }
-    ensures memory { (result ≡ Err ReadFault.OutOfMemory) → get writes.now (table, key) ≡ None }
+    ensures memory { (result ≡ Err ReadFault.NoMemory) → get writes.now (table, key) ≡ None }
     ensures unchanged { OnErr result (looks.new ≡ looks.old) }
 {
     let found = row_seen(store, writes, table, key)?;
@@ -55,7 +55,7 @@ pub fn count_rows<S: Store, A: Allocator + Copy>(
         (with_range_look look.table look.lo look.hi look.hi s)) }
     ensures gone { (result ≡ Err ReadFault.Gone)
         ↔ (IsTrue (S.is_gone store.now) × (look.lo ≤ look.hi)) }
-    ensures memory { (result ≡ Err ReadFault.OutOfMemory) → look.lo ≤ look.hi }
+    ensures memory { (result ≡ Err ReadFault.NoMemory) → look.lo ≤ look.hi }
     ensures unchanged { OnErr result (looks.new ≡ looks.old) }
 {
     let count = count_seen(store, writes, look)?;
@@ -81,7 +81,7 @@ pub fn next_row<'a, S: Store, A: Allocator + Copy>(
         (with_range_look look.table look.lo look.hi (last_seen look.hi (first_in look s.rows)) s)) }
     ensures gone { (result ≡ Err ReadFault.Gone)
         ↔ (IsTrue (S.is_gone store.now) × (look.lo ≤ look.hi)) }
-    ensures memory { (result ≡ Err ReadFault.OutOfMemory) → look.lo ≤ look.hi }
+    ensures memory { (result ≡ Err ReadFault.NoMemory) → look.lo ≤ look.hi }
     ensures unchanged { OnErr result (looks.new ≡ looks.old) }
 {
     let found = first_seen(store, writes, look)?;

@@ -173,7 +173,7 @@ fn what_is_accepted_is_what_was_given(rt: HostRuntime) {
 fn is_accepted(rt: &impl Abort, alloc: Global, scarce: &Scarce, schema: &Schema<&Scarce>) -> bool {
     let code = code_of(rt, alloc, ONE);
     let refusal = verify(scarce, code, schema, 0).err();
-    assert!(rt; refusal.is_none() || refusal == Some(Refusal::OutOfMemory));
+    assert!(rt; refusal.is_none() || refusal == Some(Refusal::NoMemory));
     refusal.is_none()
 }
 

@@ -42,7 +42,7 @@ pub fn range_count<B: Allocator, S: Store, A: Allocator + Copy>(
     let count = match count_rows(&view.store, &own.writes, &mut own.looks, look) {
         Ok(count) => count,
         Err(ReadFault::Gone) => return CallAnswer::Stale,
-        Err(ReadFault::OutOfMemory) => return CallAnswer::NoMemory,
+        Err(ReadFault::NoMemory) => return CallAnswer::NoMemory,
     };
     words.answer(count);
     CallAnswer::Done
@@ -75,7 +75,7 @@ pub fn range_next<B: Allocator, S: Store, A: Allocator + Copy>(
     let found = match next_row(&view.store, &own.writes, &mut own.looks, look) {
         Ok(found) => found,
         Err(ReadFault::Gone) => return CallAnswer::Stale,
-        Err(ReadFault::OutOfMemory) => return CallAnswer::NoMemory,
+        Err(ReadFault::NoMemory) => return CallAnswer::NoMemory,
     };
     let key_address = words.word(Register::R4);
     let row_address = words.word(Register::R5);

@@ -40,7 +40,7 @@ pub fn row_get<B: Allocator, S: Store, A: Allocator + Copy>(
     let found = match read_row(&view.store, &own.writes, &mut own.looks, table, key) {
         Ok(found) => found,
         Err(ReadFault::Gone) => return CallAnswer::Stale,
-        Err(ReadFault::OutOfMemory) => return CallAnswer::NoMemory,
+        Err(ReadFault::NoMemory) => return CallAnswer::NoMemory,
     };
     let address = words.word(Register::R3);
     words.put_bytes(address, row_or_zeros(found, width));

@@ -247,7 +247,7 @@ static FAULTS: [[&str; 2]; 61] = [
 ];
 
 const OUT_OF_MEMORY: DecodeFault = DecodeFault {
-    cause: DecodeCause::OutOfMemory,
+    cause: DecodeCause::NoMemory,
     slot: 0,
 };
 

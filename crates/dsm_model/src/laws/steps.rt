@@ -11,8 +11,9 @@ ghost use Rattle.log_model.specs.declared.request.RequestId.{RequestId};
 ghost use Rattle.log_model.specs.declared.verdict.Verdict.{Verdict};
 ghost use Rattle.call_model.specs.declared.fault.ProgramFault.{ProgramFault};
 ghost use Rattle.dsm_model.specs.declared.outcome.StepRefusal.TheVariants.{NoReplica, NoProcedure, ArgumentsLength};
+ghost use Rattle.dsm_model.specs.declared.outcome.StepRefusal.TheVariants as step_refusal;
 ghost use Rattle.dsm_model.specs.declared.outcome.StepRefusal.TheVariants.{NoCall, NotAtExit, NothingToDeliver};
-ghost use Rattle.dsm_model.specs.declared.outcome.StepRefusal.TheVariants.{ReplicaStopped, LogFull, OutOfMemory};
+ghost use Rattle.dsm_model.specs.declared.outcome.StepRefusal.TheVariants.{ReplicaStopped, LogFull};
 ghost use Rattle.dsm_model.specs.declared.outcome.StepRefusal.TheVariants.{TooManyCalls, ArgumentsLimit};
 ghost use Rattle.dsm_model.specs.declared.outcome.StepRefusal.TheVariants.{ProgramRefused, NameShape, ZeroInRequest};
 ghost use Rattle.dsm_model.specs.declared.outcome.Outcome.{Outcome};
@@ -236,21 +237,21 @@ pub fn each_step_has_its_answers()
 pub fn memory_is_wanted_in_place_of_an_answer()
     ensures begin { (w : Setting) (before : World) (r procedure : ℕ) (args : List ℕ) (request : Option RequestId)
         (after : World)
-        → IsStep w before (Begin r procedure args request) (Refused OutOfMemory) after
+        → IsStep w before (Begin r procedure args request) (Refused step_refusal.NoMemory) after
         → (c : ℕ) × (snapshot : ℕ) × (other : World)
         × IsStep w before (Begin r procedure args request) (Begun c snapshot) other }
     ensures order { (w : Setting) (before : World) (c : ℕ) (after : World)
-        → IsStep w before (Order c) (Refused OutOfMemory) after
+        → IsStep w before (Order c) (Refused step_refusal.NoMemory) after
         → (position : ℕ) × (other : World) × IsStep w before (Order c) (Ordered position) other }
     ensures deliver { (w : Setting) (before : World) (r : ℕ) (after : World)
-        → IsStep w before (Deliver r) (Refused OutOfMemory) after
+        → IsStep w before (Deliver r) (Refused step_refusal.NoMemory) after
         → (position : ℕ) × (v : Verdict) × (other : World)
         × IsStep w before (Deliver r) (Delivered position v) other }
     ensures rebuild { (w : Setting) (before : World) (r : ℕ) (after : World)
-        → IsStep w before (Rebuild r) (Refused OutOfMemory) after
+        → IsStep w before (Rebuild r) (Refused step_refusal.NoMemory) after
         → (position : ℕ) × (other : World) × IsStep w before (Rebuild r) (Rebuilt position) other }
     ensures add { (w : Setting) (before : World) (name : List ℕ) (number args_len : ℕ) (checked : ProgramCheck)
         (after : World)
-        → IsStep w before (Add name number args_len checked) (Refused OutOfMemory) after
+        → IsStep w before (Add name number args_len checked) (Refused step_refusal.NoMemory) after
         → (call_count before < max_calls) × (args_len ≤ MAX_ARGUMENTS) }
 {}

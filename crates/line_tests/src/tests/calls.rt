@@ -142,7 +142,7 @@ fn is_read_by(rt: &impl Abort, alloc: &Scarce) -> bool {
     match read_script(alloc, &mut input) {
         Ok(script) => is_read(&script),
         Err(Stop::Fault(fault)) => {
-            assert!(rt; matches!(fault.cause, FaultCause::OutOfMemory));
+            assert!(rt; matches!(fault.cause, FaultCause::NoMemory));
             false
         }
         Err(_) => panic!(rt; "no stream failed"),

@@ -282,10 +282,7 @@ static ADDITIONS: [Printed; 6] = [
         Line::AddRefused(StepRefusal::NameShape),
         "add refused P12\n",
     ),
-    (
-        Line::AddRefused(StepRefusal::OutOfMemory),
-        "add refused P9\n",
-    ),
+    (Line::AddRefused(StepRefusal::NoMemory), "add refused P9\n"),
 ];
 
 /// Answers to the second call of a script, and how each is printed.

@@ -170,7 +170,7 @@ fn is_read(rt: &impl Abort, alloc: &Scarce, line: &[u8], expected: &Given<'_>) -
             true
         }
         Err(fault) => {
-            assert_eq!(rt; fault, LineFault::OutOfMemory);
+            assert_eq!(rt; fault, LineFault::NoMemory);
             false
         }
     }

@@ -85,7 +85,7 @@ fn faults_are_printed(rt: HostRuntime) {
         let told = fault_of(&rt, rt.alloc(), lines);
         assert_eq!(rt; told.as_str(), *text);
     }
-    let cause = FaultCause::OutOfMemory;
+    let cause = FaultCause::NoMemory;
     let told = ScriptFault { line: 0, cause }
         .to_string(rt.alloc())
         .expect(&rt, "memory");
@@ -127,7 +127,7 @@ fn are_set(rt: &impl Abort, alloc: &Scarce) -> bool {
             true
         }
         Err(cause) => {
-            assert!(rt; matches!(cause, FaultCause::OutOfMemory));
+            assert!(rt; matches!(cause, FaultCause::NoMemory));
             false
         }
     }

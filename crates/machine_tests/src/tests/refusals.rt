@@ -71,7 +71,7 @@ static GROWTHS: [GrowthCase; 4] = [
 fn last_turn(scarce: &Scarce, procedure: &Accepted, args: &[u8], rows: &[Row]) -> Turn {
     match run_call(scarce, procedure, args, rows, NEVER) {
         Ok(run) => run.last,
-        Err(SiteFault::OutOfMemory) => Turn::NoMemory,
+        Err(SiteFault::NoMemory) => Turn::NoMemory,
         Err(_) => Turn::Stale,
     }
 }

@@ -102,7 +102,7 @@ fn ask_both<J: LogSetting + Ledgers, P: Allocator + Copy, R: Wait + Abort>(
         add_at(rt, alloc, &requests[1], (2, 1), None),
         Some(Answer::Behind)
     );
-    assert_eq!(rt; shared.rebuild(rt, 2), Err(RebuildFault::OutOfMemory));
+    assert_eq!(rt; shared.rebuild(rt, 2), Err(RebuildFault::NoMemory));
     assert_eq!(rt; shared.rebuild(rt, 3), Err(RebuildFault::NoReplica));
     assert_eq!(rt;
         add_at(rt, alloc, &requests[1], (2, 1), None),

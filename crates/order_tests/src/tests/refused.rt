@@ -70,7 +70,7 @@ fn append_until<J: LogIdentity>(
         match log.append(seen, call_of(alloc, before, u64::from(before))) {
             Ok(number) => assert_eq!(rt; number, before.wrapping_add(1)),
             Err(fault) => {
-                assert!(rt; fault == AppendFault::OutOfMemory);
+                assert!(rt; fault == AppendFault::NoMemory);
                 assert_eq!(rt; seen.len(), before);
                 assert!(rt; log.get(seen).is_none());
                 refused = refused.wrapping_add(1);

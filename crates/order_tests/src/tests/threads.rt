@@ -65,7 +65,7 @@ fn append_all<J: LogIdentity>(
     for index in 0..count {
         let number = append_one(log, &mut seen, alloc, mark_of(thread, index))?;
         if numbers.push(number).is_err() {
-            return Err(AppendFault::OutOfMemory);
+            return Err(AppendFault::NoMemory);
         }
     }
     Ok(numbers)
@@ -89,7 +89,7 @@ fn read_along<J: LogIdentity>(
             continue;
         };
         if replies.push(reply_of(entry).unwrap_or(0)).is_err() {
-            return Err(AppendFault::OutOfMemory);
+            return Err(AppendFault::NoMemory);
         }
     }
     Ok(replies)

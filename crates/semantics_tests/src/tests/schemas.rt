@@ -51,7 +51,7 @@ static TEXTS: [(SchemaFault, &str); 4] = [
     (SchemaFault::TableNumber, "S1"),
     (SchemaFault::Width, "S2"),
     (SchemaFault::RepeatedTable, "S3"),
-    (SchemaFault::OutOfMemory, "S4"),
+    (SchemaFault::NoMemory, "S4"),
 ];
 
 fn fault_of(alloc: Global, pairs: &[(u8, u16)]) -> Option<SchemaFault> {
@@ -85,7 +85,7 @@ fn is_made(rt: &impl Abort, scarce: &Scarce) -> bool {
             true
         }
         Err(fault) => {
-            same(rt, "fault", fault, SchemaFault::OutOfMemory);
+            same(rt, "fault", fault, SchemaFault::NoMemory);
             false
         }
     }

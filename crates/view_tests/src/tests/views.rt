@@ -174,7 +174,7 @@ fn a_store_that_is_gone_is_told(rt: HostRuntime) {
 
 fn is_as_it_was<S: Store>(rt: &impl Abort, scarce: &Scarce, view: &mut View<S, &Scarce>) {
     scarce.refuse_nth(1);
-    has_row(rt, view, 5, Err(ReadFault::OutOfMemory));
+    has_row(rt, view, 5, Err(ReadFault::NoMemory));
     has_looks(rt, view, &[]);
     has_row(rt, view, 5, Ok(None));
     same(rt, "looks", view.own.looks.looks().len(), 1);

@@ -68,7 +68,7 @@ static TOLD: [Outcome; 16] = [
         position: 1,
         verdict: Verdict::Commit,
     },
-    Outcome::Refused(StepRefusal::OutOfMemory),
+    Outcome::Refused(StepRefusal::NoMemory),
     Outcome::Refused(StepRefusal::ReplicaStopped),
     Outcome::Delivered {
         position: 1,
@@ -176,7 +176,7 @@ struct Case {
     left: Outcome,
 }
 
-const NO_MEMORY: Outcome = Outcome::Refused(StepRefusal::OutOfMemory);
+const NO_MEMORY: Outcome = Outcome::Refused(StepRefusal::NoMemory);
 
 const NOTHING_LEFT: Outcome = Outcome::Refused(StepRefusal::NothingToDeliver);
 

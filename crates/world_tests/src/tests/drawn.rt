@@ -64,7 +64,7 @@ fn kind_of_refusal(refusal: StepRefusal) -> usize {
         StepRefusal::NothingToDeliver => 21,
         StepRefusal::ReplicaStopped => 22,
         StepRefusal::LogFull => 23,
-        StepRefusal::OutOfMemory => 24,
+        StepRefusal::NoMemory => 24,
         StepRefusal::TooManyCalls => 25,
         StepRefusal::ArgumentsLimit => 29,
         StepRefusal::ProgramRefused(_) => 26,
@@ -515,7 +515,7 @@ impl<'s> DrawnWorld<'s> {
         let before = self.position_of(replica);
         let outcome = self.take(Step::Deliver { replica });
         let next = before.map_or(0, |position| position.wrapping_add(1));
-        let wanted = outcome == Outcome::Refused(StepRefusal::OutOfMemory);
+        let wanted = outcome == Outcome::Refused(StepRefusal::NoMemory);
         if wanted && self.history.addition_at(next).is_some() {
             self.history.events.count(Event::AdditionWithoutMemory);
         }

@@ -1,5 +1,5 @@
 use Rattle.std.proofs.Common.{Result, Ok, Err, IfOk, IfErr, ◌≡◌, ◌⊎◌, inl, inr, sym, ap, ◌∙◌}
-use Rattle.bpf_code.specs.declared.fault.DecodeCause.TheVariants.{OutOfMemory}
+use Rattle.bpf_code.specs.declared.fault.DecodeCause.TheVariants.{NoMemory}
 use Rattle.bpf_code.specs.declared.fault.DecodeFault.{DecodeFault}
 use Rattle.bpf_code.specs.Program.{Program}
 use Rattle.bpf_code.specs.Decoding.{fault, program_of}
@@ -8,7 +8,7 @@ use Rattle.bpf_code.proofs.decoding.decode.Goals as goal
 
 -- a result that is what the bytes decode to, where they decode to p
 decodes : (r : Result Program DecodeFault) (whole : Result Program DecodeFault) (p : Program) → IfOk r (λ code. whole ≡ Ok code)
-    → IfErr r (λ e. (e ≡ fault OutOfMemory 0) ⊎ (whole ≡ Err e)) → whole ≡ Ok p → (r ≡ Err (fault OutOfMemory 0)) ⊎ (r ≡ Ok p)
+    → IfErr r (λ e. (e ≡ fault NoMemory 0) ⊎ (whole ≡ Err e)) → whole ≡ Ok p → (r ≡ Err (fault NoMemory 0)) ⊎ (r ≡ Ok p)
 decodes (Ok code) whole p exact other e = inr (sym exact ∙ e)
 decodes (Err f) whole p exact other e =
     elim other [

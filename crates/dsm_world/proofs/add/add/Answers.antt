@@ -4,7 +4,7 @@ use Rattle.stored_procedures.specs.Held.{ListedProcedure, stored}
 use Rattle.log_model.specs.Entries.{AdditionEntry}
 use Rattle.log_entry.specs.Kind.{entry_of}
 use Rattle.dsm_model.specs.declared.outcome.StepRefusal.{StepRefusal}
-use Rattle.dsm_model.specs.declared.outcome.StepRefusal.TheVariants.{OutOfMemory}
+use Rattle.dsm_model.specs.declared.outcome.StepRefusal.TheVariants.{NoMemory}
 use Rattle.dsm_model.specs.declared.outcome.Outcome.TheVariants.{Added, Refused}
 use Rattle.dsm_model.specs.World.{Add, IsStep, max_calls, call_count}
 use Rattle.call_model.specs.Check.{ProgramCheck}
@@ -82,7 +82,7 @@ returns-in-Err-append-clause-step g c =
     let additions = c.requires.additions in
     let long = c.if-args_len-gt-MAX_ARGUMENTS.false in
     let step = Add c.args.name.now c.args.number c.args.args_len (check_of s.catalogue.tables c.args.args_len c.args.bytes.now) in
-    subst (λ xs. IsStep (setting_of s) (world_of s) step (Refused OutOfMemory) (world_of (with_entries s (entries_of xs)))) (sym c.in-Err-append.ensures.unchanged)
+    subst (λ xs. IsStep (setting_of s) (world_of s) step (Refused NoMemory) (world_of (with_entries s (entries_of xs)))) (sym c.in-Err-append.ensures.unchanged)
     (add_without_memory (setting_of s) (world_of s) c.args.name.now c.args.number c.args.args_len (check_of s.catalogue.tables c.args.args_len c.args.bytes.now) (omega arith) (omega arith))
 
 pub returns-in-Ok-append-clause-step : goal.returns-in-Ok-append-clause-step

@@ -1,6 +1,6 @@
 use Rattle.std.proofs.Common.{◌≡◌, ◌+◌, map, option_map, refl, sym, ap, subst, ◌∙◌, arith}
 use Rattle.bpf_verify.specs.Flow.{Procedure}
-use Rattle.dsm_model.specs.declared.outcome.StepRefusal.TheVariants.{OutOfMemory}
+use Rattle.dsm_model.specs.declared.outcome.StepRefusal.TheVariants.{NoMemory}
 use Rattle.dsm_model.specs.declared.outcome.Outcome.TheVariants.{Begun, Refused}
 use Rattle.log_model.specs.Log.{by_number, procedures_after}
 use Rattle.log_model.specs.Entries.{items_of}
@@ -167,6 +167,6 @@ returns-in-Err-clause-step g c =
     let slots = map_count (λ slot. option_map (λ b. b.value) slot) c.args.world.now.calls.items in
     let all = calls_are s (call_slots c.args.world.now) c.requires.together in
     let additions = c.requires.additions in
-    subst (λ xs. IsStep (setting_of s) (world_of s) (Begin c.args.replica c.args.procedure c.args.args.now c.args.request) (Refused OutOfMemory) (world_of (with_slots s (map (λ slot. option_map (λ b. b.value) slot) xs)))) (sym c.in-Err.ensures.unchanged)
+    subst (λ xs. IsStep (setting_of s) (world_of s) (Begin c.args.replica c.args.procedure c.args.args.now c.args.request) (Refused NoMemory) (world_of (with_slots s (map (λ slot. option_map (λ b. b.value) slot) xs)))) (sym c.in-Err.ensures.unchanged)
     (begin_without_memory (setting_of s) (world_of s) c.args.replica c.args.procedure c.args.args.now c.args.request (progress_of old) p.0 (replica_at s c.args.replica at old place.0 there) p.1
     (c.if-args-from.false ∙ c.from.ensures ∙ c.args_len.ensures.length ∙ ap (λ (q : Procedure). q.args_len) p.2) (sym c.has_zero.ensures ∙ c.if-has_zero.false) (omega arith))

@@ -1,7 +1,7 @@
 use Rattle.std.proofs.Common.{List, All, length, slice_set, refl, sym, ap, subst, ◌∙◌, arith}
 use Rattle.std.proofs.lemmas.List.Elements.{All-from_recursion}
 use Rattle.schema.specs.Rows.{AreWrites}
-use Rattle.dsm_model.specs.declared.outcome.StepRefusal.TheVariants.{OutOfMemory}
+use Rattle.dsm_model.specs.declared.outcome.StepRefusal.TheVariants.{NoMemory}
 use Rattle.dsm_model.specs.declared.outcome.Outcome.TheVariants.{Rebuilt, Refused}
 use Rattle.log_model.specs.Log.{IsLog}
 use Rattle.log_model.specs.Entries.{items_of}
@@ -88,7 +88,7 @@ returns-in-Err-clause-step g c =
     let lt = place.1 in
     let at = get_is s.replicas c.in-Some.at old (omega arith) c.index_mut.ensures.value in
     let same = ap (λ (r : Replica). slice_set s.replicas c.in-Some.at r) c.in-Err.ensures.unchanged ∙ set_same s.replicas c.in-Some.at old at in
-    subst (λ (rs : List Replica). IsStep (setting_of s) (world_of s) (Rebuild c.args.replica) (Refused OutOfMemory) (world_of (record s { replicas = rs }))) (sym same)
+    subst (λ (rs : List Replica). IsStep (setting_of s) (world_of s) (Rebuild c.args.replica) (Refused NoMemory) (world_of (record s { replicas = rs }))) (sym same)
     (rebuild_without_memory (setting_of s) (world_of s) c.args.replica (progress_of old) (replica_at s c.args.replica c.in-Some.at old place.0 at))
 
 pub returns-in-Err-clause-consistent : goal.returns-in-Err-clause-consistent

@@ -7,8 +7,8 @@ use Rattle.script_run.proofs.run.run_over.Goals as goal
 pub returns-in-Err-clause-failed : goal.returns-in-Err-clause-failed
 returns-in-Err-clause-failed g c = λ _. inl refl
 
-pub returns-in-Err-OutOfMemory-clause-failed : goal.returns-in-Err-OutOfMemory-clause-failed
-returns-in-Err-OutOfMemory-clause-failed g c = λ _. inl refl
+pub returns-in-Err-NoMemory-clause-failed : goal.returns-in-Err-NoMemory-clause-failed
+returns-in-Err-NoMemory-clause-failed g c = λ _. inl refl
 
 pub returns-in-Err-Start-clause-failed : goal.returns-in-Err-Start-clause-failed
 returns-in-Err-Start-clause-failed g c = λ _. inl refl

@@ -14,10 +14,10 @@ returns-in-Err-Gone-clause-follows g c = λ s held view. stale _ _ _ s _ _ _ (λ
     let refused : c.count_rows.result ≡ Err fault.Gone = search rules in
     more_range s t _ _ _ _ (count_looks _ _ _ c.named_table-table.ensures.table c.word-lo.ensures c.word-hi.ensures p) (c.count_rows.ensures.gone.0 refused))
 
-pub returns-in-Err-OutOfMemory-clause-follows : goal.returns-in-Err-OutOfMemory-clause-follows
-returns-in-Err-OutOfMemory-clause-follows g c = λ s held view. no_memory _ _ _ s _ _ _ (λ e. absurd (cc)) (λ t e more.
+pub returns-in-Err-NoMemory-clause-follows : goal.returns-in-Err-NoMemory-clause-follows
+returns-in-Err-NoMemory-clause-follows g c = λ s held view. no_memory _ _ _ s _ _ _ (λ e. absurd (cc)) (λ t e more.
     let p = count_parts c.held_laws.ensures c.args.schema.now s c.args.words.now held t e in
-    let refused : c.count_rows.result ≡ Err fault.OutOfMemory = search rules in
+    let refused : c.count_rows.result ≡ Err fault.NoMemory = search rules in
     let due : c.count_rows.result ≡ Err fault.Gone = c.count_rows.ensures.gone.1 (due_range s t _ _ _ _ (count_looks _ _ _ c.named_table-table.ensures.table c.word-lo.ensures c.word-hi.ensures p) more) in
     absurd (cc))
 

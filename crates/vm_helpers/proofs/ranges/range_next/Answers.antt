@@ -17,11 +17,11 @@ returns-in-Err-Gone-clause-follows g c = λ s held view. stale _ _ _ s _ _ _ (λ
     let refused : c.next_row.result ≡ Err fault.Gone = search rules in
     more_range s t _ _ _ last looks (c.next_row.ensures.gone.0 refused))
 
-pub returns-in-Err-OutOfMemory-clause-follows : goal.returns-in-Err-OutOfMemory-clause-follows
-returns-in-Err-OutOfMemory-clause-follows g c = λ s held view. no_memory _ _ _ s _ _ _ (λ e. absurd (cc)) (λ t e more.
+pub returns-in-Err-NoMemory-clause-follows : goal.returns-in-Err-NoMemory-clause-follows
+returns-in-Err-NoMemory-clause-follows g c = λ s held view. no_memory _ _ _ s _ _ _ (λ e. absurd (cc)) (λ t e more.
     let p = next_parts c.held_laws.ensures c.args.schema.now s c.args.words.now held t e in
     let (last, looks) = next_looks _ _ _ c.named_table-table.ensures.table c.word-lo.ensures c.word-hi.ensures p in
-    let refused : c.next_row.result ≡ Err fault.OutOfMemory = search rules in
+    let refused : c.next_row.result ≡ Err fault.NoMemory = search rules in
     let due : c.next_row.result ≡ Err fault.Gone = c.next_row.ensures.gone.1 (due_range s t _ _ _ last looks more) in
     absurd (cc))
 

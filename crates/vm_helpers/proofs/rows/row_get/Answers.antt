@@ -14,10 +14,10 @@ returns-in-Err-Gone-clause-follows g c = λ s held view. stale _ _ _ s _ _ _ (λ
     let refused : c.read_row.result ≡ Err fault.Gone = search rules in
     more_point s t c.args.view.now.own.writes _ _ view.read.writes_are (get_looks _ _ c.named_table-table.ensures.table c.word-key.ensures p) (c.read_row.ensures.gone.0 refused))
 
-pub returns-in-Err-OutOfMemory-clause-follows : goal.returns-in-Err-OutOfMemory-clause-follows
-returns-in-Err-OutOfMemory-clause-follows g c = λ s held view. no_memory _ _ _ s _ _ _ (λ e. absurd (cc)) (λ t e more.
+pub returns-in-Err-NoMemory-clause-follows : goal.returns-in-Err-NoMemory-clause-follows
+returns-in-Err-NoMemory-clause-follows g c = λ s held view. no_memory _ _ _ s _ _ _ (λ e. absurd (cc)) (λ t e more.
     let p = get_parts c.held_laws.ensures c.args.schema.now s c.args.words.now held t e in
-    let refused : c.read_row.result ≡ Err fault.OutOfMemory = search rules in
+    let refused : c.read_row.result ≡ Err fault.NoMemory = search rules in
     let due : c.read_row.result ≡ Err fault.Gone = c.read_row.ensures.gone.1 (due_point s t c.args.view.now.own.writes _ _ view.read.writes_are (get_looks _ _ c.named_table-table.ensures.table c.word-key.ensures p) more) in
     absurd (cc))
 
