@@ -2,6 +2,7 @@
 #![tactic(auto)]
 
 ghost use Rattle.std.specs.Prelude.{◌≤◌};
+ghost use Rattle.schema.specs.declared.limits.TheConstants.{MAX_ARGUMENTS};
 
 use command_line::{Plan, PlanFault, plan};
 use exit_status::FAILED;
@@ -36,7 +37,7 @@ fn list_file(rt: &HostRuntime, path: &str) -> io::Result<u8> {
 
 /// Checks the program in a file.
 fn check_file(rt: &HostRuntime, path: &str, args_len: u16, tables: &[(u8, u16)]) -> io::Result<u8>
-    requires { args_len ≤ 256 }
+    requires { args_len ≤ MAX_ARGUMENTS }
 {
     let mut faults = rt.stderr();
     match File::open(rt, path) {

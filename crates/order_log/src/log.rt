@@ -185,7 +185,7 @@ impl<J: LogIdentity, F: Fact, A: Allocator + Copy> OrderLog<J, F, A> {
 
     /// Tries the place after what was seen, and sees what then stands there.
     fn attempt(&self, seen: &mut Seen<J, A>, entry: Box<Entry<A>>) -> Attempt<A>
-        requires { length seen.old < 1048576 }
+        requires { length seen.old < MAX_LOG }
         ensures { IsAttempt seen.old entry.value result seen.new }
     {
         let at = seen.len() as usize;

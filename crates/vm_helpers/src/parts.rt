@@ -9,11 +9,12 @@ ghost use Rattle.txn_view.specs.Found.{row_found};
 ghost use Rattle.vm_state.specs.Words.{word};
 
 use bpf_code::Register;
-use schema::Schema;
+use schema::{MAX_WIDTH, Schema};
 use std::alloc::Allocator;
 use vm_state::WordState;
 
-static ZEROS: [u8; 128] = [0; 128];
+/// A row of zeros, as wide as any.
+static ZEROS: [u8; MAX_WIDTH as usize] = [0; MAX_WIDTH as usize];
 
 /// The table that r1 names, and the width of its rows.
 pub fn named_table<B: Allocator>(words: &WordState, schema: &Schema<B>) -> (u8, usize)
