@@ -210,7 +210,7 @@ ended_grows p tables (suc k) s reply t e =
     ] refl (sym (moment-front p tables k s) ∙ e)
 
 -- so many steps after a moment
-moment-add : (p : Program) (tables : Tables) (i j : ℕ) (s : State) → moment p tables (i + j) s ≡ next_moment (moment p tables i) (moment p tables j s)
+pub moment-add : (p : Program) (tables : Tables) (i j : ℕ) (s : State) → moment p tables (i + j) s ≡ next_moment (moment p tables i) (moment p tables j s)
 unfolding moment
 moment-add p tables zero j s =
     let same : 0 + j ≡ j = omega arith in

@@ -4,27 +4,31 @@ ghost use Rattle.bpf_semantics.specs.Path.{longest_path};
 ghost use Rattle.bpf_code.specs.Program.{IsProgram};
 ghost use Rattle.schema.specs.Schema.{AreTables};
 ghost use Rattle.schema.specs.declared.limits.TheConstants.{MAX_ARGUMENTS};
+ghost use Rattle.flat_code.specs.Flat.{LaidOut};
 ghost use Rattle.bpf_verify.specs.Flow.{IsAccepted};
 
 use bpf_code::Code;
+use flat_code::FlatInstruction;
 use schema::Schema;
 use std::alloc::{Allocator, Global};
 use std::marker::Model;
 
 /// A program that was verified, with the schema and the length of its arguments for which it was. Contracts see
-/// these three.
+/// these three. It keeps the program's layout too, in the schema's memory.
 #[derive(Drop)]
 pub struct Accepted<A: Allocator = Global, B: Allocator = Global> {
     code: Code<A>,
     schema: Schema<B>,
     args_len: u16,
     bound: u32,
+    layout: Vec<FlatInstruction, B>,
 }
 
 impl<A: Allocator, B: Allocator> Model for Accepted<A, B> {
     ghost use Rattle.std.specs.Prelude.{◌≡◌, ◌≤◌};
     ghost use Rattle.bpf_semantics.specs.Path.{longest_path};
     ghost use Rattle.schema.specs.declared.limits.TheConstants.{MAX_ARGUMENTS};
+    ghost use Rattle.flat_code.specs.Flat.{LaidOut};
     ghost use Rattle.bpf_verify.specs.Flow.{Procedure, IsAccepted};
     ghost use Rattle.bpf_verify.specs.Procedure.{procedure_code};
 
@@ -36,14 +40,21 @@ impl<A: Allocator, B: Allocator> Model for Accepted<A, B> {
 
     ghost invariant = { λ a.
         IsAccepted (record { program = a.code; tables = a.schema; args_len = a.args_len })
-        × (a.args_len ≤ MAX_ARGUMENTS) × (a.bound ≡ longest_path a.code) };
+        × (a.args_len ≤ MAX_ARGUMENTS) × (a.bound ≡ longest_path a.code) × LaidOut a.code a.layout.items };
 }
 
 impl<A: Allocator, B: Allocator> Accepted<A, B> {
-    pub(crate) fn new(code: Code<A>, schema: Schema<B>, args_len: u16, bound: u32) -> Accepted<A, B>
+    pub(crate) fn new(
+        code: Code<A>,
+        schema: Schema<B>,
+        args_len: u16,
+        bound: u32,
+        layout: Vec<FlatInstruction, B>,
+    ) -> Accepted<A, B>
         requires accepted { IsAccepted (record { program = code; tables = schema; args_len = args_len }) }
         requires few { args_len ≤ MAX_ARGUMENTS }
         requires bound { bound ≡ longest_path code }
+        requires layout { LaidOut code layout.items }
         ensures { result ≡ record { program = code; tables = schema; args_len = args_len } }
     {
         Accepted {
@@ -51,6 +62,7 @@ impl<A: Allocator, B: Allocator> Accepted<A, B> {
             schema,
             args_len,
             bound,
+            layout,
         }
     }
 
@@ -94,5 +106,11 @@ impl<A: Allocator, B: Allocator> Accepted<A, B> {
         ensures { result ≡ longest_path self.now.program }
     {
         self.bound
+    }
+    /// The program's layout: its slots as flat instructions, which a machine runs.
+    pub fn layout(&self) -> &[FlatInstruction]
+        ensures { LaidOut self.now.program result.now }
+    {
+        &self.layout
     }
 }

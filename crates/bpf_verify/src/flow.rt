@@ -3,6 +3,7 @@ ghost use Rattle.std.specs.Prelude.{◌≡◌, ℕ, ◌+◌, ◌<◌, ◌≤◌,
 ghost use Rattle.std.specs.Prelude.{if◌then◌else◌, [], ◌∷◌, Some, None, IfSome, IfNone, IfErr, IfOk};
 ghost use Rattle.bpf_code.specs.Program.{instruction_at};
 ghost use Rattle.schema.specs.declared.limits.TheConstants.{MAX_ARGUMENTS};
+ghost use Rattle.flat_code.specs.Flat.{LaidOut};
 ghost use Rattle.bpf_verify.specs.Flow.{join_one, join_with, states_from, cause_if, IsAccepted, edge_states, IsRefused};
 ghost use Rattle.bpf_verify.specs.Refusal.{RefusedBy};
 
@@ -13,11 +14,13 @@ use crate::refusal::Refusal;
 use abs_state::AbsState;
 use abs_step::{Cause, cause_of, jump_state, next_state};
 use bpf_code::Code;
+use flat_code::{FlatInstruction, lay_out};
 use schema::Schema;
-use std::alloc::Allocator;
+use std::alloc::{AllocError, Allocator};
 
 /// The program, accepted on arguments of so many bytes and with the schema's tables, or why not. It takes as
-/// much memory as there are slots, by one growth, and gives it back; and the copy of the schema.
+/// much memory as there are slots, by one growth, and gives it back. What is accepted keeps, in the schema's memory, the
+/// copy of the schema and the program's layout: by one growth 16 bytes a slot, 64 KB for 4,096 slots.
 ///
 /// ```text
 /// let schema = Schema::new(alloc, &[(1, 8)])?;
@@ -50,8 +53,21 @@ pub fn verify<A: Allocator, B: Allocator + Clone, C: Allocator>(
     let Ok(schema) = schema.clone() else {
         return Err(Refusal::NoMemory);
     };
+    let Ok(layout) = layout_beside(&schema, &code) else {
+        return Err(Refusal::NoMemory);
+    };
     let bound = bound(&code);
-    Ok(Accepted::new(code, schema, args_len, bound))
+    Ok(Accepted::new(code, schema, args_len, bound, layout))
+}
+
+/// A program's layout, in the schema's memory.
+fn layout_beside<A: Allocator, B: Allocator + Clone>(
+    schema: &Schema<B>,
+    code: &Code<A>,
+) -> Result<Vec<FlatInstruction, B>, AllocError>
+    ensures { IfOk result (λ layout. LaidOut code.now layout.items) }
+{
+    lay_out(schema.allocator().clone()?, code)
 }
 
 /// The lowest slot that is refused, and its lowest cause.

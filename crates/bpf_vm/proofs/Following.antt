@@ -19,7 +19,7 @@ use Rattle.bpf_vm.specs.declared.turn.Turn.TheVariants.{More, Exit, Stale, NoMem
 use Rattle.bpf_vm.specs.Turns.{MachineState, CanStep, FollowsMoment, FollowsStep, MayWantMemory, DoesNothing}
 use Rattle.acceptance.specs.Description.{Suits}
 use Rattle.vm_helpers.specs.Calls.{LooksMore}
-use Rattle.bpf_vm.specs.Run.{Effects, effects_of, own_effects, IsAfter, HasRun, HasEnded, IsStaleAt, AfterTurn, IsOnRun, IsNotStale}
+use Rattle.bpf_vm.specs.Run.{Effects, effects_of, own_effects, IsAfter, HasRun, HasEnded, IsStaleAt, AfterTurn, IsNotStale}
 
 pub next_is : (p : Program) (tables : Tables) (k : ℕ) (s t : State) → moment p tables k s ≡ Going t → moment p tables (k + 1) s ≡ step p tables t
 unfolding moment
@@ -182,54 +182,3 @@ turn_after p args rows k answers_from gone m n own effects turn h goes ends f la
         not_stale p args rows gone k h.here.state h.here.at (memory_not_due p answers_from gone _ h.here.state n.words own (step p.program p.tables h.here.state) refl steps f),
       )
     ] f last same kept
-
--- ---- turns one after another
-
--- so many turns on the machine is on a run, and has run that many instructions of it at least
-abbrev pub IsOnRunFor : Procedure → (Rows → Type 0) → ℕ → MachineState → Effects → Type 0
-IsOnRunFor p answers_from n m effects =
-    m.last ≡ More → (args : List ℕ) × (rows : Rows) × (k : ℕ) × Suits p args rows × answers_from rows × HasRun p args rows k m effects × (n ≤ k)
-
--- on each run on which it was it is so many instructions further
-abbrev pub IsFurther : Procedure → (Rows → Type 0) → ℕ → MachineState → Effects → MachineState → Effects → Type 0
-IsFurther p answers_from n m effects m' effects' = (args : List ℕ) (rows : Rows) (k : ℕ) → Suits p args rows → answers_from rows → HasRun p args rows k m effects → HasRun p args rows (k + n) m' effects'
-
--- what a turn that answers that there is more promises
-abbrev pub GoesOn : Procedure → (Rows → Type 0) → MachineState → Effects → MachineState → Effects → Type 0
-GoesOn p answers_from m effects m' effects' = (args : List ℕ) (rows : Rows) (k : ℕ) → Suits p args rows → answers_from rows → HasRun p args rows k m effects → HasRun p args rows (k + 1) m' effects'
-
-was_more : (m n : MachineState) → (m.last ≢ More → n ≡ m) → n.last ≡ More → m.last ≡ More
-was_more m n over last = elim m.last as (λ t. m.last ≡ t → m.last ≡ More) [
-  | More ↦ λ e. e
-  | Exit reply ↦ λ e. ap (λ (x : MachineState). x.last) (sym (over (λ f. absurd cc))) ∙ last
-  | Stale ↦ λ e. ap (λ (x : MachineState). x.last) (sym (over (λ f. absurd cc))) ∙ last
-  | NoMemory ↦ λ e. ap (λ (x : MachineState). x.last) (sym (over (λ f. absurd cc))) ∙ last
-] refl
-
-pub on_next : (p : Procedure) (answers_from : Rows → Type 0) (n : ℕ) (m m' : MachineState) (effects effects' : Effects) → (m.last ≢ More → m' ≡ m) → GoesOn p answers_from m effects m' effects' → IsOnRunFor p answers_from n m effects
-    → IsOnRunFor p answers_from (n + 1) m' effects'
-on_next p answers_from n m m' effects effects' over goes on last =
-    let (args, rows, k, suits, answers, h, few) = on (was_more m m' over last) in
-    (args, rows, k + 1, suits, answers, goes args rows k suits answers h, omega (arith, few))
-
-pub further_next : (p : Procedure) (answers_from : Rows → Type 0) (n : ℕ) (m m' m'' : MachineState) (effects effects' effects'' : Effects) → GoesOn p answers_from m' effects' m'' effects'' → IsFurther p answers_from n m effects m' effects'
-    → IsFurther p answers_from (n + 1) m effects m'' effects''
-further_next p answers_from n m m' m'' effects effects' effects'' goes further args rows k suits answers h =
-    let one : k + n + 1 ≡ k + (n + 1) = omega arith in
-    subst (λ (j : ℕ). HasRun p args rows j m'' effects'') one (goes args rows (k + n) suits answers (further args rows k suits answers h))
-
-pub further_first : (p : Procedure) (answers_from : Rows → Type 0) (m : MachineState) (effects : Effects) → IsFurther p answers_from 0 m effects m effects
-further_first p answers_from m effects args rows k suits answers h =
-    let same : k ≡ k + 0 = omega arith in
-    subst (λ (j : ℕ). HasRun p args rows j m effects) same h
-
-pub on_first : (p : Procedure) (answers_from : Rows → Type 0) (m : MachineState) (effects : Effects) → IsOnRun p answers_from m effects → IsOnRunFor p answers_from 0 m effects
-on_first p answers_from m effects on last =
-    let (args, rows, k, suits, answers, h) = on last in
-    (args, rows, k, suits, answers, h, omega arith)
-
--- a machine that had ended before stays so
-pub still : {A : Type 0} (first m n : MachineState) (first_own own own' : Own A) → first.last ≢ More → (m ≡ first) × (own ≡ first_own) → (m.last ≢ More → (n ≡ m) × (own' ≡ own)) → (n ≡ first) × (own' ≡ first_own)
-still first m n first_own own own' stopped kept idle =
-    let next = idle (λ e. stopped (ap (λ (x : MachineState). x.last) (sym kept.0) ∙ e)) in
-    (next.0 ∙ kept.0, next.1 ∙ kept.1)

@@ -1,3 +1,3 @@
-mod Leaving
 mod Stepping
 mod Following
+mod Advancing

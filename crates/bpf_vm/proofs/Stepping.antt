@@ -25,7 +25,8 @@ use Rattle.vm_helpers.specs.declared.calls.CallAnswer.TheVariants as answer
 use Rattle.bpf_vm.specs.declared.turn.Turn.{Turn}
 use Rattle.bpf_vm.specs.declared.turn.Turn.TheVariants.{More, Exit, Stale, NoMemory}
 use Rattle.bpf_vm.specs.Turns.{CanStep, CanExecute, FollowsMoment, FollowsInstruction, FollowsStep}
-use Rattle.bpf_vm.proofs.Leaving.{SameEffects, execute_leaves}
+use Rattle.vm_state.specs.Plain.{SameEffects}
+use Rattle.vm_state.proofs.Leaving.{execute_leaves}
 
 -- ---- the instruction at the slot
 

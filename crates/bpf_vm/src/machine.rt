@@ -7,10 +7,11 @@ ghost use Rattle.bpf_semantics.specs.State.{State};
 ghost use Rattle.bpf_semantics.specs.Path.{longest_path};
 ghost use Rattle.acceptance.specs.Description.{Suits};
 ghost use Rattle.vm_state.specs.Words.{Holds};
+ghost use Rattle.vm_state.specs.Plain.{CanRunOn};
 ghost use Rattle.txn_view.specs.View.{IsViewOf};
 ghost use Rattle.bpf_vm.specs.declared.turn.Turn.TheVariants.{More};
 ghost use Rattle.bpf_vm.specs.Turns.{CanStep, CanTurn, FollowsStep, DoesNothing};
-ghost use Rattle.bpf_vm.specs.Run.{HasRun, AfterTurn, IsOnRun, no_effects, own_effects};
+ghost use Rattle.bpf_vm.specs.Run.{Effects, HasRun, AfterTurn, IsOnRun, no_effects, own_effects};
 
 use crate::laws::{open_calls_can_turn, runs_go_on_or_end};
 use crate::step::step;
@@ -166,7 +167,9 @@ impl Machine {
             (own_effects view.new.own) }
     {
         runs_go_on_or_end();
+        accepted_programs_never_go_wrong();
         for _ in 0..procedure.bound() {
+            self.run_plain(procedure);
             open_calls_can_turn(view);
             match self.turn(procedure, view) {
                 Turn::More => {}
@@ -174,5 +177,20 @@ impl Machine {
             }
         }
         self.last()
+    }
+
+    /// The instructions up to the next call, long jump or end, by the procedure's layout. Where the last turn didn't
+    /// answer that there is more, nothing is done.
+    fn run_plain<A: Allocator, B: Allocator>(&mut self, procedure: &Accepted<A, B>)
+        requires { self.old.last ≡ More → CanRunOn procedure.now.program self.old.words }
+        ensures idle { self.old.last ≢ More → self.new ≡ self.old }
+        ensures run { (args : List ℕ) (rows : Rows) (k : ℕ) (effects : Effects) → Suits procedure.now args rows
+            → HasRun procedure.now args rows k self.old effects
+            → (n : ℕ) × (k ≤ n) × HasRun procedure.now args rows n self.new effects }
+    {
+        accepted_programs_never_go_wrong();
+        if let Turn::More = self.last {
+            self.words.run_plain(procedure.code(), procedure.layout());
+        }
     }
 }

@@ -24,6 +24,8 @@ use std::marker::Model;
 #[derive(Debug, Drop)]
 pub struct Schema<A: Allocator = Global> {
     widths: BTreeMap<u8, u16, A>,
+    /// That of the map, for what is kept beside a copy of the schema.
+    alloc: A,
 }
 
 impl<A: Allocator> Model for Schema<A> {
@@ -50,8 +52,12 @@ impl<A: Allocator + Clone> Schema<A> {
             (fault ≡ NoMemory) ⊎ (schema_of pairs.now ≡ Err fault)) }
         ensures tables { IfOk result AreTables }
     {
+        let Ok(map_alloc) = alloc.clone() else {
+            return Err(SchemaFault::NoMemory);
+        };
         let mut schema = Schema {
-            widths: BTreeMap::new(alloc),
+            widths: BTreeMap::new(map_alloc),
+            alloc,
         };
         for &(table, width) in pairs {
             schema.add(table, width)?;
@@ -81,6 +87,11 @@ impl<A: Allocator> Schema<A> {
         ensures { AreTables self.now }
     {
         let _ = &self.widths;
+    }
+
+    /// The allocator from which its memory is. Contracts see no allocator.
+    pub fn allocator(&self) -> &A {
+        &self.alloc
     }
 
     /// The width of a table's rows, 1 to 128; none where the schema hasn't the table.
@@ -145,6 +156,7 @@ impl<A: Allocator + Clone> Clone for Schema<A> {
 
     fn clone(&self) -> Result<Schema<A>, AllocError> {
         let widths = self.widths.clone()?;
-        Ok(Schema { widths })
+        let alloc = self.alloc.clone()?;
+        Ok(Schema { widths, alloc })
     }
 }

@@ -3,3 +3,6 @@ mod Places
 mod Holding
 mod Loading
 mod Storing
+mod Widened
+pub mod Leaving
+mod RunningOn

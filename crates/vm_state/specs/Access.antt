@@ -2,10 +2,14 @@
 use Rattle.std.specs.Prelude.{ℕ, ◌+◌, ◌-◌, ◌%◌, ◌^◌, ◌<◌, ◌≤◌, ℤ, nat_lt, if◌then◌else◌, List, ◌++◌, length, take, drop, slice_set}
 use Rattle.std.specs.Int.{w64, cast_unsigned}
 use Rattle.bpf_code.specs.declared.instruction.Register.{Register}
+use Rattle.bpf_code.specs.declared.instruction.Instruction.{Instruction}
 use Rattle.bpf_code.specs.declared.instruction.Source.{Source}
 use Rattle.bpf_code.specs.declared.instruction.Source.TheVariants as source
 use Rattle.bpf_code.specs.Register.{number_of}
-use Rattle.vm_state.specs.Words.{Words, word, stack_end, args_start}
+use Rattle.schema.specs.Schema.{Tables}
+use Rattle.bpf_semantics.specs.State.{State}
+use Rattle.bpf_semantics.specs.Step.{execute}
+use Rattle.vm_state.specs.Words.{Words, Holds, HoldsNext, word, stack_end, args_start}
 
 -- so many bytes from an address on lie in the stack
 pub record InStack (address count : ℕ) : Type 0 where
@@ -47,6 +51,14 @@ bytes_from m address = if nat_lt address stack_end then stack_from m address els
 -- a word with an offset
 abbrev pub offset_address : ℕ → ℤ → ℕ
 offset_address w offset = (w + cast_unsigned w64 offset) % 2 ^ 64
+
+-- at this slot
+abbrev pub at_slot : ℕ → Words → Words
+at_slot at m = record m { slot = at }
+
+-- what an instruction makes of each state that the words at one slot stand for, others at another stand for
+abbrev pub Follows : Instruction → ℕ → Words → ℕ → Words → Type 0
+Follows i at m to n = (tables : Tables) (s : State) → Holds s (at_slot at m) → HoldsNext (execute tables i s) (at_slot to n)
 
 abbrev pub operand_word : Words → Source → ℕ
 operand_word m (source.Immediate immediate) = cast_unsigned w64 immediate

@@ -12,6 +12,9 @@ pub use laws::{
 pub use state::WordState;
 
 mod execute;
+mod flat;
+mod kinds;
 mod laws;
+mod plain;
 mod state;
 mod words;

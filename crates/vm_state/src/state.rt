@@ -11,7 +11,8 @@ ghost use Rattle.bpf_semantics.specs.State.{State, entry_state, past};
 ghost use Rattle.bpf_semantics.specs.Memory.{known_bytes, stack_with};
 ghost use Rattle.bpf_semantics.specs.Helpers.{buffer_of, with_answer, with_stack};
 ghost use Rattle.vm_state.specs.Words.{Holds, IsWordOf, word};
-ghost use Rattle.vm_state.specs.Access.{InStack, CanLoad, stack_from, bytes_from, words_past, with_word, with_bytes};
+ghost use Rattle.vm_state.specs.Access.{InStack, CanLoad, stack_from, bytes_from};
+ghost use Rattle.vm_state.specs.Access.{words_past, with_word, with_bytes, at_slot};
 
 use bpf_code::{Register, Size};
 use schema::MAX_ARGUMENTS;
@@ -93,6 +94,12 @@ impl WordState {
         ensures { self.new ≡ words_past slots self.old }
     {
         self.slot += slots;
+    }
+
+    pub(crate) fn set_slot(&mut self, slot: usize)
+        ensures { self.new ≡ at_slot slot self.old }
+    {
+        self.slot = slot;
     }
 
     pub(crate) fn set(&mut self, register: Register, word: u64)

@@ -1,7 +1,7 @@
 use Rattle.std.proofs.Common.{◌≡◌, ◌≢◌}
 use Rattle.bpf_vm.specs.declared.turn.Turn.TheVariants.{More}
 use Rattle.bpf_vm.specs.Run.{own_effects}
-use Rattle.bpf_vm.proofs.Following.{IsOnRunFor, IsFurther}
+use Rattle.bpf_vm.proofs.Advancing.{IsOnRunFor, IsFurther}
 use Rattle.bpf_vm.proofs.machine.Machine.run.Given as goal
 
 abbrev pub invariant-loop : goal.invariant-loop

@@ -10,18 +10,13 @@ use Rattle.bpf_semantics.specs.declared.value.Value.{Value}
 use Rattle.bpf_semantics.specs.State.{State, with_register, past}
 use Rattle.bpf_semantics.specs.Helpers.{with_stack}
 use Rattle.bpf_semantics.specs.Step.{Going, execute, after_jump, with_result, with_store}
+use Rattle.vm_state.specs.Plain.{SameEffects}
 use Rattle.bpf_semantics.proofs.StepLemmas.{going_on, going_is, set_is}
-
-pub record SameEffects (s t : State) : Type 0 where
-  pub looks : t.looks ≡ s.looks
-  pub writes : t.writes ≡ s.writes
-  pub rows : t.rows ≡ s.rows
-  pub code : t.cancel_code ≡ s.cancel_code
 
 same : (n : ℕ) (s u t : State) → SameEffects s u → Going (past n u) ≡ Going t → SameEffects s t
 same n s u t p e = subst (λ (x : State). SameEffects s x) (going_is (past n u) t e) (record { looks = p.looks; writes = p.writes; rows = p.rows; code = p.code })
 
-itself : (s : State) → SameEffects s s
+pub itself : (s : State) → SameEffects s s
 itself s = record { looks = refl; writes = refl; rows = refl; code = refl }
 
 set_leaves : (n : ℕ) (dst : Register) (v : Value) (s t : State) → with_result n dst v s ≡ Going t → SameEffects s t

@@ -1,0 +1,36 @@
+//! Plain instructions one after another.
+
+ghost use Rattle.std.specs.Prelude.{◌≡◌};
+ghost use Rattle.schema.specs.Schema.{Tables};
+ghost use Rattle.bpf_code.specs.Program.{instruction_at};
+ghost use Rattle.bpf_semantics.specs.State.{State};
+ghost use Rattle.flat_code.specs.Flat.{LaidOut};
+ghost use Rattle.vm_state.specs.Words.{Holds};
+ghost use Rattle.vm_state.specs.Plain.{IsStop, IsNeverStuck, CanRunOn, Reaches};
+
+use crate::state::WordState;
+use bpf_code::Code;
+use flat_code::FlatInstruction;
+use std::alloc::Allocator;
+
+impl WordState {
+    /// Runs on by the program's layout, up to the next call, long jump or end, which is left to be run. One of the states
+    /// that this one stands for never gets stuck, and of each that doesn't it stands for what is reached.
+    pub fn run_plain<A: Allocator>(&mut self, code: &Code<A>, layout: &[FlatInstruction])
+        requires layout { LaidOut code.now layout.now }
+        requires can { CanRunOn code.now self.old }
+        ensures reaches { (tables : Tables) (s : State) → Holds s self.old → IsNeverStuck code.now tables s
+            → Reaches code.now tables s self.new }
+        ensures stops { IsStop (instruction_at code.now self.new.slot) }
+    {
+        code.known();
+        let mut at = self.slot();
+        loop {
+            let Some(to) = self.execute_flat(at, at + 1, &layout[at]) else {
+                self.set_slot(at);
+                return;
+            };
+            at = to;
+        }
+    }
+}
