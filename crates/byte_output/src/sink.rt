@@ -57,7 +57,9 @@ impl<A: Allocator> ByteSink for GrowingBytes<A> {
     ghost use Rattle.byte_output.specs.Sink.{grown_by_nothing, grown_twice};
 
     ghost appends = { HasGrown };
+
     ghost nothing = { grown_by_nothing };
+
     ghost together = { grown_twice };
 
     fn append(&mut self, bytes: &[u8]) {

@@ -1,16 +1,23 @@
 //! Keys in order.
 
-ghost use Rattle.std.specs.Prelude.{◌≡◌, ◌<◌, ◌≤◌, ◌+◌, ◌++◌, length, take, drop, reverse, vec_capacity, OnOk, OnErr};
+ghost use Rattle.std.specs.Prelude.{◌≡◌, ◌<◌, ◌≤◌, ◌+◌, length, take, drop, OnOk, OnErr};
 ghost use Rattle.std.specs.Prelude.{filter, slice_get, option_map, is_ok, slice_index_or, slice_set, Some, None, IfOk};
 ghost use Rattle.std.specs.Prelude.{IfSome, IfNone, ℕ};
 ghost use Rattle.std.specs.Option.{option_copied};
 ghost use Rattle.row_chain.specs.Version.{row_up_to, HasRoom};
 ghost use Rattle.key_page.specs.Slots.{Slot, IsReserved, IsPushed, IsPruned, ArePruned, AreRising, below, chain_at};
-ghost use Rattle.key_page.specs.Slots.{versions_at, rows_between, AreFrom, has_versions, begins_by, with_slot};
-ghost use Rattle.key_page.specs.Slots.{IsPrunedTo};
+ghost use Rattle.key_page.specs.Slots.{versions_at, rows_between, AreFrom, has_versions, begins_by, least_key};
+ghost use Rattle.key_page.specs.Slots.{with_slot, IsPrunedTo};
 
 use crate::entry::Entry;
 use std::alloc::{AllocError, Allocator};
+
+/// How many keys a page grows by, so that little of its room is empty.
+const GROWTH: usize = 16;
+
+/// How many keys are passed by one probe. No probe waits for what another reads, so that memory is read side by side,
+/// as it isn't where halves are taken.
+const STRIDE: usize = 8;
 
 /// How many keys are below this one.
 pub fn place<A: Allocator>(entries: &[Entry<A>], key: u64) -> usize
@@ -19,14 +26,11 @@ pub fn place<A: Allocator>(entries: &[Entry<A>], key: u64) -> usize
     ensures within { result ≤ length entries.now }
 {
     let mut low = 0;
-    let mut high = entries.len();
-    while low < high {
-        let middle = low + (high - low) / 2;
-        if entries[middle].key() < key {
-            low = middle + 1;
-        } else {
-            high = middle;
-        }
+    while STRIDE <= entries.len() - low && entries[low + STRIDE - 1].key() < key {
+        low += STRIDE;
+    }
+    while low < entries.len() && entries[low].key() < key {
+        low += 1;
     }
     low
 }
@@ -126,6 +130,16 @@ pub fn begins_by<A: Allocator>(entries: &[Entry<A>], key: u64) -> bool
     entries[0].key() <= key
 }
 
+/// The least key, 0 where there is none.
+pub fn least<A: Allocator>(entries: &[Entry<A>]) -> u64
+    ensures { result ≡ least_key entries.now }
+{
+    if entries.is_empty() {
+        return 0;
+    }
+    entries[0].key()
+}
+
 /// Puts an entry in its place.
 pub fn insert<A: Allocator>(
     entries: &mut Vec<Entry<A>, A>,
@@ -136,51 +150,39 @@ pub fn insert<A: Allocator>(
     ensures none { OnErr result (entries.new.items ≡ entries.old.items) }
 {
     let at = place(entries, entry.key());
+    if entries.len() == entries.capacity() {
+        entries.reserve_exact(GROWTH)?;
+    }
     entries.insert(at, entry)?;
     Ok(())
-}
-
-/// Moves the entry at the end to another vector, which has room for it.
-fn move_last<A: Allocator>(from: &mut Vec<Entry<A>, A>, to: &mut Vec<Entry<A>, A>)
-    requires some { 0 < length from.old.items }
-    requires room { length to.old.items < vec_capacity to.old }
-    ensures items { from.new.items ++ reverse to.new.items ≡ from.old.items ++ reverse to.old.items }
-    ensures len { length from.new.items + 1 ≡ length from.old.items }
-    ensures more { length to.new.items ≡ length to.old.items + 1 }
-    ensures capacity { vec_capacity to.old ≤ vec_capacity to.new }
-{
-    if let Some(entry) = from.pop() {
-        let pushed = to.push(entry);
-        prove!(pushed.is_ok());
-    }
 }
 
 /// Takes the upper half of 64 entries away.
 pub fn split<A: Allocator + Copy>(
     entries: &mut Vec<Entry<A>, A>,
-    alloc: A,
 ) -> Result<Vec<Entry<A>, A>, AllocError>
     requires { length entries.old.items ≡ 64 }
     ensures lower { OnOk result (entries.new.items ≡ take 32 entries.old.items) }
     ensures upper { IfOk result (λ upper. upper.items ≡ drop 32 entries.old.items) }
     ensures none { OnErr result (entries.new.items ≡ entries.old.items) }
 {
-    let mut upper = Vec::with_capacity(alloc, 32)?;
-    for _ in 0..32_usize {
-        move_last(entries, &mut upper);
-    }
-    upper.reverse();
+    let upper = entries.split_off(32)?;
+    entries.shrink_to(32);
     Ok(upper)
 }
 
 /// Makes room for one more version at a place.
-pub fn reserve_at<A: Allocator>(entries: &mut Vec<Entry<A>, A>, at: usize) -> Result<(), AllocError>
+pub fn reserve_at<A: Allocator + Copy>(
+    entries: &mut Vec<Entry<A>, A>,
+    alloc: A,
+    at: usize,
+) -> Result<(), AllocError>
     requires { at < length entries.old.items }
     ensures { (d : Slot) → IsReserved (is_ok result) (slice_index_or entries.old.items at d)
         (slice_index_or entries.new.items at d)
         × (entries.new.items ≡ slice_set entries.old.items at (slice_index_or entries.new.items at d)) }
 {
-    entries[at].reserve()
+    entries[at].reserve(alloc)
 }
 
 /// One version more at a place.

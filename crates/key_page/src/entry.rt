@@ -55,28 +55,28 @@ impl<A: Allocator> Entry<A> {
 
 impl<A: Allocator> Entry<A> {
     /// One of a key that has no versions yet, for rows of so many bytes.
-    pub fn new(alloc: A, width: usize, key: u64) -> Entry<A>
-    where
-        A: Copy,
+    pub fn new(width: u16, key: u64) -> Entry<A>
         ensures key { result.key ≡ key }
         ensures versions { result.chain.versions ≡ [] }
         ensures width { result.chain.width ≡ width }
     {
         Entry {
             key,
-            chain: Chain::new(alloc, width),
+            chain: Chain::new(width),
         }
     }
 
     /// Makes room for one version more. An error is want of memory; then nothing has changed.
-    pub fn reserve(&mut self) -> Result<(), AllocError>
+    pub fn reserve(&mut self, alloc: A) -> Result<(), AllocError>
+    where
+        A: Copy,
         ensures key { self.new.key ≡ self.old.key }
         ensures versions { self.new.chain.versions ≡ self.old.chain.versions }
         ensures width { self.new.chain.width ≡ self.old.chain.width }
         ensures room { OnOk result (HasRoom self.new.chain) }
         ensures more { HasRoom self.old.chain → HasRoom self.new.chain }
     {
-        self.chain.reserve()
+        self.chain.reserve(alloc)
     }
 
     /// Adds a version after a position, in room that there is: a row, or none where it was removed.

@@ -5,7 +5,7 @@ ghost use Rattle.std.specs.Prelude.{is_ok, slice_index_or, slice_set, Some, None
 ghost use Rattle.std.specs.Option.{option_copied};
 ghost use Rattle.row_chain.specs.Version.{row_up_to, HasRoom};
 ghost use Rattle.key_page.specs.Slots.{Slot, IsReserved, IsPushed, AreRising, chain_at, versions_at, rows_between};
-ghost use Rattle.key_page.specs.Slots.{begins_by, with_slot, IsPrunedTo};
+ghost use Rattle.key_page.specs.Slots.{begins_by, least_key, with_slot, IsPrunedTo};
 
 use crate::entries;
 use crate::entry::Entry;
@@ -33,6 +33,13 @@ impl<A: Allocator> Page<A> {
         ensures { result ≡ begins_by key self.now }
     {
         entries::begins_by(&self.entries, key)
+    }
+
+    /// Its least key, 0 where it has none.
+    pub fn least(&self) -> u64
+        ensures { result ≡ least_key self.now }
+    {
+        entries::least(&self.entries)
     }
 
     /// How many keys it has.
@@ -90,13 +97,13 @@ impl<A: Allocator + Copy> Page<A> {
     }
 
     /// Takes the upper half of a page of 64 keys away. After want of memory nothing has changed.
-    pub fn split(&mut self, alloc: A) -> Result<Page<A>, AllocError>
+    pub fn split(&mut self) -> Result<Page<A>, AllocError>
         requires { length self.old ≡ 64 }
         ensures lower { OnOk result (self.new ≡ take 32 self.old) }
         ensures upper { IfOk result (λ upper. upper ≡ drop 32 self.old) }
         ensures none { OnErr result (self.new ≡ self.old) }
     {
-        let entries = entries::split(&mut self.entries, alloc)?;
+        let entries = entries::split(&mut self.entries)?;
         Ok(Page { entries })
     }
 }
@@ -112,12 +119,14 @@ impl<A: Allocator> Page<A> {
     }
 
     /// Makes room for one more version at a place.
-    pub fn reserve_at(&mut self, at: usize) -> Result<(), AllocError>
+    pub fn reserve_at(&mut self, alloc: A, at: usize) -> Result<(), AllocError>
+    where
+        A: Copy,
         requires { at < length self.old }
         ensures { (d : Slot) → IsReserved (is_ok result) (slice_index_or self.old at d) (slice_index_or self.new at d)
             × (self.new ≡ slice_set self.old at (slice_index_or self.new at d)) }
     {
-        entries::reserve_at(&mut self.entries, at)
+        entries::reserve_at(&mut self.entries, alloc, at)
     }
 
     /// One version more at a place.

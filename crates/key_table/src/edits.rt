@@ -7,7 +7,8 @@ ghost use Rattle.std.specs.Option.{option_copied, IsSomeAnd};
 ghost use Rattle.row_chain.specs.Version.{HasRoom};
 ghost use Rattle.key_table.specs.declared.edits.TheConstants.{PAGE_KEYS, TABLE_PAGES};
 ghost use Rattle.key_table.specs.Table.{Slot, IsReserved, IsPushed, AreRising, chain_at, versions_at, HasRoomAt};
-ghost use Rattle.key_table.specs.Pages.{all_slots, with_slot, in_page, in_pages, begins_by, has_slots, AreFilled};
+ghost use Rattle.key_table.specs.Pages.{all_slots, least_key, least_keys, with_slot, in_page, in_pages, begins_by};
+ghost use Rattle.key_table.specs.Pages.{has_slots, AreFilled};
 ghost use Rattle.key_table.specs.Pages.{ArePages, IsInserted, IsPrunedTo, ArePagesPruned};
 
 use crate::pages::{find, page_of};
@@ -21,8 +22,9 @@ pub const PAGE_KEYS: usize = 64;
 pub const TABLE_PAGES: usize = 144_115_188_075_855_872;
 
 /// Makes room for one more version at a place of a page.
-pub fn reserve_at<A: Allocator>(
+pub fn reserve_at<A: Allocator + Copy>(
     pages: &mut Vec<Page<A>, A>,
+    alloc: A,
     page: usize,
     at: usize,
 ) -> Result<(), AllocError>
@@ -35,7 +37,7 @@ pub fn reserve_at<A: Allocator>(
         (slice_set (slice_index_or pages.old.items page p) at
         (slice_index_or (slice_index_or pages.new.items page p) at d))) }
 {
-    pages[page].reserve_at(at)
+    pages[page].reserve_at(alloc, at)
 }
 
 /// One version more at a place of a page.
@@ -62,8 +64,38 @@ pub fn push_at<A: Allocator>(
     pages[page].push_at(at, position, row);
 }
 
-/// Puts an entry in its place in a page.
+/// Notes the least key of a page again.
+fn set_least<A: Allocator>(least: &mut Vec<u64, A>, pages: &[Page<A>], page: usize)
+    requires page { page < length pages.now }
+    requires len { length least.old.items ≡ length pages.now }
+    ensures { (p : List Slot) → least.new.items
+        ≡ slice_set least.old.items page (least_key (slice_index_or pages.now page p)) }
+{
+    least[page] = pages[page].least();
+}
+
+/// Puts an entry in its place in a page, and notes the least key of the page.
 fn insert_at<A: Allocator>(
+    least: &mut Vec<u64, A>,
+    pages: &mut Vec<Page<A>, A>,
+    page: usize,
+    entry: Entry<A>,
+) -> Result<(), AllocError>
+    requires page { page < length pages.old.items }
+    requires rising { (p : List Slot) → AreRising (slice_index_or pages.old.items page p) }
+    requires least { least.old.items ≡ least_keys pages.old.items }
+    ensures done { OnOk result ((p : List Slot)
+        → pages.new.items ≡ slice_set pages.old.items page (with_slot entry (slice_index_or pages.old.items page p))) }
+    ensures none { OnErr result (pages.new.items ≡ pages.old.items) }
+    ensures least { least.new.items ≡ least_keys pages.new.items }
+{
+    put_in(pages, page, entry)?;
+    set_least(least, pages, page);
+    Ok(())
+}
+
+/// Puts an entry in its place in a page.
+fn put_in<A: Allocator>(
     pages: &mut Vec<Page<A>, A>,
     page: usize,
     entry: Entry<A>,
@@ -96,7 +128,6 @@ fn begins_by<A: Allocator>(pages: &[Page<A>], page: usize, key: u64) -> bool
 /// Takes the upper half of a full page away.
 fn take_upper<A: Allocator + Copy>(
     pages: &mut Vec<Page<A>, A>,
-    alloc: A,
     page: usize,
 ) -> Result<Page<A>, AllocError>
     requires page { page < length pages.old.items }
@@ -108,13 +139,43 @@ fn take_upper<A: Allocator + Copy>(
     ensures room { vec_capacity pages.new ≡ vec_capacity pages.old }
     ensures len { vec_len pages.new ≡ vec_len pages.old }
 {
-    pages[page].split(alloc)
+    pages[page].split()
+}
+
+/// Splits a full page, and notes the least key of its upper half. After want of memory nothing has changed.
+fn split_at<A: Allocator + Copy>(
+    least: &mut Vec<u64, A>,
+    pages: &mut Vec<Page<A>, A>,
+    page: usize,
+) -> Result<(), AllocError>
+    requires page { page < length pages.old.items }
+    requires full { (p : List Slot) → length (slice_index_or pages.old.items page p) ≡ PAGE_KEYS }
+    requires least { least.old.items ≡ least_keys pages.old.items }
+    ensures done { OnOk result ((p : List Slot)
+        → pages.new.items ≡ take page pages.old.items ++ take 32 (slice_index_or pages.old.items page p)
+        ∷ drop 32 (slice_index_or pages.old.items page p) ∷ drop (page + 1) pages.old.items) }
+    ensures none { OnErr result (pages.new.items ≡ pages.old.items) }
+    ensures least { least.new.items ≡ least_keys pages.new.items }
+{
+    least.reserve(1)?;
+    split_page(pages, page)?;
+    let first = least_of(pages, page + 1);
+    let noted = least.insert(page + 1, first);
+    prove!(noted.is_ok());
+    Ok(())
+}
+
+/// The least key of a page.
+fn least_of<A: Allocator>(pages: &[Page<A>], page: usize) -> u64
+    requires { page < length pages.now }
+    ensures { (p : List Slot) → result ≡ least_key (slice_index_or pages.now page p) }
+{
+    pages[page].least()
 }
 
 /// Splits a full page: its upper half becomes the next page. After want of memory nothing has changed.
-fn split_at<A: Allocator + Copy>(
+fn split_page<A: Allocator + Copy>(
     pages: &mut Vec<Page<A>, A>,
-    alloc: A,
     page: usize,
 ) -> Result<(), AllocError>
     requires page { page < length pages.old.items }
@@ -125,7 +186,7 @@ fn split_at<A: Allocator + Copy>(
     ensures none { OnErr result (pages.new.items ≡ pages.old.items) }
 {
     pages.reserve(1)?;
-    let upper = take_upper(pages, alloc, page)?;
+    let upper = take_upper(pages, page)?;
     let inserted = pages.insert(page + 1, upper);
     prove!(inserted.is_ok());
     Ok(())
@@ -133,6 +194,7 @@ fn split_at<A: Allocator + Copy>(
 
 /// Puts an entry into one of the two halves of a page.
 fn insert_half<A: Allocator>(
+    least: &mut Vec<u64, A>,
     pages: &mut Vec<Page<A>, A>,
     page: usize,
     entry: Entry<A>,
@@ -140,6 +202,8 @@ fn insert_half<A: Allocator>(
     requires page { page + 1 < length pages.old.items }
     requires lower { (p : List Slot) → AreRising (slice_index_or pages.old.items page p) }
     requires upper { (p : List Slot) → AreRising (slice_index_or pages.old.items (page + 1) p) }
+    requires least { least.old.items ≡ least_keys pages.old.items }
+    ensures least { least.new.items ≡ least_keys pages.new.items }
     ensures done { OnOk result ((p : List Slot)
         → pages.new.items ≡ (if begins_by entry.key (slice_index_or pages.old.items (page + 1) p)
         then slice_set pages.old.items (page + 1) (with_slot entry (slice_index_or pages.old.items (page + 1) p))
@@ -147,21 +211,23 @@ fn insert_half<A: Allocator>(
     ensures none { OnErr result (pages.new.items ≡ pages.old.items) }
 {
     if begins_by(pages, page + 1, entry.key()) {
-        return insert_at(pages, page + 1, entry);
+        return insert_at(least, pages, page + 1, entry);
     }
-    insert_at(pages, page, entry)
+    insert_at(least, pages, page, entry)
 }
 
 /// Puts an entry into a page, and first splits the page where it is full.
 fn insert_into<A: Allocator + Copy>(
+    least: &mut Vec<u64, A>,
     pages: &mut Vec<Page<A>, A>,
-    alloc: A,
     page: usize,
     entry: Entry<A>,
 ) -> Result<(), AllocError>
     requires page { page < length pages.old.items }
     requires rising { (p : List Slot) → AreRising (slice_index_or pages.old.items page p) }
     requires filled { AreFilled pages.old.items }
+    requires least { least.old.items ≡ least_keys pages.old.items }
+    ensures least { least.new.items ≡ least_keys pages.new.items }
     ensures done { OnOk result ((p : List Slot)
         → pages.new.items ≡ take page pages.old.items
         ++ (in_page entry (slice_index_or pages.old.items page p) ++ drop (page + 1) pages.old.items)) }
@@ -170,36 +236,46 @@ fn insert_into<A: Allocator + Copy>(
     ensures few { length pages.new.items ≤ length pages.old.items + 1 }
 {
     if keys(pages, page) < PAGE_KEYS {
-        return insert_at(pages, page, entry);
+        return insert_at(least, pages, page, entry);
     }
-    split_at(pages, alloc, page)?;
-    insert_half(pages, page, entry)
+    split_at(least, pages, page)?;
+    insert_half(least, pages, page, entry)
 }
 
 /// Makes the first page of an entry.
 fn insert_first<A: Allocator + Copy>(
+    least: &mut Vec<u64, A>,
     pages: &mut Vec<Page<A>, A>,
     alloc: A,
     entry: Entry<A>,
 ) -> Result<(), AllocError>
-    requires { pages.old.items ≡ [] }
+    requires none { pages.old.items ≡ [] }
+    requires least { least.old.items ≡ [] }
+    ensures least { least.new.items ≡ least_keys pages.new.items }
     ensures done { OnOk result (pages.new.items ≡ (entry ∷ []) ∷ []) }
     ensures none { OnErr result (pages.new.items ≡ pages.old.items) }
 {
+    least.reserve(1)?;
+    let key = entry.key();
     let page = Page::new(alloc, entry)?;
     pages.push(page)?;
+    let noted = least.push(key);
+    prove!(noted.is_ok());
     Ok(())
 }
 
 /// Puts an entry in its place. After want of memory the keys are the same.
 fn insert<A: Allocator + Copy>(
+    least: &mut Vec<u64, A>,
     pages: &mut Vec<Page<A>, A>,
     alloc: A,
     entry: Entry<A>,
 ) -> Result<(), AllocError>
     requires rising { AreRising (all_slots pages.old.items) }
     requires filled { AreFilled pages.old.items }
+    requires least { least.old.items ≡ least_keys pages.old.items }
     requires few { length pages.old.items ≤ TABLE_PAGES }
+    ensures least { least.new.items ≡ least_keys pages.new.items }
     ensures done { OnOk result (pages.new.items ≡ in_pages entry pages.old.items) }
     ensures none { OnErr result (all_slots pages.new.items ≡ all_slots pages.old.items) }
     ensures filled { AreFilled pages.new.items }
@@ -209,44 +285,55 @@ fn insert<A: Allocator + Copy>(
         return Err(AllocError);
     }
     if pages.is_empty() {
-        return insert_first(pages, alloc, entry);
+        return insert_first(least, pages, alloc, entry);
     }
-    let page = page_of(pages, entry.key());
-    insert_into(pages, alloc, page, entry)
+    let page = page_of(least, pages, entry.key());
+    insert_into(least, pages, page, entry)
 }
 
 /// Makes room for one more version of a key, which is put in its place where it is new.
 pub fn reserve<A: Allocator + Copy>(
+    least: &mut Vec<u64, A>,
     pages: &mut Vec<Page<A>, A>,
     alloc: A,
-    width: usize,
+    width: u16,
     key: u64,
 ) -> Result<(), AllocError>
-    requires { ArePages width pages.old.items }
+    requires pages { ArePages width pages.old.items }
+    requires least { least.old.items ≡ least_keys pages.old.items }
     ensures pages { ArePages width pages.new.items }
+    ensures least { least.new.items ≡ least_keys pages.new.items }
     ensures inserted { OnOk result (chain_at (all_slots pages.old.items) key ≡ None
         → IsInserted key pages.old.items pages.new.items) }
     ensures versions { (q : ℕ) → versions_at (all_slots pages.new.items) q ≡ versions_at (all_slots pages.old.items) q }
     ensures room { OnOk result (HasRoomAt (all_slots pages.new.items) key) }
     ensures more { (q : ℕ) → HasRoomAt (all_slots pages.old.items) q → HasRoomAt (all_slots pages.new.items) q }
 {
-    match find(pages, key) {
-        Some((page, at)) => reserve_at(pages, page, at),
+    match find(least, pages, key) {
+        Some((page, at)) => reserve_at(pages, alloc, page, at),
         None => {
-            let mut entry = Entry::new(alloc, width, key);
-            entry.reserve()?;
-            insert(pages, alloc, entry)
+            let mut entry = Entry::new(width, key);
+            entry.reserve(alloc)?;
+            insert(least, pages, alloc, entry)
         }
     }
 }
 
 /// One version more of a key.
-pub fn push<A: Allocator>(pages: &mut Vec<Page<A>, A>, key: u64, position: u32, row: Option<&[u8]>)
+pub fn push<A: Allocator>(
+    least: &[u64],
+    pages: &mut Vec<Page<A>, A>,
+    key: u64,
+    position: u32,
+    row: Option<&[u8]>,
+)
+    requires least { least.now ≡ least_keys pages.old.items }
     requires rising { AreRising (all_slots pages.old.items) }
     requires filled { AreFilled pages.old.items }
     requires room { HasRoomAt (all_slots pages.old.items) key }
     requires width { IfSome row
         (λ r. IsSomeAnd (chain_at (all_slots pages.old.items) key) (λ k. length r.now ≡ k.width)) }
+    ensures least { least_keys pages.new.items ≡ least_keys pages.old.items }
     ensures pages { (w : ℕ) → ArePages w pages.old.items → ArePages w pages.new.items }
     ensures versions { (q : ℕ) → versions_at (all_slots pages.new.items) q ≡ (if key == q
         then versions_at (all_slots pages.old.items) q ++ record { position = position; row = option_copied row.entry }
@@ -255,7 +342,7 @@ pub fn push<A: Allocator>(pages: &mut Vec<Page<A>, A>, key: u64, position: u32, 
     ensures room { (q : ℕ) → key ≢ q → HasRoomAt (all_slots pages.old.items) q
         → HasRoomAt (all_slots pages.new.items) q }
 {
-    let found = find(pages, key);
+    let found = find(least, pages, key);
     prove!(found.is_some());
     if let Some((page, at)) = found {
         push_at(pages, page, at, position, row);
@@ -291,11 +378,25 @@ fn drop_empty<A: Allocator>(pages: &mut Vec<Page<A>, A>)
 }
 
 /// Drops what no position from the horizon on sees, the keys of which nothing is left, and the pages without keys.
-pub fn prune<A: Allocator>(pages: &mut Vec<Page<A>, A>, horizon: u32)
+pub fn prune<A: Allocator>(least: &mut Vec<u64, A>, pages: &mut Vec<Page<A>, A>, horizon: u32)
+    requires { least.old.items ≡ least_keys pages.old.items }
+    ensures least { least.new.items ≡ least_keys pages.new.items }
     ensures slots { IsPrunedTo horizon (all_slots pages.old.items) (all_slots pages.new.items) }
     ensures filled { AreFilled pages.old.items → AreFilled pages.new.items }
     ensures few { length pages.new.items ≤ length pages.old.items }
 {
     prune_each(pages, horizon);
     drop_empty(pages);
+    note_all(least, pages);
+}
+
+/// Notes the least key of each page, where there is room for as many.
+fn note_all<A: Allocator>(least: &mut Vec<u64, A>, pages: &[Page<A>])
+    requires { length pages.now ≤ length least.old.items }
+    ensures { least.new.items ≡ least_keys pages.now }
+{
+    least.truncate(pages.len());
+    for page in 0..pages.len() {
+        set_least(least, pages, page);
+    }
 }

@@ -15,29 +15,34 @@ use std::marker::Model;
 /// The keys of one table in order, each with its versions.
 #[derive(Drop)]
 pub struct KeyTable<A: Allocator = Global> {
-    width: usize,
+    width: u16,
+    least: Vec<u64, A>,
     pages: Vec<Page<A>, A>,
 }
 
 impl<A: Allocator> Model for KeyTable<A> {
+    ghost use Rattle.std.specs.Prelude.{◌≡◌};
     ghost use Rattle.key_table.specs.Table.{Table};
-    ghost use Rattle.key_table.specs.Pages.{all_slots, ArePages};
+    ghost use Rattle.key_table.specs.Pages.{all_slots, least_keys, ArePages};
 
     ghost Value = { Table };
 
     ghost view = { λ t. record { width = t.width; slots = all_slots t.pages.items } };
 
-    ghost invariant = { λ t. ArePages t.width t.pages.items };
+    ghost invariant = { λ t. ArePages t.width t.pages.items × (t.least.items ≡ least_keys t.pages.items) };
 }
 
 impl<A: Allocator> KeyTable<A> {
     /// No keys, for rows of so many bytes. Takes no memory.
-    pub fn new(alloc: A, width: usize) -> KeyTable<A>
+    pub fn new(alloc: A, width: u16) -> KeyTable<A>
+    where
+        A: Copy,
         ensures slots { result.slots ≡ [] }
         ensures width { result.width ≡ width }
     {
         KeyTable {
             width,
+            least: Vec::new(alloc),
             pages: Vec::new(alloc),
         }
     }
@@ -55,7 +60,7 @@ impl<A: Allocator> KeyTable<A> {
     pub fn row_at(&self, position: u32, key: u64) -> Option<&[u8]>
         ensures { option_copied result ≡ row_up_to position (versions_at self.now.slots key) }
     {
-        pages::row_at(&self.pages, position, key)
+        pages::row_at(&self.least, &self.pages, position, key)
     }
 
     /// How many rows there are in a range at a position.
@@ -63,7 +68,7 @@ impl<A: Allocator> KeyTable<A> {
         ensures count { result ≡ length (rows_between position lo hi self.now.slots) }
         ensures rising { AreRising self.now.slots }
     {
-        pages::count(pages::since(&self.pages, lo), position, lo, hi)
+        pages::count(pages::since(&self.least, &self.pages, lo), position, lo, hi)
     }
 
     /// The first row in a range at a position, with its key.
@@ -74,7 +79,7 @@ impl<A: Allocator> KeyTable<A> {
         // What is known of every table: a greater number than any key has no versions.
         ensures words { (q : ℕ) → 2 ^ 64 ≤ q → versions_at self.now.slots q ≡ [] }
     {
-        pages::first(pages::since(&self.pages, lo), position, lo, hi)
+        pages::first(pages::since(&self.least, &self.pages, lo), position, lo, hi)
     }
 }
 
@@ -86,7 +91,7 @@ impl<A: Allocator + Copy> KeyTable<A> {
         ensures more { (q : ℕ) → HasRoomAt self.old.slots q → HasRoomAt self.new.slots q }
         ensures width { self.new.width ≡ self.old.width }
     {
-        edits::reserve(&mut self.pages, alloc, self.width, key)
+        edits::reserve(&mut self.least, &mut self.pages, alloc, self.width, key)
     }
 }
 
@@ -101,7 +106,7 @@ impl<A: Allocator> KeyTable<A> {
         ensures room { (q : ℕ) → key ≢ q → HasRoomAt self.old.slots q → HasRoomAt self.new.slots q }
         ensures width { self.new.width ≡ self.old.width }
     {
-        edits::push(&mut self.pages, key, position, row);
+        edits::push(&self.least, &mut self.pages, key, position, row);
     }
 
     /// Drops from each key the versions that no position from the horizon on sees, and the keys of which none is left.
@@ -111,6 +116,6 @@ impl<A: Allocator> KeyTable<A> {
         ensures kept { (q : ℕ) → IsSome (chain_at self.new.slots q) → versions_at self.new.slots q ≢ [] }
         ensures width { self.new.width ≡ self.old.width }
     {
-        edits::prune(&mut self.pages, horizon);
+        edits::prune(&mut self.least, &mut self.pages, horizon);
     }
 }

@@ -1,125 +1,104 @@
-//! A chain of versions: a mark each, and the rows' bytes one after another, so that a version takes no memory of its
-//! own.
+//! The versions of a key.
 
-ghost use Rattle.std.specs.Prelude.{◌≡◌, ◌==◌, ℕ, List, ◌+◌, ◌*◌, ◌<◌, ◌≤◌, ◌^◌, ◌++◌, [], ◌∷◌, length, map, OnOk};
-ghost use Rattle.std.specs.Prelude.{IfSome, None};
+ghost use Rattle.std.specs.Prelude.{◌≡◌, ◌==◌, ◌++◌, [], ◌∷◌, length, option_map, OnOk, IfOk, IfSome, ◌≤◌};
 ghost use Rattle.std.specs.Option.{option_copied};
-ghost use Rattle.row_chain.specs.Version.{row_up_to, hidden_count, needed_versions, is_removed, HasRoom};
-ghost use Rattle.row_chain.specs.Marks.{versions_of};
+ghost use Rattle.row_chain.specs.Version.{row_up_to, needed_versions, HasRoom};
+ghost use Rattle.row_chain.specs.Lone.{versions_of_lone, IsFit};
 
-use crate::vectors::{drop_front, extend_within, fill_within, push_within};
+use crate::lone::{Lone, NARROW_WIDTH};
+use crate::run::Run;
 use std::alloc::{AllocError, Allocator, Global};
 use std::marker::Model;
 
-/// A version: the position that wrote it, and whether it has a row; else the row was removed there.
-#[derive(Clone, Copy, Debug, PartialEq, Eq)]
-pub struct Mark {
-    position: u32,
-    present: bool,
-}
-
-/// The versions of one key's row, oldest first; each row has the same width.
+/// The versions of one key's row, oldest first; each row has the same width. The only version of a narrow row lies
+/// inside, and takes no memory of its own; others lie in a run.
 #[derive(Drop)]
 pub struct Chain<A: Allocator = Global> {
-    width: usize,
-    marks: Vec<Mark, A>,
-    bytes: Vec<u8, A>,
+    lone: Lone,
+    run: Option<Box<Run<A>, A>>,
 }
 
 impl<A: Allocator> Model for Chain<A> {
-    ghost use Rattle.std.specs.Prelude.{◌≡◌, ◌==◌, ℕ, List, ◌*◌, ◌-◌, length, vec_len, vec_capacity};
     ghost use Rattle.row_chain.specs.Version.{ChainState};
 
     ghost Value = { ChainState };
 
-    ghost use Rattle.row_chain.specs.Marks.{versions_of};
+    ghost use Rattle.std.specs.Prelude.{option_map};
+    ghost use Rattle.row_chain.specs.Lone.{chain_of, IsChain};
 
-    ghost view = { λ c. record {
-      versions = versions_of c.width c.marks.items c.bytes.items;
-      width = c.width;
-      places = vec_capacity c.marks - vec_len c.marks;
-      bytes = vec_capacity c.bytes - vec_len c.bytes;
-    } };
+    ghost view = { λ c. chain_of c.lone (option_map (λ b. b.value) c.run) };
 
-    ghost invariant = { λ c. length c.bytes.items ≡ length c.marks.items * c.width };
+    ghost invariant = { λ c. IsChain c.lone (option_map (λ b. b.value) c.run) };
 }
 
-/// The row of the last version up to a position.
-fn row_up_to<'a>(width: usize, marks: &[Mark], bytes: &'a [u8], position: u32) -> Option<&'a [u8]>
-    requires { length bytes.now ≡ length marks.now * width }
-    ensures { option_copied result ≡ row_up_to position (versions_of width marks.now bytes.now) }
-{
-    let mut i = marks.len();
-    while i > 0 {
-        i -= 1;
-        let mark = marks[i];
-        if mark.position <= position {
-            if mark.present {
-                let start = i * width;
-                return Some(&bytes[start..start + width]);
-            }
-            return None;
-        }
-    }
-    None
-}
-
-/// How many marks at the front no position from the horizon on sees.
-fn hidden_count(marks: &[Mark], horizon: u32) -> usize
-    ensures within { result ≤ length marks.now }
-    ensures hidden_count { result ≡ hidden_count horizon (map (λ m. m.position) marks.now) }
-{
-    let mut i = marks.len();
-    while i > 1 {
-        i -= 1;
-        let mark = marks[i];
-        if mark.position <= horizon {
-            return i;
-        }
-    }
-    0
-}
-
-impl<A: Allocator + Copy> Chain<A> {
+impl<A: Allocator> Chain<A> {
     /// One without versions.
-    pub fn new(alloc: A, width: usize) -> Chain<A>
+    pub fn new(width: u16) -> Chain<A>
         ensures versions { result.versions ≡ [] }
         ensures width { result.width ≡ width }
     {
         Chain {
-            width,
-            marks: Vec::new(alloc),
-            bytes: Vec::new(alloc),
+            lone: Lone::new(width),
+            run: None,
         }
-    }
-}
-
-impl<A: Allocator> Chain<A> {
-    /// Makes room for one more version. After want of memory nothing has changed but the room.
-    pub fn reserve(&mut self) -> Result<(), AllocError>
-        ensures versions { self.new.versions ≡ self.old.versions }
-        ensures width { self.new.width ≡ self.old.width }
-        ensures room { OnOk result (HasRoom self.new) }
-        ensures more { HasRoom self.old → HasRoom self.new }
-    {
-        self.marks.reserve(1)?;
-        self.bytes.reserve(self.width)?;
-        Ok(())
     }
 
     /// Whether it has no version.
     pub fn is_empty(&self) -> bool
         ensures { result ≡ (length self.now.versions == 0) }
     {
-        let marks: &[Mark] = &self.marks;
-        marks.is_empty()
+        match &self.run {
+            Some(run) => run.is_empty(),
+            None => !self.lone.is_written(),
+        }
     }
 
     /// The row at a position.
     pub fn at(&self, position: u32) -> Option<&[u8]>
         ensures { option_copied result ≡ row_up_to position self.now.versions }
     {
-        row_up_to(self.width, &self.marks, &self.bytes, position)
+        match &self.run {
+            Some(run) => run.at(position),
+            None => self.lone.at(position),
+        }
+    }
+}
+
+/// A run of the only version, with room for one more.
+fn run_of<A: Allocator + Copy>(alloc: A, lone: &Lone) -> Result<Run<A>, AllocError>
+    requires { IsFit lone.now }
+    ensures versions { IfOk result (λ r. r.versions ≡ versions_of_lone lone.now) }
+    ensures width { IfOk result (λ r. r.width ≡ lone.now.width) }
+    ensures room { IfOk result (λ r. HasRoom r) }
+{
+    let mut run = Run::new(alloc, usize::from(lone.width));
+    if let Some(position) = lone.position() {
+        run.reserve()?;
+        run.push(position, lone.at(u32::MAX));
+    }
+    run.reserve()?;
+    Ok(run)
+}
+
+impl<A: Allocator + Copy> Chain<A> {
+    /// Makes room for one more version. After want of memory nothing has changed but the room.
+    pub fn reserve(&mut self, alloc: A) -> Result<(), AllocError>
+        ensures versions { self.new.versions ≡ self.old.versions }
+        ensures width { self.new.width ≡ self.old.width }
+        ensures room { OnOk result (HasRoom self.new) }
+        ensures more { HasRoom self.old → HasRoom self.new }
+    {
+        match &mut self.run {
+            Some(run) => run.reserve(),
+            None => {
+                if self.lone.has_place() {
+                    return Ok(());
+                }
+                let run = run_of(alloc, &self.lone)?;
+                self.run = Some(Box::new(alloc, run)?);
+                Ok(())
+            }
+        }
     }
 }
 
@@ -132,27 +111,9 @@ impl<A: Allocator> Chain<A> {
             ≡ self.old.versions ++ record { position = position; row = option_copied row.entry } ∷ [] }
         ensures width { self.new.width ≡ self.old.width }
     {
-        match row {
-            Some(row) => {
-                push_within(
-                    &mut self.marks,
-                    Mark {
-                        position,
-                        present: true,
-                    },
-                );
-                extend_within(&mut self.bytes, row);
-            }
-            None => {
-                push_within(
-                    &mut self.marks,
-                    Mark {
-                        position,
-                        present: false,
-                    },
-                );
-                fill_within(&mut self.bytes, self.width);
-            }
+        match &mut self.run {
+            Some(run) => run.push(position, row),
+            None => self.lone = Lone::of(self.lone.width, position, row),
         }
     }
 
@@ -161,26 +122,14 @@ impl<A: Allocator> Chain<A> {
         ensures versions { self.new.versions ≡ needed_versions horizon self.old.versions }
         ensures width { self.new.width ≡ self.old.width }
     {
-        let stale = hidden_count(&self.marks, horizon);
-        drop_front(&mut self.marks, stale);
-        drop_front(&mut self.bytes, stale * self.width);
-        if is_removed(&self.marks, horizon) {
-            self.marks.clear();
-            self.bytes.clear();
+        match &mut self.run {
+            Some(run) => {
+                if let Some(lone) = run.prune_to(self.lone.width, horizon) {
+                    self.lone = lone;
+                    self.run = None;
+                }
+            }
+            None => self.lone = self.lone.pruned(horizon),
         }
     }
-}
-
-/// Whether all that is left is a removal that each position from the horizon on sees.
-fn is_removed(marks: &[Mark], horizon: u32) -> bool
-    ensures { (width : ℕ) (bytes : List ℕ) → result ≡ is_removed horizon (versions_of width marks.now bytes) }
-{
-    if marks.len() != 1 {
-        return false;
-    }
-    let mark = marks[0];
-    if mark.position > horizon {
-        return false;
-    }
-    !mark.present
 }

@@ -6,4 +6,6 @@ pub use laws::{one_more_version, pruned_versions_answer_alike};
 
 mod chain;
 mod laws;
+mod lone;
+mod run;
 mod vectors;

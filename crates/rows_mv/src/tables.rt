@@ -15,13 +15,10 @@ use schema::Schema;
 use std::alloc::{AllocError, Allocator};
 
 /// The width of a table's rows, 0 where the schema hasn't the table.
-fn row_width<B: Allocator>(schema: &Schema<B>, table: u8) -> usize
+fn row_width<B: Allocator>(schema: &Schema<B>, table: u8) -> u16
     ensures { result ≡ unwrap_or (get schema.now table) 0 }
 {
-    match schema.width(table) {
-        Some(width) => usize::from(width),
-        None => 0,
-    }
+    schema.width(table).unwrap_or(0)
 }
 
 /// A table without keys for each number up to the greatest that a schema's table may have.

@@ -7,4 +7,4 @@ use Rattle.key_table.proofs.table.KeyTable.first.Goals as goal
 pub returns-clause-words : goal.returns-clause-words
 returns-clause-words g c q past =
     ap (λ (t : Table). versions_at t.slots q) (sym c.self.view_is)
-    ∙ ap versions_in (none_past c.self.inside.width q (all_slots c.self.inside.pages.items) c.self.invariant.wide past)
+    ∙ ap versions_in (none_past c.self.inside.width q (all_slots c.self.inside.pages.items) c.self.invariant.0.wide past)

@@ -1,0 +1,34 @@
+-- The only version of a key, or none yet, and the chain of a key.
+use Rattle.row_chain.specs.declared.lone.TheConstants.{NARROW_WIDTH}
+use Rattle.std.specs.Prelude.{◌≡◌, ℕ, ◌≤◌, nat_le, Bool, true, not, ◌&&◌, List, [], ◌∷◌, take, Option, Some, None, if◌then◌else◌}
+use Rattle.row_chain.specs.declared.lone.Lone.{Lone}
+use Rattle.row_chain.specs.Version.{Version, ChainState}
+
+-- a version where one is written
+abbrev pub versions_of_lone : Lone → List Version
+versions_of_lone lone =
+    if lone.written then record { position = lone.position; row = if lone.present then Some (take lone.width lone.row) else None } ∷ []
+    else []
+
+-- a version is written only where rows are narrow
+abbrev pub IsFit : Lone → Type 0
+IsFit lone = lone.written ≡ true → lone.width ≤ NARROW_WIDTH
+
+-- whether one more version can be written here
+abbrev pub has_place : Lone → Bool
+has_place lone = not lone.written && nat_le lone.width NARROW_WIDTH
+
+-- a chain: all versions lie in a run where there is one, else the only one lies beside the key
+abbrev pub chain_of : Lone → Option ChainState → ChainState
+chain_of lone (Some run) = run
+chain_of lone None = record {
+  versions = versions_of_lone lone;
+  width = lone.width;
+  places = if has_place lone then 1 else 0;
+  bytes = lone.width;
+}
+
+-- what holds of each chain: both have the width, and a lone version is fit
+abbrev pub IsChain : Lone → Option ChainState → Type 0
+IsChain lone (Some run) = run.width ≡ lone.width
+IsChain lone None = IsFit lone
