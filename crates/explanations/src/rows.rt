@@ -354,8 +354,8 @@ pub const OF_RUNS: [Explanation; 28] = [
     },
     Explanation {
         number: "L9",
-        cause: "out of memory: S4, B12, V12 and C3 too; for what a line says, and for the rows that `rows` or the \
-            bytes that `entry` would print: a line that tells of a step takes none",
+        cause: "out of memory: S4, B12, V12 and C3 too; for a setting, for the world, and for what a line says: what \
+            a line prints takes none",
         cure: "give the process more memory, and run the script again from its first line: its world ended with it",
         in_c: "",
     },

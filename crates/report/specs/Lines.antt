@@ -147,9 +147,13 @@ certified_words None verdict = addition_words verdict
 abbrev pub row_words : ℕ → ℕ → List ℕ → List ℕ
 row_words table key bytes = right_in 2 (decimal table) ++ codes " " ++ right_in 20 (decimal key) ++ codes " " ++ encode_lower bytes
 
+-- what stands in front of the bytes of an entry
+abbrev pub bytes_label : ℕ → List ℕ
+bytes_label position = codes "entry " ++ decimal position ++ codes " "
+
 -- the bytes of the entry at a position, where there is one
 abbrev pub bytes_words : ℕ → Option (List ℕ) → List ℕ
-bytes_words position (Some bytes) = codes "entry " ++ decimal position ++ codes " " ++ encode_lower bytes
+bytes_words position (Some bytes) = bytes_label position ++ encode_lower bytes
 bytes_words position None = codes "entry " ++ decimal position ++ codes " none"
 
 -- how many calls were answered in each way

@@ -4,7 +4,7 @@ ghost use Rattle.std.specs.Prelude.{◌≡◌, ◌++◌, codes};
 ghost use Rattle.std.specs.Fmt.{decimal};
 ghost use Rattle.hex.specs.Hex.{encode_lower};
 ghost use Rattle.byte_output.specs.Column.{right_in};
-ghost use Rattle.report.specs.Lines.{line_text, totals_words};
+ghost use Rattle.report.specs.Lines.{bytes_label, line_text, totals_words};
 
 use crate::printed::Line;
 use crate::words::{
@@ -108,14 +108,21 @@ fn entry<'a>(position: u32, bytes: &'a [u8]) -> LineParts<'a>
     ensures { (result.words.items ++ encode_lower result.bytes.now) ++ result.rest.items
         ≡ (codes "entry " ++ decimal position ++ codes " ") ++ encode_lower bytes.now ++ codes "\n" }
 {
-    let mut words = LineBuffer::new();
-    push_unsigned(&mut words, "entry ", u64::from(position));
-    push(&mut words, b" ");
     LineParts {
-        words,
+        words: bytes_label(position),
         bytes,
         rest: end(),
     }
+}
+
+/// What stands in front of an entry's bytes.
+pub(crate) fn bytes_label(position: u32) -> LineBuffer
+    ensures { result.items ≡ bytes_label position }
+{
+    let mut words = LineBuffer::new();
+    push_unsigned(&mut words, "entry ", u64::from(position));
+    push(&mut words, b" ");
+    words
 }
 
 /// The line of all counts, which is longer than words that are built in place.

@@ -128,10 +128,10 @@ pub enum ReplicaReport {
     Rebuilt {
         position: u32,
     },
-    /// Its position, and how many rows it has.
+    /// Its position, and how many rows it has: of 64 tables up to 2^64 each.
     Rows {
         position: u32,
-        rows: usize,
+        rows: u128,
     },
     /// How far it came in the end, how many entries committed, and whether it is stopped.
     Ended {

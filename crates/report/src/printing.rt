@@ -3,9 +3,9 @@
 ghost use Rattle.std.specs.Prelude.{◌≡◌, [], OnErr};
 ghost use Rattle.hex.specs.Hex.{encode_lower};
 ghost use Rattle.byte_output.specs.Pending.{output_of, pending_of, Takes};
-ghost use Rattle.report.specs.Lines.{line_text};
+ghost use Rattle.report.specs.Lines.{bytes_label, line_text};
 
-use crate::parts::{LineParts, parts};
+use crate::parts::{LineParts, bytes_label, parts};
 use crate::printed::Line;
 use byte_output::paged::PagedOutput;
 use std::io;
@@ -23,8 +23,17 @@ pub fn put_line<W: Write>(output: &mut PagedOutput<'_, W>, line: &Line) -> io::R
     output.put(&rest)
 }
 
+/// Gives what stands in front of an entry's bytes in its line. It takes no memory.
+pub fn put_bytes_label<W: Write>(output: &mut PagedOutput<'_, W>, position: u32) -> io::Result<()>
+    ensures same_output { (output_of output.new).ghost_name ≡ (output_of output.old).ghost_name }
+    ensures bytes { Takes W.contents output.old output.new result (bytes_label position) }
+    ensures given_up { OnErr result (pending_of output.new ≡ []) }
+{
+    output.put(&bytes_label(position))
+}
+
 /// Gives bytes in hex, one after the other.
-fn put_hex<W: Write>(output: &mut PagedOutput<'_, W>, bytes: &[u8]) -> io::Result<()>
+pub(crate) fn put_hex<W: Write>(output: &mut PagedOutput<'_, W>, bytes: &[u8]) -> io::Result<()>
     ensures same_output { (output_of output.new).ghost_name ≡ (output_of output.old).ghost_name }
     ensures bytes { Takes W.contents output.old output.new result (encode_lower bytes.now) }
     ensures given_up { OnErr result (pending_of output.new ≡ []) }

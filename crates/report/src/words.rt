@@ -13,6 +13,7 @@ ghost use Rattle.report.specs.declared.printed.Line.TheVariants as line;
 use crate::printed::{CallAnswer, CallReport, DeliveredEntry, LoggedEntry, ReplicaReport};
 use crate::refusal::step_refusal_number;
 use byte_output::line::{LineBuffer, push, push_column, push_right, push_unsigned};
+use itoa::Buffer;
 use call_model::ProgramFault;
 use dsm_model::StepRefusal;
 use log_model::{Identifier, Verdict};
@@ -223,7 +224,8 @@ pub(crate) fn push_replica(words: &mut LineBuffer, report: ReplicaReport)
         ),
         ReplicaReport::Rows { position, rows } => {
             push_unsigned(words, "position ", u64::from(position));
-            push_unsigned(words, " rows ", rows as u64);
+            push(words, b" rows ");
+            push(words, Buffer::new().format(rows).as_bytes());
         }
         ReplicaReport::Ended {
             position,

@@ -23,7 +23,7 @@ pub(crate) fn read_hex<A: Allocator>(alloc: A, field: &str) -> Result<Bytes<A>, 
     }
     match hex::decode(alloc, field) {
         Ok(bytes) => Ok(Bytes::new(bytes)),
-        Err(FromHexError::NoMemory) => Err(LineFault::NoMemory),
+        Err(FromHexError::OutOfMemory) => Err(LineFault::NoMemory),
         Err(_) => Err(LineFault::Field),
     }
 }

@@ -12,9 +12,7 @@ use Rattle.log_model.specs.Log.{Setting}
 use Rattle.dsm_model.specs.World.{World}
 use Rattle.script.specs.Script.{ScriptAction}
 use Rattle.script_actions.specs.Actions.{Does}
-use Rattle.script_actions.specs.declared.failure.Failure.{Failure}
-use Rattle.script_actions.specs.declared.failure.Failure.TheVariants.{NoMemory, Output}
-use Rattle.script_actions.specs.Doing.{PassesBeginning, Gives, HasDone, LosesNothing}
+use Rattle.script_actions.specs.Doing.{PassesBeginning, Gives, HasDone}
 
 -- nothing is a beginning of any text
 pub nothing_begun : {W : Type 0} (contents : W → Option (List ℕ)) (a : PagedOutput W) (text : List ℕ) → PassesBeginning contents a a text
@@ -51,23 +49,3 @@ pub gives_done : {W T E : Type 0} (contents : W → Option (List ℕ)) (w : Sett
     → Does w before c text after → Gives contents a b result text → HasDone contents w before c a b result after
 gives_done contents w before c a b (Ok x) after text does given = (text, does, given)
 gives_done contents w before c a b (Err x) after text does given = (text, after, does, given)
-
--- ---- nothing is lost where memory was wanting
-
-pub nothing_lost : {W : Type 0} (contents : W → Option (List ℕ)) (a : PagedOutput W) (failure : Failure) → LosesNothing contents a a failure
-nothing_lost contents a NoMemory = ([], nothing_given contents a)
-nothing_lost contents a (Output error) = tt
-
-pub nothing_lost_behind : {W : Type 0} (contents : W → Option (List ℕ)) (a b c : PagedOutput W) (text : List ℕ) (failure : Failure) → Passes contents a b text → LosesNothing contents b c failure → LosesNothing contents a c failure
-nothing_lost_behind contents a b c text NoMemory given (more, rest) = (text ++ more, Passes-then contents a b c text more given rest)
-nothing_lost_behind contents a b c text (Output error) given kept = tt
-
-pub none_lost_behind : {T W : Type 0} (contents : W → Option (List ℕ)) (a b c : PagedOutput W) (text : List ℕ) (result : Result T Failure) → Passes contents a b text → IfErr result (LosesNothing contents b c) → IfErr result (LosesNothing contents a c)
-none_lost_behind contents a b c text (Ok x) given kept = tt
-none_lost_behind contents a b c text (Err failure) given kept = nothing_lost_behind contents a b c text failure given kept
-
--- it failed with what a `?` returns
-pub lost_by : {T W : Type 0} (contents : W → Option (List ℕ)) (a b : PagedOutput W) (result : Result T Failure) (passed failure : Failure) → result ≡ Err passed → passed ≡ failure → LosesNothing contents a b failure
-    → IfErr result (LosesNothing contents a b)
-lost_by contents a b (Ok x) passed failure e same kept = tt
-lost_by contents a b (Err given) passed failure e same kept = let is : failure ≡ given = cc in subst (LosesNothing contents a b) is kept

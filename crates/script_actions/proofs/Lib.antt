@@ -5,3 +5,4 @@ mod LogLemmas
 mod RowLemmas
 pub mod DoneLemmas
 mod TurnLemmas
+mod ListingLemmas

@@ -6,8 +6,6 @@ use Rattle.byte_output.specs.Pending.{output_of, pending_of, Passes}
 use Rattle.log_model.specs.Log.{Setting}
 use Rattle.dsm_model.specs.World.{World}
 use Rattle.script.specs.Script.{ScriptAction}
-use Rattle.script_actions.specs.declared.failure.Failure.{Failure}
-use Rattle.script_actions.specs.declared.failure.Failure.TheVariants.{NoMemory, Output}
 use Rattle.script_actions.specs.Actions.{Does}
 
 -- what was pending and then a beginning of the text: some of that left, and the rest is pending
@@ -25,8 +23,3 @@ abbrev pub HasDone : {W T E : Type 0} → (W → Option (List ℕ)) → Setting 
 HasDone contents w before c old new (Ok _) after = (text : List ℕ) × Does w before c text after × Passes contents old new text
 HasDone contents w before c old new (Err _) now =
     (text : List ℕ) × (after : World) × Does w before c text after × PassesBeginning contents old new text
-
--- where memory was wanting nothing is lost: what was pending, and what was given since, has left or is pending
-abbrev pub LosesNothing : {W : Type 0} → (W → Option (List ℕ)) → PagedOutput W → PagedOutput W → Failure → Type 0
-LosesNothing contents old new NoMemory = (text : List ℕ) × Passes contents old new text
-LosesNothing contents old new (Output error) = Unit {0}

@@ -1,3 +1,4 @@
 pub mod Printed
 pub mod Actions
 pub mod Doing
+pub mod Listing

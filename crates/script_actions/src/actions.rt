@@ -1,13 +1,12 @@
 //! Doing the actions of lines.
 
-ghost use Rattle.std.specs.Prelude.{◌≡◌, IfErr};
+ghost use Rattle.std.specs.Prelude.{◌≡◌};
 ghost use Rattle.byte_output.specs.Pending.{output_of};
 ghost use Rattle.dsm_world.specs.System.{setting_of, world_of};
 ghost use Rattle.script.specs.Script.{IsActionWithinLimits};
-ghost use Rattle.script_actions.specs.Doing.{HasDone, LosesNothing};
+ghost use Rattle.script_actions.specs.Doing.{HasDone};
 
 use crate::answers::{add, begin, deliver, order, rebuild, turn};
-use crate::failure::Failure;
 use crate::log::{put_entry, put_log};
 use crate::rows::put_rows;
 use bpf_code::MAX_SLOTS;
@@ -17,26 +16,25 @@ use log_model::RequestId;
 use row_sets::Bytes;
 use script::Action;
 use std::alloc::Allocator;
+use std::io;
 use std::io::Write;
 
 /// No program runs more instructions than it has slots.
 const LONGEST_RUN: u32 = MAX_SLOTS as u32;
 
-/// Does an action to a world, and gives what it prints to the output. An error is the output's, or want of memory for
-/// what is printed; then a beginning of that was given, and at want of memory nothing that was given is lost.
+/// Does an action to a world, and gives what it prints to the output. What is printed takes no memory. An error is the
+/// output's, and then a beginning of that was given.
 pub fn act<A: Allocator + Copy, W: Write>(
-    alloc: A,
     world: &mut World<A>,
     output: &mut PagedOutput<'_, W>,
     action: &Action<Bytes<A>>,
-) -> Result<(), Failure>
+) -> io::Result<()>
     // As a line's action is.
     requires { IsActionWithinLimits action.now }
     ensures same_output { (output_of output.new).ghost_name ≡ (output_of output.old).ghost_name }
     ensures setting { setting_of world.new ≡ setting_of world.old }
     ensures done { HasDone W.contents (setting_of world.old) (world_of world.old) action.now
         output.old output.new result (world_of world.new) }
-    ensures kept { IfErr result (LosesNothing W.contents output.old output.new) }
 {
     match action {
         Action::Begin {
@@ -71,9 +69,9 @@ pub fn act<A: Allocator + Copy, W: Write>(
         Action::Exec { call } => turn(world, output, *call, LONGEST_RUN),
         Action::Order { call } => order(world, output, *call),
         Action::Deliver { replica, most } => deliver(world, output, *replica, *most),
-        Action::Rows { replica } => put_rows(alloc, world, output, *replica),
+        Action::Rows { replica } => put_rows(world, output, *replica),
         Action::Log => put_log(world, output),
-        Action::Entry { position } => put_entry(alloc, world, output, *position),
+        Action::Entry { position } => put_entry(world, output, *position),
         Action::Rebuild { replica } => rebuild(world, output, *replica),
     }
 }

@@ -1,6 +1,6 @@
 //! Steps of a world, each with the line of its answer.
 
-ghost use Rattle.std.specs.Prelude.{◌≡◌, ◌≤◌, Some, IfErr, IfOk, OnErr};
+ghost use Rattle.std.specs.Prelude.{◌≡◌, ◌≤◌, Some, IfOk, OnErr};
 ghost use Rattle.byte_output.specs.Pending.{output_of, Passes};
 ghost use Rattle.dsm_model.specs.declared.outcome.Outcome.{Outcome as ModelOutcome};
 ghost use Rattle.dsm_model.specs.World.{IsStep, Begin as BeginStep, Turn as TurnStep, numbered};
@@ -11,9 +11,8 @@ ghost use Rattle.report.specs.Answers.{answer_line};
 ghost use Rattle.script.specs.declared.statements.Action.TheVariants as action;
 ghost use Rattle.script_actions.specs.Printed.{delivered_entry, step_text};
 ghost use Rattle.script_actions.specs.Actions.{begin_action, is_more, is_delivery, Turns};
-ghost use Rattle.script_actions.specs.Doing.{PassesBeginning, HasDone, LosesNothing};
+ghost use Rattle.script_actions.specs.Doing.{PassesBeginning, HasDone};
 
-use crate::failure::Failure;
 use crate::output::put_answer;
 use byte_output::paged::PagedOutput;
 use dsm_model::{Outcome, StepRefusal};
@@ -22,6 +21,7 @@ use log_entry::Entry;
 use log_model::{RequestId, Verdict};
 use report::{DeliveredEntry, Line, add_line, begin_line, call_line, replica_line};
 use std::alloc::Allocator;
+use std::io;
 use std::io::Write;
 
 /// One step, and its line.
@@ -29,7 +29,7 @@ fn step<A: Allocator + Copy, W: Write>(
     world: &mut World<A>,
     output: &mut PagedOutput<'_, W>,
     step: Step<'_>,
-) -> Result<Outcome, Failure>
+) -> io::Result<Outcome>
     ensures same_output { (output_of output.new).ghost_name ≡ (output_of output.old).ghost_name }
     ensures setting { setting_of world.new ≡ setting_of world.old }
     ensures stepped { IfOk result (λ outcome.
@@ -44,7 +44,6 @@ fn step<A: Allocator + Copy, W: Write>(
         × PassesBeginning W.contents output.old output.new
         (step_text (setting_of world.old) (world_of world.new).log
         (step_of (setting_of world.old) step.entry) outcome)) }
-    ensures kept { IfErr result (LosesNothing W.contents output.old output.new) }
 {
     let outcome = world.step(step);
     let entry = delivered_entry(world, outcome);
@@ -116,21 +115,19 @@ pub(crate) fn begin<A: Allocator + Copy, W: Write>(
     name: &[u8],
     args: &[u8],
     request: Option<RequestId>,
-) -> Result<(), Failure>
+) -> io::Result<()>
     ensures same_output { (output_of output.new).ghost_name ≡ (output_of output.old).ghost_name }
     ensures setting { setting_of world.new ≡ setting_of world.old }
     ensures done { HasDone W.contents (setting_of world.old) (world_of world.old)
         (begin_action replica name.now args.now request)
         output.old output.new result (world_of world.new) }
-    ensures kept { IfErr result (LosesNothing W.contents output.old output.new) }
 {
-    let Some(_kept) = world.replica(replica) else {
-        let refused = Outcome::Refused(StepRefusal::NoReplica);
-        return put_answer(output, begin_line(replica, refused));
-    };
     let Some(procedure) = world.by_name(replica, name) else {
-        let refused = Outcome::Refused(StepRefusal::NoProcedure);
-        return put_answer(output, begin_line(replica, refused));
+        let refusal = match world.replica(replica) {
+            None => StepRefusal::NoReplica,
+            Some(_) => StepRefusal::NoProcedure,
+        };
+        return put_answer(output, begin_line(replica, Outcome::Refused(refusal)));
     };
     let begin = begin_step(replica, procedure, args, request);
     step(world, output, begin)?;
@@ -170,13 +167,12 @@ pub(crate) fn add<A: Allocator + Copy, W: Write>(
     number: u16,
     args_len: u16,
     bytes: &[u8],
-) -> Result<(), Failure>
+) -> io::Result<()>
     ensures same_output { (output_of output.new).ghost_name ≡ (output_of output.old).ghost_name }
     ensures setting { setting_of world.new ≡ setting_of world.old }
     ensures done { HasDone W.contents (setting_of world.old) (world_of world.old)
         (action.Add name.now number args_len bytes.now)
         output.old output.new result (world_of world.new) }
-    ensures kept { IfErr result (LosesNothing W.contents output.old output.new) }
 {
     let add = Step::Add {
         name,
@@ -194,13 +190,12 @@ pub(crate) fn turn<A: Allocator + Copy, W: Write>(
     output: &mut PagedOutput<'_, W>,
     call: u32,
     most: u32,
-) -> Result<(), Failure>
+) -> io::Result<()>
     requires { 1 ≤ most }
     ensures same_output { (output_of output.new).ghost_name ≡ (output_of output.old).ghost_name }
     ensures setting { setting_of world.new ≡ setting_of world.old }
     ensures done { HasDone W.contents (setting_of world.old) (world_of world.old) (action.Turn call most)
         output.old output.new result (world_of world.new) }
-    ensures kept { IfErr result (LosesNothing W.contents output.old output.new) }
 {
     let outcome = last_turn(world, call, most);
     put_answer(output, call_line(call, outcome))
@@ -233,12 +228,11 @@ pub(crate) fn order<A: Allocator + Copy, W: Write>(
     world: &mut World<A>,
     output: &mut PagedOutput<'_, W>,
     call: u32,
-) -> Result<(), Failure>
+) -> io::Result<()>
     ensures same_output { (output_of output.new).ghost_name ≡ (output_of output.old).ghost_name }
     ensures setting { setting_of world.new ≡ setting_of world.old }
     ensures done { HasDone W.contents (setting_of world.old) (world_of world.old) (action.Order call)
         output.old output.new result (world_of world.new) }
-    ensures kept { IfErr result (LosesNothing W.contents output.old output.new) }
 {
     step(world, output, Step::Order { call })?;
     Ok(())
@@ -250,12 +244,11 @@ pub(crate) fn deliver<A: Allocator + Copy, W: Write>(
     output: &mut PagedOutput<'_, W>,
     replica: u32,
     most: u32,
-) -> Result<(), Failure>
+) -> io::Result<()>
     ensures same_output { (output_of output.new).ghost_name ≡ (output_of output.old).ghost_name }
     ensures setting { setting_of world.new ≡ setting_of world.old }
     ensures done { HasDone W.contents (setting_of world.old) (world_of world.old) (action.Deliver replica most)
         output.old output.new result (world_of world.new) }
-    ensures kept { IfErr result (LosesNothing W.contents output.old output.new) }
 {
     for _ in 0..most {
         let outcome = step(world, output, Step::Deliver { replica })?;
@@ -277,12 +270,11 @@ pub(crate) fn rebuild<A: Allocator + Copy, W: Write>(
     world: &mut World<A>,
     output: &mut PagedOutput<'_, W>,
     replica: u32,
-) -> Result<(), Failure>
+) -> io::Result<()>
     ensures same_output { (output_of output.new).ghost_name ≡ (output_of output.old).ghost_name }
     ensures setting { setting_of world.new ≡ setting_of world.old }
     ensures done { HasDone W.contents (setting_of world.old) (world_of world.old) (action.Rebuild replica)
         output.old output.new result (world_of world.new) }
-    ensures kept { IfErr result (LosesNothing W.contents output.old output.new) }
 {
     step(world, output, Step::Rebuild { replica })?;
     Ok(())

@@ -3,12 +3,10 @@
 
 pub use actions::act;
 pub use dsm_world::World;
-pub use failure::Failure;
 pub use laws::executions_end;
 
 mod actions;
 mod answers;
-mod failure;
 mod laws;
 mod log;
 mod output;

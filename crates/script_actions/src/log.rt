@@ -1,34 +1,35 @@
 //! The log, and its entries.
 
-ghost use Rattle.std.specs.Prelude.{◌≡◌, ◌<◌, find, IfErr, length, nat_lt, option_map, slice_get, Some};
+ghost use Rattle.std.specs.Prelude.{◌≡◌, ◌<◌, find, length, nat_lt, option_map, slice_get, Some};
 ghost use Rattle.byte_output.specs.Pending.{output_of};
 ghost use Rattle.log_model.specs.Log.{Item};
+ghost use Rattle.hex.specs.Hex.{encode_lower};
 ghost use Rattle.log_entry.specs.Kind.{entry_of};
+ghost use Rattle.log_entry.specs.Bytes.{entry_bytes};
 ghost use Rattle.dsm_world.specs.System.{setting_of, world_of};
 ghost use Rattle.report.specs.Lines.{line_text};
 ghost use Rattle.script_actions.specs.Printed.{logged_entry, logged_text, log_text, entry_text};
-ghost use Rattle.script_actions.specs.Doing.{Gives, LosesNothing};
+ghost use Rattle.script_actions.specs.Doing.{Gives};
 
-use crate::failure::Failure;
-use crate::output::put_line;
+use crate::output::{put_bytes_label, put_line, put_text};
 use byte_output::paged::PagedOutput;
 use dsm_world::World;
-use log_entry::{Entry, to_bytes};
+use log_entry::{Entry, append_entry};
 use log_model::{a_log_only_grows, entries_suffice};
 use replica::{Replica, replicas_follow_the_log};
-use report::{Line, LoggedEntry};
+use report::{HexOutput, Line, LoggedEntry};
 use std::alloc::Allocator;
+use std::io;
 use std::io::Write;
 
 /// Prints a line for each entry of the log.
 pub(crate) fn put_log<A: Allocator + Copy, W: Write>(
     world: &World<A>,
     output: &mut PagedOutput<'_, W>,
-) -> Result<(), Failure>
+) -> io::Result<()>
     ensures same_output { (output_of output.new).ghost_name ≡ (output_of output.old).ghost_name }
     ensures given { Gives W.contents output.old output.new result
         (log_text (setting_of world.now) (world_of world.now)) }
-    ensures kept { IfErr result (LosesNothing W.contents output.old output.new) }
 {
     let entries = world.log_len();
     for before in 0..entries {
@@ -96,17 +97,15 @@ fn further_than<A: Allocator + Copy>(replicas: &[Replica<A>], position: u32) -> 
     None
 }
 
-/// Prints the bytes of the entry at a position.
+/// Prints the bytes of the entry at a position, a field after the other.
 pub(crate) fn put_entry<A: Allocator + Copy, W: Write>(
-    alloc: A,
     world: &World<A>,
     output: &mut PagedOutput<'_, W>,
     position: u32,
-) -> Result<(), Failure>
+) -> io::Result<()>
     ensures same_output { (output_of output.new).ghost_name ≡ (output_of output.old).ghost_name }
     ensures given { Gives W.contents output.old output.new result
         (entry_text (setting_of world.now) (world_of world.now).log position) }
-    ensures kept { IfErr result (LosesNothing W.contents output.old output.new) }
 {
     world.keeps_what_was_delivered();
     let Some(entry) = world.entry(position) else {
@@ -116,10 +115,20 @@ pub(crate) fn put_entry<A: Allocator + Copy, W: Write>(
         };
         return put_line(output, &none);
     };
-    let bytes = to_bytes(alloc, entry)?;
-    let line = Line::Entry {
-        position,
-        bytes: Some(&bytes),
-    };
-    put_line(output, &line)
+    put_bytes_label(output, position)?;
+    put_bytes(output, entry)?;
+    put_text(output, b"\n")
+}
+
+/// Gives the bytes of an entry to the output in hex.
+fn put_bytes<A: Allocator + Copy, W: Write>(
+    output: &mut PagedOutput<'_, W>,
+    entry: &Entry<A>,
+) -> io::Result<()>
+    ensures same_output { (output_of output.new).ghost_name ≡ (output_of output.old).ghost_name }
+    ensures given { Gives W.contents output.old output.new result (encode_lower (entry_bytes (entry_of entry.now))) }
+{
+    let mut digits = HexOutput::new(output);
+    append_entry(&mut digits, entry);
+    digits.finish()
 }

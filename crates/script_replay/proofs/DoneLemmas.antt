@@ -14,9 +14,7 @@ use Rattle.script_settings.specs.declared.cause.FaultCause.{FaultCause}
 use Rattle.script_settings.specs.declared.cause.FaultCause.TheVariants.{NoMemory}
 use Rattle.script_settings.specs.Fault.{cause_of_line_fault}
 use Rattle.script_settings.specs.Settings.{ScriptSettings}
-use Rattle.script_actions.specs.declared.failure.Failure.{Failure}
-use Rattle.script_actions.specs.declared.failure.Failure.TheVariants.{NoMemory as Wanting}
-use Rattle.script_actions.specs.Doing.{HasDone, LosesNothing}
+use Rattle.script_actions.specs.Doing.{HasDone}
 use Rattle.script_replay.specs.declared.stage.Stage as code
 use Rattle.script_stops.specs.declared.stop.Stop.{Stop}
 use Rattle.script_stops.specs.declared.stop.Stop.TheVariants.{Fault, Input, Output}
@@ -136,8 +134,3 @@ pub faults_stop_by : {T W : Type 0} (contents : W → Option (List ℕ)) (n : �
     → IfErr result (StopsBy contents n page page)
 faults_stop_by contents n a page (Ok t) passed stop e same h = tt
 faults_stop_by contents n a page (Err given) passed stop e same h = let is : stop ≡ given = cc in subst (StopsBy contents n page page) is (fault_stops contents n a page stop h)
-
-pub wanting_stops : {W : Type 0} (contents : W → Option (List ℕ)) (n : ℕ) (old new : PagedOutput W) (stop : Stop) (failure : Failure) → stop ≡ Fault (record { line = n; cause = NoMemory }) → failure ≡ Wanting
-    → LosesNothing contents old new failure → StopsBy contents n old new stop
-wanting_stops contents n old new stop failure is wants kept =
-    let given = subst (LosesNothing contents old new) wants kept in subst (StopsBy contents n old new) (sym is) (refl, given.0, given.1)

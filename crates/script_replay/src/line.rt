@@ -13,7 +13,7 @@ use crate::stage::Stage;
 use byte_output::paged::PagedOutput;
 use row_sets::Bytes;
 use script::{Action, Setting, Statement, statement};
-use script_actions::{Failure, World, act};
+use script_actions::{World, act};
 use script_settings::{FaultCause, Settings};
 use script_stops::{Stop, fault_at, out_of_memory};
 use std::alloc::Allocator;
@@ -98,7 +98,7 @@ fn do_action<A: Allocator + Copy, W: Write>(
     ensures stopped { IfErr result (StopsBy W.contents number output.old output.new) }
 {
     let world = acting(alloc, stage, number)?;
-    act_on(alloc, world, output, &action, number)
+    act_on(world, output, &action, number)
 }
 
 /// The world that acts: at first the one that was set up.
@@ -141,7 +141,6 @@ fn set_up<A: Allocator + Copy>(
 
 /// Does an action of a world.
 fn act_on<A: Allocator + Copy, W: Write>(
-    alloc: A,
     world: World<A>,
     output: &mut PagedOutput<'_, W>,
     action: &Action<Bytes<A>>,
@@ -154,9 +153,8 @@ fn act_on<A: Allocator + Copy, W: Write>(
     ensures stopped { IfErr result (StopsBy W.contents number output.old output.new) }
 {
     let mut world = world;
-    match act(alloc, &mut world, output, action) {
+    match act(&mut world, output, action) {
         Ok(()) => Ok(Stage::Acting(world)),
-        Err(Failure::NoMemory) => Err(out_of_memory(number)),
-        Err(Failure::Output(error)) => Err(Stop::Output(error)),
+        Err(error) => Err(Stop::Output(error)),
     }
 }

@@ -11,7 +11,7 @@ use Rattle.report.specs.declared.printed.DeliveredEntry.TheVariants as delivered
 use Rattle.script_actions.specs.Actions.{begin_action, number_of_name}
 use Rattle.script_actions.specs.Printed.{step_text}
 use Rattle.script_actions.specs.Doing.{PassesBeginning, Gives}
-use Rattle.script_actions.proofs.GivenLemmas.{gives_done, lost_by}
+use Rattle.script_actions.proofs.GivenLemmas.{gives_done}
 use Rattle.script_actions.proofs.DoneLemmas.{named_at, begins, begins_unnamed, begins_nowhere}
 use Rattle.script_actions.proofs.answers.begin.Goals as goal
 
@@ -66,8 +66,3 @@ returns-clause-done g c =
       begins w (world_of c.args.world.now) c.args.replica c.args.name.now c.args.args.now c.args.request c.in-Some-by_name.procedure c.in_ok-step.field-0 after named (subst (λ (k : Step). IsStep w before k c.in_ok-step.field-0 after) (c.begin_step-begin.ensures w) s.0),
       subst (λ (k : Step). Passes g.W.Write.contents c.args.output.now c.step.new.output (step_text w after.log k c.in_ok-step.field-0)) (c.begin_step-begin.ensures w) s.1,
     )
-
-pub returns-in_err-step-clause-kept : goal.returns-in_err-step-clause-kept
-returns-in_err-step-clause-kept g c =
-    let q = err_from_is_err_and c.from_residual.result c.from_residual.ensures.1 in
-    lost_by g.W.Write.contents c.args.output.now c.step.new.output c.from_residual.result q.0 c.in_err-step.field-0.0 q.1 q.2 c.in_err-step.ensures.kept

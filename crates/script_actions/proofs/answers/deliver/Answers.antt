@@ -10,7 +10,6 @@ use Rattle.script_actions.specs.Actions.{is_delivery}
 use Rattle.script_actions.specs.Doing.{PassesBeginning}
 use Rattle.script_actions.proofs.RepeatLemmas.{Came, at_start, came_more, came_last, came_out, came_fails}
 use Rattle.script_actions.proofs.DoneLemmas.{delivers}
-use Rattle.script_actions.proofs.GivenLemmas.{nothing_lost_behind, lost_by}
 use Rattle.script_actions.proofs.answers.deliver.Goals as goal
 
 pub loop-init : goal.loop-init
@@ -80,10 +79,3 @@ returns-clause-done g c =
     let came = subst (λ k. Came g.W.Write.contents w (Deliver c.args.replica) is_delivery c.args.most k start here c.args.output.now c.loop.output) left c.loop.invariant.0 in
     let d = came_out g.W.Write.contents w (Deliver c.args.replica) is_delivery c.args.most start here c.args.output.now c.loop.output came in
     (concat d.0, delivers w start c.args.replica c.args.most d.0 here d.1, d.2)
-
-pub returns-in_err-outcome-clause-kept : goal.returns-in_err-outcome-clause-kept
-returns-in_err-outcome-clause-kept g c =
-    let came = c.loop.invariant.0 in
-    let q = err_from_is_err_and c.from_residual.result c.from_residual.ensures.1 in
-    lost_by g.W.Write.contents c.args.output.now c.step.new.output c.from_residual.result q.0 c.in_err-outcome.field-0.0 q.1 q.2
-    (nothing_lost_behind g.W.Write.contents c.args.output.now c.loop.output c.step.new.output came.done c.in_err-outcome.field-0.0 came.given c.in_err-outcome.ensures.kept)

@@ -3,7 +3,6 @@ use Rattle.dsm_model.specs.World.{Rebuild}
 use Rattle.dsm_world.specs.System.{setting_of, world_of}
 use Rattle.script_actions.specs.Printed.{step_text}
 use Rattle.script_actions.proofs.DoneLemmas.{rebuilds}
-use Rattle.script_actions.proofs.GivenLemmas.{lost_by}
 use Rattle.script_actions.proofs.answers.rebuild.Goals as goal
 
 pub returns-in_err-step-clause-done : goal.returns-in_err-step-clause-done
@@ -20,8 +19,3 @@ returns-clause-done g c =
     let w = setting_of c.args.world.now in
     let after = world_of c.step.new.world in
     (step_text w after.log (Rebuild c.args.replica) c.in_ok-step.field-0, rebuilds w (world_of c.args.world.now) c.args.replica c.in_ok-step.field-0 after s.0, s.1)
-
-pub returns-in_err-step-clause-kept : goal.returns-in_err-step-clause-kept
-returns-in_err-step-clause-kept g c =
-    let q = err_from_is_err_and c.from_residual.result c.from_residual.ensures.1 in
-    lost_by g.W.Write.contents c.args.output.now c.step.new.output c.from_residual.result q.0 c.in_err-step.field-0.0 q.1 q.2 c.in_err-step.ensures.kept

@@ -5,7 +5,6 @@ use Rattle.dsm_world.specs.System.{setting_of, world_of, step_of}
 use Rattle.report.specs.Answers.{answer_line, text_of}
 use Rattle.script_actions.specs.Printed.{delivered_entry, step_text}
 use Rattle.script_actions.specs.Doing.{PassesBeginning}
-use Rattle.script_actions.proofs.GivenLemmas.{lost_by}
 use Rattle.script_actions.proofs.answers.step.Goals as goal
 
 pub returns-in_err-put_answer-clause-failed : goal.returns-in_err-put_answer-clause-failed
@@ -24,8 +23,3 @@ returns-clause-stepped g c =
     ap text_of (c.answer_line.ensures (setting_of c.args.world.now))
     ∙ ap (λ n. text_of (answer_line (step_of (setting_of c.args.world.now) c.args.step) c.step-outcome.result n)) (c.delivered_entry-entry.ensures ∙ ap (λ w. delivered_entry w log c.step-outcome.result) c.step-outcome.ensures.setting) in
     (c.step-outcome.ensures.step, subst (Passes g.W.Write.contents c.args.output.now c.put_answer.new.output) said c.in_ok-put_answer.ensures.given)
-
-pub returns-in_err-put_answer-clause-kept : goal.returns-in_err-put_answer-clause-kept
-returns-in_err-put_answer-clause-kept g c =
-    let q = err_from_is_err_and c.from_residual.result c.from_residual.ensures.1 in
-    lost_by g.W.Write.contents c.args.output.now c.put_answer.new.output c.from_residual.result q.0 c.in_err-put_answer.field-0.0 q.1 q.2 c.in_err-put_answer.ensures.kept

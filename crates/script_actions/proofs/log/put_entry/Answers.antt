@@ -11,7 +11,7 @@ use Rattle.report.specs.Lines as lines
 use Rattle.report.specs.Lines.{bytes_words}
 use Rattle.script_actions.specs.Printed.{entry_of, entry_text}
 use Rattle.script_actions.specs.Doing.{Gives}
-use Rattle.script_actions.proofs.GivenLemmas.{nothing_begun, nothing_lost}
+use Rattle.script_actions.proofs.GivenLemmas.{nothing_begun}
 use Rattle.script_actions.proofs.PrintedLemmas.{item_numbered, carries_numbered, is_entry}
 use Rattle.script_actions.proofs.log.put_entry.Goals as goal
 
@@ -43,8 +43,3 @@ returns-clause-given g c =
     subst (Gives g.W.Write.contents c.args.output.now c.put_line-2.new.output c.put_line-2.result)
     (ap (λ (xs : List ℕ). bytes_words c.args.position (Some xs) ++ codes "\n") bytes
     ∙ ap (λ (o : Option Item). bytes_words c.args.position (option_map (λ item. entry_bytes (entry_of w log item)) o) ++ codes "\n") (sym there)) c.put_line-2.ensures.given
-
-pub returns-in_err-bytes-clause-kept : goal.returns-in_err-bytes-clause-kept
-returns-in_err-bytes-clause-kept g c =
-    let q = err_from_is_err_and c.from_residual.result c.from_residual.ensures.1 in
-    rw q.1 (nothing_lost g.W.Write.contents c.args.output.now q.0)

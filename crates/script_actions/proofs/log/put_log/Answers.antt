@@ -6,7 +6,6 @@ use Rattle.replica.proofs.EntryLemmas.{items_count}
 use Rattle.dsm_world.proofs.Numbered.{get_within}
 use Rattle.script_actions.specs.Doing.{PassesBeginning, Gives}
 use Rattle.script_actions.proofs.PrintedLemmas.{no_lines, one_more_line, line_breaks, log_given}
-use Rattle.script_actions.proofs.GivenLemmas.{nothing_lost_behind, none_lost_behind, lost_by}
 use Rattle.script_actions.proofs.log.put_log.Goals as goal
 
 pub loop-before-init : goal.loop-before-init
@@ -51,15 +50,3 @@ returns-clause-given g c =
     let len = c.log_len-entries.ensures in
     log_given g.W.Write.contents w world c.loop-before.before c.args.output.now c.loop-before.output c.put_line-2.new.output c.put_line-2.result c.loop-before.invariant.0 (omega arith)
     (subst (λ n. Gives g.W.Write.contents c.loop-before.output c.put_line-2.new.output c.put_line-2.result (Rattle.report.specs.Lines.line_text (Rattle.report.specs.declared.printed.Line.TheVariants.Log n))) (len ∙ sym count) c.put_line-2.ensures.given)
-
-pub returns-in_err-put_line-clause-kept : goal.returns-in_err-put_line-clause-kept
-returns-in_err-put_line-clause-kept g c =
-    let have = c.loop-before.invariant.0 in
-    let q = err_from_is_err_and c.from_residual.result c.from_residual.ensures.1 in
-    lost_by g.W.Write.contents c.args.output.now c.put_line.new.output c.from_residual.result q.0 c.in_err-put_line.field-0.0 q.1 q.2
-    (nothing_lost_behind g.W.Write.contents c.args.output.now c.loop-before.output c.put_line.new.output have.done c.in_err-put_line.field-0.0 have.given c.in_err-put_line.ensures.kept)
-
-pub returns-clause-kept : goal.returns-clause-kept
-returns-clause-kept g c =
-    let have = c.loop-before.invariant.0 in
-    none_lost_behind g.W.Write.contents c.args.output.now c.loop-before.output c.put_line-2.new.output have.done c.put_line-2.result have.given c.put_line-2.ensures.kept

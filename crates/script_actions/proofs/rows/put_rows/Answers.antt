@@ -9,7 +9,7 @@ use Rattle.report.specs.declared.printed.Line.TheVariants as line
 use Rattle.report.specs.declared.printed.ReplicaReport.TheVariants as report
 use Rattle.script_actions.specs.Printed.{row_text}
 use Rattle.script_actions.specs.Doing.{Gives, PassesBeginning}
-use Rattle.script_actions.proofs.GivenLemmas.{nothing_begun, nothing_lost, nothing_lost_behind, none_lost_behind, lost_by}
+use Rattle.script_actions.proofs.GivenLemmas.{nothing_begun}
 use Rattle.script_actions.proofs.RowLemmas.{one_more_row, row_breaks, rows_found, rows_given}
 use Rattle.script_actions.proofs.rows.put_rows.Goals as goal
 
@@ -53,18 +53,3 @@ returns-clause-given g c =
     subst (Gives g.W.Write.contents c.args.output.now c.put_line-2.new.output c.put_line-2.result) (sym listed)
     (rows_given g.W.Write.contents c.args.output.now c.loop-row.output c.put_line-2.new.output c.put_line-2.result items c.loop-row.row-index _ c.loop-row-test.false c.loop-row.invariant.0
     (subst (Gives g.W.Write.contents c.loop-row.output c.put_line-2.new.output c.put_line-2.result) last c.put_line-2.ensures.given))
-
-pub returns-in_err-listed-clause-kept : goal.returns-in_err-listed-clause-kept
-returns-in_err-listed-clause-kept g c =
-    let q = err_from_is_err_and c.from_residual.result c.from_residual.ensures.1 in
-    rw q.1 (nothing_lost g.W.Write.contents c.args.output.now q.0)
-
-pub returns-in_err-put_line-clause-kept : goal.returns-in_err-put_line-clause-kept
-returns-in_err-put_line-clause-kept g c =
-    let q = err_from_is_err_and c.from_residual-in_err-put_line.result c.from_residual-in_err-put_line.ensures.1 in
-    lost_by g.W.Write.contents c.args.output.now c.put_line-in-loop-row.new.output c.from_residual-in_err-put_line.result q.0 c.in_err-put_line.field-0.0 q.1 q.2
-    (nothing_lost_behind g.W.Write.contents c.args.output.now c.loop-row.output c.put_line-in-loop-row.new.output _ c.in_err-put_line.field-0.0 c.loop-row.invariant.0 c.in_err-put_line.ensures.kept)
-
-pub returns-clause-kept : goal.returns-clause-kept
-returns-clause-kept g c =
-    none_lost_behind g.W.Write.contents c.args.output.now c.loop-row.output c.put_line-2.new.output _ c.put_line-2.result c.loop-row.invariant.0 c.put_line-2.ensures.kept
