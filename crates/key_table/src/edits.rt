@@ -1,402 +1,358 @@
-//! Changes of pages in order.
+//! Changes of groups in order.
 
-ghost use Rattle.std.specs.Prelude.{◌≡◌, ◌≢◌, ◌==◌, List, [], ◌∷◌, ◌++◌, ◌<◌, ◌≤◌, ◌+◌, ℕ, length, take, drop, filter};
-ghost use Rattle.std.specs.Prelude.{vec_len, vec_capacity, is_ok, slice_index_or, slice_set, Some, None, OnOk, OnErr};
-ghost use Rattle.std.specs.Prelude.{IfOk, IfSome, if◌then◌else◌};
+ghost use Rattle.std.specs.Prelude.{◌≡◌, ◌≢◌, ◌==◌, List, [], ◌∷◌, ◌++◌, ◌<◌, ◌≤◌, ◌+◌, ◌^◌, ℕ, length, take, drop};
+ghost use Rattle.std.specs.Prelude.{filter, vec_len, vec_capacity, is_ok, slice_index_or, slice_set, None, OnOk};
+ghost use Rattle.std.specs.Prelude.{OnErr, IfOk, IfSome, IsSome, if◌then◌else◌};
 ghost use Rattle.std.specs.Option.{option_copied, IsSomeAnd};
 ghost use Rattle.row_chain.specs.Version.{HasRoom};
-ghost use Rattle.key_table.specs.declared.edits.TheConstants.{PAGE_KEYS, TABLE_PAGES};
+ghost use Rattle.key_group.specs.declared.edits.TheConstants.{GROUP_PAGES, GROUP_KEYS};
+ghost use Rattle.key_group.specs.Pages.{all_slots, least_key, least_keys, page_place, AreFilled, IsPrunedTo};
+ghost use Rattle.key_group.specs.Pages.{ArePagesPruned, IsGroupSized};
+ghost use Rattle.key_group.specs.Changes.{IsChangedAt, IsAdded};
 ghost use Rattle.key_table.specs.Table.{Slot, IsReserved, IsPushed, AreRising, chain_at, versions_at, HasRoomAt};
-ghost use Rattle.key_table.specs.Pages.{all_slots, least_key, least_keys, with_slot, in_page, in_pages, begins_by};
-ghost use Rattle.key_table.specs.Pages.{has_slots, AreFilled};
-ghost use Rattle.key_table.specs.Pages.{ArePages, IsInserted, IsPrunedTo, ArePagesPruned};
+ghost use Rattle.key_table.specs.Groups.{group_slots, has_any, AreGroups};
 
-use crate::pages::{find, page_of};
-use key_page::{Entry, Page};
+use key_group::{GROUP_PAGES, Group, place_of};
 use std::alloc::{AllocError, Allocator};
 
-/// The most keys of a page.
-pub const PAGE_KEYS: usize = 64;
+/// The most groups of a table, more than memory holds, so that its keys can be counted.
+pub const TABLE_GROUPS: usize = 562_949_953_421_312;
 
-/// The most pages of a table, more than memory holds, so that its keys can be counted.
-pub const TABLE_PAGES: usize = 144_115_188_075_855_872;
-
-/// Makes room for one more version at a place of a page.
-pub fn reserve_at<A: Allocator + Copy>(
-    pages: &mut Vec<Page<A>, A>,
-    alloc: A,
-    page: usize,
-    at: usize,
-) -> Result<(), AllocError>
-    requires page { page < length pages.old.items }
-    requires at { (p : List Slot) → at < length (slice_index_or pages.old.items page p) }
-    ensures { (p : List Slot) (d : Slot)
-        → IsReserved (is_ok result) (slice_index_or (slice_index_or pages.old.items page p) at d)
-        (slice_index_or (slice_index_or pages.new.items page p) at d)
-        × (pages.new.items ≡ slice_set pages.old.items page
-        (slice_set (slice_index_or pages.old.items page p) at
-        (slice_index_or (slice_index_or pages.new.items page p) at d))) }
+/// Notes the least key of a group again.
+fn set_least<A: Allocator>(least: &mut Vec<u64, A>, groups: &[Group<A>], at: usize)
+    requires at { at < length groups.now }
+    requires len { length least.old.items ≡ length groups.now }
+    ensures { (g : List (List Slot)) → least.new.items
+        ≡ slice_set least.old.items at (least_key (all_slots (slice_index_or groups.now at g))) }
 {
-    pages[page].reserve_at(alloc, at)
+    least[at] = groups[at].least();
 }
 
-/// One version more at a place of a page.
-pub fn push_at<A: Allocator>(
-    pages: &mut Vec<Page<A>, A>,
-    page: usize,
-    at: usize,
-    position: u32,
-    row: Option<&[u8]>,
-)
-    requires page { page < length pages.old.items }
-    requires at { (p : List Slot) → at < length (slice_index_or pages.old.items page p) }
-    requires room { (p : List Slot) (d : Slot) → HasRoom
-        (slice_index_or (slice_index_or pages.old.items page p) at d).chain }
-    requires width { (p : List Slot) (d : Slot)
-        → IfSome row (λ r. length r.now ≡ (slice_index_or (slice_index_or pages.old.items page p) at d).chain.width) }
-    ensures { (p : List Slot) (d : Slot)
-        → IsPushed position (option_copied row.entry) (slice_index_or (slice_index_or pages.old.items page p) at d)
-        (slice_index_or (slice_index_or pages.new.items page p) at d)
-        × (pages.new.items ≡ slice_set pages.old.items page
-        (slice_set (slice_index_or pages.old.items page p) at
-        (slice_index_or (slice_index_or pages.new.items page p) at d))) }
+/// How many pages a group has.
+fn pages_at<A: Allocator>(groups: &[Group<A>], at: usize) -> usize
+    requires { at < length groups.now }
+    ensures pages { (g : List (List Slot)) → result ≡ length (slice_index_or groups.now at g) }
+    ensures most { result ≤ GROUP_PAGES }
 {
-    pages[page].push_at(at, position, row);
+    groups[at].pages()
 }
 
-/// Notes the least key of a page again.
-fn set_least<A: Allocator>(least: &mut Vec<u64, A>, pages: &[Page<A>], page: usize)
-    requires page { page < length pages.now }
-    requires len { length least.old.items ≡ length pages.now }
-    ensures { (p : List Slot) → least.new.items
-        ≡ slice_set least.old.items page (least_key (slice_index_or pages.now page p)) }
+/// The least key of a group.
+fn least_at<A: Allocator>(groups: &[Group<A>], at: usize) -> u64
+    requires { at < length groups.now }
+    ensures { (g : List (List Slot)) → result ≡ least_key (all_slots (slice_index_or groups.now at g)) }
 {
-    least[page] = pages[page].least();
+    groups[at].least()
 }
 
-/// Puts an entry in its place in a page, and notes the least key of the page.
-fn insert_at<A: Allocator>(
-    least: &mut Vec<u64, A>,
-    pages: &mut Vec<Page<A>, A>,
-    page: usize,
-    entry: Entry<A>,
-) -> Result<(), AllocError>
-    requires page { page < length pages.old.items }
-    requires rising { (p : List Slot) → AreRising (slice_index_or pages.old.items page p) }
-    requires least { least.old.items ≡ least_keys pages.old.items }
-    ensures done { OnOk result ((p : List Slot)
-        → pages.new.items ≡ slice_set pages.old.items page (with_slot entry (slice_index_or pages.old.items page p))) }
-    ensures none { OnErr result (pages.new.items ≡ pages.old.items) }
-    ensures least { least.new.items ≡ least_keys pages.new.items }
-{
-    put_in(pages, page, entry)?;
-    set_least(least, pages, page);
-    Ok(())
-}
-
-/// Puts an entry in its place in a page.
-fn put_in<A: Allocator>(
-    pages: &mut Vec<Page<A>, A>,
-    page: usize,
-    entry: Entry<A>,
-) -> Result<(), AllocError>
-    requires page { page < length pages.old.items }
-    requires rising { (p : List Slot) → AreRising (slice_index_or pages.old.items page p) }
-    ensures done { OnOk result ((p : List Slot)
-        → pages.new.items ≡ slice_set pages.old.items page (with_slot entry (slice_index_or pages.old.items page p))) }
-    ensures none { OnErr result (pages.new.items ≡ pages.old.items) }
-{
-    pages[page].insert(entry)
-}
-
-/// How many keys a page has.
-fn keys<A: Allocator>(pages: &[Page<A>], page: usize) -> usize
-    requires { page < length pages.now }
-    ensures { (p : List Slot) → result ≡ length (slice_index_or pages.now page p) }
-{
-    pages[page].len()
-}
-
-/// Whether a page begins at a key or before.
-fn begins_by<A: Allocator>(pages: &[Page<A>], page: usize, key: u64) -> bool
-    requires { page < length pages.now }
-    ensures { (p : List Slot) → result ≡ begins_by key (slice_index_or pages.now page p) }
-{
-    pages[page].begins_by(key)
-}
-
-/// Takes the upper half of a full page away.
+/// Takes the upper half of a full group away.
 fn take_upper<A: Allocator + Copy>(
-    pages: &mut Vec<Page<A>, A>,
-    page: usize,
-) -> Result<Page<A>, AllocError>
-    requires page { page < length pages.old.items }
-    requires full { (p : List Slot) → length (slice_index_or pages.old.items page p) ≡ PAGE_KEYS }
-    ensures lower { OnOk result ((p : List Slot)
-        → pages.new.items ≡ slice_set pages.old.items page (take 32 (slice_index_or pages.old.items page p))) }
-    ensures upper { IfOk result (λ upper. (p : List Slot) → upper ≡ drop 32 (slice_index_or pages.old.items page p)) }
-    ensures none { OnErr result (pages.new.items ≡ pages.old.items) }
-    ensures room { vec_capacity pages.new ≡ vec_capacity pages.old }
-    ensures len { vec_len pages.new ≡ vec_len pages.old }
+    groups: &mut Vec<Group<A>, A>,
+    alloc: A,
+    at: usize,
+) -> Result<Group<A>, AllocError>
+    requires at { at < length groups.old.items }
+    requires full { (g : List (List Slot)) → length (slice_index_or groups.old.items at g) ≡ GROUP_PAGES }
+    ensures lower { OnOk result ((g : List (List Slot))
+        → groups.new.items ≡ slice_set groups.old.items at (take 128 (slice_index_or groups.old.items at g))) }
+    ensures upper { IfOk result (λ upper. (g : List (List Slot))
+        → upper ≡ drop 128 (slice_index_or groups.old.items at g)) }
+    ensures lower_size { OnOk result ((g : List (List Slot))
+        → IsGroupSized (take 128 (slice_index_or groups.old.items at g))) }
+    ensures upper_size { OnOk result ((g : List (List Slot))
+        → IsGroupSized (drop 128 (slice_index_or groups.old.items at g))) }
+    ensures none { OnErr result (groups.new.items ≡ groups.old.items) }
+    ensures room { vec_capacity groups.new ≡ vec_capacity groups.old }
+    ensures len { vec_len groups.new ≡ vec_len groups.old }
 {
-    pages[page].split()
+    groups[at].split(alloc)
 }
 
-/// Splits a full page, and notes the least key of its upper half. After want of memory nothing has changed.
-fn split_at<A: Allocator + Copy>(
-    least: &mut Vec<u64, A>,
-    pages: &mut Vec<Page<A>, A>,
-    page: usize,
+/// Splits a full group: its upper half becomes the next group. After want of memory nothing has changed.
+fn split_group<A: Allocator + Copy>(
+    groups: &mut Vec<Group<A>, A>,
+    alloc: A,
+    at: usize,
 ) -> Result<(), AllocError>
-    requires page { page < length pages.old.items }
-    requires full { (p : List Slot) → length (slice_index_or pages.old.items page p) ≡ PAGE_KEYS }
-    requires least { least.old.items ≡ least_keys pages.old.items }
-    ensures done { OnOk result ((p : List Slot)
-        → pages.new.items ≡ take page pages.old.items ++ take 32 (slice_index_or pages.old.items page p)
-        ∷ drop 32 (slice_index_or pages.old.items page p) ∷ drop (page + 1) pages.old.items) }
-    ensures none { OnErr result (pages.new.items ≡ pages.old.items) }
-    ensures least { least.new.items ≡ least_keys pages.new.items }
+    requires at { at < length groups.old.items }
+    requires full { (g : List (List Slot)) → length (slice_index_or groups.old.items at g) ≡ GROUP_PAGES }
+    ensures done { OnOk result ((g : List (List Slot))
+        → groups.new.items ≡ take at groups.old.items ++ take 128 (slice_index_or groups.old.items at g)
+        ∷ drop 128 (slice_index_or groups.old.items at g) ∷ drop (at + 1) groups.old.items) }
+    ensures lower_size { OnOk result ((g : List (List Slot))
+        → IsGroupSized (take 128 (slice_index_or groups.old.items at g))) }
+    ensures upper_size { OnOk result ((g : List (List Slot))
+        → IsGroupSized (drop 128 (slice_index_or groups.old.items at g))) }
+    ensures none { OnErr result (groups.new.items ≡ groups.old.items) }
 {
-    least.reserve(1)?;
-    split_page(pages, page)?;
-    let first = least_of(pages, page + 1);
-    let noted = least.insert(page + 1, first);
-    prove!(noted.is_ok());
-    Ok(())
-}
-
-/// The least key of a page.
-fn least_of<A: Allocator>(pages: &[Page<A>], page: usize) -> u64
-    requires { page < length pages.now }
-    ensures { (p : List Slot) → result ≡ least_key (slice_index_or pages.now page p) }
-{
-    pages[page].least()
-}
-
-/// Splits a full page: its upper half becomes the next page. After want of memory nothing has changed.
-fn split_page<A: Allocator + Copy>(
-    pages: &mut Vec<Page<A>, A>,
-    page: usize,
-) -> Result<(), AllocError>
-    requires page { page < length pages.old.items }
-    requires full { (p : List Slot) → length (slice_index_or pages.old.items page p) ≡ PAGE_KEYS }
-    ensures done { OnOk result ((p : List Slot)
-        → pages.new.items ≡ take page pages.old.items ++ take 32 (slice_index_or pages.old.items page p)
-        ∷ drop 32 (slice_index_or pages.old.items page p) ∷ drop (page + 1) pages.old.items) }
-    ensures none { OnErr result (pages.new.items ≡ pages.old.items) }
-{
-    pages.reserve(1)?;
-    let upper = take_upper(pages, page)?;
-    let inserted = pages.insert(page + 1, upper);
+    groups.reserve(1)?;
+    let upper = take_upper(groups, alloc, at)?;
+    let inserted = groups.insert(at + 1, upper);
     prove!(inserted.is_ok());
     Ok(())
 }
 
-/// Puts an entry into one of the two halves of a page.
-fn insert_half<A: Allocator>(
+/// Splits a full group, and notes the least key of its upper half. After want of memory nothing has changed.
+fn split_at<A: Allocator + Copy>(
     least: &mut Vec<u64, A>,
-    pages: &mut Vec<Page<A>, A>,
-    page: usize,
-    entry: Entry<A>,
-) -> Result<(), AllocError>
-    requires page { page + 1 < length pages.old.items }
-    requires lower { (p : List Slot) → AreRising (slice_index_or pages.old.items page p) }
-    requires upper { (p : List Slot) → AreRising (slice_index_or pages.old.items (page + 1) p) }
-    requires least { least.old.items ≡ least_keys pages.old.items }
-    ensures least { least.new.items ≡ least_keys pages.new.items }
-    ensures done { OnOk result ((p : List Slot)
-        → pages.new.items ≡ (if begins_by entry.key (slice_index_or pages.old.items (page + 1) p)
-        then slice_set pages.old.items (page + 1) (with_slot entry (slice_index_or pages.old.items (page + 1) p))
-        else slice_set pages.old.items page (with_slot entry (slice_index_or pages.old.items page p)))) }
-    ensures none { OnErr result (pages.new.items ≡ pages.old.items) }
-{
-    if begins_by(pages, page + 1, entry.key()) {
-        return insert_at(least, pages, page + 1, entry);
-    }
-    insert_at(least, pages, page, entry)
-}
-
-/// Puts an entry into a page, and first splits the page where it is full.
-fn insert_into<A: Allocator + Copy>(
-    least: &mut Vec<u64, A>,
-    pages: &mut Vec<Page<A>, A>,
-    page: usize,
-    entry: Entry<A>,
-) -> Result<(), AllocError>
-    requires page { page < length pages.old.items }
-    requires rising { (p : List Slot) → AreRising (slice_index_or pages.old.items page p) }
-    requires filled { AreFilled pages.old.items }
-    requires least { least.old.items ≡ least_keys pages.old.items }
-    ensures least { least.new.items ≡ least_keys pages.new.items }
-    ensures done { OnOk result ((p : List Slot)
-        → pages.new.items ≡ take page pages.old.items
-        ++ (in_page entry (slice_index_or pages.old.items page p) ++ drop (page + 1) pages.old.items)) }
-    ensures none { OnErr result (all_slots pages.new.items ≡ all_slots pages.old.items) }
-    ensures filled { AreFilled pages.new.items }
-    ensures few { length pages.new.items ≤ length pages.old.items + 1 }
-{
-    if keys(pages, page) < PAGE_KEYS {
-        return insert_at(least, pages, page, entry);
-    }
-    split_at(least, pages, page)?;
-    insert_half(least, pages, page, entry)
-}
-
-/// Makes the first page of an entry.
-fn insert_first<A: Allocator + Copy>(
-    least: &mut Vec<u64, A>,
-    pages: &mut Vec<Page<A>, A>,
+    groups: &mut Vec<Group<A>, A>,
     alloc: A,
-    entry: Entry<A>,
+    at: usize,
 ) -> Result<(), AllocError>
-    requires none { pages.old.items ≡ [] }
-    requires least { least.old.items ≡ [] }
-    ensures least { least.new.items ≡ least_keys pages.new.items }
-    ensures done { OnOk result (pages.new.items ≡ (entry ∷ []) ∷ []) }
-    ensures none { OnErr result (pages.new.items ≡ pages.old.items) }
+    requires at { at < length groups.old.items }
+    requires full { (g : List (List Slot)) → length (slice_index_or groups.old.items at g) ≡ GROUP_PAGES }
+    requires least { least.old.items ≡ least_keys (group_slots groups.old.items) }
+    requires filled { AreFilled GROUP_KEYS (group_slots groups.old.items) }
+    ensures done { OnOk result ((g : List (List Slot))
+        → groups.new.items ≡ take at groups.old.items ++ take 128 (slice_index_or groups.old.items at g)
+        ∷ drop 128 (slice_index_or groups.old.items at g) ∷ drop (at + 1) groups.old.items) }
+    ensures lower_size { OnOk result ((g : List (List Slot))
+        → IsGroupSized (take 128 (slice_index_or groups.old.items at g))) }
+    ensures filled { AreFilled GROUP_KEYS (group_slots groups.new.items) }
+    ensures none { OnErr result (groups.new.items ≡ groups.old.items) }
+    ensures least { least.new.items ≡ least_keys (group_slots groups.new.items) }
 {
     least.reserve(1)?;
-    let key = entry.key();
-    let page = Page::new(alloc, entry)?;
-    pages.push(page)?;
-    let noted = least.push(key);
+    split_group(groups, alloc, at)?;
+    let first = least_at(groups, at + 1);
+    let noted = least.insert(at + 1, first);
     prove!(noted.is_ok());
     Ok(())
 }
 
-/// Puts an entry in its place. After want of memory the keys are the same.
-fn insert<A: Allocator + Copy>(
+/// The place of a key's group, which is first split where it is full. After want of memory the keys are the same.
+fn make_place<A: Allocator + Copy>(
     least: &mut Vec<u64, A>,
-    pages: &mut Vec<Page<A>, A>,
+    groups: &mut Vec<Group<A>, A>,
     alloc: A,
-    entry: Entry<A>,
-) -> Result<(), AllocError>
-    requires rising { AreRising (all_slots pages.old.items) }
-    requires filled { AreFilled pages.old.items }
-    requires least { least.old.items ≡ least_keys pages.old.items }
-    requires few { length pages.old.items ≤ TABLE_PAGES }
-    ensures least { least.new.items ≡ least_keys pages.new.items }
-    ensures done { OnOk result (pages.new.items ≡ in_pages entry pages.old.items) }
-    ensures none { OnErr result (all_slots pages.new.items ≡ all_slots pages.old.items) }
-    ensures filled { AreFilled pages.new.items }
-    ensures few { length pages.new.items ≤ TABLE_PAGES }
+    key: u64,
+) -> Result<usize, AllocError>
+    requires some { 0 < length groups.old.items }
+    requires rising { AreRising (all_slots (group_slots groups.old.items)) }
+    requires filled { AreFilled GROUP_KEYS (group_slots groups.old.items) }
+    requires least { least.old.items ≡ least_keys (group_slots groups.old.items) }
+    ensures slots { all_slots (group_slots groups.new.items) ≡ all_slots (group_slots groups.old.items) }
+    ensures filled { AreFilled GROUP_KEYS (group_slots groups.new.items) }
+    ensures least { least.new.items ≡ least_keys (group_slots groups.new.items) }
+    ensures few { length groups.new.items ≤ length groups.old.items + 1 }
+    ensures within { IfOk result (λ at. at < length groups.new.items) }
+    ensures place { IfOk result (λ at. at ≡ page_place key (group_slots groups.new.items)) }
+    ensures room { IfOk result (λ at. (g : List (List Slot))
+        → length (slice_index_or groups.new.items at g) < GROUP_PAGES) }
 {
-    if pages.len() >= TABLE_PAGES {
-        return Err(AllocError);
+    let at = place_of(least, key);
+    if pages_at(groups, at) < GROUP_PAGES {
+        return Ok(at);
     }
-    if pages.is_empty() {
-        return insert_first(least, pages, alloc, entry);
-    }
-    let page = page_of(least, pages, entry.key());
-    insert_into(least, pages, page, entry)
+    split_at(least, groups, alloc, at)?;
+    Ok(place_of(least, key))
 }
 
-/// Makes room for one more version of a key, which is put in its place where it is new.
-pub fn reserve<A: Allocator + Copy>(
+/// Makes room for one more version of a key in a group.
+fn reserve_at<A: Allocator + Copy>(
+    groups: &mut Vec<Group<A>, A>,
+    alloc: A,
+    at: usize,
+    width: u16,
+    key: u64,
+) -> Result<(), AllocError>
+    requires at { at < length groups.old.items }
+    requires room { (g : List (List Slot)) → length (slice_index_or groups.old.items at g) < GROUP_PAGES }
+    ensures found { (g : List (List Slot)) → IsSome (chain_at (all_slots (slice_index_or groups.old.items at g)) key)
+        → IsChangedAt (IsReserved (is_ok result)) key (all_slots (slice_index_or groups.old.items at g))
+        (all_slots (slice_index_or groups.new.items at g)) }
+    ensures added { OnOk result ((g : List (List Slot))
+        → chain_at (all_slots (slice_index_or groups.old.items at g)) key ≡ None
+        → IsAdded width key (all_slots (slice_index_or groups.old.items at g))
+        (all_slots (slice_index_or groups.new.items at g))) }
+    ensures none { OnErr result ((g : List (List Slot))
+        → chain_at (all_slots (slice_index_or groups.old.items at g)) key ≡ None
+        → all_slots (slice_index_or groups.new.items at g) ≡ all_slots (slice_index_or groups.old.items at g)) }
+    ensures size { (g : List (List Slot)) → IsGroupSized (slice_index_or groups.new.items at g) }
+    ensures others { (g : List (List Slot))
+        → groups.new.items ≡ slice_set groups.old.items at (slice_index_or groups.new.items at g) }
+{
+    groups[at].reserve(alloc, width, key)
+}
+
+/// Makes room for one more version of a key in its group, and notes the least key of the group.
+fn reserve_in<A: Allocator + Copy>(
     least: &mut Vec<u64, A>,
-    pages: &mut Vec<Page<A>, A>,
+    groups: &mut Vec<Group<A>, A>,
+    alloc: A,
+    at: usize,
+    width: u16,
+    key: u64,
+) -> Result<(), AllocError>
+    requires groups { AreGroups width groups.old.items }
+    requires least { least.old.items ≡ least_keys (group_slots groups.old.items) }
+    requires at { at < length groups.old.items }
+    requires place { at ≡ page_place key (group_slots groups.old.items) }
+    requires room { (g : List (List Slot)) → length (slice_index_or groups.old.items at g) < GROUP_PAGES }
+    ensures groups { AreGroups width groups.new.items }
+    ensures least { least.new.items ≡ least_keys (group_slots groups.new.items) }
+    ensures versions { (q : ℕ) → versions_at (all_slots (group_slots groups.new.items)) q
+        ≡ versions_at (all_slots (group_slots groups.old.items)) q }
+    ensures room { OnOk result (HasRoomAt (all_slots (group_slots groups.new.items)) key) }
+    ensures more { (q : ℕ) → HasRoomAt (all_slots (group_slots groups.old.items)) q
+        → HasRoomAt (all_slots (group_slots groups.new.items)) q }
+{
+    let reserved = reserve_at(groups, alloc, at, width, key);
+    set_least(least, groups, at);
+    reserved
+}
+
+/// Makes the first group, of one key.
+fn reserve_first<A: Allocator + Copy>(
+    least: &mut Vec<u64, A>,
+    groups: &mut Vec<Group<A>, A>,
     alloc: A,
     width: u16,
     key: u64,
 ) -> Result<(), AllocError>
-    requires pages { ArePages width pages.old.items }
-    requires least { least.old.items ≡ least_keys pages.old.items }
-    ensures pages { ArePages width pages.new.items }
-    ensures least { least.new.items ≡ least_keys pages.new.items }
-    ensures inserted { OnOk result (chain_at (all_slots pages.old.items) key ≡ None
-        → IsInserted key pages.old.items pages.new.items) }
-    ensures versions { (q : ℕ) → versions_at (all_slots pages.new.items) q ≡ versions_at (all_slots pages.old.items) q }
-    ensures room { OnOk result (HasRoomAt (all_slots pages.new.items) key) }
-    ensures more { (q : ℕ) → HasRoomAt (all_slots pages.old.items) q → HasRoomAt (all_slots pages.new.items) q }
+    requires none { groups.old.items ≡ [] }
+    requires least { least.old.items ≡ [] }
+    ensures none { OnErr result (groups.new.items ≡ []) }
+    ensures added { OnOk result (IsAdded width key [] (all_slots (group_slots groups.new.items))) }
+    ensures filled { AreFilled GROUP_KEYS (group_slots groups.new.items) }
+    ensures least { least.new.items ≡ least_keys (group_slots groups.new.items) }
+    ensures few { length groups.new.items ≤ 1 }
 {
-    match find(least, pages, key) {
-        Some((page, at)) => reserve_at(pages, alloc, page, at),
-        None => {
-            let mut entry = Entry::new(width, key);
-            entry.reserve(alloc)?;
-            insert(least, pages, alloc, entry)
-        }
+    least.reserve(1)?;
+    let mut group = Group::new(alloc);
+    group.reserve(alloc, width, key)?;
+    let first = group.least();
+    groups.push(group)?;
+    let noted = least.push(first);
+    prove!(noted.is_ok());
+    Ok(())
+}
+
+/// Makes room for one more version of a key, which is put in its place where it is new. After want of memory each key
+/// has the versions it had.
+pub fn reserve<A: Allocator + Copy>(
+    least: &mut Vec<u64, A>,
+    groups: &mut Vec<Group<A>, A>,
+    alloc: A,
+    width: u16,
+    key: u64,
+) -> Result<(), AllocError>
+    requires groups { AreGroups width groups.old.items }
+    requires least { least.old.items ≡ least_keys (group_slots groups.old.items) }
+    ensures groups { AreGroups width groups.new.items }
+    ensures least { least.new.items ≡ least_keys (group_slots groups.new.items) }
+    ensures versions { (q : ℕ) → versions_at (all_slots (group_slots groups.new.items)) q
+        ≡ versions_at (all_slots (group_slots groups.old.items)) q }
+    ensures room { OnOk result (HasRoomAt (all_slots (group_slots groups.new.items)) key) }
+    ensures more { (q : ℕ) → HasRoomAt (all_slots (group_slots groups.old.items)) q
+        → HasRoomAt (all_slots (group_slots groups.new.items)) q }
+{
+    if groups.len() >= TABLE_GROUPS {
+        return Err(AllocError);
     }
+    if groups.is_empty() {
+        return reserve_first(least, groups, alloc, width, key);
+    }
+    let at = make_place(least, groups, alloc, key)?;
+    reserve_in(least, groups, alloc, at, width, key)
+}
+
+/// One version more of a key in a group.
+fn push_at<A: Allocator>(
+    groups: &mut Vec<Group<A>, A>,
+    at: usize,
+    key: u64,
+    position: u32,
+    row: Option<&[u8]>,
+)
+    requires at { at < length groups.old.items }
+    requires room { (g : List (List Slot)) → HasRoomAt (all_slots (slice_index_or groups.old.items at g)) key }
+    requires width { (g : List (List Slot)) → IfSome row
+        (λ r. IsSomeAnd (chain_at (all_slots (slice_index_or groups.old.items at g)) key)
+        (λ k. length r.now ≡ k.width)) }
+    ensures { (g : List (List Slot)) → IsChangedAt (IsPushed position (option_copied row.entry)) key
+        (all_slots (slice_index_or groups.old.items at g)) (all_slots (slice_index_or groups.new.items at g))
+        × (groups.new.items ≡ slice_set groups.old.items at (slice_index_or groups.new.items at g)) }
+{
+    groups[at].push(key, position, row);
 }
 
 /// One version more of a key.
 pub fn push<A: Allocator>(
     least: &[u64],
-    pages: &mut Vec<Page<A>, A>,
+    groups: &mut Vec<Group<A>, A>,
     key: u64,
     position: u32,
     row: Option<&[u8]>,
 )
-    requires least { least.now ≡ least_keys pages.old.items }
-    requires rising { AreRising (all_slots pages.old.items) }
-    requires filled { AreFilled pages.old.items }
-    requires room { HasRoomAt (all_slots pages.old.items) key }
+    requires least { least.now ≡ least_keys (group_slots groups.old.items) }
+    requires rising { AreRising (all_slots (group_slots groups.old.items)) }
+    requires filled { AreFilled GROUP_KEYS (group_slots groups.old.items) }
+    requires room { HasRoomAt (all_slots (group_slots groups.old.items)) key }
     requires width { IfSome row
-        (λ r. IsSomeAnd (chain_at (all_slots pages.old.items) key) (λ k. length r.now ≡ k.width)) }
-    ensures least { least_keys pages.new.items ≡ least_keys pages.old.items }
-    ensures pages { (w : ℕ) → ArePages w pages.old.items → ArePages w pages.new.items }
-    ensures versions { (q : ℕ) → versions_at (all_slots pages.new.items) q ≡ (if key == q
-        then versions_at (all_slots pages.old.items) q ++ record { position = position; row = option_copied row.entry }
-        ∷ []
-        else versions_at (all_slots pages.old.items) q) }
-    ensures room { (q : ℕ) → key ≢ q → HasRoomAt (all_slots pages.old.items) q
-        → HasRoomAt (all_slots pages.new.items) q }
+        (λ r. IsSomeAnd (chain_at (all_slots (group_slots groups.old.items)) key) (λ k. length r.now ≡ k.width)) }
+    ensures least { least_keys (group_slots groups.new.items) ≡ least_keys (group_slots groups.old.items) }
+    ensures filled { AreFilled GROUP_KEYS (group_slots groups.new.items) }
+    ensures count { length groups.new.items ≡ length groups.old.items }
+    ensures pushed { IsChangedAt (IsPushed position (option_copied row.entry)) key
+        (all_slots (group_slots groups.old.items)) (all_slots (group_slots groups.new.items)) }
 {
-    let found = find(least, pages, key);
-    prove!(found.is_some());
-    if let Some((page, at)) = found {
-        push_at(pages, page, at, position, row);
-    }
+    let at = place_of(least, key);
+    push_at(groups, at, key, position, row);
 }
 
-/// Prunes a page.
-fn prune_at<A: Allocator>(pages: &mut Vec<Page<A>, A>, page: usize, horizon: u32)
-    requires { page < length pages.old.items }
-    ensures { (p : List Slot) → IsPrunedTo horizon (slice_index_or pages.old.items page p)
-        (slice_index_or pages.new.items page p)
-        × (pages.new.items ≡ slice_set pages.old.items page (slice_index_or pages.new.items page p)) }
+/// Prunes a group.
+fn prune_at<A: Allocator>(groups: &mut Vec<Group<A>, A>, at: usize, horizon: u32)
+    requires { at < length groups.old.items }
+    ensures { (g : List (List Slot)) → IsPrunedTo horizon (all_slots (slice_index_or groups.old.items at g))
+        (all_slots (slice_index_or groups.new.items at g))
+        × (groups.new.items ≡ slice_set groups.old.items at (slice_index_or groups.new.items at g)) }
 {
-    pages[page].prune(horizon);
+    groups[at].prune(horizon);
 }
 
-/// Prunes each page.
-fn prune_each<A: Allocator>(pages: &mut Vec<Page<A>, A>, horizon: u32)
-    ensures { ArePagesPruned horizon (length pages.old.items) pages.old.items pages.new.items }
+/// Prunes each group.
+fn prune_each<A: Allocator>(groups: &mut Vec<Group<A>, A>, horizon: u32)
+    ensures pruned { ArePagesPruned horizon (length groups.old.items) (group_slots groups.old.items)
+        (group_slots groups.new.items) }
+    ensures count { length groups.new.items ≡ length groups.old.items }
 {
-    let all: &[Page<A>] = pages;
+    let all: &[Group<A>] = groups;
     let count = all.len();
-    for i in 0..count {
-        prune_at(pages, i, horizon);
+    for at in 0..count {
+        prune_at(groups, at, horizon);
     }
 }
 
-/// Drops the pages without keys.
-fn drop_empty<A: Allocator>(pages: &mut Vec<Page<A>, A>)
-    ensures { pages.new.items ≡ filter has_slots pages.old.items }
+/// Drops the groups without keys.
+fn drop_empty<A: Allocator>(groups: &mut Vec<Group<A>, A>)
+    ensures { groups.new.items ≡ filter has_any groups.old.items }
 {
-    pages.retain(|page| page.len() > 0);
+    groups.retain(|group| group.has_keys());
 }
 
-/// Drops what no position from the horizon on sees, the keys of which nothing is left, and the pages without keys.
-pub fn prune<A: Allocator>(least: &mut Vec<u64, A>, pages: &mut Vec<Page<A>, A>, horizon: u32)
-    requires { least.old.items ≡ least_keys pages.old.items }
-    ensures least { least.new.items ≡ least_keys pages.new.items }
-    ensures slots { IsPrunedTo horizon (all_slots pages.old.items) (all_slots pages.new.items) }
-    ensures filled { AreFilled pages.old.items → AreFilled pages.new.items }
-    ensures few { length pages.new.items ≤ length pages.old.items }
+/// Drops what no position from the horizon on sees, the keys of which nothing is left, and the groups without keys.
+pub fn prune<A: Allocator>(least: &mut Vec<u64, A>, groups: &mut Vec<Group<A>, A>, horizon: u32)
+    requires { least.old.items ≡ least_keys (group_slots groups.old.items) }
+    ensures least { least.new.items ≡ least_keys (group_slots groups.new.items) }
+    ensures slots { IsPrunedTo horizon (all_slots (group_slots groups.old.items))
+        (all_slots (group_slots groups.new.items)) }
+    ensures filled { AreFilled GROUP_KEYS (group_slots groups.old.items)
+        → AreFilled GROUP_KEYS (group_slots groups.new.items) }
+    ensures few { length groups.new.items ≤ length groups.old.items }
 {
-    prune_each(pages, horizon);
-    drop_empty(pages);
-    note_all(least, pages);
+    prune_each(groups, horizon);
+    drop_empty(groups);
+    note_all(least, groups);
 }
 
-/// Notes the least key of each page, where there is room for as many.
-fn note_all<A: Allocator>(least: &mut Vec<u64, A>, pages: &[Page<A>])
-    requires { length pages.now ≤ length least.old.items }
-    ensures { least.new.items ≡ least_keys pages.now }
+/// Notes the least key of each group, where there is room for as many.
+fn note_all<A: Allocator>(least: &mut Vec<u64, A>, groups: &[Group<A>])
+    requires { length groups.now ≤ length least.old.items }
+    ensures { least.new.items ≡ least_keys (group_slots groups.now) }
 {
-    least.truncate(pages.len());
-    for page in 0..pages.len() {
-        set_least(least, pages, page);
+    least.truncate(groups.len());
+    for at in 0..groups.len() {
+        set_least(least, groups, at);
     }
 }

@@ -1,35 +1,38 @@
-//! The keys of one table in pages.
+//! The keys of one table in groups of pages.
 
 ghost use Rattle.std.specs.Prelude.{◌≡◌, ◌≢◌, ◌==◌, ◌≤◌, ◌*◌, ◌^◌, ◌++◌, [], ◌∷◌, ℕ, length, slice_get, if◌then◌else◌};
 ghost use Rattle.std.specs.Prelude.{OnOk, IfSome, IsSome, option_map};
 ghost use Rattle.std.specs.Option.{option_copied};
-ghost use Rattle.key_table.specs.declared.edits.TheConstants.{PAGE_KEYS};
+ghost use Rattle.key_group.specs.declared.edits.TheConstants.{PAGE_KEYS};
 ghost use Rattle.row_chain.specs.Version.{row_up_to, needed_versions};
 ghost use Rattle.key_table.specs.Table.{AreRising, chain_at, versions_at, HasRoomAt, rows_between};
 
-use crate::{edits, pages};
-use key_page::Page;
+use crate::{edits, groups};
+use key_group::Group;
 use std::alloc::{AllocError, Allocator, Global};
 use std::marker::Model;
 
-/// The keys of one table in order, each with its versions.
+/// The keys of one table in order, each with its versions, in groups of pages. The least keys of the groups lie in one
+/// run, and a group has few pages, so that a key more moves little memory however many keys there are.
 #[derive(Drop)]
 pub struct KeyTable<A: Allocator = Global> {
     width: u16,
     least: Vec<u64, A>,
-    pages: Vec<Page<A>, A>,
+    groups: Vec<Group<A>, A>,
 }
 
 impl<A: Allocator> Model for KeyTable<A> {
     ghost use Rattle.std.specs.Prelude.{◌≡◌};
     ghost use Rattle.key_table.specs.Table.{Table};
-    ghost use Rattle.key_table.specs.Pages.{all_slots, least_keys, ArePages};
+    ghost use Rattle.key_table.specs.Groups.{group_slots, AreGroups};
+    ghost use Rattle.key_group.specs.Pages.{all_slots, least_keys};
 
     ghost Value = { Table };
 
-    ghost view = { λ t. record { width = t.width; slots = all_slots t.pages.items } };
+    ghost view = { λ t. record { width = t.width; slots = all_slots (group_slots t.groups.items) } };
 
-    ghost invariant = { λ t. ArePages t.width t.pages.items × (t.least.items ≡ least_keys t.pages.items) };
+    ghost invariant = { λ t. AreGroups t.width t.groups.items
+        × (t.least.items ≡ least_keys (group_slots t.groups.items)) };
 }
 
 impl<A: Allocator> KeyTable<A> {
@@ -43,7 +46,7 @@ impl<A: Allocator> KeyTable<A> {
         KeyTable {
             width,
             least: Vec::new(alloc),
-            pages: Vec::new(alloc),
+            groups: Vec::new(alloc),
         }
     }
 
@@ -52,15 +55,14 @@ impl<A: Allocator> KeyTable<A> {
         ensures few { result ≤ length self.now.slots }
         ensures enough { length self.now.slots ≤ PAGE_KEYS * result }
     {
-        let pages: &[Page<A>] = &self.pages;
-        pages.len()
+        groups::pages(&self.groups)
     }
 
     /// The row of a key at a position.
     pub fn row_at(&self, position: u32, key: u64) -> Option<&[u8]>
         ensures { option_copied result ≡ row_up_to position (versions_at self.now.slots key) }
     {
-        pages::row_at(&self.least, &self.pages, position, key)
+        groups::row_at(&self.least, &self.groups, position, key)
     }
 
     /// How many rows there are in a range at a position.
@@ -68,7 +70,12 @@ impl<A: Allocator> KeyTable<A> {
         ensures count { result ≡ length (rows_between position lo hi self.now.slots) }
         ensures rising { AreRising self.now.slots }
     {
-        pages::count(pages::since(&self.least, &self.pages, lo), position, lo, hi)
+        groups::count(
+            groups::since(&self.least, &self.groups, lo),
+            position,
+            lo,
+            hi,
+        )
     }
 
     /// The first row in a range at a position, with its key.
@@ -79,7 +86,12 @@ impl<A: Allocator> KeyTable<A> {
         // What is known of every table: a greater number than any key has no versions.
         ensures words { (q : ℕ) → 2 ^ 64 ≤ q → versions_at self.now.slots q ≡ [] }
     {
-        pages::first(pages::since(&self.least, &self.pages, lo), position, lo, hi)
+        groups::first(
+            groups::since(&self.least, &self.groups, lo),
+            position,
+            lo,
+            hi,
+        )
     }
 }
 
@@ -91,7 +103,7 @@ impl<A: Allocator + Copy> KeyTable<A> {
         ensures more { (q : ℕ) → HasRoomAt self.old.slots q → HasRoomAt self.new.slots q }
         ensures width { self.new.width ≡ self.old.width }
     {
-        edits::reserve(&mut self.least, &mut self.pages, alloc, self.width, key)
+        edits::reserve(&mut self.least, &mut self.groups, alloc, self.width, key)
     }
 }
 
@@ -106,7 +118,7 @@ impl<A: Allocator> KeyTable<A> {
         ensures room { (q : ℕ) → key ≢ q → HasRoomAt self.old.slots q → HasRoomAt self.new.slots q }
         ensures width { self.new.width ≡ self.old.width }
     {
-        edits::push(&self.least, &mut self.pages, key, position, row);
+        edits::push(&self.least, &mut self.groups, key, position, row);
     }
 
     /// Drops from each key the versions that no position from the horizon on sees, and the keys of which none is left.
@@ -116,6 +128,6 @@ impl<A: Allocator> KeyTable<A> {
         ensures kept { (q : ℕ) → IsSome (chain_at self.new.slots q) → versions_at self.new.slots q ≢ [] }
         ensures width { self.new.width ≡ self.old.width }
     {
-        edits::prune(&mut self.least, &mut self.pages, horizon);
+        edits::prune(&mut self.least, &mut self.groups, horizon);
     }
 }

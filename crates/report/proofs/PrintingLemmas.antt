@@ -7,11 +7,15 @@ use Rattle.hex.specs.Hex.{encode_with, encode_lower, lower_digits}
 use Rattle.byte_output.specs.declared.paged.PagedOutput.{PagedOutput}
 use Rattle.byte_output.specs.Writes.{AppendsBeginning}
 use Rattle.byte_output.specs.Pending.{output_of, pending_of, Passes, Takes}
-pub use Rattle.report.specs.HexOutput.{encode_append, nothing_appended, nothing_passed as nothing_given}
 use Rattle.byte_output.proofs.WritesLemmas.{AppendsBeginning-more}
 use Rattle.byte_output.proofs.PendingLemmas.{Passes-then, AppendsBeginning-given}
 
 -- ---- bytes in hex
+
+pub encode_append : (t xs ys : List ℕ) → encode_with t (xs ++ ys) ≡ encode_with t xs ++ encode_with t ys
+unfolding encode_with
+encode_append t [] ys = refl
+encode_append t (x ∷ xs) ys = ap (λ (l : List ℕ). slice_index t (x / 16) ∷ slice_index t (x % 16) ∷ l) (encode_append t xs ys)
 
 -- one byte more
 pub encode_more : (xs : List ℕ) (i : ℕ) → i < length xs
@@ -32,6 +36,13 @@ told_ok (Ok x) ok told = told
 told_ok (Err e) ok told = absurd (let apart = ok in cc)
 
 -- ---- one text behind the other
+
+pub nothing_appended : (o : Option (List ℕ)) → Appends o o []
+nothing_appended None = tt
+nothing_appended (Some x) = sym (append-nil x)
+
+pub nothing_given : {W : Type 0} (contents : W → Option (List ℕ)) (a : PagedOutput W) → Passes contents a a []
+nothing_given contents a = ([], append-nil (pending_of a), nothing_appended (contents (output_of a).now))
 
 -- what is given next, behind what was given
 pub Takes-then : {W T E : Type 0} (contents : W → Option (List ℕ)) (a b c : PagedOutput W) (front text : List ℕ) (result : Result T E)

@@ -2,15 +2,13 @@
 #![tactic(auto)]
 
 pub use answers::{add_line, begin_line, call_line, replica_line};
-pub use hex_output::HexOutput;
 pub use laws::each_answer_has_a_line;
 pub use printed::{CallAnswer, CallReport, DeliveredEntry, Line, LoggedEntry, ReplicaReport};
-pub use printing::{put_bytes_label, put_line};
+pub use printing::{put_bytes_label, put_hex, put_line};
 pub use refusal::step_refusal_number;
 pub use text::line;
 
 mod answers;
-mod hex_output;
 mod laws;
 mod parts;
 mod printed;

@@ -32,8 +32,8 @@ pub fn put_bytes_label<W: Write>(output: &mut PagedOutput<'_, W>, position: u32)
     output.put(&bytes_label(position))
 }
 
-/// Gives bytes in hex, one after the other.
-pub(crate) fn put_hex<W: Write>(output: &mut PagedOutput<'_, W>, bytes: &[u8]) -> io::Result<()>
+/// Gives bytes in hex to an output, two digits each. It takes no memory.
+pub fn put_hex<W: Write>(output: &mut PagedOutput<'_, W>, bytes: &[u8]) -> io::Result<()>
     ensures same_output { (output_of output.new).ghost_name ≡ (output_of output.old).ghost_name }
     ensures bytes { Takes W.contents output.old output.new result (encode_lower bytes.now) }
     ensures given_up { OnErr result (pending_of output.new ≡ []) }

@@ -1,6 +1,6 @@
--- The only version of a key, or none yet, and the chain of a key.
+-- The only version of a key, or none yet.
 use Rattle.row_chain.specs.declared.lone.TheConstants.{NARROW_WIDTH}
-use Rattle.std.specs.Prelude.{◌≡◌, ℕ, ◌≤◌, nat_le, Bool, true, not, ◌&&◌, List, [], ◌∷◌, take, Option, Some, None, if◌then◌else◌}
+use Rattle.std.specs.Prelude.{◌≡◌, ◌≤◌, nat_le, Bool, true, not, ◌&&◌, List, [], ◌∷◌, take, Some, None, if◌then◌else◌}
 use Rattle.row_chain.specs.declared.lone.Lone.{Lone}
 use Rattle.row_chain.specs.Version.{Version, ChainState}
 
@@ -18,17 +18,11 @@ IsFit lone = lone.written ≡ true → lone.width ≤ NARROW_WIDTH
 abbrev pub has_place : Lone → Bool
 has_place lone = not lone.written && nat_le lone.width NARROW_WIDTH
 
--- a chain: all versions lie in a run where there is one, else the only one lies beside the key
-abbrev pub chain_of : Lone → Option ChainState → ChainState
-chain_of lone (Some run) = run
-chain_of lone None = record {
+-- the chain of a key whose versions lie in no run
+abbrev pub chain_of_lone : Lone → ChainState
+chain_of_lone lone = record {
   versions = versions_of_lone lone;
   width = lone.width;
   places = if has_place lone then 1 else 0;
   bytes = lone.width;
 }
-
--- what holds of each chain: both have the width, and a lone version is fit
-abbrev pub IsChain : Lone → Option ChainState → Type 0
-IsChain lone (Some run) = run.width ≡ lone.width
-IsChain lone None = IsFit lone

@@ -1,6 +1,6 @@
 //! The versions of a key.
 
-ghost use Rattle.std.specs.Prelude.{◌≡◌, ◌==◌, ◌++◌, [], ◌∷◌, length, option_map, OnOk, IfOk, IfSome, ◌≤◌};
+ghost use Rattle.std.specs.Prelude.{◌≡◌, ◌==◌, ◌++◌, [], ◌∷◌, length, OnOk, IfOk, IfSome};
 ghost use Rattle.std.specs.Option.{option_copied};
 ghost use Rattle.row_chain.specs.Version.{row_up_to, needed_versions, HasRoom};
 ghost use Rattle.row_chain.specs.Lone.{versions_of_lone, IsFit};
@@ -14,8 +14,16 @@ use std::marker::Model;
 /// inside, and takes no memory of its own; others lie in a run.
 #[derive(Drop)]
 pub struct Chain<A: Allocator = Global> {
-    lone: Lone,
-    run: Option<Box<Run<A>, A>>,
+    layout: Layout<A>,
+}
+
+/// How versions lie.
+#[derive(Drop)]
+enum Layout<A: Allocator> {
+    /// The only one, or none yet.
+    Inside(Lone),
+    /// Any number.
+    Outside(Box<Run<A>, A>),
 }
 
 impl<A: Allocator> Model for Chain<A> {
@@ -23,12 +31,11 @@ impl<A: Allocator> Model for Chain<A> {
 
     ghost Value = { ChainState };
 
-    ghost use Rattle.std.specs.Prelude.{option_map};
-    ghost use Rattle.row_chain.specs.Lone.{chain_of, IsChain};
+    ghost use Rattle.row_chain.specs.Layout.{chain_of, IsLaidOut};
 
-    ghost view = { λ c. chain_of c.lone (option_map (λ b. b.value) c.run) };
+    ghost view = { λ c. chain_of c.layout };
 
-    ghost invariant = { λ c. IsChain c.lone (option_map (λ b. b.value) c.run) };
+    ghost invariant = { λ c. IsLaidOut c.layout };
 }
 
 impl<A: Allocator> Chain<A> {
@@ -38,8 +45,7 @@ impl<A: Allocator> Chain<A> {
         ensures width { result.width ≡ width }
     {
         Chain {
-            lone: Lone::new(width),
-            run: None,
+            layout: Layout::Inside(Lone::new(width)),
         }
     }
 
@@ -47,9 +53,9 @@ impl<A: Allocator> Chain<A> {
     pub fn is_empty(&self) -> bool
         ensures { result ≡ (length self.now.versions == 0) }
     {
-        match &self.run {
-            Some(run) => run.is_empty(),
-            None => !self.lone.is_written(),
+        match &self.layout {
+            Layout::Inside(lone) => !lone.is_written(),
+            Layout::Outside(run) => run.is_empty(),
         }
     }
 
@@ -57,9 +63,9 @@ impl<A: Allocator> Chain<A> {
     pub fn at(&self, position: u32) -> Option<&[u8]>
         ensures { option_copied result ≡ row_up_to position self.now.versions }
     {
-        match &self.run {
-            Some(run) => run.at(position),
-            None => self.lone.at(position),
+        match &self.layout {
+            Layout::Inside(lone) => lone.at(position),
+            Layout::Outside(run) => run.at(position),
         }
     }
 }
@@ -71,7 +77,8 @@ fn run_of<A: Allocator + Copy>(alloc: A, lone: &Lone) -> Result<Run<A>, AllocErr
     ensures width { IfOk result (λ r. r.width ≡ lone.now.width) }
     ensures room { IfOk result (λ r. HasRoom r) }
 {
-    let mut run = Run::new(alloc, usize::from(lone.width));
+    let count = if lone.is_written() { 2 } else { 1 };
+    let mut run = Run::new(alloc, lone.width, count)?;
     if let Some(position) = lone.position() {
         run.reserve()?;
         run.push(position, lone.at(u32::MAX));
@@ -88,16 +95,16 @@ impl<A: Allocator + Copy> Chain<A> {
         ensures room { OnOk result (HasRoom self.new) }
         ensures more { HasRoom self.old → HasRoom self.new }
     {
-        match &mut self.run {
-            Some(run) => run.reserve(),
-            None => {
-                if self.lone.has_place() {
+        match &mut self.layout {
+            Layout::Inside(lone) => {
+                if lone.has_place() {
                     return Ok(());
                 }
-                let run = run_of(alloc, &self.lone)?;
-                self.run = Some(Box::new(alloc, run)?);
+                let run = run_of(alloc, lone)?;
+                self.layout = Layout::Outside(Box::new(alloc, run)?);
                 Ok(())
             }
+            Layout::Outside(run) => run.reserve(),
         }
     }
 }
@@ -111,9 +118,9 @@ impl<A: Allocator> Chain<A> {
             ≡ self.old.versions ++ record { position = position; row = option_copied row.entry } ∷ [] }
         ensures width { self.new.width ≡ self.old.width }
     {
-        match &mut self.run {
-            Some(run) => run.push(position, row),
-            None => self.lone = Lone::of(self.lone.width, position, row),
+        match &mut self.layout {
+            Layout::Inside(lone) => *lone = Lone::of(lone.width, position, row),
+            Layout::Outside(run) => run.push(position, row),
         }
     }
 
@@ -122,14 +129,13 @@ impl<A: Allocator> Chain<A> {
         ensures versions { self.new.versions ≡ needed_versions horizon self.old.versions }
         ensures width { self.new.width ≡ self.old.width }
     {
-        match &mut self.run {
-            Some(run) => {
-                if let Some(lone) = run.prune_to(self.lone.width, horizon) {
-                    self.lone = lone;
-                    self.run = None;
+        match &mut self.layout {
+            Layout::Inside(lone) => *lone = lone.pruned(horizon),
+            Layout::Outside(run) => {
+                if let Some(lone) = run.prune_to(horizon) {
+                    self.layout = Layout::Inside(lone);
                 }
             }
-            None => self.lone = self.lone.pruned(horizon),
         }
     }
 }

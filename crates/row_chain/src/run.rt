@@ -2,7 +2,7 @@
 //! own.
 
 ghost use Rattle.std.specs.Prelude.{◌≡◌, ◌==◌, ℕ, List, ◌+◌, ◌*◌, ◌<◌, ◌≤◌, ◌^◌, ◌++◌, [], ◌∷◌, length, map, drop};
-ghost use Rattle.std.specs.Prelude.{OnOk, IfSome, None};
+ghost use Rattle.std.specs.Prelude.{OnOk, IfOk, IfSome, None};
 ghost use Rattle.std.specs.Option.{option_copied};
 ghost use Rattle.row_chain.specs.Version.{row_up_to, hidden_count, needed_versions, is_removed, HasRoom};
 ghost use Rattle.row_chain.specs.Lone.{versions_of_lone, IsFit};
@@ -23,7 +23,7 @@ pub struct Mark {
 /// The versions of one key's row, oldest first; each row has the same width.
 #[derive(Drop)]
 pub struct Run<A: Allocator = Global> {
-    width: usize,
+    width: u16,
     marks: Vec<Mark, A>,
     bytes: Vec<u8, A>,
 }
@@ -83,16 +83,18 @@ fn hidden_count(marks: &[Mark], horizon: u32) -> usize
 }
 
 impl<A: Allocator + Copy> Run<A> {
-    /// One without versions.
-    pub fn new(alloc: A, width: usize) -> Run<A>
-        ensures versions { result.versions ≡ [] }
-        ensures width { result.width ≡ width }
+    /// One without versions, with memory for so many.
+    pub fn new(alloc: A, width: u16, count: u8) -> Result<Run<A>, AllocError>
+        ensures versions { IfOk result (λ r. r.versions ≡ []) }
+        ensures width { IfOk result (λ r. r.width ≡ width) }
     {
-        Run {
+        let marks = Vec::with_capacity(alloc, usize::from(count))?;
+        let bytes = Vec::with_capacity(alloc, usize::from(count) * usize::from(width))?;
+        Ok(Run {
             width,
-            marks: Vec::new(alloc),
-            bytes: Vec::new(alloc),
-        }
+            marks,
+            bytes,
+        })
     }
 }
 
@@ -105,7 +107,7 @@ impl<A: Allocator> Run<A> {
         ensures more { HasRoom self.old → HasRoom self.new }
     {
         self.marks.reserve(1)?;
-        self.bytes.reserve(self.width)?;
+        self.bytes.reserve(usize::from(self.width))?;
         Ok(())
     }
 
@@ -121,7 +123,7 @@ impl<A: Allocator> Run<A> {
     pub fn at(&self, position: u32) -> Option<&[u8]>
         ensures { option_copied result ≡ row_up_to position self.now.versions }
     {
-        row_up_to(self.width, &self.marks, &self.bytes, position)
+        row_up_to(usize::from(self.width), &self.marks, &self.bytes, position)
     }
 }
 
@@ -153,19 +155,18 @@ impl<A: Allocator> Run<A> {
                         present: false,
                     },
                 );
-                fill_within(&mut self.bytes, self.width);
+                fill_within(&mut self.bytes, usize::from(self.width));
             }
         }
     }
 
     /// The only version, or that there is none, where that can lie beside the key.
-    pub fn lone(&self, width: u16) -> Option<Lone>
-        requires { self.now.width ≡ width }
+    pub fn lone(&self) -> Option<Lone>
         ensures versions { IfSome result (λ o. versions_of_lone o ≡ self.now.versions) }
-        ensures width { IfSome result (λ o. o.width ≡ width) }
+        ensures width { IfSome result (λ o. o.width ≡ self.now.width) }
         ensures fit { IfSome result (λ o. IsFit o) }
     {
-        lone_of(width, &self.marks, &self.bytes)
+        lone_of(self.width, &self.marks, &self.bytes)
     }
 
     /// Drops the versions that no position from the horizon on sees.
@@ -175,7 +176,7 @@ impl<A: Allocator> Run<A> {
     {
         let stale = hidden_count(&self.marks, horizon);
         drop_front(&mut self.marks, stale);
-        drop_front(&mut self.bytes, stale * self.width);
+        drop_front(&mut self.bytes, stale * usize::from(self.width));
         if is_removed(&self.marks, horizon) {
             self.marks.clear();
             self.bytes.clear();
@@ -200,16 +201,15 @@ fn is_removed(marks: &[Mark], horizon: u32) -> bool
 impl<A: Allocator> Run<A> {
     /// Drops the versions that no position from the horizon on sees, and answers what is left where that can lie beside
     /// the key.
-    pub fn prune_to(&mut self, width: u16, horizon: u32) -> Option<Lone>
-        requires { self.old.width ≡ width }
+    pub fn prune_to(&mut self, horizon: u32) -> Option<Lone>
         ensures versions { self.new.versions ≡ needed_versions horizon self.old.versions }
-        ensures width { self.new.width ≡ width }
+        ensures width { self.new.width ≡ self.old.width }
         ensures lone { IfSome result (λ o. versions_of_lone o ≡ needed_versions horizon self.old.versions) }
-        ensures lone_width { IfSome result (λ o. o.width ≡ width) }
+        ensures lone_width { IfSome result (λ o. o.width ≡ self.old.width) }
         ensures fit { IfSome result (λ o. IsFit o) }
     {
         self.prune(horizon);
-        self.lone(width)
+        self.lone()
     }
 }
 

@@ -7,7 +7,8 @@ use Rattle.dsm_model.specs.declared.outcome.Outcome.{Outcome}
 use Rattle.dsm_model.specs.declared.outcome.Outcome.TheVariants.{Refused}
 use Rattle.dsm_model.specs.declared.outcome.StepRefusal.TheVariants.{NoReplica, NoProcedure}
 use Rattle.log_model.specs.declared.request.RequestId.{RequestId}
-use Rattle.dsm_world.specs.System.{check_of}
+use Rattle.dsm_world.specs.System.{check_of, progress_of}
+use Rattle.replica.specs.Replica.{Replica as ReplicaState}
 use Rattle.log_model.specs.Log.{Setting, by_number, by_name, procedures_after}
 use Rattle.dsm_model.specs.World.{World, Replica, Begin, Turn, Order, Deliver, Rebuild, Add, IsStep, after_begin, after_step, numbered, position_of}
 use Rattle.script.specs.declared.statements.Action.TheVariants as action
@@ -95,3 +96,15 @@ pub shows_entry : {W T E : Type 0} (contents : W → Option (List ℕ)) (w : Set
     → HasDone contents w world (action.Entry position) old new result world
 unfolding Does
 shows_entry contents w world position old new result given = gives_done contents w world (action.Entry position) old new result world (entry_text w world.log position) (refl, refl) given
+
+-- the procedure of a name, where a look-up finds one
+pub named_there : (w : Setting) (world : World) (r procedure : ℕ) (name : List ℕ) (replicas : List ReplicaState) (at : Option ReplicaState) (found : Option ℕ) → numbered replicas r ≡ at
+    → numbered world.replicas r ≡ option_map progress_of at → found ≡ Some procedure → (numbered replicas r ≡ None → found ≡ None)
+    → ((k : ReplicaState) → numbered replicas r ≡ Some k → found ≡ option_map (λ p. p.number) (by_name (procedures_after w world.log k.position) name)) → number_of_name w world r name ≡ Some procedure
+named_there w world r procedure name replicas None found stands there is none by = let no : found ≡ None = none stands in absurd cc
+named_there w world r procedure name replicas (Some k) found stands there is none by = named_at w world r name (progress_of k) (Some procedure) there (sym is ∙ by k stands)
+
+-- a name that a look-up doesn't find
+pub not_named : (w : Setting) (world : World) (r : ℕ) (name : List ℕ) (found : Option ℕ) (k : ReplicaState) → numbered world.replicas r ≡ Some (progress_of k) → found ≡ None
+    → found ≡ option_map (λ p. p.number) (by_name (procedures_after w world.log k.position) name) → number_of_name w world r name ≡ None
+not_named w world r name found k there none by = named_at w world r name (progress_of k) None there (sym none ∙ by)

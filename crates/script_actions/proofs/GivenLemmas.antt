@@ -1,5 +1,5 @@
 -- Texts that are given one after another, up to one of which a beginning is given.
-use Rattle.std.proofs.Common.{◌≡◌, ℕ, List, [], ◌++◌, Option, Some, None, Result, Ok, Err, IfErr, refl, sym, ap, subst, ◌∙◌, append_assoc}
+use Rattle.std.proofs.Common.{◌≡◌, ℕ, List, [], ◌++◌, Option, Some, None, Result, Ok, Err, refl, sym, ap, subst, ◌∙◌, append_assoc}
 use Rattle.std.proofs.lemmas.List.{append-nil}
 use Rattle.std.specs.Io.KnownBytes.{Appends}
 use Rattle.byte_output.specs.declared.paged.PagedOutput.{PagedOutput}
@@ -49,3 +49,9 @@ pub gives_done : {W T E : Type 0} (contents : W → Option (List ℕ)) (w : Sett
     → Does w before c text after → Gives contents a b result text → HasDone contents w before c a b result after
 gives_done contents w before c a b (Ok x) after text does given = (text, does, given)
 gives_done contents w before c a b (Err x) after text does given = (text, after, does, given)
+
+-- a text, and then one that is given or begun
+pub given_then : {W T E : Type 0} (contents : W → Option (List ℕ)) (a b c : PagedOutput W) (result : Result T E) (front last : List ℕ) → Passes contents a b front → Gives contents b c result last
+    → Gives contents a c result (front ++ last)
+given_then contents a b c (Ok x) front last given this = Passes-then contents a b c front last given this
+given_then contents a b c (Err x) front last given this = beginning_then contents a b c front last given this

@@ -2,7 +2,8 @@ pub mod GivenLemmas
 pub mod RepeatLemmas
 mod PrintedLemmas
 mod LogLemmas
-mod RowLemmas
+pub mod RowLemmas
 pub mod DoneLemmas
 mod TurnLemmas
-mod ListingLemmas
+pub mod ListingLemmas
+mod ExcerptLemmas

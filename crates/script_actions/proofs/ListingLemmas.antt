@@ -15,7 +15,7 @@ use Rattle.schema.specs.declared.limits.TheConstants.{MAX_TABLE}
 use Rattle.schema.specs.Rows.{Key, key_cmp, key_cmp_total, key_cmp-IsAntisymmetric, Rows, covers, first_in, IsFirst, IsVacant}
 use Rattle.script_actions.specs.Listing.{IsBefore, IsBehind, IsRowKey, HasRowKeys, Each, AreBefore}
 
-abbrev Listed : Type 0
+abbrev pub Listed : Type 0
 Listed = List (Key × List ℕ)
 
 -- ---- keys
@@ -118,7 +118,7 @@ below_found h q row (x ∷ tail) below e =
       | false ↦ λ same f. below_found h q row tail (second (is_lt (key_cmp h x.0)) (below_all key_cmp h tail) below) f
     ] refl e
 
-abbrev look_of : ℕ → ℕ → ℕ → Look
+abbrev pub look_of : ℕ → ℕ → ℕ → Look
 look_of t lo hi = record { table = t; lo = lo; hi = hi }
 
 abbrev pub Covers : Type 0

@@ -1,5 +1,5 @@
 -- What a world keeps, in words of its log.
-use Rattle.std.proofs.Common.{◌≡◌, ℕ, zero, suc, ◌+◌, ◌<◌, ◌≤◌, List, [], ◌∷◌, ◌++◌, length, take, drop, slice_get, option_map, Option, Some, None, Result, Ok, Err, refl, sym, ap, subst, ◌∙◌, arith, append_assoc}
+use Rattle.std.proofs.Common.{◌≡◌, ℕ, zero, suc, ◌+◌, ◌<◌, ◌≤◌, List, [], ◌∷◌, ◌++◌, codes, length, take, drop, slice_get, option_map, Option, Some, None, Result, Ok, Err, refl, sym, ap, subst, ◌∙◌, arith, append_assoc}
 use Rattle.std.proofs.lemmas.List.{append-nil}
 use Rattle.schema.specs.declared.look.Look.{Look}
 use Rattle.schema.specs.Rows.{Writes}
@@ -13,7 +13,7 @@ use Rattle.dsm_model.specs.Sound.{reply_of}
 use Rattle.replica.specs.declared.certification.Certification.{Certification}
 use Rattle.replica.specs.Replica.{Replica, AreEntriesOf, StandsFor, rows_kept, certification_of}
 use Rattle.replica.proofs.KeepsLemmas.{certified_more, certified_count}
-use Rattle.dsm_world.specs.System.{SystemWorld, setting_of, KeepsDelivered}
+use Rattle.dsm_world.specs.System.{SystemWorld, setting_of, world_of, KeepsDelivered}
 use Rattle.dsm_world.proofs.Numbered.{numbered_map}
 use Rattle.dsm_world.proofs.RowLemmas.{log_is, position_within}
 use Rattle.replica.proofs.EntryLemmas.{take_all, take_first, take_drop, items_append, items_count, take_count, all_at, entries_taken}
@@ -22,8 +22,10 @@ use Rattle.byte_output.specs.Pending.{Passes}
 use Rattle.byte_output.proofs.PendingLemmas.{Passes-then}
 use Rattle.dsm_model.specs.World.{World}
 use Rattle.report.specs.declared.printed.Line.TheVariants as line
-use Rattle.report.specs.Lines.{line_text}
-use Rattle.script_actions.specs.Printed.{entry_of, compared_count, logged_text, items_text, log_text}
+use Rattle.hex.specs.Hex.{encode_lower}
+use Rattle.log_entry.specs.Bytes.{entry_bytes}
+use Rattle.report.specs.Lines.{bytes_label, bytes_words, line_text}
+use Rattle.script_actions.specs.Printed.{entry_of, entry_text, compared_count, logged_text, items_text, log_text}
 use Rattle.script_actions.specs.Doing.{PassesBeginning, Gives}
 use Rattle.script_actions.proofs.GivenLemmas.{nothing_given, beginning_then, beginning_more}
 
@@ -210,3 +212,14 @@ pub log_given : {W T E : Type 0} (contents : W → Option (List ℕ)) (w : Setti
     → Gives contents mid new result (line_text (line.Log (length world.log))) → Gives contents old new result (log_text w world)
 log_given contents w world before old mid new (Ok x) have le given = Passes-then contents old mid new _ _ (all_given contents w world before old mid have le) given
 log_given contents w world before old mid new (Err x) have le given = beginning_then contents old mid new _ _ (all_given contents w world before old mid have le) given
+
+-- the line of an entry's bytes
+pub entry_printed : (s : SystemWorld) (position : ℕ) (e : Entry) → AreEntriesOf (setting_of s) s.entries → numbered s.entries position ≡ Some e
+    → bytes_label position ++ encode_lower (entry_bytes e) ++ codes "\n" ≡ entry_text (setting_of s) (world_of s).log position
+entry_printed s position e entries at =
+    let w = setting_of s in
+    let log = (world_of s).log in
+    let there : numbered log position ≡ Some (item_of e) = item_numbered s.entries position (Some e) at in
+    let is : e ≡ entry_of w log (item_of e) = is_entry w log e (carries_numbered w s.entries position e entries at) in
+    ap (λ (x : Entry). bytes_words position (Some (entry_bytes x)) ++ codes "\n") is
+    ∙ ap (λ (o : Option Item). bytes_words position (option_map (λ item. entry_bytes (entry_of w log item)) o) ++ codes "\n") (sym there)

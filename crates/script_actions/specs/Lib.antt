@@ -2,3 +2,4 @@ pub mod Printed
 pub mod Actions
 pub mod Doing
 pub mod Listing
+pub mod Excerpt

@@ -7,6 +7,7 @@ pub use laws::executions_end;
 
 mod actions;
 mod answers;
+mod excerpt;
 mod laws;
 mod log;
 mod output;

@@ -11,16 +11,17 @@ ghost use Rattle.report.specs.Lines.{line_text};
 ghost use Rattle.script_actions.specs.Printed.{logged_entry, logged_text, log_text, entry_text};
 ghost use Rattle.script_actions.specs.Doing.{Gives};
 
-use crate::output::{put_bytes_label, put_line, put_text};
+use crate::excerpt::{EXCERPT_BYTES, excerpt_of};
+use crate::output::{put_bytes_label, put_digits, put_line, put_text};
 use byte_output::paged::PagedOutput;
 use dsm_world::World;
-use log_entry::{Entry, append_entry};
+use log_entry::Entry;
 use log_model::{a_log_only_grows, entries_suffice};
 use replica::{Replica, replicas_follow_the_log};
-use report::{HexOutput, Line, LoggedEntry};
+use report::{Line, LoggedEntry};
 use std::alloc::Allocator;
 use std::io;
-use std::io::Write;
+use std::io::{ErrorKind, Write};
 
 /// Prints a line for each entry of the log.
 pub(crate) fn put_log<A: Allocator + Copy, W: Write>(
@@ -120,7 +121,7 @@ pub(crate) fn put_entry<A: Allocator + Copy, W: Write>(
     put_text(output, b"\n")
 }
 
-/// Gives the bytes of an entry to the output in hex.
+/// Gives the bytes of an entry to the output in hex, an excerpt after the other.
 fn put_bytes<A: Allocator + Copy, W: Write>(
     output: &mut PagedOutput<'_, W>,
     entry: &Entry<A>,
@@ -128,7 +129,16 @@ fn put_bytes<A: Allocator + Copy, W: Write>(
     ensures same_output { (output_of output.new).ghost_name ≡ (output_of output.old).ghost_name }
     ensures given { Gives W.contents output.old output.new result (encode_lower (entry_bytes (entry_of entry.now))) }
 {
-    let mut digits = HexOutput::new(output);
-    append_entry(&mut digits, entry);
-    digits.finish()
+    let mut from: usize = 0;
+    loop {
+        let excerpt = excerpt_of(entry, from);
+        put_digits(output, &excerpt)?;
+        if excerpt.len() < EXCERPT_BYTES {
+            return Ok(());
+        }
+        let Some(next) = from.checked_add(EXCERPT_BYTES) else {
+            return Err(io::Error::from(ErrorKind::FileTooLarge));
+        };
+        from = next;
+    }
 }

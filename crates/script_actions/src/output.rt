@@ -2,6 +2,7 @@
 
 ghost use Rattle.std.specs.Prelude.{◌≡◌};
 ghost use Rattle.byte_output.specs.Pending.{output_of};
+ghost use Rattle.hex.specs.Hex.{encode_lower};
 ghost use Rattle.report.specs.Lines.{bytes_label, line_text};
 ghost use Rattle.report.specs.Answers.{text_of};
 ghost use Rattle.script_actions.specs.Doing.{Gives};
@@ -50,4 +51,12 @@ pub(crate) fn put_text<W: Write>(output: &mut PagedOutput<'_, W>, text: &[u8]) -
     ensures given { Gives W.contents output.old output.new result text.now }
 {
     output.put(text)
+}
+
+/// Gives bytes to the output in hex.
+pub(crate) fn put_digits<W: Write>(output: &mut PagedOutput<'_, W>, bytes: &[u8]) -> io::Result<()>
+    ensures same_output { (output_of output.new).ghost_name ≡ (output_of output.old).ghost_name }
+    ensures given { Gives W.contents output.old output.new result (encode_lower bytes.now) }
+{
+    report::put_hex(output, bytes)
 }

@@ -1,10 +1,11 @@
 //! The rows of a replica.
 
-ghost use Rattle.std.specs.Prelude.{◌≡◌, ◌≤◌, ◌^◌, ◌+◌, ◌*◌, ◌++◌, false, List, ℕ, IfOk, length};
+ghost use Rattle.std.specs.Prelude.{◌≡◌, ◌≤◌, ◌^◌, ◌+◌, ◌-◌, false, List, ℕ, IfOk, IfSome};
 ghost use Rattle.byte_output.specs.Pending.{output_of};
 ghost use Rattle.dsm_model.specs.World.{numbered};
 ghost use Rattle.dsm_world.specs.System.{setting_of, world_of};
-ghost use Rattle.schema.specs.Rows.{Key, Rows};
+ghost use Rattle.schema.specs.Rows.{Key, Rows, first_in};
+ghost use Rattle.txn_view.specs.Found.{row_found};
 ghost use Rattle.script_actions.specs.Printed.{rows_text};
 ghost use Rattle.script_actions.specs.Doing.{Gives};
 ghost use Rattle.script_actions.specs.Listing.{HasRowKeys, AreBefore, ListsMore, GivesAll};
@@ -78,7 +79,7 @@ fn put_table<S: Store, W: Write>(
     looks_cover_from_lo_to_hi();
     let mut count: u128 = 0;
     let mut lo = 0;
-    while let Ok(Some((key, bytes))) = rows.next(Look { table, lo, hi: u64::MAX }) {
+    while let Some((key, bytes)) = first_from(rows, table, lo) {
         put_line(output, &Line::Row { table, key, bytes })?;
         count += 1;
         match key.checked_add(1) {
@@ -87,4 +88,15 @@ fn put_table<S: Store, W: Write>(
         }
     }
     Ok(count)
+}
+
+/// The key and the row of the least key of a table from one on, where there is one.
+fn first_from<S: Store>(rows: &S, table: u8, lo: u64) -> Option<(u64, &[u8])>
+    requires { S.is_gone rows.now ≡ false }
+    ensures found { (all : Rows) → S.answers_from rows.now all
+        → row_found table result ≡ first_in (record { table = table; lo = lo; hi = 2 ^ 64 - 1 }) all }
+    ensures covered { IfSome result (λ row. (lo ≤ row.0) × (row.0 ≤ 2 ^ 64 - 1)) }
+{
+    let hi = u64::MAX;
+    rows.next(Look { table, lo, hi }).ok().flatten()
 }

@@ -78,3 +78,36 @@ fn pages_are_split_when_they_are_full(rt: HostRuntime) {
     ];
     assert_eq!(rt; (seen, left), (PAGES.len(), [31, 0]));
 }
+
+// ---- more pages than a group has
+
+/// How many keys are put in rising order: 312 pages, of which a group has 256 at most.
+const MANY: u64 = 10_000;
+
+/// How many of the keys from 1 on have their own number at a position.
+fn own_numbers(rt: &impl Abort, checked: &CheckedVersions, position: u32) -> u64 {
+    let mut own = 0u64;
+    for key in 1..=MANY {
+        let row = checked.versions().read_at(position, 1, key);
+        let row = row.expect(rt, "a position that is kept");
+        if row == Some(key.to_le_bytes().as_slice()) {
+            own = own.wrapping_add(1);
+        }
+    }
+    own
+}
+
+#[test]
+fn keys_of_several_groups_are_found(rt: HostRuntime) {
+    let schema = Schema::new(rt.alloc(), &TABLES).expect(&rt, "memory");
+    let mut checked = CheckedVersions::new(rt.alloc(), &schema).expect(&rt, "memory");
+    let mut writes = WriteSet::new(rt.alloc());
+    for key in 1..=MANY {
+        writes.put(1, key, &key.to_le_bytes()).expect(&rt, "memory");
+    }
+    install(&rt, &mut checked, 1, &writes);
+    let own = own_numbers(&rt, &checked, 1);
+    let pages = checked.versions().pages(1);
+    let rows = checked.versions().count_at(1, 1, 2, MANY - 1);
+    assert_eq!(rt; (own, pages, rows), (MANY, 312, Ok(9_998)));
+}

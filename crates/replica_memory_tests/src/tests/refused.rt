@@ -20,6 +20,10 @@ const MOST: u64 = 200;
 
 // ---- versions
 
+/// The growths of the second install: three make the run of a second version, two the upper half of a page, with room
+/// for more keys. Between these two the lower half shrinks, which can't fail.
+const INSTALL_GROWTHS: u64 = 6;
+
 /// Of the rows of table 1 at a position: how many there are, and how many have their key's own number.
 #[derive(Clone, Copy, Debug, PartialEq, Eq)]
 struct Counts {
@@ -127,16 +131,17 @@ fn is_expected(came: Attempt) -> bool {
 fn refused_room_leaves_versions_as_they_were(rt: HostRuntime) {
     let first = own_numbers(&rt, rt.alloc());
     let further = further_writes(&rt, rt.alloc());
-    let mut refused = 0;
-    for growth in 1..MOST {
+    let mut refused = 0u64;
+    for growth in 1..=INSTALL_GROWTHS {
         let came = attempt_install(&rt, rt.alloc(), &first, &further, growth);
         assert!(rt; is_expected(came), "{growth}: {came:?}");
-        if came.installed.is_ok() {
-            break;
+        if came.installed.is_err() {
+            refused = refused.wrapping_add(1);
         }
-        refused = growth;
     }
-    assert!(rt; refused > 4 && refused < MOST - 1, "{refused}");
+    assert_eq!(rt; refused, INSTALL_GROWTHS - 1);
+    let came = attempt_install(&rt, rt.alloc(), &first, &further, INSTALL_GROWTHS + 1);
+    assert!(rt; came.installed.is_ok(), "{came:?}");
 }
 
 // ---- replicas

@@ -13,9 +13,10 @@ use test_entries::{EntryCase, addition_of, entries_of, entry_of, small_catalogue
 use test_procedures::ONE;
 use test_replicas::CheckedReplica;
 
-/// Entries, of which the last is delivered with a growth refused, and how many growths that has: six make room for the
-/// keys and rows of a write where there are none, four for requests or procedures where there is none, one for a name,
-/// and one at times for the verdict. And what the replica says of itself before the last and after it.
+/// Entries, of which the last is delivered with a growth refused, and how many growths that has: seven make room for
+/// the key of a write where there is none (its row lies beside it), four for requests or procedures where there is
+/// none, one for a name, and one at times for the verdict. And what the replica says of itself before the last and after
+/// it.
 struct RefusedCase {
     entries: &'static [EntryCase],
     growths: u64,
@@ -56,7 +57,7 @@ const THREE: State = State {
 static CASES: [RefusedCase; 8] = [
     RefusedCase {
         entries: &[EntryCase::Call(0, 5, 5, 1, Some(10))],
-        growths: 6,
+        growths: 7,
         before: EMPTY,
         after: State {
             verdicts: &[Verdict::Commit],
@@ -69,7 +70,7 @@ static CASES: [RefusedCase; 8] = [
     },
     RefusedCase {
         entries: &[EntryCase::Numbered(7, 1, 0, 5, 5, 2, Some(10))],
-        growths: 10,
+        growths: 11,
         before: EMPTY,
         after: State {
             verdicts: &[Verdict::Commit],
@@ -112,7 +113,7 @@ static CASES: [RefusedCase; 8] = [
             EntryCase::Addition(b"one", 9),
             EntryCase::Call(2, 5, 5, 2, Some(20)),
         ],
-        growths: 3,
+        growths: 1,
         before: TWO,
         after: THREE,
     },
@@ -122,7 +123,7 @@ static CASES: [RefusedCase; 8] = [
             EntryCase::Addition(b"one", 9),
             EntryCase::Numbered(7, 2, 2, 5, 5, 2, Some(20)),
         ],
-        growths: 3,
+        growths: 1,
         before: TWO,
         after: THREE,
     },

@@ -1,4 +1,4 @@
-use Rattle.std.proofs.Common.{◌≡◌, Option, Some, None, sym, ap, subst, ◌∙◌}
+use Rattle.std.proofs.Common.{◌≡◌, Option, Some, None, refl, sym, ap, subst, ◌∙◌}
 use Rattle.std.specs.Prelude.{option_map}
 use Rattle.std.proofs.lemmas.Result.{err_from_is_err_and}
 use Rattle.byte_output.specs.Pending.{Passes}
@@ -12,28 +12,22 @@ use Rattle.script_actions.specs.Actions.{begin_action, number_of_name}
 use Rattle.script_actions.specs.Printed.{step_text}
 use Rattle.script_actions.specs.Doing.{PassesBeginning, Gives}
 use Rattle.script_actions.proofs.GivenLemmas.{gives_done}
-use Rattle.script_actions.proofs.DoneLemmas.{named_at, begins, begins_unnamed, begins_nowhere}
+use Rattle.script_actions.proofs.DoneLemmas.{named_there, not_named, begins, begins_unnamed, begins_nowhere}
 use Rattle.script_actions.proofs.answers.begin.Goals as goal
 
 pub returns-in_default-clause-done : goal.returns-in_default-clause-done
 returns-in_default-clause-done g c =
-    let w = setting_of c.args.world.now in
+    let w-of = setting_of c.args.world.now in
     let before = world_of c.args.world.now in
-    let none = numbered_map progress_of c.args.world.now.replicas c.args.replica ∙ ap (λ (o : Option ReplicaState). option_map progress_of o) (sym c.in_default.ensures) in
-    gives_done g.W.Write.contents w before (begin_action c.args.replica c.args.name.now c.args.args.now c.args.request) c.args.output.now c.put_answer.new.output c.put_answer.result before _
-    (begins_nowhere w before c.args.replica c.args.name.now c.args.args.now c.args.request none)
-    (subst (Gives g.W.Write.contents c.args.output.now c.put_answer.new.output c.put_answer.result) (ap text_of (c.begin_line.ensures 0 c.args.args.now c.args.request (delivered.Call None))) c.put_answer.ensures.given)
-
-pub returns-in_default-by_name-clause-done : goal.returns-in_default-by_name-clause-done
-returns-in_default-by_name-clause-done g c =
-    let w = setting_of c.args.world.now in
-    let before = world_of c.args.world.now in
-    let there = numbered_map progress_of c.args.world.now.replicas c.args.replica ∙ ap (λ (o : Option ReplicaState). option_map progress_of o) (sym c.in-Some.ensures) in
-    let named : number_of_name w before c.args.replica c.args.name.now ≡ None =
-    named_at w before c.args.replica c.args.name.now _ None there (c.in_default-by_name.ensures.there c.in-Some._kept.now (sym c.in-Some.ensures)) in
-    gives_done g.W.Write.contents w before (begin_action c.args.replica c.args.name.now c.args.args.now c.args.request) c.args.output.now c.put_answer-in_default-by_name.new.output c.put_answer-in_default-by_name.result before _
-    (begins_unnamed w before c.args.replica c.args.name.now c.args.args.now c.args.request _ named there)
-    (subst (Gives g.W.Write.contents c.args.output.now c.put_answer-in_default-by_name.new.output c.put_answer-in_default-by_name.result) (ap text_of (c.begin_line-in_default-by_name.ensures 0 c.args.args.now c.args.request (delivered.Call None))) c.put_answer-in_default-by_name.ensures.given)
+    let at = numbered_map progress_of c.args.world.now.replicas c.args.replica in
+    elim c.match-replica.branch [
+      | goal.in-None w ↦ (
+          let none = at ∙ ap (λ (o : Option ReplicaState). option_map progress_of o) (sym w.ensures) in
+          gives_done g.W.Write.contents w-of before (begin_action c.args.replica c.args.name.now c.args.args.now c.args.request) c.args.output.now c.put_answer.new.output c.put_answer.result before _
+          (begins_nowhere w-of before c.args.replica c.args.name.now c.args.args.now c.args.request none)
+          (subst (Gives g.W.Write.contents c.args.output.now c.put_answer.new.output c.put_answer.result) ? c.put_answer.ensures.given))
+      | goal.in-Some-replica w ↦ ?
+    ]
 
 pub returns-in_err-step-clause-done : goal.returns-in_err-step-clause-done
 returns-in_err-step-clause-done g c =
@@ -41,15 +35,15 @@ returns-in_err-step-clause-done g c =
     let after = world_of c.step.new.world in
     let f = c.in_err-step.ensures.failed in
     let before = world_of c.args.world.now in
-    let there = numbered_map progress_of c.args.world.now.replicas c.args.replica ∙ ap (λ (o : Option ReplicaState). option_map progress_of o) (sym c.in-Some.ensures) in
-    let named : number_of_name w before c.args.replica c.args.name.now ≡ Some c.in-Some-by_name.procedure =
-    named_at w before c.args.replica c.args.name.now _ (Some c.in-Some-by_name.procedure) there (c.in-Some-by_name.ensures.there c.in-Some._kept.now (sym c.in-Some.ensures)) in
+    let named : number_of_name w before c.args.replica c.args.name.now ≡ Some c.in-Some.procedure =
+    named_there w before c.args.replica c.in-Some.procedure c.args.name.now c.args.world.now.replicas _ c.by_name.result refl (numbered_map progress_of c.args.world.now.replicas c.args.replica)
+    c.in-Some.is c.by_name.ensures.no_replica c.by_name.ensures.there in
     let q = err_from_is_err_and c.from_residual.result c.from_residual.ensures.1 in
     let asked = c.begin_step-begin.ensures w in
     rw q.1 (
-      step_text w after.log (Begin c.args.replica c.in-Some-by_name.procedure c.args.args.now c.args.request) f.0,
+      step_text w after.log (Begin c.args.replica c.in-Some.procedure c.args.args.now c.args.request) f.0,
       after,
-      begins w (world_of c.args.world.now) c.args.replica c.args.name.now c.args.args.now c.args.request c.in-Some-by_name.procedure f.0 after named (subst (λ (k : Step). IsStep w before k f.0 after) asked f.1),
+      begins w (world_of c.args.world.now) c.args.replica c.args.name.now c.args.args.now c.args.request c.in-Some.procedure f.0 after named (subst (λ (k : Step). IsStep w before k f.0 after) asked f.1),
       subst (λ (k : Step). PassesBeginning g.W.Write.contents c.args.output.now c.step.new.output (step_text w after.log k f.0)) asked f.2,
     )
 
@@ -59,10 +53,10 @@ returns-clause-done g c =
     let after = world_of c.step.new.world in
     let s = c.in_ok-step.ensures.stepped in
     let before = world_of c.args.world.now in
-    let there = numbered_map progress_of c.args.world.now.replicas c.args.replica ∙ ap (λ (o : Option ReplicaState). option_map progress_of o) (sym c.in-Some.ensures) in
-    let named : number_of_name w before c.args.replica c.args.name.now ≡ Some c.in-Some-by_name.procedure =
-    named_at w before c.args.replica c.args.name.now _ (Some c.in-Some-by_name.procedure) there (c.in-Some-by_name.ensures.there c.in-Some._kept.now (sym c.in-Some.ensures)) in (
-      step_text w after.log (Begin c.args.replica c.in-Some-by_name.procedure c.args.args.now c.args.request) c.in_ok-step.field-0,
-      begins w (world_of c.args.world.now) c.args.replica c.args.name.now c.args.args.now c.args.request c.in-Some-by_name.procedure c.in_ok-step.field-0 after named (subst (λ (k : Step). IsStep w before k c.in_ok-step.field-0 after) (c.begin_step-begin.ensures w) s.0),
+    let named : number_of_name w before c.args.replica c.args.name.now ≡ Some c.in-Some.procedure =
+    named_there w before c.args.replica c.in-Some.procedure c.args.name.now c.args.world.now.replicas _ c.by_name.result refl (numbered_map progress_of c.args.world.now.replicas c.args.replica)
+    c.in-Some.is c.by_name.ensures.no_replica c.by_name.ensures.there in (
+      step_text w after.log (Begin c.args.replica c.in-Some.procedure c.args.args.now c.args.request) c.in_ok-step.field-0,
+      begins w (world_of c.args.world.now) c.args.replica c.args.name.now c.args.args.now c.args.request c.in-Some.procedure c.in_ok-step.field-0 after named (subst (λ (k : Step). IsStep w before k c.in_ok-step.field-0 after) (c.begin_step-begin.ensures w) s.0),
       subst (λ (k : Step). Passes g.W.Write.contents c.args.output.now c.step.new.output (step_text w after.log k c.in_ok-step.field-0)) (c.begin_step-begin.ensures w) s.1,
     )

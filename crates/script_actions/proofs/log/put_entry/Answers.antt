@@ -10,9 +10,10 @@ use Rattle.log_entry.specs.Bytes.{entry_bytes}
 use Rattle.report.specs.Lines as lines
 use Rattle.report.specs.Lines.{bytes_words}
 use Rattle.script_actions.specs.Printed.{entry_of, entry_text}
-use Rattle.script_actions.specs.Doing.{Gives}
-use Rattle.script_actions.proofs.GivenLemmas.{nothing_begun}
-use Rattle.script_actions.proofs.PrintedLemmas.{item_numbered, carries_numbered, is_entry}
+use Rattle.script_actions.specs.Doing.{Gives, PassesBeginning}
+use Rattle.byte_output.proofs.PendingLemmas.{Passes-then}
+use Rattle.script_actions.proofs.GivenLemmas.{beginning_more, beginning_then, given_then}
+use Rattle.script_actions.proofs.PrintedLemmas.{item_numbered, entry_printed}
 use Rattle.script_actions.proofs.log.put_entry.Goals as goal
 
 pub returns-in_default-clause-given : goal.returns-in_default-clause-given
@@ -24,22 +25,24 @@ returns-in_default-clause-given g c =
     subst (Gives g.W.Write.contents c.args.output.now c.put_line.new.output c.put_line.result)
     (ap (λ (o : Option Item). bytes_words c.args.position (option_map (λ item. entry_bytes (entry_of w log item)) o) ++ codes "\n") (sym none)) c.put_line.ensures.given
 
-pub returns-in_err-bytes-clause-given : goal.returns-in_err-bytes-clause-given
-returns-in_err-bytes-clause-given g c =
+pub returns-in_err-put_bytes_label-clause-given : goal.returns-in_err-put_bytes_label-clause-given
+returns-in_err-put_bytes_label-clause-given g c =
+    let text = entry_printed c.args.world.now c.args.position (kind.entry_of c.in-Some.entry.now) c.keeps_what_was_delivered.ensures.entries (sym c.in-Some.ensures) in
     let q = err_from_is_err_and c.from_residual.result c.from_residual.ensures.1 in
-    rw q.1 (nothing_begun g.W.Write.contents c.args.output.now (entry_text (setting_of c.args.world.now) (world_of c.args.world.now).log c.args.position))
+    rw q.1 (subst (PassesBeginning g.W.Write.contents c.args.output.now c.put_bytes_label.new.output) text
+    (beginning_more g.W.Write.contents c.args.output.now c.put_bytes_label.new.output _ _ (beginning_more g.W.Write.contents c.args.output.now c.put_bytes_label.new.output _ _ c.in_err-put_bytes_label.ensures.given)))
+
+pub returns-in_err-put_bytes-clause-given : goal.returns-in_err-put_bytes-clause-given
+returns-in_err-put_bytes-clause-given g c =
+    let text = entry_printed c.args.world.now c.args.position (kind.entry_of c.in-Some.entry.now) c.keeps_what_was_delivered.ensures.entries (sym c.in-Some.ensures) in
+    let q = err_from_is_err_and c.from_residual-in_err-put_bytes.result c.from_residual-in_err-put_bytes.ensures.1 in
+    rw q.1 (subst (PassesBeginning g.W.Write.contents c.args.output.now c.put_bytes.new.output) text
+    (beginning_more g.W.Write.contents c.args.output.now c.put_bytes.new.output _ _
+    (beginning_then g.W.Write.contents c.args.output.now c.put_bytes_label.new.output c.put_bytes.new.output _ _ c.in_ok-put_bytes_label.ensures.given c.in_err-put_bytes.ensures.given)))
 
 pub returns-clause-given : goal.returns-clause-given
-unfolding lines.line_words
 returns-clause-given g c =
-    let w = setting_of c.args.world.now in
-    let log = (world_of c.args.world.now).log in
-    let entries = c.args.world.now.entries in
-    let e = kind.entry_of c.in-Some.entry.now in
-    let at : numbered entries c.args.position ≡ Some e = sym c.in-Some.ensures in
-    let there : numbered log c.args.position ≡ Some (item_of e) = item_numbered entries c.args.position (Some e) at in
-    let is : e ≡ entry_of w log (item_of e) = is_entry w log e (carries_numbered w entries c.args.position e c.keeps_what_was_delivered.ensures.entries at) in
-    let bytes : c.deref.result.now ≡ entry_bytes (entry_of w log (item_of e)) = c.deref.ensures.value ∙ c.in_ok-bytes.ensures ∙ ap entry_bytes is in
-    subst (Gives g.W.Write.contents c.args.output.now c.put_line-2.new.output c.put_line-2.result)
-    (ap (λ (xs : List ℕ). bytes_words c.args.position (Some xs) ++ codes "\n") bytes
-    ∙ ap (λ (o : Option Item). bytes_words c.args.position (option_map (λ item. entry_bytes (entry_of w log item)) o) ++ codes "\n") (sym there)) c.put_line-2.ensures.given
+    let text = entry_printed c.args.world.now c.args.position (kind.entry_of c.in-Some.entry.now) c.keeps_what_was_delivered.ensures.entries (sym c.in-Some.ensures) in
+    subst (Gives g.W.Write.contents c.args.output.now c.put_text.new.output c.put_text.result) text
+    (given_then g.W.Write.contents c.args.output.now c.put_bytes.new.output c.put_text.new.output c.put_text.result _ _
+    (Passes-then g.W.Write.contents c.args.output.now c.put_bytes_label.new.output c.put_bytes.new.output _ _ c.in_ok-put_bytes_label.ensures.given c.in_ok-put_bytes.ensures.given) c.put_text.ensures.given)

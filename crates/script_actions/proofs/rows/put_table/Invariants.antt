@@ -1,4 +1,4 @@
-use Rattle.std.proofs.Common.{◌≡◌, ℕ, ◌≤◌, ◌-◌, ◌^◌, List, ◌++◌, length}
+use Rattle.std.proofs.Common.{◌≡◌, ℕ, ◌≤◌, ◌<◌, ◌-◌, ◌^◌, List, ◌++◌, length}
 use Rattle.byte_output.specs.Pending.{output_of, Passes}
 use Rattle.schema.specs.Rows.{Key, Rows}
 use Rattle.script_actions.specs.Listing.{HasRowKeys, AreBefore, lines_of}
@@ -8,6 +8,7 @@ use Rattle.script_actions.proofs.rows.put_table.Given as goal
 abbrev pub invariant-loop-key : goal.invariant-loop-key
 invariant-loop-key g l = record {
   few : l.count ≤ l.lo;
+  word : l.lo < 2 ^ 64;
   same : (output_of l.output).ghost_name ≡ (output_of l.initial.output).ghost_name;
   given : (all : Rows) (listed : List (Key × List ℕ)) → g.S.Store.answers_from l.rows all → HasRowKeys all → AreBefore (l.table, 0) listed all
       → (more : List (Key × List ℕ)) × (l.count ≡ length more) × AreBefore (l.table, l.lo) (listed ++ more) all

@@ -1,0 +1,7 @@
+pub mod PagesLemmas
+pub mod PlaceLemmas
+pub mod PrunePagesLemmas
+pub mod PageEditLemmas
+pub mod LeastLemmas
+pub mod ChangeLemmas
+pub mod GroupLemmas

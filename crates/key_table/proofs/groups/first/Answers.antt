@@ -1,0 +1,42 @@
+use Rattle.std.proofs.Common.{◌≡◌, ◌+◌, ◌∙◌, ℕ, List, [], ◌∷◌, ◌++◌, drop, sym, ap, arith}
+use Rattle.std.specs.Prelude.{Some, None, slice_get}
+use Rattle.key_table.specs.Table.{rows_between}
+use Rattle.key_group.specs.Pages.{all_slots}
+use Rattle.key_group.proofs.PlaceLemmas.{rows_page, rows_end}
+use Rattle.key_table.specs.Groups.{group_slots}
+use Rattle.key_table.proofs.PartLemmas.{within, part, begins_past}
+use Rattle.key_table.proofs.groups.first.Goals as goal
+
+abbrev Row : Type 0
+Row = ℕ × List ℕ
+
+here : (xs ys mid all : List Row) (v : Row) → Some v ≡ slice_get xs 0 → mid ≡ xs ++ ys → mid ≡ all → Some v ≡ slice_get all 0
+here [] ys mid all v is parts same = absurd (cc)
+here (x ∷ xs) ys mid all v is parts same = is ∙ ap (λ (l : List Row). slice_get l 0) (sym parts ∙ same)
+
+later : (xs ys mid all : List Row) → None ≡ slice_get xs 0 → mid ≡ xs ++ ys → mid ≡ all → ys ≡ all
+later [] ys mid all is parts same = sym parts ∙ same
+later (x ∷ xs) ys mid all is parts same = absurd (cc)
+
+pub returns-then-least-hi : goal.returns-then-least-hi
+returns-then-least-hi g c =
+    let gs = c.args.groups.now in let i = c.loop-group.group-index in let p = all_slots c.group-item.result in
+    let read = part gs i c.group-item.result c.group-item.is in
+    let by = begins_past c.args.hi c.least.result gs i p c.requires.filled (omega arith) read c.least.ensures c.if-least-hi.true in
+    sym (ap (λ (l : List Row). slice_get l 0) (sym c.loop-group.invariant ∙ rows_end 16384 c.args.position c.args.lo c.args.hi (group_slots gs) i p c.requires.filled c.requires.rising (within gs i (omega arith)) read by))
+
+pub returns-in-Some : goal.returns-in-Some
+returns-in-Some g c =
+    let gs = c.args.groups.now in let i = c.loop-group.group-index in let p = all_slots c.group-item.result in
+    here (rows_between c.args.position c.args.lo c.args.hi p) (rows_between c.args.position c.args.lo c.args.hi (all_slots (drop (i + 1) (group_slots gs))))
+    (rows_between c.args.position c.args.lo c.args.hi (all_slots (drop i (group_slots gs)))) (rows_between c.args.position c.args.lo c.args.hi (all_slots (group_slots gs)))
+    (c.in-Some.row.0, c.in-Some.row.1.now) c.in-Some.ensures
+    (rows_page c.args.position c.args.lo c.args.hi (group_slots gs) i p (within gs i (omega arith)) (part gs i c.group-item.result c.group-item.is)) c.loop-group.invariant
+
+pub loop-group-preserved : goal.loop-group-preserved
+loop-group-preserved g c =
+    let gs = c.args.groups.now in let i = c.loop-group.group-index in let p = all_slots c.group-item.result in
+    later (rows_between c.args.position c.args.lo c.args.hi p) (rows_between c.args.position c.args.lo c.args.hi (all_slots (drop (i + 1) (group_slots gs))))
+    (rows_between c.args.position c.args.lo c.args.hi (all_slots (drop i (group_slots gs)))) (rows_between c.args.position c.args.lo c.args.hi (all_slots (group_slots gs)))
+    c.in_default.ensures
+    (rows_page c.args.position c.args.lo c.args.hi (group_slots gs) i p (within gs i (omega arith)) (part gs i c.group-item.result c.group-item.is)) c.loop-group.invariant

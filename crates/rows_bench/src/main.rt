@@ -1,0 +1,85 @@
+//! Puts rows of drawn keys and reads them, for measurements from outside: time and memory are taken by whoever starts
+//! it (bench/rows does).
+#![tactic(auto)]
+
+mod store;
+
+use crate::store::Store;
+use anyhow::Context;
+use std::alloc::{AllocError, Global};
+use std::env;
+use std::process::ExitCode;
+
+/// A drawn key: each number has another.
+fn drawn(number: u64) -> u64 {
+    let first = number.wrapping_mul(0x9e37_79b9_7f4a_7c15);
+    let second = (first ^ (first >> 30)).wrapping_mul(0xbf58_476d_1ce4_e5b9);
+    let third = (second ^ (second >> 27)).wrapping_mul(0x94d0_49bb_1331_11eb);
+    third ^ (third >> 31)
+}
+
+/// Puts a first version of so many keys.
+fn fill(store: &mut Store, alloc: Global, keys: u64) -> Result<(), AllocError> {
+    for number in 0..keys {
+        store.put(alloc, drawn(number), 1)?;
+    }
+    Ok(())
+}
+
+/// The number of a key that is there, as drawn for the n-th of some calls.
+fn picked(call: u64, keys: u64) -> u64 {
+    drawn(call ^ 0x1234_5678).checked_rem(keys).unwrap_or(0)
+}
+
+/// Puts a version more of drawn keys.
+fn fill_again(
+    store: &mut Store,
+    alloc: Global,
+    keys: u64,
+    versions: u64,
+) -> Result<(), AllocError> {
+    for call in 0..versions {
+        store.put(alloc, drawn(picked(call, keys)), 2)?;
+    }
+    Ok(())
+}
+
+/// Reads drawn keys; how many have a row.
+fn read(store: &Store, keys: u64, reads: u64) -> u64 {
+    let mut found = 0u64;
+    for call in 0..reads {
+        if store.has_row(2, drawn(picked(call, keys))) {
+            found = found.wrapping_add(1);
+        }
+    }
+    found
+}
+
+fn run(rt: &HostRuntime) -> anyhow::Result<()> {
+    let alloc = rt.alloc();
+    let words: Vec<String> = env::args(rt)?.collect(alloc)?;
+    let keys = words.get(1).and_then(|word| word.parse().ok());
+    let keys = keys.context("the number of keys")?;
+    let reads = words.get(2).and_then(|word| word.parse().ok());
+    let reads = reads.context("the number of reads")?;
+    let versions = words.get(3).and_then(|word| word.parse().ok());
+    let versions = versions.context("the number of versions more")?;
+    let mut store = Store::new(alloc);
+    fill(&mut store, alloc, keys)?;
+    fill_again(&mut store, alloc, keys, versions)?;
+    let found = read(&store, keys, reads);
+    println!(rt; "keys {keys} found {found}")?;
+    // So that only what is measured takes time.
+    std::mem::forget(store);
+    Ok(())
+}
+
+fn main(rt: HostRuntime) -> ExitCode {
+    match run(&rt) {
+        Ok(()) => ExitCode::SUCCESS,
+        Err(error) => {
+            let _ = eprintln!(rt; "rows_bench: {error}");
+            ExitCode::FAILURE
+        }
+    }
+}
