@@ -19,8 +19,8 @@ use schema::Schema;
 use std::alloc::{AllocError, Allocator};
 
 /// The program, accepted on arguments of so many bytes and with the schema's tables, or why not. It takes as
-/// much memory as there are slots, by one growth, and gives it back. What is accepted keeps, in the schema's memory, the
-/// copy of the schema and the program's layout: by one growth 16 bytes a slot, 64 KB for 4,096 slots.
+/// much memory as there are slots, by one growth, and gives it back. What is accepted keeps, in the schema's memory,
+/// the copy of the schema and the program's layout: by one growth 16 bytes a slot, 64 KB for 4,096 slots.
 ///
 /// ```text
 /// let schema = Schema::new(alloc, &[(1, 8)])?;

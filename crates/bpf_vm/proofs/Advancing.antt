@@ -4,14 +4,12 @@ use Rattle.bpf_code.specs.Program.{Program}
 use Rattle.schema.specs.Schema.{Tables}
 use Rattle.schema.specs.Rows.{Rows}
 use Rattle.bpf_semantics.specs.State.{State, entry_state}
-use Rattle.bpf_semantics.specs.Step.{Going, Stuck, step}
+use Rattle.bpf_semantics.specs.Step.{Going, Stuck}
 use Rattle.bpf_semantics.specs.Run.{moment, next_moment}
 use Rattle.bpf_semantics.proofs.LookLemmas.{moment-add}
 use Rattle.bpf_verify.specs.Flow.{Procedure}
-use Rattle.vm_state.specs.Words.{Words, Holds}
 use Rattle.vm_state.specs.Plain.{IsNeverStuck, CanRunOn, SameEffects, Reaches}
 use Rattle.txn_view.specs.declared.view.Own.{Own}
-use Rattle.bpf_vm.specs.declared.turn.Turn.{Turn}
 use Rattle.bpf_vm.specs.declared.turn.Turn.TheVariants.{More, Exit, Stale, NoMemory}
 use Rattle.bpf_vm.specs.Turns.{MachineState}
 use Rattle.acceptance.specs.Description.{Suits}

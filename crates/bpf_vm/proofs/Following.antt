@@ -17,7 +17,6 @@ use Rattle.txn_view.specs.View.{IsViewOf}
 use Rattle.bpf_vm.specs.declared.turn.Turn.{Turn}
 use Rattle.bpf_vm.specs.declared.turn.Turn.TheVariants.{More, Exit, Stale, NoMemory}
 use Rattle.bpf_vm.specs.Turns.{MachineState, CanStep, FollowsMoment, FollowsStep, MayWantMemory, DoesNothing}
-use Rattle.acceptance.specs.Description.{Suits}
 use Rattle.vm_helpers.specs.Calls.{LooksMore}
 use Rattle.bpf_vm.specs.Run.{Effects, effects_of, own_effects, IsAfter, HasRun, HasEnded, IsStaleAt, AfterTurn, IsNotStale}
 

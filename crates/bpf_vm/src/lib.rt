@@ -1,4 +1,4 @@
-//! The machine that runs accepted procedures over a view of a store, an instruction a turn.
+//! The machine that runs accepted procedures over a view of a store, an instruction a turn, or to the end at once.
 #![tactic(auto)]
 
 pub use laws::{open_calls_can_turn, runs_go_on_or_end};

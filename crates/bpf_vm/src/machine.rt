@@ -147,8 +147,8 @@ impl Machine {
         self.last
     }
 
-    /// Turns until one doesn't answer that there is more: as many as the procedure's bound at most. Where
-    /// the last turn didn't, nothing is done.
+    /// Turns until one doesn't answer that there is more, as many as the procedure's bound at most; those of plain
+    /// instructions are taken at once. Where the last turn didn't answer that there is more, nothing is done.
     pub fn run<A: Allocator, B: Allocator, S: Store, C: Allocator + Copy>(
         &mut self,
         procedure: &Accepted<A, B>,

@@ -1,5 +1,5 @@
 -- What a flat instruction is as an instruction of a program, and the layout of a program.
-use Rattle.std.specs.Prelude.{◌≡◌, ℕ, ℤ, List, length, slice_get, Option, Some}
+use Rattle.std.specs.Prelude.{◌≡◌, ℕ, ℤ, List, length, slice_get, Some}
 use Rattle.std.specs.Option.{option_map}
 use Rattle.std.specs.Int.{w64, cast_signed}
 use Rattle.bpf_words.specs.declared.operation.BinaryOperation.TheVariants as operation

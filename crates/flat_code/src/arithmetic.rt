@@ -5,7 +5,8 @@ ghost use Rattle.bpf_words.specs.declared.operation.ByteOrder.TheVariants as ord
 ghost use Rattle.bpf_code.specs.declared.instruction.Register.{Register};
 ghost use Rattle.bpf_code.specs.declared.instruction.Source.TheVariants as sources;
 ghost use Rattle.bpf_code.specs.declared.instruction.Width.TheVariants.{Bits32, Bits64};
-ghost use Rattle.bpf_code.specs.declared.instruction.Instruction.TheVariants.{Arithmetic, Negate, MoveSignExtended, End};
+ghost use Rattle.bpf_code.specs.declared.instruction.Instruction.TheVariants.{Arithmetic, Negate};
+ghost use Rattle.bpf_code.specs.declared.instruction.Instruction.TheVariants.{MoveSignExtended, End};
 ghost use Rattle.flat_code.specs.Flat.{instruction_by, widened};
 
 use crate::kind::Kind;

@@ -15,7 +15,7 @@ pub struct FlatInstruction {
     pub src: Register,
     /// Of an address, in bytes; of a jump that isn't long, in slots from the next instruction on.
     pub offset: i16,
-    /// The immediate, sign-extended to 64 bits, or all 64 bits of a wide load.
+    /// The immediate, a call's helper or a long jump's distance, sign-extended to 64 bits; all 64 bits of a wide load.
     pub immediate: u64,
 }
 
@@ -48,6 +48,7 @@ impl FlatInstruction {
     }
 
     /// The flat instruction that stands for an instruction.
+    #[inline(always)]
     #[tactic(auto, unfolding(crate::specs::Flat::instruction_by))]
     pub fn of(instruction: Instruction) -> FlatInstruction
         ensures { instruction_of result ≡ instruction }

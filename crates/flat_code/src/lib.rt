@@ -1,5 +1,5 @@
-//! Programs laid out to be run: one flat instruction of 16 bytes a slot, told apart by one kind, with its registers, its
-//! offset and its immediate in fields of their own.
+//! Programs laid out to be run: one flat instruction of 16 bytes a slot, told apart by its kind alone, with its
+//! registers, its offset and its immediate in fields of their own.
 #![tactic(auto)]
 
 pub use instruction::FlatInstruction;

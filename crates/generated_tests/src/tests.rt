@@ -1,9 +1,9 @@
 use bpf_code::decode;
 use bpf_verify::{Accepted, verify};
 use inputs::{Call, random_call};
-use outcome::{line_of_call, line_of_run};
+use outcome::{line_of_call, line_of_completed, line_of_run};
 use plain_runner::{CompletedRun, run_program};
-use plain_site::run_call;
+use plain_site::{complete_call, run_call};
 use random::Random;
 use schema::Schema;
 use std::alloc::{AllocError, Global};
@@ -46,7 +46,21 @@ fn plain_run(rt: &impl Abort, alloc: Global, procedure: &Accepted, call: &Call) 
         .expect(rt, "memory")
 }
 
-/// What the machine does at a call.
+/// What the machine does at a call, to its end at once.
+fn completed_line(
+    rt: &impl Abort,
+    alloc: Global,
+    procedure: &Accepted,
+    call: &Call,
+    turns: usize,
+) -> String {
+    let completed = complete_call(alloc, procedure, &call.arguments, &call.rows).expect(
+        rt, "memory",
+    );
+    line_of_completed(alloc, &completed, turns).expect(rt, "memory")
+}
+
+/// What the machine does at a call, turn by turn.
 fn machine_line(rt: &impl Abort, alloc: Global, procedure: &Accepted, call: &Call) -> String {
     let run = run_call(alloc, procedure, &call.arguments, &call.rows, NEVER).expect(rt, "memory");
     line_of_call(alloc, run).expect(rt, "memory")
@@ -65,13 +79,16 @@ fn assert_same(
     Ok(())
 }
 
-/// Compares a call on the machine with what the definition says, and answers that.
+/// Compares a call on the machine, both ways, with what the definition says, and answers that.
 fn compared(rt: &impl Abort, alloc: Global, schema: &Schema, call: &Call) -> CompletedRun {
     let procedure = accepted(rt, alloc, schema, &call.program.bytes);
     let run = plain_run(rt, alloc, &procedure, call);
     let plain = line_of_run(alloc, &run).expect(rt, "memory");
     let machine = machine_line(rt, alloc, &procedure, call);
-    assert_same(rt, alloc, call, &machine, &plain).expect(rt, "memory");
+    let completed = completed_line(rt, alloc, &procedure, call, run.steps());
+    for line in [&machine, &completed] {
+        assert_same(rt, alloc, call, line, &plain).expect(rt, "memory");
+    }
     run
 }
 

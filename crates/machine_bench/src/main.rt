@@ -1,12 +1,12 @@
-//! Runs a procedure of straight instructions again and again, for measurements from outside: it says how many
-//! instructions were run, and the time is taken by whoever starts it (bench/machine does).
+//! Runs a procedure of straight instructions again and again, at once or by turns, for measurements from outside: it
+//! says how many instructions were run, and the time is taken by whoever starts it (bench/machine does).
 #![tactic(auto)]
 
 use anyhow::Context;
 use bpf_code::decode;
 use bpf_verify::{Accepted, verify};
 use plain_rows::Row;
-use plain_site::run_call;
+use plain_site::{complete_call, run_call};
 use schema::Schema;
 use std::alloc::Global;
 use std::env;
@@ -83,8 +83,18 @@ fn procedure(alloc: Global, kind: Kind) -> Option<Accepted> {
     verify(alloc, code, &schema, 0).ok()
 }
 
+/// How many instructions a call ran, at once or by turns.
+fn instructions(alloc: Global, procedure: &Accepted, rows: &[Row], by_turns: bool) -> Option<u32> {
+    if by_turns {
+        return Some(run_call(alloc, procedure, &[], rows, u32::MAX).ok()?.turns);
+    }
+    complete_call(alloc, procedure, &[], rows).ok()?;
+    // It has no branches.
+    Some(procedure.bound())
+}
+
 /// How many instructions the calls ran together.
-fn turns(alloc: Global, kind: Kind, calls: u32) -> Option<u64> {
+fn turns(alloc: Global, kind: Kind, calls: u32, by_turns: bool) -> Option<u64> {
     let procedure = procedure(alloc, kind)?;
     let mut rows = Vec::new(alloc);
     for key in 0..8 {
@@ -93,20 +103,21 @@ fn turns(alloc: Global, kind: Kind, calls: u32) -> Option<u64> {
     }
     let mut turns = 0u64;
     for _ in 0..calls {
-        let run = run_call(alloc, &procedure, &[], &rows, u32::MAX).ok()?;
-        turns = turns.saturating_add(u64::from(run.turns));
+        let of_call = instructions(alloc, &procedure, &rows, by_turns)?;
+        turns = turns.saturating_add(u64::from(of_call));
     }
     Some(turns)
 }
 
-/// Reads the two words, a kind and how many calls, and says how many instructions were run.
+/// Reads a kind, how many calls are made and whether by turns, and says how many instructions were run.
 fn run(rt: &HostRuntime) -> anyhow::Result<()> {
     let words: Vec<String> = env::args(rt)?.collect(rt.alloc())?;
     let kind = words.get(1).and_then(|word| Kind::from_word(word));
     let kind = kind.context("the first word is arithmetic, memory or calls")?;
     let calls = words.get(2).and_then(|word| word.parse().ok());
     let calls = calls.context("the second word is how many calls are made")?;
-    let turns = turns(rt.alloc(), kind, calls).context("memory is wanting")?;
+    let by_turns = words.get(3).is_some_and(|word| word.as_str() == "turns");
+    let turns = turns(rt.alloc(), kind, calls, by_turns).context("memory is wanting")?;
     println!(rt; "instructions {turns}")?;
     Ok(())
 }

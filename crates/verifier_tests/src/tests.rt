@@ -177,12 +177,12 @@ fn is_accepted(rt: &impl Abort, alloc: Global, scarce: &Scarce, schema: &Schema<
     refusal.is_none()
 }
 
-/// Verifying takes memory twice: for what is known before the slots, and for the copy of the schema.
+/// Verifying takes memory three times: for what is known before the slots, the copy of the schema, and the layout.
 #[test]
 fn each_refused_growth_is_want_of_memory(rt: HostRuntime) {
     let scarce = Scarce::new(rt.alloc());
     let schema = Schema::new(&scarce, &[(1, 8)]).expect(&rt, "memory");
-    for (growth, expected) in &[(1, false), (2, false), (3, true)] {
+    for (growth, expected) in &[(1, false), (2, false), (3, false), (4, true)] {
         scarce.refuse_nth(*growth);
         let found = is_accepted(&rt, rt.alloc(), &scarce, &schema);
         same(&rt, "accepted", (*growth, found), (*growth, *expected));

@@ -3,6 +3,7 @@ mod Places
 mod Holding
 mod Loading
 mod Storing
+mod OneMemory
 mod Widened
 pub mod Leaving
 mod RunningOn

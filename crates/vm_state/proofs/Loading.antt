@@ -93,10 +93,10 @@ record LoadsBytes (m : Words) (at n : ℕ) (bs : List ℕ) : Type 0 where
   long : length bs ≡ n
   bytes : bs ≡ take n (bytes_from m at)
 
-in_stack : (m : Words) (at : ℕ) → at < 2 ^ 40 → bytes_from m at ≡ drop (at + 512 - 2 ^ 40) m.stack
+pub in_stack : (m : Words) (at : ℕ) → at < 2 ^ 40 → bytes_from m at ≡ drop (at + 512 - 2 ^ 40) m.stack
 in_stack m at h = let t : nat_lt at (2 ^ 40) ≡ true = grind (arith, nat_tests) in rw t
 
-in_args : (m : Words) (at : ℕ) → 2 ^ 40 ≤ at → bytes_from m at ≡ drop (at - 2 ^ 41) m.args
+pub in_args : (m : Words) (at : ℕ) → 2 ^ 40 ≤ at → bytes_from m at ≡ drop (at - 2 ^ 41) m.args
 in_args m at h = let t : nat_lt at (2 ^ 40) ≡ false = grind (arith, nat_tests) in rw t
 
 stack_loads : (s : State) (m : Words) (place offset : ℤ) (w n : ℕ) (bs : List ℕ) → FitsSigned w16 offset → 0 < n → Holds s m → IsWordOfPlace (2 ^ 40) place w → stack_bytes s.stack (place +ℤ offset) n ≡ Some bs → LoadsBytes m (offset_address w offset) n bs

@@ -1,5 +1,5 @@
 -- Steps along a run of plain instructions.
-use Rattle.std.proofs.Common.{◌≡◌, ◌≢◌, ◌<◌, ◌≤◌, ℕ, ℤ, pos, zero, suc, length, List, Option, Some, None, slice_get, get_or, refl, inl, inr, sym, ◌∙◌, ap, subst, arith}
+use Rattle.std.proofs.Common.{◌≡◌, ◌≢◌, ◌<◌, ℕ, ℤ, pos, zero, suc, length, List, Option, Some, None, slice_get, get_or, refl, inl, inr, sym, ◌∙◌, ap, subst, arith}
 use Rattle.std.proofs.lemmas.Bool.{cases_lt}
 use Rattle.std.proofs.lemmas.Option.{slice_get_past, slice_get-get_or}
 use Rattle.std.specs.Option.{option_map}
@@ -15,7 +15,7 @@ use Rattle.flat_code.specs.declared.kind.Kind.TheVariants as kind
 use Rattle.flat_code.specs.declared.instruction.FlatInstruction.{FlatInstruction}
 use Rattle.flat_code.specs.Flat.{instruction_of, LaidOut}
 use Rattle.vm_state.specs.Words.{Words, Holds, HoldsNext, CanRun}
-use Rattle.vm_state.specs.Access.{at_slot, Follows}
+use Rattle.vm_state.specs.Access.{at_slot, HoldsAfter}
 use Rattle.vm_state.specs.Plain.{IsPlain, IsNeverStuck, CanRunOn, SameEffects, Reaches}
 use Rattle.vm_state.proofs.Leaving.{execute_leaves, itself}
 
@@ -124,7 +124,7 @@ leads p tables at m n i s e h moves next =
     let (t, g, k) = goes (execute tables i s) n (λ stuck. moves (is ∙ stuck)) next in
     record { to = t; executes = g; steps = is ∙ g; held = k }
 
-pub can_further : (p : Program) (at to : ℕ) (m n : Words) (i : Instruction) → instruction_at p at ≡ Some i → Follows i at m to n
+pub can_further : (p : Program) (at to : ℕ) (m n : Words) (i : Instruction) → instruction_at p at ≡ Some i → HoldsAfter i at m to n
     → CanRunOn p (at_slot at m) → CanRunOn p (at_slot to n)
 can_further p at to m n i e next (tables, s, h, never) =
     let l = leads p tables at m (at_slot to n) i s e h (never_now p tables s never) (next tables s h) in
@@ -136,7 +136,7 @@ no_call i plain n e = subst IsPlain e plain
 both : (s t u : State) → SameEffects s t → SameEffects t u → SameEffects s u
 both s t u a b = record { looks = b.looks ∙ a.looks; writes = b.writes ∙ a.writes; rows = b.rows ∙ a.rows; code = b.code ∙ a.code }
 
-pub reaches_further : (p : Program) (at to : ℕ) (m n : Words) (i : Instruction) → instruction_at p at ≡ Some i → Follows i at m to n → IsPlain i
+pub reaches_further : (p : Program) (at to : ℕ) (m n : Words) (i : Instruction) → instruction_at p at ≡ Some i → HoldsAfter i at m to n → IsPlain i
     → (tables : Tables) (s : State) → IsNeverStuck p tables s → Reaches p tables s (at_slot at m) → Reaches p tables s (at_slot to n)
 reaches_further p at to m n i e next plain tables s never (k, t, there, h, same) =
     let moves : step p tables t ≢ Stuck = λ stuck. never (suc k) (next_is p tables k s t there ∙ stuck) in

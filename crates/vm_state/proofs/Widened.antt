@@ -1,12 +1,10 @@
 -- Operations whose immediate was widened.
-use Rattle.std.proofs.Common.{◌≡◌, ℕ, ◌^◌, ◌<◌, ap, subst, sym}
+use Rattle.std.proofs.Common.{◌≡◌, ℕ, ◌^◌, ◌<◌, subst, sym}
 use Rattle.std.specs.Int.{w64, cast_signed, cast_unsigned}
 use Rattle.std.proofs.lemmas.Int.{of_z-to_z}
 use Rattle.bpf_words.specs.declared.operation.BinaryOperation.{BinaryOperation}
 use Rattle.bpf_words.specs.declared.operation.Operation.TheVariants.{Binary}
-use Rattle.bpf_words.specs.declared.condition.Condition.{Condition}
 use Rattle.bpf_words.specs.Operation.{alu}
-use Rattle.bpf_words.specs.Condition.{holds}
 use Rattle.bpf_code.specs.declared.instruction.Register.{Register}
 use Rattle.bpf_code.specs.declared.instruction.Width.{Width}
 use Rattle.bpf_code.specs.declared.instruction.Source.TheVariants as source

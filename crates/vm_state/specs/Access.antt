@@ -10,6 +10,7 @@ use Rattle.schema.specs.Schema.{Tables}
 use Rattle.bpf_semantics.specs.State.{State}
 use Rattle.bpf_semantics.specs.Step.{execute}
 use Rattle.vm_state.specs.Words.{Words, Holds, HoldsNext, word, stack_end, args_start}
+use Rattle.vm_state.specs.Plain.{IsPlain}
 
 -- so many bytes from an address on lie in the stack
 pub record InStack (address count : ℕ) : Type 0 where
@@ -57,8 +58,14 @@ abbrev pub at_slot : ℕ → Words → Words
 at_slot at m = record m { slot = at }
 
 -- what an instruction makes of each state that the words at one slot stand for, others at another stand for
-abbrev pub Follows : Instruction → ℕ → Words → ℕ → Words → Type 0
-Follows i at m to n = (tables : Tables) (s : State) → Holds s (at_slot at m) → HoldsNext (execute tables i s) (at_slot to n)
+abbrev pub HoldsAfter : Instruction → ℕ → Words → ℕ → Words → Type 0
+HoldsAfter i at m to n = (tables : Tables) (s : State) → Holds s (at_slot at m) → HoldsNext (execute tables i s) (at_slot to n)
+
+-- a plain instruction leads so from one slot to a later one
+pub record GoesOn (i : Instruction) (at : ℕ) (m : Words) (to : ℕ) (n : Words) : Type 0 where
+  pub plain : IsPlain i
+  pub further : at < to
+  pub held : HoldsAfter i at m to n
 
 abbrev pub operand_word : Words → Source → ℕ
 operand_word m (source.Immediate immediate) = cast_unsigned w64 immediate

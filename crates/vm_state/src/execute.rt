@@ -15,6 +15,7 @@ use flat_code::FlatInstruction;
 impl WordState {
     /// An instruction that is no call and doesn't end the program. One of the states that this one stands for has a
     /// step, and of each that has one it stands for what comes next.
+    #[inline(always)]
     pub fn execute(&mut self, instruction: Instruction)
         requires slot { self.old.slot < 2 ^ 32 }
         requires no_call { (helper : ℤ) → instruction ≢ Call helper }
@@ -38,6 +39,7 @@ impl WordState {
         self.advance(1 + distance.cast_unsigned() as usize);
     }
 
+    #[inline(always)]
     fn execute_plain(&mut self, instruction: Instruction)
         requires slot { self.old.slot < 2 ^ 32 }
         requires plain { IsPlain instruction }

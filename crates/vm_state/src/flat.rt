@@ -3,7 +3,7 @@
 ghost use Rattle.std.specs.Prelude.{◌≡◌, ◌+◌, ◌^◌, ◌<◌, IfSome, IfNone};
 ghost use Rattle.flat_code.specs.Flat.{instruction_of};
 ghost use Rattle.vm_state.specs.Words.{CanRun};
-ghost use Rattle.vm_state.specs.Access.{at_slot, Follows};
+ghost use Rattle.vm_state.specs.Access.{at_slot, GoesOn};
 ghost use Rattle.vm_state.specs.Plain.{IsPlain};
 
 use crate::state::WordState;
@@ -15,8 +15,8 @@ use bpf_words::{BinaryOperation as Binary, Condition as If};
 use flat_code::{FlatInstruction, Kind};
 
 impl WordState {
-    /// The instruction at this slot: which slot is next, or none, with nothing done, where it isn't plain. The slot that
-    /// the state has says nothing meanwhile.
+    /// The instruction at this slot: which slot is next, or none, with nothing done, where it isn't plain. The slot of
+    /// the state says nothing meanwhile.
     ///
     /// One match over all kinds is one jump, and what it leads to is copied in with width and operator as constants.
     #[inline(always)]
@@ -30,9 +30,7 @@ impl WordState {
         requires slot { at < 2 ^ 32 }
         requires next { next ≡ at + 1 }
         requires can { CanRun (instruction_of flat.now) (at_slot at self.old) }
-        ensures follows { IfSome result (λ to. Follows (instruction_of flat.now) at self.old to self.new) }
-        ensures more { IfSome result (λ to. at < to) }
-        ensures plain { IfSome result (λ to. IsPlain (instruction_of flat.now)) }
+        ensures goes_on { IfSome result (λ to. GoesOn (instruction_of flat.now) at self.old to self.new) }
         ensures stops { IfNone result (IsPlain (instruction_of flat.now) → ⊥) }
         ensures same { IfNone result (self.new ≡ self.old) }
     {

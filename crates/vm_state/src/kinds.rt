@@ -1,4 +1,4 @@
-//! What each kind of plain instruction does. Each function takes the slot and the one behind it, and answers which is next.
+//! What each kind of plain instruction does: each takes the slot and the one behind it, and answers which is next.
 
 ghost use Rattle.std.specs.Prelude.{◌≡◌, ◌+◌, ◌^◌, ◌<◌};
 ghost use Rattle.bpf_code.specs.declared.instruction.Instruction.TheVariants.{Load, StoreImmediate, StoreRegister};
@@ -9,7 +9,7 @@ ghost use Rattle.bpf_semantics.specs.State.{State};
 ghost use Rattle.bpf_semantics.specs.Step.{after_jump};
 ghost use Rattle.flat_code.specs.Flat.{signed, widened};
 ghost use Rattle.vm_state.specs.Words.{Holds, HoldsNext, CanRun, word};
-ghost use Rattle.vm_state.specs.Access.{offset_address, words_past, with_word, at_slot, Follows};
+ghost use Rattle.vm_state.specs.Access.{offset_address, words_past, with_word, at_slot, GoesOn};
 
 use crate::state::WordState;
 use crate::words::{arithmetic, holds, load_value, low_bits};
@@ -31,7 +31,6 @@ impl WordState {
     }
 
     #[inline(always)]
-    #[tactic(auto, using(crate::proofs::Widened::alu_immediate_holds))]
     pub(crate) fn alu_immediate(
         &mut self,
         at: usize,
@@ -42,8 +41,8 @@ impl WordState {
     ) -> usize
         requires slot { at < 2 ^ 32 }
         requires next { next ≡ at + 1 }
-        ensures follows { Follows (Arithmetic width operation flat.now.dst (widened flat.now.immediate)) at self.old result self.new }
-        ensures more { at < result }
+        ensures { GoesOn (Arithmetic width operation flat.now.dst (widened flat.now.immediate))
+            at self.old result self.new }
     {
         let operation = Operation::Binary(operation);
         let value = arithmetic(width, operation, self.word(flat.dst), flat.immediate);
@@ -51,7 +50,6 @@ impl WordState {
     }
 
     #[inline(always)]
-    #[tactic(auto, using(crate::proofs::Holding::arithmetic_holds))]
     pub(crate) fn alu_register(
         &mut self,
         at: usize,
@@ -62,8 +60,8 @@ impl WordState {
     ) -> usize
         requires slot { at < 2 ^ 32 }
         requires next { next ≡ at + 1 }
-        ensures follows { Follows (Arithmetic width operation flat.now.dst (sources.Register flat.now.src)) at self.old result self.new }
-        ensures more { at < result }
+        ensures { GoesOn (Arithmetic width operation flat.now.dst (sources.Register flat.now.src))
+            at self.old result self.new }
     {
         let operation = Operation::Binary(operation);
         let value = arithmetic(width, operation, self.word(flat.dst), self.word(flat.src));
@@ -71,7 +69,6 @@ impl WordState {
     }
 
     #[inline(always)]
-    #[tactic(auto, using(crate::proofs::Holding::negate_holds))]
     pub(crate) fn negate(
         &mut self,
         at: usize,
@@ -81,15 +78,13 @@ impl WordState {
     ) -> usize
         requires slot { at < 2 ^ 32 }
         requires next { next ≡ at + 1 }
-        ensures follows { Follows (Negate width flat.now.dst) at self.old result self.new }
-        ensures more { at < result }
+        ensures { GoesOn (Negate width flat.now.dst) at self.old result self.new }
     {
         let value = arithmetic(width, Operation::Neg, self.word(flat.dst), 0);
         self.with_result(at, next, flat.dst, value)
     }
 
     #[inline(always)]
-    #[tactic(auto, using(crate::proofs::Holding::move_holds))]
     pub(crate) fn move_sign_extended(
         &mut self,
         at: usize,
@@ -99,8 +94,7 @@ impl WordState {
     ) -> usize
         requires slot { at < 2 ^ 32 }
         requires next { next ≡ at + 1 }
-        ensures follows { Follows (MoveSignExtended kind flat.now.dst flat.now.src) at self.old result self.new }
-        ensures more { at < result }
+        ensures { GoesOn (MoveSignExtended kind flat.now.dst flat.now.src) at self.old result self.new }
     {
         let operation = Operation::Movsx(low_bits(kind));
         let value = arithmetic(kind.width(), operation, 0, self.word(flat.src));
@@ -108,7 +102,6 @@ impl WordState {
     }
 
     #[inline(always)]
-    #[tactic(auto, using(crate::proofs::Holding::end_holds))]
     pub(crate) fn end(
         &mut self,
         at: usize,
@@ -119,20 +112,17 @@ impl WordState {
     ) -> usize
         requires slot { at < 2 ^ 32 }
         requires next { next ≡ at + 1 }
-        ensures follows { Follows (End order width flat.now.dst) at self.old result self.new }
-        ensures more { at < result }
+        ensures { GoesOn (End order width flat.now.dst) at self.old result self.new }
     {
         let value = end(order, width, self.word(flat.dst));
         self.with_result(at, next, flat.dst, value)
     }
 
     #[inline(always)]
-    #[tactic(auto, using(crate::proofs::Holding::load_wide_holds))]
     pub(crate) fn load_wide(&mut self, at: usize, next: usize, flat: &FlatInstruction) -> usize
         requires slot { at < 2 ^ 32 }
         requires next { next ≡ at + 1 }
-        ensures follows { Follows (LoadWide flat.now.dst flat.now.immediate) at self.old result self.new }
-        ensures more { at < result }
+        ensures { GoesOn (LoadWide flat.now.dst flat.now.immediate) at self.old result self.new }
     {
         self.set(flat.dst, flat.immediate);
         at + 2
@@ -163,8 +153,7 @@ impl WordState {
     pub(crate) fn jump(&mut self, at: usize, next: usize, flat: &FlatInstruction) -> usize
         requires slot { at < 2 ^ 32 }
         requires next { next ≡ at + 1 }
-        ensures follows { Follows (Jump flat.now.offset) at self.old result self.new }
-        ensures more { at < result }
+        ensures { GoesOn (Jump flat.now.offset) at self.old result self.new }
     {
         self.target(at, next, flat.offset)
     }
@@ -180,8 +169,8 @@ impl WordState {
     ) -> usize
         requires slot { at < 2 ^ 32 }
         requires next { next ≡ at + 1 }
-        ensures follows { Follows (Branch width condition flat.now.dst (widened flat.now.immediate) flat.now.offset) at self.old result self.new }
-        ensures more { at < result }
+        ensures { GoesOn (Branch width condition flat.now.dst (widened flat.now.immediate) flat.now.offset)
+            at self.old result self.new }
     {
         if holds(width, condition, self.word(flat.dst), flat.immediate) {
             self.target(at, next, flat.offset)
@@ -201,8 +190,9 @@ impl WordState {
     ) -> usize
         requires slot { at < 2 ^ 32 }
         requires next { next ≡ at + 1 }
-        ensures follows { Follows (Branch width condition flat.now.dst (sources.Register flat.now.src) flat.now.offset) at self.old result self.new }
-        ensures more { at < result }
+        ensures { GoesOn
+            (Branch width condition flat.now.dst (sources.Register flat.now.src) flat.now.offset)
+            at self.old result self.new }
     {
         if holds(width, condition, self.word(flat.dst), self.word(flat.src)) {
             self.target(at, next, flat.offset)
@@ -222,8 +212,7 @@ impl WordState {
         requires slot { at < 2 ^ 32 }
         requires next { next ≡ at + 1 }
         requires can { CanRun (Load kind flat.now.dst flat.now.src flat.now.offset) (at_slot at self.old) }
-        ensures follows { Follows (Load kind flat.now.dst flat.now.src flat.now.offset) at self.old result self.new }
-        ensures more { at < result }
+        ensures { GoesOn (Load kind flat.now.dst flat.now.src flat.now.offset) at self.old result self.new }
     {
         let address = self.address(flat.src, flat.offset);
         let value = load_value(kind, self.bytes(address, usize::from(kind.bytes())));
@@ -240,9 +229,10 @@ impl WordState {
     ) -> usize
         requires slot { at < 2 ^ 32 }
         requires next { next ≡ at + 1 }
-        requires can { CanRun (StoreImmediate size flat.now.dst flat.now.offset (signed flat.now.immediate)) (at_slot at self.old) }
-        ensures follows { Follows (StoreImmediate size flat.now.dst flat.now.offset (signed flat.now.immediate)) at self.old result self.new }
-        ensures more { at < result }
+        requires can { CanRun (StoreImmediate size flat.now.dst flat.now.offset (signed flat.now.immediate))
+            (at_slot at self.old) }
+        ensures { GoesOn (StoreImmediate size flat.now.dst flat.now.offset (signed flat.now.immediate))
+            at self.old result self.new }
     {
         self.put_number(self.address(flat.dst, flat.offset), size, flat.immediate);
         next
@@ -259,8 +249,8 @@ impl WordState {
         requires slot { at < 2 ^ 32 }
         requires next { next ≡ at + 1 }
         requires can { CanRun (StoreRegister size flat.now.dst flat.now.src flat.now.offset) (at_slot at self.old) }
-        ensures follows { Follows (StoreRegister size flat.now.dst flat.now.src flat.now.offset) at self.old result self.new }
-        ensures more { at < result }
+        ensures { GoesOn (StoreRegister size flat.now.dst flat.now.src flat.now.offset)
+            at self.old result self.new }
     {
         let address = self.address(flat.dst, flat.offset);
         let number = self.word(flat.src);

@@ -14,8 +14,8 @@ use flat_code::FlatInstruction;
 use std::alloc::Allocator;
 
 impl WordState {
-    /// Runs on by the program's layout, up to the next call, long jump or end, which is left to be run. One of the states
-    /// that this one stands for never gets stuck, and of each that doesn't it stands for what is reached.
+    /// Runs on by the program's layout, up to the next call, long jump or end, which is left to be run. One of the
+    /// states that this one stands for never gets stuck, and of each that doesn't it stands for what is reached.
     pub fn run_plain<A: Allocator>(&mut self, code: &Code<A>, layout: &[FlatInstruction])
         requires layout { LaidOut code.now layout.now }
         requires can { CanRunOn code.now self.old }

@@ -1,6 +1,6 @@
 //! The words, and how they are read and written.
 
-ghost use Rattle.std.specs.Prelude.{◌≡◌, ◌^◌, ◌<◌, ◌≤◌, List, ℕ, length, take, Some};
+ghost use Rattle.std.specs.Prelude.{◌≡◌, ◌^◌, ◌+◌, ◌%◌, ◌<◌, ◌≤◌, List, ◌++◌, ℕ, length, take, drop, Some};
 ghost use Rattle.schema.specs.declared.limits.TheConstants.{MAX_ARGUMENTS};
 ghost use Rattle.byteorder.specs.Endian.{little_bytes};
 ghost use Rattle.bpf_code.specs.declared.instruction.Register.TheVariants.{R0};
@@ -11,6 +11,7 @@ ghost use Rattle.bpf_semantics.specs.State.{State, entry_state, past};
 ghost use Rattle.bpf_semantics.specs.Memory.{known_bytes, stack_with};
 ghost use Rattle.bpf_semantics.specs.Helpers.{buffer_of, with_answer, with_stack};
 ghost use Rattle.vm_state.specs.Words.{Holds, IsWordOf, word};
+ghost use Rattle.vm_state.specs.Memory.{args_of};
 ghost use Rattle.vm_state.specs.Access.{InStack, CanLoad, stack_from, bytes_from};
 ghost use Rattle.vm_state.specs.Access.{words_past, with_word, with_bytes, at_slot};
 
@@ -27,32 +28,33 @@ const STACK_END: u64 = 1 << 40;
 /// The address of the first argument.
 const ARGS_START: u64 = 1 << 41;
 
-/// How many bytes there is room for as arguments.
-const ARGUMENT_BYTES: usize = MAX_ARGUMENTS as usize;
+/// How many bytes the stack has, and the most arguments behind it.
+const MEMORY_BYTES: usize = 512 + MAX_ARGUMENTS as usize;
 
 /// A run's state in bare words.
 #[derive(Drop)]
 pub struct WordState {
     slot: usize,
     registers: [u64; 11],
-    stack: [u8; 512],
-    args: [u8; ARGUMENT_BYTES],
-    /// How many of `args` there are.
+    /// The stack, and behind it the arguments.
+    memory: [u8; MEMORY_BYTES],
+    /// How many bytes of arguments there are.
     args_len: usize,
 }
 
 impl Model for WordState {
-    ghost use Rattle.std.specs.Prelude.{◌≤◌, take};
+    ghost use Rattle.std.specs.Prelude.{◌≤◌};
     ghost use Rattle.schema.specs.declared.limits.TheConstants.{MAX_ARGUMENTS};
     ghost use Rattle.vm_state.specs.Words.{Words};
+    ghost use Rattle.vm_state.specs.Memory.{stack_of, args_of};
 
     ghost Value = { Words };
 
     ghost view = { λ m. record {
       slot = m.slot;
       registers = m.registers;
-      stack = m.stack;
-      args = take m.args_len m.args;
+      stack = stack_of m.memory;
+      args = args_of m.args_len m.memory;
     } };
 
     ghost invariant = { λ m. m.args_len ≤ MAX_ARGUMENTS };
@@ -67,8 +69,7 @@ impl WordState {
         WordState {
             slot: 0,
             registers: [0, ARGS_START, 0, 0, 0, 0, 0, 0, 0, 0, STACK_END],
-            stack: [0; 512],
-            args: block(args),
+            memory: memory_with(args),
             args_len: args.len(),
         }
     }
@@ -112,8 +113,7 @@ impl WordState {
         requires { InStack address count }
         ensures { result.now ≡ take count (stack_from self.now address) }
     {
-        let from = (address + STACK_BYTES - STACK_END) as usize;
-        &self.stack[from..from + count]
+        part(&self.memory, address, count)
     }
 
     /// The bytes of a buffer in the stack, from an address on.
@@ -127,31 +127,19 @@ impl WordState {
         self.stack_bytes(address, count)
     }
 
-    fn args(&self) -> &[u8]
-        ensures { result.now ≡ self.now.args }
-    {
-        &self.args[..self.args_len]
-    }
-
     /// The bytes of stack or arguments from an address on.
     pub(crate) fn bytes(&self, address: u64, count: usize) -> &[u8]
         requires { CanLoad self.now address count }
         ensures { result.now ≡ take count (bytes_from self.now address) }
     {
-        if address < STACK_END {
-            self.stack_bytes(address, count)
-        } else {
-            let from = (address - ARGS_START) as usize;
-            &self.args()[from..from + count]
-        }
+        part(&self.memory, address, count)
     }
 
     fn put(&mut self, address: u64, bytes: &[u8])
         requires { InStack address (length bytes.now) }
         ensures { self.new ≡ with_bytes self.old address bytes.now }
     {
-        let from = (address + STACK_BYTES - STACK_END) as usize;
-        self.stack[from..from + bytes.len()].copy_from_slice(bytes);
+        write(&mut self.memory, place(address), bytes);
     }
 
     /// Writes a buffer in the stack, from an address on.
@@ -186,12 +174,41 @@ impl WordState {
     }
 }
 
-/// These bytes, and zeros behind them.
-fn block(bytes: &[u8]) -> [u8; ARGUMENT_BYTES]
-    requires { length bytes.now ≤ MAX_ARGUMENTS }
-    ensures { take (length bytes.now) result ≡ bytes.now }
+/// Where the byte at an address lies in the memory. Stack and arguments meet there at 512, and their addresses at 2^40
+/// and 2^41, both of which are 0 modulo 2^32: so the low 32 bits tell it of either, and none has to be told from the
+/// other.
+#[inline(always)]
+fn place(address: u64) -> usize
+    ensures { result ≡ (address + 512) % 2 ^ 32 }
 {
-    let mut block = [0; ARGUMENT_BYTES];
-    block[..bytes.len()].copy_from_slice(bytes);
-    block
+    (address.wrapping_add(STACK_BYTES) % (1 << 32)) as usize
+}
+
+/// So many bytes of a memory, from an address on.
+#[inline(always)]
+fn part(memory: &[u8], address: u64, count: usize) -> &[u8]
+    requires { (address + 512) % 2 ^ 32 + count ≤ length memory.now }
+    ensures { result.now ≡ take count (drop ((address + 512) % 2 ^ 32) memory.now) }
+{
+    let from = place(address);
+    &memory[from..from + count]
+}
+
+/// Writes these bytes at an index.
+#[inline(always)]
+fn write(memory: &mut [u8], from: usize, bytes: &[u8])
+    requires { from + length bytes.now ≤ length memory.old }
+    ensures { memory.new ≡ take from memory.old ++ bytes.now ++ drop (from + length bytes.now) memory.old }
+{
+    memory[from..from + bytes.len()].copy_from_slice(bytes);
+}
+
+/// A stack of zeros with these arguments behind it.
+fn memory_with(args: &[u8]) -> [u8; MEMORY_BYTES]
+    requires { length args.now ≤ MAX_ARGUMENTS }
+    ensures { args_of (length args.now) result ≡ args.now }
+{
+    let mut memory = [0; MEMORY_BYTES];
+    write(&mut memory, 512, args);
+    memory
 }

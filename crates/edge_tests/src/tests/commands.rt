@@ -332,7 +332,7 @@ fn a_check_that_fails_answers_3(rt: HostRuntime) {
         assert!(rt; !faults.is_empty());
         false
     });
-    assert_eq!(rt; failed, Some(5));
+    assert_eq!(rt; failed, Some(6));
 }
 
 /// Words, and the number up to 256 that they are.

@@ -3,7 +3,7 @@
 use bpf_vm::Turn;
 use plain_rows::KeyMap;
 use plain_runner::CompletedRun;
-use plain_site::SiteRun;
+use plain_site::{CompletedCall, SiteRun};
 use plain_store::PlainStore;
 use row_sets::WriteSet;
 use schema::Look;
@@ -55,6 +55,18 @@ fn append_writes(line: &mut String, writes: &WriteSet<Global>) -> Result<(), All
         append_write(line, key.0, key.1, bytes)?;
     }
     Ok(())
+}
+
+/// The same of a call that the machine ran at once, which doesn't say in how many turns.
+pub(super) fn line_of_completed(
+    alloc: Global,
+    call: &CompletedCall,
+    turns: usize,
+) -> Result<String, AllocError> {
+    let looks = call.reads.looks();
+    let mut line = line_of(alloc, call.reply, turns, call.cancel_code, looks)?;
+    append_writes(&mut line, &call.writes)?;
+    Ok(line)
 }
 
 /// The same of a run of the plain runner.

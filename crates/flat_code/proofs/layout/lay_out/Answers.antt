@@ -1,10 +1,5 @@
-use Rattle.std.proofs.Common.{◌≡◌, ◌≢◌, ◌<◌, ◌≤◌, ◌+◌, ℕ, List, [], ◌∷◌, ◌++◌, length, slice_get, Option, Some, None, refl, inl, inr, sym, ◌∙◌, ap, subst, arith, rules}
+use Rattle.std.proofs.Common.{◌≡◌, ◌+◌, ℕ, [], ◌∷◌, ◌++◌, length, ◌∙◌, ap, arith, rules}
 use Rattle.std.proofs.lemmas.List.{length_push}
-use Rattle.std.specs.Option.{option_map}
-use Rattle.bpf_code.specs.declared.instruction.Instruction.{Instruction}
-use Rattle.bpf_code.specs.Program.{Program, instruction_at}
-use Rattle.flat_code.specs.declared.instruction.FlatInstruction.{FlatInstruction}
-use Rattle.flat_code.specs.Flat.{instruction_of, LaidOut}
 use Rattle.flat_code.proofs.Laying.{laid_further, slot_within}
 use Rattle.flat_code.proofs.layout.lay_out.Goals as goal
 

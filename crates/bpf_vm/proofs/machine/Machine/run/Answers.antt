@@ -1,7 +1,7 @@
 use Rattle.std.proofs.Common.{◌≡◌, ◌≢◌, ◌∙◌, sym, arith, refl}
 use Rattle.bpf_vm.specs.Run.{own_effects}
 use Rattle.bpf_vm.specs.declared.turn.Turn.TheVariants.{More}
-use Rattle.bpf_vm.proofs.Advancing.{IsFurther, on_first, no_further, on_further, both_further, can_run_on, plain_further, turn_further, still}
+use Rattle.bpf_vm.proofs.Advancing.{on_first, no_further, on_further, both_further, can_run_on, plain_further, turn_further, still}
 use Rattle.bpf_vm.proofs.machine.Machine.run.Goals as goal
 
 pub loop-init : goal.loop-init

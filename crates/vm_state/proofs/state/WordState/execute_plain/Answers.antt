@@ -20,4 +20,4 @@ returns c = λ tables s h.
     let held = held_here s c.args.self.now c.slot-at.result c.slot-at.ensures h in
     rw c.set_slot.ensures
     (subst (λ (i : Instruction). HoldsNext (execute tables i s) (at_slot c.in-Some.to c.execute_flat.new.self)) c.of-flat.ensures
-    (c.in-Some.ensures.follows tables s held))
+    (c.in-Some.ensures.goes_on.held tables s held))

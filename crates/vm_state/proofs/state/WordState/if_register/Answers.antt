@@ -1,23 +1,31 @@
-use Rattle.std.proofs.Common.{rules, ◌≡◌, ◌<◌, ◌^◌, true, false, ap, length, take, arith, FitsSigned}
-use Rattle.std.specs.Int.{w16, w64, cast_signed, cast_unsigned}
-use Rattle.std.proofs.lemmas.Int.{to_z-of_z, of_z-to_z}
+use Rattle.std.proofs.Common.{rules, ◌≡◌, true, false, FitsSigned}
+use Rattle.std.specs.Int.{w16}
+use Rattle.std.proofs.lemmas.Int.{to_z-of_z}
 use Rattle.bpf_words.specs.Condition.{holds}
 use Rattle.bpf_code.specs.declared.instruction.Source.TheVariants as source
-use Rattle.bpf_code.specs.Sizes.{width_bits, load_bytes}
+use Rattle.bpf_code.specs.Sizes.{width_bits}
 use Rattle.bpf_semantics.specs.Step.{after_jump}
 use Rattle.vm_state.specs.Words.{HoldsNext, word}
-use Rattle.vm_state.specs.Access.{at_slot, InStack, CanLoad, bytes_from, offset_address}
+use Rattle.vm_state.specs.Access.{at_slot}
 use Rattle.vm_state.proofs.Holding.{taken_holds, not_taken_holds}
 use Rattle.vm_state.proofs.state.WordState.if_register.Goals as goal
 
-pub returns-then-holds-clause-follows : goal.returns-then-holds-clause-follows
-returns-then-holds-clause-follows c = λ tables s h.
-    let fits : FitsSigned w16 c.args.flat.now.offset = search rules in
-    let e : holds (width_bits c.args.width) c.args.condition (word c.args.self.now c.args.flat.now.dst) (word c.args.self.now c.args.flat.now.src) ≡ true = search rules in
-    let next : HoldsNext (after_jump c.args.flat.now.offset s) (at_slot c.target.result c.args.self.now) = simp to_z-of_z at c.target.ensures.follows s h in
-    taken_holds tables s (at_slot c.args.at c.args.self.now) (at_slot c.target.result c.args.self.now) c.args.width c.args.condition c.args.flat.now.dst (source.Register c.args.flat.now.src) c.args.flat.now.offset h (e) next
+pub returns-then-holds : goal.returns-then-holds
+returns-then-holds c = record {
+  plain = tt;
+  further = search rules;
+  held = λ tables s h.
+      let fits : FitsSigned w16 c.args.flat.now.offset = search rules in
+      let e : holds (width_bits c.args.width) c.args.condition (word c.args.self.now c.args.flat.now.dst) (word c.args.self.now c.args.flat.now.src) ≡ true = search rules in
+      let next : HoldsNext (after_jump c.args.flat.now.offset s) (at_slot c.target.result c.args.self.now) = simp to_z-of_z at c.target.ensures.follows s h in
+      taken_holds tables s (at_slot c.args.at c.args.self.now) (at_slot c.target.result c.args.self.now) c.args.width c.args.condition c.args.flat.now.dst (source.Register c.args.flat.now.src) c.args.flat.now.offset h (e) next;
+}
 
-pub returns-else-holds-clause-follows : goal.returns-else-holds-clause-follows
-returns-else-holds-clause-follows c = λ tables s h.
-    let e : holds (width_bits c.args.width) c.args.condition (word c.args.self.now c.args.flat.now.dst) (word c.args.self.now c.args.flat.now.src) ≡ false = search rules in
-    rw c.requires.next (not_taken_holds tables s (at_slot c.args.at c.args.self.now) c.args.width c.args.condition c.args.flat.now.dst (source.Register c.args.flat.now.src) c.args.flat.now.offset h (e))
+pub returns-else-holds : goal.returns-else-holds
+returns-else-holds c = record {
+  plain = tt;
+  further = search rules;
+  held = λ tables s h.
+      let e : holds (width_bits c.args.width) c.args.condition (word c.args.self.now c.args.flat.now.dst) (word c.args.self.now c.args.flat.now.src) ≡ false = search rules in
+      rw c.requires.next (not_taken_holds tables s (at_slot c.args.at c.args.self.now) c.args.width c.args.condition c.args.flat.now.dst (source.Register c.args.flat.now.src) c.args.flat.now.offset h (e));
+}

@@ -5,7 +5,11 @@ use Rattle.vm_state.specs.Access.{at_slot}
 use Rattle.vm_state.proofs.Holding.{jump_is}
 use Rattle.vm_state.proofs.state.WordState.jump.Goals as goal
 
-pub returns-clause-follows : goal.returns-clause-follows
-returns-clause-follows c = λ tables s h.
-    let fits : FitsSigned w16 c.args.flat.now.offset = search rules in
-    jump_is tables s (at_slot c.target.result c.args.self.now) c.args.flat.now.offset (simp to_z-of_z at c.target.ensures.follows s h)
+pub returns : goal.returns
+returns c = record {
+  plain = tt;
+  further = search rules;
+  held = λ tables s h.
+      let fits : FitsSigned w16 c.args.flat.now.offset = search rules in
+      jump_is tables s (at_slot c.target.result c.args.self.now) c.args.flat.now.offset (simp to_z-of_z at c.target.ensures.follows s h);
+}

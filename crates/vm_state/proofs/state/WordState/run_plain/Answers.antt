@@ -1,6 +1,5 @@
-use Rattle.std.proofs.Common.{◌≡◌, ◌<◌, ◌≤◌, length, sym, ap, subst, ◌∙◌, arith, Some}
+use Rattle.std.proofs.Common.{◌≡◌, sym, ap, subst, ◌∙◌, arith}
 use Rattle.bpf_code.specs.Program.{instruction_at}
-use Rattle.flat_code.specs.Flat.{instruction_of}
 use Rattle.vm_state.specs.Words.{Words}
 use Rattle.vm_state.specs.Access.{at_slot}
 use Rattle.vm_state.specs.Plain.{IsStop, Reaches}
@@ -49,7 +48,7 @@ returns-in_default-clause-stops g c =
 pub loop-to-smaller : goal.loop-to-smaller
 loop-to-smaller g c =
     let i = inside c.args.code.now c.args.layout.now c.loop-to.at c.loop-to.self c.loop-to.invariant.laid c.loop-to.invariant.can in
-    omega (arith, i, c.in-Some.ensures.more)
+    omega (arith, i, c.in-Some.ensures.goes_on.further)
 
 pub loop-to-preserved : goal.loop-to-preserved
 loop-to-preserved g c =
@@ -61,8 +60,8 @@ loop-to-preserved g c =
     record {
       laid = c.loop-to.invariant.laid;
       short = c.loop-to.invariant.short;
-      can = can_further p c.loop-to.at to m n _ e c.in-Some.ensures.follows c.loop-to.invariant.can;
-      reaches = λ tables s h never. reaches_further p c.loop-to.at to m n _ e c.in-Some.ensures.follows c.in-Some.ensures.plain tables s never (c.loop-to.invariant.reaches tables s h never);
+      can = can_further p c.loop-to.at to m n _ e c.in-Some.ensures.goes_on.held c.loop-to.invariant.can;
+      reaches = λ tables s h never. reaches_further p c.loop-to.at to m n _ e c.in-Some.ensures.goes_on.held c.in-Some.ensures.goes_on.plain tables s never (c.loop-to.invariant.reaches tables s h never);
     }
 
 pub overflow_add-at : goal.overflow_add-at
