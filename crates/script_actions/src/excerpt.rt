@@ -31,9 +31,9 @@ impl ByteSink for Excerpt {
     fn append(&mut self, bytes: &[u8]) {
         let skipped = self.skip.min(bytes.len());
         self.skip -= skipped;
-        let rest = &bytes[skipped..];
-        let taken = rest.len().min(self.bytes.remaining_capacity());
-        let _ = self.bytes.try_extend_from_slice(&rest[..taken]);
+        let (_, rest) = bytes.split_at(skipped);
+        let (front, _) = rest.split_at(rest.len().min(self.bytes.remaining_capacity()));
+        let _ = self.bytes.try_extend_from_slice(front);
     }
 }
 

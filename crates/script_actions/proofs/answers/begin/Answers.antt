@@ -2,11 +2,13 @@ use Rattle.std.proofs.Common.{◌≡◌, Option, Some, None, refl, sym, ap, subs
 use Rattle.std.specs.Prelude.{option_map}
 use Rattle.std.proofs.lemmas.Result.{err_from_is_err_and}
 use Rattle.byte_output.specs.Pending.{Passes}
-use Rattle.dsm_model.specs.World.{Step, Begin, IsStep}
+use Rattle.dsm_model.specs.World.{Step, Begin, IsStep, numbered}
 use Rattle.dsm_world.specs.System.{setting_of, world_of, progress_of}
 use Rattle.dsm_world.proofs.Numbered.{numbered_map}
 use Rattle.replica.specs.Replica.{Replica as ReplicaState}
 use Rattle.report.specs.Answers.{text_of}
+use Rattle.report.specs.Lines.{line_text}
+use Rattle.report.specs.declared.printed.Line.TheVariants as line
 use Rattle.report.specs.declared.printed.DeliveredEntry.TheVariants as delivered
 use Rattle.script_actions.specs.Actions.{begin_action, number_of_name}
 use Rattle.script_actions.specs.Printed.{step_text}
@@ -20,13 +22,21 @@ returns-in_default-clause-done g c =
     let w-of = setting_of c.args.world.now in
     let before = world_of c.args.world.now in
     let at = numbered_map progress_of c.args.world.now.replicas c.args.replica in
+    let said = ap text_of (c.begin_line.ensures 0 c.args.args.now c.args.request (delivered.Call None)) in
     elim c.match-replica.branch [
       | goal.in-None w ↦ (
-          let none = at ∙ ap (λ (o : Option ReplicaState). option_map progress_of o) (sym w.ensures) in
+          let none = at ∙ ap (λ (o : Option ReplicaState). option_map progress_of o) (sym c.replica.ensures ∙ ap (λ o. option_map (λ r. r.now) o) w.in-None.is) in
           gives_done g.W.Write.contents w-of before (begin_action c.args.replica c.args.name.now c.args.args.now c.args.request) c.args.output.now c.put_answer.new.output c.put_answer.result before _
           (begins_nowhere w-of before c.args.replica c.args.name.now c.args.args.now c.args.request none)
-          (subst (Gives g.W.Write.contents c.args.output.now c.put_answer.new.output c.put_answer.result) ? c.put_answer.ensures.given))
-      | goal.in-Some-replica w ↦ ?
+          (subst (Gives g.W.Write.contents c.args.output.now c.put_answer.new.output c.put_answer.result) (said ∙ ap (λ r. line_text (line.BeginRefused r)) w.refusal-is) c.put_answer.ensures.given))
+      | goal.in-Some-replica w ↦ (
+          let k = w.in-Some-replica.field-0.now in
+          let stands : numbered c.args.world.now.replicas c.args.replica ≡ Some k = sym c.replica.ensures ∙ ap (λ o. option_map (λ r. r.now) o) w.in-Some-replica.is in
+          let there : numbered before.replicas c.args.replica ≡ Some (progress_of k) = at ∙ ap (λ (o : Option ReplicaState). option_map progress_of o) stands in
+          let named = not_named w-of before c.args.replica c.args.name.now c.by_name.result k there c.in_default.is (c.by_name.ensures.there k stands) in
+          gives_done g.W.Write.contents w-of before (begin_action c.args.replica c.args.name.now c.args.args.now c.args.request) c.args.output.now c.put_answer.new.output c.put_answer.result before _
+          (begins_unnamed w-of before c.args.replica c.args.name.now c.args.args.now c.args.request (progress_of k) named there)
+          (subst (Gives g.W.Write.contents c.args.output.now c.put_answer.new.output c.put_answer.result) (said ∙ ap (λ r. line_text (line.BeginRefused r)) w.refusal-is) c.put_answer.ensures.given))
     ]
 
 pub returns-in_err-step-clause-done : goal.returns-in_err-step-clause-done
