@@ -51,9 +51,9 @@ seen_more from text piece old skip skipped taken at is skips takes =
     let dropped : drop skipped piece ≡ drop (from - length text) piece = ap (λ n. drop n piece) skips ∙ drop_least skip piece ∙ ap (λ n. drop n piece) at in
     let rest : List ℕ = drop (from - length text) piece in
     let front : take taken (drop skipped piece) ≡ take (EXCERPT_BYTES - length (take EXCERPT_BYTES (drop from text))) rest =
-      ap (λ n. take n (drop skipped piece)) takes ∙ take_least (EXCERPT_BYTES - length old) (drop skipped piece)
-      ∙ ap (λ (xs : List ℕ). take (EXCERPT_BYTES - length xs) (drop skipped piece)) is
-      ∙ ap (λ (xs : List ℕ). take (EXCERPT_BYTES - length (take EXCERPT_BYTES (drop from text))) xs) dropped in
+    ap (λ n. take n (drop skipped piece)) takes ∙ take_least (EXCERPT_BYTES - length old) (drop skipped piece)
+    ∙ ap (λ (xs : List ℕ). take (EXCERPT_BYTES - length xs) (drop skipped piece)) is
+    ∙ ap (λ (xs : List ℕ). take (EXCERPT_BYTES - length (take EXCERPT_BYTES (drop from text))) xs) dropped in
     ap (λ (xs : List ℕ). xs ++ take taken (drop skipped piece)) is
     ∙ ap (λ (xs : List ℕ). take EXCERPT_BYTES (drop from text) ++ xs) front
     ∙ sym (take_more EXCERPT_BYTES (drop from text) rest)

@@ -25,7 +25,9 @@ impl ByteSink for Excerpt {
     ghost use Rattle.script_actions.specs.Excerpt.{HasSeen, nothing_seen, seen_together};
 
     ghost appends = { HasSeen };
+
     ghost nothing = { nothing_seen };
+
     ghost together = { seen_together };
 
     fn append(&mut self, bytes: &[u8]) {
@@ -38,7 +40,10 @@ impl ByteSink for Excerpt {
 }
 
 /// The bytes of an entry from a place on: all of them, or as many as an excerpt has.
-pub(crate) fn excerpt_of<A: Allocator + Copy>(entry: &Entry<A>, from: usize) -> ArrayVec<u8, EXCERPT_BYTES>
+pub(crate) fn excerpt_of<A: Allocator + Copy>(
+    entry: &Entry<A>,
+    from: usize,
+) -> ArrayVec<u8, EXCERPT_BYTES>
     ensures { result.items ≡ take EXCERPT_BYTES (drop from (entry_bytes (entry_of entry.now))) }
 {
     let mut excerpt = Excerpt {

@@ -13,10 +13,7 @@ use std::io;
 use std::io::Write;
 
 /// Gives a line to the output.
-pub(crate) fn put_line<W: Write>(
-    output: &mut PagedOutput<'_, W>,
-    said: &Line,
-) -> io::Result<()>
+pub(crate) fn put_line<W: Write>(output: &mut PagedOutput<'_, W>, said: &Line) -> io::Result<()>
     ensures same_output { (output_of output.new).ghost_name ≡ (output_of output.old).ghost_name }
     ensures given { Gives W.contents output.old output.new result (line_text said.now) }
 {
@@ -38,7 +35,10 @@ pub(crate) fn put_answer<W: Write>(
 }
 
 /// Gives what stands in front of an entry's bytes to the output.
-pub(crate) fn put_bytes_label<W: Write>(output: &mut PagedOutput<'_, W>, position: u32) -> io::Result<()>
+pub(crate) fn put_bytes_label<W: Write>(
+    output: &mut PagedOutput<'_, W>,
+    position: u32,
+) -> io::Result<()>
     ensures same_output { (output_of output.new).ghost_name ≡ (output_of output.old).ghost_name }
     ensures given { Gives W.contents output.old output.new result (bytes_label position) }
 {

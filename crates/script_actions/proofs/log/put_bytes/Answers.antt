@@ -32,7 +32,7 @@ returns-then-len-lt-EXCERPT_BYTES-clause-given g c =
     let xs = entry_bytes (entry_of c.args.entry.now) in
     let is = c.deref.ensures.0 ∙ c.excerpt_of-excerpt.ensures in
     let short : length c.deref.result.now < EXCERPT_BYTES =
-      (let len = c.len.ensures.value in let same = ap (λ (ys : List ℕ). length ys) c.deref.ensures.0 in let test = c.if-len-lt-EXCERPT_BYTES.true in omega arith) in
+    (let len = c.len.ensures.value in let same = ap (λ (ys : List ℕ). length ys) c.deref.ensures.0 in let test = c.if-len-lt-EXCERPT_BYTES.true in omega arith) in
     digits_whole g.W.Write.contents c.args.output.now c.loop-excerpt.output c.put_digits.new.output c.loop-excerpt.from xs _ is short c.loop-excerpt.invariant.given c.in_ok-put_digits.ensures.given
 
 pub returns-in_default-clause-given : goal.returns-in_default-clause-given
@@ -48,7 +48,7 @@ loop-excerpt-preserved g c =
     let is = c.deref.ensures.0 ∙ c.excerpt_of-excerpt.ensures in
     let next = c.in-Some.ensures.1 in
     let full : EXCERPT_BYTES ≤ length (take EXCERPT_BYTES (drop c.loop-excerpt.from xs)) =
-      (let len = c.len.ensures.value in let same = ap (λ (ys : List ℕ). length ys) c.excerpt_of-excerpt.ensures in let test = c.if-len-lt-EXCERPT_BYTES.false in omega arith) in
+    (let len = c.len.ensures.value in let same = ap (λ (ys : List ℕ). length ys) c.excerpt_of-excerpt.ensures in let test = c.if-len-lt-EXCERPT_BYTES.false in omega arith) in
     record {
       within = (let left = length-drop c.loop-excerpt.from xs in let taken = length-take EXCERPT_BYTES (drop c.loop-excerpt.from xs) in omega arith);
       same = c.put_digits.ensures.same_output ∙ c.loop-excerpt.invariant.same;
