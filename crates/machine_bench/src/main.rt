@@ -19,6 +19,8 @@ enum Kind {
     Arithmetic,
     /// Stores and loads in turn, on the stack.
     Memory,
+    /// Ten instructions over seven registers, with a load, a store and a branch that is never taken.
+    Mixed,
     /// Calls that get a row, each with the five instructions that make its arguments.
     Calls,
 }
@@ -28,12 +30,13 @@ impl Kind {
         match word {
             "arithmetic" => Some(Kind::Arithmetic),
             "memory" => Some(Kind::Memory),
+            "mixed" => Some(Kind::Mixed),
             "calls" => Some(Kind::Calls),
             _ => None,
         }
     }
 
-    /// What is repeated: r6 and r7 are numbers.
+    /// What is repeated: r1 to r3 and r6 to r9 are numbers.
     fn body(self) -> &'static [[u8; 8]] {
         match self {
             Kind::Arithmetic => &[
@@ -45,6 +48,18 @@ impl Kind {
             Kind::Memory => &[
                 [0x7b, 0x6a, 0xf8, 0xff, 0, 0, 0, 0],
                 [0x79, 0xa7, 0xf8, 0xff, 0, 0, 0, 0],
+            ],
+            Kind::Mixed => &[
+                [0x0f, 0x76, 0, 0, 0, 0, 0, 0],
+                [0xa7, 0x08, 0, 0, 5, 0, 0, 0],
+                [0x7b, 0x6a, 0xf0, 0xff, 0, 0, 0, 0],
+                [0x07, 0x09, 0, 0, 1, 0, 0, 0],
+                [0x79, 0xa3, 0xf0, 0xff, 0, 0, 0, 0],
+                [0x15, 0x09, 0, 0, 0, 0, 0, 0],
+                [0xbf, 0x81, 0, 0, 0, 0, 0, 0],
+                [0x67, 0x02, 0, 0, 1, 0, 0, 0],
+                [0x4f, 0x21, 0, 0, 0, 0, 0, 0],
+                [0x77, 0x02, 0, 0, 1, 0, 0, 0],
             ],
             Kind::Calls => &[
                 [0xb7, 0x01, 0, 0, 1, 0, 0, 0],
@@ -60,12 +75,10 @@ impl Kind {
 /// A procedure of 4,000 instructions and a few.
 fn procedure(alloc: Global, kind: Kind) -> Option<Accepted> {
     let mut program = Vec::new(alloc);
-    program
-        .extend_from_slice(&[0xb7, 0x06, 0, 0, 7, 0, 0, 0])
-        .ok()?;
-    program
-        .extend_from_slice(&[0xb7, 0x07, 0, 0, 9, 0, 0, 0])
-        .ok()?;
+    for (register, number) in [(6, 7), (7, 9), (8, 3), (9, 5), (1, 1), (2, 2), (3, 3)] {
+        let start = [0xb7, register, 0, 0, number, 0, 0, 0];
+        program.extend_from_slice(&start).ok()?;
+    }
     let body = kind.body();
     for _ in 0..4_000 / body.len().max(1) {
         for slot in body {
@@ -113,7 +126,7 @@ fn turns(alloc: Global, kind: Kind, calls: u32, by_turns: bool) -> Option<u64> {
 fn run(rt: &HostRuntime) -> anyhow::Result<()> {
     let words: Vec<String> = env::args(rt)?.collect(rt.alloc())?;
     let kind = words.get(1).and_then(|word| Kind::from_word(word));
-    let kind = kind.context("the first word is arithmetic, memory or calls")?;
+    let kind = kind.context("the first word is arithmetic, memory, mixed or calls")?;
     let calls = words.get(2).and_then(|word| word.parse().ok());
     let calls = calls.context("the second word is how many calls are made")?;
     let by_turns = words.get(3).is_some_and(|word| word.as_str() == "turns");

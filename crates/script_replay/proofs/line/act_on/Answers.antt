@@ -6,6 +6,6 @@ pub returns-in-Ok-clause-done : goal.returns-in-Ok-clause-done
 returns-in-Ok-clause-done g c =
     acted g.W.Write.contents c.args.number (setting_of c.args.world) (setting_of c.act.new.world) (world_of c.args.world) (world_of c.act.new.world) c.args.action.now c.args.output.now c.act.new.output c.act.ensures.setting c.in-Ok.ensures.done
 
-pub returns-clause-done : goal.returns-clause-done
-returns-clause-done g c = λ more.
+pub returns-in-Err-clause-done : goal.returns-in-Err-clause-done
+returns-in-Err-clause-done g c = λ more.
     broke g.W.Write.contents c.args.number (setting_of c.args.world) (world_of c.args.world) (world_of c.act.new.world) c.args.action.now c.args.output.now c.act.new.output c.in-Err.ensures.done more
