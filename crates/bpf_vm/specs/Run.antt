@@ -1,5 +1,5 @@
 -- Turns along a run of the definition.
-use Rattle.std.specs.Prelude.{◌≡◌, ℕ, ◌+◌, Bool, List, [], Option, Some, None}
+use Rattle.std.specs.Prelude.{◌≡◌, ℕ, ◌+◌, ◌<◌, ◌≤◌, Bool, List, [], Option, Some, None}
 use Rattle.std.specs.FinMap.{empty}
 use Rattle.bpf_code.specs.Program.{instruction_at, IsProgram}
 use Rattle.schema.specs.Schema.{AreTables}
@@ -8,6 +8,7 @@ use Rattle.schema.specs.Rows.{Rows, Writes}
 use Rattle.bpf_semantics.specs.State.{State, entry_state}
 use Rattle.bpf_semantics.specs.Step.{Going, step}
 use Rattle.bpf_semantics.specs.Run.{Run, moment, run, unless_cancelled}
+use Rattle.bpf_semantics.specs.Path.{longest_path}
 use Rattle.bpf_verify.specs.Flow.{Procedure, IsAccepted}
 use Rattle.acceptance.specs.Description.{Suits}
 use Rattle.vm_state.specs.Words.{Words, Holds}
@@ -77,6 +78,15 @@ AfterTurn p args rows gone k (Exit reply) m effects = HasEnded p args rows (k + 
 AfterTurn p args rows gone k Stale m effects = (h : IsAfter p args rows k m.words effects) × IsStaleAt p gone h.state
 AfterTurn p args rows gone k NoMemory m effects =
     (h : IsAfter p args rows k m.words effects) × MayWantMemory (instruction_at p.program h.state.slot) × IsNotStale p args rows gone k
+
+-- none of so many instructions from there on is one that looks at a store that is gone
+abbrev pub NoneIsStale : Procedure → List ℕ → Rows → Bool → ℕ → ℕ → Type 0
+NoneIsStale p args rows gone k count = (j : ℕ) → k ≤ j → j < k + count → IsNotStale p args rows gone j
+
+-- what so many turns that answer that there is more, and then one that answers this, leave
+abbrev pub AfterRun : Procedure → List ℕ → Rows → Bool → ℕ → ℕ → Turn → MachineState → Effects → Type 0
+AfterRun p args rows gone k before turn m effects =
+    (k + before < longest_path p.program) × NoneIsStale p args rows gone k before × AfterTurn p args rows gone (k + before) turn m effects
 
 -- the machine is somewhere on a run over rows that the store answers from, or at its end
 abbrev pub IsOnRun : Procedure → (Rows → Type 0) → MachineState → Effects → Type 0

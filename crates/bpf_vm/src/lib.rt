@@ -3,7 +3,7 @@
 
 pub use laws::{open_calls_can_turn, runs_go_on_or_end};
 pub use machine::{ArgsLength, Machine};
-pub use turn::Turn;
+pub use turn::{RunEnd, Turn};
 
 mod laws;
 mod machine;

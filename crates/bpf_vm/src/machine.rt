@@ -1,6 +1,6 @@
 //! The machine, its turns and its run.
 
-ghost use Rattle.std.specs.Prelude.{◌≡◌, ◌≢◌, ◌↔◌, ◌<◌, ◌≤◌, ℕ, List, length, IfOk, IsErr};
+ghost use Rattle.std.specs.Prelude.{◌≡◌, ◌≢◌, ◌↔◌, ◌+◌, ◌<◌, ◌≤◌, ℕ, Bool, List, length, IfOk, IsErr};
 ghost use Rattle.bpf_code.specs.Program.{instruction_at};
 ghost use Rattle.schema.specs.Rows.{Rows};
 ghost use Rattle.bpf_semantics.specs.State.{State};
@@ -11,11 +11,12 @@ ghost use Rattle.vm_state.specs.Plain.{CanRunOn};
 ghost use Rattle.txn_view.specs.View.{IsViewOf};
 ghost use Rattle.bpf_vm.specs.declared.turn.Turn.TheVariants.{More};
 ghost use Rattle.bpf_vm.specs.Turns.{CanStep, CanTurn, FollowsStep, DoesNothing};
-ghost use Rattle.bpf_vm.specs.Run.{Effects, HasRun, AfterTurn, IsOnRun, no_effects, own_effects};
+ghost use Rattle.bpf_vm.specs.Run.{Effects, HasRun, AfterTurn, NoneIsStale, AfterRun, IsOnRun, no_effects};
+ghost use Rattle.bpf_vm.specs.Run.{own_effects};
 
 use crate::laws::{open_calls_can_turn, runs_go_on_or_end};
 use crate::step::step;
-use crate::turn::Turn;
+use crate::turn::{RunEnd, Turn};
 use acceptance::accepted_programs_never_go_wrong;
 use bpf_code::Instruction;
 use bpf_semantics::states_fit;
@@ -35,8 +36,8 @@ pub struct ArgsLength;
 /// let mut machine = Machine::start(&accepted, &args)?;
 /// match machine.run(&accepted, &mut view) {
 ///     Turn::Exit(reply) => { /* the call is at its end: its looks and writes are the view's */ }
-///     Turn::Stale | Turn::NoMemory => { /* the call is over, and had no effect */ }
-///     Turn::More => { /* it can go on */ }
+///     // A run answers no `More`, which is for turns.
+///     Turn::Stale | Turn::NoMemory | Turn::More => { /* the call is over, and had no effect */ }
 /// }
 /// ```
 #[derive(Drop)]
@@ -147,8 +148,8 @@ impl Machine {
         self.last
     }
 
-    /// Turns until one doesn't answer that there is more, as many as the procedure's bound at most; those of plain
-    /// instructions are taken at once. Where the last turn didn't answer that there is more, nothing is done.
+    /// Turns until one doesn't answer that there is more: as many as the procedure's bound at most. Where
+    /// the last turn didn't, nothing is done.
     pub fn run<A: Allocator, B: Allocator, S: Store, C: Allocator + Copy>(
         &mut self,
         procedure: &Accepted<A, B>,
@@ -166,31 +167,73 @@ impl Machine {
             × AfterTurn procedure.now args rows (S.is_gone view.old.store) n result self.new
             (own_effects view.new.own) }
     {
-        runs_go_on_or_end();
-        accepted_programs_never_go_wrong();
-        for _ in 0..procedure.bound() {
-            self.run_plain(procedure);
-            open_calls_can_turn(view);
-            match self.turn(procedure, view) {
-                Turn::More => {}
-                over => return over,
-            }
-        }
-        self.last()
+        self.run_counted(procedure, view).last
     }
 
-    /// The instructions up to the next call, long jump or end, by the procedure's layout. Where the last turn didn't
-    /// answer that there is more, nothing is done.
-    fn run_plain<A: Allocator, B: Allocator>(&mut self, procedure: &Accepted<A, B>)
-        requires { self.old.last ≡ More → CanRunOn procedure.now.program self.old.words }
-        ensures idle { self.old.last ≢ More → self.new ≡ self.old }
-        ensures run { (args : List ℕ) (rows : Rows) (k : ℕ) (effects : Effects) → Suits procedure.now args rows
+    /// As `run`, and how many turns answered that there is more. Those of plain instructions are taken at once.
+    pub fn run_counted<A: Allocator, B: Allocator, S: Store, C: Allocator + Copy>(
+        &mut self,
+        procedure: &Accepted<A, B>,
+        view: &mut View<S, C>,
+    ) -> RunEnd
+        requires { IsOnRun procedure.now (S.answers_from view.old.store) self.old (own_effects view.old.own) }
+        ensures ends { result.last ≢ More }
+        ensures idle { self.old.last ≢ More
+            → (self.new ≡ self.old) × (view.new.own ≡ view.old.own) × (result.before ≡ 0) }
+        ensures last { self.new.last ≡ result.last }
+        ensures store { view.new.store ≡ view.old.store }
+        ensures run { (args : List ℕ) (rows : Rows) (k : ℕ) → Suits procedure.now args rows
+            → S.answers_from view.old.store rows
+            → HasRun procedure.now args rows k self.old (own_effects view.old.own)
+            → AfterRun procedure.now args rows (S.is_gone view.old.store) k result.before result.last self.new
+            (own_effects view.new.own) }
+    {
+        match self.last() {
+            Turn::More => self.run_on(procedure, view),
+            last => RunEnd { before: 0, last },
+        }
+    }
+
+    /// Turns until one doesn't answer that there is more.
+    fn run_on<A: Allocator, B: Allocator, S: Store, C: Allocator + Copy>(
+        &mut self,
+        procedure: &Accepted<A, B>,
+        view: &mut View<S, C>,
+    ) -> RunEnd
+        requires more { self.old.last ≡ More }
+        requires on { IsOnRun procedure.now (S.answers_from view.old.store) self.old (own_effects view.old.own) }
+        ensures ends { result.last ≢ More }
+        ensures last { self.new.last ≡ result.last }
+        ensures store { view.new.store ≡ view.old.store }
+        ensures run { (args : List ℕ) (rows : Rows) (k : ℕ) → Suits procedure.now args rows
+            → S.answers_from view.old.store rows
+            → HasRun procedure.now args rows k self.old (own_effects view.old.own)
+            → AfterRun procedure.now args rows (S.is_gone view.old.store) k result.before result.last self.new
+            (own_effects view.new.own) }
+    {
+        runs_go_on_or_end();
+        accepted_programs_never_go_wrong();
+        let mut before = 0;
+        for _ in 0..procedure.bound() {
+            before += self.run_plain(procedure);
+            open_calls_can_turn(view);
+            match self.turn(procedure, view) {
+                Turn::More => before += 1,
+                last => return RunEnd { before, last },
+            }
+        }
+        unreachable!()
+    }
+
+    /// The instructions up to the next call, long jump or end, by the procedure's layout, and how many they are.
+    fn run_plain<A: Allocator, B: Allocator>(&mut self, procedure: &Accepted<A, B>) -> u32
+        requires { CanRunOn procedure.now.program self.old.words }
+        ensures { (args : List ℕ) (rows : Rows) (k : ℕ) (effects : Effects) → Suits procedure.now args rows
             → HasRun procedure.now args rows k self.old effects
-            → (n : ℕ) × (k ≤ n) × HasRun procedure.now args rows n self.new effects }
+            → HasRun procedure.now args rows (k + result) self.new effects
+            × ((gone : Bool) → NoneIsStale procedure.now args rows gone k result) }
     {
         accepted_programs_never_go_wrong();
-        if let Turn::More = self.last {
-            self.words.run_plain(procedure.code(), procedure.layout());
-        }
+        self.words.run_plain(procedure.code(), procedure.layout())
     }
 }

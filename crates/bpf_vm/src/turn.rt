@@ -12,3 +12,12 @@ pub enum Turn {
     /// There was no memory for what a call does. Nothing was done.
     NoMemory,
 }
+
+/// What a run came to.
+#[derive(Clone, Copy, Debug, PartialEq, Eq)]
+pub struct RunEnd {
+    /// How many turns answered that there is more.
+    pub before: u32,
+    /// What the turn after them answered.
+    pub last: Turn,
+}

@@ -5,6 +5,7 @@ use Rattle.schema.specs.Rows.{Rows, AreWrites}
 use Rattle.row_model.specs.InstalledWrites.{map_after}
 use Rattle.replica.specs.Replica.{Replica, StandsFor, IsForTables, IsNamed, entries_of, rows_kept, writes_in}
 use Rattle.bpf_vm.specs.declared.turn.Turn.{Turn as TurnAnswer}
+use Rattle.bpf_vm.specs.declared.turn.Turn.TheVariants as answer
 use Rattle.dsm_model.specs.declared.outcome.StepRefusal.TheVariants.{NoReplica, NoProcedure, ArgumentsLength, NoCall, NotAtExit, NothingToDeliver, ReplicaStopped, LogFull, TooManyCalls, ArgumentsLimit, ProgramRefused, NameShape, ZeroInRequest}
 use Rattle.dsm_model.specs.declared.outcome.StepRefusal.TheVariants as step_refusal
 use Rattle.dsm_model.specs.declared.outcome.Outcome.{Outcome}
@@ -26,13 +27,14 @@ use Rattle.call_model.specs.Request.{has_zero, or_none}
 use Rattle.dsm_model.specs.Sound.{IsWorld}
 use Rattle.bpf_verify.specs.Flow.{Procedure}
 use Rattle.catalogue.specs.Catalogue.{accepted_of}
-use Rattle.world_calls.specs.OpenCall.{call_of, open_call_of, Follows, CanGoOn, IsTurn, stays_open, IsReplyOf}
+use Rattle.world_calls.specs.OpenCall.{call_of, open_call_of, Follows, CanGoOn, IsTurn, AreTurns, stays_open, IsReplyOf}
 use Rattle.world_calls.specs.declared.open_call.OpenCall.{OpenCall as OpenCallState}
 use Rattle.dsm_world.specs.System.{SystemWorld, setting_of, progress_of, world_of}
+use Rattle.dsm_world.specs.Execution.{IsExecution}
 use Rattle.dsm_world.specs.Turned.{outcome_of, IsAppended}
 use Rattle.dsm_world.specs.Holdings.{IsReplicaOf, IsTogether, open_calls_of}
 use Rattle.dsm_world.proofs.Numbered.{get_map, set_map, set_same, set_twice, get_set, get_snoc, numbered_map, numbered_at, with_numbered_at}
-use Rattle.dsm_world.proofs.StepLemmas.{is_gone, turn_on, order_early, order_cancelled, order_read, order_full, order_new, order_without_memory, begin_new}
+use Rattle.dsm_world.proofs.StepLemmas.{is_gone, execution_on, order_early, order_cancelled, order_read, order_full, order_new, order_without_memory, begin_new}
 use Rattle.replica.proofs.EntryLemmas.{OneMore, take_first, take_drop, take_count, items_append, items_count, all_snoc, entries_taken, entries_snoc}
 use Rattle.dsm_world.proofs.EntryLemmas.{follows_grown}
 use Rattle.dsm_world.proofs.ReplicaLemmas.{ProceduresFollow, log_count, get_is, same_item, known, found_at, in_procedures}
@@ -150,14 +152,14 @@ rows_held s slots r position law h is reached within =
 
 -- ---- Turn
 
-pub turned : {A : Type 0} (s : SystemWorld) (slots : List (Option (OpenCallState A))) (n k : ℕ) (c new : OpenCallState A) (turn : TurnAnswer) (left : Option (OpenCallState A)) → IsTogether s slots → n ≡ k + 1 → (f : OpenFacts s n c)
-    → IsTurn (setting_of s) (items_of s.entries) (nat_lt f.r.window (f.r.position - c.snapshot)) (open_call_of c) turn (open_call_of new) → option_map open_call_of left ≡ cond (stays_open turn) (Some (open_call_of new)) None
-    → IsStep (setting_of s) (world_of s) (Turn n) (outcome_of turn) (world_of (with_slots s (slice_set slots k left)))
-turned s slots n k c new turn left h place f is leaves =
-    subst (λ (x : World). IsStep (setting_of s) (world_of s) (Turn n) (outcome_of turn) x)
+pub turned : {A : Type 0} (s : SystemWorld) (slots : List (Option (OpenCallState A))) (n k : ℕ) (c new : OpenCallState A) (before : ℕ) (turn : TurnAnswer) (left : Option (OpenCallState A)) → IsTogether s slots → n ≡ k + 1 → (f : OpenFacts s n c)
+    → AreTurns (setting_of s) (items_of s.entries) (nat_lt f.r.window (f.r.position - c.snapshot)) before (open_call_of c) turn (open_call_of new) → option_map open_call_of left ≡ cond (stays_open turn) (Some (open_call_of new)) None
+    → IsExecution (setting_of s) (world_of s) n before (outcome_of turn) (world_of (with_slots s (slice_set slots k left)))
+turned s slots n k c new before turn left h place f is leaves =
+    subst (λ (x : World). IsExecution (setting_of s) (world_of s) n before (outcome_of turn) x)
     (ap (with_open_call (world_of s) n) (sym leaves) ∙ slot_set s slots n k left h.calls place)
-    (turn_on (setting_of s) (world_of s) n (open_call_of c) (open_call_of new) turn f.is_open
-    (subst (λ (gone : Bool). IsTurn (setting_of s) (items_of s.entries) gone (open_call_of c) turn (open_call_of new)) (sym f.gone) is))
+    (execution_on (setting_of s) (world_of s) n (open_call_of c) (open_call_of new) before turn f.is_open
+    (subst (λ (gone : Bool). AreTurns (setting_of s) (items_of s.entries) gone before (open_call_of c) turn (open_call_of new)) (sym f.gone) is))
 
 -- ---- Order
 
@@ -427,14 +429,27 @@ can_turn s slots n c f accepted answers_from r snapshot d b law follow h same at
     (subst (λ (m : ℕ). (base : Catalogue) (entries : List Entry) → StandsFor base f.r entries → answers_from (rows_kept f.r.window base entries m)) at
     (subst (λ (x : Replica). (base : Catalogue) (entries : List Entry) → StandsFor base x entries → answers_from (rows_kept x.window base entries snapshot)) same answers)))
 
-pub turn_steps : {A : Type 0} (s : SystemWorld) (slots : List (Option (OpenCallState A))) (n k : ℕ) (c new : OpenCallState A) (f : OpenFacts s n c) (turn : TurnAnswer) (left : Option (OpenCallState A)) (gone : Bool) (r : Replica) (snapshot : ℕ) (d : OpenCallState A) → IsTogether s slots → n ≡ k + 1
-    → r ≡ f.r → snapshot ≡ c.snapshot → d ≡ c → gone ≡ nat_lt r.window (r.position - snapshot) → IsTurn (setting_of s) (items_of s.entries) gone (open_call_of d) turn (open_call_of new) → option_map open_call_of left ≡ cond (stays_open turn) (Some (open_call_of new)) None
-    → IsStep (setting_of s) (world_of s) (Turn n) (outcome_of turn) (world_of (with_slots s (slice_set slots k left)))
-turn_steps s slots n k c new f turn left gone r snapshot d h place same at is e t leaves =
+pub turn_steps : {A : Type 0} (s : SystemWorld) (slots : List (Option (OpenCallState A))) (n k : ℕ) (c new : OpenCallState A) (f : OpenFacts s n c) (before : ℕ) (turn : TurnAnswer) (left : Option (OpenCallState A)) (gone : Bool) (r : Replica) (snapshot : ℕ) (d : OpenCallState A) → IsTogether s slots → n ≡ k + 1
+    → r ≡ f.r → snapshot ≡ c.snapshot → d ≡ c → gone ≡ nat_lt r.window (r.position - snapshot) → AreTurns (setting_of s) (items_of s.entries) gone before (open_call_of d) turn (open_call_of new) → option_map open_call_of left ≡ cond (stays_open turn) (Some (open_call_of new)) None
+    → IsExecution (setting_of s) (world_of s) n before (outcome_of turn) (world_of (with_slots s (slice_set slots k left)))
+turn_steps s slots n k c new f before turn left gone r snapshot d h place same at is e t leaves =
     let now : gone ≡ nat_lt f.r.window (f.r.position - c.snapshot) = e ∙ ap (λ (x : Replica). nat_lt x.window (x.position - snapshot)) same ∙ ap (λ m. nat_lt f.r.window (f.r.position - m)) at in
-    turned s slots n k c new turn left h place f
-    (subst (λ (b : Bool). IsTurn (setting_of s) (items_of s.entries) b (open_call_of c) turn (open_call_of new)) now
-    (subst (λ (x : OpenCallState _). IsTurn (setting_of s) (items_of s.entries) gone (open_call_of x) turn (open_call_of new)) is t)) leaves
+    turned s slots n k c new before turn left h place f
+    (subst (λ (b : Bool). AreTurns (setting_of s) (items_of s.entries) b before (open_call_of c) turn (open_call_of new)) now
+    (subst (λ (x : OpenCallState _). AreTurns (setting_of s) (items_of s.entries) gone before (open_call_of x) turn (open_call_of new)) is t)) leaves
+
+-- one turn is as many
+pub one_turn : (w : Setting) (log : Log) (gone : Bool) (o : OpenCall) (turn : TurnAnswer) (n : OpenCall) → IsTurn w log gone o turn n → AreTurns w log gone 0 o turn n
+one_turn w log gone o turn n h =
+    let none : o.turns ≡ o.turns + 0 = omega arith in
+    (λ j lt. absurd (omega (arith, lt)), subst (λ (m : ℕ). IsTurn w log gone (record { replica = o.replica; call = o.call; turns = m }) turn n) none h)
+
+-- an answer other than that there is more is told as such
+pub ends_as : (turn : TurnAnswer) → turn ≢ answer.More → outcome_of turn ≢ More
+ends_as answer.More apart e = apart refl
+ends_as (answer.Exit reply) apart e = cc
+ends_as answer.Stale apart e = cc
+ends_as answer.NoMemory apart e = cc
 
 -- what is found for it at its replica
 pub found_here : {A : Type 0} (s : SystemWorld) (slots : List (Option (OpenCallState A))) (n : ℕ) (c : OpenCallState A) (f : OpenFacts s n c) (r : Replica) (held : List ListedProcedure) (number : ℕ) → ProceduresFollow → IsTogether s slots → r ≡ f.r → held ≡ r.procedures → number ≡ c.procedure

@@ -1,6 +1,7 @@
 -- What is numbered from 1, through a map.
 use Rattle.std.proofs.Common.{◌≡◌, ◌⊎◌, inl, inr, ℕ, zero, suc, ◌+◌, ◌<◌, ◌≤◌, List, [], ◌∷◌, ◌++◌, length, map, slice_get, slice_set, Some, None, option_map, refl, sym, ap, arith}
-use Rattle.dsm_model.specs.World.{numbered, with_numbered}
+use Rattle.std.specs.Prelude.{Option}
+use Rattle.dsm_model.specs.World.{flatten, numbered, with_numbered}
 
 pub get_map : {X Y : Type 0} (f : X → Y) (xs : List X) (k : ℕ) → slice_get (map f xs) k ≡ option_map f (slice_get xs k)
 get_map f [] k = refl
@@ -73,3 +74,17 @@ pub numbered_none : {X : Type 0} (xs : List X) (n : ℕ) → (n ≡ 0) ⊎ (leng
 numbered_none xs zero e = refl
 numbered_none xs (suc k) (inl e) = absurd (omega arith)
 numbered_none xs (suc k) (inr lt) = get_beyond xs k (omega arith)
+
+pub with_numbered_twice : {X : Type 0} (xs : List X) (n : ℕ) (x y : X) → with_numbered (with_numbered xs n x) n y ≡ with_numbered xs n y
+with_numbered_twice xs zero x y = refl
+with_numbered_twice xs (suc k) x y = set_twice xs k x y
+
+set_there : {X : Type 0} (xs : List (Option X)) (k : ℕ) (x y : X) → flatten (slice_get xs k) ≡ Some x → flatten (slice_get (slice_set xs k (Some y)) k) ≡ Some y
+set_there [] k x y e = absurd cc
+set_there (z ∷ xs) zero x y e = refl
+set_there (z ∷ xs) (suc k) x y e = set_there xs k x y e
+
+-- where there is one, another may stand
+pub numbered_set : {X : Type 0} (xs : List (Option X)) (n : ℕ) (x y : X) → flatten (numbered xs n) ≡ Some x → flatten (numbered (with_numbered xs n (Some y)) n) ≡ Some y
+numbered_set xs zero x y e = absurd cc
+numbered_set xs (suc k) x y e = set_there xs k x y e

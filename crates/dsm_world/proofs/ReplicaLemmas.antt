@@ -1,5 +1,5 @@
 -- Steps of a replica: what they answer by the definitions, and that all still fits together.
-use Rattle.std.proofs.Common.{◌≡◌, ◌⊎◌, get_or, nat_lt, ℕ, zero, suc, ◌+◌, ◌<◌, ◌≤◌, true, false, not, List, [], ◌∷◌, ◌++◌, length, map, take, drop, slice_get, slice_set, Option, Some, None, IsSome, option_map, refl, sym, ap, subst, ◌∙◌, arith, inl, inr}
+use Rattle.std.proofs.Common.{◌≡◌, ◌⊎◌, get_or, nat_lt, ℕ, zero, suc, ◌+◌, ◌<◌, ◌≤◌, true, false, List, [], ◌∷◌, ◌++◌, length, map, take, drop, slice_get, slice_set, Option, Some, None, IsSome, option_map, refl, sym, ap, subst, ◌∙◌, arith, inl, inr}
 use Rattle.std.proofs.lemmas.Bool.Decides.{nat_tests}
 use Rattle.schema.specs.Schema.{Tables}
 use Rattle.schema.specs.Rows.{AreWrites}
@@ -25,7 +25,7 @@ use Rattle.catalogue.specs.Catalogue.{accepted_of}
 use Rattle.catalogue.proofs.HeldLemmas.{numbered_for}
 use Rattle.dsm_world.specs.System.{SystemWorld, setting_of, progress_of, world_of}
 use Rattle.dsm_world.specs.declared.holdings.Holdings.{Holdings}
-use Rattle.dsm_world.specs.Holdings.{IsReplicaOf, IsTogether, system_of}
+use Rattle.dsm_world.specs.Holdings.{IsReplicaOf, IsTogether}
 use Rattle.dsm_world.proofs.Numbered.{get_map, set_map, get_set, get_lt, numbered_map, numbered_at, with_numbered_at, numbered_none}
 use Rattle.dsm_world.proofs.StepLemmas.{deliver_nothing, deliver_stopped, deliver_new, deliver_without_memory, rebuild_new}
 use Rattle.replica.proofs.EntryLemmas.{take_all, take_next, take_drop, take_count, items_append, items_count, all_at, placed_at, entries_taken}

@@ -1,5 +1,5 @@
 -- When a step of the definitions answers what, and what it leaves.
-use Rattle.std.proofs.Common.{◌≡◌, ◌≢◌, inl, inr, ℕ, ◌+◌, ◌-◌, ◌≤◌, ◌<◌, Bool, true, false, not, cond, List, length, nat_eq, nat_le, nat_lt, Option, Some, None, refl, sym, ap, ◌∙◌, arith}
+use Rattle.std.proofs.Common.{◌≡◌, ◌≢◌, inl, inr, ℕ, zero, suc, ◌+◌, ◌-◌, ◌≤◌, ◌<◌, Bool, true, false, not, cond, List, length, nat_eq, nat_le, nat_lt, Option, Some, None, refl, sym, ap, subst, ◌∙◌, arith}
 use Rattle.std.proofs.lemmas.Bool.Decides.{nat_tests}
 use Rattle.std.specs.FinMap.{len}
 use Rattle.bpf_vm.specs.declared.turn.Turn.{Turn as TurnAnswer}
@@ -10,11 +10,14 @@ use Rattle.dsm_model.specs.declared.outcome.Outcome.{Outcome}
 use Rattle.dsm_model.specs.declared.outcome.Outcome.TheVariants.{Begun, More, Exit, Ordered, Read, Cancelled, Delivered, Rebuilt, Refused}
 use Rattle.log_model.specs.declared.request.RequestId.{RequestId}
 use Rattle.log_model.specs.Log.{StoredProcedure, Setting, by_number, procedures_after, procedure_of, run_in, verdict_of, moment_at}
-use Rattle.dsm_model.specs.World.{World, Replica, Begin, Turn, Order, Deliver, Rebuild, max_calls, call_count, numbered, position_of, open_call, without_call, with_open_call, with_replica, with_begun, new_call, after_begin, is_stale, after_turn_by_run, after_turn, with_ordered, after_order_by_run, after_order, after_deliver_next, after_deliver, after_rebuild, after_step, after_turn_without_memory, after_refused_memory, after_step_without_memory, with_stopped, IsStep}
+use Rattle.dsm_model.specs.World.{World, Replica, Step, Begin, Turn, Order, Deliver, Rebuild, max_calls, call_count, numbered, position_of, open_call, without_call, with_open_call, with_replica, with_begun, new_call, after_begin, is_stale, after_turn_by_run, after_turn, with_ordered, after_order_by_run, after_order, after_deliver_next, after_deliver, after_rebuild, after_step, after_turn_without_memory, after_refused_memory, after_step_without_memory, with_stopped, IsStep}
 use Rattle.call_model.specs.OpenCall.{OpenCall, at_row_helper}
 use Rattle.call_model.specs.Request.{has_zero}
-use Rattle.world_calls.specs.OpenCall.{IsTurn, stays_open}
+use Rattle.dsm_model.specs.Sound.{IsGiven, IsWorld}
+use Rattle.world_calls.specs.OpenCall.{IsTurn, AreTurns, further, stays_open}
+use Rattle.dsm_world.specs.Execution.{IsExecution}
 use Rattle.dsm_world.specs.Turned.{outcome_of}
+use Rattle.dsm_world.proofs.Numbered.{with_numbered_twice, numbered_set}
 
 abbrev just : {X : Type 0} → X → Option X
 just x = Some x
@@ -134,6 +137,51 @@ turn_on w world c o n answer.Stale e h = inl (turns w world c (just o) e ∙ yes
 turn_on w world c o n answer.NoMemory e h = inr (
     ap (after_turn_without_memory w world c) e ∙ no (is_stale w world o) _ _ h.0 ∙ yes (at_row_helper (procedure_of w world.log o.call) (moment_at w world.log o.call o.turns)) _ _ h.1
     )
+
+-- ---- turns, one after another
+
+at_turns : OpenCall → ℕ → OpenCall
+at_turns o turns = record { replica = o.replica; call = o.call; turns = turns }
+
+later_turns : (w : Setting) (world : World) (gone : Bool) (o n : OpenCall) (before : ℕ) (turn : TurnAnswer) → AreTurns w world.log gone (suc before) o turn n → AreTurns w world.log gone before (further 1 o) turn n
+unfolding at_turns
+later_turns w world gone o n before turn h = (
+  λ j lt.
+      let here : o.turns + (j + 1) ≡ o.turns + 1 + j = omega arith in
+      let next : o.turns + (j + 1 + 1) ≡ o.turns + 1 + (j + 1) = omega arith in
+      subst (λ (m : ℕ). IsTurn w world.log gone (at_turns o m) answer.More (at_turns o (o.turns + 1 + (j + 1)))) here
+      (subst (λ (m : ℕ). IsTurn w world.log gone (at_turns o (o.turns + (j + 1))) answer.More (at_turns o m)) next (h.0 (j + 1) (omega (arith, lt)))),
+  let here : o.turns + suc before ≡ o.turns + 1 + before = omega arith in
+      subst (λ (m : ℕ). IsTurn w world.log gone (at_turns o m) turn n) here h.1,
+)
+
+-- at the call as it is
+at_first : (w : Setting) (world : World) (gone : Bool) (o n : OpenCall) (turn : TurnAnswer) → IsTurn w world.log gone (further 0 o) turn n → IsTurn w world.log gone o turn n
+unfolding at_turns
+at_first w world gone o n turn h =
+    let none : o.turns + 0 ≡ o.turns = omega arith in
+    subst (λ (m : ℕ). IsTurn w world.log gone (at_turns o m) turn n) none h
+
+pub execution_on : (w : Setting) (world : World) (c : ℕ) (o n : OpenCall) (before : ℕ) (turn : TurnAnswer) → open_call world c ≡ Some o → AreTurns w world.log (is_gone w world o) before o turn n → IsExecution w world c before (outcome_of turn) (world_after world c n turn)
+execution_on w world c o n zero turn e h = turn_on w world c o n turn e (at_first w world (is_gone w world o) o n turn h.1)
+execution_on w world c o n (suc before) turn e h =
+    let next = further 1 o in
+    let between = with_open_call world c (just next) in
+    let twice : world_after between c n turn ≡ world_after world c n turn =
+    ap (λ (calls : List (Option OpenCall)). record { log = world.log; replicas = world.replicas; calls = calls }) (with_numbered_twice world.calls c (just next) (cond (stays_open turn) (Some n) None)) in (
+      between,
+      turn_on w world c o next answer.More e (at_first w world (is_gone w world o) o next answer.More (h.0 0 (omega arith))),
+      subst (λ (x : World). IsExecution w between c before (outcome_of turn) x) twice
+          (execution_on w between c next n before turn (numbered_set world.calls c o next e) (later_turns w world (is_gone w world o) o n before turn h)),
+    )
+
+-- what the law of worlds says of steps
+abbrev pub KeepsWorlds : Setting → Type 0
+KeepsWorlds w = (before : World) (step : Step) (outcome : Outcome) (after : World) → IsGiven w step outcome → IsStep w before step outcome after → IsWorld w before → IsWorld w after
+
+pub execution_keeps : (w : Setting) → KeepsWorlds w → (start : World) (c before : ℕ) (outcome : Outcome) (after : World) → IsExecution w start c before outcome after → IsWorld w start → IsWorld w after
+execution_keeps w keeps start c zero outcome after e is = keeps start (Turn c) outcome after tt e is
+execution_keeps w keeps start c (suc before) outcome after e is = execution_keeps w keeps e.0 c before outcome after e.2 (keeps start (Turn c) More e.0 tt e.1 is)
 
 -- ---- Order
 

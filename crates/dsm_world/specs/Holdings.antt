@@ -1,14 +1,11 @@
 -- What a world holds, and how its parts fit together. No public clause speaks of it.
-use Rattle.std.specs.Prelude.{◌≡◌, ℕ, ◌+◌, List, [], ◌∷◌, ◌++◌, length, map, take, slice_get, Option, Some, option_map, true, false}
+use Rattle.std.specs.Prelude.{◌≡◌, ℕ, List, map, take, slice_get, Option, Some, option_map}
 use Rattle.std.specs.List.{AllByRecursion}
-use Rattle.schema.specs.Schema.{Tables}
 use Rattle.schema.specs.Rows.{AreWrites}
-use Rattle.rows_mv.specs.Versions.{HaveTables, width_of}
+use Rattle.rows_mv.specs.Versions.{HaveTables}
 use Rattle.stored_procedures.specs.Held.{AreForTables}
 use Rattle.catalogue.specs.Catalogue.{SystemCatalogue}
 use Rattle.replica.specs.Replica.{Replica, StandsFor, AreEntriesOf, IsForTables, IsNamed, entries_of, writes_in}
-use Rattle.log_model.specs.declared.verdict.Verdict.{Verdict}
-use Rattle.log_model.specs.Log.{Catalogue, verdict_of, Setting}
 use Rattle.log_model.specs.Entries.{Entry, items_of}
 use Rattle.dsm_model.specs.World.{addition_count}
 use Rattle.call_model.specs.OpenCall.{OpenCall}

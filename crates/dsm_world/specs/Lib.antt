@@ -1,4 +1,5 @@
 pub mod System
+pub mod Execution
 pub mod Turned
 pub mod Holdings
 pub mod Codes

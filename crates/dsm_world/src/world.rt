@@ -1,11 +1,12 @@
 //! A world of replicas.
 
-ghost use Rattle.std.specs.Prelude.{false, ◌≡◌, ℕ, ◌+◌, ◌<◌, ◌≤◌, ◌++◌, [], ◌∷◌, length, map, option_map, slice_get};
+ghost use Rattle.std.specs.Prelude.{false, ◌≡◌, ◌≢◌, ℕ, ◌+◌, ◌<◌, ◌≤◌, ◌++◌, [], ◌∷◌, length, map, option_map, slice_get};
 ghost use Rattle.std.specs.Prelude.{Some, None, IfOk, OnErr, vec_len, vec_capacity};
 ghost use Rattle.schema.specs.declared.limits.TheConstants.{MAX_REPLICAS, MAX_WINDOW};
 ghost use Rattle.log_model.specs.declared.verdict.Verdict.{Verdict as ModelVerdict};
 ghost use Rattle.log_model.specs.declared.verdict.Verdict.TheVariants.{Commit};
-ghost use Rattle.dsm_model.specs.declared.outcome.Outcome.TheVariants.{Exit, Ordered, Delivered};
+ghost use Rattle.dsm_model.specs.declared.outcome.Outcome.TheVariants.{More, Exit, Ordered, Delivered};
+ghost use Rattle.bpf_code.specs.Program.{max_slots};
 ghost use Rattle.bpf_semantics.specs.Path.{longest_path};
 ghost use Rattle.log_model.specs.Log.{Call, Log, StoredProcedure, by_name, procedure_of, procedures_after, run_in};
 ghost use Rattle.log_model.specs.Log.{verdict_of};
@@ -20,6 +21,7 @@ ghost use Rattle.model_laws.specs.Worlds.{HasExited, IsCallNumbered, turns_of};
 ghost use Rattle.replica.specs.Replica.{Replica as ReplicaState, AreEntriesOf};
 ghost use Rattle.catalogue.specs.Catalogue.{IsCatalogue};
 ghost use Rattle.dsm_world.specs.System.{setting_of, world_of, step_of, progress_of, KeepsDelivered};
+ghost use Rattle.dsm_world.specs.Execution.{IsExecution};
 ghost use Rattle.dsm_world.specs.Holdings.{system_of, AreConsistentHoldings, IsReplicaOf};
 
 use crate::add::add;
@@ -30,7 +32,7 @@ use crate::numbers::index_of;
 use crate::order::order;
 use crate::rebuild::rebuild;
 use crate::step::Step;
-use crate::turn::turn;
+use crate::turn::{exec, turn};
 use catalogue::{Catalogue, catalogues_are_safe, each_catalogue_is_consistent};
 use dsm_model::{
     Outcome, delivered_verdicts_are_the_logs, open_calls_are_sound, replies_are_serial,
@@ -187,6 +189,17 @@ impl<A: Allocator + Copy> World<A> {
         ensures given { IsGiven (setting_of self.old) (step_of (setting_of self.old) step.entry) result }
     {
         take_step(&mut self.holdings, step)
+    }
+
+    /// Runs a call to its end in one go: as many turns of it as answer that there is more, and one that doesn't, which
+    /// is answered. They are no more than a program has slots at the most.
+    pub fn exec(&mut self, call: u32) -> Outcome
+        ensures turns { (before : ℕ) × (before < max_slots)
+            × IsExecution (setting_of self.old) (world_of self.old) call before result (world_of self.new) }
+        ensures ends { result ≢ More }
+        ensures setting { setting_of self.new ≡ setting_of self.old }
+    {
+        exec(&mut self.holdings, call)
     }
 
     /// Steps, one after another: what each answers. Room for all answers is made first; where there is no memory for

@@ -1,13 +1,15 @@
 -- What lines do, by what was done.
-use Rattle.std.proofs.Common.{◌≡◌, inl, ℕ, List, Option, Some, None, Result, Ok, Err, refl, sym, ap, subst, ◌∙◌}
+use Rattle.std.proofs.Common.{◌≡◌, ◌≢◌, ◌<◌, inl, ℕ, List, Option, Some, None, Result, refl, sym, ap, subst, ◌∙◌}
 use Rattle.std.specs.Prelude.{option_map}
 use Rattle.std.specs.List.{concat}
 use Rattle.byte_output.specs.declared.paged.PagedOutput.{PagedOutput}
 use Rattle.dsm_model.specs.declared.outcome.Outcome.{Outcome}
-use Rattle.dsm_model.specs.declared.outcome.Outcome.TheVariants.{Refused}
+use Rattle.dsm_model.specs.declared.outcome.Outcome.TheVariants.{More, Refused}
 use Rattle.dsm_model.specs.declared.outcome.StepRefusal.TheVariants.{NoReplica, NoProcedure}
 use Rattle.log_model.specs.declared.request.RequestId.{RequestId}
+use Rattle.bpf_code.specs.Program.{max_slots}
 use Rattle.dsm_world.specs.System.{check_of, progress_of}
+use Rattle.dsm_world.specs.Execution.{IsExecution}
 use Rattle.replica.specs.Replica.{Replica as ReplicaState}
 use Rattle.log_model.specs.Log.{Setting, by_number, by_name, procedures_after}
 use Rattle.dsm_model.specs.World.{World, Replica, Begin, Turn, Order, Deliver, Rebuild, Add, IsStep, after_begin, after_step, numbered, position_of}
@@ -16,7 +18,7 @@ use Rattle.script_actions.specs.Printed.{step_text, rows_text, log_text, entry_t
 use Rattle.script_actions.specs.Actions.{Repeats, Begins, Does, begin_action, is_more, is_delivery, longest_run, number_of_name}
 use Rattle.script_actions.specs.Doing.{Gives, HasDone}
 use Rattle.script_actions.proofs.GivenLemmas.{gives_done}
-use Rattle.script_actions.proofs.RepeatLemmas.{AllRan}
+use Rattle.script_actions.proofs.RepeatLemmas.{AllRan, ran_at_once}
 
 pub orders : (w : Setting) (before : World) (call : ℕ) (outcome : Outcome) (after : World) → IsStep w before (Order call) outcome after → Does w before (action.Order call) (step_text w after.log (Order call) outcome) after
 unfolding Does
@@ -76,12 +78,10 @@ pub turns : (w : Setting) (before : World) (call most : ℕ) (text : List ℕ) (
 unfolding Does
 turns w before call most text after ran = ran
 
--- `exec` is so many turns
-pub executes : {W T E : Type 0} (contents : W → Option (List ℕ)) (w : Setting) (before : World) (call : ℕ) (old new : PagedOutput W) (result : Result T E) (after : World)
-    → HasDone contents w before (action.Turn call longest_run) old new result after → HasDone contents w before (action.Exec call) old new result after
+pub executes : (w : Setting) (start : World) (call before : ℕ) (outcome : Outcome) (after : World) → before < max_slots → outcome ≢ More → IsExecution w start call before outcome after
+    → Does w start (action.Exec call) (step_text w after.log (Turn call) outcome) after
 unfolding Does
-executes contents w before call old new (Ok x) after done = done
-executes contents w before call old new (Err x) after done = done
+executes w start call before outcome after few ends is = ran_at_once w call before longest_run start outcome after few ends is
 
 pub shows_rows : {W T E : Type 0} (contents : W → Option (List ℕ)) (w : Setting) (world : World) (r : ℕ) (old new : PagedOutput W) (result : Result T E) → Gives contents old new result (rows_text w world.log r (numbered world.replicas r))
     → HasDone contents w world (action.Rows r) old new result world

@@ -1,5 +1,5 @@
 -- A step that is taken again, as far as a loop has come.
-use Rattle.std.proofs.Common.{◌≡◌, inl, ℕ, zero, suc, Bool, true, false, List, [], ◌∷◌, ◌++◌, refl, sym, ap, subst, ◌∙◌, append_assoc}
+use Rattle.std.proofs.Common.{◌≡◌, ◌≢◌, ◌<◌, inl, ℕ, zero, suc, Bool, true, false, List, [], ◌∷◌, ◌++◌, refl, sym, ap, subst, ◌∙◌, append_assoc, arith}
 use Rattle.std.proofs.lemmas.List.{append-nil}
 use Rattle.std.specs.List.{concat}
 use Rattle.std.specs.Prelude.{Option}
@@ -7,10 +7,12 @@ use Rattle.byte_output.specs.declared.paged.PagedOutput.{PagedOutput}
 use Rattle.byte_output.specs.Pending.{Passes}
 use Rattle.byte_output.proofs.PendingLemmas.{Passes-then}
 use Rattle.dsm_model.specs.declared.outcome.Outcome.{Outcome}
+use Rattle.dsm_model.specs.declared.outcome.Outcome.TheVariants.{More}
 use Rattle.log_model.specs.Log.{Setting}
-use Rattle.dsm_model.specs.World.{World, Step, IsStep, after_step}
+use Rattle.dsm_model.specs.World.{World, Step, Turn, IsStep, after_step}
+use Rattle.dsm_world.specs.Execution.{IsExecution}
 use Rattle.script_actions.specs.Printed.{step_text}
-use Rattle.script_actions.specs.Actions.{Later, Repeats, last_line}
+use Rattle.script_actions.specs.Actions.{Later, Repeats, is_more, last_line}
 use Rattle.script_actions.specs.Doing.{PassesBeginning}
 use Rattle.script_actions.proofs.GivenLemmas.{nothing_given, beginning_then, beginning_more}
 
@@ -146,3 +148,36 @@ unfolding Repeats
 ran_out w step goes most start now next outcome ran is =
     let all = ran.back (said w next step outcome) [] next (outcome, [], next, refl, is, last_of w step goes next (goes outcome)) in
     (all.0, all.1, sym all.2)
+
+-- ---- turns in one go
+
+not_more : (outcome : Outcome) → outcome ≢ More → is_more outcome ≡ false
+not_more More apart = absurd (apart refl)
+not_more _ apart = refl
+
+-- a first line and others, of which the last is that of the outcome
+abbrev RanOn : Setting → ℕ → ℕ → World → Outcome → World → Type 0
+RanOn w call most start outcome after = (line : List ℕ) × (lines : List (List ℕ)) × Repeats w (Turn call) is_more most start (line ∷ lines) after × (said w after (Turn call) outcome ≡ last_line (line ∷ lines))
+
+ran_on : (w : Setting) (call before most : ℕ) (start : World) (outcome : Outcome) (after : World) → before < most → is_more outcome ≡ false → IsExecution w start call before outcome after → RanOn w call most start outcome after
+unfolding Repeats
+ran_on w call before zero start outcome after few ends is = absurd (omega (arith, few))
+ran_on w call zero (suc most) start outcome after few ends is = (
+  said w after (Turn call) outcome,
+  [],
+  (outcome, [], after, refl, is, subst (λ (b : Bool). Later b (Repeats w (Turn call) is_more most after [] after) [] after after) (sym ends) (refl, refl)),
+  refl,
+)
+ran_on w call (suc before) (suc most) start outcome after few ends is =
+    let rest = ran_on w call before most is.0 outcome after (omega (arith, few)) ends is.2 in (
+      said w is.0 (Turn call) More,
+      rest.0 ∷ rest.1,
+      (More, rest.0 ∷ rest.1, is.0, refl, is.1, rest.2),
+      rest.3,
+    )
+
+pub ran_at_once : (w : Setting) (call before most : ℕ) (start : World) (outcome : Outcome) (after : World) → before < most → outcome ≢ More → IsExecution w start call before outcome after
+    → AllRan w (Turn call) is_more most start after (said w after (Turn call) outcome)
+ran_at_once w call before most start outcome after few ends is =
+    let ran = ran_on w call before most start outcome after few (not_more outcome ends) is in
+    (ran.0 ∷ ran.1, ran.2, ran.3)

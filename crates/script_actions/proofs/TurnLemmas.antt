@@ -1,5 +1,5 @@
 -- Turns of a call, as many as a program has slots, come to its end.
-use Rattle.std.proofs.Common.{◌≡◌, ℕ, zero, suc, ◌+◌, ◌<◌, ◌≤◌, ◌==◌, Bool, true, false, cond, List, [], ◌∷◌, length, slice_get, slice_set, Option, Some, None, inl, inr, refl, sym, ap, subst, ◌∙◌, arith}
+use Rattle.std.proofs.Common.{◌≡◌, ℕ, zero, suc, ◌+◌, ◌<◌, ◌≤◌, ◌==◌, Bool, true, false, cond, List, [], ◌∷◌, length, slice_get, Option, Some, None, inl, inr, refl, sym, ap, subst, ◌∙◌, arith}
 use Rattle.std.proofs.lemmas.Bool.{cases_lt}
 use Rattle.std.specs.Prelude.{option_map}
 use Rattle.std.specs.List.{AllByRecursion}
@@ -9,13 +9,14 @@ use Rattle.dsm_model.specs.declared.outcome.Outcome.{Outcome}
 use Rattle.dsm_model.specs.declared.outcome.Outcome.TheVariants.{More}
 use Rattle.log_model.specs.Log.{StoredProcedure, Catalogue, Setting, Log, IsLog, by_number, procedures_after, run_in, moment_at}
 use Rattle.log_model.specs.Entries.{items_of}
-use Rattle.dsm_model.specs.World.{World, Replica as Progress, Step, Turn, IsStep, flatten, numbered, open_call, with_numbered, with_open_call}
+use Rattle.dsm_model.specs.World.{World, Replica as Progress, Step, Turn, IsStep, numbered, open_call, with_open_call}
 use Rattle.call_model.specs.OpenCall.{OpenCall}
 use Rattle.dsm_model.specs.Sound.{IsGiven, IsSound, IsWorld}
 use Rattle.stored_procedures.specs.Held.{ListedProcedure, stored, stored_procedures, WasAccepted, AreStored}
 use Rattle.replica.specs.Replica.{Replica}
 use Rattle.dsm_world.specs.System.{SystemWorld, setting_of, world_of, progress_of, KeepsDelivered}
-use Rattle.dsm_world.proofs.Numbered.{numbered_map}
+use Rattle.world_calls.proofs.CallLemmas.{instructions-le}
+use Rattle.dsm_world.proofs.Numbered.{numbered_map, numbered_set}
 use Rattle.script.specs.declared.statements.Action.TheVariants as action
 use Rattle.script_actions.specs.Printed.{step_text}
 use Rattle.script_actions.specs.Actions.{Later, Repeats, Does, is_more, last_line}
@@ -32,11 +33,6 @@ found_short number (l ∷ listed) p all found = by (l.number == number) found (f
         → (by_number (stored_procedures listed) number ≡ Some p → length p.program ≤ max_slots) → length p.program ≤ max_slots
     by true h rest = let same : stored l ≡ p = cc in subst (λ (q : StoredProcedure). length q.program ≤ max_slots) same all.0.program.not_long
     by false h rest = rest h
-
-instructions-le : (p : Program) → instructions p ≤ length p
-instructions-le [] = omega arith
-instructions-le (None ∷ p) = let rest = instructions-le p in omega arith
-instructions-le (Some i ∷ p) = let rest = instructions-le p in omega arith
 
 -- the procedures that replicas have at their positions
 abbrev pub ShortPrograms : Setting → World → Type 0
@@ -90,20 +86,9 @@ pub record TurnLaws (w : Setting) : Type 0 where
   pub kept : (log : Log) (earlier later number : ℕ) (p : StoredProcedure) → IsLog log → earlier ≤ later → later ≤ length log
       → by_number (procedures_after w log earlier) number ≡ Some p → by_number (procedures_after w log later) number ≡ Some p
 
-set_open : (calls : List (Option OpenCall)) (k : ℕ) (o p : OpenCall)
-    → flatten (slice_get calls k) ≡ Some o → flatten (slice_get (slice_set calls k (Some p)) k) ≡ Some p
-set_open [] k o p e = absurd cc
-set_open (x ∷ calls) zero o p e = refl
-set_open (x ∷ calls) (suc k) o p e = set_open calls k o p e
-
-set_numbered : (calls : List (Option OpenCall)) (c : ℕ) (o p : OpenCall)
-    → flatten (numbered calls c) ≡ Some o → flatten (numbered (with_numbered calls c (Some p)) c) ≡ Some p
-set_numbered calls zero o p e = absurd cc
-set_numbered calls (suc k) o p e = set_open calls k o p e
-
 still_open : (w : Setting) (before : World) (c : ℕ) (after : World) (on : WentOn w before c after)
     → open_call after c ≡ Some (further on.0)
-still_open w before c after on = ap (λ (v : World). open_call v c) on.3 ∙ set_numbered before.calls c on.0 (further on.0) on.1
+still_open w before c after on = ap (λ (v : World). open_call v c) on.3 ∙ numbered_set before.calls c on.0 (further on.0) on.1
 
 one_open : (slot : Option OpenCall) (o p : OpenCall) → slot ≡ Some o → slot ≡ Some p → p ≡ o
 one_open slot o p e f = cc

@@ -6,10 +6,9 @@ ghost use Rattle.dsm_world.specs.System.{setting_of, world_of};
 ghost use Rattle.script.specs.Script.{IsActionWithinLimits};
 ghost use Rattle.script_actions.specs.Doing.{HasDone};
 
-use crate::answers::{add, begin, deliver, order, rebuild, turn};
+use crate::answers::{add, begin, deliver, exec, order, rebuild, turn};
 use crate::log::{put_entry, put_log};
 use crate::rows::put_rows;
-use bpf_code::MAX_SLOTS;
 use byte_output::paged::PagedOutput;
 use dsm_world::World;
 use log_model::RequestId;
@@ -18,9 +17,6 @@ use script::Action;
 use std::alloc::Allocator;
 use std::io;
 use std::io::Write;
-
-/// No program runs more instructions than it has slots.
-const LONGEST_RUN: u32 = MAX_SLOTS as u32;
 
 /// Does an action to a world, and gives what it prints to the output. What is printed takes no memory. An error is the
 /// output's, and then a beginning of that was given.
@@ -66,7 +62,7 @@ pub fn act<A: Allocator + Copy, W: Write>(
             add(world, output, name, *number, *args_len, bytes)
         }
         Action::Turn { call, most } => turn(world, output, *call, *most),
-        Action::Exec { call } => turn(world, output, *call, LONGEST_RUN),
+        Action::Exec { call } => exec(world, output, *call),
         Action::Order { call } => order(world, output, *call),
         Action::Deliver { replica, most } => deliver(world, output, *replica, *most),
         Action::Rows { replica } => put_rows(world, output, *replica),

@@ -201,6 +201,21 @@ pub(crate) fn turn<A: Allocator + Copy, W: Write>(
     put_answer(output, call_line(call, outcome))
 }
 
+/// A call runs to its end, and the line of its last turn.
+pub(crate) fn exec<A: Allocator + Copy, W: Write>(
+    world: &mut World<A>,
+    output: &mut PagedOutput<'_, W>,
+    call: u32,
+) -> io::Result<()>
+    ensures same_output { (output_of output.new).ghost_name ≡ (output_of output.old).ghost_name }
+    ensures setting { setting_of world.new ≡ setting_of world.old }
+    ensures done { HasDone W.contents (setting_of world.old) (world_of world.old) (action.Exec call)
+        output.old output.new result (world_of world.new) }
+{
+    let outcome = world.exec(call);
+    put_answer(output, call_line(call, outcome))
+}
+
 /// What the last of up to so many turns of a call answers.
 fn last_turn<A: Allocator + Copy>(world: &mut World<A>, call: u32, most: u32) -> Outcome
     requires { 1 ≤ most }

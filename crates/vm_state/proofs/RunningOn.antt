@@ -1,5 +1,5 @@
 -- Steps along a run of plain instructions.
-use Rattle.std.proofs.Common.{◌≡◌, ◌≢◌, ◌<◌, ℕ, ℤ, pos, zero, suc, length, List, Option, Some, None, slice_get, get_or, refl, inl, inr, sym, ◌∙◌, ap, subst, arith}
+use Rattle.std.proofs.Common.{◌≡◌, ◌≢◌, ◌<◌, ◌+◌, ℕ, ℤ, pos, zero, suc, length, List, Option, Some, None, slice_get, get_or, refl, inl, inr, sym, ◌∙◌, ap, subst, arith}
 use Rattle.std.proofs.lemmas.Bool.{cases_lt}
 use Rattle.std.proofs.lemmas.Option.{slice_get_past, slice_get-get_or}
 use Rattle.std.specs.Option.{option_map}
@@ -137,15 +137,16 @@ both : (s t u : State) → SameEffects s t → SameEffects t u → SameEffects s
 both s t u a b = record { looks = b.looks ∙ a.looks; writes = b.writes ∙ a.writes; rows = b.rows ∙ a.rows; code = b.code ∙ a.code }
 
 pub reaches_further : (p : Program) (at to : ℕ) (m n : Words) (i : Instruction) → instruction_at p at ≡ Some i → HoldsAfter i at m to n → IsPlain i
-    → (tables : Tables) (s : State) → IsNeverStuck p tables s → Reaches p tables s (at_slot at m) → Reaches p tables s (at_slot to n)
-reaches_further p at to m n i e next plain tables s never (k, t, there, h, same) =
+    → (tables : Tables) (s : State) (k : ℕ) → IsNeverStuck p tables s → Reaches p tables s k (at_slot at m) → Reaches p tables s (k + 1) (at_slot to n)
+reaches_further p at to m n i e next plain tables s k never (t, there, h, same) =
     let moves : step p tables t ≢ Stuck = λ stuck. never (suc k) (next_is p tables k s t there ∙ stuck) in
     let l = leads p tables at m (at_slot to n) i t e h moves (next tables t h) in
-    (suc k, l.to, next_is p tables k s t there ∙ l.steps, l.held, both s t l.to same (execute_leaves tables i t l.to (no_call i plain) l.executes))
+    let one : k + 1 ≡ suc k = omega arith in
+    (l.to, ap (λ (j : ℕ). moment p tables j s) one ∙ next_is p tables k s t there ∙ l.steps, l.held, both s t l.to same (execute_leaves tables i t l.to (no_call i plain) l.executes))
 
-pub first_reached : (p : Program) (tables : Tables) (s : State) (m : Words) → Holds s m → Reaches p tables s m
+pub first_reached : (p : Program) (tables : Tables) (s : State) (m : Words) → Holds s m → Reaches p tables s 0 m
 unfolding moment
-first_reached p tables s m h = (0, s, refl, h, itself s)
+first_reached p tables s m h = (s, refl, h, itself s)
 
 pub can_here : (p : Program) (m : Words) (at : ℕ) → at ≡ m.slot → CanRunOn p m → CanRunOn p (at_slot at m)
 can_here p m at is (tables, s, h, never) = (tables, s, held_here s m at is h, never)

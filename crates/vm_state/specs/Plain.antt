@@ -37,5 +37,5 @@ pub record SameEffects (s t : State) : Type 0 where
   pub code : t.cancel_code ≡ s.cancel_code
 
 -- so many steps lead from a state to one that the words stand for, and look at nothing and write nothing
-abbrev pub Reaches : Program → Tables → State → Words → Type 0
-Reaches p tables s m = (k : ℕ) × (t : State) × (moment p tables k s ≡ Going t) × Holds t m × SameEffects s t
+abbrev pub Reaches : Program → Tables → State → ℕ → Words → Type 0
+Reaches p tables s k m = (t : State) × (moment p tables k s ≡ Going t) × Holds t m × SameEffects s t

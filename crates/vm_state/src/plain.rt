@@ -14,23 +14,26 @@ use flat_code::FlatInstruction;
 use std::alloc::Allocator;
 
 impl WordState {
-    /// Runs on by the program's layout, up to the next call, long jump or end, which is left to be run. One of the
-    /// states that this one stands for never gets stuck, and of each that doesn't it stands for what is reached.
-    pub fn run_plain<A: Allocator>(&mut self, code: &Code<A>, layout: &[FlatInstruction])
+    /// Runs on by the program's layout, up to the next call, long jump or end, which is left to be run, and tells how
+    /// many instructions that were. One of the states that this one stands for never gets stuck, and of each that
+    /// doesn't it stands for what is reached.
+    pub fn run_plain<A: Allocator>(&mut self, code: &Code<A>, layout: &[FlatInstruction]) -> u32
         requires layout { LaidOut code.now layout.now }
         requires can { CanRunOn code.now self.old }
         ensures reaches { (tables : Tables) (s : State) → Holds s self.old → IsNeverStuck code.now tables s
-            → Reaches code.now tables s self.new }
+            → Reaches code.now tables s result self.new }
         ensures stops { IsStop (instruction_at code.now self.new.slot) }
     {
         code.known();
         let mut at = self.slot();
+        let mut count = 0;
         loop {
             let Some(to) = self.execute_flat(at, at + 1, &layout[at]) else {
                 self.set_slot(at);
-                return;
+                return count;
             };
             at = to;
+            count += 1;
         }
     }
 }

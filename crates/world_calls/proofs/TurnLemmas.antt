@@ -8,8 +8,6 @@ use Rattle.bpf_code.specs.Program.{Program, instruction_at}
 use Rattle.schema.specs.Schema.{Tables}
 use Rattle.schema.specs.Rows.{Rows}
 use Rattle.schema.specs.declared.look.Look.{Look}
-use Rattle.schema.specs.declared.helper.Helper.{Helper}
-use Rattle.schema.specs.declared.helper.Helper.TheVariants.{RowGet, RowPut, RowDelete, RangeCount, RangeNext, Cancel}
 use Rattle.bpf_semantics.specs.State.{State, entry_state}
 use Rattle.bpf_semantics.specs.Step.{Moment, Going, Ended, Stuck, step}
 use Rattle.bpf_semantics.specs.Run.{Run, moment, next_moment, run}
@@ -18,7 +16,7 @@ use Rattle.bpf_semantics.proofs.RunLemmas.{exit_is, step_runs, going_runs, ended
 use Rattle.bpf_semantics.proofs.LookLemmas.{execute_looks}
 use Rattle.bpf_semantics.proofs.MomentLemmas.{from_its_length_on}
 use Rattle.bpf_vm.specs.Turns.{MachineState, MayWantMemory}
-use Rattle.bpf_vm.specs.Run.{Effects, HasRun, HasEnded, IsStaleAt, AfterTurn}
+use Rattle.bpf_vm.specs.Run.{Effects, HasEnded, IsStaleAt, IsNotStale, AfterTurn}
 use Rattle.log_model.specs.Log.{StoredProcedure, Setting, Call, Log, or_idle, run_of_procedure, run_of_call, rows_after, run_in, moment_of, moment_at, procedure_of}
 use Rattle.call_model.specs.OpenCall.{OpenCall, makes_look, is_row_helper, calls_row_helper, at_row_helper}
 use Rattle.call_model.proofs.NextLemmas.{is_row}
@@ -155,35 +153,41 @@ before_its_end p tables args rows r k s e at = elim (le_or_more r.steps k) [
 pub step_from : (w : Setting) (log : Log) (o : OpenCall) (p : StoredProcedure) (s : State) (m : Moment) → HasCallRun w log o p → moment_at w log o.call o.turns ≡ Going s → moment_at w log o.call (o.turns + 1) ≡ m → step p.program w.tables s ≡ m
 step_from w log o p s m c now next = sym (one_further w log o.call p o.turns c.known ∙ ap (next_moment (step p.program w.tables)) now) ∙ next
 
-pub turn_is : (w : Setting) (log : Log) (o : OpenCall) (p : StoredProcedure) (gone : Bool) (turn : Turn) (m n : MachineState) (before after : Effects) → HasCallRun w log o p
-    → HasRun (accepted_of w.tables p) o.call.args (rows_after w log o.call.snapshot) o.turns m before
-    → AfterTurn (accepted_of w.tables p) o.call.args (rows_after w log o.call.snapshot) gone o.turns turn n after
-    → IsTurn w log gone o turn (record o { turns = cond (stays_open turn) (o.turns + 1) o.turns })
-turn_is w log o p gone More m n before after c h a =
-    let now = moment_is w log o.call p o.turns c.known ∙ h.here.at in
+-- an instruction before the last that isn't stale
+pub more_is : (w : Setting) (log : Log) (o : OpenCall) (p : StoredProcedure) (gone : Bool) (s : State) (c : HasCallRun w log o p) → moment p.program w.tables o.turns (entry_state o.call.args (rows_after w log o.call.snapshot)) ≡ Going s
+    → IsNotStale (accepted_of w.tables p) o.call.args (rows_after w log o.call.snapshot) gone o.turns → o.turns + 1 < c.r.steps → IsTurn w log gone o More (record o { turns = o.turns + 1 })
+more_is w log o p gone s c at fresh lt =
+    let now = moment_is w log o.call p o.turns c.known ∙ at in
     let next = moment_is w log o.call p (o.turns + 1) c.known in
-    let is = step_from w log o p h.here.state _ c now next in
-    let same = run_is w log o.call p c.r c.known c.is_run in
-    let lt = before_its_end p.program w.tables o.call.args (rows_after w log o.call.snapshot) c.r (o.turns + 1) a.0.here.state c.is_run a.0.here.at in (
-      looks_at_kept w log o p gone h.here.state _ c.known now is c.not_stuck (a.1 h.here.state h.here.at),
+    let is = step_from w log o p s _ c now next in
+    let same = run_is w log o.call p c.r c.known c.is_run in (
+      looks_at_kept w log o p gone s _ c.known now is c.not_stuck (fresh s at),
       subst (λ (r : Run). o.turns + 1 < r.steps) (sym same) lt,
       refl,
     )
-turn_is w log o p gone (Exit reply) m n before after c h a =
-    let now = moment_is w log o.call p o.turns c.known ∙ h.here.at in
+
+pub turn_is : (w : Setting) (log : Log) (o : OpenCall) (p : StoredProcedure) (gone : Bool) (turn : Turn) (s : State) (n : MachineState) (after : Effects) → HasCallRun w log o p
+    → moment p.program w.tables o.turns (entry_state o.call.args (rows_after w log o.call.snapshot)) ≡ Going s
+    → AfterTurn (accepted_of w.tables p) o.call.args (rows_after w log o.call.snapshot) gone o.turns turn n after
+    → IsTurn w log gone o turn (record o { turns = cond (stays_open turn) (o.turns + 1) o.turns })
+turn_is w log o p gone More s n after c at a =
+    let lt = before_its_end p.program w.tables o.call.args (rows_after w log o.call.snapshot) c.r (o.turns + 1) a.0.here.state c.is_run a.0.here.at in
+    more_is w log o p gone s c at a.1 lt
+turn_is w log o p gone (Exit reply) s n after c at a =
+    let now = moment_is w log o.call p o.turns c.known ∙ at in
     let same = run_is w log o.call p a.r c.known a.is_run in
     let steps : (run_in w log o.call).steps ≡ o.turns + 1 = ap (λ (r : Run). r.steps) same ∙ a.steps in
     let end = from_its_length_on p.program w.tables o.call.args (rows_after w log o.call.snapshot) a.r (o.turns + 1) a.is_run (let count = a.steps in omega arith) in
     let next = moment_is w log o.call p (o.turns + 1) c.known ∙ end.1 in
-    let is = step_from w log o p h.here.state _ c now next in (
-      looks_at_kept w log o p gone h.here.state _ c.known now is (λ e. cc) (λ stale. going_on stale.0 end.0 a.r.reply (sym stale.1 ∙ is)),
+    let is = step_from w log o p s _ c now next in (
+      looks_at_kept w log o p gone s _ c.known now is (λ e. cc) (λ stale. going_on stale.0 end.0 a.r.reply (sym stale.1 ∙ is)),
       omega arith,
       sym a.replied ∙ ap (λ (r : Run). r.reply) (sym same),
       ap (λ (k : ℕ). record o { turns = k }) (sym steps),
     )
-turn_is w log o p gone Stale m n before after c h a =
+turn_is w log o p gone Stale s n after c at a =
     looks_at_what_is_gone w log o p gone a.0.state c.known (moment_is w log o.call p o.turns c.known ∙ a.0.at) a.1
-turn_is w log o p gone NoMemory m n before after c h a =
+turn_is w log o p gone NoMemory s n after c at a =
     let now = moment_is w log o.call p o.turns c.known ∙ a.0.at in
     let is = step_from w log o p a.0.state _ c now (moment_is w log o.call p (o.turns + 1) c.known) in (
       looks_at_kept w log o p gone a.0.state _ c.known now is c.not_stuck (a.2 a.0.state a.0.at),

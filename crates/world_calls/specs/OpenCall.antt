@@ -66,6 +66,16 @@ IsTurn w log gone o NoMemory after =
     (looks_at_gone w log gone o ≡ false)
     × (at_row_helper (procedure_of w log o.call) (moment_at w log o.call o.turns) ≡ true)
 
+-- so many turns further
+abbrev pub further : ℕ → OpenCall → OpenCall
+further count o = record o { turns = o.turns + count }
+
+-- so many turns that answer that there is more, and then one that answers this
+abbrev pub AreTurns : Setting → Log → Bool → ℕ → OpenCall → Turn → OpenCall → Type 0
+AreTurns w log gone before o turn after =
+    ((j : ℕ) → j < before → IsTurn w log gone (further j o) More (further (j + 1) o))
+    × IsTurn w log gone (further before o) turn after
+
 -- a turn after which the call isn't over
 abbrev pub stays_open : Turn → Bool
 stays_open More = true

@@ -1,16 +1,17 @@
 //! A call that isn't over.
 
-ghost use Rattle.std.specs.Prelude.{◌≡◌, ℕ, true, length, Some, IfOk, IfSome};
+ghost use Rattle.std.specs.Prelude.{◌≡◌, ◌≢◌, ◌<◌, ℕ, true, length, Some, IfOk, IfSome};
+ghost use Rattle.bpf_code.specs.Program.{max_slots};
 ghost use Rattle.schema.specs.Rows.{AreRows};
 ghost use Rattle.log_model.specs.Log.{Setting, Log, StoredProcedure, by_number, procedures_after, rows_after};
 ghost use Rattle.catalogue.specs.Catalogue.{accepted_of};
 ghost use Rattle.bpf_vm.specs.declared.turn.Turn.TheVariants.{More, Exit};
 ghost use Rattle.world_calls.specs.OpenCall.{open_call_of, Follows, CanGoOn, IsTurn, stays_open, call_of, IsReplyOf};
-ghost use Rattle.world_calls.specs.OpenCall.{IsCompletion};
+ghost use Rattle.world_calls.specs.OpenCall.{AreTurns, IsCompletion};
 
 use crate::completion::Completion;
 use acceptance::accepted_programs_never_go_wrong;
-use bpf_semantics::states_fit;
+use bpf_semantics::{runs_are_short, states_fit};
 use bpf_verify::Accepted;
 use bpf_vm::{Machine, Turn, open_calls_can_turn};
 use log_entry::ExecutedCall;
@@ -114,6 +115,60 @@ impl<A: Allocator + Copy> OpenCall<A> {
             Turn::More => self.advance(alloc, accepted, store),
             over => over,
         }
+    }
+
+    /// Runs to the end, on the rows of the snapshot, as turns would until one doesn't answer that there is more: what
+    /// that one answers. Nothing is run after the end, which is answered again.
+    pub fn run<P: Allocator, Q: Allocator, S: Store + Drop>(
+        &mut self,
+        alloc: A,
+        accepted: &Accepted<P, Q>,
+        store: S,
+    ) -> Turn
+        requires { (w : Setting) × (log : Log) × CanGoOn w log accepted.now (S.answers_from store) self.old }
+        ensures ends { result ≢ More }
+        ensures turns { (w : Setting) (log : Log) → CanGoOn w log accepted.now (S.answers_from store) self.old
+            → (before : ℕ) × (before < max_slots)
+            × AreTurns w log (S.is_gone store) before (open_call_of self.old) result (open_call_of self.new) }
+        ensures goes_on { (w : Setting) (log : Log) → CanGoOn w log accepted.now (S.answers_from store) self.old
+            → stays_open result ≡ true → CanGoOn w log accepted.now (S.answers_from store) self.new }
+        ensures last { self.new.machine.last ≡ result }
+    {
+        match self.machine.last() {
+            Turn::More => self.run_on(alloc, accepted, store),
+            last => last,
+        }
+    }
+
+    /// Runs to the end.
+    fn run_on<P: Allocator, Q: Allocator, S: Store + Drop>(
+        &mut self,
+        alloc: A,
+        accepted: &Accepted<P, Q>,
+        store: S,
+    ) -> Turn
+        requires more { self.old.machine.last ≡ More }
+        requires can { (w : Setting) × (log : Log) × CanGoOn w log accepted.now (S.answers_from store) self.old }
+        ensures ends { result ≢ More }
+        ensures turns { (w : Setting) (log : Log) → CanGoOn w log accepted.now (S.answers_from store) self.old
+            → (before : ℕ) × (before < max_slots)
+            × AreTurns w log (S.is_gone store) before (open_call_of self.old) result (open_call_of self.new) }
+        ensures goes_on { (w : Setting) (log : Log) → CanGoOn w log accepted.now (S.answers_from store) self.old
+            → stays_open result ≡ true → CanGoOn w log accepted.now (S.answers_from store) self.new }
+        ensures last { self.new.machine.last ≡ result }
+    {
+        accepted_programs_never_go_wrong();
+        runs_are_short();
+        accepted.known();
+        let own = mem::replace(&mut self.own, Own::new(alloc));
+        let mut view = View::over(store, own);
+        let end = self.machine.run_counted(accepted, &mut view);
+        self.own = view.pause();
+        self.turns += end.before;
+        if stays_open(end.last) {
+            self.turns += 1;
+        }
+        end.last
     }
 
     /// The next instruction.

@@ -1,4 +1,4 @@
-use Rattle.std.proofs.Common.{◌+◌, ◌<◌, length, refl, sym, ap, subst, ◌∙◌, arith}
+use Rattle.std.proofs.Common.{◌+◌, length, refl, sym, ap, subst, ◌∙◌, arith}
 use Rattle.dsm_model.specs.declared.outcome.Outcome.TheVariants.{Delivered}
 use Rattle.log_entry.specs.Kind.{entry_of}
 use Rattle.std.proofs.lemmas.List.{length-map}

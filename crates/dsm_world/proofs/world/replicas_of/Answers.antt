@@ -1,4 +1,4 @@
-use Rattle.std.proofs.Common.{false, ◌≡◌, List, [], ◌∷◌, length, ap, ◌∙◌, true, arith}
+use Rattle.std.proofs.Common.{false, ◌≡◌, List, [], ◌∷◌, length, ap, ◌∙◌, arith}
 use Rattle.std.proofs.lemmas.List.{length-append}
 use Rattle.replica.specs.Replica.{Replica}
 use Rattle.dsm_world.specs.System.{progress_of}

@@ -1,4 +1,4 @@
-use Rattle.std.proofs.Common.{false, ◌≡◌, ℕ, [], length, slice_get, Some, true}
+use Rattle.std.proofs.Common.{false, ◌≡◌, ℕ, [], length, slice_get, Some}
 use Rattle.replica.specs.Replica.{Replica}
 use Rattle.dsm_world.specs.System.{progress_of}
 use Rattle.dsm_world.specs.Holdings.{IsReplicaOf}

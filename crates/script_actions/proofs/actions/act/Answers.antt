@@ -2,15 +2,8 @@ use Rattle.std.proofs.Common.{sym, subst}
 use Rattle.dsm_world.specs.System.{setting_of, world_of}
 use Rattle.script.specs.Script.{ScriptAction}
 use Rattle.script_actions.specs.Doing.{HasDone}
-use Rattle.script_actions.proofs.DoneLemmas.{executes, shows_rows, shows_log, shows_entry}
+use Rattle.script_actions.proofs.DoneLemmas.{shows_rows, shows_log, shows_entry}
 use Rattle.script_actions.proofs.actions.act.Goals as goal
-
-pub returns-in-Exec-clause-done : goal.returns-in-Exec-clause-done
-returns-in-Exec-clause-done g c =
-    let w = setting_of c.args.world.now in
-    let before = world_of c.args.world.now in
-    subst (λ (k : ScriptAction). HasDone g.W.Write.contents w before k c.args.output.now c.turn-in-Exec.new.output c.turn-in-Exec.result (world_of c.turn-in-Exec.new.world)) (sym c.in-Exec.is)
-    (executes g.W.Write.contents w before c.in-Exec.call c.args.output.now c.turn-in-Exec.new.output c.turn-in-Exec.result (world_of c.turn-in-Exec.new.world) c.turn-in-Exec.ensures.done)
 
 pub returns-in-Rows-clause-done : goal.returns-in-Rows-clause-done
 returns-in-Rows-clause-done g c =

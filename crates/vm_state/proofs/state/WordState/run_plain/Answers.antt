@@ -12,6 +12,7 @@ loop-to-init g c = record {
   short = c.known.ensures.not_long;
   can = can_here c.args.code.now c.args.self.now c.slot-at.result c.slot-at.ensures c.requires.can;
   reaches = λ tables s h never. first_reached c.args.code.now tables s (at_slot c.slot-at.result c.args.self.now) (held_here s c.args.self.now c.slot-at.result c.slot-at.ensures h);
+  few = omega arith;
 }
 
 pub offset_bounds-layout-at : goal.offset_bounds-layout-at
@@ -37,7 +38,7 @@ execute_flat-requires-clause-can g c =
 pub returns-in_default-clause-reaches : goal.returns-in_default-clause-reaches
 returns-in_default-clause-reaches g c = λ tables s h never.
     let same : c.set_slot.new.self ≡ at_slot c.loop-to.at c.loop-to.self = c.set_slot.ensures ∙ ap (λ (m : Words). at_slot c.loop-to.at m) c.in_default.ensures.same in
-    subst (λ (m : Words). Reaches c.args.code.now tables s m) (sym same) (c.loop-to.invariant.reaches tables s h never)
+    subst (λ (m : Words). Reaches c.args.code.now tables s c.loop-to.count m) (sym same) (c.loop-to.invariant.reaches tables s h never)
 
 pub returns-in_default-clause-stops : goal.returns-in_default-clause-stops
 returns-in_default-clause-stops g c =
@@ -61,7 +62,8 @@ loop-to-preserved g c =
       laid = c.loop-to.invariant.laid;
       short = c.loop-to.invariant.short;
       can = can_further p c.loop-to.at to m n _ e c.in-Some.ensures.goes_on.held c.loop-to.invariant.can;
-      reaches = λ tables s h never. reaches_further p c.loop-to.at to m n _ e c.in-Some.ensures.goes_on.held c.in-Some.ensures.goes_on.plain tables s never (c.loop-to.invariant.reaches tables s h never);
+      reaches = λ tables s h never. reaches_further p c.loop-to.at to m n _ e c.in-Some.ensures.goes_on.held c.in-Some.ensures.goes_on.plain tables s c.loop-to.count never (c.loop-to.invariant.reaches tables s h never);
+      few = (let few = c.loop-to.invariant.few in omega (arith, few, c.in-Some.ensures.goes_on.further));
     }
 
 pub overflow_add-at : goal.overflow_add-at
@@ -69,3 +71,10 @@ overflow_add-at g c =
     let i = inside c.args.code.now c.args.layout.now c.loop-to.at c.loop-to.self c.loop-to.invariant.laid c.loop-to.invariant.can in
     let long = c.loop-to.invariant.laid.long in
     omega (arith, i, long, c.loop-to.invariant.short)
+
+pub overflow_add-count : goal.overflow_add-count
+overflow_add-count g c =
+    let i = inside c.args.code.now c.args.layout.now c.loop-to.at c.loop-to.self c.loop-to.invariant.laid c.loop-to.invariant.can in
+    let long = c.loop-to.invariant.laid.long in
+    let few = c.loop-to.invariant.few in
+    omega (arith, i, long, few, c.loop-to.invariant.short)

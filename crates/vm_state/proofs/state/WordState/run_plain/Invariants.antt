@@ -12,7 +12,8 @@ invariant-loop-to g l = record {
   laid : LaidOut l.code l.layout;
   short : length l.code ≤ 4096;
   can : CanRunOn l.code (at_slot l.at l.self);
-  reaches : (tables : Tables) (s : State) → Holds s l.fn.self → IsNeverStuck l.code tables s → Reaches l.code tables s (at_slot l.at l.self);
+  reaches : (tables : Tables) (s : State) → Holds s l.fn.self → IsNeverStuck l.code tables s → Reaches l.code tables s l.count (at_slot l.at l.self);
+  few : l.count ≤ l.at;
 }
 
 abbrev pub decreases-loop-to : goal.decreases-loop-to

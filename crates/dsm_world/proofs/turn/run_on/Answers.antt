@@ -11,16 +11,19 @@ use Rattle.dsm_world.specs.System.{setting_of, world_of}
 use Rattle.dsm_world.specs.Turned.{outcome_of}
 use Rattle.dsm_world.specs.Holdings.{system_of, call_slots, IsTogether}
 use Rattle.dsm_world.proofs.Numbered.{get_lt, set_twice}
-use Rattle.dsm_world.proofs.StepLemmas.{turn_no_call}
+use Rattle.dsm_world.specs.Execution.{IsExecution}
+use Rattle.dsm_world.proofs.StepLemmas.{turn_no_call, execution_keeps}
 use Rattle.dsm_world.proofs.ReplicaLemmas.{in_procedures}
 use Rattle.dsm_world.proofs.CallLemmas.{with_slots, no_call, slot_changed, open_facts, call_replica, can_turn, turn_steps, map_count, set_count, some_is, found_here}
-use Rattle.dsm_world.proofs.turn.turn.Goals as goal
+use Rattle.dsm_world.proofs.turn.run_on.Goals as goal
 
-pub returns-in_default-clause-step : goal.returns-in_default-clause-step
-returns-in_default-clause-step g c =
+pub returns-in_default-clause-turns : goal.returns-in_default-clause-turns
+returns-in_default-clause-turns g c =
     let s = system_of c.args.world.now in
+    let is =
     subst (λ xs. IsStep (setting_of s) (world_of s) (TurnStep c.args.call) _ (world_of (with_slots s (map (λ slot. option_map (λ b. b.value) slot) xs)))) (sym (c.in_default.ensures.unchanged refl))
-    (turn_no_call (setting_of s) (world_of s) c.args.call (no_call s (call_slots c.args.world.now) c.args.call refl (c.in_default.ensures.none refl)))
+    (turn_no_call (setting_of s) (world_of s) c.args.call (no_call s (call_slots c.args.world.now) c.args.call refl (c.in_default.ensures.none refl))) in
+    (0, omega arith, λ one. refl, is)
 
 pub unreachable-requires : goal.unreachable-requires
 unreachable-requires g c =
@@ -64,8 +67,8 @@ at-store-requires g c =
     let begun = f.begun in
     omega arith
 
-pub turn-answer-requires : goal.turn-answer-requires
-turn-answer-requires g c =
+pub take_turns-answer-requires : goal.take_turns-answer-requires
+take_turns-answer-requires g c =
     let s = system_of c.args.world.now in
     let slots = call_slots c.args.world.now in
     let o = c.in-Some.open_call.value in
@@ -82,8 +85,8 @@ turn-answer-requires g c =
           same (ap (λ (x : OpenCallState _). x.snapshot) c.deref-3.ensures) c.deref_mut.ensures.value c.deref-2.ensures (c.in-Some-by_number.ensures ∙ in_procedures c.deref-2.result.now.procedure c.procedures.result.now c.index-replica.result.now.procedures c.procedures.ensures) c.at-store.ensures.answers,
     )
 
-pub returns-then-not-stays_open-clause-step : goal.returns-then-not-stays_open-clause-step
-returns-then-not-stays_open-clause-step g c =
+pub returns-then-not-stays_open-clause-turns : goal.returns-then-not-stays_open-clause-turns
+returns-then-not-stays_open-clause-turns g c =
     let s = system_of c.args.world.now in
     let slots = call_slots c.args.world.now in
     let o = c.in-Some.open_call.value in
@@ -97,18 +100,21 @@ returns-then-not-stays_open-clause-step g c =
     (λ rows. c.at-store.result.gone ≡ false → AnswersFrom c.at-store.result.versions.now.tables c.at-store.result.position rows)
     c.index-replica.result.now c.deref-3.result.now.snapshot c.deref_mut.result.now c.deref-2.result.now c.entries_suffice.ensures.rows c.replicas_follow_the_log.ensures.procedures c.requires.together
     same snapshot c.deref_mut.ensures.value c.deref-2.ensures (c.in-Some-by_number.ensures ∙ in_procedures c.deref-2.result.now.procedure c.procedures.result.now c.index-replica.result.now.procedures c.procedures.ensures) c.at-store.ensures.answers in
-    let over : stays_open c.turn-answer.result ≡ false = sym c.stays_open.ensures ∙ c.if-not-stays_open.true in
-    subst (λ (x : Outcome). IsStep (setting_of s) (world_of s) (TurnStep c.args.call) x (world_of (with_slots s (map (λ slot. option_map (λ b. b.value) slot) c.take_call.new.calls.items)))) (sym c.outcome_of.ensures)
-    (subst (λ xs. IsStep (setting_of s) (world_of s) (TurnStep c.args.call) (outcome_of c.turn-answer.result) (world_of (with_slots s xs))) (sym c.in-Some.ensures.taken)
-    (turn_steps s slots c.args.call c.in-Some.at o c.turn-answer.new.self f c.turn-answer.result None c.at-store.result.gone c.index-replica.result.now c.deref-3.result.now.snapshot c.deref_mut.result.now c.requires.together c.in-Some.ensures.place
-    same snapshot c.deref_mut.ensures.value c.at-store.ensures.gone (c.turn-answer.ensures.turn (setting_of s) (items_of s.entries) can)
-    (ap (λ b. cond b (Some (open_call_of c.turn-answer.new.self)) None) (sym over))))
+    let over : stays_open c.take_turns-answer.result ≡ false = sym c.stays_open.ensures ∙ c.if-not-stays_open.true in
+    let (before, few, one, are) = c.take_turns-answer.ensures.turns (setting_of s) (items_of s.entries) can in
+    let is =
+    subst (λ (x : Outcome). IsExecution (setting_of s) (world_of s) c.args.call before x (world_of (with_slots s (map (λ slot. option_map (λ b. b.value) slot) c.take_call.new.calls.items)))) (sym c.outcome_of.ensures)
+    (subst (λ xs. IsExecution (setting_of s) (world_of s) c.args.call before (outcome_of c.take_turns-answer.result) (world_of (with_slots s xs))) (sym c.in-Some.ensures.taken)
+    (turn_steps s slots c.args.call c.in-Some.at o c.take_turns-answer.new.open_call f before c.take_turns-answer.result None c.at-store.result.gone c.index-replica.result.now c.deref-3.result.now.snapshot c.deref_mut.result.now c.requires.together c.in-Some.ensures.place
+    same snapshot c.deref_mut.ensures.value c.at-store.ensures.gone are
+    (ap (λ b. cond b (Some (open_call_of c.take_turns-answer.new.open_call)) None) (sym over)))) in
+    (before, few, one, is)
 
 pub returns-then-not-stays_open-clause-consistent : goal.returns-then-not-stays_open-clause-consistent
 returns-then-not-stays_open-clause-consistent g c =
     let s = system_of c.args.world.now in
     let slots = call_slots c.args.world.now in
-    let world = c.steps_keep_a_world.ensures.step (setting_of s) (world_of s) (TurnStep c.args.call) _ _ tt (returns-then-not-stays_open-clause-step g c) c.requires.together.world in
+    let world = execution_keeps (setting_of s) (c.steps_keep_a_world.ensures.step (setting_of s)) (world_of s) c.args.call _ _ _ (returns-then-not-stays_open-clause-turns g c).3 c.requires.together.world in
     record {
       together = subst (λ xs. IsTogether (with_slots s xs) xs) (sym c.in-Some.ensures.taken)
           (slot_changed s slots c.in-Some.at None c.requires.together (λ d bad. absurd cc) (subst (λ xs. IsWorld (setting_of s) (world_of (with_slots s xs))) c.in-Some.ensures.taken world));
@@ -126,8 +132,8 @@ put_call-requires g c =
     let count = set_count old c.in-Some.at None in
     omega arith
 
-pub returns-clause-step : goal.returns-clause-step
-returns-clause-step g c =
+pub returns-clause-turns : goal.returns-clause-turns
+returns-clause-turns g c =
     let s = system_of c.args.world.now in
     let slots = call_slots c.args.world.now in
     let o = c.in-Some.open_call.value in
@@ -141,13 +147,16 @@ returns-clause-step g c =
     (λ rows. c.at-store.result.gone ≡ false → AnswersFrom c.at-store.result.versions.now.tables c.at-store.result.position rows)
     c.index-replica.result.now c.deref-3.result.now.snapshot c.deref_mut.result.now c.deref-2.result.now c.entries_suffice.ensures.rows c.replicas_follow_the_log.ensures.procedures c.requires.together
     same snapshot c.deref_mut.ensures.value c.deref-2.ensures (c.in-Some-by_number.ensures ∙ in_procedures c.deref-2.result.now.procedure c.procedures.result.now c.index-replica.result.now.procedures c.procedures.ensures) c.at-store.ensures.answers in
-    let stays : stays_open c.turn-answer.result ≡ true = sym c.stays_open.ensures ∙ c.if-not-stays_open.false in
-    let put = c.put_call.ensures ∙ ap (λ xs. slice_set xs c.in-Some.at (Some c.turn-answer.new.self)) c.in-Some.ensures.taken ∙ set_twice slots c.in-Some.at None (Some c.turn-answer.new.self) in
-    subst (λ (x : Outcome). IsStep (setting_of s) (world_of s) (TurnStep c.args.call) x (world_of (with_slots s (map (λ slot. option_map (λ b. b.value) slot) c.put_call.new.calls.items)))) (sym c.outcome_of-2.ensures)
-    (subst (λ xs. IsStep (setting_of s) (world_of s) (TurnStep c.args.call) (outcome_of c.turn-answer.result) (world_of (with_slots s xs))) (sym put)
-    (turn_steps s slots c.args.call c.in-Some.at o c.turn-answer.new.self f c.turn-answer.result (Some c.turn-answer.new.self) c.at-store.result.gone c.index-replica.result.now c.deref-3.result.now.snapshot c.deref_mut.result.now c.requires.together c.in-Some.ensures.place
-    same snapshot c.deref_mut.ensures.value c.at-store.ensures.gone (c.turn-answer.ensures.turn (setting_of s) (items_of s.entries) can)
-    (ap (λ b. cond b (Some (open_call_of c.turn-answer.new.self)) None) (sym stays))))
+    let stays : stays_open c.take_turns-answer.result ≡ true = sym c.stays_open.ensures ∙ c.if-not-stays_open.false in
+    let put = c.put_call.ensures ∙ ap (λ xs. slice_set xs c.in-Some.at (Some c.take_turns-answer.new.open_call)) c.in-Some.ensures.taken ∙ set_twice slots c.in-Some.at None (Some c.take_turns-answer.new.open_call) in
+    let (before, few, one, are) = c.take_turns-answer.ensures.turns (setting_of s) (items_of s.entries) can in
+    let is =
+    subst (λ (x : Outcome). IsExecution (setting_of s) (world_of s) c.args.call before x (world_of (with_slots s (map (λ slot. option_map (λ b. b.value) slot) c.put_call.new.calls.items)))) (sym c.outcome_of-2.ensures)
+    (subst (λ xs. IsExecution (setting_of s) (world_of s) c.args.call before (outcome_of c.take_turns-answer.result) (world_of (with_slots s xs))) (sym put)
+    (turn_steps s slots c.args.call c.in-Some.at o c.take_turns-answer.new.open_call f before c.take_turns-answer.result (Some c.take_turns-answer.new.open_call) c.at-store.result.gone c.index-replica.result.now c.deref-3.result.now.snapshot c.deref_mut.result.now c.requires.together c.in-Some.ensures.place
+    same snapshot c.deref_mut.ensures.value c.at-store.ensures.gone are
+    (ap (λ b. cond b (Some (open_call_of c.take_turns-answer.new.open_call)) None) (sym stays)))) in
+    (before, few, one, is)
 
 pub returns-clause-consistent : goal.returns-clause-consistent
 returns-clause-consistent g c =
@@ -164,13 +173,13 @@ returns-clause-consistent g c =
     (λ rows. c.at-store.result.gone ≡ false → AnswersFrom c.at-store.result.versions.now.tables c.at-store.result.position rows)
     c.index-replica.result.now c.deref-3.result.now.snapshot c.deref_mut.result.now c.deref-2.result.now c.entries_suffice.ensures.rows c.replicas_follow_the_log.ensures.procedures c.requires.together
     same snapshot c.deref_mut.ensures.value c.deref-2.ensures (c.in-Some-by_number.ensures ∙ in_procedures c.deref-2.result.now.procedure c.procedures.result.now c.index-replica.result.now.procedures c.procedures.ensures) c.at-store.ensures.answers in
-    let stays : stays_open c.turn-answer.result ≡ true = sym c.stays_open.ensures ∙ c.if-not-stays_open.false in
-    let put = c.put_call.ensures ∙ ap (λ xs. slice_set xs c.in-Some.at (Some c.turn-answer.new.self)) c.in-Some.ensures.taken ∙ set_twice slots c.in-Some.at None (Some c.turn-answer.new.self) in
-    let follows = (c.turn-answer.ensures.goes_on (setting_of s) (items_of s.entries) can stays).follows in
-    let world = c.steps_keep_a_world.ensures.step (setting_of s) (world_of s) (TurnStep c.args.call) _ _ tt (returns-clause-step g c) c.requires.together.world in
+    let stays : stays_open c.take_turns-answer.result ≡ true = sym c.stays_open.ensures ∙ c.if-not-stays_open.false in
+    let put = c.put_call.ensures ∙ ap (λ xs. slice_set xs c.in-Some.at (Some c.take_turns-answer.new.open_call)) c.in-Some.ensures.taken ∙ set_twice slots c.in-Some.at None (Some c.take_turns-answer.new.open_call) in
+    let follows = (c.take_turns-answer.ensures.goes_on (setting_of s) (items_of s.entries) can stays).follows in
+    let world = execution_keeps (setting_of s) (c.steps_keep_a_world.ensures.step (setting_of s)) (world_of s) c.args.call _ _ _ (returns-clause-turns g c).3 c.requires.together.world in
     record {
       together = subst (λ xs. IsTogether (with_slots s xs) xs) (sym put)
-          (slot_changed s slots c.in-Some.at (Some c.turn-answer.new.self) c.requires.together (λ d e. subst (λ x. Follows (setting_of s) (items_of s.entries) x) (some_is c.turn-answer.new.self d e) follows) (subst (λ xs. IsWorld (setting_of s) (world_of (with_slots s xs))) put world));
+          (slot_changed s slots c.in-Some.at (Some c.take_turns-answer.new.open_call) c.requires.together (λ d e. subst (λ x. Follows (setting_of s) (items_of s.entries) x) (some_is c.take_turns-answer.new.open_call d e) follows) (subst (λ xs. IsWorld (setting_of s) (world_of (with_slots s xs))) put world));
       for_tables = c.requires.for_tables;
       additions = c.requires.additions;
     }
