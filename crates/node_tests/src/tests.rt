@@ -19,7 +19,6 @@ use test_procedures::{ONE, PROCEDURES, TABLES};
 
 mod calls;
 mod gate;
-mod growths;
 
 use calls::{added, adds, numbered, one_session, overlap, puts, refusals, two_puts};
 use gate::{Hold, HoldingGate};
@@ -57,17 +56,14 @@ fn procedures_of(rt: &impl Abort, alloc: Global) -> Catalogue {
 }
 
 fn sum_of(counts: &Counts) -> u64 {
-    [
-        counts.committed,
-        counts.read,
-        counts.cancelled,
-        counts.conflict,
-        counts.stale,
-        counts.repeated,
-        counts.other,
-    ]
-    .iter()
-    .fold(0u64, |sum, count| sum.wrapping_add(*count))
+    counts
+        .committed
+        .wrapping_add(counts.read)
+        .wrapping_add(counts.cancelled)
+        .wrapping_add(counts.conflict)
+        .wrapping_add(counts.stale)
+        .wrapping_add(counts.repeated)
+        .wrapping_add(counts.other)
 }
 
 /// The row of 8 bytes that a replica has at a key of table 1, as a number; 0 where it has none.
@@ -118,16 +114,16 @@ fn try_case<
     let node = started.expect(rt, "a node");
     let desk = node.desk();
     match case {
-        Case::OneSession => one_session(rt, alloc, desk),
+        Case::OneSession => one_session(rt, desk),
         Case::Overlap => {
-            let answers = overlap(rt, alloc, desk, &hold);
+            let answers = overlap(rt, desk, &hold);
             assert_eq!(rt; answers, overlapped(size.executors));
         }
-        Case::TwoPuts => two_puts(rt, alloc, desk),
+        Case::TwoPuts => two_puts(rt, desk),
         Case::Adds => adds(rt, alloc, desk),
         Case::Puts => puts(rt, alloc, desk),
-        Case::Numbered => numbered(rt, alloc, desk),
-        Case::Refusals => refusals(rt, alloc, desk),
+        Case::Numbered => numbered(rt, desk),
+        Case::Refusals => refusals(rt, desk),
         Case::Added => added(rt, alloc, &node),
     }
     let finish = node.finish(rt);

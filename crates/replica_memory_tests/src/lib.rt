@@ -1,4 +1,4 @@
-//! Tests of replicas and versions of rows to which memory is refused, and of the pages of a table.
+//! Tests of replicas to which memory is refused.
 #![tactic(auto)]
 
 #[cfg(test)]

@@ -1,6 +1,5 @@
-//! Replicas and versions of rows for which there is no memory, and the pages of a table.
+//! Replicas for which there is no memory.
 
-mod pages;
 mod refused;
 mod refused_growths;
 mod states;

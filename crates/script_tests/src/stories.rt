@@ -324,7 +324,8 @@ static INTERVALS: Story = Story {
     fault: "",
 };
 
-/// Calls that fall more than the window behind; one that had come to its end before isn't stale.
+/// Calls that fall more than the window behind: one is stale at its first look, taken by turns or to its end; one that
+/// had come to its end before isn't, nor is one that looks at nothing.
 static FALLS_BEHIND: Story = Story {
     lines: &[
         "window 2",
@@ -338,6 +339,8 @@ static FALLS_BEHIND: Story = Story {
         "begin 1 put 04000000000000000400000000000000",
         "begin 1 add 09000000000000000100000000000000",
         "begin 1 put 05000000000000000500000000000000",
+        "begin 1 add 09000000000000000100000000000000",
+        "begin 1 put 06000000000000000600000000000000",
         "exec 6",
         "exec 1",
         "exec 2",
@@ -357,6 +360,12 @@ static FALLS_BEHIND: Story = Story {
         "turn 5 1",
         "turn 5 1",
         "turn 6 1",
+        "exec 6",
+        "turn 7 2",
+        "exec 7",
+        "exec 7",
+        "exec 8",
+        "exec 8",
         "deliver 1 1",
     ],
     prints: &[
@@ -366,6 +375,8 @@ static FALLS_BEHIND: Story = Story {
         "call 4 replica 1 snapshot 0",
         "call 5 replica 1 snapshot 0",
         "call 6 replica 1 snapshot 0",
+        "call 7 replica 1 snapshot 0",
+        "call 8 replica 1 snapshot 0",
         "call 6 exit 0",
         "call 1 exit 0",
         "call 2 exit 0",
@@ -387,6 +398,12 @@ static FALLS_BEHIND: Story = Story {
         "call 5 stale",
         "call 5 refused P4",
         "call 6 exit 0",
+        "call 6 exit 0",
+        "call 7 more",
+        "call 7 stale",
+        "call 7 refused P4",
+        "call 8 exit 0",
+        "call 8 exit 0",
         "replica 1 number 4 stale",
     ],
     fault: "",

@@ -1,4 +1,4 @@
-//! Two increments of which the second conflicts, and refused memory.
+//! Two increments of which the second conflicts, calls that are run to their end in one go, and refused memory.
 
 use dsm_model::Outcome;
 use dsm_world::{Step, World};
@@ -9,6 +9,7 @@ use std::process::Abort;
 use test_entries::catalogue_of;
 use test_procedures::{PROCEDURES, TABLES};
 
+mod executions;
 mod increments;
 mod refused;
 

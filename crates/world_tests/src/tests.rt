@@ -1,42 +1,4 @@
-use test_programs::{ADD, COUNT, DELETE, NEXT, PUT, PUT_AND_CANCEL, READ, SKEW};
+//! Drawn worlds, and what the plain replayer says of their logs.
 
-mod drawn;
 mod events;
 mod replayed;
-
-/// With what `PUT_AND_CANCEL` cancels.
-const CANCEL_CODE: u64 = 9;
-
-/// The procedures of the catalogue: their numbers, each with its program and how many words it takes. The last two are
-/// never ordered.
-static PROCEDURES: [(u16, &str, usize); 8] = [
-    (1, ADD, 2),
-    (2, SKEW, 2),
-    (3, PUT, 2),
-    (4, COUNT, 3),
-    (5, NEXT, 3),
-    (6, DELETE, 1),
-    (8, READ, 1),
-    (9, PUT_AND_CANCEL, 2),
-];
-
-const READ_PLACE: usize = 6;
-
-const CANCEL_PLACE: usize = 7;
-
-/// The place in the catalogue of the procedure of a number.
-fn catalogue_place(number: u16) -> Option<usize> {
-    PROCEDURES
-        .iter()
-        .position(|procedure| procedure.0 == number)
-}
-
-fn is_of_catalogue(number: u16) -> bool {
-    catalogue_place(number).is_some()
-}
-
-/// The place of the procedure whose program a number has: its own, and where the catalogue has none of it one of them
-/// in turn, so that a number tells the program of a procedure that is added too.
-fn place_of(number: u16) -> usize {
-    catalogue_place(number).unwrap_or(usize::from(number % 8))
-}

@@ -1,14 +1,13 @@
 //! What drawn worlds have to come to often enough, besides each kind of outcome.
 
-use super::drawn::{Call, History, Ordered, UnknownProcedure};
-use super::is_of_catalogue;
 use log_model::{Identifier, RequestId, Verdict};
 use plain_replayer::ItemReport;
 use test_procedures::digit_of;
+use test_worlds::{Call, History, Ordered, UnknownProcedure, is_of_catalogue};
 
 /// What is counted.
 #[derive(Clone, Copy)]
-pub(super) enum Event {
+enum Event {
     /// A call repeats one, and its snapshot is within the window.
     RepeatedWithin,
     /// It is too old.
@@ -46,9 +45,13 @@ impl Events {
         }
     }
 
-    pub(super) fn count(&mut self, event: Event) {
+    fn count(&mut self, event: Event) {
+        self.add(event, 1);
+    }
+
+    fn add(&mut self, event: Event, times: u32) {
         if let Some(count) = self.counts.get_mut(event as usize) {
-            *count = count.wrapping_add(1);
+            *count = count.wrapping_add(times);
         }
     }
 
@@ -165,6 +168,10 @@ impl Events {
         for unknown in &history.unknown {
             self.count_unknown(unknown, &history.ordered, reports);
         }
+        self.add(
+            Event::AdditionWithoutMemory,
+            history.additions_without_memory,
+        );
     }
 
     /// Counts a call that didn't begin, where its procedure is added behind the position of its replica.

@@ -2,8 +2,6 @@
 
 ghost use Rattle.std.specs.Prelude.{◌<◌, ◌^◌, length};
 
-use super::PROCEDURES;
-use super::drawn::{DrawnWorld, History, KINDS, Ordered, new_world, program_of};
 use super::events::Events;
 use dsm_world::World;
 use log_entry::Entry;
@@ -16,6 +14,7 @@ use schema::Schema;
 use std::alloc::Global;
 use std::process::Abort;
 use test_procedures::{TABLES, digit_of, procedure_of};
+use test_worlds::{Call, DrawnWorld, History, KINDS, Ordered, PROCEDURES, new_world, program_of};
 use txn_view::{Gone, Store};
 
 /// How many worlds are drawn.
@@ -45,7 +44,21 @@ fn short(log: &[PlainItem]) -> &[PlainItem]
     if log.len() < 10_000 { log } else { &[] }
 }
 
-/// What was ordered, as the plain replayer takes it: an addition with the program that was asked for.
+/// An addition as the plain replayer takes it, with the program that was asked for.
+fn addition_of(rt: &impl Abort, alloc: Global, name: &str, number: u16) -> PlainItemKind {
+    let (words, program) = program_of(number);
+    let added = procedure_of(alloc, name.as_bytes(), number, program, words);
+    PlainItemKind::Addition(added.expect(rt, "memory"))
+}
+
+/// A call as it takes it.
+fn call_of(rt: &impl Abort, alloc: Global, number: u32, call: &Call) -> PlainItemKind {
+    let args = Vec::from_slice(alloc, &call.args).expect(rt, "memory");
+    let (procedure, snapshot) = (call.procedure, call.snapshot);
+    PlainItemKind::Call(PlainCall::new(number, procedure, args, snapshot, call.request))
+}
+
+/// What was ordered, as it takes it.
 fn item_of(
     rt: &impl Abort,
     alloc: Global,
@@ -53,21 +66,10 @@ fn item_of(
     ordered: &Ordered,
 ) -> Option<PlainItemKind> {
     match ordered {
-        Ordered::Addition { name, number } => {
-            let (words, program) = program_of(*number);
-            let added = procedure_of(alloc, name.as_bytes(), *number, program, words).expect(
-                rt, "memory",
-            );
-            Some(PlainItemKind::Addition(added))
-        }
+        Ordered::Addition { name, number } => Some(addition_of(rt, alloc, name, *number)),
         Ordered::Call(number) => {
-            let Some(call) = history.call(*number) else {
-                return None;
-            };
-            let args = Vec::from_slice(alloc, &call.args).expect(rt, "memory");
-            let (procedure, snapshot) = (call.procedure, call.snapshot);
-            let call = PlainCall::new(*number, procedure, args, snapshot, call.request);
-            Some(PlainItemKind::Call(call))
+            let call = history.call(*number);
+            call.map(|call| call_of(rt, alloc, *number, call))
         }
     }
 }
@@ -179,7 +181,10 @@ fn are_rows(found: &[Row], rows: &[Row]) -> bool {
 }
 
 fn finds<S: Store>(store: &S, row: &Row) -> bool {
-    store.get(row.table(), row.key()) == Ok(Some(row.bytes()))
+    match store.get(row.table(), row.key()) {
+        Ok(Some(found)) => found == row.bytes(),
+        _ => false,
+    }
 }
 
 /// Whether each of these rows is found.
@@ -204,11 +209,27 @@ fn shows_rows(
     let position = last.saturating_sub(before);
     let rows = replay.rows(position as usize).unwrap_or(&[]);
     let shown = match drawn.world.at(number, position) {
-        Some(at) if before > drawn.window => at.get(1, 1) == Err(Gone),
+        Some(at) if before > drawn.window => matches!(at.get(1, 1), Err(Gone)),
         Some(at) => finds_rows(&at, rows),
         None => false,
     };
     shown && drawn.world.at(number, last.saturating_add(1)).is_none()
+}
+
+/// Whether these are the rows of the replay after the position of a replica, which shows those after positions before
+/// it.
+fn has_listed(
+    drawn: &DrawnWorld<'_>,
+    replay: &CompletedReplay,
+    number: u32,
+    last: u32,
+    found: &[Row],
+) -> bool {
+    let rows = replay.rows(last as usize);
+    rows.is_some_and(|rows| are_rows(found, rows))
+        && shows_rows(drawn, replay, number, last, 0)
+        && shows_rows(drawn, replay, number, last, drawn.window.min(last))
+        && shows_rows(drawn, replay, number, last, last)
 }
 
 /// Whether a replica has the rows of the replay after its position, and shows those after positions before it.
@@ -219,15 +240,10 @@ fn has_rows(
     replay: &CompletedReplay,
     number: u32,
 ) -> bool {
-    let Some(listed) = drawn.world.rows(alloc, number).expect(rt, "memory") else {
-        return false;
-    };
-    let last = listed.position;
-    let rows = replay.rows(last as usize);
-    rows.is_some_and(|rows| are_rows(&listed.rows, rows))
-        && shows_rows(drawn, replay, number, last, 0)
-        && shows_rows(drawn, replay, number, last, drawn.window.min(last))
-        && shows_rows(drawn, replay, number, last, last)
+    match drawn.world.rows(alloc, number).expect(rt, "memory") {
+        Some(listed) => has_listed(drawn, replay, number, listed.position, &listed.rows),
+        None => false,
+    }
 }
 
 /// Whether each replica has the rows of the replay, and there are no more replicas.
@@ -294,29 +310,31 @@ fn difference_to(
     alloc: Global,
     drawn: &mut DrawnWorld<'_>,
     replay: &CompletedReplay,
+    events: &mut Events,
 ) -> Difference {
     if !have_rows(rt, alloc, drawn, replay) {
         return Difference::Rows;
     }
-    drawn.finish(rt);
+    drawn.finish();
     if !have_rows(rt, alloc, drawn, replay) {
         return Difference::LastRows;
     }
-    let mut events = drawn.history.events;
     events.count_all(&drawn.history, drawn.window, replay.reports());
-    drawn.history.events = events;
     difference_of_answers(drawn, replay)
 }
 
-fn find_difference(rt: &impl Abort, alloc: Global, drawn: &mut DrawnWorld<'_>) -> Difference {
-    let replay = replay_of(rt, alloc, drawn);
-    difference_to(rt, alloc, drawn, &replay)
-}
-
 /// Takes the steps of a drawn world, and compares it.
-fn run_and_compare(rt: &impl Abort, alloc: Global, drawn: &mut DrawnWorld<'_>) -> Difference {
-    drawn.run(rt);
-    find_difference(rt, alloc, drawn)
+fn run_and_compare(
+    rt: &impl Abort,
+    alloc: Global,
+    drawn: &mut DrawnWorld<'_>,
+    events: &mut Events,
+) -> Difference {
+    drawn.run();
+    let replay = replay_of(rt, alloc, drawn);
+    let found = difference_to(rt, alloc, drawn, &replay, events);
+    assert!(rt; !drawn.history.wanting, "memory");
+    found
 }
 
 /// Draws a world of a seed and compares it. Its outcomes are added by their kinds.
@@ -328,10 +346,9 @@ fn compare(
     events: &mut Events,
 ) -> Difference {
     let scarce = Scarce::new(alloc);
-    let mut drawn = new_world(rt, alloc, &scarce, seed, *kinds, *events);
-    let found = run_and_compare(rt, alloc, &mut drawn);
+    let mut drawn = new_world(alloc, &scarce, seed, *kinds).expect(rt, "memory");
+    let found = run_and_compare(rt, alloc, &mut drawn, events);
     *kinds = drawn.history.kinds;
-    *events = drawn.history.events;
     found
 }
 

@@ -1,5 +1,5 @@
 use Rattle.tallies.specs.Shared.{names_by_place}
-use Rattle.node_tests.proofs.tests.growths.try_case.Given as goal
+use Rattle.node_memory_tests.proofs.tests.try_case.Given as goal
 
 -- the node whose log's cells and ledgers were just made, of this catalogue and window
 abbrev pub ghosts-try_two-J-LogSetting : goal.ghosts-try_two-J-LogSetting

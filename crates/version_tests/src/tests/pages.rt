@@ -1,10 +1,8 @@
-//! The pages of a table, and versions for which there is no memory.
+//! The pages of a table.
 
 use row_sets::WriteSet;
-use rows_mv::Versions;
-use scarce::Scarce;
 use schema::Schema;
-use std::alloc::{Allocator, Global};
+use std::alloc::Global;
 use std::process::Abort;
 use test_procedures::TABLES;
 use test_replicas::CheckedVersions;

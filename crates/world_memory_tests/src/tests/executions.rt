@@ -1,0 +1,39 @@
+//! Calls that are run to their end in one go.
+
+use super::{BEGIN_SEVEN, BEGIN_TEN, same, two_replicas};
+use dsm_model::{Outcome, StepRefusal};
+use dsm_world::{Step, World};
+use scarce::Scarce;
+use std::process::Abort;
+
+/// What a call answers that finds no memory, and then again.
+fn refused(scarce: &Scarce, world: &mut World<&Scarce>) -> (Outcome, Outcome) {
+    let _ = world.step(BEGIN_TEN);
+    scarce.refuse_all(true);
+    let answer = world.exec(1);
+    scarce.refuse_all(false);
+    (answer, world.exec(1))
+}
+
+/// What a call answers of which ten turns were taken before, then again, and what comes of it.
+fn resumed(world: &mut World<&Scarce>) -> (Outcome, Outcome, Outcome) {
+    let _ = world.step(BEGIN_SEVEN);
+    for _ in 0..10 {
+        let _ = world.step(Step::Turn { call: 2 });
+    }
+    let answer = world.exec(2);
+    (answer, world.exec(2), world.step(Step::Order { call: 2 }))
+}
+
+#[test]
+fn an_execution_ends_as_its_turns_do(rt: HostRuntime) {
+    let scarce = Scarce::new(rt.alloc());
+    let mut world = two_replicas(&rt, &scarce);
+    let over = Outcome::Refused(StepRefusal::NoCall);
+    let told = refused(&scarce, &mut world);
+    same(&rt, "refused", told, (Outcome::NoMemory, over));
+    let exit = Outcome::Exit { reply: 7 };
+    let told = resumed(&mut world);
+    let ordered = Outcome::Ordered { position: 1 };
+    same(&rt, "resumed", told, (exit, exit, ordered));
+}
