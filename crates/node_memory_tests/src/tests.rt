@@ -288,7 +288,7 @@ fn a_stopped_replica_is_rebuilt(rt: HostRuntime) {
     let alloc = rt.alloc();
     let first = Scarce::new(alloc);
     let second = Scarce::new(alloc);
-    try_case(&rt, alloc, alloc, (&first, &second), Case::Stopped);
+    try_case(&rt, alloc, &first, (&first, &second), Case::Stopped);
 }
 
 #[test]

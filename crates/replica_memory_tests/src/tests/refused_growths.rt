@@ -15,8 +15,8 @@ use test_replicas::CheckedReplica;
 
 /// Entries, of which the last is delivered with a growth refused, and how many growths that has: seven make room for
 /// the key of a write where there is none (its row lies beside it), four for requests or procedures where there is
-/// none, one for a name, and one at times for the verdict. And what the replica says of itself before the last and after
-/// it.
+/// none, one for a name, and one at times for the verdict. And what the replica says of itself before the last and
+/// after it.
 struct RefusedCase {
     entries: &'static [EntryCase],
     growths: u64,
