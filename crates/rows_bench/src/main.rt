@@ -2,9 +2,9 @@
 //! it (bench/rows does).
 #![tactic(auto)]
 
-mod store;
+mod row_table;
 
-use crate::store::Store;
+use crate::row_table::RowTable;
 use anyhow::Context;
 use std::alloc::{AllocError, Global};
 use std::env;
@@ -19,9 +19,9 @@ fn drawn(number: u64) -> u64 {
 }
 
 /// Puts a first version of so many keys.
-fn fill(store: &mut Store, alloc: Global, keys: u64) -> Result<(), AllocError> {
+fn fill(table: &mut RowTable, alloc: Global, keys: u64) -> Result<(), AllocError> {
     for number in 0..keys {
-        store.put(alloc, drawn(number), 1)?;
+        table.put(alloc, drawn(number), 1)?;
     }
     Ok(())
 }
@@ -33,22 +33,22 @@ fn picked(call: u64, keys: u64) -> u64 {
 
 /// Puts a version more of drawn keys.
 fn fill_again(
-    store: &mut Store,
+    table: &mut RowTable,
     alloc: Global,
     keys: u64,
     versions: u64,
 ) -> Result<(), AllocError> {
     for call in 0..versions {
-        store.put(alloc, drawn(picked(call, keys)), 2)?;
+        table.put(alloc, drawn(picked(call, keys)), 2)?;
     }
     Ok(())
 }
 
 /// Reads drawn keys; how many have a row.
-fn read(store: &Store, keys: u64, reads: u64) -> u64 {
+fn read(table: &RowTable, keys: u64, reads: u64) -> u64 {
     let mut found = 0u64;
     for call in 0..reads {
-        if store.has_row(2, drawn(picked(call, keys))) {
+        if table.has_row(2, drawn(picked(call, keys))) {
             found = found.wrapping_add(1);
         }
     }
@@ -64,13 +64,13 @@ fn run(rt: &HostRuntime) -> anyhow::Result<()> {
     let reads = reads.context("the number of reads")?;
     let versions = words.get(3).and_then(|word| word.parse().ok());
     let versions = versions.context("the number of versions more")?;
-    let mut store = Store::new(alloc);
-    fill(&mut store, alloc, keys)?;
-    fill_again(&mut store, alloc, keys, versions)?;
-    let found = read(&store, keys, reads);
+    let mut table = RowTable::new(alloc);
+    fill(&mut table, alloc, keys)?;
+    fill_again(&mut table, alloc, keys, versions)?;
+    let found = read(&table, keys, reads);
     println!(rt; "keys {keys} found {found}")?;
     // So that only what is measured takes time.
-    std::mem::forget(store);
+    std::mem::forget(table);
     Ok(())
 }
 

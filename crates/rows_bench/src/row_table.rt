@@ -6,11 +6,11 @@ use std::marker::Model;
 
 /// A table of rows of 8 bytes.
 #[derive(Drop)]
-pub struct Store {
+pub struct RowTable {
     table: KeyTable<Global>,
 }
 
-impl Model for Store {
+impl Model for RowTable {
     ghost use Rattle.std.specs.Prelude.{◌≡◌};
     ghost use Rattle.key_table.specs.Table.{Table};
 
@@ -21,9 +21,10 @@ impl Model for Store {
     ghost invariant = { λ s. s.table.width ≡ 8 };
 }
 
-impl Store {
-    pub fn new(alloc: Global) -> Store {
-        Store {
+impl RowTable {
+    /// No rows.
+    pub fn new(alloc: Global) -> RowTable {
+        RowTable {
             table: KeyTable::new(alloc, 8),
         }
     }
