@@ -3,7 +3,9 @@
 #![tactic(auto)]
 
 pub use kind::Kind;
+pub use stack_bytes::StackBytes;
 pub use state::AbsState;
 
 mod kind;
+mod stack_bytes;
 mod state;

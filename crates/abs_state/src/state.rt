@@ -5,17 +5,16 @@ ghost use Rattle.abs_state.specs.State.{abs_entry, in_both, kind_join, kind_of, 
 ghost use Rattle.abs_state.specs.State.{with_initialised, with_kind, zip_with};
 
 use crate::kind::Kind;
+use crate::stack_bytes::StackBytes;
 use bpf_code::Register;
 use interval::Range;
 
-static ALL_INITIALISED: [bool; 512] = [true; 512];
-
 /// What is known of a state: the kind of each register's value, r0 first, and which of the stack's 512 bytes,
 /// the lowest first, are initialised.
-#[derive(Clone, Copy, Debug, PartialEq, Eq)]
+#[derive(Clone, Copy)]
 pub struct AbsState {
     pub kinds: [Kind; 11],
-    pub initialised: [bool; 512],
+    pub initialised: StackBytes,
 }
 
 impl AbsState {
@@ -28,7 +27,7 @@ impl AbsState {
         kinds[10] = Kind::Stack(0, 0);
         AbsState {
             kinds,
-            initialised: [false; 512],
+            initialised: StackBytes::none(),
         }
     }
 
@@ -38,7 +37,7 @@ impl AbsState {
         ensures { self.new ≡ state_join self.old other.now }
     {
         join_kinds(&mut self.kinds, &other.kinds);
-        join_initialised(&mut self.initialised, &other.initialised);
+        self.initialised.intersect(&other.initialised);
     }
 
     /// The kind of a register's value.
@@ -72,7 +71,7 @@ impl AbsState {
         requires { from + count ≤ 512 }
         ensures { self.new ≡ with_initialised self.old from count }
     {
-        put(&mut self.initialised, from, all_initialised(count));
+        self.initialised.add(from, count);
     }
 
     /// Whether so many bytes of the stack from an index on all are.
@@ -80,9 +79,7 @@ impl AbsState {
         requires { from + count ≤ 512 }
         ensures { result ≡ list_all (λ byte. byte) (take count (drop from self.now.initialised)) }
     {
-        self.initialised[from..from + count]
-            .iter()
-            .all(|byte| *byte)
+        self.initialised.has(from, count)
     }
 }
 
@@ -93,34 +90,4 @@ fn join_kinds(all: &mut [Kind], others: &[Kind])
     for index in 0..all.len() {
         all[index] = all[index].join(others[index]);
     }
-}
-
-fn join_initialised(all: &mut [bool], others: &[bool])
-    requires { length all.old ≡ length others.now }
-    ensures { all.new ≡ zip_with in_both all.old others.now }
-{
-    for index in 0..all.len() {
-        all[index] = in_both(all[index], others[index]);
-    }
-}
-
-fn in_both(one: bool, other: bool) -> bool
-    ensures { result ≡ in_both one other }
-{
-    one && other
-}
-
-fn put(all: &mut [bool], from: usize, some: &[bool])
-    requires { from + length some.now ≤ length all.old }
-    ensures { all.new ≡ take from all.old ++ some.now ++ drop (from + length some.now) all.old }
-{
-    all[from..from + some.len()].copy_from_slice(some);
-}
-
-#[tactic(auto, using(crate::proofs::ListLemmas::trues_taken))]
-fn all_initialised(count: usize) -> &'static [bool]
-    requires { count ≤ 512 }
-    ensures { result.now ≡ replicate count true }
-{
-    &ALL_INITIALISED[..count]
 }
