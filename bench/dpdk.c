@@ -1,12 +1,14 @@
-/* Runs a program on the BPF interpreter of DPDK (librte_bpf), for comparison: dpdk arithmetic|memory|mixed CALLS. The programs are
-   those of crates/machine_bench. It says how many instructions were run; the time is taken by whoever starts it (bench/machine). */
+/* Runs a program on the BPF interpreter of DPDK (librte_bpf), for comparison: dpdk arithmetic|memory|mixed CALLS; or loads one of
+   so many instructions and a few, which its verifier takes first: dpdk INSTRUCTIONS TIMES verify. The programs are those of
+   crates/machine_bench. It says how many instructions were run, or slots were taken; the time is taken by whoever starts it
+   (bench/machine). */
 #include <rte_bpf.h>
 #include <stdint.h>
 #include <stdio.h>
 #include <stdlib.h>
 #include <string.h>
 
-enum { SLOTS = 4096, REPEATED = 4000 };
+enum { SLOTS = 4160, REPEATED = 4000 };
 
 static struct ebpf_insn slots[SLOTS];
 static uint32_t count;
@@ -29,25 +31,41 @@ static void put_body(const char *kind)
     }
 }
 
-int main(int argc, char **argv)
+static void put_program(const char *kind, uint32_t instructions)
 {
-    if (argc < 3) return 2;
     static const int32_t starts[] = {7, 9, 3, 5, 1, 2, 3};
     static const int registers[] = {6, 7, 8, 9, 1, 2, 3};
     for (int i = 0; i < 7; i++) put(0xb7, registers[i], 0, 0, starts[i]);
-    while (count < REPEATED) put_body(argv[1]);
+    while (count < instructions) put_body(kind);
     put(0xbf, 0, 6, 0, 0), put(0x95, 0, 0, 0, 0);
+}
 
+static struct rte_bpf *loaded(void)
+{
     struct rte_bpf_prm program = {.ins = slots, .nb_ins = count, .prog_arg = {.type = RTE_BPF_ARG_RAW, .size = 8}};
-    struct rte_bpf *loaded = rte_bpf_load(&program);
-    if (loaded == NULL) {
+    struct rte_bpf *made = rte_bpf_load(&program);
+    if (made == NULL) {
         fputs("dpdk: the program isn't loaded\n", stderr);
-        return 1;
+        exit(1);
+    }
+    return made;
+}
+
+int main(int argc, char **argv)
+{
+    if (argc < 4) return 2;
+    uint32_t instructions = strtoul(argv[1], NULL, 10);
+    long times = atol(argv[2]);
+    put_program(instructions ? "mixed" : argv[1], instructions ? instructions : REPEATED);
+    if (instructions) {
+        for (long load = 0; load < times && strcmp(argv[3], "verify") == 0; load++) rte_bpf_destroy(loaded());
+        printf("slots %llu\n", (unsigned long long)times * count);
+        return 0;
     }
     static uint8_t argument[8];
+    struct rte_bpf *made = loaded();
     uint64_t sum = 0;
-    long calls = atol(argv[2]);
-    for (long call = 0; call < calls; call++) sum += rte_bpf_exec(loaded, argument);
-    printf("instructions %llu\n", (unsigned long long)calls * count);
+    for (long call = 0; call < times; call++) sum += rte_bpf_exec(made, argument);
+    printf("instructions %llu\n", (unsigned long long)times * count);
     return sum == 1;
 }

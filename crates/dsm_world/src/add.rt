@@ -21,7 +21,8 @@ use catalogue::{accepted_procedures_are_safe, each_catalogue_is_consistent};
 use dsm_model::{Outcome, StepRefusal, steps_keep_a_world};
 use log_entry::{AddedProcedure, Entry};
 use log_model::{a_log_only_grows, one_more_entry_carries_its_run};
-use program_checks::{CheckFault, check_program};
+use or_no_memory::OrNoMemory;
+use program_checks::check_program;
 use row_sets::Bytes;
 use schema::{MAX_ARGUMENTS, Schema};
 use std::alloc::{AllocError, Allocator};
@@ -91,8 +92,8 @@ fn checked<A: Allocator + Copy>(
 {
     match check_program(alloc, bytes, schema, args_len) {
         Ok(accepted) => Ok(accepted),
-        Err(CheckFault::NoMemory) => Err(StepRefusal::NoMemory),
-        Err(CheckFault::Program(fault)) => Err(StepRefusal::ProgramRefused(fault)),
+        Err(OrNoMemory::NoMemory) => Err(StepRefusal::NoMemory),
+        Err(OrNoMemory::Fault(fault)) => Err(StepRefusal::ProgramRefused(fault)),
     }
 }
 

@@ -1,5 +1,6 @@
-//! Runs a procedure of straight instructions again and again, at once or by turns, for measurements from outside: it
-//! says how many instructions were run, and the time is taken by whoever starts it (bench/machine does).
+//! Runs a procedure of straight instructions again and again, at once or by turns, or verifies one again and again, for
+//! measurements from outside: it says how many instructions were run, or slots were read, and the time is taken by
+//! whoever starts it (bench/machine does).
 #![tactic(auto)]
 
 use anyhow::Context;
@@ -21,8 +22,16 @@ enum Kind {
     Memory,
     /// Ten instructions over seven registers, with a load, a store and a branch that is never taken.
     Mixed,
-    /// Calls that get a row, each with the five instructions that make its arguments.
-    Calls,
+    /// Calls that get a row, each with the four instructions that make its arguments.
+    Gets,
+    /// Calls that put a row, each with five instructions before it.
+    Puts,
+    /// Calls that remove a row, each with two instructions before it.
+    Removals,
+    /// Calls that count the rows of an interval, each with three instructions before it.
+    Counts,
+    /// Calls that look for the next row of an interval, each with seven instructions before it.
+    Nexts,
 }
 
 impl Kind {
@@ -31,7 +40,11 @@ impl Kind {
             "arithmetic" => Some(Kind::Arithmetic),
             "memory" => Some(Kind::Memory),
             "mixed" => Some(Kind::Mixed),
-            "calls" => Some(Kind::Calls),
+            "gets" => Some(Kind::Gets),
+            "puts" => Some(Kind::Puts),
+            "removals" => Some(Kind::Removals),
+            "counts" => Some(Kind::Counts),
+            "nexts" => Some(Kind::Nexts),
             _ => None,
         }
     }
@@ -61,26 +74,55 @@ impl Kind {
                 [0x4f, 0x21, 0, 0, 0, 0, 0, 0],
                 [0x77, 0x02, 0, 0, 1, 0, 0, 0],
             ],
-            Kind::Calls => &[
+            Kind::Gets => &[
                 [0xb7, 0x01, 0, 0, 1, 0, 0, 0],
                 [0xb7, 0x02, 0, 0, 5, 0, 0, 0],
                 [0xbf, 0xa3, 0, 0, 0, 0, 0, 0],
                 [0x07, 0x03, 0, 0, 0xf8, 0xff, 0xff, 0xff],
                 [0x85, 0, 0, 0, 1, 0, 0, 0],
             ],
+            Kind::Puts => &[
+                [0x7b, 0x6a, 0xf8, 0xff, 0, 0, 0, 0],
+                [0xb7, 0x01, 0, 0, 1, 0, 0, 0],
+                [0xb7, 0x02, 0, 0, 5, 0, 0, 0],
+                [0xbf, 0xa3, 0, 0, 0, 0, 0, 0],
+                [0x07, 0x03, 0, 0, 0xf8, 0xff, 0xff, 0xff],
+                [0x85, 0, 0, 0, 2, 0, 0, 0],
+            ],
+            Kind::Removals => &[
+                [0xb7, 0x01, 0, 0, 1, 0, 0, 0],
+                [0xb7, 0x02, 0, 0, 5, 0, 0, 0],
+                [0x85, 0, 0, 0, 3, 0, 0, 0],
+            ],
+            Kind::Counts => &[
+                [0xb7, 0x01, 0, 0, 1, 0, 0, 0],
+                [0xb7, 0x02, 0, 0, 2, 0, 0, 0],
+                [0xb7, 0x03, 0, 0, 5, 0, 0, 0],
+                [0x85, 0, 0, 0, 4, 0, 0, 0],
+            ],
+            Kind::Nexts => &[
+                [0xb7, 0x01, 0, 0, 1, 0, 0, 0],
+                [0xb7, 0x02, 0, 0, 2, 0, 0, 0],
+                [0xb7, 0x03, 0, 0, 5, 0, 0, 0],
+                [0xbf, 0xa4, 0, 0, 0, 0, 0, 0],
+                [0x07, 0x04, 0, 0, 0xf8, 0xff, 0xff, 0xff],
+                [0xbf, 0xa5, 0, 0, 0, 0, 0, 0],
+                [0x07, 0x05, 0, 0, 0xf0, 0xff, 0xff, 0xff],
+                [0x85, 0, 0, 0, 5, 0, 0, 0],
+            ],
         }
     }
 }
 
-/// A procedure of 4,000 instructions and a few.
-fn procedure(alloc: Global, kind: Kind) -> Option<Accepted> {
+/// A program of so many instructions and a few: the starts, what is repeated, and the end.
+fn program(alloc: Global, kind: Kind, instructions: usize) -> Option<Vec<u8>> {
     let mut program = Vec::new(alloc);
     for (register, number) in [(6, 7), (7, 9), (8, 3), (9, 5), (1, 1), (2, 2), (3, 3)] {
         let start = [0xb7, register, 0, 0, number, 0, 0, 0];
         program.extend_from_slice(&start).ok()?;
     }
     let body = kind.body();
-    for _ in 0..4_000 / body.len().max(1) {
+    for _ in 0..instructions / body.len().max(1) {
         for slot in body {
             program.extend_from_slice(slot).ok()?;
         }
@@ -91,9 +133,29 @@ fn procedure(alloc: Global, kind: Kind) -> Option<Accepted> {
     program
         .extend_from_slice(&[0x95, 0, 0, 0, 0, 0, 0, 0])
         .ok()?;
-    let code = decode(alloc, &program).ok()?;
+    Some(program)
+}
+
+/// A procedure of 4,000 instructions and a few.
+fn procedure(alloc: Global, kind: Kind) -> Option<Accepted> {
+    let code = decode(alloc, &program(alloc, kind, 4_000)?).ok()?;
     let schema = Schema::new(alloc, &[(1, 8)]).ok()?;
     verify(alloc, code, &schema, 0).ok()
+}
+
+/// How many slots were read in so many readings of a program of so many instructions and a few, and then verified or not.
+fn slots_read(alloc: Global, instructions: usize, times: u32, is_verified: bool) -> Option<u64> {
+    let program = program(alloc, Kind::Mixed, instructions)?;
+    let schema = Schema::new(alloc, &[(1, 8)]).ok()?;
+    let mut slots = 0u64;
+    for _ in 0..times {
+        let code = decode(alloc, &program).ok()?;
+        slots = slots.saturating_add(code.slots() as u64);
+        if is_verified {
+            verify(alloc, code, &schema, 0).ok()?;
+        }
+    }
+    Some(slots)
 }
 
 /// How many instructions a call ran, at once or by turns.
@@ -122,16 +184,23 @@ fn turns(alloc: Global, kind: Kind, calls: u32, by_turns: bool) -> Option<u64> {
     Some(turns)
 }
 
-/// Reads a kind, how many calls are made and whether by turns, and says how many instructions were run.
+/// Reads what is measured, how often, and how: a kind of procedure that is called, at once or by turns, or how many
+/// instructions a program has that is read, and verified or not. Says how many instructions were run, or slots read.
 fn run(rt: &HostRuntime) -> anyhow::Result<()> {
     let words: Vec<String> = env::args(rt)?.collect(rt.alloc())?;
-    let kind = words.get(1).and_then(|word| Kind::from_word(word));
-    let kind = kind.context("the first word is arithmetic, memory, mixed or calls")?;
-    let calls = words.get(2).and_then(|word| word.parse().ok());
-    let calls = calls.context("the second word is how many calls are made")?;
-    let by_turns = words.get(3).is_some_and(|word| word.as_str() == "turns");
-    let turns = turns(rt.alloc(), kind, calls, by_turns).context("memory is wanting")?;
-    println!(rt; "instructions {turns}")?;
+    let what = words.get(1).context("the first word is what is measured")?;
+    let times = words.get(2).and_then(|word| word.parse().ok());
+    let times = times.context("the second word is how often")?;
+    let how = words.get(3).map(|word| word.as_str());
+    if let Ok(instructions) = what.parse() {
+        let slots = slots_read(rt.alloc(), instructions, times, how == Some("verify"));
+        println!(rt; "slots {}", slots.context("memory is wanting")?)?;
+        return Ok(());
+    }
+    let kind = Kind::from_word(what);
+    let kind = kind.context("what is measured is a kind of procedure or a number of instructions")?;
+    let turns = turns(rt.alloc(), kind, times, how == Some("turns"));
+    println!(rt; "instructions {}", turns.context("memory is wanting")?)?;
     Ok(())
 }
 

@@ -27,7 +27,7 @@ use test_procedures::{PROCEDURES, TABLES};
 type TwoReplicas<'a, J, P> = Shared<J, &'a Scarce, P, OpenGate>;
 
 /// What is tried at the two.
-#[derive(Clone, Copy, PartialEq, Eq)]
+#[derive(Clone, Copy)]
 enum Case {
     /// The second finds no memory, until it is made anew.
     Stopped,
@@ -132,7 +132,6 @@ fn length_of<J: LogSetting + Ledgers, P: Allocator + Copy>(shared: &TwoReplicas<
 }
 
 /// What came of calls whose growths were refused.
-#[derive(Clone, Copy, PartialEq, Eq)]
 struct Heard {
     /// How many were answered as ordered.
     ordered: u32,
@@ -227,7 +226,7 @@ fn try_two<
     let mut shared: TwoReplicas<'_, J, P> = made.expect(rt, "memory");
     assert!(rt; shared.add_replica(first, 1).is_ok());
     assert!(rt; shared.add_replica(second, 1).is_ok());
-    second.refuse_all(case == Case::Stopped);
+    second.refuse_all(matches!(case, Case::Stopped));
     let (to_first, at_first) = bounded(alloc, 4).expect(rt, "memory");
     let (to_second, at_second) = bounded(alloc, 4).expect(rt, "memory");
     let requests = [to_first, to_second];
@@ -284,17 +283,11 @@ fn try_case<P: Allocator + Copy + Send + Sync, R: Threads + Wait + Abort + Copy 
 }
 
 #[test]
-fn a_stopped_replica_is_rebuilt(rt: HostRuntime) {
+fn replicas_without_memory_stop_and_are_rebuilt(rt: HostRuntime) {
     let alloc = rt.alloc();
-    let first = Scarce::new(alloc);
-    let second = Scarce::new(alloc);
-    try_case(&rt, alloc, &first, (&first, &second), Case::Stopped);
-}
-
-#[test]
-fn each_growth_is_refused(rt: HostRuntime) {
-    let alloc = rt.alloc();
-    let first = Scarce::new(alloc);
-    let second = Scarce::new(alloc);
-    try_case(&rt, alloc, &first, (&first, &second), Case::Refused);
+    for case in [Case::Stopped, Case::Refused] {
+        let first = Scarce::new(alloc);
+        let second = Scarce::new(alloc);
+        try_case(&rt, alloc, &first, (&first, &second), case);
+    }
 }

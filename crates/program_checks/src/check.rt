@@ -12,15 +12,9 @@ use crate::laws::programs_pass_where_they_are_accepted;
 use bpf_code::{Code, DecodeCause, decode};
 use bpf_verify::{Accepted, Refusal, verify};
 use call_model::ProgramFault;
+use or_no_memory::OrNoMemory;
 use schema::Schema;
 use std::alloc::Allocator;
-
-/// Why a program is not accepted.
-#[derive(Clone, Copy, Debug, PartialEq, Eq)]
-pub enum CheckFault {
-    NoMemory,
-    Program(ProgramFault),
-}
 
 /// The program of some bytes, where the verifier accepts it for these tables and arguments of so many bytes.
 pub fn check_program<A: Allocator + Copy>(
@@ -28,7 +22,7 @@ pub fn check_program<A: Allocator + Copy>(
     bytes: &[u8],
     schema: &Schema<A>,
     args_len: u16,
-) -> Result<Accepted<A, A>, CheckFault>
+) -> Result<Accepted<A, A>, OrNoMemory<ProgramFault>>
     requires { args_len ≤ MAX_ARGUMENTS }
     ensures given { IfOk result (λ accepted. (accepted.tables ≡ schema.now) × (accepted.args_len ≡ args_len)) }
     ensures passed { IfOk result (λ accepted. check_of schema.now args_len bytes.now ≡ Passed accepted.program) }
@@ -39,8 +33,8 @@ pub fn check_program<A: Allocator + Copy>(
     match decode(alloc, bytes) {
         Ok(code) => verified(alloc, code, schema, args_len),
         Err(fault) => match fault.cause {
-            DecodeCause::NoMemory => Err(CheckFault::NoMemory),
-            _ => Err(CheckFault::Program(ProgramFault::Bytes(fault))),
+            DecodeCause::NoMemory => Err(OrNoMemory::NoMemory),
+            _ => Err(OrNoMemory::Fault(ProgramFault::Bytes(fault))),
         },
     }
 }
@@ -51,7 +45,7 @@ fn verified<A: Allocator + Copy>(
     code: Code<A>,
     schema: &Schema<A>,
     args_len: u16,
-) -> Result<Accepted<A, A>, CheckFault>
+) -> Result<Accepted<A, A>, OrNoMemory<ProgramFault>>
     requires { args_len ≤ MAX_ARGUMENTS }
     ensures given { IfOk result (λ accepted. accepted
         ≡ record { program = code; tables = schema.now; args_len = args_len }) }
@@ -61,8 +55,8 @@ fn verified<A: Allocator + Copy>(
 {
     match verify(alloc, code, schema, args_len) {
         Ok(accepted) => Ok(accepted),
-        Err(Refusal::NoMemory) => Err(CheckFault::NoMemory),
-        Err(Refusal::At { slot, cause }) => Err(CheckFault::Program(ProgramFault::Instruction {
+        Err(Refusal::NoMemory) => Err(OrNoMemory::NoMemory),
+        Err(Refusal::At { slot, cause }) => Err(OrNoMemory::Fault(ProgramFault::Instruction {
             slot,
             cause,
         })),

@@ -2,22 +2,24 @@
 use Rattle.std.specs.Prelude.{◌≡◌, ℕ, List, codes, Option}
 use Rattle.byte_output.specs.Writes.{AppendsBeginning}
 use Rattle.exit_status.specs.Failure.{SaysStream}
-use Rattle.program_commands.specs.declared.failure.CommandFailure.{CommandFailure}
-use Rattle.program_commands.specs.declared.failure.CommandFailure.TheVariants.{NoMemory, Input, Output}
+use Rattle.or_no_memory.specs.declared.OrNoMemory.{OrNoMemory}
+use Rattle.or_no_memory.specs.declared.OrNoMemory.TheVariants.{NoMemory, Fault}
+use Rattle.program_commands.specs.declared.failure.StreamFault.{StreamFault}
+use Rattle.program_commands.specs.declared.failure.StreamFault.TheVariants.{Input, Output}
 
 -- where the output failed, `Begun` says what it has; where memory was wanting or the input failed it is as it was
-abbrev pub Leaves : Type 0 → Option (List ℕ) → Option (List ℕ) → CommandFailure → Type 0
-Leaves Begun old new (Output error) = Begun
-Leaves Begun old new (Input error) = new ≡ old
+abbrev pub Leaves : Type 0 → Option (List ℕ) → Option (List ℕ) → OrNoMemory StreamFault → Type 0
+Leaves Begun old new (Fault (Output error)) = Begun
+Leaves Begun old new (Fault (Input error)) = new ≡ old
 Leaves Begun old new NoMemory = new ≡ old
 
 -- what is said of a failure, or a beginning of it
-abbrev pub IsSaid : Option (List ℕ) → Option (List ℕ) → CommandFailure → Type 0
+abbrev pub IsSaid : Option (List ℕ) → Option (List ℕ) → OrNoMemory StreamFault → Type 0
 IsSaid old new NoMemory = AppendsBeginning old new (codes "dsmdb: out of memory\n")
-IsSaid old new (Input error) = SaysStream old new
-IsSaid old new (Output error) = SaysStream old new
+IsSaid old new (Fault (Input error)) = SaysStream old new
+IsSaid old new (Fault (Output error)) = SaysStream old new
 
 -- it isn't the output that failed
-abbrev pub IsBeforeOutput : CommandFailure → Type 0
-IsBeforeOutput (Output error) = ⊥
+abbrev pub IsBeforeOutput : OrNoMemory StreamFault → Type 0
+IsBeforeOutput (Fault (Output error)) = ⊥
 IsBeforeOutput _ = Unit {0}

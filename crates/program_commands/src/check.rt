@@ -8,15 +8,17 @@ ghost use Rattle.schema.specs.Schema.{schema_of};
 ghost use Rattle.bpf_code.specs.Decoding.{program_of};
 ghost use Rattle.program_commands.specs.Checking.{IsVerdictOf, OfVerdict, verdict_text, verdict_status};
 ghost use Rattle.program_commands.specs.Failures.{IsBeforeOutput, IsSaid, Leaves};
-ghost use Rattle.program_commands.specs.declared.failure.CommandFailure.{CommandFailure};
+ghost use Rattle.or_no_memory.specs.declared.OrNoMemory.{OrNoMemory};
+ghost use Rattle.program_commands.specs.declared.failure.StreamFault.{StreamFault};
 ghost use Rattle.exit_status.specs.declared.status.TheConstants.{FAILED};
 
-use crate::failure::{CommandFailure, say};
+use crate::failure::{StreamFault, say};
 use crate::source::read_program;
 use crate::verdict::CheckVerdict;
 use bpf_verify::{Refusal, verify};
 use byte_output::put;
 use exit_status::FAILED;
+use or_no_memory::OrNoMemory;
 use schema::{Schema, SchemaFault};
 use std::alloc::Allocator;
 use std::io;
@@ -48,7 +50,7 @@ pub fn check_over<A: Allocator + Copy, R: Read, W: Write, E: Write>(
 
     // Else memory was wanting or the input failed, and the output is as it was; or the output failed, and has a
     // beginning of the line. What failed is said, as far as the writer takes it.
-    ensures failed { result ≡ FAILED → (failure : CommandFailure)
+    ensures failed { result ≡ FAILED → (failure : OrNoMemory StreamFault)
         × Leaves (IfSome (R.remaining input.old) (λ bytes.
         OfVerdict args_len (schema_of tables.now) (program_of bytes) (λ verdict.
         AppendsBeginning (W.contents output.old) (W.contents output.new) (verdict_text verdict))))
@@ -77,7 +79,7 @@ fn check<A: Allocator + Copy, R: Read, W: Write>(
     output: &mut W,
     args_len: u16,
     tables: &[(u8, u16)],
-) -> Result<CheckVerdict, CommandFailure>
+) -> Result<CheckVerdict, OrNoMemory<StreamFault>>
     requires { args_len ≤ MAX_ARGUMENTS }
     ensures verdict { IfOk result (λ verdict. IfSome (R.remaining input.old) (λ bytes.
         IsVerdictOf args_len (schema_of tables.now) (program_of bytes) verdict)) }
@@ -92,7 +94,7 @@ fn check<A: Allocator + Copy, R: Read, W: Write>(
     let verdict = verdict(alloc, input, args_len, tables)?;
     match print(&verdict.line(), output) {
         Ok(()) => Ok(verdict),
-        Err(error) => Err(CommandFailure::Output(error)),
+        Err(error) => Err(OrNoMemory::Fault(StreamFault::Output(error))),
     }
 }
 
@@ -110,7 +112,7 @@ fn verdict<A: Allocator + Copy, R: Read>(
     input: &mut R,
     args_len: u16,
     tables: &[(u8, u16)],
-) -> Result<CheckVerdict, CommandFailure>
+) -> Result<CheckVerdict, OrNoMemory<StreamFault>>
     requires { args_len ≤ MAX_ARGUMENTS }
     ensures verdict { IfOk result (λ verdict. IfSome (R.remaining input.old) (λ bytes.
         IsVerdictOf args_len (schema_of tables.now) (program_of bytes) verdict)) }
@@ -120,7 +122,7 @@ fn verdict<A: Allocator + Copy, R: Read>(
 {
     let schema = match Schema::new(alloc, tables) {
         Ok(schema) => schema,
-        Err(SchemaFault::NoMemory) => return Err(CommandFailure::NoMemory),
+        Err(SchemaFault::NoMemory) => return Err(OrNoMemory::NoMemory),
         Err(fault) => return Ok(CheckVerdict::NoSchema(fault)),
     };
     let code = match read_program(alloc, input)? {
@@ -134,6 +136,6 @@ fn verdict<A: Allocator + Copy, R: Read>(
             bound: accepted.bound(),
         }),
         Err(Refusal::At { slot, cause }) => Ok(CheckVerdict::Refused { slot, cause }),
-        Err(Refusal::NoMemory) => Err(CommandFailure::NoMemory),
+        Err(Refusal::NoMemory) => Err(OrNoMemory::NoMemory),
     }
 }

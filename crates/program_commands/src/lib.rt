@@ -3,7 +3,7 @@
 #![tactic(auto)]
 
 pub use check::check_over;
-pub use failure::CommandFailure;
+pub use failure::StreamFault;
 pub use list::list_over;
 pub use number::{number_in, table};
 pub use verdict::CheckVerdict;

@@ -7,16 +7,18 @@ ghost use Rattle.byte_output.specs.Pending.{output_of, Takes};
 ghost use Rattle.bpf_code.specs.Decoding.{program_of};
 ghost use Rattle.program_commands.specs.Failures.{IsSaid, Leaves};
 ghost use Rattle.program_commands.specs.Listing.{refused_text, listing_text, listing_status};
-ghost use Rattle.program_commands.specs.declared.failure.CommandFailure.{CommandFailure};
+ghost use Rattle.or_no_memory.specs.declared.OrNoMemory.{OrNoMemory};
+ghost use Rattle.program_commands.specs.declared.failure.StreamFault.{StreamFault};
 ghost use Rattle.exit_status.specs.declared.status.TheConstants.{FAILED};
 
-use crate::failure::{CommandFailure, say};
+use crate::failure::{StreamFault, say};
 use crate::source::read_program;
 use bpf_code::{Code, DecodeFault};
 use bpf_list::put_listing;
 use byte_output::line::{LineBuffer, push, push_unsigned};
 use byte_output::paged::PagedOutput;
 use exit_status::FAILED;
+use or_no_memory::OrNoMemory;
 use std::alloc::Allocator;
 use std::io;
 use std::io::{Read, Write};
@@ -40,7 +42,7 @@ pub fn list_over<A: Allocator + Copy, R: Read, W: Write, E: Write>(
 
     // Else memory was wanting or the input failed, and the output is as it was; or the output failed, and has a
     // beginning of the text. What failed is said, as far as the writer takes it.
-    ensures failed { result ≡ FAILED → (failure : CommandFailure)
+    ensures failed { result ≡ FAILED → (failure : OrNoMemory StreamFault)
         × Leaves (IfSome (R.remaining input.old) (λ bytes.
         AppendsBeginning (W.contents output.old) (W.contents output.new) (listing_text (program_of bytes))))
         (W.contents output.old) (W.contents output.new) failure
@@ -63,7 +65,7 @@ fn list<A: Allocator + Copy, R: Read, W: Write>(
     alloc: A,
     input: &mut R,
     output: &mut W,
-) -> Result<u8, CommandFailure>
+) -> Result<u8, OrNoMemory<StreamFault>>
     ensures ok { IfOk result (λ status. IfSome (R.remaining input.old) (λ bytes.
         Appends (W.contents output.old) (W.contents output.new) (listing_text (program_of bytes))
         × (status ≡ listing_status (program_of bytes)))) }
@@ -75,7 +77,7 @@ fn list<A: Allocator + Copy, R: Read, W: Write>(
     let decoded = read_program(alloc, input)?;
     match print(&decoded, output) {
         Ok(()) => Ok(status_of(&decoded)),
-        Err(error) => Err(CommandFailure::Output(error)),
+        Err(error) => Err(OrNoMemory::Fault(StreamFault::Output(error))),
     }
 }
 

@@ -6,8 +6,9 @@ ghost use Rattle.bpf_code.specs.Decoding.{program_of};
 ghost use Rattle.program_commands.specs.Failures.{IsBeforeOutput};
 ghost use Rattle.program_commands.specs.Source.{IsSourceOf};
 
-use crate::failure::CommandFailure;
+use crate::failure::StreamFault;
 use bpf_code::{Code, DecodeCause, DecodeFault, MAX_SLOTS, decode};
+use or_no_memory::OrNoMemory;
 use std::alloc::{AllocError, Allocator};
 use std::io;
 use std::io::{ErrorKind, Read};
@@ -90,7 +91,7 @@ fn read_some<R: Read>(input: &mut R, chunk: &mut [u8]) -> io::Result<usize>
 fn read_source<A: Allocator, R: Read>(
     alloc: A,
     input: &mut R,
-) -> Result<ProgramSource<A>, CommandFailure>
+) -> Result<ProgramSource<A>, OrNoMemory<StreamFault>>
     ensures source { IfOk result (λ source. IfSome (R.remaining input.old) (IsSourceOf source)) }
     ensures before { IfErr result IsBeforeOutput }
 {
@@ -99,7 +100,7 @@ fn read_source<A: Allocator, R: Read>(
     for _ in 0..u64::MAX {
         let count = match read_some(input, &mut chunk) {
             Ok(count) => count,
-            Err(error) => return Err(CommandFailure::Input(error)),
+            Err(error) => return Err(OrNoMemory::Fault(StreamFault::Input(error))),
         };
         if count == 0 {
             return Ok(front.source());
@@ -107,7 +108,7 @@ fn read_source<A: Allocator, R: Read>(
         let (piece, _) = chunk.split_at(count);
         front.add(piece)?;
     }
-    Err(CommandFailure::Input(io::Error::from(ErrorKind::Interrupted)))
+    Err(OrNoMemory::Fault(StreamFault::Input(io::Error::from(ErrorKind::Interrupted))))
 }
 
 /// What the bytes of a source decode to; the error is want of memory.
@@ -133,7 +134,7 @@ fn decode_source<A: Allocator>(
 pub(crate) fn read_program<A: Allocator + Copy, R: Read>(
     alloc: A,
     input: &mut R,
-) -> Result<Result<Code<A>, DecodeFault>, CommandFailure>
+) -> Result<Result<Code<A>, DecodeFault>, OrNoMemory<StreamFault>>
     ensures program { IfOk result (λ decoded. IfSome (R.remaining input.old) (λ bytes. program_of bytes ≡ decoded)) }
     ensures before { IfErr result IsBeforeOutput }
 {

@@ -8,9 +8,10 @@ use bpf_verify::Accepted;
 use call_model::ProgramFault;
 use log_entry::{AddedProcedure, Entry};
 use node_calls::Gate;
+use or_no_memory::OrNoMemory;
 use order_log::{AppendFault, Fact, OrderLog, Seen};
 use ordered_entries::{LogSetting, OrderedEntries};
-use program_checks::{CheckFault, check_program};
+use program_checks::check_program;
 use row_sets::Bytes;
 use schema::MAX_ARGUMENTS;
 use std::alloc::{AllocError, Allocator};
@@ -93,8 +94,8 @@ impl<J: LogSetting + Ledgers, A: Allocator + Copy, P: Allocator + Copy, G: Gate>
         }
         let accepted = match check_program(self.alloc, bytes, self.catalogue.schema(), args_len) {
             Ok(accepted) => accepted,
-            Err(CheckFault::NoMemory) => return Err(Added::NoMemory),
-            Err(CheckFault::Program(fault)) => {
+            Err(OrNoMemory::NoMemory) => return Err(Added::NoMemory),
+            Err(OrNoMemory::Fault(fault)) => {
                 return Err(Added::Program(ProgramRefusal::Fault(fault)));
             }
         };

@@ -1,12 +1,10 @@
 //! What a call sees: rows of a store, with its own writes over them, and what it has looked at.
 #![tactic(auto)]
 
-pub use fault::ReadFault;
 pub use read::{count_rows, next_row, read_row};
 pub use store::{Gone, NoStore, Store};
 pub use view::{Own, View};
 
-mod fault;
 mod read;
 mod seen;
 mod store;

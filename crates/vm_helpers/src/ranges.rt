@@ -12,9 +12,10 @@ use crate::calls::CallAnswer;
 use crate::laws::held_laws;
 use crate::parts::{flag, key_or_zeros, named_table, row_of, row_or_zeros};
 use bpf_code::Register;
+use or_no_memory::OrNoMemory;
 use schema::{Look, Schema, first_is_least, looks_cover_from_lo_to_hi};
 use std::alloc::Allocator;
-use txn_view::{ReadFault, Store, View, count_rows, next_row};
+use txn_view::{Gone, Store, View, count_rows, next_row};
 use vm_state::WordState;
 
 /// Counts the rows of an interval.
@@ -41,8 +42,8 @@ pub fn range_count<B: Allocator, S: Store, A: Allocator + Copy>(
     let look = Look { table, lo, hi };
     let count = match count_rows(&view.store, &own.writes, &mut own.looks, look) {
         Ok(count) => count,
-        Err(ReadFault::Gone) => return CallAnswer::Stale,
-        Err(ReadFault::NoMemory) => return CallAnswer::NoMemory,
+        Err(OrNoMemory::Fault(Gone)) => return CallAnswer::Stale,
+        Err(OrNoMemory::NoMemory) => return CallAnswer::NoMemory,
     };
     words.answer(count);
     CallAnswer::Done
@@ -74,8 +75,8 @@ pub fn range_next<B: Allocator, S: Store, A: Allocator + Copy>(
     let look = Look { table, lo, hi };
     let found = match next_row(&view.store, &own.writes, &mut own.looks, look) {
         Ok(found) => found,
-        Err(ReadFault::Gone) => return CallAnswer::Stale,
-        Err(ReadFault::NoMemory) => return CallAnswer::NoMemory,
+        Err(OrNoMemory::Fault(Gone)) => return CallAnswer::Stale,
+        Err(OrNoMemory::NoMemory) => return CallAnswer::NoMemory,
     };
     let key_address = words.word(Register::R4);
     let row_address = words.word(Register::R5);

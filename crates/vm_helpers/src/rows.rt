@@ -12,9 +12,10 @@ use crate::calls::CallAnswer;
 use crate::laws::held_laws;
 use crate::parts::{flag, named_table, row_or_zeros};
 use bpf_code::Register;
+use or_no_memory::OrNoMemory;
 use schema::Schema;
 use std::alloc::Allocator;
-use txn_view::{ReadFault, Store, View, read_row};
+use txn_view::{Gone, Store, View, read_row};
 use vm_state::WordState;
 
 /// Reads a row into a buffer.
@@ -39,8 +40,8 @@ pub fn row_get<B: Allocator, S: Store, A: Allocator + Copy>(
     let own = &mut view.own;
     let found = match read_row(&view.store, &own.writes, &mut own.looks, table, key) {
         Ok(found) => found,
-        Err(ReadFault::Gone) => return CallAnswer::Stale,
-        Err(ReadFault::NoMemory) => return CallAnswer::NoMemory,
+        Err(OrNoMemory::Fault(Gone)) => return CallAnswer::Stale,
+        Err(OrNoMemory::NoMemory) => return CallAnswer::NoMemory,
     };
     let address = words.word(Register::R3);
     words.put_bytes(address, row_or_zeros(found, width));

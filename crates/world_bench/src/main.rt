@@ -1,24 +1,28 @@
-//! Takes steps of a world by one call, for measurements from outside: the time is taken by whoever starts it
-//! (bench/world does).
+//! Takes steps of a world by one call, or makes whole calls at one replica, for measurements from outside: the time is
+//! taken by whoever starts it (bench/world and bench/calls do).
 #![tactic(auto)]
 
 mod steps;
 mod worlds;
 
-use crate::steps::{arguments_of, steps_of};
-use crate::worlds::{commits, new_world};
+use crate::steps::{arguments_of, calls_of, steps_of};
+use crate::worlds::{commits, commits_of_calls, new_world};
 use anyhow::Context;
 use std::alloc::Global;
 use std::env;
 use std::process::ExitCode;
 
-/// What is done with the steps.
+/// What is done.
 #[derive(Clone, Copy, Debug, PartialEq, Eq)]
 enum Work {
-    /// A world takes them.
+    /// A world of two replicas takes steps.
     Run,
-    /// They are only made, and the world too.
+    /// The steps are only made, and the world too.
     Make,
+    /// Whole calls are made at a world of one replica.
+    Call,
+    /// The arguments of calls are only made, and the world too.
+    Begin,
 }
 
 impl Work {
@@ -26,38 +30,52 @@ impl Work {
         match word {
             "run" => Some(Work::Run),
             "make" => Some(Work::Make),
+            "call" => Some(Work::Call),
+            "begin" => Some(Work::Begin),
             _ => None,
         }
     }
 }
 
-/// Makes so many steps of calls at so many keys: a count of what came of them, and what it counts.
-fn count_of(alloc: Global, work: Work, keys: u64, count: u32) -> Option<(&'static str, u64)> {
-    let arguments = arguments_of(alloc, keys, count).ok()?;
+/// Takes so many steps of calls at so many keys, or only makes them: how many deliveries found their call committed.
+fn commits_of_steps(alloc: Global, is_run: bool, keys: u64, count: u32) -> Option<u32> {
+    let arguments = arguments_of(alloc, keys, calls_of(count)).ok()?;
     let steps = steps_of(alloc, &arguments, count).ok()?;
-    let mut world = new_world(alloc)?;
-    match work {
-        Work::Run => Some(("commits", u64::from(commits(&world.run(&steps).ok()?)))),
-        Work::Make => Some(("steps", steps.len() as u64)),
+    let mut world = new_world(alloc, 2)?;
+    if !is_run {
+        return Some(0);
     }
+    Some(commits(&world.run(&steps).ok()?))
+}
+
+/// Makes so many calls at so many keys, or only their arguments: how many committed.
+fn commits_of(alloc: Global, is_made: bool, keys: u64, count: u32) -> Option<u32> {
+    let arguments = arguments_of(alloc, keys, count).ok()?;
+    let mut world = new_world(alloc, 1)?;
+    if !is_made {
+        return Some(0);
+    }
+    Some(commits_of_calls(&mut world, &arguments))
 }
 
 fn report(rt: &HostRuntime, work: Work, keys: u64, count: u32) -> anyhow::Result<()> {
-    let counted = count_of(rt.alloc(), work, keys, count);
-    let (what, number) = counted.context("memory is wanting")?;
-    println!(rt; "{what} {number}")?;
+    let commits = match work {
+        Work::Run | Work::Make => commits_of_steps(rt.alloc(), work == Work::Run, keys, count),
+        Work::Call | Work::Begin => commits_of(rt.alloc(), work == Work::Call, keys, count),
+    };
+    println!(rt; "commits {}", commits.context("memory is wanting")?)?;
     Ok(())
 }
 
-/// Reads the three words: the work, how many keys, and how many steps.
+/// Reads the three words: the work, how many keys, and how many steps or calls.
 fn run(rt: &HostRuntime) -> anyhow::Result<()> {
     let words: Vec<String> = env::args(rt)?.collect(rt.alloc())?;
     let work = words.get(1).and_then(|word| Work::from_word(word));
-    let work = work.context("the first word is run or make")?;
+    let work = work.context("the first word is run, make, call or begin")?;
     let keys = words.get(2).and_then(|word| word.parse().ok());
     let keys = keys.context("the second word is how many keys there are")?;
     let count = words.get(3).and_then(|word| word.parse().ok());
-    let count = count.context("the third word is how many steps are taken")?;
+    let count = count.context("the third word is how many steps or calls there are")?;
     report(rt, work, keys, count)
 }
 

@@ -21,14 +21,19 @@ fn argument_of(number: u32, keys: u64) -> [u8; 16] {
     bytes
 }
 
-/// The arguments of as many calls as take so many steps.
+/// How many calls take so many steps.
+pub(crate) fn calls_of(steps: u32) -> u32 {
+    steps.div_ceil(STEPS_OF_A_CALL)
+}
+
+/// The arguments of so many calls.
 pub(crate) fn arguments_of(
     alloc: Global,
     keys: u64,
-    count: u32,
+    calls: u32,
 ) -> Result<Vec<[u8; 16]>, AllocError> {
     let mut arguments = Vec::new(alloc);
-    for number in 0..count.div_ceil(STEPS_OF_A_CALL) {
+    for number in 0..calls {
         arguments.push(argument_of(number, keys))?;
     }
     Ok(arguments)

@@ -1,10 +1,10 @@
-//! Worlds whose one procedure adds to the row at a key, and what comes of their deliveries.
+//! Worlds whose one procedure adds to the row at a key, and what comes of their calls.
 
 use bpf_code::decode;
 use bpf_verify::verify;
 use catalogue::Catalogue;
 use dsm_model::Outcome;
-use dsm_world::World;
+use dsm_world::{Step, World};
 use log_model::Verdict;
 use schema::Schema;
 use std::alloc::Global;
@@ -19,9 +19,36 @@ fn catalogue_of(alloc: Global) -> Option<Catalogue> {
     Some(catalogue)
 }
 
-/// One of two replicas, each with a window of 4,096.
-pub(crate) fn new_world(alloc: Global) -> Option<World> {
-    World::new(alloc, 2, 4_096, catalogue_of(alloc)?).ok()
+/// One of so many replicas, each with a window of 4,096.
+pub(crate) fn new_world(alloc: Global, replicas: u32) -> Option<World> {
+    World::new(alloc, replicas, 4_096, catalogue_of(alloc)?).ok()
+}
+
+/// Whether a call at replica 1 commits, which is begun, run to its end, ordered and delivered there.
+fn is_committed(world: &mut World, args: &[u8]) -> bool {
+    let begin = Step::Begin {
+        replica: 1,
+        procedure: 1,
+        args,
+    };
+    let Outcome::Begun { call, .. } = world.step(begin) else {
+        return false;
+    };
+    let _ = world.exec(call);
+    let _ = world.step(Step::Order { call });
+    let delivered = world.step(Step::Deliver { replica: 1 });
+    commits(&[delivered]) == 1
+}
+
+/// How many of the calls with these arguments commit, made one after another.
+pub(crate) fn commits_of_calls(world: &mut World, arguments: &[[u8; 16]]) -> u32 {
+    let mut commits = 0u32;
+    for args in arguments {
+        if is_committed(world, args) {
+            commits = commits.wrapping_add(1);
+        }
+    }
+    commits
 }
 
 /// How many deliveries found their call committed.

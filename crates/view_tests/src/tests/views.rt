@@ -1,20 +1,21 @@
 //! Reads and writes through a view of a plain store.
 
 use super::same;
+use or_no_memory::OrNoMemory;
 use plain_rows::{Bytes, KeyMap, Row};
 use plain_store::PlainStore;
 use scarce::Scarce;
 use schema::Look;
 use std::alloc::{Allocator, Global};
 use std::process::Abort;
-use txn_view::{Own, ReadFault, Store, View, count_rows, next_row, read_row};
+use txn_view::{Gone, Own, Store, View, count_rows, next_row, read_row};
 
 /// The first byte of a row of table 1.
 fn has_row<S: Store, A: Allocator + Copy>(
     rt: &impl Abort,
     view: &mut View<S, A>,
     key: u64,
-    wanted: Result<Option<u8>, ReadFault>,
+    wanted: Result<Option<u8>, OrNoMemory<Gone>>,
 ) {
     let own = &mut view.own;
     let found = read_row(&view.store, &own.writes, &mut own.looks, 1, key);
@@ -30,7 +31,7 @@ fn has_count<S: Store, A: Allocator + Copy>(
     rt: &impl Abort,
     view: &mut View<S, A>,
     look: Look,
-    wanted: Result<u64, ReadFault>,
+    wanted: Result<u64, OrNoMemory<Gone>>,
 ) {
     let own = &mut view.own;
     let found = count_rows(&view.store, &own.writes, &mut own.looks, look);
@@ -42,7 +43,7 @@ fn has_first<S: Store, A: Allocator + Copy>(
     rt: &impl Abort,
     view: &mut View<S, A>,
     look: Look,
-    wanted: Result<Option<(u64, Option<u8>)>, ReadFault>,
+    wanted: Result<Option<(u64, Option<u8>)>, OrNoMemory<Gone>>,
 ) {
     let own = &mut view.own;
     let found = next_row(&view.store, &own.writes, &mut own.looks, look);
@@ -155,7 +156,7 @@ fn own_writes_stand_over_the_store(rt: HostRuntime) {
 }
 
 fn is_told<S: Store>(rt: &impl Abort, view: &mut View<S>) {
-    let gone = ReadFault::Gone;
+    let gone = OrNoMemory::Fault(Gone);
     has_row(rt, view, 5, Ok(Some(7)));
     has_row(rt, view, 6, Err(gone));
     has_count(rt, view, FROM_10, Err(gone));
@@ -174,7 +175,7 @@ fn a_store_that_is_gone_is_told(rt: HostRuntime) {
 
 fn is_as_it_was<S: Store>(rt: &impl Abort, scarce: &Scarce, view: &mut View<S, &Scarce>) {
     scarce.refuse_nth(1);
-    has_row(rt, view, 5, Err(ReadFault::NoMemory));
+    has_row(rt, view, 5, Err(OrNoMemory::NoMemory));
     has_looks(rt, view, &[]);
     has_row(rt, view, 5, Ok(None));
     same(rt, "looks", view.own.looks.looks().len(), 1);

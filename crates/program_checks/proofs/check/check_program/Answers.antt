@@ -1,7 +1,8 @@
 use Rattle.std.proofs.Common.{◌≡◌}
 use Rattle.bpf_verify.specs.Flow.{Procedure, IsAccepted}
 use Rattle.call_model.specs.Check.{Passed}
-use Rattle.program_checks.specs.declared.check.CheckFault.{CheckFault}
+use Rattle.call_model.specs.declared.fault.ProgramFault.{ProgramFault}
+use Rattle.or_no_memory.specs.declared.OrNoMemory.{OrNoMemory}
 use Rattle.program_checks.specs.Check.{check_of}
 use Rattle.program_checks.specs.Fault.{IsFaultOf, IsRefusedFor}
 use Rattle.program_checks.proofs.CheckLemmas.{verified, ok_then, err_then, passed_for, fault_of}
@@ -17,5 +18,5 @@ returns-in-Ok-clause-passed g c =
 pub returns-in-Ok-clause-refused : goal.returns-in-Ok-clause-refused
 returns-in-Ok-clause-refused g c =
     err_then (IsRefusedFor (verified c.args.schema.now c.args.args_len c.in-Ok.code)) (IsFaultOf (check_of c.args.schema.now c.args.args_len c.args.bytes.now)) c.verified.result
-    (λ (fault : CheckFault) h. fault_of c.args.schema.now c.args.args_len c.args.bytes.now c.in-Ok.code fault c.in-Ok.ensures.exact h)
+    (λ (fault : OrNoMemory ProgramFault) h. fault_of c.args.schema.now c.args.args_len c.args.bytes.now c.in-Ok.code fault c.in-Ok.ensures.exact h)
     c.verified.ensures.refused

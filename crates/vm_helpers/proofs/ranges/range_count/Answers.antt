@@ -1,5 +1,6 @@
 use Rattle.std.proofs.Common.{◌≡◌, Ok, Err, rules}
-use Rattle.txn_view.specs.declared.fault.ReadFault.TheVariants as fault
+use Rattle.or_no_memory.specs.declared.OrNoMemory.TheVariants as fault
+use Rattle.txn_view.specs.Gone.{gone}
 use Rattle.txn_view.specs.declared.view.Own.{Own}
 use Rattle.vm_helpers.proofs.PartLemmas.{count_parts}
 use Rattle.vm_helpers.proofs.CallLemmas.{done, stale, no_memory, count_done, count_looks, due_range, more_range, count_table}
@@ -8,17 +9,17 @@ use Rattle.vm_helpers.proofs.ranges.range_count.Goals as goal
 pub named_table-table-requires : goal.named_table-table-requires
 named_table-table-requires g c = count_table c.held_laws.ensures c.requires.can
 
-pub returns-in-Err-Gone-clause-follows : goal.returns-in-Err-Gone-clause-follows
-returns-in-Err-Gone-clause-follows g c = λ s held view. stale _ _ _ s _ _ _ (λ t e.
+pub returns-in-Err-Fault-clause-follows : goal.returns-in-Err-Fault-clause-follows
+returns-in-Err-Fault-clause-follows g c = λ s held view. stale _ _ _ s _ _ _ (λ t e.
     let p = count_parts c.held_laws.ensures c.args.schema.now s c.args.words.now held t e in
-    let refused : c.count_rows.result ≡ Err fault.Gone = search rules in
+    let refused : c.count_rows.result ≡ Err (fault.Fault gone) = search rules in
     more_range s t _ _ _ _ (count_looks _ _ _ c.named_table-table.ensures.table c.word-lo.ensures c.word-hi.ensures p) (c.count_rows.ensures.gone.0 refused))
 
 pub returns-in-Err-NoMemory-clause-follows : goal.returns-in-Err-NoMemory-clause-follows
 returns-in-Err-NoMemory-clause-follows g c = λ s held view. no_memory _ _ _ s _ _ _ (λ e. absurd (cc)) (λ t e more.
     let p = count_parts c.held_laws.ensures c.args.schema.now s c.args.words.now held t e in
     let refused : c.count_rows.result ≡ Err fault.NoMemory = search rules in
-    let due : c.count_rows.result ≡ Err fault.Gone = c.count_rows.ensures.gone.1 (due_range s t _ _ _ _ (count_looks _ _ _ c.named_table-table.ensures.table c.word-lo.ensures c.word-hi.ensures p) more) in
+    let due : c.count_rows.result ≡ Err (fault.Fault gone) = c.count_rows.ensures.gone.1 (due_range s t _ _ _ _ (count_looks _ _ _ c.named_table-table.ensures.table c.word-lo.ensures c.word-hi.ensures p) more) in
     absurd (cc))
 
 pub returns-clause-follows : goal.returns-clause-follows
@@ -31,7 +32,7 @@ returns-clause-follows g c = λ s held view. done _ _ _ s _ _ _ (λ t e.
       holds,
       seen,
       λ more.
-          let due : c.count_rows.result ≡ Err fault.Gone = c.count_rows.ensures.gone.1 (due_range s t _ _ _ _ (count_looks _ _ _ c.named_table-table.ensures.table c.word-lo.ensures c.word-hi.ensures p) more) in
+          let due : c.count_rows.result ≡ Err (fault.Fault gone) = c.count_rows.ensures.gone.1 (due_range s t _ _ _ _ (count_looks _ _ _ c.named_table-table.ensures.table c.word-lo.ensures c.word-hi.ensures p) more) in
           let ok : c.count_rows.result ≡ Ok c.in-Ok.count = c.in-Ok.is in
           absurd (cc),
     ))

@@ -1,7 +1,8 @@
 use Rattle.std.proofs.Common.{◌≡◌, ◌∙◌, sym, ap, Ok, Err, rules}
 use Rattle.bpf_semantics.specs.Helpers.{look_at, row_of, row_or_zeros}
 use Rattle.txn_view.specs.Found.{row_found}
-use Rattle.txn_view.specs.declared.fault.ReadFault.TheVariants as fault
+use Rattle.or_no_memory.specs.declared.OrNoMemory.TheVariants as fault
+use Rattle.txn_view.specs.Gone.{gone}
 use Rattle.txn_view.specs.declared.view.Own.{Own}
 use Rattle.vm_helpers.proofs.PartLemmas.{next_parts}
 use Rattle.vm_helpers.proofs.CallLemmas.{done, stale, no_memory, next_done, next_looks, due_range, more_range, next_table, next_key_room, next_bytes, flag_map}
@@ -10,11 +11,11 @@ use Rattle.vm_helpers.proofs.ranges.range_next.Goals as goal
 pub named_table-table-requires : goal.named_table-table-requires
 named_table-table-requires g c = next_table c.held_laws.ensures c.requires.can
 
-pub returns-in-Err-Gone-clause-follows : goal.returns-in-Err-Gone-clause-follows
-returns-in-Err-Gone-clause-follows g c = λ s held view. stale _ _ _ s _ _ _ (λ t e.
+pub returns-in-Err-Fault-clause-follows : goal.returns-in-Err-Fault-clause-follows
+returns-in-Err-Fault-clause-follows g c = λ s held view. stale _ _ _ s _ _ _ (λ t e.
     let p = next_parts c.held_laws.ensures c.args.schema.now s c.args.words.now held t e in
     let (last, looks) = next_looks _ _ _ c.named_table-table.ensures.table c.word-lo.ensures c.word-hi.ensures p in
-    let refused : c.next_row.result ≡ Err fault.Gone = search rules in
+    let refused : c.next_row.result ≡ Err (fault.Fault gone) = search rules in
     more_range s t _ _ _ last looks (c.next_row.ensures.gone.0 refused))
 
 pub returns-in-Err-NoMemory-clause-follows : goal.returns-in-Err-NoMemory-clause-follows
@@ -22,7 +23,7 @@ returns-in-Err-NoMemory-clause-follows g c = λ s held view. no_memory _ _ _ s _
     let p = next_parts c.held_laws.ensures c.args.schema.now s c.args.words.now held t e in
     let (last, looks) = next_looks _ _ _ c.named_table-table.ensures.table c.word-lo.ensures c.word-hi.ensures p in
     let refused : c.next_row.result ≡ Err fault.NoMemory = search rules in
-    let due : c.next_row.result ≡ Err fault.Gone = c.next_row.ensures.gone.1 (due_range s t _ _ _ last looks more) in
+    let due : c.next_row.result ≡ Err (fault.Fault gone) = c.next_row.ensures.gone.1 (due_range s t _ _ _ last looks more) in
     absurd (cc))
 
 pub put_bytes-requires : goal.put_bytes-requires
@@ -49,7 +50,7 @@ returns-clause-follows g c = λ s held view. done _ _ _ s _ _ _ (λ t e.
       seen,
       λ more.
           let (last, looks) = next_looks _ _ _ c.named_table-table.ensures.table c.word-lo.ensures c.word-hi.ensures p in
-          let due : c.next_row.result ≡ Err fault.Gone = c.next_row.ensures.gone.1 (due_range s t _ _ _ last looks more) in
+          let due : c.next_row.result ≡ Err (fault.Fault gone) = c.next_row.ensures.gone.1 (due_range s t _ _ _ last looks more) in
           let ok : c.next_row.result ≡ Ok c.in-Ok.found = c.in-Ok.is in
           absurd (cc),
     ))

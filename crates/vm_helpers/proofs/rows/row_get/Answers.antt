@@ -1,5 +1,6 @@
 use Rattle.std.proofs.Common.{◌≡◌, ◌∙◌, sym, Ok, Err, option_map, rules}
-use Rattle.txn_view.specs.declared.fault.ReadFault.TheVariants as fault
+use Rattle.or_no_memory.specs.declared.OrNoMemory.TheVariants as fault
+use Rattle.txn_view.specs.Gone.{gone}
 use Rattle.txn_view.specs.declared.view.Own.{Own}
 use Rattle.vm_helpers.proofs.PartLemmas.{get_parts}
 use Rattle.vm_helpers.proofs.CallLemmas.{done, stale, no_memory, get_done, get_looks, due_point, more_point, get_table, get_bytes, flag_map}
@@ -8,17 +9,17 @@ use Rattle.vm_helpers.proofs.rows.row_get.Goals as goal
 pub named_table-table-requires : goal.named_table-table-requires
 named_table-table-requires g c = get_table c.held_laws.ensures c.requires.can
 
-pub returns-in-Err-Gone-clause-follows : goal.returns-in-Err-Gone-clause-follows
-returns-in-Err-Gone-clause-follows g c = λ s held view. stale _ _ _ s _ _ _ (λ t e.
+pub returns-in-Err-Fault-clause-follows : goal.returns-in-Err-Fault-clause-follows
+returns-in-Err-Fault-clause-follows g c = λ s held view. stale _ _ _ s _ _ _ (λ t e.
     let p = get_parts c.held_laws.ensures c.args.schema.now s c.args.words.now held t e in
-    let refused : c.read_row.result ≡ Err fault.Gone = search rules in
+    let refused : c.read_row.result ≡ Err (fault.Fault gone) = search rules in
     more_point s t c.args.view.now.own.writes _ _ view.read.writes_are (get_looks _ _ c.named_table-table.ensures.table c.word-key.ensures p) (c.read_row.ensures.gone.0 refused))
 
 pub returns-in-Err-NoMemory-clause-follows : goal.returns-in-Err-NoMemory-clause-follows
 returns-in-Err-NoMemory-clause-follows g c = λ s held view. no_memory _ _ _ s _ _ _ (λ e. absurd (cc)) (λ t e more.
     let p = get_parts c.held_laws.ensures c.args.schema.now s c.args.words.now held t e in
     let refused : c.read_row.result ≡ Err fault.NoMemory = search rules in
-    let due : c.read_row.result ≡ Err fault.Gone = c.read_row.ensures.gone.1 (due_point s t c.args.view.now.own.writes _ _ view.read.writes_are (get_looks _ _ c.named_table-table.ensures.table c.word-key.ensures p) more) in
+    let due : c.read_row.result ≡ Err (fault.Fault gone) = c.read_row.ensures.gone.1 (due_point s t c.args.view.now.own.writes _ _ view.read.writes_are (get_looks _ _ c.named_table-table.ensures.table c.word-key.ensures p) more) in
     absurd (cc))
 
 pub put_bytes-requires : goal.put_bytes-requires
@@ -39,7 +40,7 @@ returns-clause-follows g c = λ s held view. done _ _ _ s _ _ _ (λ t e.
       holds,
       seen,
       λ more.
-          let due : c.read_row.result ≡ Err fault.Gone = c.read_row.ensures.gone.1 (due_point s t c.args.view.now.own.writes _ _ view.read.writes_are (get_looks _ _ c.named_table-table.ensures.table c.word-key.ensures p) more) in
+          let due : c.read_row.result ≡ Err (fault.Fault gone) = c.read_row.ensures.gone.1 (due_point s t c.args.view.now.own.writes _ _ view.read.writes_are (get_looks _ _ c.named_table-table.ensures.table c.word-key.ensures p) more) in
           let ok : c.read_row.result ≡ Ok c.in-Ok.found = c.in-Ok.is in
           absurd (cc),
     ))

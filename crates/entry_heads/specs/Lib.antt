@@ -1,0 +1,3 @@
+pub mod Fit
+pub mod Head
+pub mod Named

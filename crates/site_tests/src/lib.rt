@@ -1,0 +1,5 @@
+//! Tests of what sites stand on.
+#![tactic(auto)]
+
+#[cfg(test)]
+mod tests;
