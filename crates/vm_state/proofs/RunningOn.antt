@@ -2,7 +2,7 @@
 use Rattle.std.proofs.Common.{◌≡◌, ◌≢◌, ◌<◌, ◌+◌, ℕ, ℤ, pos, zero, suc, length, List, Option, Some, None, slice_get, get_or, refl, inl, inr, sym, ◌∙◌, ap, subst, arith}
 use Rattle.std.proofs.lemmas.Bool.{cases_lt}
 use Rattle.std.proofs.lemmas.Option.{slice_get_past, slice_get-get_or}
-use Rattle.std.specs.Option.{option_map}
+use Rattle.std.specs.Option.{option_map, IfSome, IfNone}
 use Rattle.bpf_code.specs.declared.instruction.Instruction.{Instruction}
 use Rattle.bpf_code.specs.declared.instruction.Instruction.TheVariants.{Call, Exit, LongJump}
 use Rattle.bpf_code.specs.Program.{Program, instruction_at}
@@ -15,8 +15,8 @@ use Rattle.flat_code.specs.declared.kind.Kind.TheVariants as kind
 use Rattle.flat_code.specs.declared.instruction.FlatInstruction.{FlatInstruction}
 use Rattle.flat_code.specs.Flat.{instruction_of, LaidOut}
 use Rattle.vm_state.specs.Words.{Words, Holds, HoldsNext, CanRun}
-use Rattle.vm_state.specs.Access.{at_slot, HoldsAfter}
-use Rattle.vm_state.specs.Plain.{IsPlain, IsNeverStuck, CanRunOn, SameEffects, Reaches}
+use Rattle.vm_state.specs.Access.{at_slot, HoldsAfter, GoesOn, RunsOn}
+use Rattle.vm_state.specs.Plain.{IsPlain, IsStop, IsNeverStuck, CanRunOn, SameEffects, Reaches}
 use Rattle.vm_state.proofs.Leaving.{execute_leaves, itself}
 
 -- what an index past the end would give
@@ -143,6 +143,22 @@ reaches_further p at to m n i e next plain tables s k never (t, there, h, same) 
     let l = leads p tables at m (at_slot to n) i t e h moves (next tables t h) in
     let one : k + 1 ≡ suc k = omega arith in
     (l.to, ap (λ (j : ℕ). moment p tables j s) one ∙ next_is p tables k s t there ∙ l.steps, l.held, both s t l.to same (execute_leaves tables i t l.to (no_call i plain) l.executes))
+
+runs_on : (p : Program) (at to : ℕ) (m n : Words) (i : Instruction) → instruction_at p at ≡ Some i → CanRunOn p (at_slot at m) → GoesOn i at m to n → RunsOn p at m to n
+runs_on p at to m n i e can goes = record {
+  further = goes.further;
+  can = can_further p at to m n i e goes.held can;
+  reaches = λ tables s k never. reaches_further p at to m n i e goes.held goes.plain tables s k never;
+}
+
+pub runs_on_if_some : (p : Program) (at : ℕ) (m n : Words) (i : Instruction) (o : Option ℕ) → instruction_at p at ≡ Some i → CanRunOn p (at_slot at m) → IfSome o (λ to. GoesOn i at m to n)
+    → IfSome o (λ to. RunsOn p at m to n)
+runs_on_if_some p at m n i None e can goes = tt
+runs_on_if_some p at m n i (Some to) e can goes = runs_on p at to m n i e can goes
+
+pub stops_if_none : (p : Program) (at : ℕ) (i : Instruction) (o : Option ℕ) → instruction_at p at ≡ Some i → IfNone o (IsPlain i → ⊥) → IfNone o (IsStop (instruction_at p at))
+stops_if_none p at i None e stops = subst IsStop (sym e) stops
+stops_if_none p at i (Some to) e stops = tt
 
 pub first_reached : (p : Program) (tables : Tables) (s : State) (m : Words) → Holds s m → Reaches p tables s 0 m
 unfolding moment

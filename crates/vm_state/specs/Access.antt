@@ -6,11 +6,12 @@ use Rattle.bpf_code.specs.declared.instruction.Instruction.{Instruction}
 use Rattle.bpf_code.specs.declared.instruction.Source.{Source}
 use Rattle.bpf_code.specs.declared.instruction.Source.TheVariants as source
 use Rattle.bpf_code.specs.Register.{number_of}
+use Rattle.bpf_code.specs.Program.{Program}
 use Rattle.schema.specs.Schema.{Tables}
 use Rattle.bpf_semantics.specs.State.{State}
 use Rattle.bpf_semantics.specs.Step.{execute}
 use Rattle.vm_state.specs.Words.{Words, Holds, HoldsNext, word, stack_end, args_start}
-use Rattle.vm_state.specs.Plain.{IsPlain}
+use Rattle.vm_state.specs.Plain.{IsPlain, IsNeverStuck, CanRunOn, Reaches}
 
 -- so many bytes from an address on lie in the stack
 pub record InStack (address count : ℕ) : Type 0 where
@@ -66,6 +67,12 @@ pub record GoesOn (i : Instruction) (at : ℕ) (m : Words) (to : ℕ) (n : Words
   pub plain : IsPlain i
   pub further : at < to
   pub held : HoldsAfter i at m to n
+
+-- so does the instruction of a program at a slot, and where so many steps lead to the one, one more leads to the other
+pub record RunsOn (p : Program) (at : ℕ) (m : Words) (to : ℕ) (n : Words) : Type 0 where
+  pub further : at < to
+  pub can : CanRunOn p (at_slot to n)
+  pub reaches : (tables : Tables) (s : State) (k : ℕ) → IsNeverStuck p tables s → Reaches p tables s k (at_slot at m) → Reaches p tables s (k + 1) (at_slot to n)
 
 abbrev pub operand_word : Words → Source → ℕ
 operand_word m (source.Immediate immediate) = cast_unsigned w64 immediate

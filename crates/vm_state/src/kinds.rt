@@ -1,4 +1,8 @@
 //! What each kind of plain instruction does: each takes the slot and the one behind it, and answers which is next.
+//!
+//! They are inlined by a hint. Were they always inlined, the match over all kinds would count as too large to be, and
+//! each instruction would cost a call. Which register is set is read before its word is made, and what is stored before
+//! the address: arms that end alike are joined behind one jump more.
 
 ghost use Rattle.std.specs.Prelude.{◌≡◌, ◌+◌, ◌^◌, ◌<◌};
 ghost use Rattle.bpf_code.specs.declared.instruction.Instruction.TheVariants.{Load, StoreImmediate, StoreRegister};
@@ -19,7 +23,7 @@ use flat_code::FlatInstruction;
 
 impl WordState {
     /// The next slot, with this word in a register.
-    #[inline(always)]
+    #[inline]
     fn with_result(&mut self, at: usize, next: usize, dst: Register, word: u64) -> usize
         requires slot { at < 2 ^ 32 }
         requires next { next ≡ at + 1 }
@@ -30,7 +34,7 @@ impl WordState {
         next
     }
 
-    #[inline(always)]
+    #[inline]
     pub(crate) fn alu_immediate(
         &mut self,
         at: usize,
@@ -49,7 +53,7 @@ impl WordState {
         self.with_result(at, next, flat.dst, value)
     }
 
-    #[inline(always)]
+    #[inline]
     pub(crate) fn alu_register(
         &mut self,
         at: usize,
@@ -68,7 +72,7 @@ impl WordState {
         self.with_result(at, next, flat.dst, value)
     }
 
-    #[inline(always)]
+    #[inline]
     pub(crate) fn negate(
         &mut self,
         at: usize,
@@ -84,7 +88,7 @@ impl WordState {
         self.with_result(at, next, flat.dst, value)
     }
 
-    #[inline(always)]
+    #[inline]
     pub(crate) fn move_sign_extended(
         &mut self,
         at: usize,
@@ -96,12 +100,13 @@ impl WordState {
         requires next { next ≡ at + 1 }
         ensures { GoesOn (MoveSignExtended kind flat.now.dst flat.now.src) at self.old result self.new }
     {
+        let dst = flat.dst;
         let operation = Operation::Movsx(low_bits(kind));
         let value = arithmetic(kind.width(), operation, 0, self.word(flat.src));
-        self.with_result(at, next, flat.dst, value)
+        self.with_result(at, next, dst, value)
     }
 
-    #[inline(always)]
+    #[inline]
     pub(crate) fn end(
         &mut self,
         at: usize,
@@ -118,7 +123,7 @@ impl WordState {
         self.with_result(at, next, flat.dst, value)
     }
 
-    #[inline(always)]
+    #[inline]
     pub(crate) fn load_wide(&mut self, at: usize, next: usize, flat: &FlatInstruction) -> usize
         requires slot { at < 2 ^ 32 }
         requires next { next ≡ at + 1 }
@@ -129,7 +134,7 @@ impl WordState {
     }
 
     /// The address in a register, with an offset.
-    #[inline(always)]
+    #[inline]
     fn address(&self, register: Register, offset: i16) -> u64
         ensures { result ≡ offset_address (word self.now register) offset }
     {
@@ -138,7 +143,7 @@ impl WordState {
     }
 
     /// The slot so far past the next one. No program jumps backwards.
-    #[inline(always)]
+    #[inline]
     fn target(&self, at: usize, next: usize, distance: i16) -> usize
         requires slot { at < 2 ^ 32 }
         requires next { next ≡ at + 1 }
@@ -149,7 +154,7 @@ impl WordState {
         next + i32::from(distance).cast_unsigned() as usize
     }
 
-    #[inline(always)]
+    #[inline]
     pub(crate) fn jump(&mut self, at: usize, next: usize, flat: &FlatInstruction) -> usize
         requires slot { at < 2 ^ 32 }
         requires next { next ≡ at + 1 }
@@ -158,7 +163,7 @@ impl WordState {
         self.target(at, next, flat.offset)
     }
 
-    #[inline(always)]
+    #[inline]
     pub(crate) fn if_immediate(
         &mut self,
         at: usize,
@@ -179,7 +184,7 @@ impl WordState {
         }
     }
 
-    #[inline(always)]
+    #[inline]
     pub(crate) fn if_register(
         &mut self,
         at: usize,
@@ -201,7 +206,7 @@ impl WordState {
         }
     }
 
-    #[inline(always)]
+    #[inline]
     pub(crate) fn load(
         &mut self,
         at: usize,
@@ -214,12 +219,13 @@ impl WordState {
         requires can { CanRun (Load kind flat.now.dst flat.now.src flat.now.offset) (at_slot at self.old) }
         ensures { GoesOn (Load kind flat.now.dst flat.now.src flat.now.offset) at self.old result self.new }
     {
+        let dst = flat.dst;
         let address = self.address(flat.src, flat.offset);
         let value = load_value(kind, self.bytes(address, usize::from(kind.bytes())));
-        self.with_result(at, next, flat.dst, value)
+        self.with_result(at, next, dst, value)
     }
 
-    #[inline(always)]
+    #[inline]
     pub(crate) fn store_immediate(
         &mut self,
         at: usize,
@@ -238,7 +244,7 @@ impl WordState {
         next
     }
 
-    #[inline(always)]
+    #[inline]
     pub(crate) fn store_register(
         &mut self,
         at: usize,
@@ -252,8 +258,8 @@ impl WordState {
         ensures { GoesOn (StoreRegister size flat.now.dst flat.now.src flat.now.offset)
             at self.old result self.new }
     {
-        let address = self.address(flat.dst, flat.offset);
         let number = self.word(flat.src);
+        let address = self.address(flat.dst, flat.offset);
         self.put_number(address, size, number);
         next
     }

@@ -1,11 +1,12 @@
 //! Plain instructions one after another.
 
-ghost use Rattle.std.specs.Prelude.{◌≡◌};
+ghost use Rattle.std.specs.Prelude.{◌≡◌, IfSome, IfNone};
 ghost use Rattle.schema.specs.Schema.{Tables};
 ghost use Rattle.bpf_code.specs.Program.{instruction_at};
 ghost use Rattle.bpf_semantics.specs.State.{State};
 ghost use Rattle.flat_code.specs.Flat.{LaidOut};
 ghost use Rattle.vm_state.specs.Words.{Holds};
+ghost use Rattle.vm_state.specs.Access.{at_slot, RunsOn};
 ghost use Rattle.vm_state.specs.Plain.{IsStop, IsNeverStuck, CanRunOn, Reaches};
 
 use crate::state::WordState;
@@ -17,6 +18,7 @@ impl WordState {
     /// Runs on by the program's layout, up to the next call, long jump or end, which is left to be run, and tells how
     /// many instructions that were. One of the states that this one stands for never gets stuck, and of each that
     /// doesn't it stands for what is reached.
+    #[inline(never)]
     pub fn run_plain<A: Allocator>(&mut self, code: &Code<A>, layout: &[FlatInstruction]) -> u32
         requires layout { LaidOut code.now layout.now }
         requires can { CanRunOn code.now self.old }
@@ -24,16 +26,39 @@ impl WordState {
             → Reaches code.now tables s result self.new }
         ensures stops { IsStop (instruction_at code.now self.new.slot) }
     {
-        code.known();
         let mut at = self.slot();
         let mut count = 0;
+        code.known();
+        // Two a turn: with two jumps by kind, taken in turn, the loop was measured to be faster than with one.
         loop {
-            let Some(to) = self.execute_flat(at, at + 1, &layout[at]) else {
+            let Some(second) = self.execute_at(code, layout, at) else {
                 self.set_slot(at);
                 return count;
             };
+            let Some(to) = self.execute_at(code, layout, second) else {
+                self.set_slot(second);
+                return count + 1;
+            };
             at = to;
-            count += 1;
+            count += 2;
         }
+    }
+
+    /// The instruction at this slot of the layout: which slot is next, or none, with nothing done, if it isn't plain.
+    #[inline(always)]
+    fn execute_at<A: Allocator>(
+        &mut self,
+        code: &Code<A>,
+        layout: &[FlatInstruction],
+        at: usize,
+    ) -> Option<usize>
+        requires layout { LaidOut code.now layout.now }
+        requires can { CanRunOn code.now (at_slot at self.old) }
+        ensures runs_on { IfSome result (λ to. RunsOn code.now at self.old to self.new) }
+        ensures stops { IfNone result (IsStop (instruction_at code.now at)) }
+        ensures same { IfNone result (self.new ≡ self.old) }
+    {
+        code.known();
+        self.execute_flat(at, at + 1, &layout[at])
     }
 }

@@ -7,8 +7,8 @@ use Rattle.vm_state.specs.Access.{at_slot}
 use Rattle.vm_state.specs.Plain.{IsNeverStuck, CanRunOn, Reaches}
 use Rattle.vm_state.proofs.state.WordState.run_plain.Given as goal
 
-abbrev pub invariant-loop-to : goal.invariant-loop-to
-invariant-loop-to g l = record {
+abbrev pub invariant-loop-second : goal.invariant-loop-second
+invariant-loop-second g l = record {
   laid : LaidOut l.code l.layout;
   short : length l.code ≤ 4096;
   can : CanRunOn l.code (at_slot l.at l.self);
@@ -16,5 +16,5 @@ invariant-loop-to g l = record {
   few : l.count ≤ l.at;
 }
 
-abbrev pub decreases-loop-to : goal.decreases-loop-to
-decreases-loop-to g l = length l.layout - l.at
+abbrev pub decreases-loop-second : goal.decreases-loop-second
+decreases-loop-second g l = length l.layout - l.at
