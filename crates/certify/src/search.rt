@@ -46,6 +46,12 @@ pub fn search_lanes<A: Allocator + Copy, B: Allocator>(
     ensures { result ≡ search (lane_met met) (kept_shares kept.now reads.now) from (to - from) }
 {
     let mut compared = 0;
+    if met == 0 {
+        return SearchResult {
+            compared,
+            conflict: None,
+        };
+    }
     for before in from..to {
         if has_met(met, before % 8) {
             compared += 1;
@@ -63,16 +69,21 @@ pub fn search_lanes<A: Allocator + Copy, B: Allocator>(
     }
 }
 
-/// Searches those of the calls since a snapshot that stand in one block, of all the first that stand in no earlier one.
+/// Searches those of the calls since a snapshot that stand in the block at a place, of all the first that stand in no
+/// earlier one.
+#[inline(always)]
 fn search_block<A: Allocator + Copy, B: Allocator>(
     blocks: &[Block],
     kept: &[WriteSet<A>],
     reads: &ReadSet<B>,
     signature: &Sig,
+    at: usize,
     from: usize,
     to: usize,
 ) -> SearchResult
     requires places { HasPlaces (record { blocks = blocks.now; writes = kept.now }) }
+    requires within { at < length blocks.now }
+    requires at { at ≡ from / 8 % length blocks.now }
     requires signature { (bit : ℕ) → bit < 1024 → has_bit signature.now bit ≡ looks_set_bit reads.now bit }
     requires order { from ≤ to }
     requires one { to ≤ (from / 8) * 8 + 8 }
@@ -83,8 +94,21 @@ fn search_block<A: Allocator + Copy, B: Allocator>(
         → result ≡ search meets (kept_shares kept.now reads.now) from (to - from) }
     ensures few { result.compared ≤ to - from }
 {
-    let block = &blocks[from / 8 % blocks.len()];
+    let block = &blocks[at];
     search_lanes(block.meets(signature), kept, reads, from, to)
+}
+
+/// The place behind one of so many, which is the first behind the last.
+#[inline(always)]
+fn next_place(at: usize, count: usize) -> usize
+    requires { at < count }
+    ensures next { result ≡ (at + 1) % count }
+    ensures within { result < count }
+{
+    if at + 1 == count {
+        return 0;
+    }
+    at + 1
 }
 
 /// Searches the calls since a snapshot, of so many.
@@ -106,14 +130,16 @@ pub fn search_since<A: Allocator + Copy, B: Allocator>(
     let signature = Sig::of_reads(reads);
     let mut compared = 0;
     let mut from = snapshot;
+    let mut at = snapshot / 8 % blocks.len();
     while from < count {
         let to = count.min(from / 8 * 8 + 8);
-        let found = search_block(blocks, kept, reads, &signature, from, to);
+        let found = search_block(blocks, kept, reads, &signature, at, from, to);
         compared += found.compared;
         if found.conflict.is_some() {
             return SearchResult { compared, ..found };
         }
         from = to;
+        at = next_place(at, blocks.len());
     }
     SearchResult {
         compared,

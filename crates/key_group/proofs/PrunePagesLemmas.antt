@@ -47,13 +47,13 @@ versions_left horizon es new q h up =
 pub shown_left : (horizon : ℕ) (es new : List Slot) (q : ℕ) → IsPrunedTo horizon es new → IsSome (chain_at new q) → versions_at new q ≢ []
 shown_left horizon es new q h = subst (λ (l : List Slot). IsSome (chain_at l q) → versions_at l q ≢ []) (sym h.1.1) (shown-kept h.0 q)
 
-length-filter-le : {X : Type 0} (test : X → Bool) (xs : List X) → length (filter test xs) ≤ length xs
+pub length-filter-le : {X : Type 0} (test : X → Bool) (xs : List X) → length (filter test xs) ≤ length xs
 length-filter-le test [] = omega arith
 length-filter-le test (x ∷ xs) =
     let more : length (filter test xs) ≤ length xs = length-filter-le test xs in
     elim (test x) as (λ (t : Bool). length (cond t (x ∷ filter test xs) (filter test xs)) ≤ suc (length xs)) [ true ↦ omega arith | false ↦ omega arith ]
 
-length_left : (horizon : ℕ) (es new : List Slot) → IsPrunedTo horizon es new → length new ≤ length es
+pub length_left : (horizon : ℕ) (es new : List Slot) → IsPrunedTo horizon es new → length new ≤ length es
 length_left horizon es new h =
     let same : length h.0 ≡ length es = length_changed (IsPruned horizon) (length es) es h.0 h.1.0 in
     let less : length (kept h.0) ≤ length h.0 = length-filter-le has_versions h.0 in

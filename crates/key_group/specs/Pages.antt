@@ -55,6 +55,16 @@ IsInserted key old new = (x : Slot) × ((x.key ≡ key) × ((x.chain.versions �
 abbrev pub ArePagesPruned : ℕ → ℕ → List (List Slot) → List (List Slot) → Type 0
 ArePagesPruned horizon n olds news = AreChanged (IsPrunedTo horizon) n olds news
 
+-- a run of the slots is pruned, and those before and behind it stay
+pub record IsPrunedWithin (horizon : ℕ) (old new : List Slot) : Type 0 where
+  pub before : List Slot
+  pub run : List Slot
+  pub left : List Slot
+  pub behind : List Slot
+  pub pruned : IsPrunedTo horizon run left
+  pub was : old ≡ before ++ (run ++ behind)
+  pub now : new ≡ before ++ (left ++ behind)
+
 -- whether a page has slots
 abbrev pub has_slots : List Slot → Bool
 has_slots page = nat_lt 0 (length page)

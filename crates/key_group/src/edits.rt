@@ -8,10 +8,11 @@ ghost use Rattle.row_chain.specs.Version.{HasRoom};
 ghost use Rattle.key_page.specs.Slots.{Slot, IsReserved, IsPushed, AreRising, chain_at, HasRoomAt};
 ghost use Rattle.key_group.specs.declared.edits.TheConstants.{PAGE_KEYS, GROUP_PAGES};
 ghost use Rattle.key_group.specs.Pages.{all_slots, least_key, least_keys, with_slot, in_page, in_pages, begins_by};
-ghost use Rattle.key_group.specs.Pages.{has_slots, AreFilled, ArePages, IsInserted, IsPrunedTo, ArePagesPruned};
+ghost use Rattle.key_group.specs.Pages.{has_slots, AreFilled, ArePages, IsInserted, IsPrunedTo, IsPrunedWithin};
+ghost use Rattle.key_group.specs.Pages.{ArePagesPruned};
 ghost use Rattle.key_group.specs.Changes.{IsChangedAt, IsAdded};
 
-use crate::pages::{find, place_of};
+use crate::pages::{find, key_behind, place_of};
 use key_page::{Entry, Page};
 use std::alloc::{AllocError, Allocator};
 
@@ -373,6 +374,47 @@ fn drop_empty<A: Allocator>(pages: &mut Vec<Page<A>, A>)
     ensures { pages.new.items ≡ filter has_slots pages.old.items }
 {
     pages.retain(|page| page.len() > 0);
+}
+
+/// Drops a page where pruning has left no keys in it, and notes the least keys again.
+fn drop_pruned<A: Allocator>(least: &mut Vec<u64, A>, pages: &mut Vec<Page<A>, A>, page: usize)
+    requires page { page < length pages.old.items }
+    requires len { length least.old.items ≡ length pages.old.items }
+    requires others { (p : List Slot)
+        → slice_set least.old.items page (least_key (slice_index_or pages.old.items page p))
+        ≡ least_keys pages.old.items }
+    ensures least { least.new.items ≡ least_keys pages.new.items }
+    ensures left { (p : List Slot) → pages.new.items ≡ (if has_slots (slice_index_or pages.old.items page p)
+        then pages.old.items else filter has_slots pages.old.items) }
+{
+    if keys(pages, page) > 0 {
+        set_least(least, pages, page);
+        return;
+    }
+    drop_empty(pages);
+    note_all(least, pages);
+}
+
+/// Prunes the page in which a key stands or would stand, and drops it where it has no keys then. Answers the least key
+/// of the page behind it.
+pub fn prune_page<A: Allocator>(
+    least: &mut Vec<u64, A>,
+    pages: &mut Vec<Page<A>, A>,
+    key: u64,
+    horizon: u32,
+) -> Option<u64>
+    requires some { 0 < length pages.old.items }
+    requires least { least.old.items ≡ least_keys pages.old.items }
+    ensures least { least.new.items ≡ least_keys pages.new.items }
+    ensures slots { IsPrunedWithin horizon (all_slots pages.old.items) (all_slots pages.new.items) }
+    ensures filled { AreFilled PAGE_KEYS pages.old.items → AreFilled PAGE_KEYS pages.new.items }
+    ensures few { length pages.new.items ≤ length pages.old.items }
+{
+    let page = place_of(least, key);
+    let behind = key_behind(least, page);
+    prune_at(pages, page, horizon);
+    drop_pruned(least, pages, page);
+    behind
 }
 
 /// Drops what no position from the horizon on sees, the keys of which nothing is left, and the pages without keys.

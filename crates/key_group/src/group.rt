@@ -8,6 +8,7 @@ ghost use Rattle.key_page.specs.Slots.{IsReserved, IsPushed, AreRising, chain_at
 ghost use Rattle.key_page.specs.Slots.{rows_between};
 ghost use Rattle.key_group.specs.declared.edits.TheConstants.{PAGE_KEYS, GROUP_PAGES};
 ghost use Rattle.key_group.specs.Pages.{all_slots, least_key, has_slots, IsInserted, IsPrunedTo, IsGroupSized};
+ghost use Rattle.key_group.specs.Pages.{IsPrunedWithin};
 ghost use Rattle.key_group.specs.Changes.{IsChangedAt, IsAdded};
 
 use crate::{edits, pages};
@@ -142,6 +143,15 @@ impl<A: Allocator> Group<A> {
             (all_slots self.new) }
     {
         edits::push(&self.least, &mut self.pages, key, position, row);
+    }
+
+    /// Drops of the page in which a key stands or would stand what no position from the horizon on sees, the keys of
+    /// which nothing is left, and the page itself where it has no keys then. Answers the least key of the page behind.
+    pub fn prune_page(&mut self, key: u64, horizon: u32) -> Option<u64>
+        requires { 0 < length self.old }
+        ensures { IsPrunedWithin horizon (all_slots self.old) (all_slots self.new) }
+    {
+        edits::prune_page(&mut self.least, &mut self.pages, key, horizon)
     }
 
     /// Drops what no position from the horizon on sees, the keys of which nothing is left, and the pages without keys.

@@ -3,7 +3,7 @@
 
 pub use edits::{GROUP_KEYS, GROUP_PAGES, PAGE_KEYS};
 pub use group::Group;
-pub use pages::place_of;
+pub use pages::{key_behind, place_of};
 
 mod edits;
 mod group;

@@ -1,6 +1,7 @@
 //! Where a key stands among pages in order, and the rows there.
 
-ghost use Rattle.std.specs.Prelude.{◌≡◌, List, ◌<◌, ◌≤◌, ℕ, length, slice_get, option_map, slice_index_or, Some, None};
+ghost use Rattle.std.specs.Prelude.{◌≡◌, List, ◌+◌, ◌<◌, ◌≤◌, ℕ, length, slice_get, option_map, slice_index_or, Some};
+ghost use Rattle.std.specs.Prelude.{None};
 ghost use Rattle.std.specs.Prelude.{IfSome, IfNone};
 ghost use Rattle.std.specs.Option.{option_copied};
 ghost use Rattle.key_group.specs.declared.edits.TheConstants.{PAGE_KEYS, GROUP_PAGES};
@@ -30,6 +31,14 @@ pub fn place_of(least: &[u64], key: u64) -> usize
         }
     }
     low - 1
+}
+
+/// The least key of the part behind one, where there is one.
+pub fn key_behind(least: &[u64], at: usize) -> Option<u64>
+    requires { at < length least.now }
+    ensures { result ≡ slice_get least.now (at + 1) }
+{
+    least.get(at + 1).copied()
 }
 
 /// The row of a key at a position.

@@ -7,12 +7,12 @@ ghost use Rattle.std.specs.Option.{option_copied, IsSomeAnd};
 ghost use Rattle.row_chain.specs.Version.{HasRoom};
 ghost use Rattle.key_group.specs.declared.edits.TheConstants.{GROUP_PAGES, GROUP_KEYS};
 ghost use Rattle.key_group.specs.Pages.{all_slots, least_key, least_keys, page_place, AreFilled, IsPrunedTo};
-ghost use Rattle.key_group.specs.Pages.{ArePagesPruned, IsGroupSized};
+ghost use Rattle.key_group.specs.Pages.{ArePagesPruned, IsPrunedWithin, IsGroupSized};
 ghost use Rattle.key_group.specs.Changes.{IsChangedAt, IsAdded};
 ghost use Rattle.key_table.specs.Table.{Slot, IsReserved, IsPushed, AreRising, chain_at, versions_at, HasRoomAt};
 ghost use Rattle.key_table.specs.Groups.{group_slots, has_any, AreGroups};
 
-use key_group::{GROUP_PAGES, Group, place_of};
+use key_group::{GROUP_PAGES, Group, key_behind, place_of};
 use std::alloc::{AllocError, Allocator};
 
 /// The most groups of a table, more than memory holds, so that its keys can be counted.
@@ -329,6 +329,73 @@ fn drop_empty<A: Allocator>(groups: &mut Vec<Group<A>, A>)
     ensures { groups.new.items ≡ filter has_any groups.old.items }
 {
     groups.retain(|group| group.has_keys());
+}
+
+/// Whether a group has keys.
+fn has_keys<A: Allocator>(groups: &[Group<A>], at: usize) -> bool
+    requires { at < length groups.now }
+    ensures { (g : List (List Slot)) → result ≡ has_any (slice_index_or groups.now at g) }
+{
+    groups[at].has_keys()
+}
+
+/// Prunes the page of a group in which a key stands or would stand.
+fn prune_page_at<A: Allocator>(
+    groups: &mut Vec<Group<A>, A>,
+    at: usize,
+    key: u64,
+    horizon: u32,
+) -> Option<u64>
+    requires at { at < length groups.old.items }
+    requires some { (g : List (List Slot)) → 0 < length (slice_index_or groups.old.items at g) }
+    ensures { (g : List (List Slot)) → IsPrunedWithin horizon (all_slots (slice_index_or groups.old.items at g))
+        (all_slots (slice_index_or groups.new.items at g))
+        × (groups.new.items ≡ slice_set groups.old.items at (slice_index_or groups.new.items at g)) }
+{
+    groups[at].prune_page(key, horizon)
+}
+
+/// Drops a group where pruning has left no keys in it, and notes the least keys again.
+fn drop_pruned<A: Allocator>(least: &mut Vec<u64, A>, groups: &mut Vec<Group<A>, A>, at: usize)
+    requires at { at < length groups.old.items }
+    requires len { length least.old.items ≡ length groups.old.items }
+    requires others { (g : List (List Slot))
+        → slice_set least.old.items at (least_key (all_slots (slice_index_or groups.old.items at g)))
+        ≡ least_keys (group_slots groups.old.items) }
+    ensures least { least.new.items ≡ least_keys (group_slots groups.new.items) }
+    ensures left { (g : List (List Slot)) → groups.new.items ≡ (if has_any (slice_index_or groups.old.items at g)
+        then groups.old.items else filter has_any groups.old.items) }
+{
+    if has_keys(groups, at) {
+        set_least(least, groups, at);
+        return;
+    }
+    drop_empty(groups);
+    note_all(least, groups);
+}
+
+/// Prunes the page in which a key stands or would stand, and drops the page and its group where they have no keys then.
+/// Answers the least key of the page behind it.
+pub fn prune_page<A: Allocator>(
+    least: &mut Vec<u64, A>,
+    groups: &mut Vec<Group<A>, A>,
+    key: u64,
+    horizon: u32,
+) -> Option<u64>
+    requires some { 0 < length groups.old.items }
+    requires least { least.old.items ≡ least_keys (group_slots groups.old.items) }
+    requires filled { AreFilled GROUP_KEYS (group_slots groups.old.items) }
+    ensures least { least.new.items ≡ least_keys (group_slots groups.new.items) }
+    ensures slots { IsPrunedWithin horizon (all_slots (group_slots groups.old.items))
+        (all_slots (group_slots groups.new.items)) }
+    ensures filled { AreFilled GROUP_KEYS (group_slots groups.new.items) }
+    ensures few { length groups.new.items ≤ length groups.old.items }
+{
+    let at = place_of(least, key);
+    let behind = key_behind(least, at);
+    let next = prune_page_at(groups, at, key, horizon);
+    drop_pruned(least, groups, at);
+    next.or(behind)
 }
 
 /// Drops what no position from the horizon on sees, the keys of which nothing is left, and the groups without keys.

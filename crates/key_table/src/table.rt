@@ -5,7 +5,8 @@ ghost use Rattle.std.specs.Prelude.{OnOk, IfSome, IsSome, option_map};
 ghost use Rattle.std.specs.Option.{option_copied};
 ghost use Rattle.key_group.specs.declared.edits.TheConstants.{PAGE_KEYS};
 ghost use Rattle.row_chain.specs.Version.{row_up_to, needed_versions};
-ghost use Rattle.key_table.specs.Table.{AreRising, chain_at, versions_at, HasRoomAt, rows_between};
+ghost use Rattle.key_group.specs.Pages.{has_slots};
+ghost use Rattle.key_table.specs.Table.{AreRising, ArePrunedOrSame, chain_at, versions_at, HasRoomAt, rows_between};
 
 use crate::{edits, groups};
 use key_group::Group;
@@ -48,6 +49,14 @@ impl<A: Allocator> KeyTable<A> {
             least: Vec::new(alloc),
             groups: Vec::new(alloc),
         }
+    }
+
+    /// Whether it has keys.
+    pub fn has_keys(&self) -> bool
+        ensures { result ≡ has_slots self.now.slots }
+    {
+        let groups: &[Group<A>] = &self.groups;
+        !groups.is_empty()
     }
 
     /// How many pages of 1 to 64 keys it has.
@@ -119,6 +128,19 @@ impl<A: Allocator> KeyTable<A> {
         ensures width { self.new.width ≡ self.old.width }
     {
         edits::push(&self.least, &mut self.groups, key, position, row);
+    }
+
+    /// Drops of the page in which a key stands or would stand what no position from the horizon on sees, and the keys
+    /// of which no version is left. Answers the least key of the page behind it.
+    pub fn prune_page(&mut self, key: u64, horizon: u32) -> Option<u64>
+        ensures versions { (q : ℕ) → ArePrunedOrSame horizon (versions_at self.old.slots q)
+            (versions_at self.new.slots q) }
+        ensures width { self.new.width ≡ self.old.width }
+    {
+        if self.groups.is_empty() {
+            return None;
+        }
+        edits::prune_page(&mut self.least, &mut self.groups, key, horizon)
     }
 
     /// Drops from each key the versions that no position from the horizon on sees, and the keys of which none is left.

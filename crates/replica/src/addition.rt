@@ -9,6 +9,7 @@ ghost use Rattle.stored_procedures.specs.Held.{stored, stored_procedures};
 ghost use Rattle.certify.specs.Kept.{IsMemoryOf};
 
 use crate::certification::Certification;
+use crate::certifications::Certifications;
 use certify::Certifier;
 use log_entry::AddedProcedure;
 use log_model::Verdict;
@@ -56,7 +57,7 @@ fn add_to<A: Allocator + Copy, P: Allocator + Copy>(
 pub(crate) fn take_addition<A: Allocator + Copy, P: Allocator + Copy>(
     certifier: &mut Certifier<A>,
     procedures: &mut StoredProcedures<A, P>,
-    certifications: &mut Vec<Certification, A>,
+    certifications: &mut Certifications<A>,
     position: u32,
     added: &AddedProcedure<P>,
 ) -> Result<Certification, AllocError>
@@ -79,15 +80,14 @@ pub(crate) fn take_addition<A: Allocator + Copy, P: Allocator + Copy>(
     ensures same_procedures { OnErr result (procedures.new ≡ procedures.old) }
     ensures same_certifications { OnErr result (certifications.new.items ≡ certifications.old.items) }
 {
-    certifications.reserve(1)?;
+    certifications.reserve()?;
     let prepared = certifier.prepare_addition()?;
     let verdict = add_to(procedures, added)?;
     let certification = Certification {
         verdict,
         compared: 0,
     };
-    let pushed = certifications.push(certification);
-    prove!(pushed.is_ok());
+    certifications.push(certification);
     certifier.keep(position, verdict, prepared);
     Ok(certification)
 }

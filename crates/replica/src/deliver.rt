@@ -15,12 +15,13 @@ ghost use Rattle.replica.specs.Delivery.{HasSameVersions, IsLeft, IsTakenIn};
 
 use crate::addition::take_addition;
 use crate::certification::Certification;
+use crate::certifications::Certifications;
 use crate::laws::additions_are_taken_in;
 use certify::Certifier;
 use log_entry::{Entry, ExecutedCall};
 use log_model::Verdict;
 use row_sets::WriteSet;
-use rows_mv::{Versions, answers_after_pruning};
+use rows_mv::{Versions, answers_after_pruning_in_part};
 use std::alloc::{AllocError, Allocator};
 use stored_procedures::StoredProcedures;
 
@@ -28,7 +29,7 @@ use stored_procedures::StoredProcedures;
 /// versions that it had.
 fn install<A: Allocator + Copy, B: Allocator + Copy>(
     versions: &mut Versions<A>,
-    certifications: &mut Vec<Certification, A>,
+    certifications: &mut Certifications<A>,
     certification: Certification,
     position: u32,
     writes: &WriteSet<B>,
@@ -46,11 +47,13 @@ fn install<A: Allocator + Copy, B: Allocator + Copy>(
     ensures horizon { versions.new.horizon ≡ versions.old.horizon }
 {
     if !matches!(certification.verdict, Verdict::Commit) {
-        certifications.push(certification)?;
+        certifications.reserve()?;
+        certifications.push(certification);
         return Ok(());
     }
     versions.prepare(writes)?;
-    certifications.push(certification)?;
+    certifications.reserve()?;
+    certifications.push(certification);
     versions.install(position, writes);
     Ok(())
 }
@@ -60,7 +63,7 @@ fn install<A: Allocator + Copy, B: Allocator + Copy>(
 fn take_call<A: Allocator + Copy, B: Allocator + Copy>(
     certifier: &mut Certifier<A>,
     versions: &mut Versions<A>,
-    certifications: &mut Vec<Certification, A>,
+    certifications: &mut Certifications<A>,
     position: u32,
     call: &ExecutedCall<B>,
 ) -> Result<Certification, AllocError>
@@ -110,7 +113,7 @@ pub(crate) fn take_entry<A: Allocator + Copy, P: Allocator + Copy>(
     certifier: &mut Certifier<A>,
     versions: &mut Versions<A>,
     procedures: &mut StoredProcedures<A, P>,
-    certifications: &mut Vec<Certification, A>,
+    certifications: &mut Certifications<A>,
     position: u32,
     entry: &Entry<P>,
 ) -> Result<Certification, AllocError>
@@ -158,23 +161,45 @@ pub(crate) fn take_entry<A: Allocator + Copy, P: Allocator + Copy>(
     }
 }
 
-/// At least as many keys as there are, where they are fewer than 2^32.
-fn key_bound<A: Allocator + Copy>(versions: &Versions<A>) -> u32 {
-    let mut pages: usize = 0;
-    for table in 0..65u8 {
-        pages = pages.saturating_add(versions.pages(table));
-    }
-    u32::try_from(pages.saturating_mul(64)).unwrap_or(u32::MAX)
+/// How many deliveries come between two in which versions are dropped, each time of one page of at most 64 keys: a pass
+/// over all pages takes about as many deliveries as there are keys, so that each pays for a key.
+const PRUNE_PACE: u32 = 64;
+
+/// When versions are dropped next, and when the pass over all pages that this is part of was due.
+#[derive(Clone, Copy)]
+pub(crate) struct PruneTimes {
+    next: u32,
+    pass: u32,
 }
 
-/// Drops what no position within the window sees, where the position has come so far, and tells from which on to do so
-/// again: after as many deliveries as the window has, or there are keys, so that each delivery pays the same.
+impl PruneTimes {
+    /// The first pass is due at a position.
+    pub(crate) fn from(position: u32) -> PruneTimes {
+        PruneTimes {
+            next: position,
+            pass: position,
+        }
+    }
+
+    /// The times after a page was pruned. Passes are due as many deliveries apart as the window has, since in fewer
+    /// no more versions than these are added to those that are kept.
+    fn after_page(self, window: u32, position: u32, was_last: bool) -> PruneTimes {
+        let next = position.saturating_add(PRUNE_PACE);
+        if was_last {
+            return PruneTimes::from(next.max(self.pass.saturating_add(window)));
+        }
+        PruneTimes { next, ..self }
+    }
+}
+
+/// Drops what no position within the window sees, of one page of keys, where the position has come so far, and tells
+/// when to do so again.
 pub(crate) fn drop_unseen<A: Allocator + Copy>(
     versions: &mut Versions<A>,
     window: u32,
     position: u32,
-    from: u32,
-) -> u32
+    times: PruneTimes,
+) -> PruneTimes
     requires { versions.old.horizon ≤ position - window }
     ensures seen { (s : ℕ) (rows : Rows) → position - s ≤ window
         → AnswersFrom versions.old.tables s rows → AnswersFrom versions.new.tables s rows }
@@ -182,10 +207,10 @@ pub(crate) fn drop_unseen<A: Allocator + Copy>(
     ensures widths { (t : ℕ) → width_of versions.new.tables t ≡ width_of versions.old.tables t }
     ensures tables { length versions.new.tables ≡ length versions.old.tables }
 {
-    answers_after_pruning();
-    if position < from {
-        return from;
+    answers_after_pruning_in_part();
+    if position < times.next {
+        return times;
     }
-    versions.prune(position.saturating_sub(window));
-    position.saturating_add(window.max(key_bound(versions)))
+    let was_last = versions.prune_page(position.saturating_sub(window));
+    times.after_page(window, position, was_last)
 }

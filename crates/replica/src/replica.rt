@@ -16,7 +16,8 @@ ghost use Rattle.replica.specs.Replica.{entries_of, rows_kept, writes_in, HasDel
 
 use crate::at::At;
 use crate::certification::Certification;
-use crate::deliver::{drop_unseen, take_entry};
+use crate::certifications::Certifications;
+use crate::deliver::{PruneTimes, drop_unseen, take_entry};
 use crate::laws::{deliveries_are_kept, no_rows_at_first, replicas_follow_the_log};
 use crate::rebuild::replica_of;
 use crate::stopped::Stopped;
@@ -47,12 +48,11 @@ pub struct Replica<A: Allocator + Copy = Global, P: Allocator + Copy = A> {
     window: u32,
     position: u32,
     stopped: bool,
-    certifications: Vec<Certification, A>,
+    certifications: Certifications<A>,
     certifier: Certifier<A>,
     versions: Versions<A>,
     procedures: StoredProcedures<A, P>,
-    /// The position from which versions are dropped next.
-    next_prune: u32,
+    prune_times: PruneTimes,
 }
 
 impl<A: Allocator + Copy, P: Allocator + Copy> Model for Replica<A, P> {
@@ -105,11 +105,11 @@ impl<A: Allocator + Copy, P: Allocator + Copy> Replica<A, P> {
             window,
             position: 0,
             stopped: false,
-            certifications: Vec::new(alloc),
+            certifications: Certifications::new(alloc),
             certifier,
             versions,
             procedures,
-            next_prune: window,
+            prune_times: PruneTimes::from(window),
         })
     }
 
@@ -203,7 +203,7 @@ impl<A: Allocator + Copy, P: Allocator + Copy> Replica<A, P> {
             return Err(Stopped);
         };
         self.position = position;
-        self.next_prune = drop_unseen(&mut self.versions, self.window, position, self.next_prune);
+        self.prune_times = drop_unseen(&mut self.versions, self.window, position, self.prune_times);
         Ok(certification.verdict)
     }
 
@@ -244,6 +244,6 @@ impl<A: Allocator + Copy, P: Allocator + Copy> Replica<A, P> {
             → verdict_of w (items_of entries) position ≡ Some result.verdict }
     {
         replicas_follow_the_log();
-        self.certifications[position as usize - 1]
+        self.certifications.at(position as usize - 1)
     }
 }

@@ -6,6 +6,8 @@ use crate::delivering::{key_of, put_of};
 use certify::Certifier;
 use log_entry::ExecutedCall;
 use log_model::Verdict;
+use row_sets::ReadSet;
+use schema::Look;
 use std::alloc::Global;
 
 /// How many calls are kept.
@@ -24,19 +26,48 @@ fn full_certifier(alloc: Global, keys: u64) -> Option<Certifier>
     Some(certifier)
 }
 
-/// A call that looked at one key above all of these, on the oldest rows that a full window keeps.
-fn look_above(alloc: Global, keys: u64) -> Option<ExecutedCall>
+/// At which keys a call looked.
+#[derive(Clone, Copy)]
+pub(crate) enum Looks {
+    /// At one above all that were put.
+    Above,
+    /// At 2 to 33, whose bits are in each word of a signature, and none of them that of key 1 (computed by a Python
+    /// program).
+    Spread,
+}
+
+/// Looks at the keys from 2 to 33, 16 at a time, since a longer look sets all bits.
+fn add_spread(reads: &mut ReadSet) -> Option<()> {
+    for lo in [2u64, 18] {
+        let hi = lo.saturating_add(15);
+        reads.add_range(Look { table: 1, lo, hi }).ok()?;
+    }
+    Some(())
+}
+
+/// The looks of a call, where keys 1 to so many were put.
+fn reads_of(alloc: Global, keys: u64, looks: Looks) -> Option<ReadSet> {
+    let mut reads = ReadSet::new(alloc);
+    match looks {
+        Looks::Above => reads.add_point(1, keys.saturating_add(1)).ok()?,
+        Looks::Spread => add_spread(&mut reads)?,
+    }
+    Some(reads)
+}
+
+/// A call with these looks on the oldest rows that a full window keeps.
+fn call_with(alloc: Global, reads: ReadSet) -> Option<ExecutedCall>
     ensures { IfSome result (λ e. e.call.snapshot ≡ 0) }
 {
     let mut entry = put_of(alloc, 1, 0)?;
-    entry.reads.add_point(1, keys.saturating_add(1)).ok()?;
+    entry.reads = reads;
     Some(entry)
 }
 
 /// Asks for so many verdicts: how many exact comparisons they make together.
-pub(crate) fn verdicts(alloc: Global, keys: u64, times: u64) -> Option<u64> {
+pub(crate) fn verdicts(alloc: Global, looks: Looks, keys: u64, times: u64) -> Option<u64> {
     let mut certifier = full_certifier(alloc, keys)?;
-    let entry = look_above(alloc, keys)?;
+    let entry = call_with(alloc, reads_of(alloc, keys, looks)?)?;
     let mut compared = 0u64;
     for _ in 0..times {
         let _ = certifier.verdict(&entry, WINDOW + 1);

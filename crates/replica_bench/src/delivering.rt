@@ -45,7 +45,12 @@ fn deliver_put(alloc: Global, checked: &mut CheckedReplica, key: u64) -> Option<
 }
 
 /// Delivers so many puts, at the keys in turn.
-fn deliver_puts(alloc: Global, checked: &mut CheckedReplica, keys: u64, times: u64) -> Option<()> {
+pub(crate) fn deliver_puts(
+    alloc: Global,
+    checked: &mut CheckedReplica,
+    keys: u64,
+    times: u64,
+) -> Option<()> {
     for number in 0..times {
         let _verdict = deliver_put(alloc, checked, key_of(number, keys))?;
     }

@@ -1,5 +1,5 @@
 //! Delivers entries to a replica, reads its rows, or asks a certifier for verdicts, for measurements from outside: the
-//! time is taken by whoever starts it (bench/replica does).
+//! time is taken by whoever starts it (bench/replica does), but of the longest delivery, which can be taken only here.
 #![tactic(auto)]
 
 ghost use Rattle.std.specs.Prelude.{◌<◌};
@@ -8,11 +8,13 @@ mod adding;
 mod certifying;
 mod delivering;
 mod requesting;
+mod timing;
 
 use crate::adding::{additions, stored, taken};
-use crate::certifying::{sum_words, verdicts};
+use crate::certifying::{Looks, sum_words, verdicts};
 use crate::delivering::{deliveries, reads};
 use crate::requesting::requests;
+use crate::timing::delivery_times;
 use anyhow::Context;
 use std::alloc::Global;
 use std::env;
@@ -25,8 +27,10 @@ enum Work {
     Deliveries,
     /// Reads at a snapshot, spread over the keys.
     Reads,
-    /// Verdicts in a full window that meet nothing.
+    /// Verdicts in a full window that meet nothing, on a look at one key.
     Verdicts,
+    /// The same on looks at so many keys that no word of their signature is 0.
+    Wide,
     /// Sums of 512 KiB, as much as the signatures of a full window take.
     Memory,
     /// Deliveries of additions, of new names and numbers, over so many stored procedures.
@@ -47,6 +51,7 @@ impl Work {
             "deliveries" => Some(Work::Deliveries),
             "reads" => Some(Work::Reads),
             "verdicts" => Some(Work::Verdicts),
+            "wide" => Some(Work::Wide),
             "memory" => Some(Work::Memory),
             "additions" => Some(Work::Additions),
             "taken" => Some(Work::Taken),
@@ -70,7 +75,8 @@ fn count_of(alloc: Global, work: Work, keys: u64, times: u64) -> Option<(&'stati
     Some(match work {
         Work::Deliveries => ("position", u64::from(deliveries(alloc, keys, times)?)),
         Work::Reads => ("found", reads(alloc, keys, times)?),
-        Work::Verdicts => ("comparisons", verdicts(alloc, keys, times)?),
+        Work::Verdicts => ("comparisons", verdicts(alloc, Looks::Above, keys, times)?),
+        Work::Wide => ("comparisons", verdicts(alloc, Looks::Spread, 1, times)?),
         Work::Memory => ("sum", sum_words(alloc, times)?),
         Work::Additions => ("stored", additions(alloc, keys, times)?),
         Work::Taken => ("taken", taken(alloc, keys, times)?),
@@ -87,17 +93,31 @@ fn report(rt: &HostRuntime, work: Work, keys: u64, times: u64) -> anyhow::Result
     Ok(())
 }
 
+/// Tells the nanoseconds of deliveries at so many keys, so many.
+fn report_longest(rt: &HostRuntime, keys: u64, times: u64) -> anyhow::Result<()> {
+    let told = delivery_times(rt, keys, times);
+    let told = told.context("memory or the clock is wanting, or nothing was timed")?;
+    println!(rt;
+        "mean {} rare {} longest {}",
+        told.mean, told.rare, told.longest
+    )?;
+    Ok(())
+}
+
 /// Reads the three words: the work, how many keys, and how many times.
 fn run(rt: &HostRuntime) -> anyhow::Result<()> {
     let words: Vec<String> = env::args(rt)?.collect(rt.alloc())?;
-    let work = words.get(1).and_then(|word| Work::from_word(word));
-    let work = work.context(
-        "the first word is deliveries, reads, verdicts, memory, additions, taken, hits, misses or stored",
-    )?;
     let keys = words.get(2).and_then(|word| word.parse().ok());
     let keys = keys.context("the second word is how many keys, procedures or requests there are")?;
     let times = words.get(3).and_then(|word| word.parse().ok());
     let times = times.context("the third word is how many times it is done")?;
+    if words.get(1).is_some_and(|word| word.as_str() == "longest") {
+        return report_longest(rt, keys, times);
+    }
+    let work = words.get(1).and_then(|word| Work::from_word(word));
+    let work = work.context(
+        "the first word is deliveries, reads, verdicts, wide, memory, additions, taken, hits, misses, stored, longest",
+    )?;
     report(rt, work, keys, times)
 }
 

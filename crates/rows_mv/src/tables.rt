@@ -8,6 +8,7 @@ ghost use Rattle.schema.specs.Rows.{Key};
 ghost use Rattle.key_table.specs.Table.{Table, versions_at, HasRoomAt};
 ghost use Rattle.rows_mv.specs.Versions.{slots_of, width_of, IsTableReserved, IsTablePut, AreOfTables, IsPrepared};
 ghost use Rattle.rows_mv.specs.Versions.{HaveWidths, IsInstalled, IsPrunedAt, IsTablePruned, AreEmpty};
+ghost use Rattle.rows_mv.specs.Versions.{ArePartlyPruned, IsTablePartlyPruned};
 
 use key_table::KeyTable;
 use row_sets::{Bytes, WriteSet};
@@ -166,6 +167,80 @@ fn prune_at<A: Allocator>(tables: &mut Vec<KeyTable<A>, A>, at: usize, horizon: 
         × (tables.new.items ≡ slice_set tables.old.items at (slice_index_or tables.new.items at d)) }
 {
     tables[at].prune(horizon);
+}
+
+/// Where pruning goes on: at the page of a table in which a key stands or would stand.
+#[derive(Clone, Copy)]
+pub struct Place {
+    table: usize,
+    key: u64,
+}
+
+impl Place {
+    /// The first page of all.
+    pub fn first() -> Place {
+        Place { table: 0, key: 0 }
+    }
+
+    /// The page behind one of a table: that of a key, or without a key the first of the next table.
+    fn behind(table: usize, key: Option<u64>) -> Place {
+        match key {
+            Some(key) => Place { table, key },
+            None => Place {
+                table: table.saturating_add(1),
+                key: 0,
+            },
+        }
+    }
+
+    /// The key at which it goes on in this table or in a later one.
+    fn key_in(self, table: usize) -> u64 {
+        if table == self.table { self.key } else { 0 }
+    }
+}
+
+/// The number of the first table from one on that has keys, else of how many tables there are.
+fn first_with_keys<A: Allocator>(tables: &[KeyTable<A>], from: usize) -> usize {
+    for at in from..tables.len() {
+        if tables[at].has_keys() {
+            return at;
+        }
+    }
+    tables.len()
+}
+
+fn prune_page_at<A: Allocator>(
+    tables: &mut Vec<KeyTable<A>, A>,
+    at: usize,
+    key: u64,
+    horizon: u32,
+) -> Option<u64>
+    requires { at < length tables.old.items }
+    ensures { (d : Table) → IsTablePartlyPruned horizon (slice_index_or tables.old.items at d)
+        (slice_index_or tables.new.items at d)
+        × (tables.new.items ≡ slice_set tables.old.items at (slice_index_or tables.new.items at d)) }
+{
+    tables[at].prune_page(key, horizon)
+}
+
+/// Drops of the page of keys at a place what no position from the horizon on sees. Answers the place behind it, or none
+/// where nothing stands from this place on. Takes no memory.
+pub fn prune_page<A: Allocator>(
+    tables: &mut Vec<KeyTable<A>, A>,
+    place: Place,
+    horizon: u32,
+) -> Option<Place>
+    ensures versions { ArePartlyPruned horizon tables.old.items tables.new.items }
+    ensures widths { (t : ℕ) → width_of tables.new.items t ≡ width_of tables.old.items t }
+    ensures count { length tables.new.items ≡ length tables.old.items }
+{
+    let all: &[KeyTable<A>] = tables;
+    let table = first_with_keys(all, place.table);
+    if table >= all.len() {
+        return None;
+    }
+    let next = prune_page_at(tables, table, place.key_in(table), horizon);
+    Some(Place::behind(table, next))
 }
 
 /// Drops from each key the versions that no position from the horizon on sees. Takes no memory.

@@ -1,6 +1,6 @@
 //! Eight signatures, against which another is compared at once.
 
-ghost use Rattle.std.specs.Prelude.{◌≡◌, ◌≢◌, ◌<◌, ◌↔◌, ℕ, List, false, slice_index_or};
+ghost use Rattle.std.specs.Prelude.{◌≡◌, ◌≢◌, ◌<◌, ◌↔◌, ℕ, List, bit_and, bit_or, false, slice_index_or};
 ghost use Rattle.std.specs.Int.{bit_at};
 ghost use Rattle.sig_lanes.specs.Bits.{has_bit, Meet, signature_at, SharePlace};
 
@@ -63,7 +63,21 @@ fn put_signature(block: &mut [Words; 16], lane: usize, signature: &Sig)
     }
 }
 
+/// The bits so far, with those that each lane shares with a word. Lanes that are held against 0 aren't read: most words
+/// of a signature are 0, as calls look at few keys.
+#[inline(always)]
+fn share_word(so_far: u64x8, words: &Words, word: u64) -> u64x8
+    ensures { (j : ℕ) → j < 8
+        → slice_index_or result j 0 ≡ bit_or (slice_index_or so_far j 0) (bit_and (slice_index_or words.now j 0) word) }
+{
+    if word == 0 {
+        return so_far;
+    }
+    or_shared(so_far, words.lanes, word)
+}
+
 /// The bits that each of eight signatures shares with another, whichever word they are in.
+#[inline(always)]
 fn shared_bits(block: &[Words; 16], signature: &Sig) -> u64x8
     ensures { (j k : ℕ) → j < 8
         → ((bit_at (slice_index_or result j 0) k ≡ 1) ↔ SharePlace (signature_at block.now j) signature.now 16 k) }
@@ -71,8 +85,7 @@ fn shared_bits(block: &[Words; 16], signature: &Sig) -> u64x8
     let source = signature.words();
     let mut shared = u64x8::splat(0);
     for word in 0..16 {
-        let words = &block[word];
-        shared = or_shared(shared, words.lanes, source[word]);
+        shared = share_word(shared, &block[word], source[word]);
     }
     shared
 }
@@ -107,6 +120,7 @@ impl Block {
     }
 
     /// Which of the eight share a bit with a signature: bit j is set where signature j does.
+    #[inline(always)]
     pub fn meets(&self, signature: &Sig) -> u8
         ensures { (j : ℕ) → j < 8 → ((bit_at result j ≡ 1) ↔ Meet (signature_at self.now j) signature.now) }
     {

@@ -54,6 +54,11 @@ impl<'a, A: Allocator + Copy> CheckedVersions<'a, A> {
         self.versions.prune(below);
     }
 
+    /// Drops what no position from this one on sees, of the next page of keys. Answers whether there was none.
+    pub fn prune_page(&mut self, below: u32) -> bool {
+        self.versions.prune_page(below)
+    }
+
     /// The versions themselves.
     pub fn versions(&self) -> &Versions<A>
         ensures { result.now ≡ self.now }

@@ -77,6 +77,37 @@ fn pages_are_split_when_they_are_full(rt: HostRuntime) {
     assert_eq!(rt; (seen, left), (PAGES.len(), [31, 0]));
 }
 
+/// How many pages are left after each of so many that are pruned, and how often a pass came to its end.
+fn pages_in_turn(checked: &mut CheckedVersions, position: u32) -> ([usize; 32], u32) {
+    let mut left = [0; 32];
+    let mut ends = 0u32;
+    for turn in 0..32 {
+        if checked.prune_page(position) {
+            ends = ends.wrapping_add(1);
+        }
+        left[turn] = checked.versions().pages(1);
+    }
+    (left, ends)
+}
+
+#[test]
+fn pages_are_pruned_one_at_a_time(rt: HostRuntime) {
+    let schema = Schema::new(rt.alloc(), &TABLES).expect(&rt, "memory");
+    let mut checked = CheckedVersions::new(rt.alloc(), &schema).expect(&rt, "memory");
+    let seen = put_all(&rt, rt.alloc(), &mut checked);
+    remove_all(&rt, rt.alloc(), &mut checked);
+    let kept = pages_in_turn(&mut checked, 1_000);
+    let (left, ends) = pages_in_turn(&mut checked, 1_001);
+    let expected: [usize; 32] = [
+        30, 29, 28, 27, 26, 25, 24, 23, 22, 21, 20, 19, 18, 17, 16, 15, 14, 13, 12, 11, 10, 9, 8,
+        7, 6, 5, 4, 3, 2, 1, 0, 0,
+    ];
+    assert_eq!(rt;
+        (seen, kept, left, ends),
+        (PAGES.len(), ([31; 32], 1), expected, 1)
+    );
+}
+
 // ---- more pages than a group has
 
 /// How many keys are put in rising order: 312 pages, of which a group has 256 at most.
