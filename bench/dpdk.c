@@ -1,7 +1,7 @@
-/* Runs a program on the BPF interpreter of DPDK (librte_bpf), for comparison: dpdk arithmetic|memory|mixed CALLS; or loads one of
-   so many instructions and a few, which its verifier takes first: dpdk INSTRUCTIONS TIMES verify. The programs are those of
-   crates/machine_bench. It says how many instructions were run, or slots were taken; the time is taken by whoever starts it
-   (bench/machine). */
+/* Runs a program on the BPF interpreter of DPDK (librte_bpf), for comparison: dpdk arithmetic|memory|mixed CALLS; or
+   loads one of so many instructions and a few, which its verifier takes first and it then makes machine code of: dpdk
+   INSTRUCTIONS TIMES verify. The programs are those of crates/machine_bench. It says how many instructions were run, or
+   slots were taken; the time is taken by whoever starts it (bench/machine). */
 #include <rte_bpf.h>
 #include <stdint.h>
 #include <stdio.h>
@@ -36,7 +36,11 @@ static void put_program(const char *kind, uint32_t instructions)
     static const int32_t starts[] = {7, 9, 3, 5, 1, 2, 3};
     static const int registers[] = {6, 7, 8, 9, 1, 2, 3};
     for (int i = 0; i < 7; i++) put(0xb7, registers[i], 0, 0, starts[i]);
-    while (count < instructions) put_body(kind);
+    for (uint32_t first = count; count - first < instructions;) {
+        uint32_t before = count;
+        put_body(kind);
+        if (count - first > instructions) count = before, instructions = 0;
+    }
     put(0xbf, 0, 6, 0, 0), put(0x95, 0, 0, 0, 0);
 }
 

@@ -1,51 +1,89 @@
-/* Small transactions of SQLite in memory, for comparison: sqlite KEYS COUNT. Each reads the number at one of KEYS drawn keys,
-   adds 1 and writes it, by prepared statements. It says how many were committed; the time is taken by whoever starts it
-   (bench/calls). */
+/* Small transactions on SQLite in memory, for comparison: sqlite write|read|start THREADS CALLS. The threads share one connection
+   and take turns at it, a transaction each: of a write it reads the row at one of 10,000 keys and writes it with 1 added, of a read
+   it reads it. The time is taken by whoever starts it (bench/node does). */
+#include <pthread.h>
 #include <sqlite3.h>
 #include <stdint.h>
 #include <stdio.h>
 #include <stdlib.h>
+#include <string.h>
 
-static sqlite3_stmt *prepared(sqlite3 *database, const char *text)
+enum { KEYS = 10000 };
+
+static sqlite3 *database;
+static sqlite3_stmt *begin, *get, *put, *commit;
+static pthread_mutex_t turn = PTHREAD_MUTEX_INITIALIZER;
+static int threads, calls, writes;
+
+static void check(int status)
 {
-    sqlite3_stmt *statement = NULL;
-    if (sqlite3_prepare_v3(database, text, -1, SQLITE_PREPARE_PERSISTENT, &statement, NULL) != SQLITE_OK) {
+    if (status != SQLITE_OK && status != SQLITE_DONE && status != SQLITE_ROW) {
         fprintf(stderr, "sqlite: %s\n", sqlite3_errmsg(database));
         exit(1);
     }
+}
+
+static void run(sqlite3_stmt *statement)
+{
+    check(sqlite3_step(statement));
+    check(sqlite3_reset(statement));
+}
+
+static void transaction(int key)
+{
+    sqlite3_int64 row = 0;
+    run(begin);
+    check(sqlite3_bind_int64(get, 1, key));
+    int found = sqlite3_step(get);
+    check(found);
+    if (found == SQLITE_ROW) row = sqlite3_column_int64(get, 0);
+    check(sqlite3_reset(get));
+    if (writes) {
+        check(sqlite3_bind_int64(put, 1, key));
+        check(sqlite3_bind_int64(put, 2, row + 1));
+        run(put);
+    }
+    run(commit);
+}
+
+static void *call_all(void *number)
+{
+    uint64_t drawn = 88172645463325252u + (uintptr_t)number;
+    for (int call = (int)(uintptr_t)number; call < calls; call += threads) {
+        drawn ^= drawn << 13, drawn ^= drawn >> 7, drawn ^= drawn << 17;
+        pthread_mutex_lock(&turn);
+        transaction((int)(drawn % KEYS));
+        pthread_mutex_unlock(&turn);
+    }
+    return NULL;
+}
+
+static sqlite3_stmt *prepare(const char *text)
+{
+    sqlite3_stmt *statement;
+    check(sqlite3_prepare_v2(database, text, -1, &statement, NULL));
     return statement;
 }
 
-static void take(sqlite3_stmt *statement)
+int main(int count, char **words)
 {
-    sqlite3_step(statement);
-    sqlite3_reset(statement);
-}
-
-int main(int argc, char **argv)
-{
-    if (argc < 3) return 2;
-    uint64_t keys = strtoull(argv[1], NULL, 10);
-    uint32_t count = strtoul(argv[2], NULL, 10);
-    sqlite3 *database;
-    if (sqlite3_open(":memory:", &database) != SQLITE_OK) return 1;
-    sqlite3_exec(database, "create table numbers (key integer primary key, number integer not null)", NULL, NULL, NULL);
-    sqlite3_stmt *begin = prepared(database, "begin immediate"), *commit = prepared(database, "commit");
-    sqlite3_stmt *get = prepared(database, "select number from numbers where key = ?1");
-    sqlite3_stmt *put = prepared(database, "insert or replace into numbers values (?1, ?2)");
-    uint32_t committed = 0;
-    for (uint32_t number = 0; number < count; number++) {
-        int64_t key = (uint64_t)number * 2654435761u % keys, sum = 1;
-        take(begin);
-        sqlite3_bind_int64(get, 1, key);
-        if (sqlite3_step(get) == SQLITE_ROW) sum += sqlite3_column_int64(get, 0);
-        sqlite3_reset(get);
-        sqlite3_bind_int64(put, 1, key);
-        sqlite3_bind_int64(put, 2, sum);
-        take(put);
-        take(commit);
-        committed += sqlite3_get_autocommit(database);
+    if (count != 4) {
+        fprintf(stderr, "usage: sqlite write|read|start THREADS CALLS\n");
+        return 2;
     }
-    printf("commits %u\n", committed);
+    writes = strcmp(words[1], "write") == 0;
+    threads = atoi(words[2]);
+    calls = strcmp(words[1], "start") == 0 ? 0 : atoi(words[3]);
+    if (threads < 1 || threads > 256) return 2;
+    check(sqlite3_open(":memory:", &database));
+    check(sqlite3_exec(database, "CREATE TABLE rows(key INTEGER PRIMARY KEY, value INTEGER)", NULL, NULL, NULL));
+    begin = prepare("BEGIN IMMEDIATE");
+    get = prepare("SELECT value FROM rows WHERE key = ?");
+    put = prepare("INSERT OR REPLACE INTO rows VALUES(?, ?)");
+    commit = prepare("COMMIT");
+    pthread_t started[256];
+    for (int number = 0; number < threads; number += 1)
+        if (pthread_create(&started[number], NULL, call_all, (void *)(uintptr_t)number)) return 1;
+    for (int number = 0; number < threads; number += 1) pthread_join(started[number], NULL);
     return 0;
 }

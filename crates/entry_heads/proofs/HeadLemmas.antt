@@ -11,7 +11,7 @@ use Rattle.log_model.specs.Log.{Call, StoredProcedure}
 use Rattle.log_model.specs.Entries.{ExecutedCall, CallEntry, AdditionEntry}
 use Rattle.log_entry.specs.Bytes.{entry_bytes, executed_bytes, head_bytes, looks_bytes, writes_bytes}
 use Rattle.entry_heads.specs.Head.{Head, CallHead, AdditionHead, part, field, is_whole, request_of, call_of, call_head, procedure_of, addition_head, head_of}
-use Rattle.entry_heads.specs.Fit.{CallFits, AdditionFits, named_procedure}
+use Rattle.entry_heads.specs.Fit.{CallFitsFields, AdditionFitsFields, named_procedure}
 
 -- what stands in front, and behind
 part_first : (xs ys : List ℕ) (count : ℕ) → length xs ≡ count → part 0 count (xs ++ ys) ≡ xs
@@ -70,7 +70,7 @@ entry_fields e =
     append_assoc (head_bytes e) (looks_bytes e.looks) (writes_bytes e.writes)
     ∙ six (little_bytes 4 e.call.number) (little_bytes 2 e.call.procedure) (little_bytes 2 (length e.call.args % 2 ^ 16)) e.call.args (little_bytes 4 e.call.snapshot) (little_bytes 8 e.reply) rest))
 
-pub call_is_named : (e : ExecutedCall) → CallFits e → head_of (entry_bytes (CallEntry e)) ≡ Some (CallHead e.call e.reply)
+pub call_is_named : (e : ExecutedCall) → CallFitsFields e → head_of (entry_bytes (CallEntry e)) ≡ Some (CallHead e.call e.reply)
 unfolding head_of
 call_is_named e fits =
     ap head_of (entry_fields e) ∙ ap (λ n. call_head n fields) args_len
@@ -178,7 +178,7 @@ entry_of_addition p =
     five : (a b c d e t : List ℕ) → a ++ b ++ c ++ d ++ e ++ t ≡ a ++ (b ++ (c ++ (d ++ (e ++ t))))
     five a b c d e t = append_assoc (a ++ b ++ c ++ d) e t ∙ append_assoc (a ++ b ++ c) d (e ++ t) ∙ append_assoc (a ++ b) c (d ++ (e ++ t)) ∙ append_assoc a b (c ++ (d ++ (e ++ t)))
 
-pub addition_is_named : (p : StoredProcedure) → AdditionFits p → head_of (entry_bytes (AdditionEntry p)) ≡ Some (AdditionHead (named_procedure p))
+pub addition_is_named : (p : StoredProcedure) → AdditionFitsFields p → head_of (entry_bytes (AdditionEntry p)) ≡ Some (AdditionHead (named_procedure p))
 unfolding head_of
 addition_is_named p fits =
     ap head_of (entry_of_addition p)

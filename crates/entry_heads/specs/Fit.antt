@@ -5,7 +5,7 @@ use Rattle.log_model.specs.Log.{StoredProcedure}
 use Rattle.log_model.specs.Entries.{ExecutedCall}
 use Rattle.entry_heads.specs.Head.{NamedProcedure, is_whole}
 
-pub record CallFits (e : ExecutedCall) : Type 0 where
+pub record CallFitsFields (e : ExecutedCall) : Type 0 where
   pub number : e.call.number < 2 ^ 32
   pub procedure : e.call.procedure < 2 ^ 16
   pub args : length e.call.args < 2 ^ 16
@@ -15,7 +15,7 @@ pub record CallFits (e : ExecutedCall) : Type 0 where
   pub whole : is_whole e.call.request ≡ true
   pub reply : e.reply < 2 ^ 64
 
-pub record AdditionFits (p : StoredProcedure) : Type 0 where
+pub record AdditionFitsFields (p : StoredProcedure) : Type 0 where
   pub number : p.number < 2 ^ 16
   pub args_len : p.args_len < 2 ^ 16
   pub name : length p.name < 2 ^ 8

@@ -1,5 +1,5 @@
--- What the bytes of an entry name: a call, whatever its run did, or a whole addition (this product's own form). Numbers stand
--- least byte first.
+-- What the bytes of an entry name: a call, whatever its run did, or a whole addition (this product's own form). Numbers
+-- stand least byte first.
 use Rattle.std.specs.Prelude.{ℕ, ◌+◌, ◌==◌, nat_le, Bool, not, ◌&&◌, if◌then◌else◌, List, [], ◌∷◌, length, take, drop, Option, Some, None}
 use Rattle.byteorder.specs.Endian.{little_number}
 use Rattle.log_model.specs.declared.request.RequestId.{RequestId}
@@ -27,8 +27,6 @@ field from count bytes = little_number count (part from count bytes)
 abbrev pub is_whole : RequestId → Bool
 is_whole request = if request.session == 0 then request.sequence == 0 else not (request.sequence == 0)
 
--- session 4, sequence 4, number of the call 4, procedure 2, length of the arguments 2 and these, snapshot 4, reply 8. Any bytes
--- may stand behind it
 abbrev pub request_of : List ℕ → RequestId
 request_of fields = record { session = field 0 4 fields; sequence = field 4 4 fields }
 
@@ -41,12 +39,13 @@ call_of args_len fields = record {
   request = request_of fields;
 }
 
+-- session 4, sequence 4, number of the call 4, procedure 2, length of the arguments 2 and these, snapshot 4, reply 8. Any
+-- bytes may stand behind it
 abbrev pub call_head : ℕ → List ℕ → Option Head
 call_head args_len fields =
     if nat_le (28 + args_len) (length fields) && is_whole (request_of fields)
     then Some (CallHead (call_of args_len fields) (field (20 + args_len) 8 fields)) else None
 
--- number 2, arguments' length 2, length of the name 1 and the name, length of the program 4 and the program; and nothing behind
 abbrev pub procedure_of : ℕ → ℕ → List ℕ → NamedProcedure
 procedure_of name_len program_len fields = record {
   number = field 0 2 fields;
@@ -55,6 +54,8 @@ procedure_of name_len program_len fields = record {
   bytes = part (9 + name_len) program_len fields;
 }
 
+-- number 2, arguments' length 2, length of the name 1 and the name, length of the program 4 and the program; and nothing
+-- behind it
 abbrev pub addition_head : ℕ → ℕ → List ℕ → Option Head
 addition_head name_len program_len fields =
     if 9 + name_len + program_len == length fields then Some (AdditionHead (procedure_of name_len program_len fields)) else None

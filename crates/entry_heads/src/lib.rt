@@ -1,5 +1,5 @@
-//! Reading entries: what the bytes of one name. What stands behind a call's head is compared with what its run gives, never
-//! read.
+//! Reading entries: what the bytes of one name. What stands behind a call's head is compared with what its run gives,
+//! never read.
 #![tactic(auto)]
 
 pub use head::{AdditionHead, CallHead, EntryHead};

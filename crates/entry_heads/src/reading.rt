@@ -8,8 +8,8 @@ use crate::head::{AdditionHead, CallHead, EntryHead};
 use byteorder::{ByteOrder, LittleEndian};
 use log_model::RequestId;
 
-/// What the bytes of an entry name: the head of a call, in whose place any run may be told behind it, or a whole addition. None
-/// where they are neither, as where they are too short, an addition is longer than its lengths say, or one alone of a
+/// What the bytes of an entry name: the head of a call, behind which any run may be told, or a whole addition. None
+/// where they are neither: where they are too short, an addition is longer than its lengths say, or one alone of a
 /// session and its number is 0. It takes no memory.
 #[tactic(auto, unfolding(crate::specs::Head::head_of))]
 pub fn head_of(bytes: &[u8]) -> Option<EntryHead<'_>>

@@ -9,7 +9,7 @@ ghost use Rattle.log_model.specs.Log.{is_commit, procedures_after, rows_after, v
 ghost use Rattle.log_model.specs.Entries.{items_of};
 ghost use Rattle.stored_procedures.specs.Held.{AreForTables, stored_procedures};
 ghost use Rattle.replica.specs.Replica.{AreEntriesOf, entries_of};
-ghost use Rattle.replica.specs.declared.certification.Certification.{Certification};
+ghost use Rattle.certifications.specs.declared.certification.Certification.{Certification};
 ghost use Rattle.locked_replica.specs.Begin.{Begins};
 ghost use Rattle.locked_replica.specs.Commits.{commits_of};
 ghost use Rattle.locked_replica.specs.Locked.{Delivers, Finds};

@@ -143,7 +143,8 @@ fn procedure(alloc: Global, kind: Kind) -> Option<Accepted> {
     verify(alloc, code, &schema, 0).ok()
 }
 
-/// How many slots were read in so many readings of a program of so many instructions and a few, and then verified or not.
+/// How many slots were read in so many readings of a program of so many instructions and a few, and then verified or
+/// not.
 fn slots_read(alloc: Global, instructions: usize, times: u32, is_verified: bool) -> Option<u64> {
     let program = program(alloc, Kind::Mixed, instructions)?;
     let schema = Schema::new(alloc, &[(1, 8)]).ok()?;
@@ -164,7 +165,7 @@ fn instructions(alloc: Global, procedure: &Accepted, rows: &[Row], by_turns: boo
         return Some(run_call(alloc, procedure, &[], rows, u32::MAX).ok()?.turns);
     }
     complete_call(alloc, procedure, &[], rows).ok()?;
-    // It has no branches.
+    // Its branches lead to the next instruction either way.
     Some(procedure.bound())
 }
 

@@ -13,7 +13,7 @@ use Rattle.key_table.specs.Table.{Table, versions_at}
 use Rattle.rows_mv.specs.Versions.{IsInstalled, slots_of, with_version}
 use Rattle.stored_procedures.specs.Held.{ListedProcedure, AreForTables, stored, stored_procedures}
 use Rattle.certify.specs.Kept as certifier
-use Rattle.replica.specs.declared.certification.Certification.{Certification}
+use Rattle.certifications.specs.declared.certification.Certification.{Certification}
 use Rattle.replica.specs.Replica.{certification_next, writes_in}
 use Rattle.replica.specs.Delivery.{KeepsCertified, HasSameVersions, Holdings, IsTakenIn}
 

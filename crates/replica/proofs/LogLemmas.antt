@@ -13,7 +13,7 @@ use Rattle.log_model.specs.Entries.{Entry, CallEntry, AdditionEntry, items_of, C
 use Rattle.rows_mv.specs.Versions.{AnswersFrom}
 use Rattle.stored_procedures.specs.Held.{stored_procedures}
 use Rattle.replica.specs.Delivery.{KeepsCertified}
-use Rattle.replica.specs.declared.certification.Certification.{Certification}
+use Rattle.certifications.specs.declared.certification.Certification.{Certification}
 use Rattle.replica.specs.Replica.{rows_kept, certification_next, certification_of, Replica, StandsFor, AreEntriesOf}
 use Rattle.replica.proofs.DeliveryLemmas.{get_left, get_end, same_some}
 

@@ -17,7 +17,7 @@ use Rattle.log_entry.specs.declared.entry.Entry.{Entry as LogEntry}
 use Rattle.log_entry.specs.declared.entry.Entry.TheVariants.{Call, Addition}
 use Rattle.log_entry.specs.Kind.{entry_of}
 use Rattle.certify.specs.Kept as certifier
-use Rattle.replica.specs.declared.certification.Certification.{Certification}
+use Rattle.certifications.specs.declared.certification.Certification.{Certification}
 
 -- the rows after a position, by the delivered entries alone, and the procedures at first
 abbrev pub rows_kept : ℕ → Catalogue → List Entry → ℕ → Rows

@@ -8,8 +8,7 @@ ghost use Rattle.log_model.specs.Name.{is_name};
 ghost use Rattle.stored_procedures.specs.Held.{stored, stored_procedures};
 ghost use Rattle.certify.specs.Kept.{IsMemoryOf};
 
-use crate::certification::Certification;
-use crate::certifications::Certifications;
+use certifications::{Certification, Certifications};
 use certify::Certifier;
 use log_entry::AddedProcedure;
 use log_model::Verdict;

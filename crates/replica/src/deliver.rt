@@ -14,9 +14,8 @@ ghost use Rattle.replica.specs.Replica.{FitTables, IsForTables, IsNamed, certifi
 ghost use Rattle.replica.specs.Delivery.{HasSameVersions, IsLeft, IsTakenIn};
 
 use crate::addition::take_addition;
-use crate::certification::Certification;
-use crate::certifications::Certifications;
 use crate::laws::additions_are_taken_in;
+use certifications::{Certification, Certifications};
 use certify::Certifier;
 use log_entry::{Entry, ExecutedCall};
 use log_model::Verdict;
@@ -161,45 +160,79 @@ pub(crate) fn take_entry<A: Allocator + Copy, P: Allocator + Copy>(
     }
 }
 
-/// How many deliveries come between two in which versions are dropped, each time of one page of at most 64 keys: a pass
-/// over all pages takes about as many deliveries as there are keys, so that each pays for a key.
-const PRUNE_PACE: u32 = 64;
+/// How many keys are written for each page that is pruned. Pages are split in half, so keys that rise make a page of
+/// each 32 that are written; twice as many are pruned, so that a pass over all pages comes to its end.
+const KEYS_A_PAGE: u32 = 16;
 
-/// When versions are dropped next, and when the pass over all pages that this is part of was due.
+/// The most pages that are pruned in one delivery.
+const MOST_PAGES: u32 = 64;
+
+/// How far pruning is behind what was written.
 #[derive(Clone, Copy)]
-pub(crate) struct PruneTimes {
-    next: u32,
-    pass: u32,
+pub(crate) struct Pruning {
+    /// How many keys were written for which no page was pruned yet.
+    written: u32,
+    /// The position from which the pass over all pages is due that is next, or under way.
+    due: u32,
 }
 
-impl PruneTimes {
-    /// The first pass is due at a position.
-    pub(crate) fn from(position: u32) -> PruneTimes {
-        PruneTimes {
-            next: position,
-            pass: position,
+impl Pruning {
+    /// The next pass is due at a position.
+    pub(crate) fn from(position: u32) -> Pruning {
+        Pruning {
+            written: 0,
+            due: position,
         }
     }
 
-    /// The times after a page was pruned. Passes are due as many deliveries apart as the window has, since in fewer
-    /// no more versions than these are added to those that are kept.
-    fn after_page(self, window: u32, position: u32, was_last: bool) -> PruneTimes {
-        let next = position.saturating_add(PRUNE_PACE);
-        if was_last {
-            return PruneTimes::from(next.max(self.pass.saturating_add(window)));
+    /// How many pages are to be pruned after so many more keys were written, and what is left then.
+    fn next(self, written: usize, position: u32) -> (u32, Pruning) {
+        if position < self.due {
+            return (0, self);
         }
-        PruneTimes { next, ..self }
+        let written = u32::try_from(written).unwrap_or(u32::MAX);
+        let written = self.written.saturating_add(written);
+        let pages = (written / KEYS_A_PAGE).min(MOST_PAGES);
+        let written = written.saturating_sub(pages.saturating_mul(KEYS_A_PAGE));
+        (pages, Pruning { written, ..self })
     }
 }
 
-/// Drops what no position within the window sees, of one page of keys, where the position has come so far, and tells
-/// when to do so again.
+/// How many keys an entry wrote that has this verdict.
+pub(crate) fn written_by<A: Allocator + Copy>(entry: &Entry<A>, verdict: Verdict) -> usize {
+    match (entry, verdict) {
+        (Entry::Call(call), Verdict::Commit) => call.writes.len(),
+        _ => 0,
+    }
+}
+
+/// Drops of up to so many pages of keys what no position from one on sees. Whether none was left to be pruned, so that
+/// the pass over all pages has ended.
+fn prune_pages<A: Allocator + Copy>(versions: &mut Versions<A>, below: u32, pages: u32) -> bool
+    requires { versions.old.horizon ≤ below }
+    ensures seen { (s : ℕ) (rows : Rows) → below ≤ s
+        → AnswersFrom versions.old.tables s rows → AnswersFrom versions.new.tables s rows }
+    ensures horizon { versions.new.horizon ≤ below }
+    ensures widths { (t : ℕ) → width_of versions.new.tables t ≡ width_of versions.old.tables t }
+    ensures tables { length versions.new.tables ≡ length versions.old.tables }
+{
+    answers_after_pruning_in_part();
+    for _ in 0..pages {
+        if versions.prune_page(below) {
+            return true;
+        }
+    }
+    false
+}
+
+/// Drops what no position within the window sees, of as many pages of keys as are due after so many keys were written.
 pub(crate) fn drop_unseen<A: Allocator + Copy>(
     versions: &mut Versions<A>,
     window: u32,
     position: u32,
-    times: PruneTimes,
-) -> PruneTimes
+    written: usize,
+    pruning: Pruning,
+) -> Pruning
     requires { versions.old.horizon ≤ position - window }
     ensures seen { (s : ℕ) (rows : Rows) → position - s ≤ window
         → AnswersFrom versions.old.tables s rows → AnswersFrom versions.new.tables s rows }
@@ -207,10 +240,9 @@ pub(crate) fn drop_unseen<A: Allocator + Copy>(
     ensures widths { (t : ℕ) → width_of versions.new.tables t ≡ width_of versions.old.tables t }
     ensures tables { length versions.new.tables ≡ length versions.old.tables }
 {
-    answers_after_pruning_in_part();
-    if position < times.next {
-        return times;
+    let (pages, left) = pruning.next(written, position);
+    if prune_pages(versions, position.saturating_sub(window), pages) {
+        return Pruning::from(position.saturating_add(window));
     }
-    let was_last = versions.prune_page(position.saturating_sub(window));
-    times.after_page(window, position, was_last)
+    left
 }

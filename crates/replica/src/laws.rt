@@ -15,7 +15,7 @@ ghost use Rattle.stored_procedures.specs.Held.{ListedProcedure, AreForTables, st
 ghost use Rattle.log_model.specs.Entries.{Entry, AdditionEntry, CertifiedEntries, item_of, items_of, IsCarried};
 ghost use Rattle.log_model.specs.Entries.{certified_entry, certified_entries_of, with_entry};
 ghost use Rattle.key_table.specs.Table.{Table};
-ghost use Rattle.replica.specs.declared.certification.Certification.{Certification};
+ghost use Rattle.certifications.specs.declared.certification.Certification.{Certification};
 ghost use Rattle.replica.specs.Replica.{AreEntriesOf, FitTables, Replica, StandsFor, rows_kept};
 ghost use Rattle.replica.specs.Delivery.{IsDelivered, IsRefusedDelivery, KeepsCertified};
 

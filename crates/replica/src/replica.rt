@@ -10,18 +10,17 @@ ghost use Rattle.log_model.specs.Log.{verdict_of};
 ghost use Rattle.log_model.specs.Entries.{Entry as Delivered, item_of, items_of, certified_entry, certified_entries_of};
 ghost use Rattle.log_entry.specs.Kind.{entry_of};
 ghost use Rattle.stored_procedures.specs.Held.{AreForTables, stored_procedures};
-ghost use Rattle.rows_mv.specs.Versions.{AnswersFrom, HaveTables, width_of};
+ghost use Rattle.rows_mv.specs.Versions.{AnswersFrom, HaveTables, slots_of, width_of};
 ghost use Rattle.replica.specs.Replica.{AreEntriesOf, FitTables, IsForTables, IsNamed, StandsFor, certification_of};
 ghost use Rattle.replica.specs.Replica.{entries_of, rows_kept, writes_in, HasDelivered, HasStopped, HasSameTables};
 
 use crate::at::At;
-use crate::certification::Certification;
-use crate::certifications::Certifications;
-use crate::deliver::{PruneTimes, drop_unseen, take_entry};
+use crate::deliver::{Pruning, drop_unseen, take_entry, written_by};
 use crate::laws::{deliveries_are_kept, no_rows_at_first, replicas_follow_the_log};
 use crate::rebuild::replica_of;
 use crate::stopped::Stopped;
 use catalogue::Catalogue;
+use certifications::{Certification, Certifications};
 use certify::Certifier;
 use log_entry::Entry;
 use log_model::Verdict;
@@ -52,7 +51,7 @@ pub struct Replica<A: Allocator + Copy = Global, P: Allocator + Copy = A> {
     certifier: Certifier<A>,
     versions: Versions<A>,
     procedures: StoredProcedures<A, P>,
-    prune_times: PruneTimes,
+    pruning: Pruning,
 }
 
 impl<A: Allocator + Copy, P: Allocator + Copy> Model for Replica<A, P> {
@@ -109,7 +108,7 @@ impl<A: Allocator + Copy, P: Allocator + Copy> Replica<A, P> {
             certifier,
             versions,
             procedures,
-            prune_times: PruneTimes::from(window),
+            pruning: Pruning::from(window),
         })
     }
 
@@ -118,6 +117,14 @@ impl<A: Allocator + Copy, P: Allocator + Copy> Replica<A, P> {
         ensures { result ≡ self.now.position }
     {
         self.position
+    }
+
+    /// How many pages the keys of a table lie in, with those whose versions no kept position sees and that are yet to be
+    /// dropped.
+    pub fn pages(&self, table: u8) -> usize
+        ensures { result ≤ length (slots_of self.now.versions.tables table) }
+    {
+        self.versions.pages(table)
     }
 
     /// Whether a delivery found no memory; then there are no more.
@@ -203,7 +210,14 @@ impl<A: Allocator + Copy, P: Allocator + Copy> Replica<A, P> {
             return Err(Stopped);
         };
         self.position = position;
-        self.prune_times = drop_unseen(&mut self.versions, self.window, position, self.prune_times);
+        let written = written_by(entry, certification.verdict);
+        self.pruning = drop_unseen(
+            &mut self.versions,
+            self.window,
+            position,
+            written,
+            self.pruning,
+        );
         Ok(certification.verdict)
     }
 

@@ -10,7 +10,7 @@ use Rattle.log_model.specs.Entries.{ExecutedCall, Entry, CallEntry, AdditionEntr
 use Rattle.log_model.specs.Fit.{HasSafeProcedures, AreItems}
 use Rattle.dsm_model.specs.World.{numbered}
 use Rattle.dsm_model.specs.Sound.{reply_of}
-use Rattle.replica.specs.declared.certification.Certification.{Certification}
+use Rattle.certifications.specs.declared.certification.Certification.{Certification}
 use Rattle.replica.specs.Replica.{Replica, AreEntriesOf, StandsFor, rows_kept, certification_of}
 use Rattle.replica.proofs.KeepsLemmas.{certified_more, certified_count}
 use Rattle.dsm_world.specs.System.{SystemWorld, setting_of, world_of, KeepsDelivered}

@@ -1,5 +1,6 @@
 use Rattle.std.proofs.Common.{◌+◌, cond, Bool, Some, drop, sym, ap, ◌∙◌, arith}
 use Rattle.std.specs.List.{find}
+use Rattle.std.proofs.lemmas.List.{drop_all}
 use Rattle.dsm_world.proofs.ReplicaLemmas.{get_is}
 use Rattle.script_actions.proofs.LogLemmas.{further, found_next, is_further, is_not_further}
 use Rattle.script_actions.proofs.log.further_than.Goals as goal
@@ -24,3 +25,6 @@ returns-then-position g c =
     let yes = is_further c.args.position x.position (omega arith) in
     sym (sym c.loop-kept.invariant ∙ found_next c.args.position c.args.replicas.now c.loop-kept.kept-index x there
     ∙ ap (λ (b : Bool). cond b (Some x) (find (further c.args.position) (drop (c.loop-kept.kept-index + 1) c.args.replicas.now))) yes)
+
+pub returns : goal.returns
+returns g c = sym (ap (find (further c.args.position)) (drop_all c.loop-kept.kept-index c.args.replicas.now (omega arith))) ∙ c.loop-kept.invariant

@@ -2,7 +2,7 @@ use Rattle.std.proofs.Common.{◌≡◌, ◌+◌, ◌-◌, ◌<◌, Some, take, 
 use Rattle.std.proofs.lemmas.Bool.{ltb-true}
 use Rattle.std.specs.List.{find}
 use Rattle.dsm_world.proofs.Numbered.{numbered_at}
-use Rattle.replica.specs.declared.certification.Certification.{Certification}
+use Rattle.certifications.specs.declared.certification.Certification.{Certification}
 use Rattle.replica.specs.Replica.{certification_of}
 use Rattle.report.specs.declared.printed.LoggedEntry.{LoggedEntry}
 use Rattle.report.specs.declared.printed.Line.TheVariants as line

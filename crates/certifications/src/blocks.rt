@@ -2,8 +2,8 @@
 
 ghost use Rattle.std.specs.Prelude.{◌≡◌, ◌<◌, ◌++◌, [], ◌∷◌, length, slice_get, slice_index_or, vec_len};
 ghost use Rattle.std.specs.Prelude.{vec_capacity, Some, OnOk};
-ghost use Rattle.replica.specs.declared.certification.Certification.{Certification};
-ghost use Rattle.replica.specs.Blocks.{all_of, AreFull};
+ghost use Rattle.certifications.specs.declared.certification.Certification.{Certification};
+ghost use Rattle.certifications.specs.Blocks.{all_of, AreFull};
 
 use crate::certification::Certification;
 use std::alloc::{AllocError, Allocator, Global};
@@ -21,7 +21,7 @@ struct Block<A: Allocator = Global> {
 
 impl<A: Allocator> Model for Block<A> {
     ghost use Rattle.std.specs.Prelude.{List};
-    ghost use Rattle.replica.specs.declared.certification.Certification.{Certification};
+    ghost use Rattle.certifications.specs.declared.certification.Certification.{Certification};
 
     ghost Value = { List Certification };
 
@@ -39,7 +39,7 @@ pub struct Certifications<A: Allocator + Copy = Global> {
 
 impl<A: Allocator + Copy> Model for Certifications<A> {
     ghost use Rattle.std.specs.Prelude.{◌≡◌, ◌++◌, ◌-◌, All, length, vec_len, vec_capacity};
-    ghost use Rattle.replica.specs.Blocks.{Certifications, all_of, AreFull};
+    ghost use Rattle.certifications.specs.Blocks.{Certifications, all_of, AreFull};
 
     ghost Value = { Certifications };
 

@@ -1,8 +1,8 @@
 use Rattle.std.proofs.Common.{◌≡◌, ◌∙◌, List, [], ◌∷◌, ◌++◌, length, sym, ap₂, subst, arith}
-use Rattle.replica.specs.declared.certification.Certification.{Certification}
-use Rattle.replica.specs.Blocks.{all_of, AreFull}
-use Rattle.replica.proofs.BlockLemmas.{all_moved, full_more}
-use Rattle.replica.proofs.certifications.begin_block.Goals as goal
+use Rattle.certifications.specs.declared.certification.Certification.{Certification}
+use Rattle.certifications.specs.Blocks.{all_of, AreFull}
+use Rattle.certifications.proofs.BlockLemmas.{all_moved, full_more}
+use Rattle.certifications.proofs.blocks.begin_block.Goals as goal
 
 moved : (full now : List (List Certification)) (last block : List Certification) (reserved : List (List Certification)) → now ≡ reserved ++ block ∷ [] → reserved ≡ full → block ≡ last → now ≡ full ++ last ∷ []
 moved full now last block reserved is same taken = is ∙ ap₂ (λ (f : List (List Certification)) (b : List Certification). f ++ b ∷ []) same taken

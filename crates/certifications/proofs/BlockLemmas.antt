@@ -1,8 +1,8 @@
 -- Certifications in blocks, and where each stands.
 use Rattle.std.proofs.Common.{◌≡◌, ℕ, zero, suc, ◌+◌, ◌-◌, ◌*◌, ◌/◌, ◌%◌, ◌≤◌, ◌<◌, List, [], ◌∷◌, ◌++◌, length, get_or, refl, sym, ap, ◌∙◌, arith}
 use Rattle.std.proofs.lemmas.List.{append_assoc, length-append, get_or_append_left, get_or-append_right}
-use Rattle.replica.specs.declared.certification.Certification.{Certification}
-use Rattle.replica.specs.Blocks.{all_of, AreFull}
+use Rattle.certifications.specs.declared.certification.Certification.{Certification}
+use Rattle.certifications.specs.Blocks.{all_of, AreFull}
 
 append_nil : (l : List Certification) → l ++ [] ≡ l
 append_nil [] = refl

@@ -1,10 +1,10 @@
 use Rattle.std.proofs.Common.{◌≡◌, ◌∙◌, ℕ, ◌+◌, ◌-◌, ◌*◌, ◌/◌, ◌%◌, ◌≤◌, ◌<◌, List, [], ◌++◌, length, get_or, refl, sym, ap, subst, arith}
 use Rattle.std.proofs.lemmas.List.{get_or_default, length-append}
 use Rattle.std.proofs.lemmas.Option.{slice_get_read}
-use Rattle.replica.specs.declared.certification.Certification.{Certification}
-use Rattle.replica.specs.Blocks.{all_of, AreFull}
-use Rattle.replica.proofs.BlockLemmas.{length-all, in_block, at_block, at_last}
-use Rattle.replica.proofs.certifications.at_block_or_last.Goals as goal
+use Rattle.certifications.specs.declared.certification.Certification.{Certification}
+use Rattle.certifications.specs.Blocks.{all_of, AreFull}
+use Rattle.certifications.proofs.BlockLemmas.{length-all, in_block, at_block, at_last}
+use Rattle.certifications.proofs.blocks.at_block_or_last.Goals as goal
 
 -- a block that is read
 read : (full : List (List Certification)) (i : ℕ) (block : List Certification) → i < length full → block ≡ get_or full i block → get_or full i [] ≡ block

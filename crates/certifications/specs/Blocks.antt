@@ -1,6 +1,6 @@
 -- Certifications in blocks.
 use Rattle.std.specs.Prelude.{◌≡◌, ℕ, List, [], ◌∷◌, ◌++◌, length}
-use Rattle.replica.specs.declared.certification.Certification.{Certification}
+use Rattle.certifications.specs.declared.certification.Certification.{Certification}
 
 -- those of all blocks
 abbrev pub all_of : List (List Certification) → List Certification
