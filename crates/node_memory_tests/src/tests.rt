@@ -132,6 +132,7 @@ fn length_of<J: LogSetting + Ledgers, P: Allocator + Copy>(shared: &TwoReplicas<
 }
 
 /// What came of calls whose growths were refused.
+#[derive(Drop)]
 struct Heard {
     /// How many were answered as ordered.
     ordered: u32,

@@ -1,5 +1,8 @@
 //! Worlds whose one procedure adds to the row at a key, and what comes of their calls.
 
+ghost use Rattle.std.specs.Prelude.{◌≤◌};
+ghost use Rattle.schema.specs.declared.limits.TheConstants.{MAX_REPLICAS};
+
 use bpf_code::decode;
 use bpf_verify::verify;
 use catalogue::Catalogue;
@@ -20,7 +23,10 @@ fn catalogue_of(alloc: Global) -> Option<Catalogue> {
 }
 
 /// One of so many replicas, each with a window of 4,096.
-pub(crate) fn new_world(alloc: Global, replicas: u32) -> Option<World> {
+pub(crate) fn new_world(alloc: Global, replicas: u32) -> Option<World>
+    requires least { 1 ≤ replicas }
+    requires most { replicas ≤ MAX_REPLICAS }
+{
     World::new(alloc, replicas, 4_096, catalogue_of(alloc)?).ok()
 }
 
