@@ -12,9 +12,9 @@ use Rattle.log_model.specs.declared.verdict.Verdict.{Verdict}
 use Rattle.log_model.specs.declared.verdict.Verdict.TheVariants.{Commit}
 use Rattle.log_model.specs.Log.{StoredProcedure, Setting, Call, Item, CallItem, AdditionItem, Log, IsPlaced, IsLogFrom, IsLog, run_of_call, CertifiedItem, verdict_after, certified_addition, Database, first_database, History, start, database_at, database_now, with_certified, if_commits, run_at, certified_item, database_after_item, with_item, history, rows_after, procedures_after, verdict_of, run_on, run_in}
 use Rattle.log_model.proofs.Laid.{rows_laid_on}
-use Rattle.log_model.specs.Fit.{HasSafeProcedures, IsCallOf, IsCall, IsItem, AreItems}
+use Rattle.log_model.specs.Fit.{HasSafeProcedures, FitsProcedures, FitsLog, AllFitLog, IsItem, AreItems}
 use Rattle.log_model.specs.Entries.{Entry, CallEntry, AdditionEntry, item_of, items_of, IsCarried, CarryRuns, CertifiedEntries, with_entry, certified_entries_of}
-use Rattle.log_model.proofs.RunLemmas.{just}
+use Rattle.log_model.proofs.RunLemmas.{just, fits_of_call}
 use Rattle.log_model.proofs.HistoryLemmas.{IsKept, start_kept, IsNext, item_kept, count_with_item, run_begun, verdict_at, procedures_begun, serial}
 
 -- ---- what stays
@@ -137,14 +137,14 @@ count_history w log = count_certified w (start w) log ∙ (let e : 0 + length lo
 
 -- of each item of the whole log
 whole_item : (w : Setting) (h g : History) (item : Item) → Even h → Grows h g → IsPlaced (length h.certified) item → IsNext w g item → IsNext w h item
-whole_item w h g (CallItem call) even more le is = subst (λ (d : Database). IsCallOf d.procedures call) (databases_stay h g even more call.snapshot le) is
+whole_item w h g (CallItem call) even more le is = subst (λ (d : Database). FitsProcedures d.procedures call) (databases_stay h g even more call.snapshot le) is
 whole_item w h g (AdditionItem p) even more le is = is
 
-as_next : (w : Setting) (log : Log) (item : Item) → IsItem w log item → IsNext w (history w log) item
+as_next : (w : Setting) (log : Log) (item : Item) → FitsLog w log item → IsNext w (history w log) item
 as_next w log (CallItem call) is = is
 as_next w log (AdditionItem p) is = is
 
-forward : (w : Setting) (whole : Log) (h : History) (n : ℕ) (log : Log) → Even h → length h.certified ≡ n → IsLogFrom n log → fold (with_item w) h log ≡ history w whole → AllByRecursion (IsItem w whole) log → AllFrom w (IsNext w) h log
+forward : (w : Setting) (whole : Log) (h : History) (n : ℕ) (log : Log) → Even h → length h.certified ≡ n → IsLogFrom n log → fold (with_item w) h log ≡ history w whole → AllByRecursion (FitsLog w whole) log → AllFrom w (IsNext w) h log
 forward w whole h n [] even count below is items = tt
 forward w whole h n (item ∷ log) even count below is items =
     let more : Grows h (history w whole) = subst (λ (x : History). Grows h x) is (grows w h (item ∷ log)) in (
@@ -152,7 +152,7 @@ forward w whole h n (item ∷ log) even count below is items =
       forward w whole (with_item w h item) (suc n) log (even_with_item w h item even) (count_with_item w h item ∙ ap suc count) below.1 is items.1,
     )
 
-pub items_forward : (w : Setting) (log : Log) → IsLog log → AreItems w log → AllFrom w (IsNext w) (start w) log
+pub items_forward : (w : Setting) (log : Log) → IsLog log → AllFitLog w log → AllFrom w (IsNext w) (start w) log
 unfolding history
 items_forward w log below items = forward w log (start w) 0 log refl refl below refl items
 
@@ -161,7 +161,7 @@ fold_kept w h n [] kept count below items = kept
 fold_kept w h n (item ∷ log) kept count below items =
     fold_kept w (with_item w h item) (suc n) log (item_kept w h item kept items.0 (placed_as (length h.certified) n item count below.0)) (count_with_item w h item ∙ ap suc count) below.1 items.1
 
-pub history_kept : (w : Setting) (log : Log) → HasSafeProcedures w → IsLog log → AreItems w log → IsKept w (history w log)
+pub history_kept : (w : Setting) (log : Log) → HasSafeProcedures w → IsLog log → AllFitLog w log → IsKept w (history w log)
 unfolding history
 history_kept w log safe below items = fold_kept w (start w) 0 log (start_kept w safe) refl below (items_forward w log below items)
 
@@ -184,19 +184,19 @@ at w log d item below e =
     let none : 0 + d ≡ d = omega arith in
     subst (λ (k : ℕ). At w Any (history w log) k item) none (at_from w Any AnyNext (start w) 0 log d item (any_stays w) tt refl refl below (any_all w (start w) log) e)
 
-pub kept_at : (w : Setting) (log : Log) (d : ℕ) (item : Item) → HasSafeProcedures w → IsLog log → AreItems w log → slice_get log d ≡ just item → At w (IsKept w) (history w log) d item
+pub kept_at : (w : Setting) (log : Log) (d : ℕ) (item : Item) → HasSafeProcedures w → IsLog log → AllFitLog w log → slice_get log d ≡ just item → At w (IsKept w) (history w log) d item
 unfolding history
 kept_at w log d item safe below items e =
     let none : 0 + d ≡ d = omega arith in
     subst (λ (k : ℕ). At w (IsKept w) (history w log) k item) none
     (at_from w (IsKept w) (IsNext w) (start w) 0 log d item (λ h x is le kept. item_kept w h x kept is le) (start_kept w safe) refl refl below (items_forward w log below items) e)
 
-items_at : (w : Setting) (whole log : Log) (d : ℕ) (item : Item) → AllByRecursion (IsItem w whole) log → slice_get log d ≡ just item → IsItem w whole item
+items_at : (w : Setting) (whole log : Log) (d : ℕ) (item : Item) → AllByRecursion (FitsLog w whole) log → slice_get log d ≡ just item → FitsLog w whole item
 items_at w whole [] d item items e = absurd cc
-items_at w whole (first ∷ log) zero item items e = subst (IsItem w whole) (some_item first item e) items.0
+items_at w whole (first ∷ log) zero item items e = subst (FitsLog w whole) (some_item first item e) items.0
 items_at w whole (first ∷ log) (suc d) item items e = items_at w whole log d item items.1 e
 
-pub call_at : (w : Setting) (log : Log) (d : ℕ) (call : Call) → AreItems w log → slice_get log d ≡ just (CallItem call) → IsCall w log call
+pub call_at : (w : Setting) (log : Log) (d : ℕ) (call : Call) → AllFitLog w log → slice_get log d ≡ just (CallItem call) → FitsProcedures (procedures_after w log call.snapshot) call
 call_at w log d call items e = items_at w log log d (CallItem call) items e
 
 -- ---- the equations
@@ -313,17 +313,34 @@ procedures_after_addition w log d p v below e verdict =
 
 -- ---- the runs of those that commit
 
-pub serial_run : (w : Setting) (log : Log) (d : ℕ) (call : Call) → HasSafeProcedures w → IsLog log → AreItems w log → slice_get log d ≡ just (CallItem call) → verdict_of w log (suc d) ≡ just Commit
+pub serial_where_fit : (w : Setting) (log : Log) (d : ℕ) (call : Call) → HasSafeProcedures w → IsLog log → AllFitLog w log → slice_get log d ≡ just (CallItem call) → verdict_of w log (suc d) ≡ just Commit
     → run_on w log call (rows_after w log d) ≡ same_on (rows_after w log d) (run_in w log call)
-serial_run w log d call safe below items e verdict =
+serial_where_fit w log d call safe below items e verdict =
     let a = kept_at w log d (CallItem call) safe below items e in
     let is : verdict_at w a.past call ≡ Commit = some_verdict _ _ (sym (verdict_there w log d (CallItem call) _ a ∙ ap (λ (c : CertifiedItem). just c.verdict) (certified_call w a.past call)) ∙ verdict) in
     let within : call.snapshot ≤ length a.past.certified = let b = a.below in let c = a.count in omega arith in
-    let one : IsCallOf (procedures_begun a.past call) call = subst (λ (x : Database). IsCallOf x.procedures call) (a.databases call.snapshot a.below) (call_at w log d call items e) in
+    let one : FitsProcedures (procedures_begun a.past call) call = subst (λ (x : Database). FitsProcedures x.procedures call) (a.databases call.snapshot a.below) (call_at w log d call items e) in
     same_run_at w log d call (rows_after w log d) _ a
     ∙ ap (λ (x : Database). run_at w a.past call x.rows) (now_is w log d (CallItem call) _ a)
     ∙ serial w a.past call a.kept one within is
     ∙ sym (ap (λ (x : Database). same_on x.rows (run_in w log call)) (now_is w log d (CallItem call) _ a) ∙ ap (same_on (database_now a.past).rows) (same_begun w log d call _ a))
+
+-- ---- items fit their log
+
+fits_item : (w : Setting) (log : Log) (item : Item) → IsItem w log item → FitsLog w log item
+fits_item w log (CallItem call) is = fits_of_call (procedures_after w log call.snapshot) call is
+fits_item w log (AdditionItem p) is = is
+
+all_fit_in : (w : Setting) (whole log : Log) → AllByRecursion (IsItem w whole) log → AllByRecursion (FitsLog w whole) log
+all_fit_in w whole [] items = tt
+all_fit_in w whole (item ∷ log) items = (fits_item w whole item items.0, all_fit_in w whole log items.1)
+
+pub items_fit : (w : Setting) (log : Log) → AreItems w log → AllFitLog w log
+items_fit w log items = all_fit_in w log log items
+
+pub serial_run : (w : Setting) (log : Log) (d : ℕ) (call : Call) → HasSafeProcedures w → IsLog log → AreItems w log → slice_get log d ≡ just (CallItem call) → verdict_of w log (suc d) ≡ just Commit
+    → run_on w log call (rows_after w log d) ≡ same_on (rows_after w log d) (run_in w log call)
+serial_run w log d call safe below items e verdict = serial_where_fit w log d call safe below (items_fit w log items) e verdict
 
 -- ---- by what was shipped alone
 
@@ -378,7 +395,7 @@ procedures_by_entries w entries below carry =
     ap (λ (x : CertifiedEntries). x.procedures) (certified_whole w entries below carry)
     ∙ ap (λ (k : ℕ). procedures_after w (items_of entries) k) (count_history w (items_of entries) ∙ length-map entries item_of)
 
-pub rows_by_entries : (w : Setting) (entries : List Entry) (p : ℕ) → HasSafeProcedures w → IsLog (items_of entries) → AreItems w (items_of entries) → CarryRuns w entries → p ≤ length entries
+pub rows_by_entries : (w : Setting) (entries : List Entry) (p : ℕ) → HasSafeProcedures w → IsLog (items_of entries) → AllFitLog w (items_of entries) → CarryRuns w entries → p ≤ length entries
     → rows_laid_on (certified_entries_of w.window w.catalogue entries).certified p ≡ rows_after w (items_of entries) p
 rows_by_entries w entries p safe below items carry le =
     let count = count_history w (items_of entries) in

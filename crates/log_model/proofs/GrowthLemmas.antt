@@ -5,8 +5,8 @@ use Rattle.std.proofs.lemmas.List.Sums.{fold-append}
 use Rattle.schema.specs.Rows.{AreRows}
 use Rattle.log_model.specs.declared.verdict.Verdict.{Verdict}
 use Rattle.log_model.specs.Log.{by_number, Setting, Call, Log, IsLogFrom, IsLog, History, start, history, rows_after, verdict_of, verdict_in, moment_of, moment_at, run_of_call, run_in, StoredProcedure, Catalogue, verdict_on_addition, if_commits, Item, CallItem, AdditionItem, IsPlaced, CertifiedItem, Database, database_at, with_item, procedures_after}
-use Rattle.log_model.specs.Fit.{HasSafeProcedures, IsCall, AreSafe, IsCallOf, IsItem, AreItems}
-use Rattle.log_model.proofs.CallLemmas.{Grows, grows, Even, count_history, history_kept, databases_stay, even_with_item, procedures_next, procedures_after_addition}
+use Rattle.log_model.specs.Fit.{HasSafeProcedures, IsCall, AreSafe, IsCallOf, IsItem, AreItems, FitsProcedures, FitsLog, AllFitLog}
+use Rattle.log_model.proofs.CallLemmas.{Grows, grows, Even, count_history, history_kept, databases_stay, even_with_item, items_fit, procedures_next, procedures_after_addition}
 use Rattle.log_model.specs.declared.verdict.Verdict.TheVariants.{Commit, Conflict, Stale, Repeated, Taken}
 use Rattle.log_model.proofs.AdditionLemmas.{addition_verdict}
 use Rattle.log_model.proofs.RunLemmas.{just}
@@ -49,11 +49,14 @@ pub moment_grown : (w : Setting) (log more : Log) (call : Call) (k : ℕ) → ca
 unfolding moment_at
 moment_grown w log more call k le = ap (λ (d : Database). moment_of w.tables (by_number d.procedures call.procedure) call.args d.rows k) (database_grown w log more call.snapshot le)
 
+pub rows_where_fit : (w : Setting) (log : Log) (p : ℕ) → HasSafeProcedures w → IsLog log → AllFitLog w log → p ≤ length log → AreRows w.tables (rows_after w log p)
+rows_where_fit w log p safe below items le = let count = count_history w log in (history_kept w log safe below items).fit p (omega arith)
+
 pub rows_fit : (w : Setting) (log : Log) (p : ℕ) → HasSafeProcedures w → IsLog log → AreItems w log → p ≤ length log → AreRows w.tables (rows_after w log p)
-rows_fit w log p safe below items le = let count = count_history w log in (history_kept w log safe below items).fit p (omega arith)
+rows_fit w log p safe below items le = rows_where_fit w log p safe below (items_fit w log items) le
 
 pub procedures_safe : (w : Setting) (log : Log) (p : ℕ) → HasSafeProcedures w → IsLog log → AreItems w log → p ≤ length log → AreSafe w.tables (procedures_after w log p)
-procedures_safe w log p safe below items le = let count = count_history w log in (history_kept w log safe below items).safe p (omega arith)
+procedures_safe w log p safe below items le = let count = count_history w log in (history_kept w log safe below (items_fit w log items)).safe p (omega arith)
 
 -- ---- one more item
 
@@ -84,6 +87,24 @@ all_snoc w whole (first ∷ items) item all is = (all.0, all_snoc w whole items 
 pub are_items_snoc : (w : Setting) (log : Log) (item : Item) → IsLog log → AreItems w log → IsPlaced (length log) item → IsItem w log item → AreItems w (log ++ item ∷ [])
 are_items_snoc w log item below items le is =
     all_snoc w (log ++ item ∷ []) log item (are_items_grown w log (item ∷ []) 0 log below (omega arith) items) (is_item_grown w log (item ∷ []) (length log) item le (omega arith) is)
+
+-- the same of what fits
+fits_grown : (w : Setting) (log more : Log) (n : ℕ) (item : Item) → IsPlaced n item → n ≤ length log → FitsLog w log item → FitsLog w (log ++ more) item
+fits_grown w log more n (CallItem call) below le is = subst (λ (ps : Catalogue). FitsProcedures ps call) (sym (procedures_grown w log more call.snapshot (omega arith))) is
+fits_grown w log more n (AdditionItem p) below le is = is
+
+all_fit_grown : (w : Setting) (log more : Log) (n : ℕ) (items : Log) → IsLogFrom n items → n + length items ≤ length log → AllByRecursion (FitsLog w log) items → AllByRecursion (FitsLog w (log ++ more)) items
+all_fit_grown w log more n [] below le all = tt
+all_fit_grown w log more n (item ∷ items) below le all =
+    (fits_grown w log more n item below.0 (omega arith) all.0, all_fit_grown w log more (suc n) items below.1 (omega arith) all.1)
+
+fit_snoc : (w : Setting) (whole items : Log) (item : Item) → AllByRecursion (FitsLog w whole) items → FitsLog w whole item → AllByRecursion (FitsLog w whole) (items ++ item ∷ [])
+fit_snoc w whole [] item all is = (is, tt)
+fit_snoc w whole (first ∷ items) item all is = (all.0, fit_snoc w whole items item all.1 is)
+
+pub all_fit_snoc : (w : Setting) (log : Log) (item : Item) → IsLog log → AllFitLog w log → IsPlaced (length log) item → FitsLog w log item → AllFitLog w (log ++ item ∷ [])
+all_fit_snoc w log item below items le is =
+    fit_snoc w (log ++ item ∷ []) log item (all_fit_grown w log (item ∷ []) 0 log below (omega arith) items) (fits_grown w log (item ∷ []) (length log) item le (omega arith) is)
 
 -- there is a verdict on each item, and on no number beyond
 pub verdict_within : (w : Setting) (log : Log) (d : ℕ) (v : Verdict) → verdict_of w log (suc d) ≡ Some v → d < length log

@@ -14,7 +14,7 @@ use Rattle.log_model.specs.declared.verdict.Verdict.{Verdict}
 use Rattle.log_model.specs.declared.verdict.Verdict.TheVariants.{Commit, Conflict, Stale, Repeated, Taken}
 use Rattle.log_model.specs.Log.{StoredProcedure, Catalogue, Setting, Call, Item, CallItem, AdditionItem, IsPlaced, by_number, CertifiedItem, verdict_after, no_request, Database, first_database, History, start, database_at, database_now, with_certified, if_commits, run_at, certified_item, database_after_item, with_item}
 use Rattle.log_model.proofs.Laid.{installed_writes, rows_laid_on}
-use Rattle.log_model.specs.Fit.{IsSafe, AreSafe, HasSafeProcedures, IsCallOf}
+use Rattle.log_model.specs.Fit.{IsSafe, AreSafe, HasSafeProcedures, FitsProcedures}
 use Rattle.log_model.proofs.RunLemmas.{just, same_run, effect_fits}
 use Rattle.log_model.proofs.VerdictLemmas.{committed_apart, installed_writes-append, after_each-append}
 
@@ -59,7 +59,7 @@ rows_since w h s kept le =
     ∙ ap (after_each (installed_writes (drop s h.certified))) (sym (kept.laid_on s le))
 
 -- the run of a call that commits is the same on the rows now, but for its effect
-pub serial : (w : Setting) (h : History) (call : Call) → IsKept w h → IsCallOf (procedures_begun h call) call → call.snapshot ≤ length h.certified → verdict_at w h call ≡ Commit
+pub serial : (w : Setting) (h : History) (call : Call) → IsKept w h → FitsProcedures (procedures_begun h call) call → call.snapshot ≤ length h.certified → verdict_at w h call ≡ Commit
     → run_at w h call (database_now h).rows ≡ same_on (database_now h).rows (run_begun w h call)
 serial w h call kept c le commit =
     let apart = All-from_recursion (AreElsewhere (run_begun w h call).looks) (installed_writes (drop call.snapshot h.certified)) (committed_apart w.window h.certified call (run_begun w h call).looks commit) in
@@ -67,7 +67,7 @@ serial w h call kept c le commit =
     (same_run w.tables (procedures_begun h call) call (database_at h call.snapshot).rows (installed_writes (drop call.snapshot h.certified)) (kept.safe call.snapshot le) c (kept.fit call.snapshot le) apart)
 
 -- what a call leaves: its writes laid on where it commits
-left_by : (w : Setting) (h : History) (call : Call) → IsKept w h → IsCallOf (procedures_begun h call) call → call.snapshot ≤ length h.certified → (v : Verdict) → verdict_at w h call ≡ v
+left_by : (w : Setting) (h : History) (call : Call) → IsKept w h → FitsProcedures (procedures_begun h call) call → call.snapshot ≤ length h.certified → (v : Verdict) → verdict_at w h call ≡ v
     → if_commits v (run_at w h call (database_now h).rows).effect (database_now h).rows ≡ after_each (installed_writes (record { request = call.request; writes = (run_begun w h call).writes; verdict = v } ∷ [])) (database_now h).rows
 left_by w h call kept c le Commit e = ap (λ (r : Run). r.effect) (serial w h call kept c le e)
 left_by w h call kept c le (Conflict n) e = refl
@@ -75,7 +75,7 @@ left_by w h call kept c le Stale e = refl
 left_by w h call kept c le (Repeated n) e = refl
 left_by w h call kept c le (Taken n) e = refl
 
-fits_after : (w : Setting) (h : History) (call : Call) → IsKept w h → IsCallOf (procedures_begun h call) call → call.snapshot ≤ length h.certified → (v : Verdict) → AreRows w.tables (if_commits v (run_at w h call (database_now h).rows).effect (database_now h).rows)
+fits_after : (w : Setting) (h : History) (call : Call) → IsKept w h → FitsProcedures (procedures_begun h call) call → call.snapshot ≤ length h.certified → (v : Verdict) → AreRows w.tables (if_commits v (run_at w h call (database_now h).rows).effect (database_now h).rows)
 fits_after w h call kept c le Commit = effect_fits w.tables (procedures_begun h call) call (database_now h).rows (kept.safe call.snapshot le) c (kept.fit (length h.certified) (omega arith))
 fits_after w h call kept c le (Conflict n) = kept.fit (length h.certified) (omega arith)
 fits_after w h call kept c le Stale = kept.fit (length h.certified) (omega arith)
@@ -117,7 +117,7 @@ snoc_kept w h c d kept fits is safe =
     cases : (p n : ℕ) → p ≤ n + 1 → (p ≤ n) ⊎ (p ≡ suc n)
     cases p n le = elim (eq-or-lt_of_le le) [ inl e ↦ inr (omega arith) | inr lt ↦ inl (omega arith) ]
 
-call_kept : (w : Setting) (h : History) (call : Call) → IsKept w h → IsCallOf (procedures_begun h call) call → call.snapshot ≤ length h.certified → IsKept w (with_item w h (CallItem call))
+call_kept : (w : Setting) (h : History) (call : Call) → IsKept w h → FitsProcedures (procedures_begun h call) call → call.snapshot ≤ length h.certified → IsKept w (with_item w h (CallItem call))
 unfolding certified_item database_after_item
 call_kept w h call kept c le =
     snoc_kept w h (record { request = call.request; writes = (run_begun w h call).writes; verdict = verdict_at w h call })
@@ -171,9 +171,9 @@ addition_kept w h p kept safe =
 
 -- ---- an item
 
--- a call of one of the procedures of its snapshot, or a safe addition
+-- a call that fits the procedures of its snapshot, or a safe addition
 abbrev pub IsNext : Setting → History → Item → Type 0
-IsNext w h (CallItem call) = IsCallOf (procedures_begun h call) call
+IsNext w h (CallItem call) = FitsProcedures (procedures_begun h call) call
 IsNext w h (AdditionItem p) = IsSafe w.tables p
 
 pub item_kept : (w : Setting) (h : History) (item : Item) → IsKept w h → IsNext w h item → IsPlaced (length h.certified) item → IsKept w (with_item w h item)

@@ -44,3 +44,17 @@ IsItem w log (AdditionItem p) = IsSafe w.tables p
 
 abbrev pub AreItems : Setting → Log → Type 0
 AreItems w log = AllByRecursion (IsItem w log) log
+
+-- ---- logs that have calls of no procedure besides, which do nothing
+
+-- where one of these has its number, the call has arguments that it takes
+abbrev pub FitsProcedures : Catalogue → Call → Type 0
+FitsProcedures procedures call = (p : StoredProcedure) → by_number procedures call.procedure ≡ Some p → AreArguments p call.args
+
+-- a call fits the procedures of its snapshot; an added procedure is safe
+abbrev pub FitsLog : Setting → Log → Item → Type 0
+FitsLog w log (CallItem call) = FitsProcedures (procedures_after w log call.snapshot) call
+FitsLog w log (AdditionItem p) = IsSafe w.tables p
+
+abbrev pub AllFitLog : Setting → Log → Type 0
+AllFitLog w log = AllByRecursion (FitsLog w log) log

@@ -2,6 +2,7 @@
 //! each position. Definitions, and laws about them.
 #![tactic(auto)]
 
+pub use fitting::logs_whose_calls_fit;
 pub use laws::{
     a_log_only_grows, calls_ask_up_to_their_snapshots, comparisons_in_words_of_the_log,
     each_call_has_a_verdict, each_request_commits_once, entries_suffice,
@@ -12,6 +13,7 @@ pub use laws::{
 pub use request::RequestId;
 pub use verdict::{Identifier, Verdict};
 
+mod fitting;
 mod laws;
 mod request;
 mod verdict;
