@@ -1,7 +1,7 @@
 //! Verdicts on calls in the order of their delivery.
 
 ghost use Rattle.std.specs.Prelude.{◌≡◌, ◌+◌, ◌<◌, ◌≤◌, ◌^◌, ◌++◌, [], ◌∷◌, List, length, IfOk, OnOk};
-ghost use Rattle.log_model.specs.Log.{CertifiedItem, verdict_after, no_request};
+ghost use Rattle.log_model.specs.Log.{CertifiedItem, verdict_after, no_request, first_position, repeats};
 ghost use Rattle.log_model.specs.Comparisons.{comparisons_after};
 ghost use Rattle.std.specs.FinMap.{empty};
 ghost use Rattle.certify.specs.Kept.{IsGivenRequest, IsPreparedOf, IsMemoryOf};
@@ -120,6 +120,14 @@ impl<A: Allocator + Copy> Certifier<A> {
         ensures { result ≡ self.now.compared }
     {
         self.compared
+    }
+
+    /// The position of the committed call that carries a request, however long ago.
+    pub fn repeated(&self, request: RequestId) -> Option<u32>
+        ensures { (past : List CertifiedItem) → IsMemoryOf self.now.memory past
+            → result ≡ first_position (repeats request) 1 past }
+    {
+        repeated_in(&self.requests, request)
     }
 
     /// What will be kept of a call, and room for its request where it has one.

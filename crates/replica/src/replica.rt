@@ -6,7 +6,7 @@ ghost use Rattle.schema.specs.Rows.{AreWrites};
 ghost use Rattle.std.specs.FinMap as map;
 ghost use Rattle.schema.specs.Schema.{Tables};
 ghost use Rattle.log_model.specs.Log.{Catalogue as Procedures, IsLog, IsPlaced, Setting, procedures_after, rows_after};
-ghost use Rattle.log_model.specs.Log.{verdict_of};
+ghost use Rattle.log_model.specs.Log.{verdict_of, first_position, repeats};
 ghost use Rattle.log_model.specs.Entries.{Entry as Delivered, item_of, items_of, certified_entry, certified_entries_of};
 ghost use Rattle.log_entry.specs.Kind.{entry_of};
 ghost use Rattle.stored_procedures.specs.Held.{AreForTables, stored_procedures};
@@ -23,7 +23,7 @@ use catalogue::Catalogue;
 use certifications::{Certification, Certifications};
 use certify::Certifier;
 use log_entry::Entry;
-use log_model::Verdict;
+use log_model::{RequestId, Verdict};
 use row_sets::Row;
 use rows_mv::{Versions, empty_versions_answer_from_no_rows};
 use std::alloc::{AllocError, Allocator, Global};
@@ -153,6 +153,14 @@ impl<A: Allocator + Copy, P: Allocator + Copy> Replica<A, P> {
         ensures { result.now ≡ self.now.procedures }
     {
         &self.procedures
+    }
+
+    /// The position of the committed call that carries a request, however long ago.
+    pub fn repeated(&self, request: RequestId) -> Option<u32>
+        ensures { (base : Procedures) (entries : List Delivered) → StandsFor base self.now entries
+            → result ≡ first_position (repeats request) 1 (certified_entries_of self.now.window base entries).certified }
+    {
+        self.certifier.repeated(request)
     }
 
     /// The rows at a position that was reached. They are gone where it is out of the window.
