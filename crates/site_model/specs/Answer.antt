@@ -1,0 +1,82 @@
+-- What a site answers to a caller, at the position that it has come to (this product's own rules).
+use Rattle.std.specs.Prelude.{ℕ, ◌==◌, not, if◌then◌else◌, List, length, Option, Some, None}
+use Rattle.std.specs.FinMap.{len}
+use Rattle.bpf_code.specs.Program.{Program}
+use Rattle.bpf_semantics.specs.Run.{Run}
+use Rattle.log_model.specs.declared.request.RequestId.{RequestId}
+use Rattle.log_model.specs.Log.{StoredProcedure, Setting, Call, Log, by_name, first_repeated, history, procedures_after, run_in}
+use Rattle.log_model.specs.Entries.{Entry, CallEntry, AdditionEntry, items_of}
+use Rattle.log_model.specs.Name.{is_name}
+use Rattle.log_entry.specs.Bytes.{entry_bytes}
+use Rattle.entry_heads.specs.Head.{NamedProcedure, is_whole}
+use Rattle.call_model.specs.Check.{ProgramCheck, Passed, Failed}
+use Rattle.program_checks.specs.Check.{check_of}
+use Rattle.site_model.specs.declared.answer.CallAnswer.{CallAnswer}
+use Rattle.site_model.specs.declared.answer.CallAnswer.TheVariants.{Refused, Repeated, Cancelled, Read, Submitted}
+use Rattle.site_model.specs.declared.answer.CallRefusal.TheVariants.{NoProcedure, ArgumentsLength, HalfRequest}
+use Rattle.site_model.specs.declared.answer.AdditionAnswer.{AdditionAnswer}
+use Rattle.site_model.specs.declared.answer.AdditionAnswer.TheVariants as addition
+use Rattle.site_model.specs.declared.answer.AdditionRefusal.TheVariants as refusal
+use Rattle.site_model.specs.Standing.{SiteSetting, executed}
+use Rattle.site_model.specs.Order.{Order, order_entries, reply_at}
+
+-- ---- calls
+
+-- what is asked for
+pub record Asked : Type 0 where
+  pub name : List ℕ
+  pub args : List ℕ
+  pub request : RequestId
+
+-- the call of a procedure, at the end of a log
+abbrev pub asked_call : Log → StoredProcedure → Asked → Call
+asked_call log p asked =
+    record { number = 0; procedure = p.number; args = asked.args; snapshot = length log; request = asked.request }
+
+-- by its run: it cancels, or writes nothing, or is to be ordered with these bytes
+abbrev pub unless_cancelled : ℕ → Run → List ℕ → Option ℕ → CallAnswer (List ℕ)
+unless_cancelled position r bytes (Some code) = Cancelled position code
+unless_cancelled position r bytes None = if len r.writes == 0 then Read position r.reply else Submitted bytes
+
+abbrev pub answer_of_run : Setting → Log → Call → CallAnswer (List ℕ)
+answer_of_run w log call =
+    unless_cancelled call.snapshot (run_in w log call) (entry_bytes (CallEntry (executed w log call)))
+    (run_in w log call).cancel_code
+
+abbrev pub unless_repeated : List Entry → CallAnswer (List ℕ) → Option ℕ → CallAnswer (List ℕ)
+unless_repeated entries answer (Some position) = Repeated position (reply_at entries position)
+unless_repeated entries answer None = answer
+
+abbrev pub answer_for : Setting → List Entry → Asked → Option StoredProcedure → CallAnswer (List ℕ)
+answer_for w entries asked None = Refused NoProcedure
+answer_for w entries asked (Some p) =
+    if not (p.args_len == length asked.args) then Refused ArgumentsLength
+    else if not (is_whole asked.request) then Refused HalfRequest
+    else unless_repeated entries (answer_of_run w (items_of entries) (asked_call (items_of entries) p asked))
+    (first_repeated (history w (items_of entries)).certified (asked_call (items_of entries) p asked))
+
+-- what comes of what is asked for, behind these entries
+unfoldable pub call_answer_behind : Setting → List Entry → Asked → CallAnswer (List ℕ)
+call_answer_behind w entries asked =
+    answer_for w entries asked (by_name (procedures_after w (items_of entries) (length entries)) asked.name)
+
+-- and behind an order
+abbrev pub call_answer : SiteSetting → Order → Asked → CallAnswer (List ℕ)
+call_answer s order asked = call_answer_behind s.setting (order_entries s order) asked
+
+-- ---- additions
+
+abbrev pub stored_as : NamedProcedure → Program → StoredProcedure
+stored_as p program = record { name = p.name; number = p.number; program = program; args_len = p.args_len }
+
+abbrev pub answer_of_check : SiteSetting → NamedProcedure → ProgramCheck → AdditionAnswer (List ℕ)
+answer_of_check s p (Failed fault) = addition.Refused (refusal.Program fault)
+answer_of_check s p (Passed program) =
+    if not (is_name p.name) then addition.Refused refusal.Name
+    else if not s.takes_additions then addition.Refused refusal.NoAdditions
+    else addition.Submitted
+    (entry_bytes (AdditionEntry (stored_as p program)))
+
+-- what comes of a procedure that is to be added, of arguments within the limit
+abbrev pub addition_answer : SiteSetting → NamedProcedure → AdditionAnswer (List ℕ)
+addition_answer s p = answer_of_check s p (check_of s.setting.tables p.args_len p.bytes)

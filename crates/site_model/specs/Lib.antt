@@ -1,0 +1,4 @@
+pub mod Standing
+pub mod Order
+pub mod Answer
+pub mod Fit

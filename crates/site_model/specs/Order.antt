@@ -1,0 +1,98 @@
+-- The log of an order of byte strings, and what a site says of each of them (this product's own rules).
+use Rattle.std.specs.Prelude.{ℕ, zero, suc, ◌+◌, ◌-◌, nat_le, not, if◌then◌else◌, List, [], ◌∷◌, ◌++◌, length, slice_get, Option, Some}
+use Rattle.std.specs.List.{fold}
+use Rattle.std.specs.FinMap.{empty}
+use Rattle.log_model.specs.declared.request.RequestId.{RequestId}
+use Rattle.log_model.specs.declared.verdict.Verdict.{Verdict}
+use Rattle.log_model.specs.declared.verdict.Verdict.TheVariants as verdict
+use Rattle.log_model.specs.Log.{Catalogue, Setting, Call, Log, procedures_after, verdict_of, no_request}
+use Rattle.log_model.specs.Entries.{Entry, CallEntry, AdditionEntry, items_of}
+use Rattle.entry_heads.specs.Head.{Head, CallHead}
+use Rattle.site_model.specs.declared.outcome.EntryOutcome.{EntryOutcome}
+use Rattle.site_model.specs.declared.outcome.EntryOutcome.TheVariants as outcome
+use Rattle.site_model.specs.Standing.{SiteSetting, Standing, StandsAs, IsDecided, IsNothing, standing}
+
+-- the greater of two, and a number that is greater than those of these procedures
+abbrev pub greater : ℕ → ℕ → ℕ
+greater a b = if nat_le a b then b else a
+
+abbrev pub unused_number : Catalogue → ℕ
+unused_number [] = zero
+unused_number (p ∷ procedures) = greater (suc p.number) (unused_number procedures)
+
+-- a call of no procedure: it looks at nothing, writes nothing and replies 0
+abbrev pub call_of_none : Catalogue → ℕ → RequestId → Call
+call_of_none procedures snapshot request =
+    record { number = 0; procedure = unused_number procedures; args = []; snapshot = snapshot; request = request }
+
+abbrev pub entry_of_none : Catalogue → ℕ → RequestId → Entry
+entry_of_none procedures snapshot request =
+    CallEntry (record { call = call_of_none procedures snapshot request; looks = []; writes = empty; reply = 0 })
+
+-- as the log has it. What is nothing takes its position as a call of no procedure; of a call that is repeated or stale,
+-- whose procedure there may not be, request and snapshot are kept
+abbrev pub entry_standing : Setting → Log → Standing → Entry
+entry_standing w log (StandsAs e) = e
+entry_standing w log (IsDecided call) = entry_of_none (procedures_after w log call.snapshot) call.snapshot call.request
+entry_standing w log (IsNothing cause) = entry_of_none (procedures_after w log (length log)) (length log) no_request
+
+abbrev pub next_entry : SiteSetting → List Entry → List ℕ → Entry
+next_entry s entries bytes = entry_standing s.setting (items_of entries) (standing s (items_of entries) bytes)
+
+abbrev pub with_bytes : SiteSetting → List Entry → List ℕ → List Entry
+with_bytes s entries bytes = entries ++ next_entry s entries bytes ∷ []
+
+-- an order: byte strings, the first of which is at position 1, and at most 2^32 - 1 of them
+abbrev pub Order : Type 0
+Order = List (List ℕ)
+
+-- the entries of its log, and the log
+unfoldable pub order_entries : SiteSetting → Order → List Entry
+order_entries s order = fold (with_bytes s) [] order
+
+abbrev pub order_log : SiteSetting → Order → Log
+order_log s order = items_of (order_entries s order)
+
+-- ---- what a site says
+
+abbrev pub reply_in : Option Entry → ℕ
+reply_in (Some (CallEntry e)) = e.reply
+reply_in _ = 0
+
+-- the reply of the call at a position
+abbrev pub reply_at : List Entry → ℕ → ℕ
+reply_at entries position = reply_in (slice_get entries (position - 1))
+
+-- by the verdict, where it commits this
+abbrev pub outcome_by : List Entry → EntryOutcome → Option Verdict → EntryOutcome
+outcome_by entries committed (Some (verdict.Conflict position)) = outcome.Conflict position
+outcome_by entries committed (Some verdict.Stale) = outcome.Stale
+outcome_by entries committed (Some (verdict.Repeated position)) = outcome.Repeated position (reply_at entries position)
+outcome_by entries committed (Some (verdict.Taken identifier)) = outcome.Taken identifier
+outcome_by entries committed _ = committed
+
+abbrev pub committed_outcome : Entry → EntryOutcome
+committed_outcome (CallEntry e) = outcome.Committed e.reply
+committed_outcome (AdditionEntry p) = outcome.Added p.number
+
+-- what becomes of what stands at the last of these positions, by the verdict on it, which of a call that is decided is
+-- that it is repeated or stale
+abbrev pub outcome_of : List Entry → Standing → Option Verdict → EntryOutcome
+outcome_of entries (StandsAs e) v = outcome_by entries (committed_outcome e) v
+outcome_of entries (IsDecided call) v = outcome_by entries outcome.Stale v
+outcome_of entries (IsNothing cause) v = outcome.Nothing cause
+
+-- what becomes of the bytes behind these entries
+abbrev pub outcome_behind : SiteSetting → List Entry → List ℕ → EntryOutcome
+outcome_behind s entries bytes =
+    outcome_of (with_bytes s entries bytes) (standing s (items_of entries) bytes)
+    (verdict_of s.setting (items_of (with_bytes s entries bytes)) (length entries + 1))
+
+-- and behind an order
+abbrev pub next_outcome : SiteSetting → Order → List ℕ → EntryOutcome
+next_outcome s order bytes = outcome_behind s (order_entries s order) bytes
+
+-- the request that bytes carry, where they are a call
+abbrev pub request_in : Option Head → RequestId
+request_in (Some (CallHead call reply)) = call.request
+request_in _ = no_request

@@ -1,0 +1,89 @@
+-- What stands at the next position of an order: an entry that is what its run gives, a call of which nothing but request
+-- and snapshot count, or nothing (this product's own rules).
+use Rattle.std.specs.Prelude.{ℕ, ◌-◌, ◌==◌, nat_le, Bool, false, not, is_some, ◌&&◌, ◌||◌, if◌then◌else◌, List, length, Option, Some, None}
+use Rattle.std.specs.FinMap.{len}
+use Rattle.std.specs.Str.{bytes_eq}
+use Rattle.schema.specs.declared.limits.TheConstants.{MAX_ARGUMENTS}
+use Rattle.bpf_semantics.specs.Run.{Run}
+use Rattle.log_model.specs.Log.{StoredProcedure, Setting, Call, Log, first_repeated, history, procedure_of, run_in}
+use Rattle.log_model.specs.Entries.{ExecutedCall, Entry, CallEntry, AdditionEntry}
+use Rattle.log_model.specs.Name.{is_name}
+use Rattle.log_entry.specs.Bytes.{entry_bytes}
+use Rattle.entry_heads.specs.Head.{NamedProcedure, Head, CallHead, AdditionHead, head_of}
+use Rattle.call_model.specs.Check.{ProgramCheck, Passed, Failed}
+use Rattle.program_checks.specs.Check.{check_of}
+use Rattle.site_model.specs.declared.cause.NothingCause.{NothingCause}
+use Rattle.site_model.specs.declared.cause.NothingCause.TheVariants as cause
+
+-- what all sites of an order have in common
+pub record SiteSetting : Type 0 where
+  pub setting : Setting
+  pub takes_additions : Bool
+
+pub data Standing : Type 0 where
+  StandsAs : Entry → Standing
+  IsDecided : Call → Standing  -- it is repeated or stale, whatever is told of its run
+  IsNothing : NothingCause → Standing
+
+-- ---- calls
+
+-- a call with what its run on the rows of its snapshot looks at, writes and replies
+abbrev pub executed : Setting → Log → Call → ExecutedCall
+executed w log call = record {
+  call = call;
+  looks = (run_in w log call).looks;
+  writes = (run_in w log call).writes;
+  reply = (run_in w log call).reply;
+}
+
+-- a committed call carries its request, or more items than the window were ordered since its snapshot
+abbrev pub is_decided : Setting → Log → Call → Bool
+is_decided w log call =
+    is_some (first_repeated (history w log).certified call) || not (nat_le (length log - call.snapshot) w.window)
+
+abbrev pub takes_arguments : Option StoredProcedure → List ℕ → Bool
+takes_arguments None args = false
+takes_arguments (Some p) args = p.args_len == length args
+
+-- it isn't cancelled, and wrote something
+abbrev pub writes_something : Run → Bool
+writes_something r = not (is_some r.cancel_code) && not (len r.writes == 0)
+
+abbrev pub is_true : Setting → Log → Call → List ℕ → Bool
+is_true w log call bytes =
+    writes_something (run_in w log call) && bytes_eq bytes (entry_bytes (CallEntry (executed w log call)))
+
+-- by its run
+abbrev pub run_standing : Setting → Log → Call → List ℕ → Standing
+run_standing w log call bytes =
+    if is_true w log call bytes then StandsAs (CallEntry (executed w log call)) else IsNothing cause.Untrue
+
+abbrev pub call_standing : Setting → Log → Call → List ℕ → Standing
+call_standing w log call bytes =
+    if not (nat_le call.snapshot (length log)) then IsNothing cause.Snapshot
+    else if is_decided w log call then IsDecided call
+    else if not (takes_arguments (procedure_of w log call) call.args) then IsNothing cause.Procedure
+    else run_standing w log call bytes
+
+-- ---- additions
+
+abbrev pub checked_standing : NamedProcedure → ProgramCheck → Standing
+checked_standing p (Passed program) =
+    StandsAs (AdditionEntry (record { name = p.name; number = p.number; program = program; args_len = p.args_len }))
+checked_standing p (Failed fault) = IsNothing cause.Addition
+
+abbrev pub addition_standing : SiteSetting → NamedProcedure → Standing
+addition_standing s p =
+    if s.takes_additions && (is_name p.name && nat_le p.args_len MAX_ARGUMENTS)
+    then checked_standing p (check_of s.setting.tables p.args_len p.bytes) else IsNothing cause.Addition
+
+-- ---- any bytes
+
+abbrev pub standing_of_head : SiteSetting → Log → List ℕ → Option Head → Standing
+standing_of_head s log bytes None = IsNothing cause.Unreadable
+standing_of_head s log bytes (Some (CallHead call reply)) = call_standing s.setting log call bytes
+standing_of_head s log bytes (Some (AdditionHead p)) = addition_standing s p
+
+-- what these bytes are behind a log
+unfoldable pub standing : SiteSetting → Log → List ℕ → Standing
+standing s log bytes = standing_of_head s log bytes (head_of bytes)

@@ -1,0 +1,54 @@
+//! Laws of orders.
+
+ghost use Rattle.std.specs.Prelude.{◌≡◌, ℕ, ◌+◌, ◌<◌, ◌≤◌, Some, List, [], ◌∷◌, ◌++◌, length, All};
+ghost use Rattle.row_model.specs.InstalledWrites.{map_after};
+ghost use Rattle.log_model.specs.Log.{StoredProcedure, Setting, IsPlaced, rows_after, verdict_of};
+ghost use Rattle.log_model.specs.Fit.{IsSafe, FitsLog};
+ghost use Rattle.log_model.specs.Entries.{Entry, AdditionEntry, item_of, items_of, IsCarried};
+ghost use Rattle.log_model.specs.Entries.{certified_entry, certified_entries_of, installed_from};
+ghost use Rattle.site_model.specs.Fit.{AreFitEntries};
+ghost use Rattle.site_model.specs.Standing.{SiteSetting, StandsAs, standing};
+ghost use Rattle.site_model.specs.Order.{Order, order_entries, next_entry, with_bytes};
+
+use log_model::{entries_suffice, logs_whose_calls_fit, one_more_entry_carries_its_run};
+
+/// The log of an order has an entry for each byte string, and one more byte string adds one entry.
+pub fn orders_grow()
+    ensures first { (s : SiteSetting) → order_entries s [] ≡ [] }
+    ensures next { (s : SiteSetting) (order : Order) (bytes : List ℕ)
+        → order_entries s (order ++ bytes ∷ []) ≡ with_bytes s (order_entries s order) bytes }
+    ensures count { (s : SiteSetting) (order : Order) → length (order_entries s order) ≡ length order }
+{}
+
+/// What stands at the next position has a snapshot before it, carries its run, and fits the log, where a procedure that
+/// is added is safe.
+pub fn what_stands_is_of_the_log()
+    ensures placed { (s : SiteSetting) (entries : List Entry) (bytes : List ℕ)
+        → IsPlaced (length entries) (item_of (next_entry s entries bytes)) }
+    ensures carried { (s : SiteSetting) (entries : List Entry) (bytes : List ℕ)
+        → IsCarried s.setting (items_of entries) (next_entry s entries bytes) }
+    ensures fits { (s : SiteSetting) (entries : List Entry) (bytes : List ℕ) → All (λ b. b < 256) bytes
+        → ((p : StoredProcedure) → standing s (items_of entries) bytes ≡ StandsAs (AdditionEntry p)
+        → IsSafe s.setting.tables p)
+        → FitsLog s.setting (items_of entries) (item_of (next_entry s entries bytes)) }
+{}
+
+/// One more entry behind those of an order's log is of that log too; its verdict, and the rows after each position,
+/// are those that the entries alone give.
+pub fn fit_entries_go_on()
+    ensures one_more { (w : Setting) (entries : List Entry) (e : Entry) → AreFitEntries w entries
+        → IsPlaced (length entries) (item_of e) → FitsLog w (items_of entries) (item_of e)
+        → IsCarried w (items_of entries) e → AreFitEntries w (entries ++ e ∷ []) }
+    ensures next { (w : Setting) (entries : List Entry) (e : Entry) → AreFitEntries w entries
+        → AreFitEntries w (entries ++ e ∷ [])
+        → verdict_of w (items_of (entries ++ e ∷ [])) (length entries + 1)
+        ≡ Some (certified_entry w.window (certified_entries_of w.window w.catalogue entries) e).verdict }
+    ensures rows { (w : Setting) (entries : List Entry) (position : ℕ) → AreFitEntries w entries
+        → position ≤ length entries
+        → map_after (installed_from 1 (certified_entries_of w.window w.catalogue entries).certified) position
+        ≡ rows_after w (items_of entries) position }
+{
+    entries_suffice();
+    logs_whose_calls_fit();
+    one_more_entry_carries_its_run();
+}

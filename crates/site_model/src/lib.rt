@@ -1,0 +1,13 @@
+//! What stands at each position of an order of byte strings, and what a site says of it. Definitions, and laws about
+//! them.
+#![tactic(auto)]
+
+pub use answer::{AdditionAnswer, AdditionRefusal, CallAnswer, CallRefusal};
+pub use cause::NothingCause;
+pub use laws::{fit_entries_go_on, orders_grow, what_stands_is_of_the_log};
+pub use outcome::EntryOutcome;
+
+mod answer;
+mod cause;
+mod laws;
+mod outcome;
