@@ -1,0 +1,155 @@
+-- What stands at the next position follows the entries for which a site stands.
+use Rattle.std.proofs.Common.{◌≡◌, ℕ, ◌+◌, ◌<◌, List, [], ◌∷◌, ◌++◌, length, All, Some, None, refl, sym, ap, subst, ◌∙◌}
+use Rattle.std.specs.FinMap.{empty, get-empty}
+use Rattle.std.specs.Prelude.{Result, Ok, Err, IfOk, OnOk}
+use Rattle.schema.specs.Schema.{Tables}
+use Rattle.schema.specs.Rows.{AreWrites, key_cmp}
+use Rattle.log_model.specs.declared.request.RequestId.{RequestId}
+use Rattle.log_model.specs.Log.{StoredProcedure, Call as OrderedCall, IsPlaced, no_request, verdict_of}
+use Rattle.log_model.specs.Fit.{IsSafe, FitsLog}
+use Rattle.log_model.specs.Entries.{Entry, ExecutedCall, CallEntry, AdditionEntry, item_of, items_of, IsCarried}
+use Rattle.log_entry.specs.declared.entry.Entry.{Entry as LogEntry}
+use Rattle.log_entry.specs.declared.entry.Entry.TheVariants.{Call, Addition}
+use Rattle.log_entry.specs.Kind.{entry_of}
+use Rattle.site_model.specs.declared.cause.NothingCause.{NothingCause}
+use Rattle.site_model.specs.Standing.{SiteSetting, Standing, StandsAs, IsDecided, IsNothing, standing}
+use Rattle.site_model.specs.declared.outcome.EntryOutcome.{EntryOutcome}
+use Rattle.site_model.specs.declared.outcome.EntryOutcome.TheVariants as outcome
+use Rattle.site_model.specs.Order.{committed_outcome, next_entry, entry_standing, outcome_behind, outcome_by, outcome_of, Order, order_entries, with_bytes}
+use Rattle.site_replica.specs.Replica.{SiteReplica, StandsForLog, StandsForOrder, setting_of}
+use Rattle.site_replica.specs.declared.standing.Standing.TheVariants as Code
+use Rattle.site_replica.specs.Standing.{CanBeTaken, IsStanding}
+use Rattle.site_replica.specs.Taking.{AreAlike, Follows}
+use Rattle.site_replica.proofs.SiteLemmas.{log_long}
+
+-- what the law of orders says
+abbrev pub ArePlaced : Type 0
+ArePlaced = (s : SiteSetting) (entries : List Entry) (bytes : List ℕ) → IsPlaced (length entries) (item_of (next_entry s entries bytes))
+
+abbrev pub AreCarried : Type 0
+AreCarried = (s : SiteSetting) (entries : List Entry) (bytes : List ℕ) → IsCarried s.setting (items_of entries) (next_entry s entries bytes)
+
+abbrev pub FitLogs : Type 0
+FitLogs = (s : SiteSetting) (entries : List Entry) (bytes : List ℕ) → All (λ b. b < 256) bytes → ((p : StoredProcedure) → standing s (items_of entries) bytes ≡ StandsAs (AdditionEntry p) → IsSafe s.setting.tables p) → FitsLog s.setting (items_of entries) (item_of (next_entry s entries bytes))
+
+alike_itself : (e : Entry) → AreAlike e e
+alike_itself (CallEntry e) = (refl, refl, refl, refl, refl)
+alike_itself (AdditionEntry p) = refl
+
+same_addition : (e d : Entry) → StandsAs e ≡ StandsAs d → e ≡ d
+same_addition e d is = cc
+
+abbrev pub none_executed : ℕ → RequestId → ExecutedCall
+none_executed snapshot request = record {
+  call = record { number = 0; procedure = 0; args = []; snapshot = snapshot; request = request };
+  looks = [];
+  writes = empty;
+  reply = 0;
+}
+
+module _ {A : Type 0} (placed : ArePlaced) (carried : AreCarried) (fit : FitLogs) (s : SiteReplica) (entries : List Entry) (bytes : List ℕ) (are : All (λ b. b < 256) bytes) (stands : StandsForLog s entries) (entry : LogEntry A) where
+  pub follows_true : (e : Entry) → standing (setting_of s) (items_of entries) bytes ≡ StandsAs e → e ≡ entry_of entry → CanBeTaken s.catalogue.tables entry → Follows s entries (next_entry (setting_of s) entries bytes) entry
+  follows_true e is same taken = record {
+    stands = stands;
+    alike = subst (λ (x : Entry). AreAlike x (entry_of entry)) (sym (ap (entry_standing (setting_of s).setting (items_of entries)) is ∙ same)) (alike_itself (entry_of entry));
+    placed = placed (setting_of s) entries bytes;
+    fits = fit (setting_of s) entries bytes are (λ p addition. taken.safe p (sym same ∙ same_addition e (AdditionEntry p) (sym is ∙ addition)));
+    carried = carried (setting_of s) entries bytes;
+    taken = taken;
+  }
+
+none_taken : {A : Type 0} (tables : Tables) (entry : LogEntry A) (snapshot : ℕ) (request : RequestId) → entry_of entry ≡ CallEntry (none_executed snapshot request) → CanBeTaken tables entry
+none_taken tables (Call e) snapshot request is = record {
+  writes = subst (λ (x : ExecutedCall). AreWrites tables x.writes) (sym (one e (none_executed snapshot request) is)) (λ k write f. absurd (let bad : None ≡ Some write = sym (get-empty key_cmp k) ∙ f in cc));
+  named = tt;
+  for_tables = tt;
+  safe = λ p same. absurd cc;
+}
+  where
+    one : (a b : ExecutedCall) → CallEntry a ≡ CallEntry b → a ≡ b
+    one a b e = cc
+none_taken tables (Addition p) snapshot request is = absurd cc
+
+module _ {A : Type 0} (placed : ArePlaced) (carried : AreCarried) (fit : FitLogs) (s : SiteReplica) (entries : List Entry) (bytes : List ℕ) (are : All (λ b. b < 256) bytes) (stands : StandsForLog s entries) (entry : LogEntry A) where
+  pub follows_none : (st : Standing) (snapshot : ℕ) (request : RequestId) → standing (setting_of s) (items_of entries) bytes ≡ st → entry_of entry ≡ CallEntry (none_executed snapshot request)
+      → AreAlike (entry_standing (setting_of s).setting (items_of entries) st) (CallEntry (none_executed snapshot request)) → ((e : Entry) → st ≡ StandsAs e → ⊥) → Follows s entries (next_entry (setting_of s) entries bytes) entry
+  follows_none st snapshot request is entry_is alike other = record {
+    stands = stands;
+    alike =
+        subst (λ (x : Entry). AreAlike x (entry_of entry)) (sym (ap (entry_standing (setting_of s).setting (items_of entries)) is))
+        (subst (λ (d : Entry). AreAlike (entry_standing (setting_of s).setting (items_of entries) st) d) (sym entry_is) alike);
+    placed = placed (setting_of s) entries bytes;
+    fits = fit (setting_of s) entries bytes are (λ p addition. absurd (other (AdditionEntry p) (sym is ∙ addition)));
+    carried = carried (setting_of s) entries bytes;
+    taken = none_taken s.catalogue.tables entry snapshot request entry_is;
+  }
+
+-- ---- by what stands there
+
+pub stands_true : {A : Type 0} (st : Standing) (entry : LogEntry A) → IsStanding st (Code.StandsAs entry) → (e : Entry) × (st ≡ StandsAs e) × (e ≡ entry_of entry)
+stands_true (StandsAs e) entry is = (e, refl, is)
+stands_true (IsDecided call) entry is = absurd is
+stands_true (IsNothing c) entry is = absurd is
+
+pub stands_decided : (A : Type 0) (st : Standing) (snapshot : ℕ) (request : RequestId) → IsStanding {A = A} st (Code.Decided snapshot request) → (call : OrderedCall) × (st ≡ IsDecided call) × (call.snapshot ≡ snapshot) × (call.request ≡ request)
+stands_decided A (IsDecided call) snapshot request is = (call, refl, is.0, is.1)
+stands_decided A (StandsAs e) snapshot request is = absurd is
+stands_decided A (IsNothing c) snapshot request is = absurd is
+
+pub stands_nothing : (A : Type 0) (st : Standing) (cause : NothingCause) → IsStanding {A = A} st (Code.Nothing cause) → st ≡ IsNothing cause
+stands_nothing A (IsNothing c) cause is = ap IsNothing is
+stands_nothing A (IsDecided call) cause is = absurd is
+stands_nothing A (StandsAs e) cause is = absurd is
+
+outcome_at : (s : SiteSetting) (entries : List Entry) (bytes : List ℕ) (st : Standing) → standing s (items_of entries) bytes ≡ st → outcome_behind s entries bytes ≡ outcome_of (with_bytes s entries bytes) st (verdict_of s.setting (items_of (with_bytes s entries bytes)) (length entries + 1))
+outcome_at s entries bytes st is = ap (λ (x : Standing). outcome_of (with_bytes s entries bytes) x (verdict_of s.setting (items_of (with_bytes s entries bytes)) (length entries + 1))) is
+
+-- what taking an entry in says of its outcome
+abbrev pub TakesFor : {A : Type 0} → SiteReplica → LogEntry A → EntryOutcome → EntryOutcome → Type 0
+TakesFor r entry committed o = (entries : List Entry) (e : Entry) → Follows r entries e entry
+    → o ≡ outcome_by (entries ++ e ∷ []) committed (verdict_of (setting_of r).setting (items_of (entries ++ e ∷ [])) (length entries + 1))
+
+module _ {A : Type 0} (placed : ArePlaced) (carried : AreCarried) (fit : FitLogs) (r : SiteReplica) (entries : List Entry) (bytes : List ℕ) (are : All (λ b. b < 256) bytes) (stands : StandsForLog r entries) (entry : LogEntry A) where
+  pub true_follows : IsStanding (standing (setting_of r) (items_of entries) bytes) (Code.StandsAs entry) → CanBeTaken r.catalogue.tables entry → Follows r entries (next_entry (setting_of r) entries bytes) entry
+  true_follows is taken =
+      let (e, at, same) = stands_true (standing (setting_of r) (items_of entries) bytes) entry is in
+      follows_true placed carried fit r entries bytes are stands entry e at same taken
+
+  pub true_outcome : (committed o : EntryOutcome) → IsStanding (standing (setting_of r) (items_of entries) bytes) (Code.StandsAs entry) → CanBeTaken r.catalogue.tables entry → committed ≡ committed_outcome (entry_of entry) → TakesFor r entry committed o → o ≡ outcome_behind (setting_of r) entries bytes
+  true_outcome committed o is taken by_entry takes =
+      let (e, at, same) = stands_true (standing (setting_of r) (items_of entries) bytes) entry is in
+      takes entries (next_entry (setting_of r) entries bytes) (true_follows is taken)
+      ∙ ap (λ (x : EntryOutcome). outcome_by (with_bytes (setting_of r) entries bytes) x (verdict_of (setting_of r).setting (items_of (with_bytes (setting_of r) entries bytes)) (length entries + 1))) (by_entry ∙ ap committed_outcome (sym same))
+      ∙ sym (outcome_at (setting_of r) entries bytes (StandsAs e) at)
+
+  pub decided_follows : (snapshot : ℕ) (request : RequestId) → IsStanding {A = A} (standing (setting_of r) (items_of entries) bytes) (Code.Decided snapshot request) → entry_of entry ≡ CallEntry (none_executed snapshot request) → Follows r entries (next_entry (setting_of r) entries bytes) entry
+  decided_follows snapshot request is entry_is =
+      let (call, at, same, carries) = stands_decided A (standing (setting_of r) (items_of entries) bytes) snapshot request is in
+      follows_none placed carried fit r entries bytes are stands entry (IsDecided call) snapshot request at entry_is (carries, same, refl, refl, refl) (λ e bad. absurd cc)
+
+  pub decided_outcome : (snapshot : ℕ) (request : RequestId) (o : EntryOutcome) → IsStanding {A = A} (standing (setting_of r) (items_of entries) bytes) (Code.Decided snapshot request) → entry_of entry ≡ CallEntry (none_executed snapshot request) → TakesFor r entry outcome.Stale o → o ≡ outcome_behind (setting_of r) entries bytes
+  decided_outcome snapshot request o is entry_is takes =
+      let (call, at, same, carries) = stands_decided A (standing (setting_of r) (items_of entries) bytes) snapshot request is in
+      takes entries (next_entry (setting_of r) entries bytes) (decided_follows snapshot request is entry_is) ∙ sym (outcome_at (setting_of r) entries bytes (IsDecided call) at)
+
+  pub nothing_follows : (cause : NothingCause) (position : ℕ) → IsStanding {A = A} (standing (setting_of r) (items_of entries) bytes) (Code.Nothing cause) → position ≡ r.replica.position → entry_of entry ≡ CallEntry (none_executed position no_request) → Follows r entries (next_entry (setting_of r) entries bytes) entry
+  nothing_follows cause position is here entry_is =
+      follows_none placed carried fit r entries bytes are stands entry (IsNothing cause) position no_request (stands_nothing A (standing (setting_of r) (items_of entries) bytes) cause is) entry_is
+      (refl, log_long r entries stands ∙ sym here, refl, refl, refl) (λ e bad. absurd cc)
+
+pub if_ok : {T E : Type 0} (P Q : T → Type 0) (r : Result T E) → IfOk r P → ((x : T) → P x → Q x) → IfOk r Q
+if_ok P Q (Ok x) p f = f x p
+if_ok P Q (Err e) p f = tt
+
+pub on_ok : {T E : Type 0} (P Q : Type 0) (r : Result T E) → OnOk r P → (P → Q) → OnOk r Q
+on_ok P Q (Ok x) p f = f p
+on_ok P Q (Err e) p f = tt
+
+-- ---- in words of an order
+
+abbrev pub OrdersNext : Type 0
+OrdersNext = (s : SiteSetting) (order : Order) (bytes : List ℕ) → order_entries s (order ++ bytes ∷ []) ≡ with_bytes s (order_entries s order) bytes
+
+pub order_taken : (old new : SiteReplica) (order : Order) (bytes : List ℕ) → OrdersNext → setting_of new ≡ setting_of old → StandsForLog new (with_bytes (setting_of old) (order_entries (setting_of old) order) bytes) → StandsForOrder new (order ++ bytes ∷ [])
+order_taken old new order bytes next setting stands =
+    subst (λ (s : SiteSetting). StandsForLog new (order_entries s (order ++ bytes ∷ []))) (sym setting) (subst (StandsForLog new) (sym (next (setting_of old) order bytes)) stands)

@@ -1,0 +1,113 @@
+//! A site.
+
+ghost use Rattle.std.specs.Prelude.{◌≡◌, ◌+◌, ◌<◌, ◌≤◌, ◌^◌, ◌++◌, [], ◌∷◌, length, IfOk};
+ghost use Rattle.std.specs.FinMap as map;
+ghost use Rattle.log_model.specs.Log.{rows_after};
+ghost use Rattle.site_model.specs.Order.{Order, next_outcome, order_log};
+ghost use Rattle.schema.specs.declared.limits.TheConstants.{MAX_ARGUMENTS};
+ghost use Rattle.site_model.specs.Answer.{addition_answer, call_answer};
+ghost use Rattle.site_replica.specs.Replica.{StandsForOrder, setting_of};
+ghost use Rattle.site_calls.specs.Answered.{added, answered, asked_of, named_of};
+
+use crate::take::take;
+use catalogue::Catalogue;
+use log_entry::Entry;
+use row_sets::Row;
+use site_calls::{Asked, NamedProgram, add, call};
+use site_model::{AdditionAnswer, CallAnswer, EntryOutcome, orders_grow};
+use site_replica::SiteReplica;
+use std::alloc::{AllocError, Allocator, Global};
+use std::marker::Model;
+
+/// A site: it takes the byte strings of an order in, one after the other. Contracts see its replica.
+#[derive(Drop)]
+pub struct Site<A: Allocator + Copy = Global> {
+    replica: SiteReplica<A>,
+}
+
+impl<A: Allocator + Copy> Model for Site<A> {
+    ghost use Rattle.site_model.specs.Order.{Order};
+    ghost use Rattle.site_replica.specs.Replica.{SiteReplica, StandsForOrder, site_code};
+
+    ghost Value = { SiteReplica };
+
+    ghost coded = { site_code };
+
+    ghost view = { λ s. s.replica };
+
+    ghost invariant = { λ s. (order : Order) × StandsForOrder s.replica order };
+}
+
+impl<A: Allocator + Copy> Site<A> {
+    /// One that was given nothing, with the tables and the first procedures of a catalogue. A call is stale where more
+    /// byte strings than the window came since its snapshot.
+    pub fn new(
+        alloc: A,
+        window: u32,
+        catalogue: Catalogue<A>,
+        takes_additions: bool,
+    ) -> Result<Site<A>, AllocError>
+        ensures stands { IfOk result (λ s. StandsForOrder s []) }
+        ensures setting { IfOk result (λ s. setting_of s ≡ record {
+          setting = record { tables = catalogue.tables; catalogue = catalogue.procedures; window = window };
+          takes_additions = takes_additions;
+        }) }
+    {
+        orders_grow();
+        let replica = SiteReplica::new(alloc, window, catalogue, takes_additions)?;
+        Ok(Site { replica })
+    }
+
+    /// How many byte strings were taken in.
+    pub fn position(&self) -> u32
+        ensures position { result ≡ self.now.replica.position }
+        ensures count { (order : Order) → StandsForOrder self.now order → result ≡ length order }
+    {
+        orders_grow();
+        self.replica.position()
+    }
+
+    /// Takes the byte string at the next position in, and tells what became of it. A call is taken only where its run
+    /// on the rows of its snapshot gives these very bytes; what is nothing takes a position too. Where there is no
+    /// memory the site is dropped.
+    pub fn take(self, bytes: &[u8]) -> Result<(Site<A>, EntryOutcome), AllocError>
+        requires room { self.replica.position + 1 < 2 ^ 32 }
+        ensures outcome { IfOk result (λ taken. (order : Order) → StandsForOrder self order
+            → taken.1 ≡ next_outcome (setting_of self) order bytes.now) }
+        ensures stands { IfOk result (λ taken. (order : Order) → StandsForOrder self order
+            → StandsForOrder taken.0 (order ++ bytes.now ∷ [])) }
+        ensures setting { IfOk result (λ taken. setting_of taken.0 ≡ setting_of self) }
+    {
+        orders_grow();
+        let Site { mut replica } = self;
+        let outcome = take(&mut replica, bytes)?;
+        Ok((Site { replica }, outcome))
+    }
+
+    /// The rows at the last position, in the order of tables and keys.
+    pub fn rows<B: Allocator + Copy>(&self, alloc: B) -> Result<Vec<Row<B>, B>, AllocError>
+        ensures { IfOk result (λ list. (order : Order) → StandsForOrder self.now order → list.items
+            ≡ map.entries (rows_after (setting_of self.now).setting (order_log (setting_of self.now) order)
+            (length order))) }
+    {
+        orders_grow();
+        self.replica.rows(alloc)
+    }
+
+    /// Runs a call whole on the rows at the last position: what comes of it. Nothing changes.
+    pub fn call(&self, asked: Asked<'_>) -> Result<CallAnswer<Entry<A>>, AllocError>
+        ensures { IfOk result (λ answer. (order : Order) → StandsForOrder self.now order
+            → answered answer ≡ call_answer (setting_of self.now) order (asked_of asked.entry)) }
+    {
+        call(&self.replica, asked)
+    }
+
+    /// Checks a procedure that is to be added: what is to be ordered, or why it can't be. Nothing changes.
+    pub fn add(&self, named: NamedProgram<'_>) -> Result<AdditionAnswer<Entry<A>>, AllocError>
+        requires { named.args_len ≤ MAX_ARGUMENTS }
+        ensures { IfOk result (λ answer. added answer
+            ≡ addition_answer (setting_of self.now) (named_of named.entry)) }
+    {
+        add(&self.replica, named)
+    }
+}

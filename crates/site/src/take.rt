@@ -1,0 +1,100 @@
+//! Taking a byte string in.
+
+ghost use Rattle.std.specs.Prelude.{◌≡◌, ◌+◌, ◌<◌, ◌^◌, ◌++◌, ℕ, [], ◌∷◌, List, length, All, IfOk, OnOk};
+ghost use Rattle.std.specs.FinMap.{empty};
+ghost use Rattle.log_model.specs.Log.{verdict_of};
+ghost use Rattle.log_model.specs.Entries.{CallEntry, Entry as ModelEntry, items_of};
+ghost use Rattle.log_entry.specs.Kind.{entry_of};
+ghost use Rattle.site_model.specs.Order.{outcome_behind, outcome_by, with_bytes};
+ghost use Rattle.site_replica.specs.Replica.{StandsForLog, setting_of};
+ghost use Rattle.site_replica.specs.Taking.{Follows};
+
+use crate::outcome::{committed_outcome, outcome_by};
+use log_entry::{Entry, ExecutedCall};
+use log_model::RequestId;
+use row_sets::{Bytes, ReadSet, WriteSet};
+use site_model::{EntryOutcome, what_stands_is_of_the_log};
+use site_replica::{SiteReplica, Standing};
+use std::alloc::{AllocError, Allocator};
+
+/// A call that did nothing, of this snapshot and with this request. Takes no memory.
+fn entry_of_none<A: Allocator + Copy>(alloc: A, snapshot: u32, request: RequestId) -> Entry<A>
+    ensures { entry_of result ≡ CallEntry (record {
+      call = record { number = 0; procedure = 0; args = []; snapshot = snapshot; request = request };
+      looks = [];
+      writes = empty;
+      reply = 0;
+    }) }
+{
+    Entry::Call(ExecutedCall {
+        call: 0,
+        procedure: 0,
+        args: Bytes::new(Vec::new(alloc)),
+        snapshot,
+        request,
+        reads: ReadSet::new(alloc),
+        writes: WriteSet::new(alloc),
+        reply: 0,
+    })
+}
+
+/// What their type says of bytes.
+fn are_bytes(bytes: &[u8])
+    ensures { All (λ b. b < 256) bytes.now }
+{}
+
+/// Takes an entry in: what became of it, by its verdict; this, where it commits.
+fn take_entry<A: Allocator + Copy>(
+    replica: &mut SiteReplica<A>,
+    entry: &Entry<A>,
+    committed: EntryOutcome,
+) -> Result<EntryOutcome, AllocError>
+    requires room { replica.old.replica.position + 1 < 2 ^ 32 }
+    requires follows { (entries : List ModelEntry) × (e : ModelEntry) × Follows replica.old entries e entry.now }
+    ensures outcome { IfOk result (λ outcome. (entries : List ModelEntry) (e : ModelEntry)
+        → Follows replica.old entries e entry.now → outcome ≡ outcome_by (entries ++ e ∷ []) committed
+        (verdict_of (setting_of replica.old).setting (items_of (entries ++ e ∷ [])) (length entries + 1))) }
+    ensures stands { OnOk result ((entries : List ModelEntry) (e : ModelEntry)
+        → Follows replica.old entries e entry.now → StandsForLog replica.new (entries ++ e ∷ [])) }
+    ensures setting { OnOk result (setting_of replica.new ≡ setting_of replica.old) }
+{
+    let verdict = replica.deliver(entry)?;
+    Ok(outcome_by(replica.replies(), committed, verdict))
+}
+
+/// Takes the byte string at the next position in: what became of it.
+pub(crate) fn take<A: Allocator + Copy>(
+    replica: &mut SiteReplica<A>,
+    bytes: &[u8],
+) -> Result<EntryOutcome, AllocError>
+    requires room { replica.old.replica.position + 1 < 2 ^ 32 }
+    requires stands { (entries : List ModelEntry) × StandsForLog replica.old entries }
+    ensures outcome { IfOk result (λ outcome. (entries : List ModelEntry) → StandsForLog replica.old entries
+        → outcome ≡ outcome_behind (setting_of replica.old) entries bytes.now) }
+    ensures stands { OnOk result ((entries : List ModelEntry) → StandsForLog replica.old entries
+        → StandsForLog replica.new (with_bytes (setting_of replica.old) entries bytes.now)) }
+    ensures setting { OnOk result (setting_of replica.new ≡ setting_of replica.old) }
+{
+    what_stands_is_of_the_log();
+    are_bytes(bytes);
+    let alloc = replica.allocator();
+    match replica.standing(bytes)? {
+        Standing::StandsAs(entry) => {
+            let committed = committed_outcome(&entry);
+            take_entry(replica, &entry, committed)
+        }
+        Standing::Decided { snapshot, request } => {
+            let entry = entry_of_none(alloc, snapshot, request);
+            take_entry(replica, &entry, EntryOutcome::Stale)
+        }
+        Standing::Nothing(cause) => {
+            let none = RequestId {
+                session: 0,
+                sequence: 0,
+            };
+            let entry = entry_of_none(alloc, replica.position(), none);
+            take_entry(replica, &entry, EntryOutcome::Nothing(cause))?;
+            Ok(EntryOutcome::Nothing(cause))
+        }
+    }
+}

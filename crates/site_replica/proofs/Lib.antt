@@ -1,0 +1,4 @@
+pub mod SiteLemmas
+pub mod AlikeLemmas
+pub mod SinceLemmas
+pub mod DeliveryLemmas

@@ -1,0 +1,3 @@
+pub mod Replica
+pub mod Standing
+pub mod Taking
