@@ -7,6 +7,7 @@ pub use printed::{CallAnswer, CallReport, DeliveredEntry, Line, LoggedEntry, Rep
 pub use printing::{put_bytes_label, put_hex, put_line};
 pub use refusal::step_refusal_number;
 pub use text::line;
+pub use words::push_program_fault;
 
 mod answers;
 mod laws;

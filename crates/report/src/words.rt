@@ -44,8 +44,8 @@ fn push_cause(words: &mut LineBuffer, refusal: StepRefusal)
     }
 }
 
-/// As `B1 slot 0` or `V5 slot 6`.
-fn push_program_fault(words: &mut LineBuffer, fault: ProgramFault)
+/// Appends a fault of a program, as `B1 slot 0` or `V5 slot 6`.
+pub fn push_program_fault(words: &mut LineBuffer, fault: ProgramFault)
     requires { array_vec_len words.old ≤ 91 }
     ensures items { words.new.items ≡ words.old.items ++ program_fault_text fault }
     ensures len { array_vec_len words.new ≤ array_vec_len words.old + 49 }

@@ -2,7 +2,7 @@
 
 ghost use Rattle.std.specs.Prelude.{◌≡◌, false, true, map, IfOk, IfSome, IfNone};
 ghost use Rattle.std.specs.List.{list_all};
-ghost use Rattle.script.specs.Text.{fields_of, is_printable, is_readable};
+ghost use Rattle.script.specs.Text.{fields_of, is_printable, is_readable, is_skipped};
 
 use crate::input::MAX_LINE;
 use std::alloc::{AllocError, Allocator};
@@ -13,7 +13,19 @@ pub(crate) fn readable_text(line: &[u8]) -> Option<&str>
     ensures readable { IfSome result (λ _. is_readable line.now ≡ true) }
     ensures unreadable { IfNone result (is_readable line.now ≡ false) }
 {
-    if line.len() > MAX_LINE || !are_printable(line) {
+    if line.len() > MAX_LINE {
+        return None;
+    }
+    printable_text(line)
+}
+
+/// A line's text, however long, where all of its bytes are printable ASCII.
+pub fn printable_text(line: &[u8]) -> Option<&str>
+    ensures text { IfSome result (λ text. text.now ≡ line.now) }
+    ensures printable { IfSome result (λ _. list_all is_printable line.now ≡ true) }
+    ensures unprintable { IfNone result (list_all is_printable line.now ≡ false) }
+{
+    if !are_printable(line) {
         return None;
     }
     match str::from_utf8(line) {
@@ -34,8 +46,15 @@ fn is_printable(byte: u8) -> bool
     byte >= 0x20 && byte <= 0x7e
 }
 
-/// What stands between the spaces of a text.
-pub(crate) fn fields<A: Allocator>(alloc: A, text: &str) -> Result<Vec<&str, A>, AllocError>
+/// Whether a line is empty or a comment.
+pub fn is_skipped(line: &[u8]) -> bool
+    ensures { result ≡ is_skipped line.now }
+{
+    line.is_empty() || line[0] == b'#'
+}
+
+/// What stands between the spaces of a text. An error is want of memory.
+pub fn fields<A: Allocator>(alloc: A, text: &str) -> Result<Vec<&str, A>, AllocError>
     ensures { IfOk result (λ fields. map (λ field. field.now) fields.items ≡ fields_of text.now) }
 {
     text.split(' ').collect(alloc)

@@ -11,7 +11,7 @@ use std::alloc::Allocator;
 
 /// The bytes that a field gives in hex, or none where it is `-`.
 #[tactic(auto, unfolding(crate::specs::Text::bytes_of_hex))]
-pub(crate) fn read_hex<A: Allocator>(alloc: A, field: &str) -> Result<Bytes<A>, LineFault>
+pub fn read_hex<A: Allocator>(alloc: A, field: &str) -> Result<Bytes<A>, LineFault>
     ensures { MatchResult result (λ bytes. bytes_of_hex field.now ≡ Some bytes)
         (λ fault. (fault ≡ NoMemory) ⊎ ((fault ≡ Field) × (bytes_of_hex field.now ≡ None))) }
 {

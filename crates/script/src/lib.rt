@@ -8,11 +8,11 @@ pub use saying::statement;
 pub use statements::{Action, Setting, Statement};
 
 mod fault;
-mod fields;
-mod hex_field;
+pub mod fields;
+pub mod hex_field;
 mod input;
 mod laws;
-mod number;
+pub mod number;
 mod saying;
 mod statements;
 mod word;

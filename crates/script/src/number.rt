@@ -30,14 +30,16 @@ pub(crate) fn read_u8(field: &str) -> Result<u8, LineFault>
     Ok(number as u8)
 }
 
-pub(crate) fn read_u16(field: &str) -> Result<u16, LineFault>
+/// A number of 16 bits.
+pub fn read_u16(field: &str) -> Result<u16, LineFault>
     ensures { result ≡ ok_or (u16_of field.now) Field }
 {
     let number = read_number(field, 0, u64::from(u16::MAX)).ok_or(LineFault::Field)?;
     Ok(number as u16)
 }
 
-pub(crate) fn read_u32(field: &str) -> Result<u32, LineFault>
+/// A number of 32 bits.
+pub fn read_u32(field: &str) -> Result<u32, LineFault>
     ensures { result ≡ ok_or (u32_of field.now) Field }
 {
     let number = read_number(field, 0, u64::from(u32::MAX)).ok_or(LineFault::Field)?;
@@ -71,7 +73,7 @@ pub(crate) fn read_replicas(field: &str) -> Result<u32, LineFault>
 }
 
 /// The length of a procedure's arguments.
-pub(crate) fn read_args_len(field: &str) -> Result<u16, LineFault>
+pub fn read_args_len(field: &str) -> Result<u16, LineFault>
     ensures args_len { result ≡ ok_or (number_of 0 MAX_ARGUMENTS field.now) Field }
     ensures limits { IfOk result (λ args_len. args_len ≤ MAX_ARGUMENTS) }
 {

@@ -1,13 +1,12 @@
 //! Reading what a line says.
 
 ghost use Rattle.std.specs.Prelude.{◌≡◌, ◌⊎◌, map, Ok, Err, IfOk, IfErr, IfSome};
-ghost use Rattle.script.specs.Text.{is_skipped};
 ghost use Rattle.script.specs.Script.{setting_said, step_said, print_said, statement_of, line_says};
 ghost use Rattle.script.specs.Script.{IsSettingWithinLimits, IsActionWithinLimits, IsWithinLimits};
 ghost use Rattle.script.specs.declared.fault.LineFault.TheVariants.{NoMemory};
 
 use crate::fault::LineFault;
-use crate::fields::{fields, readable_text};
+use crate::fields::{fields, is_skipped, readable_text};
 use crate::hex_field::read_hex;
 use crate::number::{
     read_args_len, read_count, read_replicas, read_u8, read_u16, read_u32, read_window,
@@ -37,13 +36,6 @@ pub fn statement<A: Allocator + Copy>(
     let fields = fields(alloc, text)?;
     let statement = statement_of(alloc, &fields)?;
     Ok(Some(statement))
-}
-
-/// Whether a line is empty or a comment.
-fn is_skipped(line: &[u8]) -> bool
-    ensures { result ≡ is_skipped line.now }
-{
-    line.is_empty() || line[0] == b'#'
 }
 
 /// The statement of these fields.
