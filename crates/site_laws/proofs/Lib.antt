@@ -1,1 +1,4 @@
 pub mod LogLemmas
+mod SettledLemmas
+mod RefusedLemmas
+mod OwnLemmas

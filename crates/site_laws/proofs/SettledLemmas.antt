@@ -1,0 +1,298 @@
+-- A call that commits would have written the same at each position from its snapshot on.
+use Rattle.std.proofs.Common.{◌≡◌, ℕ, zero, suc, ◌+◌, ◌-◌, ◌==◌, ◌≤◌, ◌<◌, Bool, true, false, not, ◌&&◌, nat_le, cond, is_some, List, [], ◌∷◌, ◌++◌, All, length, slice_get, Option, Some, None, IsSome, refl, sym, ap, subst, ◌∙◌, arith, append_assoc}
+use Rattle.std.specs.Prelude.{◌↔◌}
+use Rattle.std.specs.FinMap.{get, len}
+use Rattle.std.proofs.lemmas.List.{length-append, length-map, map-append}
+use Rattle.std.specs.Str.{bytes_eq}
+use Rattle.schema.specs.declared.look.Look.{Look}
+use Rattle.schema.specs.Rows.{Rows}
+use Rattle.bpf_semantics.specs.Run.{Run}
+use Rattle.bpf_semantics.specs.Agree.{same_on}
+use Rattle.log_model.specs.declared.verdict.Verdict.{Verdict}
+use Rattle.log_model.specs.declared.verdict.Verdict.TheVariants as verdict
+use Rattle.log_model.specs.declared.verdict.Verdict.TheVariants.{Commit}
+use Rattle.log_model.specs.Log.{StoredProcedure, Catalogue, Setting, Call, Item, CallItem, Log, IsLog, IsLogFrom, IsPlaced, by_name, by_number, first_repeated, history, or_idle, procedure_of, procedures_after, rows_after, run_in, run_of_call, run_of_procedure, run_on, verdict_of}
+use Rattle.log_model.specs.Entries.{Entry, ExecutedCall, CallEntry, AdditionEntry, item_of, items_of}
+use Rattle.log_entry.specs.Bytes.{entry_bytes}
+use Rattle.entry_heads.specs.Head.{CallHead, head_of, is_whole}
+use Rattle.log_model.specs.Fit.{AllFitLog, FitsLog, FitsProcedures, HasSafeProcedures, IsSafe}
+use Rattle.log_model.specs.Verdicts.{IsConflict, IsNew, WroteWhatWasRead}
+use Rattle.log_model.proofs.GrowthLemmas.{get_before, is_log_snoc, procedures_grown, rows_grown, run_grown, verdict_grown}
+use Rattle.site_model.specs.declared.outcome.EntryOutcome.TheVariants as outcome
+use Rattle.site_model.specs.declared.cause.NothingCause.{NothingCause}
+use Rattle.site_model.specs.declared.cause.NothingCause.TheVariants as cause
+use Rattle.site_model.specs.declared.answer.CallAnswer.TheVariants.{Refused, Read, Submitted}
+use Rattle.site_model.specs.declared.answer.CallRefusal.TheVariants.{ArgumentsLength, HalfRequest}
+use Rattle.site_model.specs.Fit.{AreFitEntries}
+use Rattle.site_model.specs.Standing.{SiteSetting, Standing, StandsAs, IsDecided, IsNothing, call_standing, executed, is_decided, is_true, standing, standing_of_head, takes_arguments, writes_something}
+use Rattle.site_model.specs.Order.{Order, entry_standing, next_entry, order_entries, order_log, outcome_behind, outcome_by, outcome_of, with_bytes}
+use Rattle.site_model.specs.Answer.{Asked, answer_for, answer_of_run, asked_call, call_answer, call_answer_behind, unless_cancelled, unless_repeated}
+use Rattle.site_laws.specs.Settled.{IsSettled}
+use Rattle.site_laws.proofs.LogLemmas.{HaveVerdicts, RunsAlike, commits_there}
+
+-- ---- logs that go on from one
+
+pub last_there : (log : Log) (item : Item) → slice_get (log ++ item ∷ []) (length log) ≡ Some item
+last_there [] item = refl
+last_there (x ∷ log) item = last_there log item
+
+pub placed : (n : ℕ) (log : Log) (k : ℕ) (call : Call) → IsLogFrom n log → slice_get log k ≡ Some (CallItem call) → call.snapshot ≤ n + k
+placed n [] k call is there = absurd cc
+placed n (item ∷ log) zero call is there = let same : item ≡ CallItem call = cc in omega (arith, subst (IsPlaced n) same is.0)
+placed n (item ∷ log) (suc k) call is there = omega (arith, placed (suc n) log k call is.1 there)
+
+abbrev pub CommitMeans : Type 0
+CommitMeans = (w : Setting) (log : Log) (d : ℕ) (call : Call) → IsLog log → slice_get log d ≡ Some (CallItem call)
+    → (verdict_of w log (suc d) ≡ Some Commit) ↔ (IsNew w log call (suc d) × (d - call.snapshot ≤ w.window) × ((position : ℕ) → IsConflict w log call position (suc d) → ⊥))
+
+-- what was written up to a log's end was so in each log that goes on from it
+pub wrote_there : (w : Setting) (log m n : Log) (looks : List Look) (position : ℕ) → IsLog (log ++ m) → position ≤ length log
+    → WroteWhatWasRead w (log ++ m) looks position → WroteWhatWasRead w (log ++ n) looks position
+wrote_there w log m n looks position is within wrote =
+    let lt : wrote.before < length log = omega (arith, within, wrote.place) in
+    let le : wrote.call.snapshot ≤ length log = omega (arith, placed 0 (log ++ m) wrote.before wrote.call is wrote.stands, lt) in
+    record {
+      before = wrote.before;
+      place = wrote.place;
+      call = wrote.call;
+      stands = get_before log n wrote.before lt ∙ sym (get_before log m wrote.before lt) ∙ wrote.stands;
+      committed = ap (verdict_of w (log ++ n)) wrote.place ∙ verdict_grown w log n wrote.before lt ∙ sym (verdict_grown w log m wrote.before lt) ∙ ap (verdict_of w (log ++ m)) (sym wrote.place) ∙ wrote.committed;
+      key = wrote.key;
+      looked_at = wrote.looked_at;
+      written = subst (λ (r : Run). IsSome (get r.writes wrote.key)) (run_grown w log m wrote.call le ∙ sym (run_grown w log n wrote.call le)) wrote.written;
+    }
+
+-- a log, the same with more behind it, and the call behind both
+module _ (w : Setting) (log more : Log) (call : Call) (early : call.snapshot ≤ length log) where
+  abbrev short : Log
+  short = log ++ CallItem call ∷ []
+
+  abbrev long : Log
+  long = (log ++ more) ++ CallItem call ∷ []
+
+  as_more : long ≡ log ++ (more ++ CallItem call ∷ [])
+  as_more = append_assoc log more (CallItem call ∷ [])
+
+  same_item : (k : ℕ) → k < length log → slice_get short k ≡ slice_get long k
+  same_item k lt = get_before log (CallItem call ∷ []) k lt ∙ sym (ap (λ (l : Log). slice_get l k) as_more ∙ get_before log (more ++ CallItem call ∷ []) k lt)
+
+  same_verdict : (k : ℕ) → k < length log → verdict_of w short (suc k) ≡ verdict_of w long (suc k)
+  same_verdict k lt = verdict_grown w log (CallItem call ∷ []) k lt ∙ sym (ap (λ (l : Log). verdict_of w l (suc k)) as_more ∙ verdict_grown w log (more ++ CallItem call ∷ []) k lt)
+
+  same_run : (c : Call) → c.snapshot ≤ length log → run_in w short c ≡ run_in w long c
+  same_run c le = run_grown w log (CallItem call ∷ []) c le ∙ sym (ap (λ (l : Log). run_in w l c) as_more ∙ run_grown w log (more ++ CallItem call ∷ []) c le)
+
+  long_length : length log ≤ length (log ++ more)
+  long_length = omega (arith, length-append log more)
+
+  new_before : IsNew w long call (suc (length (log ++ more))) → IsNew w short call (suc (length log))
+  new_before new position r =
+      let lt : r.before < length log = omega (arith, r.earlier, r.place) in
+      new position (record {
+        earlier = omega (arith, r.earlier, long_length);
+        before = r.before;
+        place = r.place;
+        first = r.first;
+        stands = sym (same_item r.before lt) ∙ r.stands;
+        committed = ap (verdict_of w long) r.place ∙ sym (same_verdict r.before lt) ∙ ap (verdict_of w short) (sym r.place) ∙ r.committed;
+        same = r.same;
+      })
+
+  conflict_behind : IsLog short → (position : ℕ) → IsConflict w short call position (suc (length log)) → IsConflict w long call position (suc (length (log ++ more)))
+  conflict_behind is position c = record {
+    since = c.since;
+    earlier = omega (arith, c.earlier, long_length);
+    wrote = subst (λ (r : Run). WroteWhatWasRead w long r.looks position) (same_run call early)
+        (subst (λ (l : Log). WroteWhatWasRead w l (run_in w short call).looks position) (sym as_more)
+        (wrote_there w log (CallItem call ∷ []) (more ++ CallItem call ∷ []) (run_in w short call).looks position is (omega (arith, c.earlier)) c.wrote));
+  }
+
+  -- where it commits behind the longer log, it commits behind the shorter
+  pub commits_before : CommitMeans → IsLog short → IsLog long → verdict_of w long (suc (length (log ++ more))) ≡ Some Commit → verdict_of w short (suc (length log)) ≡ Some Commit
+  commits_before means is_short is_long commits =
+      let facts = (means w long (length (log ++ more)) call is_long (last_there (log ++ more) (CallItem call))).0 commits in
+      (means w short (length log) call is_short (last_there log (CallItem call))).1
+      (new_before facts.0, omega (arith, facts.1, long_length), λ position c. facts.2 position (conflict_behind is_short position c))
+
+  -- and its run on the rows at the end of the shorter one writes what it writes on those of its snapshot
+  pub runs_alike : CommitMeans → RunsAlike → HasSafeProcedures w → IsLog short → IsLog long → AllFitLog w short → verdict_of w long (suc (length (log ++ more))) ≡ Some Commit
+      → run_on w short call (rows_after w short (length log)) ≡ same_on (rows_after w short (length log)) (run_in w short call)
+  runs_alike means alike safe is_short is_long fit commits =
+      alike w short (length log) call safe is_short fit (last_there log (CallItem call)) (commits_before means is_short is_long commits)
+
+-- ---- what stands where a call commits
+
+never_by_default : (entries : List Entry) (reply : ℕ) (v : Option Verdict) → outcome_by entries outcome.Stale v ≡ outcome.Committed reply → ⊥
+never_by_default entries reply None e = absurd cc
+never_by_default entries reply (Some verdict.Commit) e = absurd cc
+never_by_default entries reply (Some (verdict.Conflict n)) e = absurd cc
+never_by_default entries reply (Some verdict.Stale) e = absurd cc
+never_by_default entries reply (Some (verdict.Repeated n)) e = absurd cc
+never_by_default entries reply (Some (verdict.Taken i)) e = absurd cc
+
+-- a call that commits is of a procedure that takes its arguments, and stands as its run says
+pub record Stands (w : Setting) (log : Log) (call : Call) (bytes : List ℕ) : Type 0 where
+  pub takes : takes_arguments (procedure_of w log call) call.args ≡ true
+  pub is : is_true w log call bytes ≡ true
+  pub stands : call_standing w log call bytes ≡ StandsAs (CallEntry (executed w log call))
+
+-- by the tests in their order
+abbrev tested : Setting → Log → Call → Bool → Bool → Bool → Bool → Standing
+tested w log call a b t u = cond (not a) (IsNothing cause.Snapshot) (cond b (IsDecided call) (cond (not t) (IsNothing cause.Procedure) (cond u (StandsAs (CallEntry (executed w log call))) (IsNothing cause.Untrue))))
+
+-- what holds of each way in which a call stands
+pub by_standing : (w : Setting) (log : Log) (call : Call) (bytes : List ℕ) (P : Standing → Type 0) → ((c : NothingCause) → P (IsNothing c)) → (nat_le call.snapshot (length log) ≡ true → is_decided w log call ≡ true → P (IsDecided call))
+    → (Stands w log call bytes → P (StandsAs (CallEntry (executed w log call)))) → P (call_standing w log call bytes)
+by_standing w log call bytes P nothing decided stands =
+    pick (nat_le call.snapshot (length log)) (is_decided w log call) (takes_arguments (procedure_of w log call) call.args) (is_true w log call bytes) refl refl refl refl
+  where
+    pick : (a b t u : Bool) → nat_le call.snapshot (length log) ≡ a → is_decided w log call ≡ b → takes_arguments (procedure_of w log call) call.args ≡ t → is_true w log call bytes ≡ u → P (tested w log call a b t u)
+    pick false b t u ea eb et eu = nothing cause.Snapshot
+    pick true true t u ea eb et eu = decided ea eb
+    pick true false false u ea eb et eu = nothing cause.Procedure
+    pick true false true false ea eb et eu = nothing cause.Untrue
+    pick true false true true ea eb et eu = stands (record { takes = et; is = eu; stands = λ i. tested w log call (ea i) (eb i) (et i) (eu i) })
+
+pub stands_by : (w : Setting) (log : Log) (call : Call) (bytes : List ℕ) (entries : List Entry) (v : Option Verdict) (reply : ℕ)
+    → outcome_of entries (call_standing w log call bytes) v ≡ outcome.Committed reply → Stands w log call bytes
+stands_by w log call bytes entries v reply =
+    by_standing w log call bytes (λ st. outcome_of entries st v ≡ outcome.Committed reply → Stands w log call bytes)
+    (λ c told. absurd cc) (λ early decided told. absurd (never_by_default entries reply v told)) (λ stands told. stands)
+
+-- ---- what is settled
+
+writes_by : (a b : Bool) → (a && b) ≡ true → a ≡ true
+writes_by true b e = refl
+writes_by false b e = absurd cc
+
+pub known_by : (o : Option StoredProcedure) (args : List ℕ) → takes_arguments o args ≡ true → (q : StoredProcedure) × (o ≡ Some q)
+known_by None args e = absurd cc
+known_by (Some q) args e = (q, refl)
+
+-- a run that writes something is ordered
+ordered : (position : ℕ) (r : Run) (bytes : List ℕ) (code : Option ℕ) → r.cancel_code ≡ code → writes_something r ≡ true → IsSettled (unless_cancelled position r bytes code) → ⊥
+ordered position r bytes (Some code) is writes settled =
+    absurd (contradiction writes (ap (λ (o : Option ℕ). not (is_some o) && not (len r.writes == 0)) is))
+  where
+    contradiction : {b : Bool} → b ≡ true → b ≡ false → ⊥
+    contradiction e f = absurd cc
+ordered position r bytes None is writes settled = by_count (len r.writes == 0) (sym (ap (λ (o : Option ℕ). not (is_some o) && not (len r.writes == 0)) is) ∙ writes) settled
+  where
+    by_count : (b : Bool) → not b ≡ true → IsSettled (cond b (Read position r.reply) (Submitted bytes)) → ⊥
+    by_count true e h = absurd cc
+    by_count false e h = h
+
+-- an answer that is settled comes of a run that isn't
+settled_by : (w : Setting) (entries : List Entry) (asked : Asked) (p : StoredProcedure) → writes_something (run_in w (items_of entries) (asked_call (items_of entries) p asked)) ≡ true
+    → IsSettled (answer_for w entries asked (Some p)) → ⊥
+settled_by w entries asked p writes =
+    by_tests (p.args_len == length asked.args) (is_whole asked.request) (first_repeated (history w (items_of entries)).certified (asked_call (items_of entries) p asked))
+  where
+    log : Log
+    log = items_of entries
+
+    run : Run
+    run = run_in w log (asked_call log p asked)
+
+    by_tests : (a b : Bool) (o : Option ℕ)
+        → IsSettled (cond (not a) (Refused ArgumentsLength) (cond (not b) (Refused HalfRequest) (unless_repeated entries (answer_of_run w log (asked_call log p asked)) o))) → ⊥
+    by_tests false b o h = h
+    by_tests true false o h = h
+    by_tests true true (Some position) h = h
+    by_tests true true None h = ordered (length log) run (entry_bytes (CallEntry (executed w log (asked_call log p asked)))) run.cancel_code refl writes h
+
+-- ---- the run of what was asked
+
+pub same_runs : (w : Setting) (log : Log) (call c : Call) (q : StoredProcedure) (rows : Rows) → call.snapshot ≤ length log → by_number (procedures_after w log call.snapshot) call.procedure ≡ Some q
+    → by_number (procedures_after w log c.snapshot) c.procedure ≡ Some q → call.args ≡ c.args → (item : Item) → run_on w (log ++ item ∷ []) call rows ≡ run_on w log c rows
+unfolding run_of_call
+same_runs w log call c q rows early first second args item =
+    ap (λ (ps : Catalogue). or_idle rows (run_of_procedure w.tables (by_number ps call.procedure) call.args rows)) (procedures_grown w log (item ∷ []) call.snapshot early)
+    ∙ ap (λ (o : Option StoredProcedure). or_idle rows (run_of_procedure w.tables o call.args rows)) (first ∙ sym second)
+    ∙ ap (λ (xs : List ℕ). or_idle rows (run_of_procedure w.tables (by_number (procedures_after w log c.snapshot) c.procedure) xs rows)) args
+
+-- ---- orders
+
+abbrev pub NeverLost : Type 0
+NeverLost = (w : Setting) (log : Log) (earlier later number : ℕ) (p : StoredProcedure) → IsLog log → earlier ≤ later → later ≤ length log
+    → by_number (procedures_after w log earlier) number ≡ Some p → by_number (procedures_after w log later) number ≡ Some p
+
+abbrev pub OneMoreFits : Type 0
+OneMoreFits = (w : Setting) (log : Log) (item : Item) → IsLog log → AllFitLog w log → IsPlaced (length log) item → FitsLog w log item → AllFitLog w (log ++ item ∷ [])
+
+abbrev pub NextFits : Type 0
+NextFits = (s : SiteSetting) (entries : List Entry) (bytes : List ℕ) → All (λ b. b < 256) bytes
+    → ((p : StoredProcedure) → standing s (items_of entries) bytes ≡ StandsAs (AdditionEntry p) → IsSafe s.setting.tables p)
+    → FitsLog s.setting (items_of entries) (item_of (next_entry s entries bytes))
+
+pub by_head : (s : SiteSetting) (log : Log) (bytes : List ℕ) (call : Call) (told : ℕ) → head_of bytes ≡ Some (CallHead call told) → standing s log bytes ≡ call_standing s.setting log call bytes
+unfolding standing
+by_head s log bytes call told head = ap (standing_of_head s log bytes) head
+
+pub settled_answer : (s : SiteSetting) (order : Order) (asked : Asked) → call_answer s order asked
+    ≡ answer_for s.setting (order_entries s order) asked (by_name (procedures_after s.setting (order_log s order) (length (order_entries s order))) asked.name)
+unfolding call_answer_behind
+settled_answer s order asked = refl
+
+-- entries that go on from others, of which the last is a call that asks what was answered
+module _ (s : SiteSetting) (entries later : List Entry) (bytes : List ℕ) (call : Call) (told reply : ℕ) (asked : Asked) (p : StoredProcedure) where
+  abbrev w : Setting
+  w = s.setting
+
+  abbrev log : Log
+  log = items_of entries
+
+  abbrev all : List Entry
+  all = entries ++ later
+
+  as_items : items_of all ≡ log ++ items_of later
+  as_items = map-append item_of entries later
+
+  pub answered : HaveVerdicts → RunsAlike → CommitMeans → NeverLost → OneMoreFits → NextFits
+      → AreFitEntries w entries → IsLog (items_of (with_bytes s all bytes)) → All (λ b. b < 256) bytes → head_of bytes ≡ Some (CallHead call told)
+      → call.procedure ≡ p.number → call.args ≡ asked.args → call.snapshot ≤ length entries
+      → IsSettled (answer_for w entries asked (Some p)) → outcome_behind s all bytes ≡ outcome.Committed reply → ⊥
+  answered verdicts alike means lost more_fits next_fits are is_log are_bytes head number args early settled commits =
+      let es = executed w (items_of all) call in
+      let by = by_head s (items_of all) bytes call told head in
+      let st = stands_by w (items_of all) call bytes (with_bytes s all bytes) (verdict_of w (items_of (with_bytes s all bytes)) (length all + 1)) reply
+      (sym (ap (λ (x : Standing). outcome_of (with_bytes s all bytes) x (verdict_of w (items_of (with_bytes s all bytes)) (length all + 1))) by) ∙ commits) in
+      let stands : standing s (items_of all) bytes ≡ StandsAs (CallEntry es) = by ∙ st.stands in
+      let there = commits_there s all bytes verdicts es reply stands commits in
+      let next : next_entry s all bytes ≡ CallEntry es = ap (entry_standing w (items_of all)) stands in
+      let items : items_of (with_bytes s all bytes) ≡ (log ++ items_of later) ++ CallItem call ∷ [] =
+      map-append item_of all (next_entry s all bytes ∷ []) ∙ ap (λ (e : Entry). items_of all ++ item_of e ∷ []) next ∙ ap (λ (l : Log). l ++ CallItem call ∷ []) as_items in
+      let long_is : IsLog ((log ++ items_of later) ++ CallItem call ∷ []) = subst IsLog items is_log in
+      let counted : length all ≡ length (log ++ items_of later) = sym (length-map all item_of) ∙ ap length as_items in
+      let commit : verdict_of w ((log ++ items_of later) ++ CallItem call ∷ []) (suc (length (log ++ items_of later))) ≡ Some verdict.Commit =
+      subst (λ (n : ℕ). verdict_of w ((log ++ items_of later) ++ CallItem call ∷ []) (suc n) ≡ Some verdict.Commit) counted
+      (subst (λ (l : Log). verdict_of w l (suc (length all)) ≡ Some verdict.Commit) items there.0) in
+      let early_log : call.snapshot ≤ length log = omega (arith, early, length-map entries item_of) in
+      let short_is : IsLog (log ++ CallItem call ∷ []) = is_log_snoc 0 log (CallItem call) are.log (let e : call.snapshot ≤ 0 + length log = omega (arith, early_log) in e) in
+      -- the call fits
+      let fits_all : FitsLog w (items_of all) (CallItem call) =
+      subst (λ (e : Entry). FitsLog w (items_of all) (item_of e)) next (next_fits s all bytes are_bytes (λ q is. absurd (not_added es q (sym stands ∙ is)))) in
+      let grown : procedures_after w (items_of all) call.snapshot ≡ procedures_after w log call.snapshot =
+      ap (λ (l : Log). procedures_after w l call.snapshot) as_items ∙ procedures_grown w log (items_of later) call.snapshot early_log in
+      let fits : FitsLog w log (CallItem call) = subst (λ (ps : Catalogue). FitsProcedures ps call) grown fits_all in
+      let fit_short = more_fits w log (CallItem call) are.log are.items early_log fits in
+      -- its run
+      let run = runs_alike w log (items_of later) call early_log means alike are.procedures short_is long_is fit_short commit in
+      let (q, known_all) = known_by (procedure_of w (items_of all) call) call.args st.takes in
+      let known : by_number (procedures_after w log call.snapshot) call.procedure ≡ Some q =
+      ap (λ (ps : Catalogue). by_number ps call.procedure) (sym grown) ∙ known_all in
+      let known_now : by_number (procedures_after w log (length log)) p.number ≡ Some q =
+      subst (λ (n : ℕ). by_number (procedures_after w log (length log)) n ≡ Some q) number
+      (lost w log call.snapshot (length log) call.procedure q are.log early_log (omega arith) known) in
+      let rows : rows_after w (log ++ CallItem call ∷ []) (length log) ≡ rows_after w log (length log) = rows_grown w log (CallItem call ∷ []) (length log) (omega arith) in
+      let same = same_runs w log call (asked_call log p asked) q (rows_after w log (length log)) early_log known known_now args (CallItem call) in
+      let as_asked : same_on (rows_after w (log ++ CallItem call ∷ []) (length log)) (run_in w (log ++ CallItem call ∷ []) call) ≡ run_in w log (asked_call log p asked) =
+      sym run ∙ ap (run_on w (log ++ CallItem call ∷ []) call) rows ∙ same in
+      let there_and_here : run_in w (log ++ CallItem call ∷ []) call ≡ run_in w (items_of all) call =
+      run_grown w log (CallItem call ∷ []) call early_log ∙ sym (ap (λ (l : Log). run_in w l call) as_items ∙ run_grown w log (items_of later) call early_log) in
+      let wrote : writes_something (run_in w (log ++ CallItem call ∷ []) call) ≡ true =
+      ap writes_something there_and_here ∙ writes_by (writes_something (run_in w (items_of all) call)) (bytes_eq bytes (entry_bytes (CallEntry es))) st.is in
+      settled_by w entries asked p (sym (ap writes_something as_asked) ∙ wrote) settled
+    where
+      not_added : (e : ExecutedCall) (q : StoredProcedure) → StandsAs (CallEntry e) ≡ StandsAs (AdditionEntry q) → ⊥
+      not_added e q same = absurd cc

@@ -1,0 +1,44 @@
+//! What a site gave to be ordered, when it comes back.
+
+ghost use Rattle.std.specs.Prelude.{◌≡◌, ◌≢◌, ◌≤◌, ℕ, ◌++◌, List};
+ghost use Rattle.bpf_code.specs.Program.{Program, spelling};
+ghost use Rattle.schema.specs.declared.limits.TheConstants.{MAX_ARGUMENTS};
+ghost use Rattle.call_model.specs.Check.{Passed};
+ghost use Rattle.program_checks.specs.Check.{check_of};
+ghost use Rattle.entry_heads.specs.Fit.{AdditionFitsFields};
+ghost use Rattle.entry_heads.specs.Head.{NamedProcedure};
+ghost use Rattle.site_model.specs.declared.answer.AdditionAnswer.TheVariants.{Submitted as AddSubmitted};
+ghost use Rattle.site_model.specs.declared.answer.CallAnswer.TheVariants.{Submitted};
+ghost use Rattle.site_model.specs.declared.cause.NothingCause.{NothingCause};
+ghost use Rattle.site_model.specs.declared.outcome.EntryOutcome.TheVariants.{Nothing};
+ghost use Rattle.site_model.specs.Answer.{Asked, addition_answer, call_answer, stored_as};
+ghost use Rattle.site_model.specs.Standing.{SiteSetting};
+ghost use Rattle.site_model.specs.Order.{Order, next_outcome};
+ghost use Rattle.site_laws.specs.Own.{IsAskedOf};
+
+use crate::laws::beginnings_have_the_same_entries;
+use entry_heads::entries_have_their_heads;
+use site_model::orders_grow;
+
+/// The bytes that a call was answered behind an order, to be ordered, aren't nothing wherever that order goes on.
+pub fn own_calls_are_not_nothing()
+    ensures { (s : SiteSetting) (order more : Order) (asked : Asked) (bytes : List ℕ) (cause : NothingCause)
+        → IsAskedOf s order asked → call_answer s order asked ≡ Submitted bytes
+        → next_outcome s (order ++ more) bytes ≢ Nothing cause }
+{
+    beginnings_have_the_same_entries();
+    entries_have_their_heads();
+    orders_grow();
+}
+
+/// The bytes that an addition was answered, to be ordered, aren't nothing behind any order, where its program is spelled
+/// by the bytes that it was read from, as a program that is decoded is.
+pub fn own_additions_are_not_nothing()
+    ensures { (s : SiteSetting) (order : Order) (p : NamedProcedure) (program : Program) (bytes : List ℕ)
+        (cause : NothingCause)
+        → p.args_len ≤ MAX_ARGUMENTS → check_of s.setting.tables p.args_len p.bytes ≡ Passed program
+        → spelling program ≡ p.bytes → AdditionFitsFields (stored_as p program)
+        → addition_answer s p ≡ AddSubmitted bytes → next_outcome s order bytes ≢ Nothing cause }
+{
+    entries_have_their_heads();
+}

@@ -1,0 +1,63 @@
+//! What answers rule out.
+
+ghost use Rattle.std.specs.Prelude.{◌≡◌, ◌≢◌, ◌<◌, ℕ, ◌∷◌, ◌++◌, List, All, Some};
+ghost use Rattle.log_model.specs.Log.{Call};
+ghost use Rattle.entry_heads.specs.Head.{CallHead, head_of};
+ghost use Rattle.site_model.specs.declared.outcome.EntryOutcome.TheVariants.{Committed, Conflict, Stale};
+ghost use Rattle.site_model.specs.Answer.{Asked, call_answer};
+ghost use Rattle.site_model.specs.Fit.{AreFitEntries};
+ghost use Rattle.site_model.specs.Standing.{SiteSetting};
+ghost use Rattle.site_model.specs.Order.{Order, next_outcome, order_entries};
+ghost use Rattle.site_laws.specs.Settled.{AsksAgain, AsksTheSame, IsSettled};
+
+use crate::laws::{beginnings_have_the_same_entries, orders_have_logs};
+use log_model::{
+    each_call_has_a_verdict, logs_whose_calls_fit, procedures_are_never_lost,
+    verdicts_in_words_of_the_log,
+};
+use site_model::{orders_grow, what_stands_is_of_the_log};
+
+/// Where a call was answered by a read or a cancellation behind an order, no byte string that asks the same, on rows that
+/// aren't newer, commits where that order goes on, whatever its request.
+pub fn what_was_answered_commits_no_more()
+    ensures { (s : SiteSetting) (order more : Order) (bytes : List ℕ) (asked : Asked) (call : Call) (told reply : ℕ)
+        → AreFitEntries s.setting (order_entries s order) → All (λ b. b < 256) bytes
+        → IsSettled (call_answer s order asked)
+        → head_of bytes ≡ Some (CallHead call told) → AsksTheSame s order asked call
+        → next_outcome s (order ++ more) bytes ≢ Committed reply }
+{
+    each_call_has_a_verdict();
+    beginnings_have_the_same_entries();
+    logs_whose_calls_fit();
+    orders_grow();
+    orders_have_logs();
+    procedures_are_never_lost();
+    verdicts_in_words_of_the_log();
+    what_stands_is_of_the_log();
+}
+
+/// Where a byte string was refused for a conflict or as stale, none behind it commits that asks the same, on rows that
+/// aren't newer, whatever its request.
+pub fn what_was_refused_commits_no_more()
+    ensures conflict { (s : SiteSetting) (order between : Order) (first second : List ℕ) (a b : Call)
+        (told other position reply : ℕ)
+        → AreFitEntries s.setting (order_entries s (order ++ first ∷ between)) → All (λ b. b < 256) second
+        → head_of first ≡ Some (CallHead a told) → head_of second ≡ Some (CallHead b other) → AsksAgain a b
+        → next_outcome s order first ≡ Conflict position
+        → next_outcome s (order ++ first ∷ between) second ≢ Committed reply }
+    ensures stale { (s : SiteSetting) (order between : Order) (first second : List ℕ) (a b : Call)
+        (told other reply : ℕ)
+        → All (λ b. b < 256) second
+        → head_of first ≡ Some (CallHead a told) → head_of second ≡ Some (CallHead b other) → AsksAgain a b
+        → next_outcome s order first ≡ Stale
+        → next_outcome s (order ++ first ∷ between) second ≢ Committed reply }
+{
+    each_call_has_a_verdict();
+    beginnings_have_the_same_entries();
+    logs_whose_calls_fit();
+    orders_grow();
+    orders_have_logs();
+    procedures_are_never_lost();
+    verdicts_in_words_of_the_log();
+    what_stands_is_of_the_log();
+}
