@@ -1,5 +1,5 @@
 -- The command lines `dsmdb list FILE`, `dsmdb check FILE ARGS [T:W ...]`, `dsmdb replay SCRIPT`,
--- `dsmdb run SCRIPT --executors N --log N` and `dsmdb explain NUMBER`, and what they ask for.
+-- `dsmdb run SCRIPT --executors N --log N`, `dsmdb site SETTINGS` and `dsmdb explain NUMBER`, and what they ask for.
 use Rattle.std.specs.Prelude.{◌≡◌, ◌≤◌, true, ℕ, List, [], ◌∷◌, codes, map, Option, Some, None}
 use Rattle.std.specs.Option.{option_and_then, unwrap_or}
 use Rattle.schema.specs.declared.limits.TheConstants.{MAX_ARGUMENTS, MAX_EXECUTORS, MAX_LOG}
@@ -16,6 +16,9 @@ file_rule = record (new_rule (codes "FILE")) { required = true; action = Some Se
 
 abbrev pub script_rule : Rule
 script_rule = record (new_rule (codes "SCRIPT")) { required = true; action = Some Set }
+
+abbrev pub settings_rule : Rule
+settings_rule = record (new_rule (codes "SETTINGS")) { required = true; action = Some Set }
 
 abbrev pub args_rule : Rule
 args_rule = record (new_rule (codes "ARGS")) { required = true; action = Some Set }
@@ -49,6 +52,9 @@ replay_line = with_rule (new_app (codes "replay")) script_rule
 abbrev pub run_line : App
 run_line = with_rule (with_rule (with_rule (new_app (codes "run")) script_rule) executors_rule) log_rule
 
+abbrev pub site_line : App
+site_line = with_rule (new_app (codes "site")) settings_rule
+
 abbrev pub explain_line : App
 explain_line = with_rule (new_app (codes "explain")) number_rule
 
@@ -59,8 +65,8 @@ named_command = new_app (codes "dsmdb")
 abbrev pub command_line : App
 command_line =
     let required = record named_command { top = record named_command.top { has_version = true; subcommand_required = true } } in
-    with_subcommand (with_subcommand (with_subcommand (with_subcommand (with_subcommand required
-    list_line.top) check_line.top) replay_line.top) run_line.top) explain_line.top
+    with_subcommand (with_subcommand (with_subcommand (with_subcommand (with_subcommand (with_subcommand required
+    list_line.top) check_line.top) replay_line.top) run_line.top) site_line.top) explain_line.top
 
 -- ---- what it asks for
 
@@ -91,6 +97,10 @@ IsRunOf rows (plan.Run script executors log_limit) =
     × (number_of rows (codes "log") 1 MAX_LOG ≡ Some log_limit)
 IsRunOf rows _ = ⊥
 
+abbrev pub IsSiteOf : List Row → Plan → Type 0
+IsSiteOf rows (plan.Site settings) = first_of (codes "SETTINGS") rows ≡ Some settings.now
+IsSiteOf rows _ = ⊥
+
 -- what is explained has the number that was asked for
 abbrev pub IsExplainOf : List Row → Plan → Type 0
 IsExplainOf rows (plan.Explain explanation) = first_of (codes "NUMBER") rows ≡ Some explanation.number.now
@@ -103,6 +113,7 @@ IsPlanOf (Some command) (plan.List file) = (command.0 ≡ codes "list") × IsLis
 IsPlanOf (Some command) (plan.Check file args_len tables) = (command.0 ≡ codes "check") × IsCheckOf command.1 (plan.Check file args_len tables)
 IsPlanOf (Some command) (plan.Replay script) = (command.0 ≡ codes "replay") × IsReplayOf command.1 (plan.Replay script)
 IsPlanOf (Some command) (plan.Run script executors log_limit) = (command.0 ≡ codes "run") × IsRunOf command.1 (plan.Run script executors log_limit)
+IsPlanOf (Some command) (plan.Site settings) = (command.0 ≡ codes "site") × IsSiteOf command.1 (plan.Site settings)
 IsPlanOf (Some command) (plan.Explain explanation) = (command.0 ≡ codes "explain") × IsExplainOf command.1 (plan.Explain explanation)
 
 -- arguments have at most 256 bytes; there are 1 to 16 executing threads, and 1 to 1,048,576 entries

@@ -107,3 +107,55 @@ docs/REFUSALS.md explains the numbers.
 
 Exit status: 0 done, 1 a line at fault, 2 a command line that can't be read,
 3 a file, a stream or memory.";
+
+/// The settings of a site, the lines that are given to it, and what it answers, as docs/FORMATS.md explains them.
+pub const SITE_HELP: &str = "\
+Settings, which all sites of an order have in common, as dsmdb replay --help
+explains them: window, table, proc; and once, without fields,
+  additions                procedures may be added by the order
+
+The lines of the input. Each is answered, and the answer has left, before the
+next is waited for; empty lines, and those that begin with #, are not answered.
+  entry HEX                the byte string at the next position D of the order,
+                           which is taken in; - is the empty one
+    entry D commit reply V          a call: its writes are done
+    entry D conflict E              entry E wrote what it had looked at
+    entry D stale                   its snapshot is too far behind
+    entry D repeat E reply V        entry E has done its request, and replied V
+    entry D added N                 from here on there is procedure N
+    entry D taken C1                a procedure has its name, or (C2) number
+    entry D nothing E5              it is nothing: unreadable (E1), a procedure
+                                    that can't be added (E2), a call of rows
+                                    that aren't there yet (E3) or of no
+                                    procedure (E4), or one whose own run
+                                    doesn't give these bytes (E5)
+    Behind that of a call stands  session S seq Q, where it has a request.
+  call NAME HEX SESSION SEQ
+                           a call runs on the rows at the last position; 0 0 is
+                           no request. Nothing changes
+    submit HEX                      it wrote: these bytes are to be ordered
+    read S reply V                  it wrote nothing
+    cancelled S code V              it cancelled
+    repeat E reply V                entry E has done its request, and replied V
+    refused P2                      no such procedure; or arguments of another
+                                    length (P3), no memory (P9), or one alone
+                                    of SESSION and SEQ is 0 (P13)
+  add NAME NUMBER ARGSLEN HEX
+                           a procedure is checked, to be added. Nothing changes
+    submit HEX                      these bytes are to be ordered
+    refused P11 V1 slot 0           its program isn't accepted; or its name
+                                    can't be (P12), the settings lack additions
+                                    (P14), or no memory (P9)
+  rows                     each row: table, key, bytes; and then
+    position P rows N               how far it has come, and how many rows
+  position                 how far it has come
+    position P
+
+A line at fault is answered fault L1 to fault L4, and nothing changes. One has
+at most 1048576 bytes; what has no LF at its end is none. HEX, SESSION and SEQ
+are as in scripts. docs/REFUSALS.md explains the numbers, docs/SITES.md how
+several sites share an order.
+
+Settings at fault end it before it reads its input, as line 4: L5 on standard
+error. Exit status: 0 its input ended, 1 settings at fault, 2 a command line
+that can't be read, 3 a file, a stream or memory.";

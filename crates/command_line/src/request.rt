@@ -36,6 +36,10 @@ pub enum Plan<'a> {
         /// 1 to 1,048,576.
         log_limit: u32,
     },
+    /// Be a site, with the settings in this file.
+    Site {
+        settings: &'a str,
+    },
     /// Say what is known of a refusal.
     Explain {
         explanation: Explanation,

@@ -7,10 +7,11 @@ ghost use Rattle.clap.specs.Words.{all_of, app_of, found_of, rows_of, rule_of, s
 ghost use Rattle.program_commands.specs.Number.{table_word};
 ghost use Rattle.command_line.specs.Plan.{args_rule, check_line, command_line, executors_rule, explain_line, file_rule};
 ghost use Rattle.command_line.specs.Plan.{list_line, log_rule, number_rule, replay_line, run_line, script_rule};
-ghost use Rattle.command_line.specs.Plan.{table_rule, IsPlanOf, IsListOf, IsCheckOf, IsReplayOf, IsRunOf, IsExplainOf};
+ghost use Rattle.command_line.specs.Plan.{settings_rule, site_line, table_rule, IsPlanOf, IsListOf, IsCheckOf, IsReplayOf};
+ghost use Rattle.command_line.specs.Plan.{IsRunOf, IsSiteOf, IsExplainOf};
 ghost use Rattle.command_line.specs.Plan.{IsWithinLimits, number_of};
 
-use crate::help::{RUN_HELP, SCRIPT_HELP};
+use crate::help::{RUN_HELP, SCRIPT_HELP, SITE_HELP};
 use crate::request::{Plan, PlanFault};
 use clap::{Arg, ArgAction, ArgMatches, Command};
 use explanations::explain;
@@ -33,6 +34,7 @@ pub fn plan<'a, S: AsStr>(alloc: Global, words: &'a [S]) -> Result<Plan<'a>, Pla
         Some(("check", values)) => check_plan(alloc, values),
         Some(("replay", values)) => replay_plan(values),
         Some(("run", values)) => run_plan(values),
+        Some(("site", values)) => site_plan(values),
         Some(("explain", values)) => explain_plan(values),
         _ => Err(PlanFault::NoCommand),
     }
@@ -152,6 +154,16 @@ fn log_limit<'a>(values: &ArgMatches<'a>) -> Result<u32, PlanFault<'a>>
     }
 }
 
+/// The values of `site`.
+fn site_plan<'a>(values: &ArgMatches<'a>) -> Result<Plan<'a>, PlanFault<'a>>
+    ensures { IfOk result (IsSiteOf (rows_of (found_of values.now))) }
+{
+    match values.get_str("SETTINGS") {
+        Some(settings) => Ok(Plan::Site { settings }),
+        None => Err(PlanFault::NoCommand),
+    }
+}
+
 /// The values of `explain`.
 fn explain_plan<'a>(values: &ArgMatches<'a>) -> Result<Plan<'a>, PlanFault<'a>>
     ensures { IfOk result (IsExplainOf (rows_of (found_of values.now))) }
@@ -186,7 +198,8 @@ fn dsmdb_command<'a>(alloc: Global) -> Result<Command<'a>, AllocError>
     let with_check = with_list.subcommand(check_command(alloc)?)?;
     let with_replay = with_check.subcommand(replay_command(alloc)?)?;
     let with_run = with_replay.subcommand(run_command(alloc)?)?;
-    with_run.subcommand(explain_command(alloc)?)
+    let with_site = with_run.subcommand(site_command(alloc)?)?;
+    with_site.subcommand(explain_command(alloc)?)
 }
 
 fn list_command<'a>(alloc: Global) -> Result<Command<'a>, AllocError>
@@ -227,6 +240,15 @@ fn run_command<'a>(alloc: Global) -> Result<Command<'a>, AllocError>
     command.arg(log_arg(alloc))
 }
 
+fn site_command<'a>(alloc: Global) -> Result<Command<'a>, AllocError>
+    ensures { IfOk result (λ c. app_of c ≡ site_line) }
+{
+    Command::new(alloc, "site")
+        .about("Holds one replica of an order that its input gives, and answers each line")
+        .after_help(SITE_HELP)
+        .arg(settings(alloc))
+}
+
 fn explain_command<'a>(alloc: Global) -> Result<Command<'a>, AllocError>
     ensures { IfOk result (λ c. app_of c ≡ explain_line) }
 {
@@ -251,6 +273,16 @@ fn script<'a>(alloc: Global) -> Arg<'a>
 {
     Arg::new(alloc, "SCRIPT")
         .help("A file with the lines of a script")
+        .required(true)
+        .action(ArgAction::Set)
+}
+
+fn settings<'a>(alloc: Global) -> Arg<'a>
+    ensures rule { rule_of result ≡ settings_rule }
+    ensures local { result.global ≡ false }
+{
+    Arg::new(alloc, "SETTINGS")
+        .help("A file with the settings that all sites of the order have")
         .required(true)
         .action(ArgAction::Set)
 }

@@ -10,6 +10,7 @@ use explanations::Explanation;
 use program_commands::{check_over, list_over};
 use script_replay::replay_over;
 use script_run::{RunOptions, run_over};
+use site_service::site_over;
 use std::fs::File;
 use std::io::{BufReader, IsTerminal, Write};
 use std::process::ExitCode;
@@ -100,6 +101,26 @@ fn run_file<R: Threads + Wait + Copy + Send + Sync + 'static>(
     }
 }
 
+/// Is a site, with the settings in a file.
+fn site_of_file(rt: &HostRuntime, path: &str) -> io::Result<u8> {
+    let mut faults = rt.stderr();
+    match File::open(rt, path) {
+        Ok(file) => {
+            let mut settings = BufReader::new(rt.alloc(), file)?;
+            let mut input = rt.reader();
+            let mut output = rt.stdout();
+            Ok(site_over(
+                rt.alloc(),
+                &mut settings,
+                &mut input,
+                &mut output,
+                &mut faults,
+            ))
+        }
+        Err(error) => Ok(not_opened(rt, path, &error)),
+    }
+}
+
 /// Prints what is known of a refusal.
 fn print_explanation(rt: &HostRuntime, explanation: &Explanation) -> io::Result<u8> {
     writeln!(rt.stdout(), "{explanation}")?;
@@ -150,6 +171,7 @@ fn run<R: Threads + Wait + Copy + Send + Sync + 'static>(
                 log_limit,
             },
         ) => run_file(rt, threads, script, executors, log_limit),
+        Ok(Plan::Site { settings }) => site_of_file(rt, settings),
         Ok(Plan::Explain { explanation }) => print_explanation(rt, &explanation),
         Err(fault) => refused(rt, &fault),
     }

@@ -210,7 +210,7 @@ pub const OF_PROCEDURES: [Explanation; 33] = [
 ];
 
 /// Of what is run, each refusal once.
-pub const OF_RUNS: [Explanation; 28] = [
+pub const OF_RUNS: [Explanation; 35] = [
     Explanation {
         number: "P1",
         cause: "there is no such replica; a `rows` line asks for one, too",
@@ -290,8 +290,55 @@ pub const OF_RUNS: [Explanation; 28] = [
     },
     Explanation {
         number: "P13",
-        cause: "a session or sequence number of a request is 0 (a script has L4 there)",
-        cure: "number both from 1",
+        cause: "a session or sequence number of a request is 0 (a script has L4 there); at a site one alone of the \
+            two is 0",
+        cure: "number both from 1; at a site 0 and 0 is no request",
+        in_c: "",
+    },
+    Explanation {
+        number: "P14",
+        cause: "at a site, the settings lack the line `additions`",
+        cure: "settings with that line, at all sites, and so a new order",
+        in_c: "",
+    },
+    Explanation {
+        number: "E1",
+        cause: "it is no entry: it is empty, begins neither with 01 nor with 02, is a call that is shorter than its \
+            head or of whose session and sequence number one alone is 0, or an addition that is shorter or \
+            longer than its lengths say",
+        cure: "nothing; bridges write such strings for their own ends",
+        in_c: "",
+    },
+    Explanation {
+        number: "E2",
+        cause: "the settings lack `additions`, or it is an addition whose name, length of arguments or program isn't \
+            accepted",
+        cure: "ask the site's `add`, and append what it prints",
+        in_c: "",
+    },
+    Explanation {
+        number: "E3",
+        cause: "it is a call of a snapshot that isn't before its own position",
+        cure: "call at a site of this order, and append what it prints",
+        in_c: "",
+    },
+    Explanation {
+        number: "E4",
+        cause: "there is no procedure of its number at its snapshot, or its arguments have another length",
+        cure: "as for E3",
+        in_c: "",
+    },
+    Explanation {
+        number: "E5",
+        cause: "its run on the rows of its snapshot cancels or writes nothing, or looked at, wrote or replied \
+            something else than it says",
+        cure: "as for E3",
+        in_c: "",
+    },
+    Explanation {
+        number: "O1",
+        cause: "printed by a site as `fault O1`: the order has 4,294,967,295 byte strings, and no more are taken in",
+        cure: "begin a new order, with the rows put in by calls",
         in_c: "",
     },
     Explanation {

@@ -143,9 +143,13 @@ abbrev pub certified_words : Option ℕ → Verdict → List ℕ
 certified_words (Some snapshot) verdict = verdict_words verdict
 certified_words None verdict = addition_words verdict
 
+-- what stands in front of the bytes of a row
+abbrev pub row_label : ℕ → ℕ → List ℕ
+row_label table key = right_in 2 (decimal table) ++ codes " " ++ right_in 20 (decimal key) ++ codes " "
+
 -- a row of a table
 abbrev pub row_words : ℕ → ℕ → List ℕ → List ℕ
-row_words table key bytes = right_in 2 (decimal table) ++ codes " " ++ right_in 20 (decimal key) ++ codes " " ++ encode_lower bytes
+row_words table key bytes = row_label table key ++ encode_lower bytes
 
 -- what stands in front of the bytes of an entry
 abbrev pub bytes_label : ℕ → List ℕ

@@ -3,8 +3,7 @@
 ghost use Rattle.std.specs.Prelude.{◌≡◌, ◌++◌, codes};
 ghost use Rattle.std.specs.Fmt.{decimal};
 ghost use Rattle.hex.specs.Hex.{encode_lower};
-ghost use Rattle.byte_output.specs.Column.{right_in};
-ghost use Rattle.report.specs.Lines.{bytes_label, line_text, totals_words};
+ghost use Rattle.report.specs.Lines.{bytes_label, line_text, row_label, totals_words};
 
 use crate::printed::Line;
 use crate::words::{
@@ -89,19 +88,25 @@ fn plain(words: LineBuffer) -> LineParts<'static>
 
 fn row<'a>(table: u8, key: u64, bytes: &'a [u8]) -> LineParts<'a>
     ensures { (result.words.items ++ encode_lower result.bytes.now) ++ result.rest.items
-        ≡ (right_in 2 (decimal table) ++ codes " " ++ right_in 20 (decimal key) ++ codes " ") ++ encode_lower bytes.now
-        ++ codes "\n" }
+        ≡ row_label table key ++ encode_lower bytes.now ++ codes "\n" }
+{
+    LineParts {
+        words: row_label(table, key),
+        bytes,
+        rest: end(),
+    }
+}
+
+/// What stands in front of a row's bytes in its line.
+pub fn row_label(table: u8, key: u64) -> LineBuffer
+    ensures { result.items ≡ row_label table key }
 {
     let mut words = LineBuffer::new();
     push_column(&mut words, 2, u64::from(table));
     push(&mut words, b" ");
     push_column(&mut words, 20, key);
     push(&mut words, b" ");
-    LineParts {
-        words,
-        bytes,
-        rest: end(),
-    }
+    words
 }
 
 fn entry<'a>(position: u32, bytes: &'a [u8]) -> LineParts<'a>

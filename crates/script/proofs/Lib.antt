@@ -1,4 +1,4 @@
 mod FieldLemmas
-mod LineLemmas
+pub mod LineLemmas
 mod NumberLemmas
 mod SayingLemmas

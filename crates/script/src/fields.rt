@@ -8,7 +8,7 @@ use crate::input::MAX_LINE;
 use std::alloc::{AllocError, Allocator};
 
 /// A line's text, where it is one: printable, and no longer than a line may be.
-pub(crate) fn readable_text(line: &[u8]) -> Option<&str>
+pub fn readable_text(line: &[u8]) -> Option<&str>
     ensures text { IfSome result (λ text. text.now ≡ line.now) }
     ensures readable { IfSome result (λ _. is_readable line.now ≡ true) }
     ensures unreadable { IfNone result (is_readable line.now ≡ false) }

@@ -37,7 +37,7 @@ pub enum Next {
 }
 
 /// How many bytes stand before the first LF, and whether there is one.
-fn before_lf(shown: &[u8]) -> (usize, bool)
+pub fn before_lf(shown: &[u8]) -> (usize, bool)
     ensures bound { result.0 ≤ length shown.now }
     ensures front { HasNoLf (take result.0 shown.now) }
     ensures lf { result.1 ≡ true → (result.0 < length shown.now) }

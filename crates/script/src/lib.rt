@@ -2,7 +2,7 @@
 #![tactic(auto)]
 
 pub use fault::LineFault;
-pub use input::{MAX_LINE, Next, next_line};
+pub use input::{MAX_LINE, Next, before_lf, next_line};
 pub use laws::lines_that_are_too_long_are_at_fault;
 pub use saying::statement;
 pub use statements::{Action, Setting, Statement};

@@ -1,5 +1,5 @@
 -- What a script says that has only settings and, behind them, calls.
-use Rattle.std.specs.Prelude.{ℕ, ◌+◌, ◌==◌, Bool, ◌&&◌, if◌then◌else◌, List, [], ◌∷◌, ◌++◌, length, Option, Some, None, is_some, Result, Ok, Err}
+use Rattle.std.specs.Prelude.{ℕ, ◌==◌, Bool, ◌&&◌, if◌then◌else◌, List, [], ◌∷◌, ◌++◌, length, Option, Some, None, is_some, Result, Ok, Err}
 use Rattle.script.specs.declared.statements.Statement.TheVariants as statement
 use Rattle.script.specs.declared.statements.Action.{Action}
 use Rattle.script.specs.declared.statements.Action.TheVariants.{Begin, BeginNumbered}
@@ -11,6 +11,7 @@ use Rattle.script_settings.specs.declared.cause.FaultCause.TheVariants.{Place}
 use Rattle.script_settings.specs.declared.cause.ScriptFault.{ScriptFault}
 use Rattle.script_settings.specs.Fault.{cause_of_line_fault}
 use Rattle.script_settings.specs.Settings.{ScriptSettings, no_settings, setting_after, then_with}
+use Rattle.script_stops.specs.Said.{fault_at, said_from}
 use Rattle.script_calls.specs.declared.call.ScriptCall.{ScriptCall}
 
 -- settings, and then calls in the order of their lines
@@ -53,24 +54,14 @@ after_line said (Ok (Some (statement.Action action))) = with_call said (call_of 
 
 -- ---- a whole script
 
-abbrev pub fault_at : ℕ → FaultCause → ScriptFault
-fault_at line cause = record { line = line; cause = cause }
-
 -- a script that ends without window or replicas is at fault as a whole
 abbrev pub at_end : Said → Result Said ScriptFault
 at_end said = if are_set said.settings then Ok said else Err (fault_at 0 Place)
 
--- the first line at fault ends the script
-abbrev pub unless_faulty : ℕ → Result Said FaultCause → (Said → Result Said ScriptFault) → Result Said ScriptFault
-unless_faulty number (Ok said) Behind = Behind said
-unless_faulty number (Err cause) Behind = Err (fault_at number cause)
-
--- what lines say behind what is said; the first of them has this number
-unfoldable pub said_from : Said → ℕ → List (List ℕ) → Result Said ScriptFault
-said_from said number [] = at_end said
-said_from said number (line ∷ lines) =
-    unless_faulty number (after_line said (line_says line)) (λ next. said_from next (number + 1) lines)
+-- what is said with one more line of these bytes
+abbrev pub with_line : Said → List ℕ → Result Said FaultCause
+with_line said line = after_line said (line_says line)
 
 -- what a script of these bytes says, or its first fault
 abbrev pub script_says : List ℕ → Result Said ScriptFault
-script_says bytes = said_from nothing_said 1 (lines_of bytes)
+script_says bytes = said_from with_line at_end nothing_said 1 (lines_of bytes)

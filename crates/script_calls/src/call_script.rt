@@ -3,7 +3,8 @@
 ghost use Rattle.std.specs.Prelude.{◌≡◌, ◌≤◌, ℕ, List, Some, Ok, IfOk, IfErr};
 ghost use Rattle.schema.specs.declared.limits.TheConstants.{MAX_REPLICAS, MAX_WINDOW};
 ghost use Rattle.script_calls.specs.Calls.{at_end, script_says};
-ghost use Rattle.script_calls.specs.Reading.{so_far, said_by, IsStopOf};
+ghost use Rattle.script_stops.specs.Said.{IsStopOf};
+ghost use Rattle.script_calls.specs.Reading.{so_far, said_by};
 
 use crate::call::ScriptCall;
 use crate::reading::Reading;

@@ -8,6 +8,4 @@ mod requests;
 #[cfg(test)]
 mod stories;
 #[cfg(test)]
-mod streams;
-#[cfg(test)]
 mod tests;

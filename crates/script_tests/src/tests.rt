@@ -1,11 +1,11 @@
 use crate::additions::{ADDED, of_additions};
 use crate::requests::{SENT_TWICE, of_requests};
 use crate::stories::{ADD_ENTRY, INCREMENT, STOPS, Story, TWO_INCREMENTS, all_stories};
-use crate::streams::{Full, Input, Output};
 use scarce::Scarce;
 use script_replay::replay_over;
 use std::alloc::{AllocError, Allocator, Global};
 use std::process::Abort;
+use test_streams::{Full, Input, Output};
 
 /// Lines, each with an LF.
 fn joined(alloc: Global, lines: &[&str]) -> Result<Vec<u8>, AllocError> {

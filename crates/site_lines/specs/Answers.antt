@@ -6,7 +6,7 @@ use Rattle.log_model.specs.declared.request.RequestId.{RequestId}
 use Rattle.log_model.specs.declared.verdict.Identifier.TheVariants.{Name, Number}
 use Rattle.script.specs.declared.fault.LineFault.{LineFault}
 use Rattle.script.specs.Fault.{number_of_line_fault}
-use Rattle.report.specs.Lines.{program_fault_text, read_words, cancelled_words}
+use Rattle.report.specs.Lines.{program_fault_text, read_words, cancelled_words, row_words}
 use Rattle.site_model.specs.declared.cause.NothingCause.{NothingCause}
 use Rattle.site_model.specs.declared.cause.NothingCause.TheVariants as nothing
 use Rattle.site_model.specs.declared.outcome.EntryOutcome.{EntryOutcome}
@@ -108,6 +108,10 @@ addition_with_bytes bytes (addition.Submitted e) = addition.Submitted (bytes e)
 
 abbrev pub position_line : ℕ → List ℕ
 position_line position = codes "position " ++ decimal position ++ codes "\n"
+
+-- a row of a table
+abbrev pub row_line : ℕ → ℕ → List ℕ → List ℕ
+row_line table key bytes = row_words table key bytes ++ codes "\n"
 
 -- behind the rows, how many they are
 abbrev pub row_count_line : ℕ → ℕ → List ℕ

@@ -29,7 +29,7 @@ impl<'a, S: ByteSink> ByteSink for HexSink<'a, S> {
 }
 
 /// Appends bytes in hex.
-fn append_digits<S: ByteSink>(sink: &mut S, bytes: &[u8])
+pub(crate) fn append_digits<S: ByteSink>(sink: &mut S, bytes: &[u8])
     ensures { S.appends sink.old sink.new (encode_lower bytes.now) }
 {
     for byte in bytes {

@@ -7,7 +7,7 @@ pub use numbers::{call_refusal_number, nothing_number};
 pub use reading::site_line;
 pub use status::{
     append_fault_line, append_no_memory_line, append_order_full_line, append_position_line,
-    append_row_count_line,
+    append_row_count_line, append_row_line,
 };
 
 mod answers;

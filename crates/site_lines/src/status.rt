@@ -1,10 +1,13 @@
 //! The lines of a site that tell neither of an entry nor of what is asked for.
 
 ghost use Rattle.site_lines.specs.Answers.{fault_line, no_memory_line, order_full_line, position_line};
-ghost use Rattle.site_lines.specs.Answers.{row_count_line};
+ghost use Rattle.site_lines.specs.Answers.{row_count_line, row_line};
+ghost use Rattle.report.specs.Lines.{row_label};
 
+use crate::hex_digits::append_digits;
 use crate::words::{number_line, two_number_line};
 use byte_output::sink::ByteSink;
+use report::row_label;
 use script::LineFault;
 
 /// Appends the line of a site's position. It takes no memory.
@@ -12,6 +15,22 @@ pub fn append_position_line<S: ByteSink>(sink: &mut S, position: u32)
     ensures { S.appends sink.old sink.new (position_line position) }
 {
     sink.append(&number_line("position ", u64::from(position)));
+}
+
+/// Appends the line of a row. It takes no memory.
+pub fn append_row_line<S: ByteSink>(sink: &mut S, table: u8, key: u64, bytes: &[u8])
+    ensures { S.appends sink.old sink.new (row_line table key bytes.now) }
+{
+    append_row_label(sink, table, key);
+    append_digits(sink, bytes);
+    sink.append(b"\n");
+}
+
+/// Appends what stands in front of a row's bytes.
+fn append_row_label<S: ByteSink>(sink: &mut S, table: u8, key: u64)
+    ensures { S.appends sink.old sink.new (row_label table key) }
+{
+    sink.append(&row_label(table, key));
 }
 
 /// Appends the line behind a site's rows: its position, and how many rows there are. It takes no memory.

@@ -9,6 +9,13 @@ fn a_plan_is_read_off_the_words(rt: HostRuntime) {
     assert!(rt; plan(rt.alloc(), &words).expect(&rt, "memory") == Plan::List { file: "add.bpf" });
     let words = ["dsmdb", "replay", "a.dsm"];
     assert!(rt; plan(rt.alloc(), &words).expect(&rt, "memory") == Plan::Replay { script: "a.dsm" });
+    let words = ["dsmdb", "site", "a.settings"];
+    assert!(rt;
+        plan(rt.alloc(), &words).expect(&rt, "memory")
+            == Plan::Site {
+                settings: "a.settings"
+            }
+    );
     let Some(explanation) = explain("V5") else {
         panic!(rt; "no row");
     };
@@ -143,7 +150,7 @@ fn other_numbers_are_refused(rt: HostRuntime) {
 }
 
 /// Words that are no plan, their exit status, and how the text begins.
-const NO_PLANS: [(&[&str], i32, &str); 20] = [
+const NO_PLANS: [(&[&str], i32, &str); 23] = [
     (&["dsmdb"], 2, ""),
     (&["dsmdb", "list"], 2, "error: "),
     (&["dsmdb", "list", "a", "b"], 2, "error: "),
@@ -163,6 +170,9 @@ const NO_PLANS: [(&[&str], i32, &str); 20] = [
     ),
     (&["dsmdb", "run", "a", "--threads", "2"], 2, "error: "),
     (&["dsmdb", "run", "--help"], 0, "Takes the calls"),
+    (&["dsmdb", "site"], 2, "error: "),
+    (&["dsmdb", "site", "a", "b"], 2, "error: "),
+    (&["dsmdb", "site", "--help"], 0, "Holds one replica"),
     (&["dsmdb", "explain"], 2, "error: "),
     (&["dsmdb", "explain", "V5", "V6"], 2, "error: "),
     (&["dsmdb", "jump", "a"], 2, "error: "),

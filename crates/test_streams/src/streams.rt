@@ -6,10 +6,10 @@ use std::io::{BufRead, ErrorKind, Read, Write};
 
 /// Gives its bytes, so many at a time, and then fails, or ends.
 #[derive(Drop)]
-pub(crate) struct Input<'a> {
-    pub(crate) left: &'a [u8],
-    pub(crate) at_once: usize,
-    pub(crate) fails: bool,
+pub struct Input<'a> {
+    pub left: &'a [u8],
+    pub at_once: usize,
+    pub fails: bool,
 }
 
 impl Read for Input<'_> {
@@ -38,26 +38,26 @@ impl BufRead for Input<'_> {
 
 /// How an output goes on behind its room.
 #[derive(Clone, Copy, PartialEq, Eq)]
-pub(crate) enum Full {
+pub enum Full {
     Fails,
     TakesNothing,
 }
 
 /// Takes so many bytes, so many at a time, and keeps them. Its flush may fail.
 #[derive(Drop)]
-pub(crate) struct Output {
+pub struct Output {
     room: usize,
     at_once: usize,
     full: Full,
-    pub(crate) flushes: bool,
-    pub(crate) held: Vec<u8>,
+    pub flushes: bool,
+    pub held: Vec<u8>,
     /// How often it was written to or flushed after it had failed.
-    pub(crate) after_failure: u32,
+    pub after_failure: u32,
     failed: bool,
 }
 
 impl Output {
-    pub(crate) fn new(alloc: Global, room: usize, at_once: usize, full: Full) -> Output {
+    pub fn new(alloc: Global, room: usize, at_once: usize, full: Full) -> Output {
         Output {
             room,
             at_once,

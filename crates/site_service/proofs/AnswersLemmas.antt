@@ -1,0 +1,68 @@
+-- Answers to lines behind others.
+use Rattle.std.proofs.Common.{◌≡◌, inl, ℕ, List, [], ◌∷◌, ◌++◌, Option, Some, None, Result, Ok, Err, refl, sym, ap, subst, ◌∙◌, append_assoc}
+use Rattle.std.proofs.lemmas.List.{append-nil}
+use Rattle.std.proofs.lemmas.List.Sums.{fold-append}
+use Rattle.script.specs.declared.fault.LineFault.{LineFault}
+use Rattle.site_model.specs.Standing.{SiteSetting}
+use Rattle.site_model.specs.Order.{Order}
+use Rattle.site_lines.specs.Lines.{SiteRequest}
+use Rattle.site_lines.specs.declared.line.SiteLine.TheVariants.{Call, Add, Entry, Rows, Position}
+use Rattle.site_lines.specs.Answers.{fault_line}
+use Rattle.site_answers.specs.Answers.{IsAnswer, IsLineAnswer, order_behind}
+use Rattle.site_service.specs.Answering.{AreAnswers, order_after, says_within_limits}
+
+pub nothing_answered : (s : SiteSetting) (order : Order) → AreAnswers s order [] []
+unfolding AreAnswers
+nothing_answered s order = refl
+
+pub first_answered : (s : SiteSetting) (order : Order) (line : List ℕ) (lines : List (List ℕ)) (here rest : List ℕ)
+    → IsLineAnswer s order (says_within_limits line) here
+    → AreAnswers s (order_behind order (says_within_limits line)) lines rest → AreAnswers s order (line ∷ lines) (here ++ rest)
+unfolding AreAnswers
+first_answered s order line lines here rest answer behind = (here, rest, answer, refl, behind)
+
+-- some lines are answered, and those behind them
+pub answered_behind : (s : SiteSetting) (order : Order) (lines others : List (List ℕ)) (text more : List ℕ)
+    → AreAnswers s order lines text → AreAnswers s (order_after order lines) others more → AreAnswers s order (lines ++ others) (text ++ more)
+unfolding AreAnswers
+answered_behind s order [] others text more none behind = subst (AreAnswers s order others) (ap (λ (t : List ℕ). t ++ more) (sym none)) behind
+answered_behind s order (line ∷ lines) others text more (here, rest, answer, split, then) behind = (
+  here,
+  rest ++ more,
+  answer,
+  ap (λ (t : List ℕ). t ++ more) split ∙ append_assoc here rest more,
+  answered_behind s (order_behind order (says_within_limits line)) lines others rest more then behind,
+)
+
+pub one_more : (s : SiteSetting) (order : Order) (lines : List (List ℕ)) (line : List ℕ) (text here : List ℕ)
+    → AreAnswers s order lines text → IsLineAnswer s (order_after order lines) (says_within_limits line) here
+    → AreAnswers s order (lines ++ line ∷ []) (text ++ here)
+one_more s order lines line text here so_far answer =
+    answered_behind s order lines (line ∷ []) text here so_far
+    (subst (AreAnswers s (order_after order lines) (line ∷ [])) (append-nil here)
+    (first_answered s (order_after order lines) line [] here [] answer (nothing_answered s _)))
+
+pub order_after_one_more : (order : Order) (lines : List (List ℕ)) (line : List ℕ)
+    → order_after order (lines ++ line ∷ []) ≡ order_behind (order_after order lines) (says_within_limits line)
+order_after_one_more order lines line = fold-append (λ so_far l. order_behind so_far (says_within_limits l)) order lines (line ∷ [])
+
+-- ---- whatever is asked there is an answer
+
+can_answer : (s : SiteSetting) (order : Order) (request : SiteRequest) → (text : List ℕ) × IsAnswer s order request text
+can_answer s order (Call name args session sequence) = (_, inl refl)
+can_answer s order (Add name number args_len program) = (_, inl refl)
+can_answer s order (Entry bytes) = (_, refl)
+can_answer s order Rows = (_, refl)
+can_answer s order Position = (_, refl)
+
+can_answer_line : (s : SiteSetting) (order : Order) (says : Result (Option SiteRequest) LineFault) → (text : List ℕ) × IsLineAnswer s order says text
+can_answer_line s order (Ok (Some request)) = can_answer s order request
+can_answer_line s order (Ok None) = ([], refl)
+can_answer_line s order (Err fault) = (fault_line fault, refl)
+
+pub can_answer_lines : (s : SiteSetting) (order : Order) (lines : List (List ℕ)) → (text : List ℕ) × AreAnswers s order lines text
+can_answer_lines s order [] = ([], nothing_answered s order)
+can_answer_lines s order (line ∷ lines) =
+    let here = can_answer_line s order (says_within_limits line) in
+    let rest = can_answer_lines s (order_behind order (says_within_limits line)) lines in
+    (here.0 ++ rest.0, first_answered s order line lines here.0 rest.0 here.1 rest.1)

@@ -1,0 +1,119 @@
+-- How a site ends.
+use Rattle.std.proofs.Common.{◌≡◌, ◌⊎◌, inl, inr, ℕ, ◌+◌, List, [], ◌++◌, Option, Some, None, Result, Ok, Err, IfOk, IfErr, IfSome, refl, sym, ap, subst, ◌∙◌}
+use Rattle.byte_output.specs.Writes.{AppendsBeginning}
+use Rattle.output_sink.proofs.TakenLemmas.{Appends-nothing}
+use Rattle.script_settings.specs.declared.cause.FaultCause.{FaultCause}
+use Rattle.script_settings.specs.declared.cause.FaultCause.TheVariants.{Line, Place, Table, Program, Refused, Procedure, NoMemory}
+use Rattle.script_settings.specs.declared.cause.ScriptFault.{ScriptFault}
+use Rattle.script_stops.specs.declared.stop.Stop.{Stop}
+use Rattle.script_stops.specs.declared.stop.Stop.TheVariants.{Fault, Input, Output}
+use Rattle.script_stops.specs.Said.{IsStopOf}
+use Rattle.script_stops.specs.Telling.{FAILED, SaysEnd, fault_line, status_of_cause}
+use Rattle.site_input.specs.Lines.{lines_of}
+use Rattle.site_model.specs.Standing.{SiteSetting}
+use Rattle.site_service.specs.Answering.{AnswersFirst, AreAnswers, LeavesAnswers, order_after}
+use Rattle.site_service.specs.Leaving.{Leaves, LeavesEnd, LeavesUpTo, StopsAtSettings, TellsFailure, TellsFault}
+use Rattle.site_service.proofs.AnswersLemmas.{nothing_answered, answered_behind, can_answer_lines}
+
+-- ---- before the first line
+
+none_of : (s : SiteSetting) (bytes : List ℕ) (now : Option (List ℕ)) → AnswersFirst s bytes now now 0
+none_of s bytes now = record {
+  lines = [];
+  others = lines_of bytes;
+  split = refl;
+  counted = refl;
+  text = [];
+  answers = nothing_answered s [];
+  written = Appends-nothing now;
+}
+
+pub wants_first : (s : SiteSetting) (bytes : List ℕ) (now : Option (List ℕ)) (number : ℕ) (stop : Stop) → stop ≡ Fault (record { line = number; cause = NoMemory }) → LeavesUpTo s bytes now now stop
+wants_first s bytes now number stop is = subst (LeavesUpTo s bytes now now) (sym is) (refl, (0, inl refl, none_of s bytes now))
+
+-- ---- by the settings
+
+-- they couldn't be read, though they hold
+pub unread : {T : Type 0} (s : SiteSetting) (bytes : List ℕ) (now : Option (List ℕ)) (said : Result SiteSetting ScriptFault) (stop : Stop) (result : Result T Stop)
+    → said ≡ Ok s → IsStopOf said stop → result ≡ Err stop → LeavesEnd s bytes now now result
+unread {T = T} s bytes now said (Fault fault) result holds (inl memory) is = rw is (memory, (0, inl refl, none_of s bytes now))
+unread {T = T} s bytes now said (Fault fault) result holds (inr faulty) is = absurd cc
+unread {T = T} s bytes now said (Input error) result holds why is = rw is (0, none_of s bytes now)
+unread {T = T} s bytes now said (Output error) result holds why is = absurd why
+
+-- they are at fault
+pub refused : {T : Type 0} (said : Result SiteSetting ScriptFault) (fault : ScriptFault) (stop : Stop) (result : Result T Stop)
+    → said ≡ Err fault → IsStopOf said stop → result ≡ Err stop → StopsAtSettings fault result
+refused {T = T} said fault (Fault f) result faulty (inl memory) is = rw is (inl memory)
+refused {T = T} said fault (Fault f) result faulty (inr e) is = rw is (inr cc)
+refused {T = T} said fault (Input error) result faulty why is = rw is tt
+refused {T = T} said fault (Output error) result faulty why is = absurd why
+
+-- ---- the lines
+
+pub by_lines : {T : Type 0} (s t : SiteSetting) (bytes : List ℕ) (old new : Option (List ℕ)) (result : Result T Stop) → s ≡ t → LeavesAnswers s bytes old new result → LeavesEnd t bytes old new result
+by_lines s t bytes old new (Ok x) same h = subst (λ u. LeavesEnd {T = ℕ} u bytes old new (Ok 0)) same h
+by_lines s t bytes old new (Err (Fault fault)) same (memory, before, count, first) =
+    subst (λ u. LeavesEnd {T = ℕ} u bytes old new (Err (Fault fault))) same (memory, (before, inr count, first))
+by_lines s t bytes old new (Err (Input error)) same h = subst (λ u. LeavesEnd {T = ℕ} u bytes old new (Err (Input error))) same h
+by_lines s t bytes old new (Err (Output error)) same h = subst (λ u. LeavesEnd {T = ℕ} u bytes old new (Err (Output error))) same h
+
+-- ---- what is told
+
+pub if_known : (a : Option (List ℕ)) (P : List ℕ → Type 0) → ((bytes : List ℕ) → a ≡ Some bytes → P bytes) → IfSome a P
+if_known None P h = tt
+if_known (Some bytes) P h = h bytes refl
+
+pub if_ok : {X E : Type 0} (r : Result X E) (P : X → Type 0) → ((x : X) → r ≡ Ok x → P x) → IfOk r P
+if_ok (Ok x) P h = h x refl
+if_ok (Err e) P h = tt
+
+pub if_err : {X E : Type 0} (r : Result X E) (P : E → Type 0) → ((e : E) → r ≡ Err e → P e) → IfErr r P
+if_err (Ok x) P h = tt
+if_err (Err e) P h = h e refl
+
+memory_or_not : (cause : FaultCause) (status : ℕ) → status ≡ status_of_cause cause → (status ≡ FAILED) ⊎ (status ≡ 1)
+memory_or_not (Line fault) status e = inr e
+memory_or_not Place status e = inr e
+memory_or_not (Table fault) status e = inr e
+memory_or_not (Program fault) status e = inr e
+memory_or_not (Refused refusal) status e = inr e
+memory_or_not (Procedure fault) status e = inr e
+memory_or_not NoMemory status e = inl e
+
+pub tells_fault : (old_faults new_faults : Option (List ℕ)) (fault : ScriptFault) (stop : Stop) (status : ℕ) → StopsAtSettings {T = ℕ} fault (Err stop) → SaysEnd old_faults new_faults stop status
+    → TellsFault old_faults new_faults status fault
+tells_fault old_faults new_faults fault (Fault f) status (inl memory) (e, said) = inr (e ∙ ap status_of_cause memory)
+tells_fault old_faults new_faults fault (Fault f) status (inr same) (e, said) = by_cases (memory_or_not f.cause status e)
+  where
+    by_cases : (status ≡ FAILED) ⊎ (status ≡ 1) → TellsFault old_faults new_faults status fault
+    by_cases (inl failed) = inr failed
+    by_cases (inr one) = inl (one, subst (λ (x : ScriptFault). AppendsBeginning old_faults new_faults (fault_line x)) same said)
+tells_fault old_faults new_faults fault (Input error) status h (e, said) = inr e
+tells_fault old_faults new_faults fault (Output error) status h (e, said) = absurd h
+
+pub leaves_whole : (s : SiteSetting) (bytes : List ℕ) (old new : Option (List ℕ)) → LeavesEnd {T = ℕ} s bytes old new (Ok 0) → Leaves s bytes old new 0
+leaves_whole s bytes old new (text, answers, written) = (text, answers, inl (refl, written))
+
+-- the answers to the first of the lines are a beginning of those to all
+first_begin : (s : SiteSetting) (bytes : List ℕ) (old new : Option (List ℕ)) (status count : ℕ) → status ≡ FAILED → AnswersFirst s bytes old new count → Leaves s bytes old new status
+first_begin s bytes old new status count failed first =
+    let rest = can_answer_lines s (order_after [] first.lines) first.others in (
+      first.text ++ rest.0,
+      subst (λ ls. AreAnswers s [] ls (first.text ++ rest.0)) (sym first.split)
+          (answered_behind s [] first.lines first.others first.text rest.0 first.answers rest.1),
+      inr (failed, (first.text, rest.0, refl, first.written)),
+    )
+
+pub leaves_some : (s : SiteSetting) (bytes : List ℕ) (old new old_faults new_faults : Option (List ℕ)) (stop : Stop) (status : ℕ) → LeavesUpTo s bytes old new stop → SaysEnd old_faults new_faults stop status
+    → Leaves s bytes old new status
+leaves_some s bytes old new old_faults new_faults (Fault fault) status (memory, (count, which, first)) (e, said) = first_begin s bytes old new status count (e ∙ ap status_of_cause memory) first
+leaves_some s bytes old new old_faults new_faults (Input error) status (count, first) (e, said) = first_begin s bytes old new status count e first
+leaves_some s bytes old new old_faults new_faults (Output error) status (text, answers, wrote) (e, said) = (text, answers, inr (e, wrote))
+
+pub tells_failure : (s : SiteSetting) (bytes : List ℕ) (old new old_faults new_faults : Option (List ℕ)) (stop : Stop) (status : ℕ) → LeavesUpTo s bytes old new stop → SaysEnd old_faults new_faults stop status
+    → TellsFailure s bytes old new old_faults new_faults
+tells_failure s bytes old new old_faults new_faults (Fault fault) status (memory, wants) (e, said) =
+    inr (fault.line, wants, subst (λ (cause : FaultCause). AppendsBeginning old_faults new_faults (fault_line (record { line = fault.line; cause = cause }))) memory said)
+tells_failure s bytes old new old_faults new_faults (Input error) status h (e, said) = inl said
+tells_failure s bytes old new old_faults new_faults (Output error) status h (e, said) = inl said

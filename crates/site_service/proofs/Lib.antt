@@ -1,0 +1,3 @@
+mod AnswersLemmas
+mod LinesLemmas
+mod EndLemmas

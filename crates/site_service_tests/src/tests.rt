@@ -1,0 +1,7 @@
+//! What is tested of a site's program.
+
+mod answers;
+mod failures;
+mod hostile;
+mod runs;
+mod settings;

@@ -1,0 +1,55 @@
+//! Sites that are run.
+
+use crate::stories::Story;
+use site_service::site_over;
+use std::alloc::{AllocError, Allocator, Global};
+
+/// Lines, each with an LF.
+pub(crate) fn joined(alloc: Global, lines: &[&str]) -> Result<Vec<u8>, AllocError> {
+    let mut text = Vec::new(alloc);
+    for line in lines {
+        text.extend_from_slice(line.as_bytes())?;
+        text.extend_from_slice(b"\n")?;
+    }
+    Ok(text)
+}
+
+/// How a site ended: its status, what it answered, and what is said of faults.
+#[derive(Drop)]
+pub(crate) struct Ended {
+    pub(crate) status: u8,
+    pub(crate) answers: Vec<u8>,
+    pub(crate) faults: Vec<u8>,
+}
+
+/// A site that has these settings and this input.
+pub(crate) fn run_site<A: Allocator + Copy>(
+    alloc: A,
+    global: Global,
+    settings: &[u8],
+    input: &[u8],
+) -> Ended {
+    let mut settings = settings;
+    let mut input = input;
+    let mut answers = Vec::new(global);
+    let mut faults = Vec::new(global);
+    let status = site_over(alloc, &mut settings, &mut input, &mut answers, &mut faults);
+    Ended {
+        status,
+        answers,
+        faults,
+    }
+}
+
+/// Whether a site answers its lines as a story says, and says nothing of faults.
+pub(crate) fn tells(alloc: Global, story: &Story) -> Result<bool, AllocError> {
+    let settings = joined(alloc, story.settings)?;
+    let input = joined(alloc, story.lines)?;
+    let answers = joined(alloc, story.answers)?;
+    let ended = run_site(alloc, alloc, &settings, &input);
+    Ok(
+        ended.status == 0
+            && ended.faults.is_empty()
+            && ended.answers.as_slice() == answers.as_slice(),
+    )
+}
