@@ -29,8 +29,8 @@ LISTING = """\
 """
 
 # Words, with one space between them; the exit status; what is printed: the whole text, or pieces of it; how the fault
-# begins, or nothing of one; which stream is the device that takes no byte; whether somebody watches the faults.
-Row = collections.namedtuple("Row", "words status output fault full watched", defaults=["", "", "", False])
+# begins, or nothing of one; which stream is the device that takes no byte; whether somebody watches the faults; the input.
+Row = collections.namedtuple("Row", "words status output fault full watched given", defaults=["", "", "", False, ""])
 
 PROGRAMS = {
     "wide.bpf": "1800000001000000 0000000002000000 9500000000000000",
@@ -46,6 +46,7 @@ SCRIPTS = {
     "fault.dsm": "window 4\nreplicas 2\ndeliver 1 1\njump 1\ndeliver 2 1\n",
     "early.dsm": "deliver 1 1\n",
     "refused.dsm": "window 4\nreplicas 2\ntable 1 8\nproc x 1 0 9500000000000000\n",
+    "site.settings": "window 4\ntable 1 8\nadditions\n",
     "long.dsm": "window 4\nreplicas 2\n" + 2_500 * "begin 1 x 00\n",
 }
 
@@ -94,12 +95,22 @@ RUNS = [
     Row("run long.dsm", 0, LONG, "dsmdb: made 1000 of 2500 calls\r\ndsmdb: made 2000 of 2500 calls\r\n", watched=True),
     Row("run settings.dsm", 0, NONE_CALLED, watched=True),
 ]
+# A site answers each line of its input; what has no LF at its end is none.
+SITES = [
+    Row("site site.settings", 0),
+    Row("site site.settings", 0, "position 0\nfault L2\nposition 0 rows 0\n", given="position\njump\n# none\nrows\nposition"),
+    Row("site site.settings", 0, "entry 1 nothing E1\nposition 1\n", given="entry -\nposition\n"),
+    Row("site settings.dsm", 1, "", "line 3: L5\n", given="position\n"),
+    Row("site nothing", 1, "", "line 0: L5\n", given="position\n"),
+    Row("site fault.dsm", 1, "", "line 2: L5\n"),
+    Row("site zero.dsm", 1, "", "line 1: L4\n"),
+]
 # The words are read first, then the file is opened, then the schema is made, and then the program is read: a folder can
 # be opened, and not read.
 FILES = [
-    *[Row(words, 3, "", "dsmdb: missing: ") for words in ("list missing", "check missing 16", "replay missing", "run missing")],
-    *[Row(words, 3, "", "dsmdb: secret: ") for words in ("list secret", "check secret 16", "replay secret", "run secret")],
-    *[Row(words, 3, "", "dsmdb: ") for words in ("list folder", "check folder 16", "replay folder", "run folder")],
+    *[Row(words, 3, "", "dsmdb: missing: ") for words in ("list missing", "check missing 16", "replay missing", "run missing", "site missing")],
+    *[Row(words, 3, "", "dsmdb: secret: ") for words in ("list secret", "check secret 16", "replay secret", "run secret", "site secret")],
+    *[Row(words, 3, "", "dsmdb: ") for words in ("list folder", "check folder 16", "replay folder", "run folder", "site folder")],
     Row("list ", 3, "", "dsmdb: "),
     Row("check missing 257", 2, "", ARGS),
     Row("check missing 16 1:129", 2, "", TABLE),
@@ -115,15 +126,16 @@ WORDS = [
     *[Row(f"explain {it}", 2, "", NUMBER) for it in ("V13", "v5", "V05", "V0", "5", "")],
     *[Row(it, 2, "", "error: ") for it in (
         None, "", "jump", "--jump", "list", "list add.bpf b", "check", "check add.bpf", "check add.bpf -1",
-        "replay", "replay settings.dsm b", "run", "run settings.dsm b", "run settings.dsm --executors", "explain", "explain V5 V6", "list --jump")],
+        "replay", "replay settings.dsm b", "run", "run settings.dsm b", "run settings.dsm --executors", "site", "site site.settings b", "explain", "explain V5 V6", "list --jump")],
 ]
 FULL = [
     *[Row(it, 3, "", "dsmdb: ", "output") for it in (
         "list wide.bpf", "list cut.bpf", "check add.bpf 16 1:8", "check add.bpf 8 1:8", "replay two-replicas.dsm",
         "run settings.dsm", "explain V5", "--help", "list --help", "--version")],
+    Row("site site.settings", 3, "", "dsmdb: ", "output", given="position\n"),
     # A fault that can't be said changes neither output nor status.
     *[it._replace(fault="", full="faults", watched=False) for it in (
-        LISTS[0], CHECKS[3], *REPLAYS, *RUNS, *FILES,
+        LISTS[0], CHECKS[3], *REPLAYS, *RUNS, *SITES, *FILES,
         Row("check add.bpf 257", 2), Row("explain V13", 2), Row(None, 2), Row("jump", 2), Row("list", 2))],
 ]
 
@@ -133,8 +145,10 @@ def asked():
     version = re.search(r"^## (\S+)", workspace.read("docs/CHANGES.md").decode(), re.M)[1]
     scripts = workspace.read("docs/FORMATS.md").decode().split("\n## Scripts\n")[1].split("\n## ")[0]
     script_words = re.findall(r"^\| `([a-z]+)\b", scripts, re.M)
+    lines = workspace.read("docs/FORMATS.md").decode().split("\n## The lines of a site\n")[1].split("\n## ")[0]
+    site_words = [*re.findall(r"^\| `([a-z]+)\b", lines, re.M), "additions"]
     pieces = {"list": ("FILE",), "check": ("FILE", "ARGS", "T:W"), "replay": ("SCRIPT", *script_words),
-              "run": ("SCRIPT", "--executors", "--log"), "explain": ("NUMBER",)}
+              "run": ("SCRIPT", "--executors", "--log"), "site": ("SETTINGS", *site_words), "explain": ("NUMBER",)}
     explained = [Row(f"explain {it['Number']}", 0, tuple(filter(None, it.values()))) for it in rows_of_refusals()]
     helped = [Row(f"{it} --help", 0, (f"dsmdb {it}", *words)) for it, words in pieces.items()]
     return [Row("--help", 0, tuple(pieces)), *helped, Row("--version", 0, f"dsmdb {version}\n"), *explained]
@@ -150,7 +164,7 @@ def rows():
         replayed = Row("replay two-replicas.dsm", 0, file.read())
     with open(f"{workspace.ROOT}/examples/two-replicas-run.out") as file:
         called = Row("run two-replicas-run.dsm --executors 1 --log 1", 0, file.read())
-    return [*LISTS, *CHECKS, replayed, *REPLAYS, called, *RUNS, *FILES, *WORDS, *asked(), *FULL]
+    return [*LISTS, *CHECKS, replayed, *REPLAYS, called, *RUNS, *SITES, *FILES, *WORDS, *asked(), *FULL]
 
 
 def furnish(room, program):
@@ -181,7 +195,7 @@ def ran(room, row, faults=subprocess.PIPE):
     words = [] if row.words is None else row.words.split(" ")
     with open("/dev/full", "wb") as full:
         return subprocess.run(
-            [f"{room}/dsmdb", *words], cwd=room, env={}, stdin=subprocess.DEVNULL, timeout=60,
+            [f"{room}/dsmdb", *words], cwd=room, env={}, input=row.given.encode(), timeout=60,
             stdout=full if row.full == "output" else subprocess.PIPE,
             stderr=full if row.full == "faults" else faults,
             preexec_fn=become_nobody if os.geteuid() == 0 else None)

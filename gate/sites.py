@@ -1,13 +1,13 @@
-"""Tests of the bridges of sites (sdk/site). The program has no site yet, so they are around the plain one."""
+"""Tests of the bridges of sites (sdk/site), around the program."""
 import re
 import subprocess
 
 import workspace
 
 
-def run(_program):
+def run(program):
     """Runs the tests. Returns how many passed, and how many did not."""
-    words = [f"{workspace.ROOT}/sdk/site/tests/run", "--plain"]
+    words = [f"{workspace.ROOT}/sdk/site/tests/run", "--engine", program]
     tests = subprocess.Popen(words, stdout=subprocess.PIPE, text=True)
     ending = None
     for line in tests.stdout:
