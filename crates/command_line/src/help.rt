@@ -1,4 +1,4 @@
-//! What `dsmdb replay --help` and `dsmdb run --help` say of scripts.
+//! What `--help` says of the lines of scripts and of sites.
 
 /// The lines of a script and what they print, as docs/FORMATS.md explains them.
 pub const SCRIPT_HELP: &str = "\
@@ -130,6 +130,7 @@ next is waited for; empty lines, and those that begin with #, are not answered.
                                     procedure (E4), or one whose own run
                                     doesn't give these bytes (E5)
     Behind that of a call stands  session S seq Q, where it has a request.
+    fault O1                        the order is full; nothing was taken in
   call NAME HEX SESSION SEQ
                            a call runs on the rows at the last position; 0 0 is
                            no request. Nothing changes
@@ -151,10 +152,11 @@ next is waited for; empty lines, and those that begin with #, are not answered.
   position                 how far it has come
     position P
 
-A line at fault is answered fault L1 to fault L4, and nothing changes. One has
-at most 1048576 bytes; what has no LF at its end is none. HEX, SESSION and SEQ
-are as in scripts. docs/REFUSALS.md explains the numbers, docs/SITES.md how
-several sites share an order.
+A line at fault is answered fault L1 to fault L4, and nothing changes. A line
+has at most 1048576 bytes: one that is longer is passed over, and answered
+fault L1. What has no LF at its end is none. HEX is as in scripts, SESSION and
+SEQ are decimal and may be 0. docs/REFUSALS.md explains the numbers,
+docs/SITES.md how several sites share an order.
 
 Settings at fault end it before it reads its input, as line 4: L5 on standard
 error. Exit status: 0 its input ended, 1 settings at fault, 2 a command line

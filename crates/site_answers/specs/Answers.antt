@@ -38,10 +38,10 @@ entry_answer s order bytes =
     if length order == MAX_POSITION then order_full_line
     else entry_line (length order + 1) (next_outcome s order bytes) (request_in (head_of bytes))
 
--- each row in the order of tables and keys, and how many there are
 abbrev pub row_text : (Key × List ℕ) → List ℕ
 row_text row = row_line row.0.0 row.0.1 row.1
 
+-- each row, in the order of tables and keys, and how many there are
 abbrev pub rows_text : ℕ → List (Key × List ℕ) → List ℕ
 rows_text position rows = concat (map row_text rows) ++ row_count_line position (length rows)
 

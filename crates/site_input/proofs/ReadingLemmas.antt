@@ -8,17 +8,17 @@ use Rattle.script.specs.Reading.{HasNoLf}
 use Rattle.site_input.specs.declared.input.TheConstants.{MAX_SITE_LINE}
 use Rattle.site_input.specs.declared.input.Piece.TheVariants as piece
 use Rattle.site_input.specs.declared.input.NextLine.TheVariants as next
-use Rattle.site_input.specs.Lines.{in_front, lines_of, kept_of, IsPiece, IsNextLine}
+use Rattle.site_input.specs.Lines.{in_front, whole_lines, kept_of, IsPiece, IsNextLine}
 
-passes : (b : ℕ) (rest : List ℕ) → b ≢ 10 → lines_of (b ∷ rest) ≡ in_front b (lines_of rest)
-passes b rest ne = ap (λ (t : Bool). cond t ([] ∷ lines_of rest) (in_front b (lines_of rest))) (ne_eqb b 10 ne)
+passes : (b : ℕ) (rest : List ℕ) → b ≢ 10 → whole_lines (b ∷ rest) ≡ in_front b (whole_lines rest)
+passes b rest ne = ap (λ (t : Bool). cond t ([] ∷ whole_lines rest) (in_front b (whole_lines rest))) (ne_eqb b 10 ne)
 
-ended : (p rest : List ℕ) → HasNoLf p → lines_of (p ++ (10 ∷ rest)) ≡ p ∷ lines_of rest
+ended : (p rest : List ℕ) → HasNoLf p → whole_lines (p ++ (10 ∷ rest)) ≡ p ∷ whole_lines rest
 ended [] rest none = refl
 ended (b ∷ p) rest none =
     passes b (p ++ (10 ∷ rest)) (All-head (λ (x : ℕ). x ≢ 10) b p none) ∙ ap (in_front b) (ended p rest (All-tail (λ (x : ℕ). x ≢ 10) b p none))
 
-not_ended : (p : List ℕ) → HasNoLf p → lines_of p ≡ []
+not_ended : (p : List ℕ) → HasNoLf p → whole_lines p ≡ []
 not_ended [] none = refl
 not_ended (b ∷ p) none =
     passes b p (All-head (λ (x : ℕ). x ≢ 10) b p none) ∙ ap (in_front b) (not_ended p (All-tail (λ (x : ℕ). x ≢ 10) b p none))
@@ -119,7 +119,7 @@ ends bytes line after left new so_far (p, more, e, is, clean, kept) short =
     let same : after ≡ whole = now ∙ take_all (MAX_SITE_LINE + 1) whole less in (
       more,
       is,
-      ap lines_of (moved bytes so_far.front so_far.rest p (10 ∷ more) so_far.split e) ∙ ended whole more (joined so_far.front p so_far.clean clean) ∙ ap (λ (t : List ℕ). t ∷ lines_of more) (sym same),
+      ap whole_lines (moved bytes so_far.front so_far.rest p (10 ∷ more) so_far.split e) ∙ ended whole more (joined so_far.front p so_far.clean clean) ∙ ap (λ (t : List ℕ). t ∷ whole_lines more) (sym same),
       short,
     )
 
@@ -132,10 +132,10 @@ ends_long bytes line after left new so_far (p, more, e, is, clean, kept) long =
       whole,
       more,
       is,
-      ap lines_of (moved bytes so_far.front so_far.rest p (10 ∷ more) so_far.split e) ∙ ended whole more (joined so_far.front p so_far.clean clean),
+      ap whole_lines (moved bytes so_far.front so_far.rest p (10 ∷ more) so_far.split e) ∙ ended whole more (joined so_far.front p so_far.clean clean),
       omega (arith, over),
     )
 
 pub ends_nowhere : (bytes line after : List ℕ) (left new : Option (List ℕ)) (so_far : Partly bytes left line) → IsPiece so_far.rest new line after piece.AtEnd → IsNextLine bytes new after next.AtEnd
 ends_nowhere bytes line after left new so_far none =
-    ap lines_of (so_far.split ∙ ap (λ (t : List ℕ). so_far.front ++ t) none ∙ append-nil so_far.front) ∙ not_ended so_far.front so_far.clean
+    ap whole_lines (so_far.split ∙ ap (λ (t : List ℕ). so_far.front ++ t) none ∙ append-nil so_far.front) ∙ not_ended so_far.front so_far.clean

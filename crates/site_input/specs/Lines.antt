@@ -12,16 +12,16 @@ abbrev pub in_front : ℕ → List (List ℕ) → List (List ℕ)
 in_front b [] = []
 in_front b (line ∷ lines) = (b ∷ line) ∷ lines
 
--- the lines: what stands before each LF. What stands behind the last LF is none
-abbrev pub lines_of : List ℕ → List (List ℕ)
-lines_of [] = []
-lines_of (b ∷ bytes) = if b == 10 then [] ∷ lines_of bytes else in_front b (lines_of bytes)
+-- what stands before each LF. What stands behind the last LF is no line
+abbrev pub whole_lines : List ℕ → List (List ℕ)
+whole_lines [] = []
+whole_lines (b ∷ bytes) = if b == 10 then [] ∷ whole_lines bytes else in_front b (whole_lines bytes)
 
--- what one look at the input did: it had these bytes and has those left. Of a line no more is kept than tells that it is
--- too long
+-- of a line no more is kept than tells that it is too long
 abbrev pub kept_of : List ℕ → List ℕ
 kept_of line = take (MAX_SITE_LINE + 1) line
 
+-- what one look at the input did: it had these bytes and has those left
 abbrev pub IsPiece : List ℕ → Option (List ℕ) → List ℕ → List ℕ → Piece → Type 0
 IsPiece bytes left before after piece.More =
     (p rest : List ℕ) × (bytes ≡ p ++ rest) × (left ≡ Some rest) × HasNoLf p × (after ≡ kept_of (before ++ p))
@@ -32,7 +32,7 @@ IsPiece bytes left before after piece.AtEnd = bytes ≡ []
 -- the first of the lines, and what is left behind it; or that it is too long; or that there is none
 abbrev pub IsNextLine : List ℕ → Option (List ℕ) → List ℕ → NextLine → Type 0
 IsNextLine bytes left line next.Line =
-    (rest : List ℕ) × (left ≡ Some rest) × (lines_of bytes ≡ line ∷ lines_of rest) × (length line ≤ MAX_SITE_LINE)
+    (rest : List ℕ) × (left ≡ Some rest) × (whole_lines bytes ≡ line ∷ whole_lines rest) × (length line ≤ MAX_SITE_LINE)
 IsNextLine bytes left line next.TooLong =
-    (long rest : List ℕ) × (left ≡ Some rest) × (lines_of bytes ≡ long ∷ lines_of rest) × (MAX_SITE_LINE < length long)
-IsNextLine bytes left line next.AtEnd = lines_of bytes ≡ []
+    (long rest : List ℕ) × (left ≡ Some rest) × (whole_lines bytes ≡ long ∷ whole_lines rest) × (MAX_SITE_LINE < length long)
+IsNextLine bytes left line next.AtEnd = whole_lines bytes ≡ []

@@ -6,8 +6,8 @@ use Rattle.site_model.specs.Standing.{SiteSetting, executed}
 use Rattle.site_model.specs.Order.{Order, order_log}
 use Rattle.site_model.specs.Answer.{Asked, asked_call}
 
--- the procedure that is asked for has a number of its own, and the numbers and lengths of the call fit their fields: so it
--- is at each site, by the types of what it keeps
+-- the procedure that is asked for has a number of its own, and the numbers and lengths of the call fit their fields; what
+-- a site keeps is of types that say so, but no clause does
 pub record IsAskedOf (s : SiteSetting) (order : Order) (asked : Asked) : Type 0 where
   pub procedure : StoredProcedure
   pub named : by_name (procedures_after s.setting (order_log s order) (length order)) asked.name ≡ Some procedure

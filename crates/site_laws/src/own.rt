@@ -20,7 +20,8 @@ use crate::laws::beginnings_have_the_same_entries;
 use entry_heads::entries_have_their_heads;
 use site_model::orders_grow;
 
-/// The bytes that a call was answered behind an order, to be ordered, aren't nothing wherever that order goes on.
+/// The bytes that a call was answered behind an order, to be ordered, aren't nothing wherever that order goes on, where
+/// the procedure has a number of its own and the call's numbers and lengths fit their fields (`IsAskedOf`).
 pub fn own_calls_are_not_nothing()
     ensures { (s : SiteSetting) (order more : Order) (asked : Asked) (bytes : List ℕ) (cause : NothingCause)
         → IsAskedOf s order asked → call_answer s order asked ≡ Submitted bytes
@@ -32,7 +33,7 @@ pub fn own_calls_are_not_nothing()
 }
 
 /// The bytes that an addition was answered, to be ordered, aren't nothing behind any order, where its program is spelled
-/// by the bytes that it was read from, as a program that is decoded is.
+/// by the bytes that it was read from, as a program that is decoded is, and its numbers and lengths fit their fields.
 pub fn own_additions_are_not_nothing()
     ensures { (s : SiteSetting) (order : Order) (p : NamedProcedure) (program : Program) (bytes : List ℕ)
         (cause : NothingCause)

@@ -9,7 +9,7 @@ use Rattle.script_stops.specs.declared.stop.Stop.{Stop}
 use Rattle.script_stops.specs.declared.stop.Stop.TheVariants.{Fault, Input, Output}
 use Rattle.script_stops.specs.Said.{IsStopOf}
 use Rattle.script_stops.specs.Telling.{FAILED, SaysEnd, fault_line, status_of_cause}
-use Rattle.site_input.specs.Lines.{lines_of}
+use Rattle.site_input.specs.Lines.{whole_lines}
 use Rattle.site_model.specs.Standing.{SiteSetting}
 use Rattle.site_service.specs.Answering.{AnswersFirst, AreAnswers, LeavesAnswers, order_after}
 use Rattle.site_service.specs.Leaving.{Leaves, LeavesEnd, LeavesUpTo, StopsAtSettings, TellsFailure, TellsFault}
@@ -20,7 +20,7 @@ use Rattle.site_service.proofs.AnswersLemmas.{nothing_answered, answered_behind,
 none_of : (s : SiteSetting) (bytes : List ℕ) (now : Option (List ℕ)) → AnswersFirst s bytes now now 0
 none_of s bytes now = record {
   lines = [];
-  others = lines_of bytes;
+  others = whole_lines bytes;
   split = refl;
   counted = refl;
   text = [];

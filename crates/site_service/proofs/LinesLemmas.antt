@@ -10,7 +10,7 @@ use Rattle.script_settings.specs.declared.cause.FaultCause.TheVariants.{NoMemory
 use Rattle.script_stops.specs.declared.stop.Stop.{Stop}
 use Rattle.script_stops.specs.declared.stop.Stop.TheVariants.{Fault, Input, Output}
 use Rattle.site_input.specs.declared.input.NextLine.TheVariants as next
-use Rattle.site_input.specs.Lines.{IsNextLine, lines_of}
+use Rattle.site_input.specs.Lines.{IsNextLine, whole_lines}
 use Rattle.site_lines.specs.Answers.{fault_line}
 use Rattle.site_model.specs.Standing.{SiteSetting}
 use Rattle.site_model.specs.Order.{Order}
@@ -28,7 +28,7 @@ pub record SoFar (s : SiteSetting) (bytes : List ℕ) (left old new : Option (Li
   pub before : List (List ℕ)
   pub rest : List ℕ
   pub known : left ≡ Some rest
-  pub split : lines_of bytes ≡ before ++ lines_of rest
+  pub split : whole_lines bytes ≡ before ++ whole_lines rest
   pub count : length before + 1 ≡ number
   pub text : List ℕ
   pub answers : AreAnswers s [] before text
@@ -53,18 +53,18 @@ module _ (s : SiteSetting) (bytes : List ℕ) (left old mid new : Option (List �
   order = order_after [] so_far.before
 
   -- the lines with one more of those that are left
-  moved : (line : List ℕ) (more : List (List ℕ)) → lines_of so_far.rest ≡ line ∷ more → lines_of bytes ≡ so_far.before ++ line ∷ more
+  moved : (line : List ℕ) (more : List (List ℕ)) → whole_lines so_far.rest ≡ line ∷ more → whole_lines bytes ≡ so_far.before ++ line ∷ more
   moved line more first = so_far.split ∙ ap (λ (t : List (List ℕ)). so_far.before ++ t) first
 
   -- one more was answered
-  pub goes_on : (line rest : List ℕ) (now : Option (List ℕ)) (next : SiteReplica) → now ≡ Some rest → lines_of so_far.rest ≡ line ∷ lines_of rest
+  pub goes_on : (line rest : List ℕ) (now : Option (List ℕ)) (next : SiteReplica) → now ≡ Some rest → whole_lines so_far.rest ≡ line ∷ whole_lines rest
       → (text : List ℕ) → IsLineAnswer s order (says_within_limits line) text → Appends mid new text
       → StandsForOrder next (order_behind order (says_within_limits line)) → SoFar s bytes now old new next (number + 1)
   goes_on line rest now next known first text answer wrote stands = record {
     before = so_far.before ++ line ∷ [];
     rest = rest;
     known = known;
-    split = moved line (lines_of rest) first ∙ sym (append_assoc so_far.before (line ∷ []) (lines_of rest));
+    split = moved line (whole_lines rest) first ∙ sym (append_assoc so_far.before (line ∷ []) (whole_lines rest));
     count = omega (arith, length-append so_far.before (line ∷ []), so_far.count);
     text = so_far.text ++ text;
     answers = one_more s [] so_far.before line so_far.text text so_far.answers answer;
@@ -73,14 +73,14 @@ module _ (s : SiteSetting) (bytes : List ℕ) (left old mid new : Option (List �
   }
 
   -- all were
-  pub ends : lines_of so_far.rest ≡ [] → (text : List ℕ) × AreAllAnswers s bytes text × Appends old mid text
+  pub ends : whole_lines so_far.rest ≡ [] → (text : List ℕ) × AreAllAnswers s bytes text × Appends old mid text
   ends none = (so_far.text, subst (λ ls. AreAnswers s [] ls so_far.text) (sym (so_far.split ∙ ap (λ (t : List (List ℕ)). so_far.before ++ t) none ∙ append-nil so_far.before)) so_far.answers, so_far.written)
 
   -- no more was written
   pub first_ones : (now : Option (List ℕ)) → Appends mid now [] → (count : ℕ) → length so_far.before ≡ count → AnswersFirst s bytes old now count
   first_ones now same count is = record {
     lines = so_far.before;
-    others = lines_of so_far.rest;
+    others = whole_lines so_far.rest;
     split = so_far.split;
     counted = is;
     text = so_far.text;
@@ -92,7 +92,7 @@ module _ (s : SiteSetting) (bytes : List ℕ) (left old mid new : Option (List �
   nothing_more = first_ones mid (Appends-nothing mid) (length so_far.before) refl
 
   -- the output failed at the next line
-  pub breaks : (line : List ℕ) (more : List (List ℕ)) → lines_of so_far.rest ≡ line ∷ more
+  pub breaks : (line : List ℕ) (more : List (List ℕ)) → whole_lines so_far.rest ≡ line ∷ more
       → (text : List ℕ) → IsLineAnswer s order (says_within_limits line) text → AppendsBeginning mid new text
       → (all : List ℕ) × AreAllAnswers s bytes all × AppendsBeginning old new all
   breaks line more first text answer wrote =
@@ -168,7 +168,7 @@ line_stops_by : (s : SiteSetting) (order : Order) (bytes : List ℕ) (left : Opt
     → GivesAnswer s order (says_within_limits line) number old new (Err stop) → GivesNext s order bytes left number old new (Err stop)
 line_stops_by s _ bytes left number old new line (Fault fault) is given = given
 line_stops_by s _ bytes left number old new line (Input error) is given = absurd given
-line_stops_by s _ bytes left number old new line (Output error) (rest, known, first, short) (text, answer, wrote) = (line, lines_of rest, first, text, answer, wrote)
+line_stops_by s _ bytes left number old new line (Output error) (rest, known, first, short) (text, answer, wrote) = (line, whole_lines rest, first, text, answer, wrote)
 
 pub line_stops : (s : SiteSetting) (order : Order) (bytes : List ℕ) (left : Option (List ℕ)) (number : ℕ) (old new : Option (List ℕ)) (line shown : List ℕ) (stop passed : Stop) (result : Result (Option SiteReplica) Stop) → IsNextLine bytes left line next.Line → shown ≡ line
     → GivesAnswer s order (line_says shown) number old new (Err stop) → result ≡ Err passed → passed ≡ stop → GivesNext s order bytes left number old new result
@@ -189,7 +189,7 @@ long_stops_by : (s : SiteSetting) (order : Order) (bytes : List ℕ) (left : Opt
     → AppendsBeginning old new (fault_line Bytes) → GivesNext s order bytes left number old new (Err stop)
 long_stops_by s _ bytes left number old new line (Fault fault) is why wrote = absurd why
 long_stops_by s _ bytes left number old new line (Input error) is why wrote = absurd why
-long_stops_by s order bytes left number old new line (Output error) (long, rest, known, first, is) why wrote = (long, lines_of rest, first, fault_line Bytes, long_answer s order long is, wrote)
+long_stops_by s order bytes left number old new line (Output error) (long, rest, known, first, is) why wrote = (long, whole_lines rest, first, fault_line Bytes, long_answer s order long is, wrote)
 
 pub long_stops : (s : SiteSetting) (order : Order) (bytes : List ℕ) (left : Option (List ℕ)) (number : ℕ) (old new : Option (List ℕ)) (line : List ℕ) (stop passed : Stop) (result : Result (Option SiteReplica) Stop) → IsNextLine bytes left line next.TooLong
     → IsOutputStop stop → AppendsBeginning old new (fault_line Bytes) → result ≡ Err passed → passed ≡ stop → GivesNext s order bytes left number old new result

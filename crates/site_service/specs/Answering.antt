@@ -11,7 +11,7 @@ use Rattle.script_settings.specs.declared.cause.FaultCause.TheVariants.{NoMemory
 use Rattle.script_stops.specs.declared.stop.Stop.{Stop}
 use Rattle.script_stops.specs.declared.stop.Stop.TheVariants.{Fault, Input, Output}
 use Rattle.site_input.specs.declared.input.TheConstants.{MAX_SITE_LINE}
-use Rattle.site_input.specs.Lines.{lines_of}
+use Rattle.site_input.specs.Lines.{whole_lines}
 use Rattle.site_model.specs.Standing.{SiteSetting}
 use Rattle.site_model.specs.Order.{Order}
 use Rattle.site_replica.specs.Replica.{SiteReplica, StandsForOrder}
@@ -35,7 +35,7 @@ AreAnswers s order (line ∷ lines) text =
 
 -- to all of the lines of an input of these bytes
 abbrev pub AreAllAnswers : SiteSetting → List ℕ → List ℕ → Type 0
-AreAllAnswers s bytes text = AreAnswers s [] (lines_of bytes) text
+AreAllAnswers s bytes text = AreAnswers s [] (whole_lines bytes) text
 
 -- ---- what is written
 
@@ -43,7 +43,7 @@ AreAllAnswers s bytes text = AreAnswers s [] (lines_of bytes) text
 pub record AnswersFirst (s : SiteSetting) (bytes : List ℕ) (old new : Option (List ℕ)) (count : ℕ) : Type 0 where
   pub lines : List (List ℕ)
   pub others : List (List ℕ)
-  pub split : lines_of bytes ≡ lines ++ others
+  pub split : whole_lines bytes ≡ lines ++ others
   pub counted : length lines ≡ count
   pub text : List ℕ
   pub answers : AreAnswers s [] lines text
@@ -91,13 +91,13 @@ IsOutputStop stop = ⊥
 abbrev pub GivesNext : SiteSetting → Order → List ℕ → Option (List ℕ) → ℕ → Option (List ℕ) → Option (List ℕ)
     → Result (Option SiteReplica) Stop → Type 0
 GivesNext s order bytes left number old new (Ok (Some next)) =
-    (line rest : List ℕ) × (left ≡ Some rest) × (lines_of bytes ≡ line ∷ lines_of rest)
+    (line rest : List ℕ) × (left ≡ Some rest) × (whole_lines bytes ≡ line ∷ whole_lines rest)
     × (text : List ℕ) × IsLineAnswer s order (says_within_limits line) text × Appends old new text
     × StandsForOrder next (order_behind order (says_within_limits line))
-GivesNext s order bytes left number old new (Ok None) = (lines_of bytes ≡ []) × Appends old new []
+GivesNext s order bytes left number old new (Ok None) = (whole_lines bytes ≡ []) × Appends old new []
 GivesNext s order bytes left number old new (Err (Fault fault)) =
     (fault.line ≡ number) × (fault.cause ≡ NoMemory) × Appends old new []
 GivesNext s order bytes left number old new (Err (Input error)) = Appends old new []
 GivesNext s order bytes left number old new (Err (Output error)) =
-    (line : List ℕ) × (more : List (List ℕ)) × (lines_of bytes ≡ line ∷ more)
+    (line : List ℕ) × (more : List (List ℕ)) × (whole_lines bytes ≡ line ∷ more)
     × (text : List ℕ) × IsLineAnswer s order (says_within_limits line) text × AppendsBeginning old new text

@@ -18,8 +18,8 @@ abbrev pub Leaves : SiteSetting → List ℕ → Option (List ℕ) → Option (L
 Leaves s bytes old new status = (text : List ℕ) × AreAllAnswers s bytes text
     × (((status ≡ 0) × Appends old new text) ⊎ ((status ≡ FAILED) × AppendsBeginning old new text))
 
--- memory was wanting at a line of this number: of the settings, before anything was answered, or of the input, when all
--- lines before it were, and no more was written
+-- memory was wanting at a line of the input with this number, when all lines before it were answered and no more was
+-- written; or before any was, when nothing was
 abbrev pub WantsAt : SiteSetting → List ℕ → Option (List ℕ) → Option (List ℕ) → ℕ → Type 0
 WantsAt s bytes old new number =
     (count : ℕ) × ((count ≡ 0) ⊎ (count + 1 ≡ number)) × AnswersFirst s bytes old new count

@@ -37,8 +37,8 @@ pub fn site_over<A: Allocator + Copy, S: BufRead, R: BufRead, W: Write, E: Write
     ensures answered { IfSome (S.remaining settings.old) (λ said. IfOk (settings_say said)
         (λ s. IfSome (R.remaining input.old)
         (λ bytes. Leaves s bytes (W.contents output.old) (W.contents output.new) result))) }
-    // Where memory was wanting at a line, that line is told, and what was written are the answers to those before it.
-    // Else a stream failed, and that is told.
+    // Where memory was wanting at a line of the input, that line is told, and what was written are the answers to those
+    // before it; or it was wanting before, and nothing was written. Else a stream failed, and that is told.
     ensures failed { result ≡ FAILED → IfSome (S.remaining settings.old) (λ said. IfOk (settings_say said)
         (λ s. IfSome (R.remaining input.old) (λ bytes. TellsFailure s bytes (W.contents output.old)
         (W.contents output.new) (E.contents faults.old) (E.contents faults.new)))) }

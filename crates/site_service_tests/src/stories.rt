@@ -77,7 +77,7 @@ const ONCE: Story = Story {
     ],
 };
 
-/// Two calls of one row, of which each site had run one: the second conflicts, at both.
+/// Two calls of one row, of which this site has run the second: it conflicts.
 const CONFLICT: Story = Story {
     settings: &SETTINGS,
     lines: &[
@@ -94,6 +94,27 @@ const CONFLICT: Story = Story {
         0500000000000000070000000000000000000000070000000000000001000105000000000000000500000000\
         00000001000105000000000000000107\
         00000000000000",
+        COMMITTED,
+        "entry 2 conflict 1 session 8 seq 1",
+        " 1                    5 0a00000000000000",
+        "position 2 rows 1",
+    ],
+};
+
+/// The same at the site that has run the first.
+const CONFLICT_ELSEWHERE: Story = Story {
+    settings: &SETTINGS,
+    lines: &[
+        CALL,
+        ENTRY,
+        "entry 0108000000010000000000000001001000\
+        0500000000000000070000000000000000000000070000000000000001000105000000000000000500000000\
+        00000001000105000000000000000107\
+        00000000000000",
+        "rows",
+    ],
+    answers: &[
+        SUBMITTED,
         COMMITTED,
         "entry 2 conflict 1 session 8 seq 1",
         " 1                    5 0a00000000000000",
@@ -150,7 +171,7 @@ const CLAIMED: Story = Story {
     ],
 };
 
-/// What is nothing counts: behind five such strings a call of position 0 is stale, and one of no request may be, too.
+/// What is nothing counts: behind five such strings a call of position 0 is stale.
 const STALE: Story = Story {
     settings: &SETTINGS,
     lines: &[
@@ -209,8 +230,17 @@ const FAULTY: Story = Story {
 };
 
 /// Stories of a site.
-pub(crate) fn all_stories() -> [Story; 7] {
-    [ONCE, CONFLICT, ADDED, NOT_ADDED, CLAIMED, STALE, FAULTY]
+pub(crate) fn all_stories() -> [Story; 8] {
+    [
+        ONCE,
+        CONFLICT,
+        CONFLICT_ELSEWHERE,
+        ADDED,
+        NOT_ADDED,
+        CLAIMED,
+        STALE,
+        FAULTY,
+    ]
 }
 
 /// A line that is the first that a site is asked, and its answer.

@@ -4,11 +4,13 @@ use std::io;
 use std::io::{BufRead, ErrorKind, Read, Write};
 use std::sync::atomic::{AtomicU64, Ordering};
 
-/// Gives a line only where as many answers have left as lines were given; else it fails.
+/// Gives a line only where as many answers have left as lines were given; else it fails. It is interrupted once between
+/// two looks.
 #[derive(Drop)]
 pub(crate) struct PacedInput<'a> {
     pub(crate) left: &'a [u8],
     pub(crate) given: u64,
+    pub(crate) interrupts: bool,
     pub(crate) answered: &'a AtomicU64,
 }
 
@@ -36,7 +38,12 @@ impl Read for PacedInput<'_> {
 
 impl BufRead for PacedInput<'_> {
     fn fill_buf(&mut self) -> io::Result<&[u8]> {
-        self.shown()
+        self.interrupts = !self.interrupts;
+        if self.interrupts {
+            self.shown()
+        } else {
+            Err(io::Error::from(ErrorKind::Interrupted))
+        }
     }
 
     fn consume(&mut self, amt: usize) {

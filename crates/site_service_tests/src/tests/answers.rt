@@ -12,7 +12,7 @@ fn stories_are_told(rt: HostRuntime) {
     }
 }
 
-/// A line that is the first is answered by itself, and so is each of the same lines at another site.
+/// What is answered to a line that is the first.
 #[test]
 fn first_lines_are_answered(rt: HostRuntime) {
     let alloc = rt.alloc();

@@ -48,7 +48,7 @@ fn texts_of(alloc: Global) -> Result<Texts, AllocError> {
     })
 }
 
-/// A line is waited for when the answer to the one before it has left.
+/// A line is waited for when the answer to the one before it has left, by an input that is interrupted, too.
 #[test]
 fn answers_leave_before_the_next_line_is_waited_for(rt: HostRuntime) {
     let texts = texts_of(rt.alloc()).expect(&rt, "memory");
@@ -57,6 +57,7 @@ fn answers_leave_before_the_next_line_is_waited_for(rt: HostRuntime) {
     let mut input = PacedInput {
         left: &texts.input,
         given: 0,
+        interrupts: true,
         answered: &answered,
     };
     let mut output = WatchedOutput {
@@ -175,6 +176,45 @@ fn outputs_may_take_little_at_once(rt: HostRuntime) {
     }
 }
 
+/// The addition of a program of so many slots, and its answer, which is longer than what is written at once.
+fn long_addition(alloc: Global, slots: usize) -> Result<(Vec<u8>, Vec<u8>), AllocError> {
+    let mut program = Vec::new(alloc);
+    for _ in 1..slots {
+        program.extend_from_slice(b"b700000001000000")?;
+    }
+    program.extend_from_slice(b"9500000000000000\n")?;
+    let mut input = Vec::from_slice(alloc, b"add one 9 0 ")?;
+    input.extend_from_slice(&program)?;
+    let mut answer = Vec::from_slice(alloc, b"submit 0209000000036f6e65401f0000")?;
+    answer.extend_from_slice(&program)?;
+    Ok((input, answer))
+}
+
+/// A long answer leaves whole, and where the output fails in its midst it is asked no more.
+#[test]
+fn long_answers_leave(rt: HostRuntime) {
+    let alloc = rt.alloc();
+    let settings = joined(alloc, &SETTINGS).expect(&rt, "memory");
+    let (line, answer) = long_addition(alloc, 1_000).expect(&rt, "memory");
+    for (room, status) in [
+        (answer.len(), 0),
+        (answer.len().saturating_sub(1), 3),
+        (12_289, 3),
+        (12_288, 3),
+        (4_096, 3),
+        (4_095, 3),
+        (0, 3),
+    ] {
+        let mut reader = settings.as_slice();
+        let mut input = line.as_slice();
+        let mut output = Output::new(alloc, room, 1_000, Full::Fails);
+        let mut faults = Vec::new(alloc);
+        let ended = site_over(alloc, &mut reader, &mut input, &mut output, &mut faults);
+        assert_eq!(rt; (ended, output.after_failure), (status, 0));
+        assert_eq!(rt; Some(output.held.as_slice()), answer.get(..room));
+    }
+}
+
 /// A writer for faults that finds no room changes neither answers nor status.
 #[test]
 fn faults_may_find_no_room(rt: HostRuntime) {
@@ -206,29 +246,47 @@ enum Course {
     Same,
 }
 
-/// Whether a line is one of a text, or says that there was no memory in place of an answer to a call or an addition.
-fn lines_meet(answers: &[u8], wanted: &[u8]) -> bool {
-    let text = str::from_utf8(answers).unwrap_or("?");
-    let wanted = str::from_utf8(wanted).unwrap_or("?");
-    text.lines().zip(wanted.lines()).all(|(line, want)| {
-        line == want
-            || (line == "refused P9" && (want.starts_with("submit") || want.starts_with("repeat")))
-    })
+/// How many lines were answered, where each is as in `ANSWERS`, or says that there was no memory in place of an answer to
+/// a call or an addition; and whether one says that.
+fn lines_met(answers: &[u8]) -> Option<(usize, bool)> {
+    let (mut count, mut refused) = (0, false);
+    for line in str::from_utf8(answers).ok()?.lines() {
+        let wanted = ANSWERS.get(count)?;
+        if line == "refused P9" && (wanted.starts_with("submit") || wanted.starts_with("repeat")) {
+            refused = true;
+        } else if line != *wanted {
+            return None;
+        }
+        count += 1;
+    }
+    Some((count, refused))
 }
 
-/// The course of a site, where it is one.
-fn course_of(ended: &Ended, wanted: &[u8]) -> Option<Course> {
-    let refused = ended
-        .answers
-        .windows(10)
-        .any(|piece| piece == b"refused P9".as_slice());
-    if !lines_meet(&ended.answers, wanted) {
-        return None;
-    }
+/// What is said of want of memory at a line, from 0.
+const WANTED_AT: [&[u8]; 9] = [
+    b"line 0: L9\n",
+    b"line 1: L9\n",
+    b"line 2: L9\n",
+    b"line 3: L9\n",
+    b"line 4: L9\n",
+    b"line 5: L9\n",
+    b"line 6: L9\n",
+    b"line 7: L9\n",
+    b"line 8: L9\n",
+];
+
+/// The course of a site, where it is one. Where nothing was answered the line may be one of the settings, or none.
+fn course_of(ended: &Ended) -> Option<Course> {
+    let (count, refused) = lines_met(&ended.answers)?;
+    let faults = ended.faults.as_slice();
+    let is_early = count == 0 && WANTED_AT.contains(&faults);
     match ended.status {
-        3 if ended.faults.ends_with(b": L9\n") => Some(Course::Ended),
-        0 if ended.faults.is_empty() && refused => Some(Course::Refused),
-        0 if ended.faults.is_empty() && ended.answers.as_slice() == wanted => Some(Course::Same),
+        3 if is_early || WANTED_AT.get(count.saturating_add(1)) == Some(&faults) => Some(
+            Course::Ended,
+        ),
+        0 if !faults.is_empty() || count != ANSWERS.len() => None,
+        0 if refused => Some(Course::Refused),
+        0 => Some(Course::Same),
         _ => None,
     }
 }
@@ -243,7 +301,7 @@ fn growths_are_refused_in_turn(rt: HostRuntime) {
     for nth in 1..MOST {
         scarce.refuse_nth(nth);
         let ended = run_site(&scarce, alloc, &texts.settings, &texts.input);
-        let course = course_of(&ended, &texts.answers);
+        let course = course_of(&ended);
         assert!(rt; course.is_some(), "{nth}");
         ended_late = ended_late || (course == Some(Course::Ended) && !ended.answers.is_empty());
         refused = refused || course == Some(Course::Refused);
