@@ -57,6 +57,7 @@ pub struct Output {
 }
 
 impl Output {
+    /// One that has taken nothing, with room for so many bytes, so many at a time.
     pub fn new(alloc: Global, room: usize, at_once: usize, full: Full) -> Output {
         Output {
             room,
