@@ -48,7 +48,7 @@ class RowsRequest(Request):
 
     def begin(self) -> None:
         self._rows: list[str] = []
-        self._site.ask("rows", self._answered)
+        self._site.engine.send("rows", self._answered)
 
     def _answered(self, line: str) -> bool:
         self._rows.append(line)
@@ -77,7 +77,8 @@ class CallRequest(Request):
     def arrived(self) -> None:
         if not self.done:
             call = self._call
-            self._site.ask(f"call {call.name} {call.args} {call.session} {call.sequence}", self._answered)
+            line = f"call {call.name} {call.args} {call.session} {call.sequence}"
+            self._site.engine.send(line, self._answered)
 
     def _answered(self, line: str) -> bool:
         words = line.split(" ")
@@ -120,7 +121,7 @@ class AddRequest(Request):
 
     def begin(self) -> None:
         add = self._add
-        self._site.ask(f"add {add.name} {add.number} {add.args_len} {add.program}", self._answered)
+        self._site.engine.send(f"add {add.name} {add.number} {add.args_len} {add.program}", self._answered)
 
     def _answered(self, line: str) -> bool:
         if not line.startswith("submit "):

@@ -7,7 +7,7 @@ from contextlib import contextmanager, suppress
 from select import select
 from typing import Callable, Iterator
 
-CHUNK = 1 << 20  # bytes that are read at a time
+CHUNK = 1 << 16  # bytes that are read at a time; for many more each read would have its memory mapped anew
 PIPE = 1 << 20  # bytes that a pipe is asked to hold
 Answered = Callable[[str], bool]
 """Is given a line of an answer, and returns whether the answer ends with it."""
@@ -38,35 +38,30 @@ class Engine:
             os.set_blocking(it, False)
             with suppress(OSError):
                 fcntl.fcntl(it, fcntl.F_SETPIPE_SZ, PIPE)
-        self._unsent: list[bytes] = []
-        self._size, self._rest = 0, b""
-        self._asked: deque[Answered] = deque()
-
-    @property
-    def unsent(self) -> int:
+        self.unsent = 0
         """How many bytes wait to be taken."""
-        return self._size
+        self._lines: list[str] = []
+        self._unsent, self._rest = b"", ""
+        self._asked: deque[Answered] = deque()
 
     def send(self, line: str, answered: Answered) -> None:
         """Asks a line. It is sent by `flush`."""
-        raw = line.encode("ascii") + b"\n"
-        self._unsent.append(raw)
-        self._size += len(raw)
+        self._lines.append(f"{line}\n")
         self._asked.append(answered)
+        self.unsent += len(line) + 1
 
     def flush(self) -> None:
         """Sends as much as the engine takes now."""
-        if not self._size:
+        if not self.unsent:
             return
-        raw = self._unsent[0] if len(self._unsent) == 1 else b"".join(self._unsent)
+        raw, self._lines = self._unsent + "".join(self._lines).encode("ascii"), []
         try:
             taken = os.write(self.input, raw)
         except BlockingIOError:
             taken = 0
         except OSError:
             raise EngineEnded(self._how()) from None
-        self._size = len(raw) - taken
-        self._unsent = [raw[taken:]] if self._size else []
+        self._unsent, self.unsent = raw[taken:], len(raw) - taken
 
     def hear(self) -> None:
         """Hands on what the engine has answered."""
@@ -76,11 +71,11 @@ class Engine:
             return
         if not piece:
             raise EngineEnded(self._how())
-        *lines, self._rest = (self._rest + piece).split(b"\n")
+        *lines, self._rest = (self._rest + piece.decode("ascii")).split("\n")
         for line in lines:
             if not self._asked:
                 raise EngineEnded("the engine answers what it wasn't asked")
-            if self._asked[0](line.decode("ascii")):
+            if self._asked[0](line):
                 self._asked.popleft()
 
     def end(self) -> None:

@@ -5,11 +5,10 @@ from heapq import heapify, heappop, heappush
 from itertools import count
 from typing import Callable, Protocol
 
-from engine import Answered, Engine
-from strings import Procedure, addition_in, asked_by, asked_in, is_bridges, procedures_of
+from engine import Engine
+from strings import SUM, Procedure, addition_in, asked_by, asked_in, is_bridges, procedures_of
 
 FED = 1 << 20  # bytes that wait for the engine before it is fed more
-SUM = 32  # bytes of a sum
 KINDS = {"commit": "committed", "added": "committed", "nothing": "nothing"}  # all else is refused
 Entry = list[str]
 """The words of the engine's answer to a string of the order."""
@@ -44,6 +43,7 @@ class LocalSite:
         self._procedures = procedures_of(settings)
         self._asked_in = bytearray()  # by position: of a commit with a pair, the sum of procedure and arguments
         self._unfed: deque[bytes] = deque()
+        self._fed: deque[bytes] = deque()
         self._own: dict[int, Callable[[Entry], None]] = {}
         self._later: list[tuple[int, int, Waiting]] = []
         self._order = count()
@@ -61,7 +61,8 @@ class LocalSite:
         while self._unfed and self.engine.unsent < FED:
             string = self._unfed.popleft()
             self.backlog -= len(string)
-            self.engine.send(f"entry {string.hex() or '-'}", lambda line, string=string: self._taken(string, line))
+            self._fed.append(string)
+            self.engine.send(f"entry {string.hex() or '-'}", self._taken)
 
     def await_entry(self, position: int, told: Callable[[Entry], None]) -> None:
         """Tells what becomes of the string at a position that hasn't been read yet."""
@@ -79,11 +80,11 @@ class LocalSite:
         self._later = [it for it in self._later if not it[2].done]
         heapify(self._later)
 
-    def _taken(self, string: bytes, line: str) -> bool:
-        entry = line.split(" ")
-        if entry[:2] != ["entry", str(self.position + 1)]:
-            raise SiteStopped(f"its site answers {line!r} at position {self.position + 1}")
-        self.position += 1
+    def _taken(self, line: str) -> bool:
+        string, position, entry = self._fed.popleft(), self.position + 1, line.split(" ")
+        if entry[0] != "entry" or entry[1] != str(position):
+            raise SiteStopped(f"its site answers {line!r} at position {position}")
+        self.position = position
         self.digest = sha256(self.digest + sha256(string).digest()).digest()
         kind = entry[2]
         if kind != "nothing" or not is_bridges(string):
@@ -92,16 +93,13 @@ class LocalSite:
         if kind == "added":
             name, procedure = addition_in(string)
             self._procedures[name] = procedure
-        if self.position in self._own:
-            self._own.pop(self.position)(entry)
-        while self._later and self._later[0][0] <= self.position:
+        if own := self._own.pop(position, None):
+            own(entry)
+        while self._later and self._later[0][0] <= position:
             heappop(self._later)[2].arrived()
         return True
 
     # ---- what stands there
-
-    def ask(self, line: str, answered: Answered) -> None:
-        self.engine.send(line, answered)
 
     def is_same_call(self, position: int, name: str, args: bytes) -> bool:
         """Whether what committed at a position called this procedure with these arguments."""

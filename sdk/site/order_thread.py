@@ -3,7 +3,8 @@ import os
 import sys
 import traceback
 from collections import deque
-from threading import Condition, Event, Thread
+from queue import Empty, SimpleQueue
+from threading import Event, Thread
 from typing import NamedTuple, Optional, Union
 
 from order.base import AppendUnknown, Order, OrderEnded, OrderFull
@@ -58,8 +59,8 @@ class OrderThread:
         self.reports_file, self._bell = os.pipe2(os.O_NONBLOCK | os.O_CLOEXEC)
         self._room = Event()
         self._room.set()
-        self._task: Optional[Task] = None
-        self._woken, self._change = True, Condition()
+        self._tasks: SimpleQueue[Optional[Task]] = SimpleQueue()
+        self._woken = True  # whether the order may have more than was read since
 
     def start(self, order: Order) -> None:
         self.give(Task([], True))
@@ -67,15 +68,14 @@ class OrderThread:
 
     def give(self, task: Task) -> None:
         """Hands a task over, where the last one has been done."""
-        with self._change:
-            self._task, self.busy = task, True
-            self._change.notify()
+        self.busy = True
+        self._tasks.put(task)
 
     def wake(self) -> None:
         """Lets the thread look for what others have appended."""
-        with self._change:
+        if not self._woken:
             self._woken = True
-            self._change.notify()
+            self._tasks.put(None)
 
     def has_room(self, room: bool) -> None:
         """Says whether more strings can be taken; until then none are reported."""
@@ -88,7 +88,10 @@ class OrderThread:
             os.read(self.reports_file, 1 << 16)
         except BlockingIOError:
             pass
-        return [self.reports.popleft() for _ in range(len(self.reports))]
+        taken = []
+        while self.reports:
+            taken.append(self.reports.popleft())
+        return taken
 
     def ring(self) -> None:
         """Makes `reports_file` readable."""
@@ -109,12 +112,14 @@ class OrderThread:
 
     def _next(self, patience: float) -> tuple[Optional[Task], bool]:
         """Returns the next task, or none after a while, and whether the order is asked for more."""
-        with self._change:
-            if not self._task and not self._woken:
-                self._change.wait(patience)
-            task, woken = self._task, self._woken
-            self._task, self._woken = None, False
-            return task, woken or task is None or task.asks
+        task, asks = None, False
+        while not task and not asks:
+            try:
+                task = self._tasks.get(timeout=patience)
+                asks, self._woken = self._woken or bool(task and task.asks), False
+            except Empty:
+                asks = True
+        return task, asks
 
     def _do(self, order: Order, task: Optional[Task], asks: bool) -> None:
         if task and task.strings:
@@ -136,4 +141,5 @@ class OrderThread:
 
     def _report(self, report: Report) -> None:
         self.reports.append(report)
-        self.ring()
+        if len(self.reports) == 1:  # else the file is readable, or whoever takes the others takes this one too
+            self.ring()

@@ -1,12 +1,13 @@
 """The byte strings of an order: those that only bridges read, and what the others say (docs/FORMATS.md)."""
-from hashlib import sha256
+from hashlib import blake2b, sha256
 from os import urandom
 from struct import Struct
 from typing import NamedTuple
 
 FIRST, SESSION = b"\x00\x01", b"\x00\x02"
 CALL, ADDITION = 1, 2
-CALL_HEAD = Struct("<BIIIHH")
+SUM = 32  # bytes of a sum
+NUMBER_AT, NUMBER_AND_LENGTH = 13, Struct("<HH")  # in a call, before the arguments: its procedure, and their length
 ADDITION_HEAD = Struct("<BHHB")
 PROGRAM_LENGTH = Struct("<I")
 
@@ -40,13 +41,17 @@ def is_bridges(string: bytes) -> bool:
 
 def asked_by(number: int, args: bytes) -> bytes:
     """Returns a sum of a procedure's number and arguments."""
-    return sha256(number.to_bytes(2, "little") + args).digest()
+    return _sum_of_asked(NUMBER_AND_LENGTH.pack(number, len(args)) + args)
 
 
 def asked_in(call: bytes) -> bytes:
     """Returns the sum of the procedure and the arguments of a call that stands in the order."""
-    *_, number, length = CALL_HEAD.unpack_from(call)
-    return asked_by(number, call[CALL_HEAD.size : CALL_HEAD.size + length])
+    _, length = NUMBER_AND_LENGTH.unpack_from(call, NUMBER_AT)
+    return _sum_of_asked(call[NUMBER_AT : NUMBER_AT + NUMBER_AND_LENGTH.size + length])
+
+
+def _sum_of_asked(raw: bytes) -> bytes:
+    return blake2b(raw, digest_size=SUM).digest()
 
 
 def addition_in(string: bytes) -> tuple[str, Procedure]:

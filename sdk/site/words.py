@@ -1,13 +1,10 @@
 """The lines that `serve` is asked, as records, or the fault of one that is none."""
-import re
 from typing import NamedTuple, Optional, Union
 
 LONGEST_LINE = 1_048_576  # bytes
-PRINTABLE = re.compile(rb"[ -~]*")
-NUMBER = re.compile("0|[1-9][0-9]*")
-HEX = re.compile("-|([0-9A-Fa-f]{2})+")
 LONGEST_ARGS = 256
 MOST = 0xFFFFFFFF  # of a session, a sequence number and a position
+WHEN = {"after": 2, "fresh": 1}  # with how many fields a call says when it begins
 
 
 class Call(NamedTuple):
@@ -41,16 +38,22 @@ class Fault(Exception):
     """A line that can't be read: its text is the number."""
 
 
+# A field is printable ASCII without blanks, of which `isdecimal` and `fromhex` take digits alone.
+
+
 def number(word: str, most: int) -> int:
-    if not NUMBER.fullmatch(word) or len(word) > 10 or int(word) > most:
+    if not word.isdecimal() or len(word) > 10 or word[0] == "0" and word != "0" or (value := int(word)) > most:
         raise Fault("L4")
-    return int(word)
+    return value
 
 
 def hex_digits(word: str) -> str:
-    if not HEX.fullmatch(word):
-        raise Fault("L4")
-    return word
+    try:
+        if word and (word == "-" or bytes.fromhex(word)):
+            return word
+    except ValueError:
+        pass
+    raise Fault("L4")
 
 
 def bytes_of(digits: str) -> bytes:
@@ -59,11 +62,12 @@ def bytes_of(digits: str) -> bytes:
 
 def request(line: bytes) -> Optional[Union[Call, Add, Word]]:
     """Returns what a line asks, or None where it is empty or a comment."""
-    if len(line) > LONGEST_LINE or not PRINTABLE.fullmatch(line):
+    text = line.decode("latin-1")
+    if len(line) > LONGEST_LINE or not (text.isascii() and text.isprintable()):
         raise Fault("L1")
-    if not line or line.startswith(b"#"):
+    if not text or text[0] == "#":
         return None
-    word, *fields = line.decode("ascii").split(" ")
+    word, *fields = text.split(" ")
     if word == "call":
         return call(fields)
     if word == "add":
@@ -78,12 +82,17 @@ def request(line: bytes) -> Optional[Union[Call, Add, Word]]:
 
 
 def call(fields: list[str]) -> Call:
-    when = fields[4:]
-    lengths = {"after": 2, "fresh": 1}
-    if len(fields) not in (4, 5, 6) or when and len(when) != lengths.get(when[0], len(when)):
+    if len(fields) not in (4, 5, 6):
         raise Fault("L3")
-    if when and when[0] not in lengths:
-        raise Fault("L4")
-    name, args, session, sequence = fields[:4]
-    after = number(when[1], MOST) if when[1:] else 0
+    name, args, session, sequence, *when = fields
+    after = begins_after(when) if when else 0
     return Call(name, hex_digits(args), number(session, MOST), number(sequence, MOST), after, when == ["fresh"])
+
+
+def begins_after(when: list[str]) -> int:
+    """Returns the position behind which a call begins, by the last fields of its line."""
+    if len(when) != WHEN.get(when[0], len(when)):
+        raise Fault("L3")
+    if when[0] not in WHEN:
+        raise Fault("L4")
+    return number(when[1], MOST) if when[1:] else 0
