@@ -76,9 +76,7 @@ class CallRequest(Request):
 
     def arrived(self) -> None:
         if not self.done:
-            call = self._call
-            line = f"call {call.name} {call.args} {call.session} {call.sequence}"
-            self._site.engine.send(line, self._answered)
+            self._site.engine.send(self._call.line, self._answered)
 
     def _answered(self, line: str) -> bool:
         words = line.split(" ")
@@ -86,7 +84,7 @@ class CallRequest(Request):
             self._repeat(words[1], words[3])
         elif words[0] != "submit":
             self.answer(line)
-        elif self._call.session == 0:
+        elif self._call.session == "0":
             self.answer("refused P13")  # a copy of a call without a pair would be done twice
         else:
             self.submit(bytes.fromhex(words[1]))

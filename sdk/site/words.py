@@ -8,13 +8,14 @@ WHEN = {"after": 2, "fresh": 1}  # with how many fields a call says when it begi
 
 
 class Call(NamedTuple):
-    """A call, with its arguments in HEX. It begins where the position is at least `after`, or, where it is `fresh`, the
-    order's end as it is read now."""
+    """A call, with the line that its site is asked, which tests the fields. It begins where the position is at least
+    `after`, or, where it is `fresh`, the order's end as it is read now."""
 
+    line: str
     name: str
     args: str
-    session: int
-    sequence: int
+    session: str
+    sequence: str
     after: int = 0
     fresh: bool = False
 
@@ -69,7 +70,7 @@ def request(line: bytes) -> Optional[Union[Call, Add, Word]]:
         return None
     word, *fields = text.split(" ")
     if word == "call":
-        return call(fields)
+        return call(text, fields)
     if word == "add":
         if len(fields) != 4:
             raise Fault("L3")
@@ -81,12 +82,21 @@ def request(line: bytes) -> Optional[Union[Call, Add, Word]]:
     return Word(word)
 
 
-def call(fields: list[str]) -> Call:
+def call(text: str, fields: list[str]) -> Call:
     if len(fields) not in (4, 5, 6):
         raise Fault("L3")
-    name, args, session, sequence, *when = fields
-    after = begins_after(when) if when else 0
-    return Call(name, hex_digits(args), number(session, MOST), number(sequence, MOST), after, when == ["fresh"])
+    if len(fields) == 4:
+        return Call(text, *fields)
+    line, when = " ".join(["call", *fields[:4]]), fields[4:]
+    return tested(Call(line, *fields[:4], begins_after(when), when == ["fresh"]))  # it may have to wait for its site
+
+
+def tested(asked: Call) -> Call:
+    """Returns a call whose fields hold, as its site will find too."""
+    hex_digits(asked.args)
+    for it in (asked.session, asked.sequence):
+        number(it, MOST)
+    return asked
 
 
 def begins_after(when: list[str]) -> int:

@@ -107,7 +107,8 @@ fn site_of_file(rt: &HostRuntime, path: &str) -> io::Result<u8> {
     match File::open(rt, path) {
         Ok(file) => {
             let mut settings = BufReader::new(rt.alloc(), file)?;
-            let mut input = rt.reader();
+            // one that is locked reads a pipe byte by byte
+            let mut input = BufReader::new(rt.alloc(), rt.stdin())?;
             let mut output = rt.stdout();
             Ok(site_over(
                 rt.alloc(),

@@ -3,10 +3,10 @@ from typing import Callable, NamedTuple, Optional
 
 from order.base import Order
 from order.etcd import EtcdOrder, address_of
-from order.files import FileOrder
 from order.gateway import Gateway, login_of
 from order.journal import Journal
 from order.watch import watch
+from order_process import ApartFileOrder
 
 FILE, ETCD = "file:", "etcd:"
 
@@ -32,7 +32,7 @@ def fault_of(kind: str, options: Options) -> Optional[str]:
 def open_order(kind: str, options: Options, wake: Callable[[], None]) -> Order:
     """Opens an order. `wake` may be called, by another thread, when others have appended."""
     if kind.startswith(FILE):
-        return FileOrder(kind.removeprefix(FILE))
+        return ApartFileOrder(kind.removeprefix(FILE))
     endpoints, prefix = address_of(kind.removeprefix(ETCD))
     login = login_of(options.login, endpoints) if options.login else None
     watch(Gateway(endpoints, options.ca, login), prefix, wake)

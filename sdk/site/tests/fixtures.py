@@ -114,6 +114,13 @@ class Serve:
         until(lambda: int(self.status()[0]) >= position)
         return self
 
+    def waits_for_locks(self):
+        """Returns the kernel's lines of the locks that it waits for, or the process that has its order."""
+        pid = self.process.pid
+        with open(f"/proc/{pid}/task/{pid}/children") as children, open("/proc/locks") as locks:
+            pids = {str(pid), *children.read().split()}
+            return "".join(it for it in locks if "->" in it and pids.intersection(it.split()))
+
     def ends(self):
         """Waits until it ends by itself, and returns what it said."""
         self.process.wait(LONG)

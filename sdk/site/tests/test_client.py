@@ -138,7 +138,7 @@ class Clients(SiteTest):
             asked = [f"{KIT}/client", "--at", self.one.path, "--file", self.path, "call", "add", words(5, 10)]
             client = subprocess.Popen(asked, stdout=subprocess.DEVNULL)
             until(lambda: f"call add {words(5, 10)} 2 1" in self.file())
-            until(lambda: "->" in self.locks(self.one))
+            until(self.one.waits_for_locks)
             self.one.rows()
             client.kill()
             client.wait()
@@ -151,10 +151,6 @@ class Clients(SiteTest):
         self.alike(3, self.one, two)
         self.assertEqual(self.file(), "session 2\nnext 2\n")
 
-    def locks(self, serve):
-        with open("/proc/locks") as file:
-            return "".join(it for it in file if f" {serve.process.pid} " in it)
-
     def test_a_client_whose_serve_is_killed_asks_another(self):
         two = self.serve("two", self.order).begun()
         self.asks("session")
@@ -163,7 +159,7 @@ class Clients(SiteTest):
             asked = [f"{KIT}/client", "--at", self.one.path, "--at", two.path, "--file", self.path]
             asked += ["call", "add", words(5, 10)]
             client = subprocess.Popen(asked, stdout=subprocess.PIPE, text=True)
-            until(lambda: "->" in self.locks(self.one))
+            until(self.one.waits_for_locks)
             self.one.kill()
             fcntl.flock(order, fcntl.LOCK_UN)
         said, _ = client.communicate(timeout=fixtures.LONG)

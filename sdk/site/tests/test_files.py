@@ -290,7 +290,7 @@ class Sites(SiteTest):
             fcntl.flock(file, fcntl.LOCK_EX)
             connection = one.connect()
             connection.send(f"call add {words(5, 3)} {session} 1")
-            fixtures.until(lambda: "WRITE" in self.waits_for_the_lock(one))
+            fixtures.until(lambda: "WRITE" in one.waits_for_locks())
             self.rewrite()
             with open(self.path, "rb") as now:
                 before = now.read()
@@ -300,8 +300,3 @@ class Sites(SiteTest):
         with open(self.path, "rb") as now:
             self.assertEqual(now.read(), before)
         connection.close()
-
-    def waits_for_the_lock(self, serve):
-        """Returns the lines of the kernel's locks that this serve waits for."""
-        with open("/proc/locks") as file:
-            return "".join(it for it in file if "->" in it and f" {serve.process.pid} " in it)

@@ -44,11 +44,7 @@ class Served(SiteTest):
     def settled(self, serve):
         """Waits until this serve has done all it can with the lines it was sent, and waits for the order's lock."""
         serve.rows()  # the engine has answered what came before
-        until(lambda: self.waits(serve))
-
-    def waits(self, serve):
-        with open("/proc/locks") as file:
-            return any("->" in it and f" {serve.process.pid} " in it for it in file)
+        until(serve.waits_for_locks)
 
     def overtaken(self, serve, line, *strings):
         """Returns what a line is answered before whose append others have appended strings."""
