@@ -3,6 +3,7 @@ one that has the order would take its turns from the one that answers clients.""
 import marshal
 import subprocess
 import sys
+from contextlib import suppress
 from multiprocessing.connection import Connection, Pipe
 from typing import Iterator, Optional
 
@@ -10,6 +11,7 @@ from order.base import OrderEnded, OrderFull
 from order.files import FileOrder
 
 FOUND, FULL, ENDED = range(3)
+GONE = "the process that has the order has ended"
 
 
 class ApartFileOrder:
@@ -31,21 +33,28 @@ class ApartFileOrder:
         found, self._found = self._found, []
         yield found
         if ask:
-            self._connection.send_bytes(marshal.dumps([]))
+            self._ask([])
             while strings := self._told():
                 yield strings
 
     def append(self, strings: list[bytes]) -> int:
-        self._connection.send_bytes(marshal.dumps(strings))
+        self._ask(strings)
         self._found += self._told() + strings
         return self.position - len(strings) + 1
+
+    def _ask(self, strings: list[bytes]) -> None:
+        """Asks that strings are appended, or, where there are none, what has been."""
+        try:
+            self._connection.send_bytes(marshal.dumps(strings))
+        except ConnectionError:
+            raise OrderEnded(GONE) from None
 
     def _told(self) -> list[bytes]:
         """Returns strings that were found, and keeps the position that was told with them."""
         try:
             kind, *what = marshal.loads(self._connection.recv_bytes())
         except (EOFError, ConnectionError):
-            raise OrderEnded("the process that has the order has ended") from None
+            raise OrderEnded(GONE) from None
         if kind == FULL:
             raise OrderFull
         if kind == ENDED:
@@ -79,7 +88,7 @@ def heard(connection: Connection) -> Optional[list[bytes]]:
 
 
 def main(path: str, file: str) -> None:
-    with Connection(int(file)) as connection:
+    with Connection(int(file)) as connection, suppress(ConnectionError):  # as where nobody hears any more
         try:
             order = FileOrder(path)
             connection.send_bytes(marshal.dumps((FOUND, 0, [])))
@@ -88,8 +97,6 @@ def main(path: str, file: str) -> None:
                     connection.send_bytes(marshal.dumps(it))
         except OrderEnded as fault:
             connection.send_bytes(marshal.dumps((ENDED, str(fault))))
-        except ConnectionError:
-            pass  # nobody hears any more
 
 
 if __name__ == "__main__":
