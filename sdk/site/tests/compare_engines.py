@@ -3,7 +3,7 @@
 SETTINGS runs, and to the plain one, and compares all answers, line for line.
 
 An order has strings that sites have submitted, soon or late, once or again, changed or cut, and strings that are none.
-Two sites are given each, with calls of their own between, some of them asked again.
+Three sites are given each, some later than others, with calls of their own between, some of them asked again.
 """
 import os
 import random
@@ -44,11 +44,12 @@ FAULTS = [
     "call add 00 4294967296 1",
 ]
 KINDS = ["add"] * 4 + ["claim", "claim", "put", "put", "count", "next", "delete", "nothing", "one", "none"]
+SITES = 3
 STEPS = 120  # lines that a site is asked
 
 
 class Drawn:
-    """An order, and two sites that are given it: the lines that each is asked, and what the plain engine answers."""
+    """An order, and sites that are given it: the lines that each is asked, and what the plain engine answers."""
 
     def __init__(self, seed):
         self.random = random.Random(seed)
@@ -56,13 +57,13 @@ class Drawn:
         self.settings = f"window {self.random.choice([1, 2, 4, 8, 16])}\ntable 1 8\n"
         self.settings += "additions\n" if additions else ""
         self.settings += "".join(f"proc {name} {number} {args} {code}\n" for name, number, args, code in PROCEDURES)
-        self.sites = [Site(self.settings.encode()) for _ in range(2)]
-        self.lines, self.answers = ([], []), ([], [])
-        self.order, self.submitted, self.given = [], [], [0, 0]
+        self.sites = [Site(self.settings.encode()) for _ in range(SITES)]
+        self.lines, self.answers = ([[] for _ in range(SITES)] for _ in range(2))
+        self.order, self.submitted, self.given = [], [], [0] * SITES
         self.asked, self.settled = [], []  # calls; what settles calls, as (position, snapshot, call)
         while min(map(len, self.lines)) < STEPS:
-            self.step(self.random.randrange(2))
-        for at in range(2):
+            self.step(self.random.randrange(SITES))
+        for at in range(SITES):
             while self.given[at] < len(self.order):
                 self.give(at)
             self.ask(at, "rows")
@@ -184,13 +185,13 @@ def compare(command, seed, folder):
     """Returns the first line that is answered differently, with both answers, or what an answer had ruled out, or None;
     and the answers."""
     drawn = Drawn(seed)
-    for at in range(2):
+    for at in range(SITES):
         found, expected = answers_of(command, drawn, at, folder), drawn.answers[at]
         for n, (one, other) in enumerate(zip(found + [""] * len(expected), expected + [""] * len(found))):
             if one != other:
                 return f"order {seed}, site {at + 1}, answer {n + 1}: {one!r}, and plainly {other!r}", []
     lie = drawn.lie()
-    return lie and f"order {seed}: {lie}", drawn.answers[0] + drawn.answers[1]
+    return lie and f"order {seed}: {lie}", sum(drawn.answers, [])
 
 
 def kind_of(answer):

@@ -21,94 +21,138 @@ const SEVEN_ONE: RequestId = RequestId {
     sequence: 1,
 };
 
-/// The arguments of `add` that add 10 to row 5.
+/// The arguments of `add` that add 10 to row 5, 7 to row 5, and 9 to row 9.
 static TEN_TO_FIVE: [u8; 16] = [5, 0, 0, 0, 0, 0, 0, 0, 10, 0, 0, 0, 0, 0, 0, 0];
 
-/// The arguments of `add` that add 9 to row 9.
+static SEVEN_TO_FIVE: [u8; 16] = [5, 0, 0, 0, 0, 0, 0, 0, 7, 0, 0, 0, 0, 0, 0, 0];
+
 static NINE_TO_NINE: [u8; 16] = [9, 0, 0, 0, 0, 0, 0, 0, 9, 0, 0, 0, 0, 0, 0, 0];
 
 /// Key 5.
 static FIVE: [u8; 8] = [5, 0, 0, 0, 0, 0, 0, 0];
 
-const REPEATED_TEN: EntryOutcome = EntryOutcome::Repeated {
-    position: 1,
-    reply: 10,
-};
+/// A call of procedure 2 that puts 0 at key 5, where it finds no row, by request 7 1.
+static CLAIM_OF_FIVE: [u8; 76] = [
+    1, 7, 0, 0, 0, 1, 0, 0, 0, 0, 0, 0, 0, 2, 0, 8, 0, 5, 0, 0, 0, 0, 0, 0, 0, 0, 0, 0, 0, 0, 0, 0,
+    0, 0, 0, 0, 0, 1, 0, 1, 5, 0, 0, 0, 0, 0, 0, 0, 5, 0, 0, 0, 0, 0, 0, 0, 1, 0, 1, 5, 0, 0, 0, 0,
+    0, 0, 0, 1, 0, 0, 0, 0, 0, 0, 0, 0,
+];
 
-/// The site behind one byte string more, of which that has to become what is wanted.
-fn behind(rt: &impl Abort, site: Site, bytes: &[u8], wanted: EntryOutcome) -> Site {
-    let (next, outcome) = taken(site, bytes).expect(rt, "memory");
-    assert_eq!(rt; outcome, wanted);
-    next
+/// What a site is given next, and what has to come of it.
+#[derive(Clone, Copy)]
+enum Step<'a> {
+    /// A byte string, which becomes this.
+    Take(&'a [u8], EntryOutcome),
+    /// A call, which is answered so; the bytes that are to be ordered, if any.
+    Ask(Asked<'a>, CallAnswer<usize>, &'a [u8]),
+    /// It has come to this position.
+    At(u32),
 }
 
-/// A call has to be answered so; the bytes that are to be ordered.
-fn answered(
-    rt: &impl Abort,
-    alloc: Global,
-    site: &Site,
-    name: &[u8],
-    args: &[u8],
-    request: RequestId,
-    wanted: CallAnswer<usize>,
-) -> Vec<u8> {
-    let asked = Asked {
-        name,
+/// A byte string that becomes this. (What is made by a function takes references that live differently long.)
+fn take(bytes: &[u8], wanted: EntryOutcome) -> Step<'_> {
+    Step::Take(bytes, wanted)
+}
+
+/// A call that is answered so, and the bytes that are to be ordered.
+fn ask<'a>(asked: Asked<'a>, wanted: CallAnswer<usize>, bytes: &'a [u8]) -> Step<'a> {
+    Step::Ask(asked, wanted, bytes)
+}
+
+/// A call of `add`.
+fn addition_to(args: &[u8; 16], request: RequestId) -> Asked<'_> {
+    Asked {
+        name: b"add",
         args,
         request,
-    };
-    let (found, bytes) = answer(alloc, site, asked).expect(rt, "memory");
-    assert_eq!(rt; found, wanted);
-    bytes
+    }
 }
 
-/// The call's bytes with another byte at a place.
-fn with_byte(place: usize, byte: u8) -> [u8; 84] {
+/// A call of `claim`.
+fn claim(request: RequestId) -> Asked<'static> {
+    Asked {
+        name: b"claim",
+        args: &FIVE,
+        request,
+    }
+}
+
+/// The call's bytes with other ones at some places.
+fn with_bytes(changes: &[(usize, u8)]) -> [u8; 84] {
     let mut bytes = CALL;
-    if let Some(old) = bytes.get_mut(place) {
-        *old = byte;
+    for (place, byte) in changes {
+        if let Some(old) = bytes.get_mut(*place) {
+            *old = *byte;
+        }
     }
     bytes
 }
 
+/// A call has to be answered so.
+fn is_answered(
+    rt: &impl Abort,
+    alloc: Global,
+    site: &Site,
+    asked: Asked<'_>,
+    wanted: CallAnswer<usize>,
+    bytes: &[u8],
+) {
+    let (found, ordered) = answer(alloc, site, asked).expect(rt, "memory");
+    assert_eq!(rt; found, wanted);
+    assert_eq!(rt; ordered.as_slice(), bytes);
+}
+
+/// The site behind a step.
+fn behind(rt: &impl Abort, alloc: Global, site: Site, step: &Step<'_>) -> Site {
+    match step {
+        Step::Take(bytes, wanted) => {
+            let (next, outcome) = taken(site, bytes).expect(rt, "memory");
+            assert_eq!(rt; outcome, *wanted);
+            next
+        }
+        Step::Ask(asked, wanted, bytes) => {
+            is_answered(rt, alloc, &site, *asked, *wanted, bytes);
+            site
+        }
+        Step::At(position) => {
+            assert_eq!(rt; site.position(), *position);
+            site
+        }
+    }
+}
+
+/// A site behind these steps, the first that it was given.
+fn site_behind(rt: &impl Abort, alloc: Global, takes_additions: bool, steps: &[Step<'_>]) -> Site {
+    let mut site = site_of(alloc, takes_additions).expect(rt, "a site");
+    for step in steps {
+        site = behind(rt, alloc, site, step);
+    }
+    site
+}
+
 #[test]
 fn a_call_is_ordered_and_taken_once(rt: HostRuntime) {
-    let site = site_of(rt.alloc(), true).expect(&rt, "a site");
-    let bytes = answered(
-        &rt,
-        rt.alloc(),
-        &site,
-        b"add",
-        &TEN_TO_FIVE,
-        SEVEN_ONE,
-        CallAnswer::Submitted(84),
-    );
-    assert_eq!(rt; bytes.as_slice(), CALL.as_slice());
-    let site = behind(&rt, site, &bytes, EntryOutcome::Committed(10));
-    let site = behind(&rt, site, &bytes, REPEATED_TEN);
     let repeated = CallAnswer::Repeated {
         position: 1,
         reply: 10,
     };
-    answered(
-        &rt,
-        rt.alloc(),
-        &site,
-        b"add",
-        &TEN_TO_FIVE,
-        SEVEN_ONE,
-        repeated,
-    );
-    answered(
-        &rt,
-        rt.alloc(),
-        &site,
-        b"add",
-        &NINE_TO_NINE,
-        SEVEN_ONE,
-        repeated,
-    );
-    assert_eq!(rt; site.position(), 2);
+    let again = EntryOutcome::Repeated {
+        position: 1,
+        reply: 10,
+    };
+    let steps = [
+        ask(
+            addition_to(&TEN_TO_FIVE, SEVEN_ONE),
+            CallAnswer::Submitted(84),
+            &CALL,
+        ),
+        take(&CALL, EntryOutcome::Committed(10)),
+        take(&CALL, again),
+        ask(addition_to(&TEN_TO_FIVE, SEVEN_ONE), repeated, &[]),
+        ask(addition_to(&NINE_TO_NINE, SEVEN_ONE), repeated, &[]),
+        Step::At(2),
+    ];
+    let site = site_behind(&rt, rt.alloc(), true, &steps);
     let rows = site.rows(rt.alloc()).expect(&rt, "memory");
     assert_eq!(rt; rows.len(), 1);
     assert_eq!(rt; (rows[0].table(), rows[0].key()), (1, 5));
@@ -119,61 +163,54 @@ fn a_call_is_ordered_and_taken_once(rt: HostRuntime) {
 fn other_bytes_are_nothing(rt: HostRuntime) {
     let untrue = NothingCause::Untrue;
     let rows: [(&[u8], NothingCause); 8] = [
-        (&with_byte(83, 1), untrue),
+        (&with_bytes(&[(83, 1)]), untrue),
         (&CALL[..83], untrue),
         (&CALL[..HEAD], untrue),
         (&CALL[..HEAD - 1], NothingCause::Unreadable),
         (&[], NothingCause::Unreadable),
-        (&with_byte(5, 0), NothingCause::Unreadable),
+        (&with_bytes(&[(5, 0)]), NothingCause::Unreadable),
         // Its snapshot.
-        (&with_byte(33, 1), NothingCause::Snapshot),
+        (&with_bytes(&[(33, 1)]), NothingCause::Snapshot),
         // The number of its procedure.
-        (&with_byte(13, 9), NothingCause::Procedure),
+        (&with_bytes(&[(13, 9)]), NothingCause::Procedure),
     ];
     for (bytes, cause) in &rows {
-        let site = site_of(rt.alloc(), true).expect(&rt, "a site");
-        let site = behind(&rt, site, bytes, EntryOutcome::Nothing(*cause));
-        assert_eq!(rt; site.position(), 1);
+        let steps = [take(bytes, EntryOutcome::Nothing(*cause)), Step::At(1)];
+        site_behind(&rt, rt.alloc(), true, &steps);
     }
 }
 
 #[test]
 fn what_is_nothing_counts_in_the_window(rt: HostRuntime) {
-    for (before, wanted) in [(4, EntryOutcome::Committed(10)), (5, EntryOutcome::Stale)] {
-        let mut site = site_of(rt.alloc(), true).expect(&rt, "a site");
-        for _ in 0..before {
-            site = behind(
-                &rt,
-                site,
-                &[],
-                EntryOutcome::Nothing(NothingCause::Unreadable),
-            );
-        }
-        behind(&rt, site, &CALL, wanted);
-    }
+    let nothing = take(&[], EntryOutcome::Nothing(NothingCause::Unreadable));
+    let committed = take(&CALL, EntryOutcome::Committed(10));
+    let stale = take(&CALL, EntryOutcome::Stale);
+    let four = [nothing, nothing, nothing, nothing, committed];
+    let five = [nothing, nothing, nothing, nothing, nothing, stale];
+    site_behind(&rt, rt.alloc(), true, &four);
+    site_behind(&rt, rt.alloc(), true, &five);
 }
 
 #[test]
 fn two_sites_come_to_the_same(rt: HostRuntime) {
-    let site = site_of(rt.alloc(), true).expect(&rt, "a site");
-    let seven_to_five = [5, 0, 0, 0, 0, 0, 0, 0, 7, 0, 0, 0, 0, 0, 0, 0];
     let request = RequestId {
         session: 8,
         sequence: 1,
     };
-    let other = answered(
-        &rt,
-        rt.alloc(),
-        &site,
-        b"add",
-        &seven_to_five,
-        request,
+    // Its session; what it adds, replies and writes.
+    let other = with_bytes(&[(1, 8), (25, 7), (37, 7), (76, 7)]);
+    let asked = [ask(
+        addition_to(&SEVEN_TO_FIVE, request),
         CallAnswer::Submitted(84),
-    );
+        &other,
+    )];
+    site_behind(&rt, rt.alloc(), true, &asked);
+    let steps = [
+        take(&CALL, EntryOutcome::Committed(10)),
+        take(&other, EntryOutcome::Conflict(1)),
+    ];
     for _ in 0..2 {
-        let site = site_of(rt.alloc(), true).expect(&rt, "a site");
-        let site = behind(&rt, site, &CALL, EntryOutcome::Committed(10));
-        behind(&rt, site, &other, EntryOutcome::Conflict(1));
+        site_behind(&rt, rt.alloc(), true, &steps);
     }
 }
 
@@ -185,80 +222,75 @@ fn a_procedure_is_added_where_that_may_be(rt: HostRuntime) {
         args_len: 0,
         program: &ADDITION[13..],
     };
-    let site = site_of(rt.alloc(), true).expect(&rt, "a site");
+    let site = site_behind(&rt, rt.alloc(), true, &[]);
     assert!(rt; matches!(site.add(named), Ok(AdditionAnswer::Submitted(_))));
-    let site = behind(&rt, site, &ADDITION, EntryOutcome::Added(9));
-    let read = CallAnswer::Read {
-        position: 1,
-        reply: 1,
-    };
-    answered(&rt, rt.alloc(), &site, b"one", &[], NONE, read);
-    let closed = site_of(rt.alloc(), false).expect(&rt, "a site");
-    let refused = closed.add(named);
+    let closed = site_behind(&rt, rt.alloc(), false, &[]);
     assert!(rt;
         matches!(
-            refused,
+            closed.add(named),
             Ok(AdditionAnswer::Refused(AdditionRefusal::NoAdditions))
         )
-    );
-    behind(
-        &rt,
-        closed,
-        &ADDITION,
-        EntryOutcome::Nothing(NothingCause::Addition),
     );
 }
 
 #[test]
+fn an_added_procedure_is_called(rt: HostRuntime) {
+    let one = Asked {
+        name: b"one",
+        args: &[],
+        request: NONE,
+    };
+    let read = CallAnswer::Read {
+        position: 1,
+        reply: 1,
+    };
+    let steps = [take(&ADDITION, EntryOutcome::Added(9)), ask(one, read, &[])];
+    site_behind(&rt, rt.alloc(), true, &steps);
+    let nothing = EntryOutcome::Nothing(NothingCause::Addition);
+    site_behind(&rt, rt.alloc(), false, &[take(&ADDITION, nothing)]);
+}
+
+#[test]
 fn a_repeated_call_isnt_run_again(rt: HostRuntime) {
-    let site = site_of(rt.alloc(), true).expect(&rt, "a site");
-    let bytes = answered(
-        &rt,
-        rt.alloc(),
-        &site,
-        b"claim",
-        &FIVE,
-        SEVEN_ONE,
-        CallAnswer::Submitted(76),
-    );
-    let site = behind(&rt, site, &bytes, EntryOutcome::Committed(0));
     let repeated = CallAnswer::Repeated {
         position: 1,
         reply: 0,
-    };
-    answered(&rt, rt.alloc(), &site, b"claim", &FIVE, SEVEN_ONE, repeated);
-    let next = RequestId {
-        session: 7,
-        sequence: 2,
     };
     let cancelled = CallAnswer::Cancelled {
         position: 1,
         code: 1,
     };
-    answered(&rt, rt.alloc(), &site, b"claim", &FIVE, next, cancelled);
+    let next = RequestId {
+        session: 7,
+        sequence: 2,
+    };
+    let steps = [
+        ask(claim(SEVEN_ONE), CallAnswer::Submitted(76), &CLAIM_OF_FIVE),
+        take(&CLAIM_OF_FIVE, EntryOutcome::Committed(0)),
+        ask(claim(SEVEN_ONE), repeated, &[]),
+        ask(claim(next), cancelled, &[]),
+    ];
+    site_behind(&rt, rt.alloc(), true, &steps);
 }
 
 #[test]
 fn calls_that_cannot_run_are_refused(rt: HostRuntime) {
-    let site = site_of(rt.alloc(), true).expect(&rt, "a site");
     let half = RequestId {
         session: 7,
         sequence: 0,
     };
-    let rows: [(&[u8], &[u8], RequestId, CallRefusal); 3] = [
-        (b"none", &FIVE, half, CallRefusal::NoProcedure),
-        (b"add", &FIVE, half, CallRefusal::ArgumentsLength),
-        (b"claim", &FIVE, half, CallRefusal::HalfRequest),
+    let rows: [(&[u8], CallRefusal); 3] = [
+        (b"none", CallRefusal::NoProcedure),
+        (b"add", CallRefusal::ArgumentsLength),
+        (b"claim", CallRefusal::HalfRequest),
     ];
-    for (name, args, request, refusal) in &rows {
-        answered(
-            &rt,
-            rt.alloc(),
-            &site,
+    for (name, refusal) in &rows {
+        let asked = Asked {
             name,
-            args,
-            *request,
-            CallAnswer::Refused(*refusal),
-        );
+            args: &FIVE,
+            request: half,
+        };
+        let steps = [ask(asked, CallAnswer::Refused(*refusal), &[])];
+        site_behind(&rt, rt.alloc(), true, &steps);
     }
 }
