@@ -1,15 +1,12 @@
 -- Which writes a look covers, and whether looks cover any.
-use Rattle.std.proofs.Common.{◌≡◌, ℕ, ◌<◌, List, [], ◌∷◌, refl, sym, ap, ◌∙◌, cond, Bool, true, false, ◌&&◌, ◌||◌, not, filter, map, Option, Some, None, is_some, nat_le, nat_lt, nat_eq, arith}
-use Rattle.std.specs.Prelude.{slice_get}
+use Rattle.std.proofs.Common.{◌≡◌, ℕ, List, [], ◌∷◌, refl, sym, ap, ◌∙◌, cond, Bool, true, false, ◌&&◌, ◌||◌, not, filter, map, Option, Some, None, is_some, nat_le, nat_lt, nat_eq, arith}
+use Rattle.std.specs.Prelude.{slice_get, length, option_map, MatchOption}
 use Rattle.std.specs.Borrow.{Bor}
 use Rattle.std.specs.List.{list_any}
 use Rattle.std.specs.Ordering.{nat_cmp, is_lt, is_le, ordering_then}
 use Rattle.std.specs.declared.cmp.Ordering.{Ordering}
 use Rattle.std.specs.declared.cmp.Ordering.TheVariants.{Less, Equal, Greater}
 use Rattle.std.proofs.lemmas.Bool.Decides.{nat_tests}
-use Rattle.std.specs.Map.Iter.{TakesFirst, deref_pair}
-use Rattle.std.specs.declared.ops.Bound.TheVariants.{Included}
-use Rattle.std.specs.BTreeMap.Range.{range_contains}
 use Rattle.schema.specs.declared.look.Look.{Look}
 use Rattle.schema.specs.Rows.{Key, key_cmp, covers, any_covers}
 
@@ -29,14 +26,16 @@ past_test a b = elim (nat_lt a b) as (λ x. nat_lt a b ≡ x → not (is_lt (con
 
 -- where the tables compare so
 abbrev Between : Ordering → Look → Key → Type 0
-Between tables look k = (is_le (ordering_then tables (nat_cmp look.lo k.1)) && not (is_lt (ordering_then tables (nat_cmp look.hi k.1)))) ≡ covers look k
+Between tables look k = (not (is_lt (ordering_then tables (nat_cmp k.1 look.lo))) && is_le (ordering_then tables (nat_cmp k.1 look.hi))) ≡ covers look k
 
-pub covers_between : (look : Look) (k : Key) → range_contains key_cmp (Included (look.table, look.lo)) (Included (look.table, look.hi)) k ≡ covers look k
-covers_between look k = elim (nat_lt look.table k.0) as (λ x. nat_lt look.table k.0 ≡ x → Between (cond x Less (cond (nat_eq look.table k.0) Equal Greater)) look k) [
+-- the keys that don't come before the look's first, and do not come behind its last
+pub covers_between : (look : Look) (k : Key) → (not (is_lt (key_cmp k (look.table, look.lo))) && is_le (key_cmp k (look.table, look.hi))) ≡ covers look k
+covers_between look k = elim (nat_lt k.0 look.table) as (λ x. nat_lt k.0 look.table ≡ x → Between (cond x Less (cond (nat_eq k.0 look.table) Equal Greater)) look k) [
   | true ↦ λ lt. let apart : nat_eq look.table k.0 ≡ false = grind (arith, nat_tests) in sym (ap (λ b. b && nat_le look.lo k.1 && nat_le k.1 look.hi) apart)
-  | false ↦ λ _. elim (nat_eq look.table k.0) as (λ y. nat_eq look.table k.0 ≡ y → Between (cond y Equal Greater) look k) [
-    | true ↦ λ same. (λ i. le_test look.lo k.1 i && past_test look.hi k.1 i) ∙ sym (ap (λ b. b && nat_le look.lo k.1 && nat_le k.1 look.hi) same)
-    | false ↦ λ apart. sym (ap (λ b. b && nat_le look.lo k.1 && nat_le k.1 look.hi) apart)
+  | false ↦ λ _. elim (nat_eq k.0 look.table) as (λ y. nat_eq k.0 look.table ≡ y → Between (cond y Equal Greater) look k) [
+    | true ↦ λ same. let one : nat_eq look.table k.0 ≡ true = grind (arith, nat_tests) in
+        (λ i. past_test k.1 look.lo i && le_test k.1 look.hi i) ∙ sym (ap (λ b. b && nat_le look.lo k.1 && nat_le k.1 look.hi) one)
+    | false ↦ λ apart. let other : nat_eq look.table k.0 ≡ false = grind (arith, nat_tests) in sym (ap (λ b. b && nat_le look.lo k.1 && nat_le k.1 look.hi) other)
   ] refl
 ] refl
 
@@ -51,20 +50,17 @@ any_filtered key p (e ∷ es) = elim (p (key e)) as (λ b. is_some (slice_get (c
 ]
 
 -- an iterator gives something exactly where something is left
-pub some_taken : {K X : Type 0} (r : Option (Bor K × Bor X)) (s t : List (K × X)) → TakesFirst deref_pair s r t → is_some r ≡ is_some (slice_get s 0)
-some_taken None s t h = ap (λ es. is_some (slice_get es 0)) (sym h.0)
-some_taken (Some x) s t h = ap (λ es. is_some (slice_get es 0)) (sym h)
+nothing : {X : Type 0} (xs : List X) → length xs ≡ 0 → false ≡ is_some (slice_get xs 0)
+nothing [] e = refl
+nothing (x ∷ xs) e = absurd (omega (arith, e))
 
-covers_none : (look : Look) (k : Key) → look.hi < look.lo → covers look k ≡ false
-covers_none look k above = elim (nat_eq look.table k.0) as (λ b. (b && nat_le look.lo k.1 && nat_le k.1 look.hi) ≡ false) [
-  | true ↦ elim (nat_le look.lo k.1) as (λ b. nat_le look.lo k.1 ≡ b → (b && nat_le k.1 look.hi) ≡ false) [ true ↦ λ from. grind (arith, nat_tests) | false ↦ λ _. refl ] refl
-  | false ↦ refl
-]
+pub some_taken : {X : Type 0} (P : Type 0) (r : Option (Bor X)) (xs ys : List X) → MatchOption r ((length xs ≡ 0) × P) (λ x. xs ≡ x.now ∷ ys) → is_some r ≡ is_some (slice_get xs 0)
+some_taken P None xs ys h = nothing xs h.0
+some_taken P (Some x) xs ys h = ap (λ es. is_some (slice_get es 0)) (sym h)
 
--- where lo is above hi none is
-pub none_between : (look : Look) (ks : List Key) → look.hi < look.lo → list_any (covers look) ks ≡ false
-none_between look [] above = refl
-none_between look (k ∷ ks) above = (λ i. covers_none look k above i || none_between look ks above i)
+pub is_some_map : {X Y : Type 0} (f : X → Y) (o : Option X) → is_some o ≡ is_some (option_map f o)
+is_some_map f None = refl
+is_some_map f (Some x) = refl
 
 -- ---- whether one of the looks covers one of the keys, asked look by look
 

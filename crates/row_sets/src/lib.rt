@@ -10,4 +10,5 @@ pub use write_set::WriteSet;
 mod read_set;
 mod row;
 mod share;
+mod sorted;
 mod write_set;

@@ -1,37 +1,41 @@
 //! What a call has written.
 
-ghost use Rattle.std.specs.Prelude.{◌≡◌, ◌↔◌, ◌≤◌, ◌<◌, ◌^◌, length, IsTrue, OnOk, OnErr, Some, None, option_map};
+ghost use Rattle.std.specs.Prelude.{◌≡◌, ◌↔◌, ◌<◌, ◌^◌, length, IsTrue, OnOk, OnErr, Some, None, option_map};
 ghost use Rattle.std.specs.Prelude.{filter};
 ghost use Rattle.std.specs.List.{list_any};
+ghost use Rattle.std.specs.Slice.Iter.{iter_rest};
 ghost use Rattle.std.specs.FinMap.{empty, get, contains_key, entries, keys, len};
 ghost use Rattle.schema.specs.Rows.{covers, with_write};
 
 use crate::row::Bytes;
+use crate::sorted::{Written, between, find, put};
 use schema::Look;
 use std::alloc::{AllocError, Allocator, Global};
-use std::collections::BTreeMap;
-use std::collections::btree_map::{Iter, Range};
 use std::marker::Model;
+use std::slice::Iter;
 
 /// The last write of each key: the bytes that were put, or none where the row was removed. Contracts
 /// see a finite map.
 #[derive(Drop)]
 pub struct WriteSet<A: Allocator + Copy = Global> {
     alloc: A,
-    map: BTreeMap<(u8, u64), Option<Bytes<A>>, A>,
+    /// In the order of tables and keys.
+    writes: Vec<Written<A>, A>,
 }
 
 impl<A: Allocator + Copy> Model for WriteSet<A> {
-    ghost use Rattle.std.specs.Prelude.{ℕ};
+    ghost use Rattle.std.specs.Prelude.{ℕ, T};
     ghost use Rattle.std.specs.Coded.{coded×, coded_ℕ, coded_list, coded_option};
-    ghost use Rattle.std.specs.FinMap.{from_entries, code};
-    ghost use Rattle.schema.specs.Rows.{Writes};
+    ghost use Rattle.std.specs.FinMap.{from_sorted, is_sorted, code};
+    ghost use Rattle.schema.specs.Rows.{Writes, key_cmp};
 
     ghost Value = { Writes };
 
     ghost coded = { code (coded× coded_ℕ coded_ℕ) (coded_option (coded_list coded_ℕ)) };
 
-    ghost view = { λ s. from_entries s.map.entries };
+    ghost view = { λ s. from_sorted s.writes.items };
+
+    ghost invariant = { λ s. T (is_sorted key_cmp s.writes.items) };
 }
 
 impl<A: Allocator + Copy> WriteSet<A> {
@@ -41,7 +45,7 @@ impl<A: Allocator + Copy> WriteSet<A> {
     {
         WriteSet {
             alloc,
-            map: BTreeMap::new(alloc),
+            writes: Vec::new(alloc),
         }
     }
 
@@ -52,7 +56,7 @@ impl<A: Allocator + Copy> WriteSet<A> {
         ensures unchanged { OnErr result (self.new ≡ self.old) }
     {
         let copy = Vec::from_slice(self.alloc, bytes)?;
-        self.map.insert((table, key), Some(Bytes::new(copy)))?;
+        put(&mut self.writes, (table, key), Some(Bytes::new(copy)))?;
         Ok(())
     }
 
@@ -61,7 +65,7 @@ impl<A: Allocator + Copy> WriteSet<A> {
         ensures written { OnOk result (self.new ≡ with_write self.old (table, key) None) }
         ensures unchanged { OnErr result (self.new ≡ self.old) }
     {
-        self.map.insert((table, key), None)?;
+        put(&mut self.writes, (table, key), None)?;
         Ok(())
     }
 
@@ -69,7 +73,7 @@ impl<A: Allocator + Copy> WriteSet<A> {
     pub fn clear(&mut self)
         ensures { self.new ≡ empty }
     {
-        self.map.clear();
+        self.writes.clear();
     }
 
     /// The write at a key, if there is one: the bytes that were put, or none where the row was removed.
@@ -77,7 +81,7 @@ impl<A: Allocator + Copy> WriteSet<A> {
         ensures { option_map (λ write. option_map (λ bytes. bytes.now) write) result
             ≡ get self.now (table, key) }
     {
-        match self.map.get(&(table, key)) {
+        match find(&self.writes, (table, key)) {
             Some(Some(bytes)) => Some(Some(bytes.as_slice())),
             Some(None) => Some(None),
             None => None,
@@ -88,7 +92,7 @@ impl<A: Allocator + Copy> WriteSet<A> {
     pub fn contains(&self, table: u8, key: u64) -> bool
         ensures { result ≡ contains_key self.now (table, key) }
     {
-        self.map.contains_key(&(table, key))
+        find(&self.writes, (table, key)).is_some()
     }
 
     /// Whether no key was written.
@@ -102,31 +106,29 @@ impl<A: Allocator + Copy> WriteSet<A> {
     pub fn len(&self) -> usize
         ensures { result ≡ len self.now }
     {
-        self.map.len()
+        self.writes.len()
     }
 
     /// The writes, in the order of tables and keys.
-    pub fn iter(&self) -> Iter<'_, (u8, u64), Option<Bytes<A>>>
-        ensures rest { result ≡ entries self.now }
-        ensures fits { length result < 2 ^ 63 }
+    pub fn iter(&self) -> Iter<'_, ((u8, u64), Option<Bytes<A>>)>
+        ensures rest { iter_rest result ≡ entries self.now }
+        ensures fits { length (iter_rest result) < 2 ^ 64 }
     {
-        self.map.iter()
+        self.writes.iter()
     }
 
     /// The writes of the keys that a look covers, in order.
-    pub fn range(&self, look: Look) -> Range<'_, (u8, u64), Option<Bytes<A>>>
-        requires { look.lo ≤ look.hi }
-        ensures rest { result ≡ filter (λ write. covers look write.0) (entries self.now) }
-        ensures fits { length result < 2 ^ 63 }
+    pub fn range(&self, look: Look) -> Iter<'_, ((u8, u64), Option<Bytes<A>>)>
+        ensures rest { iter_rest result ≡ filter (λ write. covers look write.0) (entries self.now) }
+        ensures fits { length (iter_rest result) < 2 ^ 64 }
     {
-        self.map
-            .range((look.table, look.lo)..=(look.table, look.hi))
+        between(&self.writes, look).iter()
     }
 
     /// Whether a key that a look covers was written.
     pub fn is_written_in(&self, look: Look) -> bool
         ensures { result ≡ list_any (covers look) (keys self.now) }
     {
-        look.lo <= look.hi && self.range(look).next().is_some()
+        self.range(look).next().is_some()
     }
 }

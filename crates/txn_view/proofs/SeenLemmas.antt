@@ -56,11 +56,11 @@ covered look writes = filter (λ write. covers look write.0) (entries writes)
 
 -- these many of the writes so far are where a row stands
 pub record IsCounted (answers_from : Rows → Type 0) (look : Look) (writes : Writes) (count : ℕ) (rest : List Entry) : Type 0 where
-  pub small : count + length rest < 2 ^ 63
+  pub small : count + length rest < 2 ^ 64
   pub counts : (rows : Rows) → answers_from rows → count + length (filter (stands rows) rest) ≡ length (filter (stands rows) (covered look writes))
 
 module _ {answers_from : Rows → Type 0} {look : Look} {writes : Writes} where
-  pub counted_none : (rest : List Entry) → rest ≡ covered look writes → length rest < 2 ^ 63 → IsCounted answers_from look writes 0 rest
+  pub counted_none : (rest : List Entry) → rest ≡ covered look writes → length rest < 2 ^ 64 → IsCounted answers_from look writes 0 rest
   counted_none rest e fits = record { small = omega arith; counts = λ rows a. (let same = ap (λ es. length (filter (stands rows) es)) e in omega arith) }
 
   pub counted_one : {count : ℕ} {all rest : List Entry} (e : Entry) → IsCounted answers_from look writes count all → all ≡ e ∷ rest → ((rows : Rows) → answers_from rows → stands rows e ≡ true) → IsCounted answers_from look writes (count + 1) rest

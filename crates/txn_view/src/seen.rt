@@ -87,7 +87,6 @@ fn count_under<S: Store, A: Allocator + Copy>(
     writes: &WriteSet<A>,
     look: Look,
 ) -> Result<u64, Gone>
-    requires { look.lo ≤ look.hi }
     ensures counted { (rows : Rows) → S.answers_from store.now rows
         → IfOk result (λ count. count ≡ count_in look (rows_under writes.now rows)) }
     ensures gone { IsTrue (is_err result) → IsTrue (S.is_gone store.now) }
@@ -104,7 +103,6 @@ fn count_under<S: Store, A: Allocator + Copy>(
 
 /// How many writes that a look covers are puts.
 fn count_puts<A: Allocator + Copy>(writes: &WriteSet<A>, look: Look) -> u64
-    requires { look.lo ≤ look.hi }
     ensures { result ≡ count_in look (puts writes.now) }
 {
     count_in_after_writes();
@@ -113,7 +111,6 @@ fn count_puts<A: Allocator + Copy>(writes: &WriteSet<A>, look: Look) -> u64
 
 /// The first put that a look covers.
 fn first_put<A: Allocator + Copy>(writes: &WriteSet<A>, look: Look) -> Option<(u64, &[u8])>
-    requires { look.lo ≤ look.hi }
     ensures { row_found look.table result ≡ first_in look (puts writes.now) }
 {
     first_in_after_writes();

@@ -1,4 +1,5 @@
 use Rattle.std.proofs.Common.{rules, ◌≡◌, ℕ, List, [], ◌++◌, ◌∙◌, ap, sym, subst, map}
+use Rattle.std.specs.Slice.Iter.{iter_rest}
 use Rattle.std.proofs.lemmas.List.{append-nil, append_assoc}
 use Rattle.std.specs.List.{concat}
 use Rattle.std.specs.FinMap.{entries, len}
@@ -11,9 +12,9 @@ loop-key-init g c = ([], g.met.S.ByteSink.nothing c.append_count.new.sink, searc
 pub loop-key-preserved : goal.loop-key-preserved
 loop-key-preserved g c =
     let so_far = c.loop-key.invariant in
-    let write : List ℕ = write_bytes (c.in-Some.key.now, c.in-Some.row.now) in
-    let rest : List ℕ = concat (map write_bytes c.next.new.self) in
-    let next : so_far.0 ++ (write ++ rest) ≡ so_far.0 ++ concat (map write_bytes c.loop-key.key-iterator) = search rules in
+    let write : List ℕ = write_bytes c.in-Some.field-0.now in
+    let rest : List ℕ = concat (map write_bytes (iter_rest c.next.new.self)) in
+    let next : so_far.0 ++ (write ++ rest) ≡ so_far.0 ++ concat (map write_bytes (iter_rest c.loop-key.key-iterator)) = search rules in
     (so_far.0 ++ write, g.met.S.ByteSink.together _ _ _ _ _ so_far.1 c.append_write.ensures, append_assoc so_far.0 write rest ∙ next ∙ so_far.2)
 
 pub returns : goal.returns

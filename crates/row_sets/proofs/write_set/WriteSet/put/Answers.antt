@@ -1,11 +1,17 @@
-use Rattle.std.proofs.Common.{◌≡◌, ◌∙◌, Some, rules}
-use Rattle.schema.specs.Rows.{key_cmp_total, key_cmp-IsAntisymmetric}
-use Rattle.std.specs.FinMap.{insert}
-use Rattle.schema.proofs.MapLemmas.{one_put}
+use Rattle.std.proofs.Common.{◌≡◌, ◌∙◌, sym, ap, subst, Some, rules}
+use Rattle.std.specs.Prelude.{T}
+use Rattle.std.specs.FinMap.{from_sorted, insert, is_sorted}
+use Rattle.std.specs.FinMap.Entries.{is_sorted-put}
+use Rattle.schema.specs.Rows.{key_cmp, key_cmp_total}
+use Rattle.row_sets.proofs.OrderLemmas.{one_put}
 use Rattle.row_sets.proofs.write_set.WriteSet.put.Goals as goal
+
+pub invariant_of-self-2 : goal.invariant_of-self-2
+invariant_of-self-2 g c = subst (λ ws. T (is_sorted key_cmp ws)) (sym c.in_ok-put.ensures.done) (is_sorted-put key_cmp key_cmp_total (c.args.table, c.args.key) (Some c.new.result) c.self.inside.writes.items c.self.invariant)
 
 pub returns-clause-written : goal.returns-clause-written
 returns-clause-written g c =
     let copied : c.new.result ≡ c.args.bytes.now = search rules in
-    one_put key_cmp_total key_cmp-IsAntisymmetric c.self.inside.map.entries c.insert.new.self.entries (c.args.table, c.args.key) (Some c.new.result) c.in_ok-insert.ensures.updates.0
+    ap (λ ws. from_sorted {R = key_cmp} ws) c.in_ok-put.ensures.done
+    ∙ one_put key_cmp_total (c.args.table, c.args.key) (Some c.new.result) c.self.inside.writes.items c.self.invariant
     ∙ (λ i. insert (c.self.view_is i) (c.args.table, c.args.key) (Some (copied i)))
