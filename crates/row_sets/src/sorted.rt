@@ -28,10 +28,7 @@ fn search<A: Allocator>(writes: &[Written<A>], key: (u8, u64)) -> Result<usize, 
 }
 
 /// The write at a key, if there is one.
-pub(crate) fn find<A: Allocator>(
-    writes: &[Written<A>],
-    key: (u8, u64),
-) -> Option<&Option<Bytes<A>>>
+pub(crate) fn find<A: Allocator>(writes: &[Written<A>], key: (u8, u64)) -> Option<&Option<Bytes<A>>>
     requires { T (is_sorted key_cmp writes.now) }
     ensures { option_map (λ write. write.now) result ≡ find key_cmp key writes.now }
 {

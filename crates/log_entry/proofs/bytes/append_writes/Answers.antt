@@ -1,5 +1,6 @@
 use Rattle.std.proofs.Common.{rules, ◌≡◌, ℕ, List, [], ◌++◌, ◌∙◌, ap, sym, subst, map}
 use Rattle.std.specs.Slice.Iter.{iter_rest}
+use Rattle.std.proofs.lemmas.List.{nil_from_length}
 use Rattle.std.proofs.lemmas.List.{append-nil, append_assoc}
 use Rattle.std.specs.List.{concat}
 use Rattle.std.specs.FinMap.{entries, len}
@@ -20,7 +21,8 @@ loop-key-preserved g c =
 pub returns : goal.returns
 returns g c =
     let so_far = c.loop-key.invariant in
-    let all : so_far.0 ≡ concat (map write_bytes (entries c.args.writes.now)) = search rules in
+    let all : so_far.0 ≡ concat (map write_bytes (entries c.args.writes.now)) =
+    sym (append-nil so_far.0) ∙ ap (λ xs. so_far.0 ++ concat (map write_bytes xs)) (sym (nil_from_length _ c.in-None.ensures.steps.0)) ∙ so_far.2 in
     let text : count_bytes c.len.result ++ so_far.0 ≡ writes_bytes c.args.writes.now = search rules in
     subst (λ (bytes : List ℕ). g.S.ByteSink.appends c.args.sink.now c.loop-key.sink bytes) text
     (g.met.S.ByteSink.together _ _ _ _ _ c.append_count.ensures so_far.1)
