@@ -38,7 +38,7 @@ fn removals<A: Allocator + Copy, B: Allocator + Copy>(
 ) -> Result<WriteSet<A>, AllocError>
     ensures { IfOk result (λ copy. (k : Key) → IsSome (get copy k) ↔ IsSome (get writes.now k)) }
 {
-    let mut copy = WriteSet::new(alloc);
+    let mut copy = WriteSet::with_room(alloc, writes.len())?;
     for (key, _) in writes.iter() {
         copy.remove(key.0, key.1)?;
     }

@@ -1,6 +1,6 @@
 //! What a call has written.
 
-ghost use Rattle.std.specs.Prelude.{◌≡◌, ◌↔◌, ◌<◌, ◌^◌, length, IsTrue, OnOk, OnErr, Some, None, option_map};
+ghost use Rattle.std.specs.Prelude.{◌≡◌, ◌↔◌, ◌<◌, ◌^◌, length, IsTrue, IfOk, OnOk, OnErr, Some, None, option_map};
 ghost use Rattle.std.specs.Prelude.{filter};
 ghost use Rattle.std.specs.List.{list_any};
 ghost use Rattle.std.specs.Slice.Iter.{iter_rest};
@@ -47,6 +47,16 @@ impl<A: Allocator + Copy> WriteSet<A> {
             alloc,
             writes: Vec::new(alloc),
         }
+    }
+
+    /// No writes, with room for the keys of so many.
+    pub fn with_room(alloc: A, count: usize) -> Result<WriteSet<A>, AllocError>
+        ensures { IfOk result (λ writes. writes ≡ empty) }
+    {
+        Ok(WriteSet {
+            alloc,
+            writes: Vec::with_capacity(alloc, count)?,
+        })
     }
 
     /// The row becomes these bytes.
