@@ -16,7 +16,5 @@ mod line;
 mod numbers;
 mod reading;
 mod status;
-#[cfg(test)]
-mod tests;
 mod word;
 mod words;

@@ -1,7 +1,3 @@
-use crate::{
-    append_addition_line, append_call_line, append_entry_line, append_fault_line,
-    append_no_memory_line, append_order_full_line, append_position_line, append_row_count_line,
-};
 use bpf_verify::Cause;
 use byte_output::sink::GrowingBytes;
 use call_model::ProgramFault;
@@ -9,6 +5,10 @@ use log_entry::{Entry, ExecutedCall};
 use log_model::{Identifier, RequestId};
 use row_sets::{Bytes, ReadSet, WriteSet};
 use script::LineFault;
+use site_lines::{
+    append_addition_line, append_call_line, append_entry_line, append_fault_line,
+    append_no_memory_line, append_order_full_line, append_position_line, append_row_count_line,
+};
 use site_model::{
     AdditionAnswer, AdditionRefusal, CallAnswer, CallRefusal, EntryOutcome, NothingCause,
 };

@@ -1,5 +1,5 @@
-use crate::{SiteLine, site_line};
 use row_sets::Bytes;
+use site_lines::{SiteLine, site_line};
 use std::alloc::Allocator;
 
 /// A line, and the number of its fault; 0 where it has none.
