@@ -55,8 +55,8 @@ fn append<A: Allocator + Copy>(entries: &mut Vec<Entry<A>, A>, call: ExecutedCal
         return Outcome::Refused(StepRefusal::LogFull);
     }
     let position = entries.len() as u32 + 1;
-    match entries.push(Entry::Call(call)) {
-        Ok(()) => Outcome::Ordered { position },
-        Err(_) => Outcome::Refused(StepRefusal::NoMemory),
+    if entries.push(Entry::Call(call)).is_err() {
+        return Outcome::Refused(StepRefusal::NoMemory);
     }
+    Outcome::Ordered { position }
 }
