@@ -1,7 +1,7 @@
 //! What sites answer: to callers, and to byte strings of an order.
 
 use super::heads::{ADDITION, CALL, HEAD};
-use super::sites::{answer, site_of, taken};
+use super::sites::{answer, answer_to_addition, site_of, taken};
 use log_model::RequestId;
 use site::Site;
 use site_calls::{Asked, NamedProgram};
@@ -45,6 +45,8 @@ enum Step<'a> {
     Take(&'a [u8], EntryOutcome),
     /// A call, which is answered so; the bytes that are to be ordered, if any.
     Ask(Asked<'a>, CallAnswer<usize>, &'a [u8]),
+    /// A procedure that is to be added, which is answered so; the bytes that are to be ordered, if any.
+    Add(NamedProgram<'a>, AdditionAnswer<usize>, &'a [u8]),
     /// It has come to this position.
     At(u32),
 }
@@ -57,6 +59,11 @@ fn take(bytes: &[u8], wanted: EntryOutcome) -> Step<'_> {
 /// A call that is answered so, and the bytes that are to be ordered.
 fn ask<'a>(asked: Asked<'a>, wanted: CallAnswer<usize>, bytes: &'a [u8]) -> Step<'a> {
     Step::Ask(asked, wanted, bytes)
+}
+
+/// A procedure that is to be added, which is answered so, and the bytes that are to be ordered.
+fn add<'a>(named: NamedProgram<'a>, wanted: AdditionAnswer<usize>, bytes: &'a [u8]) -> Step<'a> {
+    Step::Add(named, wanted, bytes)
 }
 
 /// A call of `add`.
@@ -102,6 +109,20 @@ fn is_answered(
     assert_eq!(rt; ordered.as_slice(), bytes);
 }
 
+/// A procedure that is to be added has to be answered so.
+fn addition_is_answered(
+    rt: &impl Abort,
+    alloc: Global,
+    site: &Site,
+    named: NamedProgram<'_>,
+    wanted: AdditionAnswer<usize>,
+    bytes: &[u8],
+) {
+    let (found, ordered) = answer_to_addition(alloc, site, named).expect(rt, "memory");
+    assert_eq!(rt; found, wanted);
+    assert_eq!(rt; ordered.as_slice(), bytes);
+}
+
 /// The site behind a step.
 fn behind(rt: &impl Abort, alloc: Global, site: Site, step: &Step<'_>) -> Site {
     match step {
@@ -112,6 +133,10 @@ fn behind(rt: &impl Abort, alloc: Global, site: Site, step: &Step<'_>) -> Site {
         }
         Step::Ask(asked, wanted, bytes) => {
             is_answered(rt, alloc, &site, *asked, *wanted, bytes);
+            site
+        }
+        Step::Add(named, wanted, bytes) => {
+            addition_is_answered(rt, alloc, &site, *named, *wanted, bytes);
             site
         }
         Step::At(position) => {
@@ -128,6 +153,11 @@ fn site_behind(rt: &impl Abort, alloc: Global, takes_additions: bool, steps: &[S
         site = behind(rt, alloc, site, step);
     }
     site
+}
+
+/// A site goes through these steps. (Who calls this has no site to let go.)
+fn go_through(rt: &impl Abort, alloc: Global, takes_additions: bool, steps: &[Step<'_>]) {
+    site_behind(rt, alloc, takes_additions, steps);
 }
 
 #[test]
@@ -176,7 +206,7 @@ fn other_bytes_are_nothing(rt: HostRuntime) {
     ];
     for (bytes, cause) in &rows {
         let steps = [take(bytes, EntryOutcome::Nothing(*cause)), Step::At(1)];
-        site_behind(&rt, rt.alloc(), true, &steps);
+        go_through(&rt, rt.alloc(), true, &steps);
     }
 }
 
@@ -187,8 +217,8 @@ fn what_is_nothing_counts_in_the_window(rt: HostRuntime) {
     let stale = take(&CALL, EntryOutcome::Stale);
     let four = [nothing, nothing, nothing, nothing, committed];
     let five = [nothing, nothing, nothing, nothing, nothing, stale];
-    site_behind(&rt, rt.alloc(), true, &four);
-    site_behind(&rt, rt.alloc(), true, &five);
+    go_through(&rt, rt.alloc(), true, &four);
+    go_through(&rt, rt.alloc(), true, &five);
 }
 
 #[test]
@@ -204,13 +234,13 @@ fn two_sites_come_to_the_same(rt: HostRuntime) {
         CallAnswer::Submitted(84),
         &other,
     )];
-    site_behind(&rt, rt.alloc(), true, &asked);
+    go_through(&rt, rt.alloc(), true, &asked);
     let steps = [
         take(&CALL, EntryOutcome::Committed(10)),
         take(&other, EntryOutcome::Conflict(1)),
     ];
     for _ in 0..2 {
-        site_behind(&rt, rt.alloc(), true, &steps);
+        go_through(&rt, rt.alloc(), true, &steps);
     }
 }
 
@@ -222,15 +252,10 @@ fn a_procedure_is_added_where_that_may_be(rt: HostRuntime) {
         args_len: 0,
         program: &ADDITION[13..],
     };
-    let site = site_behind(&rt, rt.alloc(), true, &[]);
-    assert!(rt; matches!(site.add(named), Ok(AdditionAnswer::Submitted(_))));
-    let closed = site_behind(&rt, rt.alloc(), false, &[]);
-    assert!(rt;
-        matches!(
-            closed.add(named),
-            Ok(AdditionAnswer::Refused(AdditionRefusal::NoAdditions))
-        )
-    );
+    let submitted = add(named, AdditionAnswer::Submitted(ADDITION.len()), &ADDITION);
+    let refused = AdditionAnswer::Refused(AdditionRefusal::NoAdditions);
+    go_through(&rt, rt.alloc(), true, &[submitted]);
+    go_through(&rt, rt.alloc(), false, &[add(named, refused, &[])]);
 }
 
 #[test]
@@ -245,9 +270,9 @@ fn an_added_procedure_is_called(rt: HostRuntime) {
         reply: 1,
     };
     let steps = [take(&ADDITION, EntryOutcome::Added(9)), ask(one, read, &[])];
-    site_behind(&rt, rt.alloc(), true, &steps);
+    go_through(&rt, rt.alloc(), true, &steps);
     let nothing = EntryOutcome::Nothing(NothingCause::Addition);
-    site_behind(&rt, rt.alloc(), false, &[take(&ADDITION, nothing)]);
+    go_through(&rt, rt.alloc(), false, &[take(&ADDITION, nothing)]);
 }
 
 #[test]
@@ -270,7 +295,7 @@ fn a_repeated_call_isnt_run_again(rt: HostRuntime) {
         ask(claim(SEVEN_ONE), repeated, &[]),
         ask(claim(next), cancelled, &[]),
     ];
-    site_behind(&rt, rt.alloc(), true, &steps);
+    go_through(&rt, rt.alloc(), true, &steps);
 }
 
 #[test]
@@ -291,6 +316,6 @@ fn calls_that_cannot_run_are_refused(rt: HostRuntime) {
             request: half,
         };
         let steps = [ask(asked, CallAnswer::Refused(*refusal), &[])];
-        site_behind(&rt, rt.alloc(), true, &steps);
+        go_through(&rt, rt.alloc(), true, &steps);
     }
 }

@@ -6,8 +6,8 @@ use catalogue::Catalogue;
 use log_entry::to_bytes;
 use schema::Schema;
 use site::Site;
-use site_calls::Asked;
-use site_model::{CallAnswer, EntryOutcome};
+use site_calls::{Asked, NamedProgram};
+use site_model::{AdditionAnswer, CallAnswer, EntryOutcome};
 use std::alloc::{Allocator, Global};
 use test_programs::{ADD, bytes_of};
 
@@ -63,6 +63,24 @@ pub(crate) fn answer<A: Allocator + Copy>(
         CallAnswer::Submitted(entry) => {
             bytes = to_bytes(alloc, &entry).ok()?;
             CallAnswer::Submitted(bytes.len())
+        }
+    };
+    Some((answer, bytes))
+}
+
+/// What is answered to a procedure that is to be added, by how many bytes are to be ordered, and these.
+pub(crate) fn answer_to_addition<A: Allocator + Copy>(
+    alloc: Global,
+    site: &Site<A>,
+    named: NamedProgram<'_>,
+) -> Option<(AdditionAnswer<usize>, Vec<u8>)> {
+    let mut bytes = Vec::new(alloc);
+    let args_len = named.args_len.min(256);
+    let answer = match site.add(NamedProgram { args_len, ..named }).ok()? {
+        AdditionAnswer::Refused(refusal) => AdditionAnswer::Refused(refusal),
+        AdditionAnswer::Submitted(entry) => {
+            bytes = to_bytes(alloc, &entry).ok()?;
+            AdditionAnswer::Submitted(bytes.len())
         }
     };
     Some((answer, bytes))
