@@ -67,7 +67,7 @@ fn add<'a>(named: NamedProgram<'a>, wanted: AdditionAnswer<usize>, bytes: &'a [u
 }
 
 /// A call of `add`.
-fn addition_to(args: &[u8; 16], request: RequestId) -> Asked<'_> {
+fn call_of_add(args: &[u8; 16], request: RequestId) -> Asked<'_> {
     Asked {
         name: b"add",
         args,
@@ -172,14 +172,14 @@ fn a_call_is_ordered_and_taken_once(rt: HostRuntime) {
     };
     let steps = [
         ask(
-            addition_to(&TEN_TO_FIVE, SEVEN_ONE),
+            call_of_add(&TEN_TO_FIVE, SEVEN_ONE),
             CallAnswer::Submitted(84),
             &CALL,
         ),
         take(&CALL, EntryOutcome::Committed(10)),
         take(&CALL, again),
-        ask(addition_to(&TEN_TO_FIVE, SEVEN_ONE), repeated, &[]),
-        ask(addition_to(&NINE_TO_NINE, SEVEN_ONE), repeated, &[]),
+        ask(call_of_add(&TEN_TO_FIVE, SEVEN_ONE), repeated, &[]),
+        ask(call_of_add(&NINE_TO_NINE, SEVEN_ONE), repeated, &[]),
         Step::At(2),
     ];
     let site = site_behind(&rt, rt.alloc(), true, &steps);
@@ -230,7 +230,7 @@ fn two_sites_come_to_the_same(rt: HostRuntime) {
     // Its session; what it adds, replies and writes.
     let other = with_bytes(&[(1, 8), (25, 7), (37, 7), (76, 7)]);
     let asked = [ask(
-        addition_to(&SEVEN_TO_FIVE, request),
+        call_of_add(&SEVEN_TO_FIVE, request),
         CallAnswer::Submitted(84),
         &other,
     )];

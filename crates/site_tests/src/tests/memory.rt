@@ -41,7 +41,8 @@ fn a_site_that_finds_no_memory_answers_nothing(rt: HostRuntime) {
     let scarce = Scarce::new(rt.alloc());
     let failed = scarce.refuse_each(|| {
         let found = outcome_and_position(&scarce);
-        assert!(rt; found.is_none() || found == Some((EntryOutcome::Committed(10), 1)));
+        let is_taken = found == Some((EntryOutcome::Committed(10), 1));
+        assert!(rt; found.is_none() || is_taken, "{found:?}");
         found.is_some()
     });
     assert!(rt; failed.is_some_and(|failed| failed > 0));

@@ -68,7 +68,8 @@ pub(crate) fn answer<A: Allocator + Copy>(
     Some((answer, bytes))
 }
 
-/// What is answered to a procedure that is to be added, by how many bytes are to be ordered, and these.
+/// What is answered to a procedure that is to be added, by how many bytes are to be ordered, and these. (A site may be
+/// asked for at most 256 bytes of arguments.)
 pub(crate) fn answer_to_addition<A: Allocator + Copy>(
     alloc: Global,
     site: &Site<A>,

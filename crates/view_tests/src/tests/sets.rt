@@ -115,9 +115,21 @@ fn refuse_a_put(rt: &impl Abort, scarce: &Scarce) {
     same(rt, "put", writes.get(1, 5), Some(Some([1, 2].as_slice())));
 }
 
+/// Writes for which there is room take no memory for their keys.
+fn keep_room(rt: &impl Abort, scarce: &Scarce) {
+    let mut writes = WriteSet::with_room(scarce, 5).expect(rt, "room");
+    scarce.refuse_all(true);
+    for key in 0..5 {
+        writes.remove(1, key).expect(rt, "a removal");
+    }
+    scarce.refuse_all(false);
+    same(rt, "removed", writes.len(), 5);
+}
+
 #[test]
 fn a_refused_growth_leaves_looks_and_writes(rt: HostRuntime) {
     let scarce = Scarce::new(rt.alloc());
     refuse_a_look(&rt, &scarce);
     refuse_a_put(&rt, &scarce);
+    keep_room(&rt, &scarce);
 }
