@@ -5,7 +5,8 @@ use crate::stories::{CALL, ENTRY, SETTINGS, SUBMITTED};
 use crate::streams::{PacedInput, WatchedOutput};
 use scarce::Scarce;
 use site_service::site_over;
-use std::alloc::{AllocError, Global};
+use std::alloc::Global;
+use std::process::Abort;
 use std::sync::atomic::AtomicU64;
 use test_streams::{Full, Input, Output};
 
@@ -40,18 +41,18 @@ struct Texts {
     answers: Vec<u8>,
 }
 
-fn texts_of(alloc: Global) -> Result<Texts, AllocError> {
-    Ok(Texts {
-        settings: joined(alloc, &SETTINGS)?,
-        input: joined(alloc, &LINES)?,
-        answers: joined(alloc, &ANSWERS)?,
-    })
+fn texts_of(rt: &impl Abort, alloc: Global) -> Texts {
+    Texts {
+        settings: joined(rt, alloc, &SETTINGS),
+        input: joined(rt, alloc, &LINES),
+        answers: joined(rt, alloc, &ANSWERS),
+    }
 }
 
 /// A line is waited for when the answer to the one before it has left, by an input that is interrupted, too.
 #[test]
 fn answers_leave_before_the_next_line_is_waited_for(rt: HostRuntime) {
-    let texts = texts_of(rt.alloc()).expect(&rt, "memory");
+    let texts = texts_of(&rt, rt.alloc());
     let mut settings = texts.settings.as_slice();
     let answered = AtomicU64::new(0);
     let mut input = PacedInput {
@@ -93,7 +94,7 @@ fn first_lines(text: &[u8], count: usize) -> &[u8] {
 #[test]
 fn inputs_may_fail(rt: HostRuntime) {
     let alloc = rt.alloc();
-    let texts = texts_of(alloc).expect(&rt, "memory");
+    let texts = texts_of(&rt, alloc);
     for length in 0..=texts.input.len() {
         for (fails, wanted) in [(true, 3), (false, 0)] {
             let (front, _) = texts.input.split_at(length);
@@ -121,7 +122,7 @@ fn inputs_may_fail(rt: HostRuntime) {
 #[test]
 fn settings_may_fail(rt: HostRuntime) {
     let alloc = rt.alloc();
-    let texts = texts_of(alloc).expect(&rt, "memory");
+    let texts = texts_of(&rt, alloc);
     for length in (0..texts.settings.len()).step_by(7) {
         let (front, _) = texts.settings.split_at(length);
         let mut settings = Input {
@@ -142,7 +143,7 @@ fn settings_may_fail(rt: HostRuntime) {
 #[test]
 fn outputs_may_fail(rt: HostRuntime) {
     let alloc = rt.alloc();
-    let texts = texts_of(alloc).expect(&rt, "memory");
+    let texts = texts_of(&rt, alloc);
     for full in [Full::Fails, Full::TakesNothing] {
         for room in 0..texts.answers.len() {
             let mut settings = texts.settings.as_slice();
@@ -163,7 +164,7 @@ fn outputs_may_fail(rt: HostRuntime) {
 #[test]
 fn outputs_may_take_little_at_once(rt: HostRuntime) {
     let alloc = rt.alloc();
-    let texts = texts_of(alloc).expect(&rt, "memory");
+    let texts = texts_of(&rt, alloc);
     for (flushes, wanted, count) in [(true, 0, 8), (false, 3, 1)] {
         let mut settings = texts.settings.as_slice();
         let mut input = texts.input.as_slice();
@@ -177,25 +178,31 @@ fn outputs_may_take_little_at_once(rt: HostRuntime) {
 }
 
 /// The addition of a program of so many slots, and its answer, which is longer than what is written at once.
-fn long_addition(alloc: Global, slots: usize) -> Result<(Vec<u8>, Vec<u8>), AllocError> {
+fn long_addition(rt: &impl Abort, alloc: Global, slots: usize) -> (Vec<u8>, Vec<u8>) {
     let mut program = Vec::new(alloc);
     for _ in 1..slots {
-        program.extend_from_slice(b"b700000001000000")?;
+        program
+            .extend_from_slice(b"b700000001000000")
+            .expect(rt, "memory");
     }
-    program.extend_from_slice(b"9500000000000000\n")?;
-    let mut input = Vec::from_slice(alloc, b"add one 9 0 ")?;
-    input.extend_from_slice(&program)?;
-    let mut answer = Vec::from_slice(alloc, b"submit 0209000000036f6e65401f0000")?;
-    answer.extend_from_slice(&program)?;
-    Ok((input, answer))
+    program
+        .extend_from_slice(b"9500000000000000\n")
+        .expect(rt, "memory");
+    let mut input = Vec::from_slice(alloc, b"add one 9 0 ").expect(rt, "memory");
+    input.extend_from_slice(&program).expect(rt, "memory");
+    let mut answer = Vec::from_slice(alloc, b"submit 0209000000036f6e65401f0000").expect(
+        rt, "memory",
+    );
+    answer.extend_from_slice(&program).expect(rt, "memory");
+    (input, answer)
 }
 
 /// A long answer leaves whole, and where the output fails in its midst it is asked no more.
 #[test]
 fn long_answers_leave(rt: HostRuntime) {
     let alloc = rt.alloc();
-    let settings = joined(alloc, &SETTINGS).expect(&rt, "memory");
-    let (line, answer) = long_addition(alloc, 1_000).expect(&rt, "memory");
+    let settings = joined(&rt, alloc, &SETTINGS);
+    let (line, answer) = long_addition(&rt, alloc, 1_000);
     for (room, status) in [
         (answer.len(), 0),
         (answer.len().saturating_sub(1), 3),
@@ -219,7 +226,7 @@ fn long_answers_leave(rt: HostRuntime) {
 #[test]
 fn faults_may_find_no_room(rt: HostRuntime) {
     let alloc = rt.alloc();
-    let settings = joined(alloc, &["window 4", "replicas 2"]).expect(&rt, "memory");
+    let settings = joined(&rt, alloc, &["window 4", "replicas 2"]);
     for full in [Full::Fails, Full::TakesNothing] {
         for room in 0..11 {
             let mut reader = settings.as_slice();
@@ -295,7 +302,7 @@ fn course_of(ended: &Ended) -> Option<Course> {
 #[test]
 fn growths_are_refused_in_turn(rt: HostRuntime) {
     let alloc = rt.alloc();
-    let texts = texts_of(alloc).expect(&rt, "memory");
+    let texts = texts_of(&rt, alloc);
     let scarce = Scarce::new(alloc);
     let (mut ended_late, mut refused) = (false, false);
     for nth in 1..MOST {

@@ -2,9 +2,9 @@
 
 use super::runs::{joined, run_site};
 use crate::stories::{CALL, CALL_BYTES, SETTINGS, SUBMITTED};
-use std::alloc::{AllocError, Global};
-use std::io;
+use std::alloc::Global;
 use std::io::Write;
+use std::process::Abort;
 
 /// How many bytes the head of a call has that has 16 bytes of arguments.
 const HEAD: usize = 45;
@@ -53,70 +53,80 @@ fn number_at(bytes: &[u8], place: usize) -> u32 {
 }
 
 /// The line that is answered to it.
-fn line_of(alloc: Global, bytes: &[u8], fate: Fate) -> io::Result<Vec<u8>> {
+fn line_of(rt: &impl Abort, alloc: Global, bytes: &[u8], fate: Fate) -> Vec<u8> {
     let mut line = Vec::new(alloc);
     let has_request = match fate {
         Fate::Commits => {
-            write!(line, "entry 1 commit reply 10")?;
+            write!(line, "entry 1 commit reply 10").expect(rt, "memory");
             true
         }
         Fate::Nothing { cause, has_request } => {
-            write!(line, "entry 1 nothing E{cause}")?;
+            write!(line, "entry 1 nothing E{cause}").expect(rt, "memory");
             has_request
         }
     };
     if has_request {
         let session = number_at(bytes, 1);
         let sequence = number_at(bytes, 5);
-        write!(line, " session {session} seq {sequence}")?;
+        write!(line, " session {session} seq {sequence}").expect(rt, "memory");
     }
-    writeln!(line, "")?;
-    Ok(line)
+    writeln!(line, "").expect(rt, "memory");
+    line
+}
+
+/// The digit of a number below 16.
+fn digit_of(number: u8) -> u8 {
+    if number < 10 {
+        b'0'.wrapping_add(number)
+    } else {
+        (b'a' - 10).wrapping_add(number)
+    }
 }
 
 /// The line that gives a byte string to a site.
-fn entry_line(alloc: Global, bytes: &[u8]) -> Result<Vec<u8>, AllocError> {
-    let mut line = Vec::from_slice(alloc, b"entry ")?;
+fn entry_line(rt: &impl Abort, alloc: Global, bytes: &[u8]) -> Vec<u8> {
+    let mut line = Vec::from_slice(alloc, b"entry ").expect(rt, "memory");
     if bytes.is_empty() {
-        line.extend_from_slice(b"-")?;
+        line.push(b'-').expect(rt, "memory");
     }
     for byte in bytes {
-        for digit in [byte / 16, byte % 16] {
-            line.push(if digit < 10 {
-                b'0' + digit
-            } else {
-                b'a' - 10 + digit
-            })?;
-        }
+        line.extend_from_slice(&[digit_of(byte / 16), digit_of(byte % 16)])
+            .expect(rt, "memory");
     }
-    line.extend_from_slice(b"\n")?;
-    Ok(line)
+    line.push(b'\n').expect(rt, "memory");
+    line
+}
+
+/// Three texts behind one another.
+fn together(rt: &impl Abort, alloc: Global, first: &[u8], second: &[u8], third: &[u8]) -> Vec<u8> {
+    let mut all = Vec::from_slice(alloc, first).expect(rt, "memory");
+    all.extend_from_slice(second).expect(rt, "memory");
+    all.extend_from_slice(third).expect(rt, "memory");
+    all
+}
+
+/// Whether a site answers its input so.
+fn answers(alloc: Global, settings: &[u8], input: &[u8], wanted: &[u8]) -> bool {
+    let ended = run_site(alloc, alloc, settings, input);
+    ended.status == 0 && ended.answers.as_slice() == wanted
 }
 
 /// Whether a site that is given the byte string answers it so, and one too that is asked something before and behind it.
-fn meets(alloc: Global, settings: &[u8], bytes: &[u8], fate: Fate) -> io::Result<bool> {
-    let line = entry_line(alloc, bytes)?;
-    let answer = line_of(alloc, bytes, fate)?;
-    let alone = run_site(alloc, alloc, settings, &line);
-    let mut input = joined(alloc, &[CALL])?;
-    input.extend_from_slice(&line)?;
-    input.extend_from_slice(b"position\n")?;
-    let mut answers = joined(alloc, &[SUBMITTED])?;
-    answers.extend_from_slice(&answer)?;
-    answers.extend_from_slice(b"position 1\n")?;
-    let among = run_site(alloc, alloc, settings, &input);
-    Ok(
-        (alone.status, among.status) == (0, 0)
-            && alone.answers.as_slice() == answer.as_slice()
-            && among.answers.as_slice() == answers.as_slice(),
-    )
+fn meets(rt: &impl Abort, alloc: Global, settings: &[u8], bytes: &[u8], fate: Fate) -> bool {
+    let line = entry_line(rt, alloc, bytes);
+    let answer = line_of(rt, alloc, bytes, fate);
+    let call = joined(rt, alloc, &[CALL]);
+    let submitted = joined(rt, alloc, &[SUBMITTED]);
+    let input = together(rt, alloc, &call, &line, b"position\n");
+    let wanted = together(rt, alloc, &submitted, &answer, b"position 1\n");
+    answers(alloc, settings, &line, &answer) && answers(alloc, settings, &input, &wanted)
 }
 
 /// Each byte of an entry is changed in turn, and is answered alike at two sites.
 #[test]
 fn changed_entries_commit_or_are_nothing(rt: HostRuntime) {
     let alloc = rt.alloc();
-    let settings = joined(alloc, &SETTINGS).expect(&rt, "memory");
+    let settings = joined(&rt, alloc, &SETTINGS);
     for place in 0..CALL_BYTES.len() {
         for bits in [1, 128, 255] {
             let mut bytes = CALL_BYTES;
@@ -124,7 +134,7 @@ fn changed_entries_commit_or_are_nothing(rt: HostRuntime) {
                 *byte ^= bits;
             }
             let fate = fate_of(place, bits);
-            let met = meets(alloc, &settings, &bytes, fate).expect(&rt, "memory");
+            let met = meets(&rt, alloc, &settings, &bytes, fate);
             assert!(rt; met, "{place} {bits}");
         }
     }
@@ -134,13 +144,13 @@ fn changed_entries_commit_or_are_nothing(rt: HostRuntime) {
 #[test]
 fn cut_entries_are_nothing(rt: HostRuntime) {
     let alloc = rt.alloc();
-    let settings = joined(alloc, &SETTINGS).expect(&rt, "memory");
+    let settings = joined(&rt, alloc, &SETTINGS);
     for length in 0..CALL_BYTES.len() {
         let (bytes, _) = CALL_BYTES.split_at(length);
         let has_request = length >= HEAD;
         let cause = if has_request { 5 } else { 1 };
         let fate = Fate::Nothing { cause, has_request };
-        let met = meets(alloc, &settings, bytes, fate).expect(&rt, "memory");
+        let met = meets(&rt, alloc, &settings, bytes, fate);
         assert!(rt; met, "{length}");
     }
 }

@@ -2,16 +2,17 @@
 
 use crate::stories::Story;
 use site_service::site_over;
-use std::alloc::{AllocError, Allocator, Global};
+use std::alloc::{Allocator, Global};
+use std::process::Abort;
 
 /// Lines, each with an LF.
-pub(crate) fn joined(alloc: Global, lines: &[&str]) -> Result<Vec<u8>, AllocError> {
+pub(crate) fn joined(rt: &impl Abort, alloc: Global, lines: &[&str]) -> Vec<u8> {
     let mut text = Vec::new(alloc);
     for line in lines {
-        text.extend_from_slice(line.as_bytes())?;
-        text.extend_from_slice(b"\n")?;
+        text.extend_from_slice(line.as_bytes()).expect(rt, "memory");
+        text.extend_from_slice(b"\n").expect(rt, "memory");
     }
-    Ok(text)
+    text
 }
 
 /// How a site ended: its status, what it answered, and what is said of faults.
@@ -42,14 +43,10 @@ pub(crate) fn run_site<A: Allocator + Copy>(
 }
 
 /// Whether a site answers its lines as a story says, and says nothing of faults.
-pub(crate) fn tells(alloc: Global, story: &Story) -> Result<bool, AllocError> {
-    let settings = joined(alloc, story.settings)?;
-    let input = joined(alloc, story.lines)?;
-    let answers = joined(alloc, story.answers)?;
+pub(crate) fn tells(rt: &impl Abort, alloc: Global, story: &Story) -> bool {
+    let settings = joined(rt, alloc, story.settings);
+    let input = joined(rt, alloc, story.lines);
+    let answers = joined(rt, alloc, story.answers);
     let ended = run_site(alloc, alloc, &settings, &input);
-    Ok(
-        ended.status == 0
-            && ended.faults.is_empty()
-            && ended.answers.as_slice() == answers.as_slice(),
-    )
+    ended.status == 0 && ended.faults.is_empty() && ended.answers.as_slice() == answers.as_slice()
 }

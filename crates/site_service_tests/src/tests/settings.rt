@@ -29,8 +29,8 @@ const FAULTS: [(&[&str], &str); 14] = [
 fn settings_at_fault_are_told(rt: HostRuntime) {
     let alloc = rt.alloc();
     for (lines, fault) in &FAULTS {
-        let settings = joined(alloc, lines).expect(&rt, "memory");
-        let said = joined(alloc, &[*fault]).expect(&rt, "memory");
+        let settings = joined(&rt, alloc, lines);
+        let said = joined(&rt, alloc, &[*fault]);
         let mut reader = settings.as_slice();
         let mut input = b"position\n".as_slice();
         let mut answers = Vec::new(alloc);
