@@ -1,4 +1,4 @@
-//! Tests of replicas: on logs that the plain replayer replays too verdicts, comparisons and rows are the same.
+//! Tests of replicas: logs that are written down, and rows at a position while later calls are delivered.
 #![tactic(auto)]
 
 #[cfg(test)]

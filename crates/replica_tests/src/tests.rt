@@ -1,4 +1,2 @@
-mod drawn;
-mod replayed;
 mod steps;
 mod stores;

@@ -8,6 +8,7 @@ pub use share::shares_key;
 pub use write_set::WriteSet;
 
 mod read_set;
+mod room;
 mod row;
 mod share;
 mod sorted;

@@ -2,6 +2,7 @@
 
 ghost use Rattle.std.specs.Prelude.{◌≡◌, [], ◌∷◌, ◌++◌, OnOk, OnErr};
 
+use crate::room::take_first_room;
 use schema::Look;
 use std::alloc::{AllocError, Allocator, Global};
 use std::marker::Model;
@@ -52,6 +53,7 @@ impl<A: Allocator> ReadSet<A> {
         ensures added { OnOk result (self.new ≡ self.old ++ look ∷ []) }
         ensures unchanged { OnErr result (self.new ≡ self.old) }
     {
+        take_first_room(&mut self.looks)?;
         self.looks.push(look)?;
         Ok(())
     }

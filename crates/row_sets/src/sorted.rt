@@ -1,23 +1,23 @@
 //! Writes in the order of their keys, each key once.
 
-ghost use Rattle.std.specs.Prelude.{◌≡◌, length, take, drop, filter, option_map, IfOk, IfErr, OnOk, OnErr, T};
+ghost use Rattle.std.specs.Prelude.{◌≡◌, length, filter, not, option_map, IfOk, IfErr, OnOk, OnErr, T};
 ghost use Rattle.std.specs.List.{HoldsAt};
 ghost use Rattle.std.specs.List.Sorted.{IsSearchInRange, IsPartitionPoint};
 ghost use Rattle.std.specs.Ordering.{is_le, is_lt};
 ghost use Rattle.std.specs.declared.cmp.Ordering.TheVariants.{Less, Equal, Greater};
 ghost use Rattle.std.specs.FinMap.{find, put, is_sorted};
 ghost use Rattle.schema.specs.Rows.{covers, key_cmp};
-ghost use Rattle.row_sets.specs.Front.{front};
 
+use crate::room::take_first_room;
 use crate::row::Bytes;
 use schema::Look;
 use std::alloc::{AllocError, Allocator};
 
 /// A key, of table and key, and its last write: the bytes that were put, or none where the row was removed.
-pub(crate) type Written<A> = ((u8, u64), Option<Bytes<A>>);
+pub(crate) type KeyedWrite<A> = ((u8, u64), Option<Bytes<A>>);
 
 /// Where a key stands, or where it would.
-fn search<A: Allocator>(writes: &[Written<A>], key: (u8, u64)) -> Result<usize, usize>
+fn search<A: Allocator>(writes: &[KeyedWrite<A>], key: (u8, u64)) -> Result<usize, usize>
     requires { T (is_sorted key_cmp writes.now) }
     ensures within { IsSearchInRange result (length writes.now) }
     ensures found { IfOk result (HoldsAt (λ w. key_cmp w.0 key ≡ Equal) writes.now) }
@@ -28,7 +28,10 @@ fn search<A: Allocator>(writes: &[Written<A>], key: (u8, u64)) -> Result<usize, 
 }
 
 /// The write at a key, if there is one.
-pub(crate) fn find<A: Allocator>(writes: &[Written<A>], key: (u8, u64)) -> Option<&Option<Bytes<A>>>
+pub(crate) fn find<A: Allocator>(
+    writes: &[KeyedWrite<A>],
+    key: (u8, u64),
+) -> Option<&Option<Bytes<A>>>
     requires { T (is_sorted key_cmp writes.now) }
     ensures { option_map (λ write. write.now) result ≡ find key_cmp key writes.now }
 {
@@ -40,7 +43,7 @@ pub(crate) fn find<A: Allocator>(writes: &[Written<A>], key: (u8, u64)) -> Optio
 
 /// Puts a write at its key, in place of one that stands there.
 pub(crate) fn put<A: Allocator>(
-    writes: &mut Vec<Written<A>, A>,
+    writes: &mut Vec<KeyedWrite<A>, A>,
     key: (u8, u64),
     write: Option<Bytes<A>>,
 ) -> Result<(), AllocError>
@@ -48,6 +51,7 @@ pub(crate) fn put<A: Allocator>(
     ensures done { OnOk result (writes.new.items ≡ put key_cmp key write writes.old.items) }
     ensures unchanged { OnErr result (writes.new.items ≡ writes.old.items) }
 {
+    take_first_room(writes)?;
     match search(writes, key) {
         Ok(at) => writes[at] = (key, write),
         Err(at) => writes.insert(at, (key, write))?,
@@ -56,25 +60,25 @@ pub(crate) fn put<A: Allocator>(
 }
 
 /// The writes from a key on.
-fn since<A: Allocator>(writes: &[Written<A>], key: (u8, u64)) -> &[Written<A>]
+fn since<A: Allocator>(writes: &[KeyedWrite<A>], key: (u8, u64)) -> &[KeyedWrite<A>]
     requires { T (is_sorted key_cmp writes.now) }
-    ensures { result.now ≡ drop (front (λ w. is_lt (key_cmp w.0 key)) writes.now) writes.now }
+    ensures { result.now ≡ filter (λ w. not (is_lt (key_cmp w.0 key))) writes.now }
 {
     let from = writes.partition_point(|write| write.0 < key);
     &writes[from..]
 }
 
 /// The writes up to a key.
-fn up_to<A: Allocator>(writes: &[Written<A>], key: (u8, u64)) -> &[Written<A>]
+fn up_to<A: Allocator>(writes: &[KeyedWrite<A>], key: (u8, u64)) -> &[KeyedWrite<A>]
     requires { T (is_sorted key_cmp writes.now) }
-    ensures { result.now ≡ take (front (λ w. is_le (key_cmp w.0 key)) writes.now) writes.now }
+    ensures { result.now ≡ filter (λ w. is_le (key_cmp w.0 key)) writes.now }
 {
     let to = writes.partition_point(|write| write.0 <= key);
     &writes[..to]
 }
 
 /// The writes of the keys that a look covers.
-pub(crate) fn between<A: Allocator>(writes: &[Written<A>], look: Look) -> &[Written<A>]
+pub(crate) fn between<A: Allocator>(writes: &[KeyedWrite<A>], look: Look) -> &[KeyedWrite<A>]
     requires { T (is_sorted key_cmp writes.now) }
     ensures { result.now ≡ filter (λ write. covers look write.0) writes.now }
 {

@@ -1,5 +1,5 @@
 -- Bits of words, and unions of bits.
-use Rattle.std.proofs.Common.{◌≡◌, ◌≢◌, ◌⊎◌, inl, inr, ℕ, zero, suc, ◌+◌, ◌-◌, ◌≤◌, ◌<◌, ◌^◌, ◌*◌, ◌/◌, ◌%◌, Bool, true, false, ◌||◌, List, [], ◌∷◌, ◌++◌, nat_eq, length, get_or, drop, refl, sym, ap, ◌∙◌, arith}
+use Rattle.std.proofs.Common.{◌≡◌, ◌≢◌, ◌⊎◌, inl, inr, ℕ, zero, suc, ◌+◌, ◌≤◌, ◌<◌, ◌^◌, ◌*◌, ◌/◌, ◌%◌, Bool, true, false, ◌||◌, List, [], ◌∷◌, ◌++◌, nat_eq, length, get_or, drop, refl, sym, ap, ◌∙◌, arith}
 use Rattle.std.specs.List.{list_any, range_with_len}
 use Rattle.std.proofs.lemmas.Bool.Decides.{nat_tests}
 use Rattle.std.proofs.lemmas.List.{drop_more}
@@ -8,8 +8,7 @@ use Rattle.std.specs.Prelude.{bit_or, slice_set}
 use Rattle.std.proofs.lemmas.Nat.Bits.{bit_at-zero, bit_at_ones, bit_at_set_same, bit_at_set_other}
 use Rattle.std.proofs.lemmas.Simd.{get_or-replicate}
 use Rattle.std.specs.Prelude.{replicate}
-use Rattle.std.proofs.lemmas.Bool.{cases_lt}
-use Rattle.std.proofs.lemmas.List.{get_or-set_same, get_or-set_other, get_or_append_left, get_or-append_right}
+use Rattle.std.proofs.lemmas.List.{get_or-set_same, get_or-set_other}
 use Rattle.sig_lanes.specs.Bits.{has_bit, Meet}
 
 pub or_false : (a : Bool) → (a || false) ≡ a
@@ -133,48 +132,3 @@ last_or_before m n lt = elim (decide m n) [ inl e ↦ inr e | inr f ↦ inl (let
   where
     below : (m ≡ n → ⊥) → m < n
     below ne = grind (arith, nat_tests)
-
--- ---- a set of bits in two halves
-
-low_bit : (low high : List ℕ) (b : ℕ) → length low ≡ 8 → b < 512 → has_bit (low ++ high) b ≡ has_bit low b
-unfolding has_bit
-low_bit low high b long lt = ap (λ (w : ℕ). nat_eq (bit_at w (b % 64)) 1) (get_or_append_left low high 0 (b / 64) (omega arith))
-
-high_bit : (low high : List ℕ) (b : ℕ) → length low ≡ 8 → 512 ≤ b → has_bit (low ++ high) b ≡ has_bit high (b - 512)
-unfolding has_bit
-high_bit low high b long ge =
-    let word : b / 64 - 8 ≡ (b - 512) / 64 = omega arith in
-    let rest : b % 64 ≡ (b - 512) % 64 = omega arith in
-    ap (λ (w : ℕ). nat_eq (bit_at w (b % 64)) 1) (get_or-append_right low high 8 (b / 64) 0 long (omega arith))
-    ∙ ap (λ (i : ℕ). nat_eq (bit_at (get_or high i 0) (b % 64)) 1) word
-    ∙ ap (λ (i : ℕ). nat_eq (bit_at (get_or high ((b - 512) / 64) 0) i) 1) rest
-
-or_other : (x : Bool) (m n : ℕ) → (m ≡ n → ⊥) → x ≡ (x || nat_eq m n)
-or_other x m n ne = elim (decide m n) [ inl e ↦ absurd (ne e) | inr f ↦ sym (ap (λ (y : Bool). x || y) f ∙ or_false x) ]
-
-pub more_low : (low new high : List ℕ) (bit b : ℕ) → length low ≡ 8 → length new ≡ 8 → bit < 512
-    → has_bit new b ≡ (has_bit low b || nat_eq bit b) → has_bit (new ++ high) b ≡ (has_bit (low ++ high) b || nat_eq bit b)
-more_low low new high bit b long also within more = elim (cases_lt b 512) [
-  | inl lt ↦ low_bit new high b also lt ∙ more ∙ ap (λ (x : Bool). x || nat_eq bit b) (sym (low_bit low high b long lt))
-  | inr ge ↦ (
-      let same = high_bit new high b also ge ∙ sym (high_bit low high b long ge) in
-      same ∙ or_other (has_bit (low ++ high) b) bit b (λ e. absurd (omega arith)))
-]
-
-pub more_high : (low high new : List ℕ) (bit b : ℕ) → length low ≡ 8 → 512 ≤ bit
-    → has_bit new (b - 512) ≡ (has_bit high (b - 512) || nat_eq (bit - 512) (b - 512))
-    → has_bit (low ++ new) b ≡ (has_bit (low ++ high) b || nat_eq bit b)
-more_high low high new bit b long within more = elim (cases_lt b 512) [
-  | inl lt ↦ (
-      let same = low_bit low new b long lt ∙ sym (low_bit low high b long lt) in
-      same ∙ or_other (has_bit (low ++ high) b) bit b (λ e. absurd (omega arith)))
-  | inr ge ↦ (
-      let shifted : nat_eq (bit - 512) (b - 512) ≡ nat_eq bit b = same_test ge in
-      high_bit low new b long ge
-      ∙ more
-      ∙ ap (λ (x : Bool). x || nat_eq (bit - 512) (b - 512)) (sym (high_bit low high b long ge))
-      ∙ ap (λ (x : Bool). has_bit (low ++ high) b || x) shifted)
-]
-  where
-    same_test : 512 ≤ b → nat_eq (bit - 512) (b - 512) ≡ nat_eq bit b
-    same_test ge = grind (arith, nat_tests)

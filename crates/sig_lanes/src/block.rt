@@ -5,33 +5,15 @@ ghost use Rattle.std.specs.Int.{bit_at};
 ghost use Rattle.sig_lanes.specs.Bits.{has_bit, Meet, signature_at, SharePlace};
 
 use crate::Sig;
-use crate::lanes::{lanes_with_bits, or_shared, with_word};
+use crate::lanes::{lanes_with_bits, or_shared};
 use std::marker::Model;
 use std::simd::prelude::*;
-
-/// The words of one index of eight signatures: lane j is that of signature j.
-#[derive(Clone, Copy)]
-struct Words {
-    lanes: u64x8,
-}
-
-impl Model for Words {
-    ghost use Rattle.std.specs.Prelude.{◌≡◌, ℕ, List, length};
-
-    ghost Value = { List ℕ };
-
-    ghost view = { λ w. w.lanes };
-
-    ghost invariant = { λ w. length w.lanes ≡ 8 };
-
-    ghost inverse = { λ lanes. record { lanes = lanes } };
-}
 
 /// Eight signatures, turned round: lane j of vector i is word i of signature j. Contracts see the 16 vectors, each as
 /// its eight words, and tell the signatures by `signature_at`.
 #[derive(Drop)]
 pub struct Block {
-    words: [Words; 16],
+    words: [[u64; 8]; 16],
 }
 
 impl Model for Block {
@@ -43,16 +25,16 @@ impl Model for Block {
 }
 
 /// Replaces the word of one signature.
-fn put_word(words: &mut Words, lane: usize, word: u64)
+fn put_word(lanes: &mut [u64; 8], lane: usize, word: u64)
     requires { lane < 8 }
-    ensures here { slice_index_or words.new lane 0 ≡ word }
-    ensures others { (other : ℕ) → other ≢ lane → slice_index_or words.new other 0 ≡ slice_index_or words.old other 0 }
+    ensures here { slice_index_or lanes.new lane 0 ≡ word }
+    ensures others { (other : ℕ) → other ≢ lane → slice_index_or lanes.new other 0 ≡ slice_index_or lanes.old other 0 }
 {
-    words.lanes = with_word(words.lanes, lane, word);
+    lanes[lane] = word;
 }
 
 /// Replaces one of eight signatures.
-fn put_signature(block: &mut [Words; 16], lane: usize, signature: &Sig)
+fn put_signature(block: &mut [[u64; 8]; 16], lane: usize, signature: &Sig)
     requires { lane < 8 }
     ensures set { signature_at block.new lane ≡ signature.now }
     ensures others { (other : ℕ) → other ≢ lane → signature_at block.new other ≡ signature_at block.old other }
@@ -66,19 +48,19 @@ fn put_signature(block: &mut [Words; 16], lane: usize, signature: &Sig)
 /// The bits so far, with those that each lane shares with a word. Lanes that are held against 0 aren't read: most words
 /// of a signature are 0, as calls look at few keys.
 #[inline(always)]
-fn share_word(so_far: u64x8, words: &Words, word: u64) -> u64x8
+fn share_word(so_far: u64x8, lanes: &[u64; 8], word: u64) -> u64x8
     ensures { (j : ℕ) → j < 8
-        → slice_index_or result j 0 ≡ bit_or (slice_index_or so_far j 0) (bit_and (slice_index_or words.now j 0) word) }
+        → slice_index_or result j 0 ≡ bit_or (slice_index_or so_far j 0) (bit_and (slice_index_or lanes.now j 0) word) }
 {
     if word == 0 {
         return so_far;
     }
-    or_shared(so_far, words.lanes, word)
+    or_shared(so_far, u64x8::from_array(*lanes), word)
 }
 
 /// The bits that each of eight signatures shares with another, whichever word they are in.
 #[inline(always)]
-fn shared_bits(block: &[Words; 16], signature: &Sig) -> u64x8
+fn shared_bits(block: &[[u64; 8]; 16], signature: &Sig) -> u64x8
     ensures { (j k : ℕ) → j < 8
         → ((bit_at (slice_index_or result j 0) k ≡ 1) ↔ SharePlace (signature_at block.now j) signature.now 16 k) }
 {
@@ -95,10 +77,9 @@ impl Block {
     pub fn empty() -> Block
         ensures { (j bit : ℕ) → has_bit (signature_at result j) bit ≡ false }
     {
-        let none = Words {
-            lanes: u64x8::splat(0),
-        };
-        Block { words: [none; 16] }
+        Block {
+            words: [[0; 8]; 16],
+        }
     }
 
     /// Puts a signature in a lane.

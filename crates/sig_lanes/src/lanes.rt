@@ -1,6 +1,6 @@
 //! Eight words of 64 bits in a vector.
 
-ghost use Rattle.std.specs.Prelude.{◌≡◌, ◌<◌, ◌↔◌, ℕ, bit_and, bit_or, slice_index_or, slice_set};
+ghost use Rattle.std.specs.Prelude.{◌≡◌, ◌<◌, ◌↔◌, ℕ, bit_and, bit_or, slice_index_or};
 ghost use Rattle.std.specs.Int.{bit_at};
 
 use std::simd::prelude::*;
@@ -21,15 +21,4 @@ pub(crate) fn or_shared(so_far: u64x8, lanes: u64x8, word: u64) -> u64x8
         → slice_index_or result j 0 ≡ bit_or (slice_index_or so_far j 0) (bit_and (slice_index_or lanes j 0) word) }
 {
     so_far | (lanes & u64x8::splat(word))
-}
-
-/// The lanes with one word replaced.
-#[inline(always)]
-pub(crate) fn with_word(lanes: u64x8, lane: usize, word: u64) -> u64x8
-    requires { lane < 8 }
-    ensures { result ≡ slice_set lanes lane word }
-{
-    let mut words = lanes.to_array();
-    words[lane] = word;
-    u64x8::from_array(words)
 }

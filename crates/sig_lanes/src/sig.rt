@@ -5,7 +5,7 @@ ghost use Rattle.std.specs.Prelude.{slice_index_or, IfSome, IfNone};
 ghost use Rattle.row_model.specs.Signature.{bit_of, look_sets_bit, looks_set_bit, writes_set_bit};
 ghost use Rattle.sig_lanes.specs.Bits.{has_bit, Meet};
 
-use crate::lanes::{lanes_with_bits, with_word};
+use crate::lanes::lanes_with_bits;
 use row_sets::{ReadSet, WriteSet};
 use schema::Look;
 use std::alloc::Allocator;
@@ -15,18 +15,15 @@ use std::simd::prelude::*;
 /// A set of bits below 1,024. Contracts see its 16 words: bit b is bit b mod 64 of word b / 64.
 #[derive(Drop)]
 pub struct Sig {
-    low: u64x8,
-    high: u64x8,
+    words: [u64; 16],
 }
 
 impl Model for Sig {
-    ghost use Rattle.std.specs.Prelude.{◌≡◌, ◌++◌, ℕ, List, length};
+    ghost use Rattle.std.specs.Prelude.{ℕ, List};
 
     ghost Value = { List ℕ };
 
-    ghost view = { λ s. s.low ++ s.high };
-
-    ghost invariant = { λ s. (length s.low ≡ 8) × (length s.high ≡ 8) };
+    ghost view = { λ s. s.words };
 }
 
 /// The bit of a key.
@@ -47,13 +44,13 @@ fn halves_meet(low: u64x8, high: u64x8, other_low: u64x8, other_high: u64x8) -> 
     lanes_with_bits((low & other_low) | (high & other_high)) != 0
 }
 
-/// Half of the words with one more bit, which is counted from the first of the half.
-fn with_bit(half: u64x8, bit: usize) -> u64x8
-    requires { bit < 512 }
-    ensures bits { (b : ℕ) → has_bit result b ≡ (has_bit half b || (bit == b)) }
-    ensures eight { length result ≡ 8 }
+/// The words in two vectors, the first eight in the first.
+fn halves(words: &[u64; 16]) -> (u64x8, u64x8)
+    ensures { result.0 ++ result.1 ≡ words.now }
 {
-    with_word(half, bit / 64, half[bit / 64] | 1 << (bit % 64))
+    let low = u64x8::from_slice(&words[..8]);
+    let high = u64x8::from_slice(&words[8..]);
+    (low, high)
 }
 
 impl Sig {
@@ -61,10 +58,7 @@ impl Sig {
     pub fn empty() -> Sig
         ensures { (bit : ℕ) → has_bit result bit ≡ false }
     {
-        Sig {
-            low: u64x8::splat(0),
-            high: u64x8::splat(0),
-        }
+        Sig { words: [0; 16] }
     }
 
     /// All 1,024 bits.
@@ -72,8 +66,7 @@ impl Sig {
         ensures { (bit : ℕ) → bit < 1024 → IsTrue (has_bit result bit) }
     {
         Sig {
-            low: u64x8::splat(u64::MAX),
-            high: u64x8::splat(u64::MAX),
+            words: [u64::MAX; 16],
         }
     }
 
@@ -82,11 +75,7 @@ impl Sig {
         requires { bit < 1024 }
         ensures { (b : ℕ) → has_bit self.new b ≡ (has_bit self.old b || (bit == b)) }
     {
-        if bit < 512 {
-            self.low = with_bit(self.low, bit);
-        } else {
-            self.high = with_bit(self.high, bit - 512);
-        }
+        self.words[bit / 64] |= 1 << (bit % 64);
     }
 
     /// The bits of a look besides.
@@ -135,17 +124,16 @@ impl Sig {
         ensures words { result ≡ self.now }
         ensures sixteen { length result ≡ 16 }
     {
-        let mut words = [0; 16];
-        self.low.copy_to_slice(&mut words[..8]);
-        self.high.copy_to_slice(&mut words[8..]);
-        words
+        self.words
     }
 
     /// Whether some bit is in both.
     pub fn meets(&self, other: &Sig) -> bool
         ensures { IsTrue result ↔ Meet self.now other.now }
     {
-        halves_meet(self.low, self.high, other.low, other.high)
+        let (low, high) = halves(&self.words);
+        let (other_low, other_high) = halves(&other.words);
+        halves_meet(low, high, other_low, other_high)
     }
 }
 
