@@ -2,5 +2,4 @@
 
 mod answers;
 mod heads;
-mod memory;
 mod sites;

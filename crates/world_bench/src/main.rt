@@ -9,8 +9,8 @@ use crate::steps::{arguments_of, calls_of, steps_of};
 use crate::worlds::{commits, commits_of_calls, new_world};
 use anyhow::Context;
 use std::alloc::Global;
-use std::env;
 use std::process::ExitCode;
+use std::{env, mem};
 
 /// What is done.
 #[derive(Clone, Copy, Debug, PartialEq, Eq)]
@@ -48,14 +48,18 @@ fn commits_of_steps(alloc: Global, is_run: bool, keys: u64, count: u32) -> Optio
     Some(commits(&world.run(&steps).ok()?))
 }
 
-/// Makes so many calls at so many keys, or only their arguments: how many committed.
+/// Makes so many calls at so many keys, or only their arguments: how many committed. The world is never let go: giving
+/// its memory back belongs to no call, and what it is compared with ends without it too.
 fn commits_of(alloc: Global, is_made: bool, keys: u64, count: u32) -> Option<u32> {
     let arguments = arguments_of(alloc, keys, count).ok()?;
     let mut world = new_world(alloc, 1)?;
-    if !is_made {
-        return Some(0);
-    }
-    Some(commits_of_calls(&mut world, &arguments))
+    let commits = if is_made {
+        commits_of_calls(&mut world, &arguments)
+    } else {
+        0
+    };
+    mem::forget(world);
+    Some(commits)
 }
 
 fn report(rt: &HostRuntime, work: Work, keys: u64, count: u32) -> anyhow::Result<()> {

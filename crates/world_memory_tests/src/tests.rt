@@ -2,8 +2,7 @@
 
 use dsm_model::Outcome;
 use dsm_world::{Step, World};
-use scarce::Scarce;
-use std::alloc::Global;
+use std::alloc::{Allocator, Global};
 use std::fmt::{Debug, Write as _};
 use std::process::Abort;
 use test_entries::catalogue_of;
@@ -40,9 +39,9 @@ fn same<T: PartialEq + Debug + Copy>(rt: &impl Abort, case: &str, found: T, want
 }
 
 /// A world of two replicas with a window of 4.
-fn two_replicas<'s>(rt: &impl Abort, scarce: &'s Scarce) -> World<&'s Scarce> {
-    let catalogue = catalogue_of(scarce, &TABLES, &PROCEDURES).expect(rt, "memory");
-    World::new(scarce, 2, 4, catalogue).expect(rt, "memory")
+fn two_replicas<A: Allocator + Copy>(rt: &impl Abort, alloc: A) -> World<A> {
+    let catalogue = catalogue_of(alloc, &TABLES, &PROCEDURES).expect(rt, "memory");
+    World::new(alloc, 2, 4, catalogue).expect(rt, "memory")
 }
 
 /// Steps, each as often as it says.
@@ -59,10 +58,10 @@ fn steps_of(rt: &impl Abort, alloc: Global, script: Script) -> Vec<Step<'static>
 }
 
 /// Takes steps by one call, and adds what they are answered, but for turns after which there are more.
-fn run_script(
+fn run_script<A: Allocator + Copy>(
     rt: &impl Abort,
     alloc: Global,
-    world: &mut World<&Scarce>,
+    world: &mut World<A>,
     script: Script,
     told: &mut Vec<Outcome>,
 ) {
@@ -75,7 +74,12 @@ fn run_script(
 }
 
 /// A replica in a line: its position, whether it is stopped, and its rows, each as table, key and bytes in hex.
-fn described(rt: &impl Abort, alloc: Global, world: &World<&Scarce>, number: u32) -> String {
+fn described<A: Allocator + Copy>(
+    rt: &impl Abort,
+    alloc: Global,
+    world: &World<A>,
+    number: u32,
+) -> String {
     let mut text = String::new(alloc);
     let Some(replica) = world.replica(number) else {
         return text;

@@ -3,24 +3,28 @@ use explanations::explain;
 use std::alloc::Global;
 use std::process::Abort;
 
+/// Words have to be this plan. (Who calls this has no plan to let go.)
+fn is_plan(rt: &impl Abort, alloc: Global, words: &[&str], expected: Plan<'_>) {
+    assert!(rt;
+        plan(alloc, words).expect(rt, "memory") == expected,
+        "{words:?}"
+    );
+}
+
 #[test]
 fn a_plan_is_read_off_the_words(rt: HostRuntime) {
-    let words = ["dsmdb", "list", "add.bpf"];
-    assert!(rt; plan(rt.alloc(), &words).expect(&rt, "memory") == Plan::List { file: "add.bpf" });
-    let words = ["dsmdb", "replay", "a.dsm"];
-    assert!(rt; plan(rt.alloc(), &words).expect(&rt, "memory") == Plan::Replay { script: "a.dsm" });
-    let words = ["dsmdb", "site", "a.settings"];
-    assert!(rt;
-        plan(rt.alloc(), &words).expect(&rt, "memory")
-            == Plan::Site {
-                settings: "a.settings"
-            }
-    );
-    let Some(explanation) = explain("V5") else {
-        panic!(rt; "no row");
+    let alloc = rt.alloc();
+    let list = Plan::List { file: "add.bpf" };
+    is_plan(&rt, alloc, &["dsmdb", "list", "add.bpf"], list);
+    let replay = Plan::Replay { script: "a.dsm" };
+    is_plan(&rt, alloc, &["dsmdb", "replay", "a.dsm"], replay);
+    let site = Plan::Site {
+        settings: "a.settings",
     };
-    let words = ["dsmdb", "explain", "V5"];
-    assert!(rt; plan(rt.alloc(), &words).expect(&rt, "memory") == Plan::Explain { explanation });
+    is_plan(&rt, alloc, &["dsmdb", "site", "a.settings"], site);
+    let explanation = explain("V5").expect(&rt, "a row");
+    let explain = Plan::Explain { explanation };
+    is_plan(&rt, alloc, &["dsmdb", "explain", "V5"], explain);
 }
 
 /// Words that ask for a check of `add.bpf`, how many bytes the arguments have, and the tables.
@@ -46,7 +50,7 @@ fn check_of(rt: &impl Abort, alloc: Global, args_len: u16, pairs: &[(u8, u16)]) 
 fn a_check_is_read_off_the_words(rt: HostRuntime) {
     for (words, args_len, pairs) in &CHECKS {
         let expected = check_of(&rt, rt.alloc(), *args_len, pairs);
-        assert!(rt; plan(rt.alloc(), words).expect(&rt, "memory") == expected);
+        is_plan(&rt, rt.alloc(), words, expected);
     }
 }
 
@@ -87,7 +91,7 @@ fn a_run_is_read_off_the_words(rt: HostRuntime) {
             executors: *executors,
             log_limit: *log_limit,
         };
-        assert!(rt; plan(rt.alloc(), words).expect(&rt, "memory") == expected);
+        is_plan(&rt, rt.alloc(), words, expected);
     }
 }
 
@@ -99,53 +103,66 @@ fn fault_of(rt: &impl Abort, alloc: Global, words: &[&str]) -> String {
     }
 }
 
-const NO_LENGTHS: [&str; 6] = ["257", "01", "+1", "x", "1:8", ""];
+/// A command up to a word that can't be read, such words, and the text of the fault up to the word.
+type Unread = (
+    &'static [&'static str],
+    &'static [&'static str],
+    &'static str,
+);
 
-const NO_TABLES: [&str; 9] = [
-    "1:0", "0:8", "65:8", "1:129", "1", "1:8:9", "x:8", "01:8", "",
-];
+const NO_LENGTHS: Unread = (
+    &["dsmdb", "check", "a"],
+    &["257", "01", "+1", "x", "1:8", ""],
+    "ARGS must be a number from 0 to 256",
+);
 
-const NO_EXECUTORS: [&str; 6] = ["0", "17", "04", "+4", "x", ""];
+const NO_TABLES: Unread = (
+    &["dsmdb", "check", "a", "16", "2:8"],
+    &[
+        "1:0", "0:8", "65:8", "1:129", "1", "1:8:9", "x:8", "01:8", "",
+    ],
+    "T:W must be a table from 1 to 64 and its row width from 1 to 128",
+);
 
-const NO_LIMITS: [&str; 6] = ["0", "1048577", "4294967297", "01", "1e3", ""];
+const NO_EXECUTORS: Unread = (
+    &["dsmdb", "run", "a", "--executors"],
+    &["0", "17", "04", "+4", "x", ""],
+    "--executors must be a number from 1 to 16",
+);
 
-const NO_REFUSALS: [&str; 6] = ["V13", "v5", "V05", "5", "explain", ""];
+const NO_LIMITS: Unread = (
+    &["dsmdb", "run", "a", "--log"],
+    &["0", "1048577", "4294967297", "01", "1e3", ""],
+    "--log must be a number from 1 to 1048576",
+);
 
-/// Whether a command with words before and behind is refused for a word, with a text that ends in it.
-fn is_refused(rt: &impl Abort, alloc: Global, words: &[&str], text: &str, word: &str) -> bool {
-    let fault = fault_of(rt, alloc, words);
+const NO_REFUSALS: Unread = (
+    &["dsmdb", "explain"],
+    &["V13", "v5", "V05", "5", "explain", ""],
+    "NUMBER must be a refusal's, as V5; docs/REFUSALS.md has them all",
+);
+
+/// Whether a command that ends in a word is refused for it, with a text that ends in it.
+fn is_refused(
+    rt: &impl Abort,
+    alloc: Global,
+    command: &[&'static str],
+    word: &'static str,
+    text: &str,
+) -> bool {
+    let mut words: Vec<&'static str> = Vec::from_slice(alloc, command).expect(rt, "memory");
+    words.push(word).expect(rt, "memory");
+    let fault = fault_of(rt, alloc, &words);
     let expected = format!(in alloc; "{text}: '{word}'").expect(rt, "memory");
     fault.as_str() == expected.as_str()
 }
 
-/// Words that can't be read, and how the fault is printed.
 #[test]
 fn other_numbers_are_refused(rt: HostRuntime) {
-    let alloc = rt.alloc();
-    let text = "ARGS must be a number from 0 to 256";
-    for word in &NO_LENGTHS {
-        let words = ["dsmdb", "check", "a", word, "1:8"];
-        assert!(rt; is_refused(&rt, alloc, &words, text, word), "{word}");
-    }
-    let text = "T:W must be a table from 1 to 64 and its row width from 1 to 128";
-    for word in &NO_TABLES {
-        let words = ["dsmdb", "check", "a", "16", "2:8", word];
-        assert!(rt; is_refused(&rt, alloc, &words, text, word), "{word}");
-    }
-    let text = "--executors must be a number from 1 to 16";
-    for word in &NO_EXECUTORS {
-        let words = ["dsmdb", "run", "a", "--executors", word];
-        assert!(rt; is_refused(&rt, alloc, &words, text, word), "{word}");
-    }
-    let text = "--log must be a number from 1 to 1048576";
-    for word in &NO_LIMITS {
-        let words = ["dsmdb", "run", "a", "--log", word];
-        assert!(rt; is_refused(&rt, alloc, &words, text, word), "{word}");
-    }
-    let text = "NUMBER must be a refusal's, as V5; docs/REFUSALS.md has them all";
-    for word in &NO_REFUSALS {
-        let words = ["dsmdb", "explain", word];
-        assert!(rt; is_refused(&rt, alloc, &words, text, word), "{word}");
+    for (command, words, text) in [NO_LENGTHS, NO_TABLES, NO_EXECUTORS, NO_LIMITS, NO_REFUSALS] {
+        for word in words {
+            assert!(rt; is_refused(&rt, rt.alloc(), command, word, text), "{word}");
+        }
     }
 }
 

@@ -1,7 +1,7 @@
 //! What sites answer: to callers, and to byte strings of an order.
 
 use super::heads::{ADDITION, CALL, HEAD};
-use super::sites::{answer, answer_to_addition, site_of, taken};
+use super::sites::{GivenSite, answer, answer_to_addition};
 use log_model::RequestId;
 use site::Site;
 use site_calls::{Asked, NamedProgram};
@@ -31,6 +31,9 @@ static NINE_TO_NINE: [u8; 16] = [9, 0, 0, 0, 0, 0, 0, 0, 9, 0, 0, 0, 0, 0, 0, 0]
 /// Key 5.
 static FIVE: [u8; 8] = [5, 0, 0, 0, 0, 0, 0, 0];
 
+/// The row that is left by the first.
+static TEN: [u8; 8] = [10, 0, 0, 0, 0, 0, 0, 0];
+
 /// A call of procedure 2 that puts 0 at key 5, where it finds no row, by request 7 1.
 static CLAIM_OF_FIVE: [u8; 76] = [
     1, 7, 0, 0, 0, 1, 0, 0, 0, 0, 0, 0, 0, 2, 0, 8, 0, 5, 0, 0, 0, 0, 0, 0, 0, 0, 0, 0, 0, 0, 0, 0,
@@ -49,6 +52,8 @@ enum Step<'a> {
     Add(NamedProgram<'a>, AdditionAnswer<usize>, &'a [u8]),
     /// It has come to this position.
     At(u32),
+    /// It has one row: its table, key and bytes.
+    Row(u8, u64, &'a [u8]),
 }
 
 /// A byte string that becomes this. (What is made by a function takes references that live differently long.)
@@ -123,41 +128,47 @@ fn addition_is_answered(
     assert_eq!(rt; ordered.as_slice(), bytes);
 }
 
-/// The site behind a step.
-fn behind(rt: &impl Abort, alloc: Global, site: Site, step: &Step<'_>) -> Site {
+/// A site has to have this row alone.
+fn has_one_row(rt: &impl Abort, alloc: Global, site: &Site, key: (u8, u64), bytes: &[u8]) {
+    let rows = site.rows(alloc).expect(rt, "memory");
+    assert_eq!(rt; rows.len(), 1);
+    assert_eq!(rt; (rows[0].table(), rows[0].key()), key);
+    assert_eq!(rt; rows[0].bytes(), bytes);
+}
+
+/// Looks whether a site is as a step says that asks or looks.
+fn check(rt: &impl Abort, alloc: Global, site: &Site, step: &Step<'_>) {
     match step {
-        Step::Take(bytes, wanted) => {
-            let (next, outcome) = taken(site, bytes).expect(rt, "memory");
-            assert_eq!(rt; outcome, *wanted);
-            next
-        }
-        Step::Ask(asked, wanted, bytes) => {
-            is_answered(rt, alloc, &site, *asked, *wanted, bytes);
-            site
-        }
+        Step::Take(_, _) => {}
+        Step::Ask(asked, wanted, bytes) => is_answered(rt, alloc, site, *asked, *wanted, bytes),
         Step::Add(named, wanted, bytes) => {
-            addition_is_answered(rt, alloc, &site, *named, *wanted, bytes);
-            site
+            addition_is_answered(rt, alloc, site, *named, *wanted, bytes);
         }
-        Step::At(position) => {
-            assert_eq!(rt; site.position(), *position);
-            site
-        }
+        Step::At(position) => assert_eq!(rt; site.position(), *position),
+        Step::Row(table, key, bytes) => has_one_row(rt, alloc, site, (*table, *key), bytes),
     }
 }
 
-/// A site behind these steps, the first that it was given.
-fn site_behind(rt: &impl Abort, alloc: Global, takes_additions: bool, steps: &[Step<'_>]) -> Site {
-    let mut site = site_of(alloc, takes_additions).expect(rt, "a site");
+/// Gives a site what a step says, or looks at it.
+fn go_on(rt: &impl Abort, alloc: Global, given: &mut GivenSite, step: &Step<'_>) {
+    if let Step::Take(bytes, wanted) = step {
+        let outcome = given.take(bytes).expect(rt, "memory");
+        assert_eq!(rt; outcome, *wanted);
+    }
+    check(rt, alloc, given.site().expect(rt, "a site"), step);
+}
+
+/// Goes on by these steps.
+fn go_on_by(rt: &impl Abort, alloc: Global, given: &mut GivenSite, steps: &[Step<'_>]) {
     for step in steps {
-        site = behind(rt, alloc, site, step);
+        go_on(rt, alloc, given, step);
     }
-    site
 }
 
-/// A site goes through these steps. (Who calls this has no site to let go.)
+/// A site goes through these steps, the first that it is given. (Who calls this has no site to let go.)
 fn go_through(rt: &impl Abort, alloc: Global, takes_additions: bool, steps: &[Step<'_>]) {
-    site_behind(rt, alloc, takes_additions, steps);
+    let mut given = GivenSite::new(alloc, takes_additions);
+    go_on_by(rt, alloc, &mut given, steps);
 }
 
 #[test]
@@ -181,12 +192,9 @@ fn a_call_is_ordered_and_taken_once(rt: HostRuntime) {
         ask(call_of_add(&TEN_TO_FIVE, SEVEN_ONE), repeated, &[]),
         ask(call_of_add(&NINE_TO_NINE, SEVEN_ONE), repeated, &[]),
         Step::At(2),
+        Step::Row(1, 5, &TEN),
     ];
-    let site = site_behind(&rt, rt.alloc(), true, &steps);
-    let rows = site.rows(rt.alloc()).expect(&rt, "memory");
-    assert_eq!(rt; rows.len(), 1);
-    assert_eq!(rt; (rows[0].table(), rows[0].key()), (1, 5));
-    assert_eq!(rt; rows[0].bytes(), [10, 0, 0, 0, 0, 0, 0, 0].as_slice());
+    go_through(&rt, rt.alloc(), true, &steps);
 }
 
 #[test]

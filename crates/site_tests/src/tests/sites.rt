@@ -3,12 +3,12 @@
 use bpf_code::decode;
 use bpf_verify::verify;
 use catalogue::Catalogue;
-use log_entry::to_bytes;
+use log_entry::{Entry, to_bytes};
 use schema::Schema;
 use site::Site;
 use site_calls::{Asked, NamedProgram};
 use site_model::{AdditionAnswer, CallAnswer, EntryOutcome};
-use std::alloc::{Allocator, Global};
+use std::alloc::Global;
 use test_programs::{ADD, bytes_of};
 
 /// Puts 0 at the key that its argument is; cancels with 1 where there is a row.
@@ -22,67 +22,110 @@ const CLAIM: &str = "
 /// The procedures at first: name, number, program and how many bytes its arguments have.
 static PROCEDURES: [(&[u8], u16, &str, u16); 2] = [(b"add", 1, ADD, 16), (b"claim", 2, CLAIM, 8)];
 
-fn catalogue_of<A: Allocator + Copy>(alloc: A) -> Option<Catalogue<A>> {
-    let mut catalogue = Catalogue::new(alloc, Schema::new(alloc, &[(1, 8)]).ok()?);
+/// Adds the procedures; none where memory is wanting.
+fn add_procedures(alloc: Global, catalogue: &mut Catalogue) -> Option<()> {
     for (name, number, program, args_len) in &PROCEDURES {
         let code = decode(alloc, &bytes_of(alloc, program)?).ok()?;
         let accepted = verify(alloc, code, catalogue.schema(), (*args_len).min(256)).ok()?;
         catalogue.add(name, *number, accepted).ok()?;
     }
-    Some(catalogue)
+    Some(())
 }
 
-/// A site that was given nothing. None, here and below, where memory is wanting.
-pub(crate) fn site_of<A: Allocator + Copy>(alloc: A, takes_additions: bool) -> Option<Site<A>> {
+fn catalogue_of(alloc: Global) -> Option<Catalogue> {
+    let schema = Schema::new(alloc, &[(1, 8)]).ok()?;
+    let mut catalogue = Catalogue::new(alloc, schema);
+    let added = add_procedures(alloc, &mut catalogue);
+    added.and(Some(catalogue))
+}
+
+/// A site that was given nothing. None where memory is wanting.
+fn site_of(alloc: Global, takes_additions: bool) -> Option<Site> {
     Site::new(alloc, 4, catalogue_of(alloc)?, takes_additions).ok()
 }
 
-/// What becomes of one byte string more, and the site then.
-pub(crate) fn taken<A: Allocator + Copy>(
-    site: Site<A>,
-    bytes: &[u8],
-) -> Option<(Site<A>, EntryOutcome)> {
+/// What becomes of one byte string more, and the site then. None where memory is wanting, or no position is left.
+fn taken(site: Site, bytes: &[u8]) -> Option<(Site, EntryOutcome)> {
     if site.position() == u32::MAX {
-        return None;
+        None
+    } else {
+        site.take(bytes).ok()
     }
-    site.take(bytes).ok()
+}
+
+/// A site, until memory is wanting.
+#[derive(Drop)]
+pub(crate) struct GivenSite {
+    site: Option<Site>,
+}
+
+impl GivenSite {
+    /// One that was given nothing.
+    pub(crate) fn new(alloc: Global, takes_additions: bool) -> GivenSite {
+        GivenSite {
+            site: site_of(alloc, takes_additions),
+        }
+    }
+
+    /// What becomes of one byte string more.
+    pub(crate) fn take(&mut self, bytes: &[u8]) -> Option<EntryOutcome> {
+        let (site, outcome) = taken(self.site.take()?, bytes)?;
+        self.site = Some(site);
+        Some(outcome)
+    }
+
+    /// The site, to ask.
+    pub(crate) fn site(&self) -> Option<&Site> {
+        self.site.as_ref()
+    }
+}
+
+/// An entry that is to be ordered, by how many bytes it has, and these.
+fn submitted(alloc: Global, entry: &Entry) -> Option<(CallAnswer<usize>, Vec<u8>)> {
+    match to_bytes(alloc, entry) {
+        Ok(bytes) => Some((CallAnswer::Submitted(bytes.len()), bytes)),
+        Err(_) => None,
+    }
 }
 
 /// What is answered to a call, by how many bytes are to be ordered, and these.
-pub(crate) fn answer<A: Allocator + Copy>(
+pub(crate) fn answer(
     alloc: Global,
-    site: &Site<A>,
+    site: &Site,
     asked: Asked<'_>,
 ) -> Option<(CallAnswer<usize>, Vec<u8>)> {
-    let mut bytes = Vec::new(alloc);
-    let answer = match site.call(asked).ok()? {
-        CallAnswer::Refused(refusal) => CallAnswer::Refused(refusal),
-        CallAnswer::Repeated { position, reply } => CallAnswer::Repeated { position, reply },
-        CallAnswer::Cancelled { position, code } => CallAnswer::Cancelled { position, code },
-        CallAnswer::Read { position, reply } => CallAnswer::Read { position, reply },
-        CallAnswer::Submitted(entry) => {
-            bytes = to_bytes(alloc, &entry).ok()?;
-            CallAnswer::Submitted(bytes.len())
-        }
+    let told = match site.call(asked) {
+        Ok(CallAnswer::Submitted(entry)) => return submitted(alloc, &entry),
+        Ok(CallAnswer::Refused(refusal)) => CallAnswer::Refused(refusal),
+        Ok(CallAnswer::Repeated { position, reply }) => CallAnswer::Repeated { position, reply },
+        Ok(CallAnswer::Cancelled { position, code }) => CallAnswer::Cancelled { position, code },
+        Ok(CallAnswer::Read { position, reply }) => CallAnswer::Read { position, reply },
+        Err(_) => return None,
     };
-    Some((answer, bytes))
+    Some((told, Vec::new(alloc)))
+}
+
+/// The same of an addition.
+fn submitted_addition(alloc: Global, entry: &Entry) -> Option<(AdditionAnswer<usize>, Vec<u8>)> {
+    match to_bytes(alloc, entry) {
+        Ok(bytes) => Some((AdditionAnswer::Submitted(bytes.len()), bytes)),
+        Err(_) => None,
+    }
 }
 
 /// What is answered to a procedure that is to be added, by how many bytes are to be ordered, and these. (A site may be
 /// asked for at most 256 bytes of arguments.)
-pub(crate) fn answer_to_addition<A: Allocator + Copy>(
+pub(crate) fn answer_to_addition(
     alloc: Global,
-    site: &Site<A>,
+    site: &Site,
     named: NamedProgram<'_>,
 ) -> Option<(AdditionAnswer<usize>, Vec<u8>)> {
-    let mut bytes = Vec::new(alloc);
     let args_len = named.args_len.min(256);
-    let answer = match site.add(NamedProgram { args_len, ..named }).ok()? {
-        AdditionAnswer::Refused(refusal) => AdditionAnswer::Refused(refusal),
-        AdditionAnswer::Submitted(entry) => {
-            bytes = to_bytes(alloc, &entry).ok()?;
-            AdditionAnswer::Submitted(bytes.len())
+    match site.add(NamedProgram { args_len, ..named }) {
+        Ok(AdditionAnswer::Submitted(entry)) => submitted_addition(alloc, &entry),
+        Ok(AdditionAnswer::Refused(refusal)) => {
+            Some((AdditionAnswer::Refused(refusal), Vec::new(alloc)))
         }
-    };
-    Some((answer, bytes))
+        Err(_) => None,
+    }
 }

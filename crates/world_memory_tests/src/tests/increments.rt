@@ -5,7 +5,7 @@ use dsm_model::Outcome;
 use dsm_world::{Step, World};
 use log_model::Verdict;
 use scarce::Scarce;
-use std::alloc::Global;
+use std::alloc::{Allocator, Global};
 use std::process::Abort;
 
 static STEPS: [(Step<'static>, usize); 12] = [
@@ -66,7 +66,12 @@ static TOLD: [Outcome; 14] = [
 ];
 
 /// Whether no steps are taken where there is no room for their answers.
-fn is_refused(rt: &impl Abort, alloc: Global, scarce: &Scarce, world: &mut World<&Scarce>) -> bool {
+fn is_refused<A: Allocator + Copy>(
+    rt: &impl Abort,
+    alloc: Global,
+    scarce: &Scarce,
+    world: &mut World<A>,
+) -> bool {
     let steps = steps_of(rt, alloc, &STEPS);
     scarce.refuse_all(true);
     let refused = world.run(&steps).is_err();
@@ -75,11 +80,11 @@ fn is_refused(rt: &impl Abort, alloc: Global, scarce: &Scarce, world: &mut World
 }
 
 /// What is answered by the steps after they were refused, and what replica 2 is then.
-fn refused_and_run(
+fn refused_and_run<A: Allocator + Copy>(
     rt: &impl Abort,
     alloc: Global,
     scarce: &Scarce,
-    world: &mut World<&Scarce>,
+    world: &mut World<A>,
 ) -> (Vec<Outcome>, String) {
     let mut told = Vec::new(alloc);
     if is_refused(rt, alloc, scarce, world) {
@@ -88,16 +93,21 @@ fn refused_and_run(
     (told, described(rt, alloc, world, 2))
 }
 
-/// The same in a world of its own.
-fn increments(rt: &impl Abort, alloc: Global, scarce: &Scarce) -> (Vec<Outcome>, String) {
-    let mut world = two_replicas(rt, scarce);
+/// The same in a world that takes memory from here.
+fn increments<A: Allocator + Copy>(
+    rt: &impl Abort,
+    alloc: Global,
+    scarce: &Scarce,
+    taken_from: A,
+) -> (Vec<Outcome>, String) {
+    let mut world = two_replicas(rt, taken_from);
     refused_and_run(rt, alloc, scarce, &mut world)
 }
 
 #[test]
 fn of_two_increments_the_second_is_begun_anew(rt: HostRuntime) {
     let scarce = Scarce::new(rt.alloc());
-    let (told, replica) = increments(&rt, rt.alloc(), &scarce);
+    let (told, replica) = increments(&rt, rt.alloc(), &scarce, &scarce);
     same(&rt, "told", told.as_slice(), TOLD.as_slice());
     same(
         &rt,

@@ -5,11 +5,12 @@ use super::{
 };
 use bpf_verify::Cause;
 use call_model::ProgramFault;
+use catalogue::Catalogue;
 use dsm_model::{Outcome, StepRefusal};
 use dsm_world::{Step, World};
 use log_model::Verdict;
 use scarce::Scarce;
-use std::alloc::Global;
+use std::alloc::{Allocator, Global};
 use std::process::Abort;
 use test_entries::catalogue_of;
 use test_procedures::{PROCEDURES, TABLES};
@@ -92,7 +93,7 @@ static TOLD: [Outcome; 16] = [
 ];
 
 /// Delivers to replica 2 without memory: what is answered.
-fn deliver_refused(scarce: &Scarce, world: &mut World<&Scarce>) -> Outcome {
+fn deliver_refused<A: Allocator + Copy>(scarce: &Scarce, world: &mut World<A>) -> Outcome {
     scarce.refuse_all(true);
     let outcome = world.step(Step::Deliver { replica: 2 });
     scarce.refuse_all(false);
@@ -100,11 +101,11 @@ fn deliver_refused(scarce: &Scarce, world: &mut World<&Scarce>) -> Outcome {
 }
 
 /// Lets replica 2 stop and be made anew: what it is while it is stopped, and at the end. What is answered is added.
-fn stop_and_rebuild(
+fn stop_and_rebuild<A: Allocator + Copy>(
     rt: &impl Abort,
     alloc: Global,
     scarce: &Scarce,
-    world: &mut World<&Scarce>,
+    world: &mut World<A>,
     told: &mut Vec<Outcome>,
 ) -> (String, String) {
     run_script(rt, alloc, world, &BEFORE, told);
@@ -115,14 +116,15 @@ fn stop_and_rebuild(
     (stopped, described(rt, alloc, world, 2))
 }
 
-/// The same in a world of its own.
-fn stopped_and_rebuilt(
+/// The same in a world that takes memory from here.
+fn stopped_and_rebuilt<A: Allocator + Copy>(
     rt: &impl Abort,
     alloc: Global,
     scarce: &Scarce,
+    taken_from: A,
     told: &mut Vec<Outcome>,
 ) -> (String, String) {
-    let mut world = two_replicas(rt, scarce);
+    let mut world = two_replicas(rt, taken_from);
     stop_and_rebuild(rt, alloc, scarce, &mut world, told)
 }
 
@@ -130,7 +132,7 @@ fn stopped_and_rebuilt(
 fn a_stopped_replica_is_made_anew(rt: HostRuntime) {
     let scarce = Scarce::new(rt.alloc());
     let mut told = Vec::new(rt.alloc());
-    let (stopped, anew) = stopped_and_rebuilt(&rt, rt.alloc(), &scarce, &mut told);
+    let (stopped, anew) = stopped_and_rebuilt(&rt, rt.alloc(), &scarce, &scarce, &mut told);
     same(&rt, "told", told.as_slice(), TOLD.as_slice());
     same(
         &rt,
@@ -142,22 +144,26 @@ fn a_stopped_replica_is_made_anew(rt: HostRuntime) {
     same(&rt, "anew", anew.as_str(), rows);
 }
 
-/// Whether a world is made where the growth of this number is refused.
-fn is_made(rt: &impl Abort, alloc: Global, scarce: &Scarce, growth: u64) -> bool {
-    let catalogue = catalogue_of(scarce, &TABLES, &PROCEDURES).expect(rt, "memory");
+/// Whether a world is made of a catalogue where the growth of this number is refused.
+fn is_made<A: Allocator + Copy>(
+    scarce: &Scarce,
+    growth: u64,
+    taken_from: A,
+    catalogue: Catalogue<A>,
+) -> bool {
     scarce.refuse_nth(growth);
-    let made = World::new(scarce, 2, 4, catalogue).is_ok();
+    let made = World::new(taken_from, 2, 4, catalogue).is_ok();
     scarce.refuse_nth(0);
     made
 }
 
 #[test]
 fn each_refused_growth_is_want_of_memory(rt: HostRuntime) {
-    let alloc = rt.alloc();
-    let scarce = Scarce::new(alloc);
+    let scarce = Scarce::new(rt.alloc());
     let mut refused = 0;
     for growth in 1..MOST {
-        if is_made(&rt, alloc, &scarce, growth) {
+        let catalogue = catalogue_of(&scarce, &TABLES, &PROCEDURES).expect(&rt, "memory");
+        if is_made(&scarce, growth, &scarce, catalogue) {
             break;
         }
         refused = growth;
@@ -333,11 +339,11 @@ static CASES: [Case; 10] = [
 ];
 
 /// What the step of a case answers where the growth of this number is refused, and what is answered then.
-fn answers_in(
+fn answers_in<A: Allocator + Copy>(
     rt: &impl Abort,
     alloc: Global,
     scarce: &Scarce,
-    world: &mut World<&Scarce>,
+    world: &mut World<A>,
     case: &Case,
     growth: u64,
 ) -> (Outcome, Outcome) {
@@ -350,11 +356,23 @@ fn answers_in(
     (answer, world.step(case.next))
 }
 
-/// The same in a world of its own.
+/// The same in a world that takes memory from here.
+fn answers_over<A: Allocator + Copy>(
+    rt: &impl Abort,
+    alloc: Global,
+    scarce: &Scarce,
+    taken_from: A,
+    case: &Case,
+    growth: u64,
+) -> (Outcome, Outcome) {
+    let mut world = two_replicas(rt, taken_from);
+    answers_in(rt, alloc, scarce, &mut world, case, growth)
+}
+
+/// The same.
 fn answers(rt: &impl Abort, alloc: Global, case: &Case, growth: u64) -> (Outcome, Outcome) {
     let scarce = Scarce::new(alloc);
-    let mut world = two_replicas(rt, &scarce);
-    answers_in(rt, alloc, &scarce, &mut world, case, growth)
+    answers_over(rt, alloc, &scarce, &scarce, case, growth)
 }
 
 #[test]
@@ -389,7 +407,7 @@ static BEGINNINGS: [(u32, u16, &[u8], u32, u32, StepRefusal); 5] = [
     (1, 1, &ADD_TEN, 1, 0, StepRefusal::ZeroInRequest),
 ];
 
-fn refuse_beginnings(rt: &impl Abort, world: &mut World<&Scarce>) {
+fn refuse_beginnings<A: Allocator + Copy>(rt: &impl Abort, world: &mut World<A>) {
     for (replica, procedure, args, session, sequence, refusal) in &BEGINNINGS {
         let told = world.step(Step::BeginNumbered {
             replica: *replica,
@@ -403,7 +421,7 @@ fn refuse_beginnings(rt: &impl Abort, world: &mut World<&Scarce>) {
 }
 
 /// Neither its program nor its name would do.
-fn refuse_an_addition(rt: &impl Abort, world: &mut World<&Scarce>) {
+fn refuse_an_addition<A: Allocator + Copy>(rt: &impl Abort, world: &mut World<A>) {
     let long = world.step(Step::Add {
         name: b"a-b",
         number: 7,
@@ -418,10 +436,14 @@ fn refuse_an_addition(rt: &impl Abort, world: &mut World<&Scarce>) {
     );
 }
 
+/// Both in a world that takes memory from here. (Who calls this has no world to let go.)
+fn refuse_over<A: Allocator + Copy>(rt: &impl Abort, alloc: A) {
+    let mut world = two_replicas(rt, alloc);
+    refuse_beginnings(rt, &mut world);
+    refuse_an_addition(rt, &mut world);
+}
+
 #[test]
 fn the_lowest_refusal_is_given(rt: HostRuntime) {
-    let scarce = Scarce::new(rt.alloc());
-    let mut world = two_replicas(&rt, &scarce);
-    refuse_beginnings(&rt, &mut world);
-    refuse_an_addition(&rt, &mut world);
+    refuse_over(&rt, rt.alloc());
 }

@@ -1,0 +1,5 @@
+//! Tests of sites for which there is no memory.
+#![tactic(auto)]
+
+#[cfg(test)]
+mod tests;
