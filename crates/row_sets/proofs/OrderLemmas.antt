@@ -1,7 +1,7 @@
 -- Entries in the order of their keys: what stands at a key's place, and what an edit there makes of them.
 use Rattle.std.proofs.Common.{◌≡◌, ℕ, zero, suc, ◌<◌, ◌≤◌, List, [], ◌∷◌, length, get_or, set, take, drop, take_all, drop_of_length-le, refl, sym, ap, subst, ◌∙◌, cond, Bool, true, false, not, ◌&&◌, filter, Some, None, arith}
 use Rattle.std.specs.Prelude.{T, Result, Ok, Err, IfOk, IfErr}
-use Rattle.std.specs.List.{insert, AllByRecursion, HoldsAt}
+use Rattle.std.specs.List.{insert, HoldsAt}
 use Rattle.std.specs.List.Sorted.{IsPartitionPoint, IsPartitionedBy, IsNonDecreasingBy, IsBinarySearchResult}
 use Rattle.std.specs.declared.cmp.Ordering.{Ordering}
 use Rattle.std.specs.declared.cmp.Ordering.TheVariants.{Less, Equal, Greater}

@@ -14,10 +14,10 @@ use schema::Look;
 use std::alloc::{AllocError, Allocator};
 
 /// A key, of table and key, and its last write: the bytes that were put, or none where the row was removed.
-pub(crate) type KeyedWrite<A> = ((u8, u64), Option<Bytes<A>>);
+pub(crate) type KeyAndWrite<A> = ((u8, u64), Option<Bytes<A>>);
 
 /// Where a key stands, or where it would.
-fn search<A: Allocator>(writes: &[KeyedWrite<A>], key: (u8, u64)) -> Result<usize, usize>
+fn search<A: Allocator>(writes: &[KeyAndWrite<A>], key: (u8, u64)) -> Result<usize, usize>
     requires { T (is_sorted key_cmp writes.now) }
     ensures within { IsSearchInRange result (length writes.now) }
     ensures found { IfOk result (HoldsAt (λ w. key_cmp w.0 key ≡ Equal) writes.now) }
@@ -29,7 +29,7 @@ fn search<A: Allocator>(writes: &[KeyedWrite<A>], key: (u8, u64)) -> Result<usiz
 
 /// The write at a key, if there is one.
 pub(crate) fn find<A: Allocator>(
-    writes: &[KeyedWrite<A>],
+    writes: &[KeyAndWrite<A>],
     key: (u8, u64),
 ) -> Option<&Option<Bytes<A>>>
     requires { T (is_sorted key_cmp writes.now) }
@@ -43,7 +43,7 @@ pub(crate) fn find<A: Allocator>(
 
 /// Puts a write at its key, in place of one that stands there.
 pub(crate) fn put<A: Allocator>(
-    writes: &mut Vec<KeyedWrite<A>, A>,
+    writes: &mut Vec<KeyAndWrite<A>, A>,
     key: (u8, u64),
     write: Option<Bytes<A>>,
 ) -> Result<(), AllocError>
@@ -60,7 +60,7 @@ pub(crate) fn put<A: Allocator>(
 }
 
 /// The writes from a key on.
-fn since<A: Allocator>(writes: &[KeyedWrite<A>], key: (u8, u64)) -> &[KeyedWrite<A>]
+fn since<A: Allocator>(writes: &[KeyAndWrite<A>], key: (u8, u64)) -> &[KeyAndWrite<A>]
     requires { T (is_sorted key_cmp writes.now) }
     ensures { result.now ≡ filter (λ w. not (is_lt (key_cmp w.0 key))) writes.now }
 {
@@ -69,7 +69,7 @@ fn since<A: Allocator>(writes: &[KeyedWrite<A>], key: (u8, u64)) -> &[KeyedWrite
 }
 
 /// The writes up to a key.
-fn up_to<A: Allocator>(writes: &[KeyedWrite<A>], key: (u8, u64)) -> &[KeyedWrite<A>]
+fn up_to<A: Allocator>(writes: &[KeyAndWrite<A>], key: (u8, u64)) -> &[KeyAndWrite<A>]
     requires { T (is_sorted key_cmp writes.now) }
     ensures { result.now ≡ filter (λ w. is_le (key_cmp w.0 key)) writes.now }
 {
@@ -78,7 +78,7 @@ fn up_to<A: Allocator>(writes: &[KeyedWrite<A>], key: (u8, u64)) -> &[KeyedWrite
 }
 
 /// The writes of the keys that a look covers.
-pub(crate) fn between<A: Allocator>(writes: &[KeyedWrite<A>], look: Look) -> &[KeyedWrite<A>]
+pub(crate) fn between<A: Allocator>(writes: &[KeyAndWrite<A>], look: Look) -> &[KeyAndWrite<A>]
     requires { T (is_sorted key_cmp writes.now) }
     ensures { result.now ≡ filter (λ write. covers look write.0) writes.now }
 {

@@ -8,7 +8,7 @@ ghost use Rattle.std.specs.FinMap.{empty, get, contains_key, entries, keys, len}
 ghost use Rattle.schema.specs.Rows.{covers, with_write};
 
 use crate::row::Bytes;
-use crate::sorted::{KeyedWrite, between, find, put};
+use crate::sorted::{KeyAndWrite, between, find, put};
 use schema::Look;
 use std::alloc::{AllocError, Allocator, Global};
 use std::marker::Model;
@@ -20,7 +20,7 @@ use std::slice::Iter;
 pub struct WriteSet<A: Allocator + Copy = Global> {
     alloc: A,
     /// In the order of tables and keys.
-    writes: Vec<KeyedWrite<A>, A>,
+    writes: Vec<KeyAndWrite<A>, A>,
 }
 
 impl<A: Allocator + Copy> Model for WriteSet<A> {

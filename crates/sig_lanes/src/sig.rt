@@ -45,6 +45,7 @@ fn halves_meet(low: u64x8, high: u64x8, other_low: u64x8, other_high: u64x8) -> 
 }
 
 /// The words in two vectors, the first eight in the first.
+#[inline(always)]
 fn halves(words: &[u64; 16]) -> (u64x8, u64x8)
     ensures { result.0 ++ result.1 ≡ words.now }
 {

@@ -6,6 +6,7 @@ use Rattle.std.proofs.lemmas.Bool.Decides.{nat_tests}
 use Rattle.std.proofs.lemmas.List.Sums.{length-filter}
 use Rattle.schema.specs.declared.look.Look.{Look}
 use Rattle.schema.specs.Rows.{Key, Rows, Writes, covers, count_in, first_in, puts, rows_under}
+use Rattle.row_sets.proofs.OrderLemmas.{passing_both}
 
 pub if_ok : {T E : Type 0} {P Q : T → Type 0} (r : Result T E) → ((x : T) → P x → Q x) → IfOk r P → IfOk r Q
 if_ok (Ok x) h p = h x p
@@ -17,15 +18,8 @@ is_some_map f (Some x) = refl
 
 -- ---- two tests, one after the other
 
-filter_both : {X : Type 0} (p q : X → Bool) (xs : List X) → filter q (filter p xs) ≡ filter (λ x. p x && q x) xs
-filter_both p q [] = refl
-filter_both p q (x ∷ xs) = elim (p x) as (λ b. filter q (cond b (x ∷ filter p xs) (filter p xs)) ≡ cond (b && q x) (x ∷ filter (λ y. p y && q y) xs) (filter (λ y. p y && q y) xs)) [
-  | true ↦ ap (λ ys. cond (q x) (x ∷ ys) ys) (filter_both p q xs)
-  | false ↦ filter_both p q xs
-]
-
 pub counted_both : {X : Type 0} (p q : X → Bool) (xs : List X) → length (filter q (filter p xs)) ≡ count_by (λ x. p x && q x) xs
-counted_both p q xs = ap length (filter_both p q xs) ∙ length-filter (λ x. p x && q x) xs
+counted_both p q xs = ap length (passing_both p q xs) ∙ length-filter (λ x. p x && q x) xs
 
 pub find_both : {X : Type 0} (p q : X → Bool) (xs : List X) → find q (filter p xs) ≡ find (λ x. p x && q x) xs
 find_both p q [] = refl

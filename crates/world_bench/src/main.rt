@@ -8,6 +8,7 @@ mod worlds;
 use crate::steps::{arguments_of, calls_of, steps_of};
 use crate::worlds::{commits, commits_of_calls, new_world};
 use anyhow::Context;
+use dsm_world::World;
 use std::alloc::Global;
 use std::process::ExitCode;
 use std::{env, mem};
@@ -48,16 +49,21 @@ fn commits_of_steps(alloc: Global, is_run: bool, keys: u64, count: u32) -> Optio
     Some(commits(&world.run(&steps).ok()?))
 }
 
+/// Makes calls of these arguments, or none: how many committed.
+fn commits_in(world: &mut World, is_made: bool, arguments: &[[u8; 16]]) -> u32 {
+    if is_made {
+        commits_of_calls(world, arguments)
+    } else {
+        0
+    }
+}
+
 /// Makes so many calls at so many keys, or only their arguments: how many committed. The world is never let go: giving
 /// its memory back belongs to no call, and what it is compared with ends without it too.
 fn commits_of(alloc: Global, is_made: bool, keys: u64, count: u32) -> Option<u32> {
     let arguments = arguments_of(alloc, keys, count).ok()?;
     let mut world = new_world(alloc, 1)?;
-    let commits = if is_made {
-        commits_of_calls(&mut world, &arguments)
-    } else {
-        0
-    };
+    let commits = commits_in(&mut world, is_made, &arguments);
     mem::forget(world);
     Some(commits)
 }

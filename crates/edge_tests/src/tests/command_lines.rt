@@ -103,66 +103,78 @@ fn fault_of(rt: &impl Abort, alloc: Global, words: &[&str]) -> String {
     }
 }
 
-/// A command up to a word that can't be read, such words, and the text of the fault up to the word.
-type Unread = (
-    &'static [&'static str],
-    &'static [&'static str],
-    &'static str,
-);
+/// Commands in which a word can't be read: the words before it, such words, those behind it, and the text of the fault
+/// up to the word.
+struct Unread {
+    before: &'static [&'static str],
+    words: &'static [&'static str],
+    behind: &'static [&'static str],
+    text: &'static str,
+}
 
-const NO_LENGTHS: Unread = (
-    &["dsmdb", "check", "a"],
-    &["257", "01", "+1", "x", "1:8", ""],
-    "ARGS must be a number from 0 to 256",
-);
+static LENGTHS: Unread = Unread {
+    before: &["dsmdb", "check", "a"],
+    words: &["257", "01", "+1", "x", "1:8", ""],
+    behind: &["1:8"],
+    text: "ARGS must be a number from 0 to 256",
+};
 
-const NO_TABLES: Unread = (
-    &["dsmdb", "check", "a", "16", "2:8"],
-    &[
+static TABLES: Unread = Unread {
+    before: &["dsmdb", "check", "a", "16", "2:8"],
+    words: &[
         "1:0", "0:8", "65:8", "1:129", "1", "1:8:9", "x:8", "01:8", "",
     ],
-    "T:W must be a table from 1 to 64 and its row width from 1 to 128",
-);
+    behind: &[],
+    text: "T:W must be a table from 1 to 64 and its row width from 1 to 128",
+};
 
-const NO_EXECUTORS: Unread = (
-    &["dsmdb", "run", "a", "--executors"],
-    &["0", "17", "04", "+4", "x", ""],
-    "--executors must be a number from 1 to 16",
-);
+static EXECUTORS: Unread = Unread {
+    before: &["dsmdb", "run", "a", "--executors"],
+    words: &["0", "17", "04", "+4", "x", ""],
+    behind: &[],
+    text: "--executors must be a number from 1 to 16",
+};
 
-const NO_LIMITS: Unread = (
-    &["dsmdb", "run", "a", "--log"],
-    &["0", "1048577", "4294967297", "01", "1e3", ""],
-    "--log must be a number from 1 to 1048576",
-);
+static LIMITS: Unread = Unread {
+    before: &["dsmdb", "run", "a", "--log"],
+    words: &["0", "1048577", "4294967297", "01", "1e3", ""],
+    behind: &[],
+    text: "--log must be a number from 1 to 1048576",
+};
 
-const NO_REFUSALS: Unread = (
-    &["dsmdb", "explain"],
-    &["V13", "v5", "V05", "5", "explain", ""],
-    "NUMBER must be a refusal's, as V5; docs/REFUSALS.md has them all",
-);
+static REFUSALS: Unread = Unread {
+    before: &["dsmdb", "explain"],
+    words: &["V13", "v5", "V05", "5", "explain", ""],
+    behind: &[],
+    text: "NUMBER must be a refusal's, as V5; docs/REFUSALS.md has them all",
+};
 
-/// Whether a command that ends in a word is refused for it, with a text that ends in it.
-fn is_refused(
-    rt: &impl Abort,
-    alloc: Global,
-    command: &[&'static str],
-    word: &'static str,
-    text: &str,
-) -> bool {
-    let mut words: Vec<&'static str> = Vec::from_slice(alloc, command).expect(rt, "memory");
+/// Whether a command with one of the words is refused for it, with a text that ends in it.
+fn is_refused(rt: &impl Abort, alloc: Global, unread: &Unread, word: &'static str) -> bool {
+    let mut words: Vec<&'static str> = Vec::from_slice(alloc, unread.before).expect(rt, "memory");
     words.push(word).expect(rt, "memory");
+    words.extend_from_slice(unread.behind).expect(rt, "memory");
     let fault = fault_of(rt, alloc, &words);
+    let text = unread.text;
     let expected = format!(in alloc; "{text}: '{word}'").expect(rt, "memory");
     fault.as_str() == expected.as_str()
 }
 
+/// Commands with each of the words have to be refused.
+fn are_refused(rt: &impl Abort, alloc: Global, unread: &Unread) {
+    for word in unread.words {
+        assert!(rt;
+            is_refused(rt, alloc, unread, word),
+            "{}: '{word}'",
+            unread.text
+        );
+    }
+}
+
 #[test]
 fn other_numbers_are_refused(rt: HostRuntime) {
-    for (command, words, text) in [NO_LENGTHS, NO_TABLES, NO_EXECUTORS, NO_LIMITS, NO_REFUSALS] {
-        for word in words {
-            assert!(rt; is_refused(&rt, rt.alloc(), command, word, text), "{word}");
-        }
+    for unread in [&LENGTHS, &TABLES, &EXECUTORS, &LIMITS, &REFUSALS] {
+        are_refused(&rt, rt.alloc(), unread);
     }
 }
 

@@ -31,7 +31,7 @@ static NINE_TO_NINE: [u8; 16] = [9, 0, 0, 0, 0, 0, 0, 0, 9, 0, 0, 0, 0, 0, 0, 0]
 /// Key 5.
 static FIVE: [u8; 8] = [5, 0, 0, 0, 0, 0, 0, 0];
 
-/// The row that is left by the first.
+/// The row that `TEN_TO_FIVE` leaves.
 static TEN: [u8; 8] = [10, 0, 0, 0, 0, 0, 0, 0];
 
 /// A call of procedure 2 that puts 0 at key 5, where it finds no row, by request 7 1.
@@ -136,7 +136,7 @@ fn has_one_row(rt: &impl Abort, alloc: Global, site: &Site, key: (u8, u64), byte
     assert_eq!(rt; rows[0].bytes(), bytes);
 }
 
-/// Looks whether a site is as a step says that asks or looks.
+/// Checks a site against a step; what is taken, `go_on` checks.
 fn check(rt: &impl Abort, alloc: Global, site: &Site, step: &Step<'_>) {
     match step {
         Step::Take(_, _) => {}

@@ -116,14 +116,14 @@ fn refuse_a_put(rt: &impl Abort, scarce: &Scarce) {
 }
 
 /// Writes for which there is room take no memory for their keys.
-fn keep_room(rt: &impl Abort, scarce: &Scarce) {
-    let mut writes = WriteSet::with_room(scarce, 5).expect(rt, "room");
+fn keep_room(rt: &impl Abort, scarce: &Scarce, count: usize) {
+    let mut writes = WriteSet::with_room(scarce, count).expect(rt, "room");
     scarce.refuse_all(true);
-    for key in 0..5 {
+    for key in 0..count as u64 {
         writes.remove(1, key).expect(rt, "a removal");
     }
     scarce.refuse_all(false);
-    same(rt, "removed", writes.len(), 5);
+    same(rt, "removed", writes.len(), count);
 }
 
 #[test]
@@ -131,5 +131,7 @@ fn a_refused_growth_leaves_looks_and_writes(rt: HostRuntime) {
     let scarce = Scarce::new(rt.alloc());
     refuse_a_look(&rt, &scarce);
     refuse_a_put(&rt, &scarce);
-    keep_room(&rt, &scarce);
+    for count in [1, 5] {
+        keep_room(&rt, &scarce, count);
+    }
 }

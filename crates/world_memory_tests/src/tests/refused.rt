@@ -369,7 +369,7 @@ fn answers_over<A: Allocator + Copy>(
     answers_in(rt, alloc, scarce, &mut world, case, growth)
 }
 
-/// The same.
+/// The same with a `Scarce` of its own.
 fn answers(rt: &impl Abort, alloc: Global, case: &Case, growth: u64) -> (Outcome, Outcome) {
     let scarce = Scarce::new(alloc);
     answers_over(rt, alloc, &scarce, &scarce, case, growth)
