@@ -1,6 +1,6 @@
 //! The machine, its turns and its run.
 
-ghost use Rattle.std.specs.Prelude.{◌≡◌, ◌≢◌, ◌↔◌, ◌+◌, ◌<◌, ◌≤◌, ℕ, Bool, List, length, IfOk, IsErr};
+ghost use Rattle.std.specs.Prelude.{◌≡◌, ◌≢◌, ◌↔◌, ◌+◌, ◌<◌, ◌≤◌, ℕ, Bool, List, length, IfOk, OnOk, OnErr, IsErr};
 ghost use Rattle.bpf_code.specs.Program.{instruction_at};
 ghost use Rattle.schema.specs.Rows.{Rows};
 ghost use Rattle.bpf_semantics.specs.State.{State};
@@ -74,6 +74,25 @@ impl Machine {
             words: WordState::start(args),
             last: Turn::More,
         })
+    }
+
+    /// A call on these arguments, as one that starts, in the memory of this one.
+    pub fn restart<A: Allocator, B: Allocator>(
+        &mut self,
+        procedure: &Accepted<A, B>,
+        args: &[u8],
+    ) -> Result<(), ArgsLength>
+        ensures starts { OnOk result ((rows : Rows) → HasRun procedure.now args.now rows 0 self.new no_effects) }
+        ensures length { IsErr result ↔ (length args.now ≢ procedure.now.args_len) }
+        ensures unchanged { OnErr result (self.new ≡ self.old) }
+    {
+        procedure.known();
+        if args.len() != usize::from(procedure.args_len()) {
+            return Err(ArgsLength);
+        }
+        self.words.restart(args);
+        self.last = Turn::More;
+        Ok(())
     }
 
     /// What the last turn answered, and before the first that there is more.

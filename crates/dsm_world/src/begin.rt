@@ -5,7 +5,7 @@ ghost use Rattle.dsm_model.specs.World.{Begin, IsStep};
 ghost use Rattle.dsm_world.specs.System.{setting_of, world_of};
 ghost use Rattle.dsm_world.specs.Holdings.{system_of, AreConsistentHoldings};
 
-use crate::calls::enter;
+use crate::calls::{begin_call, enter};
 use crate::holdings::Holdings;
 use crate::numbers::index_of;
 use call_model::{has_zero, or_none};
@@ -14,7 +14,6 @@ use log_model::{RequestId, a_log_only_grows, rows_fit_the_schema};
 use replica::replicas_follow_the_log;
 use schema::MAX_LOG;
 use std::alloc::Allocator;
-use world_calls::OpenCall;
 
 /// The most calls and additions of a world, and entries of its log.
 pub(crate) const MAX_CALLS: usize = MAX_LOG as usize;
@@ -59,13 +58,21 @@ pub(crate) fn begin<A: Allocator + Copy>(
     let call = world.calls.len() as u32 + 1;
     let snapshot = held.begin();
     let request = or_none(request);
-    let begun = OpenCall::begin(
-        alloc, replica, call, procedure, accepted, args, snapshot, request,
+    let begun = begin_call(
+        &mut world.spare,
+        alloc,
+        replica,
+        call,
+        procedure,
+        accepted,
+        args,
+        snapshot,
+        request,
     );
     let Ok(open_call) = begun else {
         return Outcome::Refused(StepRefusal::NoMemory);
     };
-    match enter(&mut world.calls, alloc, open_call) {
+    match enter(&mut world.calls, open_call) {
         Ok(()) => Outcome::Begun { call, snapshot },
         Err(_) => Outcome::Refused(StepRefusal::NoMemory),
     }

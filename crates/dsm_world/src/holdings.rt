@@ -1,6 +1,6 @@
 //! What a world holds.
 
-use crate::calls::Calls;
+use crate::calls::{Calls, Spare};
 use catalogue::Catalogue;
 use log_entry::Entry;
 use replica::Replica;
@@ -19,4 +19,6 @@ pub(crate) struct Holdings<A: Allocator + Copy = Global> {
     pub(crate) replicas: Vec<Replica<A>, A>,
     /// The calls that were begun.
     pub(crate) calls: Calls<A>,
+    /// One that is over, in whose memory the next begins.
+    pub(crate) spare: Spare<A>,
 }

@@ -10,7 +10,7 @@ ghost use Rattle.replica.specs.Replica.{entries_of};
 ghost use Rattle.dsm_world.specs.Turned.{IsAppended};
 
 use crate::begin::MAX_CALLS;
-use crate::calls::{put_call, take_call};
+use crate::calls::{end_call, put_call, take_call};
 use crate::holdings::Holdings;
 use dsm_model::{Outcome, StepRefusal, steps_keep_a_world};
 use log_entry::{Entry, ExecutedCall};
@@ -36,8 +36,7 @@ pub(crate) fn order<A: Allocator + Copy>(world: &mut Holdings<A>, call: u32) -> 
         put_call(&mut world.calls, at, open_call);
         return Outcome::Refused(StepRefusal::NotAtExit);
     };
-    let open_call = Box::into_inner(open_call);
-    match open_call.complete() {
+    match end_call(&mut world.spare, world.alloc, open_call) {
         Completion::Cancelled { snapshot, code } => Outcome::Cancelled { snapshot, code },
         Completion::Read { snapshot, reply } => Outcome::Read { snapshot, reply },
         Completion::Wrote(call) => append(&mut world.entries, call),

@@ -176,6 +176,7 @@ impl<A: Allocator + Copy> World<A> {
                 additions: 0,
                 replicas,
                 calls: Vec::new(alloc),
+                spare: None,
             },
         })
     }

@@ -167,7 +167,7 @@ pub(crate) fn run<J: LogSetting, A: Allocator + Copy, P: Allocator + Copy, G: Ga
     match run_to_the_end(rt, alloc, replica, gate, waiter, &mut call) {
         Advance::Open => {
             let seen = call.seen().again();
-            Ran::Ended(call.complete(), seen)
+            Ran::Ended(call.complete(alloc), seen)
         }
         Advance::Stale(seen) => Ran::Stale(seen),
         Advance::NoMemory => Ran::NoMemory,

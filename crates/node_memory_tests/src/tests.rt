@@ -7,7 +7,7 @@ ghost use Rattle.tallies.specs.Shared.{names_by_place};
 use catalogue::Catalogue;
 use crossbeam_channel::{Receiver, Sender, bounded};
 use node_calls::{Answer, Asked, OpenGate};
-use order_log::{Fact, GroupCells, OrderLog};
+use order_log::{Fact, GroupCells, OrderLog, Seen};
 use ordered_entries::{LogSetting, OrderedEntries};
 use row_sets::Bytes;
 use scarce::Scarce;
@@ -17,14 +17,17 @@ use std::alloc::{Allocator, Global};
 use std::marker::Brand;
 use std::process::Abort;
 use std::sync::Wait;
-use std::thread;
 use std::thread::Threads;
-use tallies::{Blanks, Ledgers};
+use std::{mem, thread};
+use tallies::{Blanks, Ledgers, Shares, Totals};
 use test_entries::catalogue_of;
 use test_procedures::{PROCEDURES, TABLES};
 
-/// What two replicas share, each in memory of its own; calls and entries take memory of the second kind.
-type TwoReplicas<'a, J, P> = Shared<J, &'a Scarce, P, OpenGate>;
+/// What two replicas share, each in memory of its own of the first kind; calls and entries take memory of the second.
+type TwoReplicas<J, A, P> = Shared<J, A, P, OpenGate>;
+
+/// The memory of both, which may be refused.
+type Memories<'a> = (&'a Scarce, &'a Scarce);
 
 /// What is tried at the two.
 #[derive(Clone, Copy)]
@@ -82,52 +85,59 @@ fn add_at<J: LogSetting, P: Allocator + Copy, R: Wait + Abort>(
     Some(answered.expect(rt, "an answer to what was asked").0)
 }
 
-/// What is asked of both replicas, the second of which finds no memory at first.
-fn ask_both<J: LogSetting + Ledgers, P: Allocator + Copy, R: Wait + Abort>(
+/// Whether an addition at a replica, whose requests these are, is answered so.
+fn is_answered<J: LogSetting, P: Allocator + Copy, R: Wait + Abort>(
     rt: &R,
     alloc: P,
-    shared: &TwoReplicas<'_, J, P>,
+    requests: &Sender<Request<J, P>, P>,
+    at: (u32, u32),
+    expected: Answer,
+) -> bool {
+    add_at(rt, alloc, requests, at, None) == Some(expected)
+}
+
+/// The answer to an addition that is ordered here, and replies this.
+fn committed(position: u32, reply: u64) -> Answer {
+    Answer::Committed { position, reply }
+}
+
+/// What is asked of both replicas, the second of which finds no memory at first.
+fn ask_both<J: LogSetting + Ledgers, A: Allocator + Copy, P: Allocator + Copy, R: Wait + Abort>(
+    rt: &R,
+    alloc: P,
+    shared: &TwoReplicas<J, A, P>,
     second: &Scarce,
     requests: &[Sender<Request<J, P>, P>; 2],
 ) {
-    let committed = Answer::Committed {
-        position: 1,
-        reply: 10,
-    };
-    assert_eq!(rt;
-        add_at(rt, alloc, &requests[0], (1, 0), None),
-        Some(committed)
-    );
-    assert_eq!(rt;
-        add_at(rt, alloc, &requests[1], (2, 1), None),
-        Some(Answer::Behind)
-    );
-    assert_eq!(rt; shared.rebuild(rt, 2), Err(RebuildFault::NoMemory));
-    assert_eq!(rt; shared.rebuild(rt, 3), Err(RebuildFault::NoReplica));
-    assert_eq!(rt;
-        add_at(rt, alloc, &requests[1], (2, 1), None),
-        Some(Answer::Behind)
-    );
+    let [to_first, to_second] = requests;
+    assert!(rt; is_answered(rt, alloc, to_first, (1, 0), committed(1, 10)));
+    assert!(rt; is_answered(rt, alloc, to_second, (2, 1), Answer::Behind));
+    assert!(rt; shared.rebuild(rt, 2) == Err(RebuildFault::NoMemory));
+    assert!(rt; shared.rebuild(rt, 3) == Err(RebuildFault::NoReplica));
+    assert!(rt; is_answered(rt, alloc, to_second, (2, 1), Answer::Behind));
     second.refuse_all(false);
-    assert_eq!(rt; shared.rebuild(rt, 2), Ok(1));
-    let committed = Answer::Committed {
-        position: 2,
-        reply: 20,
-    };
-    assert_eq!(rt;
-        add_at(rt, alloc, &requests[1], (2, 1), None),
-        Some(committed)
-    );
+    assert!(rt; shared.rebuild(rt, 2) == Ok(1));
+    assert!(rt; is_answered(rt, alloc, to_second, (2, 1), committed(2, 20)));
+}
+
+/// Has these seen all entries that the log shows.
+fn see_all<J: LogSetting + Ledgers, A: Allocator + Copy, P: Allocator + Copy>(
+    shared: &TwoReplicas<J, A, P>,
+    seen: &mut Seen<J, P>,
+) {
+    for _ in 0..MAX_LOG {
+        if shared.log().get(seen).is_none() {
+            return;
+        }
+    }
 }
 
 /// How many entries the log shows.
-fn length_of<J: LogSetting + Ledgers, P: Allocator + Copy>(shared: &TwoReplicas<'_, J, P>) -> u32 {
+fn length_of<J: LogSetting + Ledgers, A: Allocator + Copy, P: Allocator + Copy>(
+    shared: &TwoReplicas<J, A, P>,
+) -> u32 {
     let mut seen = shared.log().seen();
-    for _ in 0..MAX_LOG {
-        if shared.log().get(&mut seen).is_none() {
-            break;
-        }
-    }
+    see_all(shared, &mut seen);
     seen.len()
 }
 
@@ -160,10 +170,10 @@ impl Heard {
 
 /// Refuses each growth of a call at the first replica in turn, until a call asks for no more. The log has what was
 /// answered as ordered, whatever was refused; where the replica has stopped it is made anew.
-fn refuse_each<J: LogSetting + Ledgers, P: Allocator + Copy, R: Wait + Abort>(
+fn refuse_each<J: LogSetting + Ledgers, A: Allocator + Copy, P: Allocator + Copy, R: Wait + Abort>(
     rt: &R,
     alloc: P,
-    shared: &TwoReplicas<'_, J, P>,
+    shared: &TwoReplicas<J, A, P>,
     first: &Scarce,
     requests: &Sender<Request<J, P>, P>,
 ) {
@@ -195,9 +205,168 @@ fn refuse_each<J: LogSetting + Ledgers, P: Allocator + Copy, R: Wait + Abort>(
     assert!(rt; matches!(answer, Some(Answer::Committed { position, .. }) if position == last));
 }
 
-/// Has two replicas served and delivered to by threads of a scope, while both are asked.
+/// What is asked of both in a case.
+fn ask<J: LogSetting + Ledgers, A: Allocator + Copy, P: Allocator + Copy, R: Wait + Abort>(
+    rt: &R,
+    alloc: P,
+    shared: &TwoReplicas<J, A, P>,
+    memories: Memories<'_>,
+    requests: &[Sender<Request<J, P>, P>; 2],
+    case: Case,
+) {
+    let (first, second) = memories;
+    match case {
+        Case::Stopped => ask_both(rt, alloc, shared, second, requests),
+        Case::Refused => refuse_each(rt, alloc, shared, first, &requests[0]),
+    }
+}
+
+/// Where requests to both go, until nobody asks any more.
+type Callers<J, P> = Option<[Sender<Request<J, P>, P>; 2]>;
+
+/// Asks both, and lets their requests' ends go, so that nobody serves them any more.
+fn ask_to_the_end<
+    J: LogSetting + Ledgers,
+    A: Allocator + Copy,
+    P: Allocator + Copy,
+    R: Wait + Abort,
+>(
+    rt: &R,
+    alloc: P,
+    shared: &TwoReplicas<J, A, P>,
+    memories: Memories<'_>,
+    callers: &mut Callers<J, P>,
+    case: Case,
+) {
+    let requests = callers.as_ref().expect(rt, "callers");
+    ask(rt, alloc, shared, memories, requests, case);
+    *callers = None;
+}
+
+/// Serves both until no caller is left.
+fn serve_both<
+    J: LogSetting + Ledgers + Send + Sync,
+    A: Allocator + Copy + Send + Sync,
+    P: Allocator + Copy + Send + Sync,
+    R: Threads + Wait + Sync,
+>(
+    rt: &R,
+    shared: &TwoReplicas<J, A, P>,
+    requests: &[Receiver<Request<J, P>, P>; 2],
+    one: &mut Shares<J>,
+    other: &mut Shares<J>,
+) {
+    thread::join(
+        rt,
+        || serve(rt, shared, 1, 0, &requests[0], one),
+        || serve(rt, shared, 2, 0, &requests[1], other),
+    );
+}
+
+/// Has both asked, whose requests these are, and served until nobody asks any more; then stops what is delivered.
+fn ask_and_serve<
+    J: LogSetting + Ledgers + Send + Sync,
+    A: Allocator + Copy + Send + Sync,
+    P: Allocator + Copy + Send + Sync,
+    R: Threads + Wait + Abort + Copy + Sync,
+>(
+    rt: &R,
+    alloc: P,
+    shared: &TwoReplicas<J, A, P>,
+    memories: Memories<'_>,
+    callers: &mut Callers<J, P>,
+    served: &[Receiver<Request<J, P>, P>; 2],
+    one: &mut Shares<J>,
+    other: &mut Shares<J>,
+    case: Case,
+) {
+    thread::join(
+        rt,
+        || serve_both(rt, shared, served, one, other),
+        || ask_to_the_end(rt, alloc, shared, memories, callers, case),
+    );
+    shared.stop_deliveries();
+}
+
+/// Delivers to both until that is stopped.
+fn deliver_to_both<
+    J: LogSetting + Ledgers + Send + Sync,
+    A: Allocator + Copy + Send + Sync,
+    P: Allocator + Copy + Send + Sync,
+    R: Threads + Wait + Sync,
+>(rt: &R, shared: &TwoReplicas<J, A, P>) {
+    thread::join(
+        rt,
+        || deliver_all(rt, shared, 1),
+        || deliver_all(rt, shared, 2),
+    );
+}
+
+/// Has two replicas, whose requests these are, served and delivered to by threads of a scope, while both are asked.
+fn run_two<
+    J: LogSetting + Ledgers + Send + Sync,
+    A: Allocator + Copy + Send + Sync,
+    P: Allocator + Copy + Send + Sync,
+    R: Threads + Wait + Abort + Copy + Sync,
+>(
+    rt: &R,
+    alloc: P,
+    shared: &TwoReplicas<J, A, P>,
+    memories: Memories<'_>,
+    callers: &mut Callers<J, P>,
+    served: &[Receiver<Request<J, P>, P>; 2],
+    one: &mut Shares<J>,
+    other: &mut Shares<J>,
+    case: Case,
+) {
+    thread::join(
+        rt,
+        || deliver_to_both(rt, shared),
+        || ask_and_serve(
+            rt, alloc, shared, memories, callers, served, one, other, case,
+        ),
+    );
+}
+
+/// Adds two replicas that take memory from these.
+fn add_both<J: LogSetting + Ledgers, A: Allocator + Copy, P: Allocator + Copy>(
+    rt: &impl Abort,
+    shared: &mut TwoReplicas<J, A, P>,
+    replicas: (A, A),
+) {
+    assert!(rt; shared.add_replica(replicas.0, 1).is_ok());
+    assert!(rt; shared.add_replica(replicas.1, 1).is_ok());
+}
+
+/// What two replicas share that take memory from these.
+fn shared_by<J: LogSetting + Ledgers, A: Allocator + Copy, P: Allocator + Copy>(
+    rt: &impl Abort,
+    global: Global,
+    alloc: P,
+    cells: GroupCells<P>,
+    totals: Totals<J>,
+    catalogue: Catalogue<P>,
+    window: u32,
+    replicas: (A, A),
+) -> TwoReplicas<J, A, P>
+    requires cells { cells ≡ J.groups }
+    requires setting { J.setting ≡ record {
+      tables = catalogue.tables;
+      catalogue = catalogue.procedures;
+      window = window;
+    } }
+{
+    let log = OrderLog::new(global, cells).expect(rt, "memory");
+    let made = Shared::new(alloc, log, catalogue, window, totals, OpenGate, 2);
+    let mut shared: TwoReplicas<J, A, P> = made.expect(rt, "memory");
+    add_both(rt, &mut shared, replicas);
+    shared
+}
+
+/// Tries a case at two replicas.
 fn try_two<
     J: LogSetting + Ledgers + Send + Sync,
+    A: Allocator + Copy + Send + Sync,
     P: Allocator + Copy + Send + Sync,
     R: Threads + Wait + Abort + Copy + Sync,
 >(
@@ -208,7 +377,8 @@ fn try_two<
     blanks: Blanks,
     catalogue: Catalogue<P>,
     window: u32,
-    scarce: (&Scarce, &Scarce),
+    replicas: (A, A),
+    memories: Memories<'_>,
     case: Case,
 )
     requires cells { cells ≡ J.groups }
@@ -221,42 +391,24 @@ fn try_two<
 {
     let (totals, mut one) = blanks.open();
     let mut other = one.split();
-    let (first, second) = scarce;
-    let log = OrderLog::new(global, cells).expect(rt, "memory");
-    let made = Shared::new(alloc, log, catalogue, window, totals, OpenGate, 2);
-    let mut shared: TwoReplicas<'_, J, P> = made.expect(rt, "memory");
-    assert!(rt; shared.add_replica(first, 1).is_ok());
-    assert!(rt; shared.add_replica(second, 1).is_ok());
-    second.refuse_all(matches!(case, Case::Stopped));
+    let shared: TwoReplicas<J, A, P> = shared_by(
+        rt, global, alloc, cells, totals, catalogue, window, replicas,
+    );
+    memories.1.refuse_all(matches!(case, Case::Stopped));
     let (to_first, at_first) = bounded(alloc, 4).expect(rt, "memory");
     let (to_second, at_second) = bounded(alloc, 4).expect(rt, "memory");
-    let requests = [to_first, to_second];
-    let both = &shared;
-    thread::join(
+    let mut callers = Some([to_first, to_second]);
+    let served = [at_first, at_second];
+    run_two(
         rt,
-        || {
-            thread::join(
-                rt,
-                || serve(rt, both, 1, 0, &at_first, &mut one),
-                || serve(rt, both, 2, 0, &at_second, &mut other),
-            );
-            both.stop_deliveries();
-        },
-        || {
-            thread::join(
-                rt,
-                || {
-                    match case {
-                        Case::Stopped => ask_both(rt, alloc, both, second, &requests),
-                        Case::Refused => refuse_each(rt, alloc, both, first, &requests[0]),
-                    }
-                    drop(requests);
-                },
-                || {
-                    thread::join(rt, || deliver_all(rt, both, 1), || deliver_all(rt, both, 2));
-                },
-            );
-        },
+        alloc,
+        &shared,
+        memories,
+        &mut callers,
+        &served,
+        &mut one,
+        &mut other,
+        case,
     );
 }
 
@@ -265,12 +417,12 @@ fn try_case<P: Allocator + Copy + Send + Sync, R: Threads + Wait + Abort + Copy 
     rt: &R,
     global: Global,
     alloc: P,
-    scarce: (&Scarce, &Scarce),
+    memories: Memories<'_>,
     case: Case,
 ) {
     let cells = GroupCells::<P>::new(global).expect(rt, "memory");
     let catalogue = catalogue_of(alloc, &TABLES, &PROCEDURES).expect(rt, "a catalogue");
-    try_two::<Brand, P, R>(
+    try_two::<Brand, &Scarce, P, R>(
         rt,
         global,
         alloc,
@@ -278,7 +430,8 @@ fn try_case<P: Allocator + Copy + Send + Sync, R: Threads + Wait + Abort + Copy 
         Blanks::new(),
         catalogue,
         4,
-        scarce,
+        memories,
+        memories,
         case,
     );
 }

@@ -1,30 +1,24 @@
 //! Calls of several threads at a node: what each is answered, and how the node ends.
 
-ghost use Rattle.std.specs.Prelude.{◌≡◌};
-ghost use Rattle.tallies.specs.Shared.{names_by_place};
-
-use catalogue::Catalogue;
-use node::{Finish, Node, Size};
-use node_calls::Answer;
-use order_log::GroupCells;
-use ordered_entries::LogSetting;
+use node::{Added, Size};
 use std::alloc::Global;
-use std::marker::Brand;
 use std::process::Abort;
-use std::sync::{Arc, Wait};
+use std::sync::Wait;
 use std::thread::Threads;
-use tallies::{Blanks, Counts, Ledgers};
-use test_entries::catalogue_of;
-use test_procedures::{ONE, PROCEDURES, TABLES};
+use tallies::Counts;
+use test_callers::{Addition, Asked, Asking, Told};
+use test_nodes::{Ending, run_at_a_node};
+use test_procedures::{ADD, ONE, PUT, bytes_of};
 
 mod calls;
-mod gate;
 
-use calls::{added, adds, numbered, one_session, overlap, puts, refusals, two_puts};
-use gate::{Hold, HoldingGate};
+use calls::{
+    CALLERS, REFUSALS, TWO_PUTS, addition_of, is_addition, is_as_in, is_committed, is_numbered,
+    is_one_session, is_overlap, numbered, often_add, often_put, one_session, overlap, row_at,
+};
 
 /// What is tried at a node.
-#[derive(Clone, Copy, PartialEq, Eq)]
+#[derive(Clone, Copy)]
 enum Case {
     OneSession,
     Overlap,
@@ -45,15 +39,8 @@ struct End {
     position: Option<u32>,
 }
 
-/// The sample procedures, and that which replies 1 as number 9.
-fn procedures_of(rt: &impl Abort, alloc: Global) -> Catalogue {
-    let mut procedures = Vec::new(alloc);
-    for row in &PROCEDURES {
-        procedures.push(*row).expect(rt, "memory");
-    }
-    procedures.push((9, ONE, 0)).expect(rt, "memory");
-    catalogue_of(alloc, &TABLES, &procedures).expect(rt, "a catalogue")
-}
+/// The procedures of the node, with their numbers and how many words each takes.
+static PROCEDURES: [(u16, &str, usize); 3] = [(1, ADD, 2), (3, PUT, 2), (9, ONE, 0)];
 
 fn sum_of(counts: &Counts) -> u64 {
     counts
@@ -66,107 +53,78 @@ fn sum_of(counts: &Counts) -> u64 {
         .wrapping_add(counts.other)
 }
 
-/// The row of 8 bytes that a replica has at a key of table 1, as a number; 0 where it has none.
-fn number_at<J: LogSetting + Ledgers>(
-    rt: &(impl Abort + Wait),
-    finish: &Finish<J, HoldingGate>,
-    replica: u32,
-    key: u64,
-) -> u64 {
-    let locked = finish.replica(replica).expect(rt, "a replica").read(rt);
-    let seen = locked.seen();
-    let row = match txn_view::Store::get(&locked.at(&seen), 1, key) {
-        Ok(Some(row)) => u64::from_le_bytes(row.try_into().unwrap_or([0u8; 8])),
-        _ => 0,
-    };
-    row
+/// A case at a node of a size, with the bytes of a program that may be added.
+#[derive(Clone, Copy)]
+struct Trial<'a> {
+    size: Size,
+    case: Case,
+    program: &'a [u8],
 }
 
-/// Tries a case at a node of a size, which has to end as it should.
-fn try_case<
-    J: LogSetting + Ledgers + Send + Sync + 'static,
-    R: Threads + Wait + Abort + Copy + Send + Sync + 'static,
->(
-    rt: &R,
-    alloc: Global,
-    cells: GroupCells,
-    blanks: Blanks,
-    size: Size,
-    catalogue: Catalogue,
-    case: Case,
-    end: End,
-)
-    requires cells { cells ≡ J.groups }
-    requires ledgers { J.names ≡ names_by_place blanks }
-    requires setting { J.setting ≡ record {
-      tables = catalogue.tables;
-      catalogue = catalogue.procedures;
-      window = size.window;
-    } }
-{
-    let hold = Arc::new(alloc, Hold::new(case == Case::Overlap)).expect(rt, "memory");
-    let gate = HoldingGate {
-        hold: Arc::try_clone(&hold).expect(rt, "memory"),
-    };
-    let started = Node::<J, HoldingGate>::start_sized(
-        rt, alloc, cells, blanks, size, catalogue, gate,
-    );
-    let node = started.expect(rt, "a node");
-    let desk = node.desk();
-    match case {
-        Case::OneSession => one_session(rt, desk),
-        Case::Overlap => {
-            let answers = overlap(rt, desk, &hold);
-            assert_eq!(rt; answers, overlapped(size.executors));
+impl<'a> Asked for Trial<'a> {
+    fn addition(&self, index: usize) -> Option<Addition<'_>> {
+        match self.case {
+            Case::Added => addition_of(self.program, index),
+            _ => None,
         }
-        Case::TwoPuts => two_puts(rt, desk),
-        Case::Adds => adds(rt, alloc, desk),
-        Case::Puts => puts(rt, alloc, desk),
-        Case::Numbered => numbered(rt, desk),
-        Case::Refusals => refusals(rt, desk),
-        Case::Added => added(rt, alloc, &node),
     }
-    let finish = node.finish(rt);
-    check_end(rt, &finish, size, case, end);
+
+    fn is_added(&self, index: usize, added: &Added, seen: bool) -> bool {
+        is_addition(index, added, seen)
+    }
+
+    fn callers(&self) -> usize {
+        match self.case {
+            Case::Adds | Case::Puts => CALLERS,
+            Case::Overlap => 2,
+            _ => 1,
+        }
+    }
+
+    fn asking(&self, place: usize, index: usize) -> Option<Asking> {
+        let replicas = self.size.replicas;
+        match self.case {
+            Case::OneSession => one_session(index),
+            Case::Overlap => overlap(place, index),
+            Case::TwoPuts => row_at(&TWO_PUTS, index),
+            Case::Adds => often_add(replicas, place, index),
+            Case::Puts => often_put(replicas, place, index),
+            Case::Numbered => numbered(index),
+            Case::Refusals => row_at(&REFUSALS, index),
+            Case::Added => None,
+        }
+    }
+
+    fn is_told(&self, place: usize, index: usize, told: &Told) -> bool {
+        match self.case {
+            Case::OneSession => is_one_session(index, told),
+            Case::Overlap => is_overlap(self.size.executors == 1, place, told),
+            Case::TwoPuts => is_as_in(&TWO_PUTS, index, told),
+            Case::Adds => true,
+            Case::Puts => is_committed(told),
+            Case::Numbered => is_numbered(index, told),
+            Case::Refusals => is_as_in(&REFUSALS, index, told),
+            Case::Added => false,
+        }
+    }
 }
 
-/// What a held addition and a put are answered: the put first where there is a thread for it.
-fn overlapped(executors: u32) -> (Answer, Answer) {
-    let (add, put) = if executors > 1 { (2, 1) } else { (1, 2) };
-    (
-        Answer::Committed {
-            position: add,
-            reply: 10,
-        },
-        Answer::Committed {
-            position: put,
-            reply: 0,
-        },
-    )
-}
-
-/// Sums, positions, commits and rows agree with what was asked, and with each other.
-fn check_end<J: LogSetting + Ledgers, R: Wait + Abort>(
-    rt: &R,
-    finish: &Finish<J, HoldingGate>,
-    size: Size,
-    case: Case,
-    end: End,
-) {
-    let totals = finish.totals;
+/// Answers, sums, positions, commits and rows agree with what was asked, and with each other.
+fn check_end(rt: &impl Abort, ending: &Ending, trial: Trial<'_>, end: End) {
+    let Trial { size, case, .. } = trial;
+    let totals = ending.totals;
+    assert_eq!(rt; ending.stray, None);
     assert_eq!(rt; sum_of(&totals), end.answers);
     assert!(rt;
         end.committed
             .is_none_or(|committed| committed == totals.committed)
     );
-    assert!(rt; finish.agreement);
-    assert_eq!(rt; finish.replicas.len(), size.replicas as usize);
-    let mut number = 0u32;
-    for replica in &finish.replicas {
-        number = number.wrapping_add(1);
+    assert!(rt; ending.agreement);
+    assert_eq!(rt; ending.replicas.len(), size.replicas as usize);
+    for replica in &ending.replicas {
         assert!(rt; !replica.stopped);
         // An addition that is ordered commits, and is no answer to a call.
-        let additions = u64::from(case == Case::Added);
+        let additions = u64::from(matches!(case, Case::Added));
         assert_eq!(rt;
             u64::from(replica.commits),
             totals.committed.wrapping_add(additions)
@@ -175,13 +133,13 @@ fn check_end<J: LogSetting + Ledgers, R: Wait + Abort>(
             end.position
                 .is_none_or(|position| position == replica.position)
         );
-        if case == Case::Adds {
-            assert_eq!(rt; number_at(rt, finish, number, 5), totals.committed);
+        if matches!(case, Case::Adds) {
+            assert_eq!(rt; replica.number, totals.committed);
         }
     }
 }
 
-/// Tries a case at a node of the sample procedures.
+/// Tries a case at a node of these procedures.
 fn try_at_a_node<R: Threads + Wait + Abort + Copy + Send + Sync + 'static>(
     rt: &R,
     alloc: Global,
@@ -202,9 +160,15 @@ fn try_at_a_node<R: Threads + Wait + Abort + Copy + Send + Sync + 'static>(
         committed,
         position,
     };
-    let cells = GroupCells::new(alloc).expect(rt, "memory");
-    let catalogue = procedures_of(rt, alloc);
-    try_case::<Brand, R>(rt, alloc, cells, Blanks::new(), size, catalogue, case, end);
+    let program = bytes_of(alloc, ONE).expect(rt, "a program");
+    let trial = Trial {
+        size,
+        case,
+        program: &program,
+    };
+    let armed = matches!(case, Case::Overlap);
+    let ending = run_at_a_node(rt, alloc, size, armed, &PROCEDURES, &trial, 5);
+    check_end(rt, &ending.expect(rt, "a node"), trial, end);
 }
 
 const LIMIT: u32 = 1_048_576;

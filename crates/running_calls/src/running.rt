@@ -147,12 +147,13 @@ impl<J: LogSetting, A: Allocator + Copy> RunningCall<J, A> {
         self.call.turn(alloc, self.begun.accepted(), NoStore)
     }
 
-    /// What comes of a call that is at its end.
-    pub fn complete(self) -> Completion<A>
+    /// What comes of a call that is at its end. Takes no memory.
+    pub fn complete(self, alloc: A) -> Completion<A>
         requires { (reply : ℕ) × (self.last ≡ Exit reply) }
         ensures is_call { IsCall J.setting (log_seen self.entries) self.progress.call }
         ensures completion { IsCompletion J.setting (log_seen self.entries) self.progress.call result }
     {
-        self.call.complete()
+        let mut call = self.call;
+        call.complete(alloc)
     }
 }

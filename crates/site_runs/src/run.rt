@@ -55,7 +55,7 @@ pub fn complete<A: Allocator + Copy>(
         alloc, 0, number, procedure, accepted, args, snapshot, request,
     )?;
     match open_call.run(alloc, accepted, replica.at(snapshot)) {
-        Turn::Exit(_) => Ok(open_call.complete()),
+        Turn::Exit(_) => Ok(open_call.complete(alloc)),
         Turn::NoMemory => Err(AllocError),
         Turn::More | Turn::Stale => unreachable!(),
     }

@@ -74,6 +74,18 @@ impl WordState {
         }
     }
 
+    /// The state in which a run on these arguments begins, in the memory of this one. What its run left in the stack
+    /// stays there: no program reads a byte that its own run hasn't written.
+    pub fn restart(&mut self, args: &[u8])
+        requires { length args.now ≤ MAX_ARGUMENTS }
+        ensures { (rows : Rows) → Holds (entry_state args.now rows) self.new }
+    {
+        self.slot = 0;
+        self.registers = [0, ARGS_START, 0, 0, 0, 0, 0, 0, 0, 0, STACK_END];
+        write(&mut self.memory, 512, args);
+        self.args_len = args.len();
+    }
+
     /// The slot of the instruction that is next.
     pub fn slot(&self) -> usize
         ensures { result ≡ self.now.slot }

@@ -1,6 +1,6 @@
 //! A call that isn't over.
 
-ghost use Rattle.std.specs.Prelude.{◌≡◌, ◌≢◌, ◌<◌, ℕ, true, length, Some, IfOk, IfSome};
+ghost use Rattle.std.specs.Prelude.{◌≡◌, ◌≢◌, ◌<◌, ℕ, true, length, Some, IfOk, IfSome, OnOk, OnErr};
 ghost use Rattle.bpf_code.specs.Program.{max_slots};
 ghost use Rattle.schema.specs.Rows.{AreRows};
 ghost use Rattle.log_model.specs.Log.{Setting, Log, StoredProcedure, by_number, procedures_after, rows_after};
@@ -94,6 +94,51 @@ impl<A: Allocator + Copy> OpenCall<A> {
             machine,
             own: Own::new(alloc),
         })
+    }
+
+    /// A call as `begin` has it, in the memory of this one, which it takes the place of.
+    pub fn begin_again<P: Allocator, Q: Allocator>(
+        &mut self,
+        alloc: A,
+        replica: u32,
+        number: u32,
+        procedure: u16,
+        accepted: &Accepted<P, Q>,
+        args: &[u8],
+        snapshot: u32,
+        request: RequestId,
+    ) -> Result<(), AllocError>
+        requires { length args.now ≡ accepted.now.args_len }
+        ensures begun { OnOk result (open_call_of self.new ≡ record {
+          replica = replica;
+          call = record {
+            number = number;
+            procedure = procedure;
+            args = args.now;
+            snapshot = snapshot;
+            request = request;
+          };
+          turns = 0;
+        }) }
+        ensures follows { OnOk result ((w : Setting) (log : Log) (p : StoredProcedure)
+            → by_number (procedures_after w log snapshot) procedure ≡ Some p → accepted.now ≡ accepted_of w.tables p
+            → AreRows w.tables (rows_after w log snapshot) → Follows w log self.new) }
+        ensures ready { OnOk result (self.new.machine.last ≡ More) }
+        ensures unchanged { OnErr result (self.new ≡ self.old) }
+    {
+        let copied = Vec::from_slice(alloc, args)?;
+        let Ok(()) = self.machine.restart(accepted, args) else {
+            unreachable!()
+        };
+        self.replica = replica;
+        self.number = number;
+        self.procedure = procedure;
+        self.args = Bytes::new(copied);
+        self.snapshot = snapshot;
+        self.request = request;
+        self.turns = 0;
+        self.own = Own::new(alloc);
+        Ok(())
     }
 
     /// The next instruction, where there is one, on the rows of the snapshot; none after the end, which is answered
@@ -212,16 +257,19 @@ impl<A: Allocator + Copy> OpenCall<A> {
         }
     }
 
-    /// What comes of a call that is at its end.
-    pub fn complete(self) -> Completion<A>
-        requires { (reply : ℕ) × (self.machine.last ≡ Exit reply) }
-        ensures { (w : Setting) (log : Log) → Follows w log self → IsCompletion w log (call_of self) result }
+    /// What comes of a call that is at its end: its arguments, looks and writes are taken out. Takes no memory.
+    pub fn complete(&mut self, alloc: A) -> Completion<A>
+        requires { (reply : ℕ) × (self.old.machine.last ≡ Exit reply) }
+        ensures { (w : Setting) (log : Log) → Follows w log self.old
+            → IsCompletion w log (call_of self.old) result }
     {
         states_fit();
         let Turn::Exit(reply) = self.machine.last() else {
             unreachable!()
         };
-        let (reads, writes, cancel_code) = self.own.finish();
+        let own = mem::replace(&mut self.own, Own::new(alloc));
+        let args = mem::replace(&mut self.args, Bytes::new(Vec::new(alloc)));
+        let (reads, writes, cancel_code) = own.finish();
         if let Some(code) = cancel_code {
             return Completion::Cancelled {
                 snapshot: self.snapshot,
@@ -237,7 +285,7 @@ impl<A: Allocator + Copy> OpenCall<A> {
         Completion::Wrote(ExecutedCall {
             call: self.number,
             procedure: self.procedure,
-            args: self.args,
+            args,
             snapshot: self.snapshot,
             request: self.request,
             reads,

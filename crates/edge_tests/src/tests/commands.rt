@@ -65,18 +65,27 @@ impl Write for Output {
     }
 }
 
-/// The exit status for an input, and what the output then holds.
-fn listed(
-    rt: &impl Abort,
-    alloc: Global,
-    mut input: Input<'_>,
-    mut output: Output,
-) -> (u8, Vec<u8>) {
+/// An exit status, where a fault is told by it and by nothing else.
+fn told(status: u8, silent: bool) -> Option<u8> {
+    if silent == (status != 3) {
+        Some(status)
+    } else {
+        None
+    }
+}
+
+/// The exit status of a listing. None where a fault isn't told, or one that wasn't there.
+fn listing(alloc: Global, input: &mut Input<'_>, output: &mut Output) -> Option<u8> {
     let mut faults = Vec::new(alloc);
-    let status = list_over(alloc, &mut input, &mut output, &mut faults);
-    // A fault is told where there was one.
-    assert_eq!(rt; faults.is_empty(), status != 3);
-    (status, output.held)
+    let status = list_over(alloc, input, output, &mut faults);
+    told(status, faults.is_empty())
+}
+
+/// Whether the listing of an input ends with this status, and the output then holds this.
+fn lists(alloc: Global, input: Input<'_>, output: Output, status: u8, text: &[u8]) -> bool {
+    let (mut input, mut output) = (input, output);
+    let ended = listing(alloc, &mut input, &mut output);
+    ended == Some(status) && output.held.as_slice() == text
 }
 
 /// So many instructions.
@@ -108,6 +117,15 @@ fn whole(left: &[u8]) -> Input<'_> {
     Input { left, fails: false }
 }
 
+/// Whether so many instructions are listed whole by an output that takes so many bytes at a time.
+fn is_listed(rt: &impl Abort, alloc: Global, count: usize, at_once: usize) -> bool {
+    let program = exits(rt, alloc, count);
+    let expected = listed_exits(rt, alloc, count);
+    let mut output = Output::new(alloc, usize::MAX);
+    output.at_once = at_once;
+    lists(alloc, whole(&program), output, 0, expected.as_bytes())
+}
+
 /// In one write or in many, also where the listing is longer than a page.
 #[test]
 fn a_program_is_listed(rt: HostRuntime) {
@@ -118,13 +136,26 @@ fn a_program_is_listed(rt: HostRuntime) {
         (500, 1),
         (500, 4095),
     ] {
-        let program = exits(&rt, rt.alloc(), count);
-        let expected = listed_exits(&rt, rt.alloc(), count);
-        let mut output = Output::new(rt.alloc(), usize::MAX);
-        output.at_once = at_once;
-        let (status, text) = listed(&rt, rt.alloc(), whole(&program), output);
-        assert_eq!(rt; status, 0);
-        assert_eq!(rt; text.as_slice(), expected.as_bytes());
+        let met = is_listed(&rt, rt.alloc(), count, at_once);
+        assert!(rt; met, "{count} {at_once}");
+    }
+}
+
+/// Whether a listing leaves this in an output whose flush fails.
+fn leaves_unflushed(alloc: Global, program: &[u8], text: &[u8]) -> bool {
+    let mut output = Output::new(alloc, usize::MAX);
+    output.flushes = false;
+    lists(alloc, whole(program), output, 3, text)
+}
+
+/// Wherever the output fails, it holds the text as far as it had room; and where it has room for all, the whole.
+fn try_rooms(rt: &impl Abort, alloc: Global, program: &[u8], text: &[u8]) {
+    for room in 0..=text.len() {
+        let status = if room < text.len() { 3 } else { 0 };
+        let (front, _) = text.split_at(room);
+        let output = Output::new(alloc, room);
+        let met = lists(alloc, whole(program), output, status, front);
+        assert!(rt; met, "{room}");
     }
 }
 
@@ -133,48 +164,25 @@ fn a_program_is_listed(rt: HostRuntime) {
 fn a_failing_output_answers_3(rt: HostRuntime) {
     let program = exits(&rt, rt.alloc(), 90);
     let expected = listed_exits(&rt, rt.alloc(), 90);
-    for room in 0..expected.len() {
-        let (status, text) = listed(
-            &rt,
-            rt.alloc(),
-            whole(&program),
-            Output::new(rt.alloc(), room),
-        );
-        assert_eq!(rt; status, 3);
-        assert_eq!(rt; Some(text.as_slice()), expected.as_bytes().get(..room));
-    }
-    let (status, _) = listed(
-        &rt,
-        rt.alloc(),
-        whole(&program),
-        Output::new(rt.alloc(), expected.len()),
-    );
-    assert_eq!(rt; status, 0);
-    for (input, text) in [
-        (program.as_slice(), expected.as_str()),
-        (&[], "refused B1 slot 0\n"),
-    ] {
-        let mut output = Output::new(rt.alloc(), usize::MAX);
-        output.flushes = false;
-        let (status, held) = listed(&rt, rt.alloc(), whole(input), output);
-        assert_eq!(rt; status, 3);
-        assert_eq!(rt; held.as_slice(), text.as_bytes());
-    }
+    try_rooms(&rt, rt.alloc(), &program, expected.as_bytes());
+    assert!(rt; leaves_unflushed(rt.alloc(), &program, expected.as_bytes()));
+    assert!(rt; leaves_unflushed(rt.alloc(), &[], b"refused B1 slot 0\n"));
+}
+
+/// Whether a program is refused by this line.
+fn is_refused(alloc: Global, program: &[u8], line: &[u8]) -> bool {
+    let output = Output::new(alloc, 1000);
+    lists(alloc, whole(program), output, 1, line)
 }
 
 #[test]
 fn a_refusal_is_one_line(rt: HostRuntime) {
     let mut long = exits(&rt, rt.alloc(), 4097);
-    let (status, text) = listed(&rt, rt.alloc(), whole(&long), Output::new(rt.alloc(), 1000));
-    assert_eq!(rt; status, 1);
-    assert_eq!(rt; text.as_slice(), b"refused B2 slot 0\n".as_slice());
+    assert!(rt; is_refused(rt.alloc(), &long, b"refused B2 slot 0\n"));
     // A length that is no whole number of slots is the lower fault.
     long.push(0).expect(&rt, "memory");
-    for bytes in [&[], long.as_slice()] {
-        let (status, text) = listed(&rt, rt.alloc(), whole(bytes), Output::new(rt.alloc(), 1000));
-        assert_eq!(rt; status, 1);
-        assert_eq!(rt; text.as_slice(), b"refused B1 slot 0\n".as_slice());
-    }
+    assert!(rt; is_refused(rt.alloc(), &[], b"refused B1 slot 0\n"));
+    assert!(rt; is_refused(rt.alloc(), &long, b"refused B1 slot 0\n"));
 }
 
 #[test]
@@ -183,9 +191,8 @@ fn a_failing_input_answers_3(rt: HostRuntime) {
         left: &EXIT,
         fails: true,
     };
-    let (status, text) = listed(&rt, rt.alloc(), input, Output::new(rt.alloc(), 1000));
-    assert_eq!(rt; status, 3);
-    assert!(rt; text.is_empty());
+    let output = Output::new(rt.alloc(), 1000);
+    assert!(rt; lists(rt.alloc(), input, output, 3, b""));
 }
 
 /// The bytes and the slots are one growth each; without one nothing is printed, and a fault is told.
@@ -207,27 +214,18 @@ fn each_growth_refused_answers_3(rt: HostRuntime) {
     assert_eq!(rt; failed, Some(2));
 }
 
-/// The exit status of a check, and what the output then holds.
-fn checked(
-    rt: &impl Abort,
+/// The exit status of a check. None where a fault isn't told, or one that wasn't there.
+fn checking(
     alloc: Global,
-    mut input: Input<'_>,
-    mut output: Output,
+    input: &mut Input<'_>,
+    output: &mut Output,
     args_len: u16,
     tables: &[(u8, u16)],
-) -> (u8, Vec<u8>) {
+) -> Option<u8> {
     let mut faults = Vec::new(alloc);
-    let status = check_over(
-        alloc,
-        &mut input,
-        &mut output,
-        &mut faults,
-        args_len.min(256),
-        tables,
-    );
-    // A fault is told where there was one.
-    assert_eq!(rt; faults.is_empty(), status != 3);
-    (status, output.held)
+    let length = args_len.min(256);
+    let status = check_over(alloc, input, output, &mut faults, length, tables);
+    told(status, faults.is_empty())
 }
 
 /// A jump into the second half of a wide load.
@@ -258,17 +256,17 @@ const CHECKS: [Check; 12] = [
     ("", 0, &[(1, 129), (1, 8)], 1, "refused S2\n"),
 ];
 
-/// Whether a check over an output answers this status, and leaves this there.
+/// Whether a check over an output ends with this status, and leaves this there.
 fn leaves(
-    rt: &impl Abort,
     alloc: Global,
-    bytes: &[u8],
+    input: Input<'_>,
     check: &Check,
     output: Output,
     expected: (u8, &[u8]),
 ) -> bool {
-    let (got, text) = checked(rt, alloc, whole(bytes), output, check.1, check.2);
-    got == expected.0 && text.as_slice() == expected.1
+    let (mut input, mut output) = (input, output);
+    let ended = checking(alloc, &mut input, &mut output, check.1, check.2);
+    ended == Some(expected.0) && output.held.as_slice() == expected.1
 }
 
 /// In one write or in many; and wherever the output fails, it holds the line as far as it had room.
@@ -282,12 +280,14 @@ fn try_check(rt: &impl Abort, alloc: Global, bytes: &[u8], check: &Check) {
         let mut output = Output::new(alloc, usize::MAX);
         output.at_once = at_once;
         output.flushes = flushes;
-        assert!(rt; leaves(rt, alloc, bytes, check, output, (status, line)));
+        let met = leaves(alloc, whole(bytes), check, output, (status, line));
+        assert!(rt; met, "{at_once} {flushes}");
     }
     for room in 0..line.len() {
         let output = Output::new(alloc, room);
         let (beginning, _) = line.split_at(room);
-        assert!(rt; leaves(rt, alloc, bytes, check, output, (3, beginning)));
+        let met = leaves(alloc, whole(bytes), check, output, (3, beginning));
+        assert!(rt; met, "{room}");
     }
 }
 
@@ -307,16 +307,8 @@ fn a_check_that_fails_answers_3(rt: HostRuntime) {
         left: &bytes,
         fails: true,
     };
-    let (status, text) = checked(
-        &rt,
-        rt.alloc(),
-        input,
-        Output::new(rt.alloc(), 1000),
-        16,
-        &[(1, 8)],
-    );
-    assert_eq!(rt; status, 3);
-    assert!(rt; text.is_empty());
+    let output = Output::new(rt.alloc(), 1000);
+    assert!(rt; leaves(rt.alloc(), input, &CHECKS[0], output, (3, b"")));
     let scarce = Scarce::new(rt.alloc());
     let failed = scarce.refuse_each(|| {
         let mut output = Output::new(rt.alloc(), 1000);

@@ -58,13 +58,18 @@ fn is_read<A: Allocator + Copy>(script: &CallScript<A>) -> bool {
             .all(|(call, expected)| is_call(call, expected))
 }
 
+/// Whether it is read whole by an input that shows so many bytes at a time.
+fn is_read_whole(alloc: Global, shown: usize) -> bool {
+    let mut input = Input::new(SCRIPT, shown, false);
+    match read_script(alloc, &mut input) {
+        Ok(script) => is_read(&script),
+        Err(_) => false,
+    }
+}
+
 #[test]
 fn a_script_of_calls_is_read_whole(rt: HostRuntime) {
-    let mut input = Input::new(SCRIPT, 7, false);
-    match read_script(rt.alloc(), &mut input) {
-        Ok(script) => assert!(rt; is_read(&script)),
-        Err(_) => panic!(rt; "a fault"),
-    }
+    assert!(rt; is_read_whole(rt.alloc(), 7));
 }
 
 /// Scripts, and how the fault is printed.
@@ -123,29 +128,38 @@ fn fault_of(rt: &impl Abort, alloc: Global, text: &str) -> String {
     }
 }
 
+/// Whether the fault of a script is printed so.
+fn has_fault(rt: &impl Abort, alloc: Global, text: &str, printed: &str) -> bool {
+    let fault = fault_of(rt, alloc, text);
+    fault.as_str() == printed
+}
+
+/// Whether a line is at fault that stands where calls begin.
+fn is_no_call(rt: &impl Abort, alloc: Global, line: &str) -> bool {
+    let text = format!(in alloc; "window 4\nreplicas 2\n{line}").expect(rt, "memory");
+    has_fault(rt, alloc, text.as_str(), "line 3: L5")
+}
+
 #[test]
 fn faults_of_scripts_of_calls(rt: HostRuntime) {
-    for (text, expected) in &FAULTS {
-        let fault = fault_of(&rt, rt.alloc(), text);
-        assert!(rt; fault.as_str() == *expected, "{expected}");
+    for (at, (text, printed)) in FAULTS.iter().enumerate() {
+        let met = has_fault(&rt, rt.alloc(), text, printed);
+        assert!(rt; met, "{at}");
     }
     for line in &NO_CALLS {
-        let text = format!(in rt.alloc(); "window 4\nreplicas 2\n{line}").expect(&rt, "memory");
-        let fault = fault_of(&rt, rt.alloc(), text.as_str());
-        assert!(rt; fault.as_str() == "line 3: L5", "{line}");
+        let met = is_no_call(&rt, rt.alloc(), line);
+        assert!(rt; met, "{line}");
     }
 }
 
-/// Whether the script is read; where it isn't, memory was wanting.
-fn is_read_by(rt: &impl Abort, alloc: &Scarce) -> bool {
+/// Whether the script is read; where it isn't, memory was wanting. None where another fault was told, or the script was
+/// read otherwise.
+fn is_read_by<A: Allocator + Copy>(alloc: A) -> Option<bool> {
     let mut input = Input::new(SCRIPT, 1000, false);
     match read_script(alloc, &mut input) {
-        Ok(script) => is_read(&script),
-        Err(Stop::Fault(fault)) => {
-            assert!(rt; matches!(fault.cause, FaultCause::NoMemory));
-            false
-        }
-        Err(_) => panic!(rt; "no stream failed"),
+        Ok(script) if is_read(&script) => Some(true),
+        Err(Stop::Fault(fault)) if matches!(fault.cause, FaultCause::NoMemory) => Some(false),
+        _ => None,
     }
 }
 
@@ -157,7 +171,9 @@ fn a_script_of_calls_finds_no_memory(rt: HostRuntime) {
     for growth in 1..=1000 {
         let before = scarce.refused();
         scarce.refuse_nth(growth);
-        if !is_read_by(&rt, &scarce) {
+        let read = is_read_by(&scarce);
+        assert!(rt; read.is_some(), "{growth}");
+        if read == Some(false) {
             failed = failed.wrapping_add(1);
         }
         if scarce.refused() == before {

@@ -6,84 +6,94 @@ use std::io;
 use std::io::{BufRead, ErrorKind, Read};
 use std::process::Abort;
 
-/// A line, and the number of its fault; 0 where it says something.
-const LINES: [(&[u8], u8); 76] = [
-    (b"window\t4", 1),
-    (b"# \t", 1),
-    (b"log\r", 1),
-    (b"rows \x7f", 1),
-    (b"jump 1", 2),
-    (b" window 4", 2),
-    (b"Window 4", 2),
-    (b"window4", 2),
-    (b"window", 3),
-    (b"window 4 ", 3),
-    (b"window  4", 3),
-    (b"log 1", 3),
-    (b"log ", 3),
-    (b"proc x 1 0", 3),
-    (b"begin 1 add", 3),
-    (b"begin 1 one - 7", 3),
-    (b"begin 0 one - 7", 3),
-    (b"begin 1 one - 7 1 ", 3),
-    (b"add", 3),
-    (b"add one 9 0", 3),
-    (b"add one 9 257", 3),
-    (b"add one 9 0 - -", 3),
-    (b"window 0", 4),
-    (b"window 4097", 4),
-    (b"window 04", 4),
-    (b"window +4", 4),
-    (b"window -4", 4),
-    (b"window 4x", 4),
-    (b"replicas 0", 4),
-    (b"replicas 9", 4),
-    (b"table 256 8", 4),
-    (b"table 1 65536", 4),
-    (b"table 1 ", 4),
-    (b"proc x 65536 0 -", 4),
-    (b"proc x 1 257 -", 4),
-    (b"begin 1 add 050", 4),
-    (b"begin 1 add 0g", 4),
-    (b"begin 1 add ", 4),
-    (b"begin 4294967296 add -", 4),
-    (b"begin 1 one - 0 1", 4),
-    (b"begin 1 one - 7 0", 4),
-    (b"begin 1 one - 4294967296 1", 4),
-    (b"begin 1 one - 7 4294967296", 4),
-    (b"begin 1 one - 07 1", 4),
-    (b"begin 1 one  7 1", 4),
-    (b"begin 4294967296 one - 7 1", 4),
-    (b"add one 65536 0 -", 4),
-    (b"add one 9 257 -", 4),
-    (b"add one 9 0 b", 4),
-    (b"add one 9 0 ", 4),
-    (b"turn 1 0", 4),
-    (b"deliver 1 0", 4),
-    (b"deliver 1 -1", 4),
-    (b"exec 4294967296", 4),
-    (b"entry 18446744073709551616", 4),
-    (b"window 4096", 0),
-    (b"replicas 8", 0),
-    (b"table 0 8", 0),
-    (b"table 255 65535", 0),
-    (b"proc x 1 0 -", 0),
-    (b"proc a-b 65535 256 b7000000010000009500000000000000", 0),
-    (b"begin 1 add 05000000000000000A00000000000000", 0),
-    (b"begin 0  -", 0),
-    (b"begin 1 one - 7 1", 0),
-    (b"begin 0  - 4294967295 4294967295", 0),
-    (b"add one 9 0 -", 0),
-    (b"add a-b 65535 256 b7000000010000009500000000000000", 0),
-    (b"turn 1 4294967295", 0),
-    (b"exec 4294967295", 0),
-    (b"order 0", 0),
-    (b"deliver 1 1", 0),
-    (b"rows 2", 0),
-    (b"log", 0),
-    (b"entry 9", 0),
-    (b"rebuild 2", 0),
-    (b"# window 0", 0),
+/// Lines with a character that none may have.
+static OTHER_CHARACTERS: [&[u8]; 4] = [b"window\t4", b"# \t", b"log\r", b"rows \x7f"];
+
+/// Lines that begin with no word that one may begin with.
+static UNKNOWN_WORDS: [&[u8]; 4] = [b"jump 1", b" window 4", b"Window 4", b"window4"];
+
+/// Lines with too few fields, or too many.
+static OTHER_FIELDS: [&[u8]; 14] = [
+    b"window",
+    b"window 4 ",
+    b"window  4",
+    b"log 1",
+    b"log ",
+    b"proc x 1 0",
+    b"begin 1 add",
+    b"begin 1 one - 7",
+    b"begin 0 one - 7",
+    b"begin 1 one - 7 1 ",
+    b"add",
+    b"add one 9 0",
+    b"add one 9 257",
+    b"add one 9 0 - -",
+];
+
+/// Settings with a field that has no value that it may have.
+static SETTINGS_OF_OTHER_VALUES: [&[u8]; 13] = [
+    b"window 0",
+    b"window 4097",
+    b"window 04",
+    b"window +4",
+    b"window -4",
+    b"window 4x",
+    b"replicas 0",
+    b"replicas 9",
+    b"table 256 8",
+    b"table 1 65536",
+    b"table 1 ",
+    b"proc x 65536 0 -",
+    b"proc x 1 257 -",
+];
+
+/// Steps with such a field.
+static STEPS_OF_OTHER_VALUES: [&[u8]; 20] = [
+    b"begin 1 add 050",
+    b"begin 1 add 0g",
+    b"begin 1 add ",
+    b"begin 4294967296 add -",
+    b"begin 1 one - 0 1",
+    b"begin 1 one - 7 0",
+    b"begin 1 one - 4294967296 1",
+    b"begin 1 one - 7 4294967296",
+    b"begin 1 one - 07 1",
+    b"begin 1 one  7 1",
+    b"begin 4294967296 one - 7 1",
+    b"add one 65536 0 -",
+    b"add one 9 257 -",
+    b"add one 9 0 b",
+    b"add one 9 0 ",
+    b"turn 1 0",
+    b"deliver 1 0",
+    b"deliver 1 -1",
+    b"exec 4294967296",
+    b"entry 18446744073709551616",
+];
+
+/// Lines that say something.
+static SOUND: [&[u8]; 21] = [
+    b"window 4096",
+    b"replicas 8",
+    b"table 0 8",
+    b"table 255 65535",
+    b"proc x 1 0 -",
+    b"proc a-b 65535 256 b7000000010000009500000000000000",
+    b"begin 1 add 05000000000000000A00000000000000",
+    b"begin 0  -",
+    b"begin 1 one - 7 1",
+    b"begin 0  - 4294967295 4294967295",
+    b"add one 9 0 -",
+    b"add a-b 65535 256 b7000000010000009500000000000000",
+    b"turn 1 4294967295",
+    b"exec 4294967295",
+    b"order 0",
+    b"deliver 1 1",
+    b"rows 2",
+    b"log",
+    b"entry 9",
+    b"rebuild 2",
+    b"# window 0",
 ];
 
 /// The number of a line's fault; 0 where it says something.
@@ -94,11 +104,31 @@ fn fault_number<A: Allocator + Copy>(alloc: A, line: &[u8]) -> u8 {
     }
 }
 
+/// Each of these lines has a fault of this number, 0 where none.
+fn have_fault(rt: &impl Abort, alloc: Global, lines: &[&[u8]], number: u8) {
+    for (at, line) in lines.iter().enumerate() {
+        let found = fault_number(alloc, line);
+        assert!(rt; found == number, "{number} {at} {found}");
+    }
+}
+
 #[test]
 fn lines_have_their_first_fault(rt: HostRuntime) {
-    for (line, number) in &LINES {
-        assert_eq!(rt; fault_number(rt.alloc(), line), *number);
+    have_fault(&rt, rt.alloc(), &OTHER_CHARACTERS, 1);
+    have_fault(&rt, rt.alloc(), &UNKNOWN_WORDS, 2);
+    have_fault(&rt, rt.alloc(), &OTHER_FIELDS, 3);
+    have_fault(&rt, rt.alloc(), &SETTINGS_OF_OTHER_VALUES, 4);
+    have_fault(&rt, rt.alloc(), &STEPS_OF_OTHER_VALUES, 4);
+    have_fault(&rt, rt.alloc(), &SOUND, 0);
+}
+
+/// The number of the fault of a line of so many bytes, the first of them this.
+fn fault_of_long(rt: &impl Abort, alloc: Global, len: usize, first: u8) -> u8 {
+    let mut line = vec![in alloc; b'0'; len].expect(rt, "memory");
+    if let Some(byte) = line.first_mut() {
+        *byte = first;
     }
+    fault_number(alloc, &line)
 }
 
 #[test]
@@ -108,9 +138,8 @@ fn the_longest_lines(rt: HostRuntime) {
         (MAX_LINE, b'a', 2),
         (MAX_LINE + 1, b'#', 1),
     ] {
-        let mut line = vec![in rt.alloc(); b'0'; len].expect(&rt, "memory");
-        line[0] = first;
-        assert_eq!(rt; fault_number(rt.alloc(), &line), number);
+        let found = fault_of_long(&rt, rt.alloc(), len, first);
+        assert_eq!(rt; found, number);
     }
     assert!(rt; matches!(statement(rt.alloc(), b""), Ok(None)));
 }
@@ -161,18 +190,13 @@ fn given<A: Allocator>(statement: &Statement<Bytes<A>>) -> Option<Given<'_>> {
     }
 }
 
-/// Whether the line is read as what it gives; where it isn't, it was for want of memory.
-fn is_read(rt: &impl Abort, alloc: &Scarce, line: &[u8], expected: &Given<'_>) -> bool {
+/// Whether the line is read as what it gives; where it isn't, it was for want of memory. None where another fault was
+/// told, or it was read as something else.
+fn is_read<A: Allocator + Copy>(alloc: A, line: &[u8], expected: &Given<'_>) -> Option<bool> {
     match statement(alloc, line) {
-        Ok(statement) => {
-            let found = statement.as_ref().and_then(|statement| given(statement));
-            assert!(rt; found.as_ref() == Some(expected));
-            true
-        }
-        Err(fault) => {
-            assert_eq!(rt; fault, LineFault::NoMemory);
-            false
-        }
+        Ok(Some(statement)) if given(&statement).as_ref() == Some(expected) => Some(true),
+        Err(LineFault::NoMemory) => Some(false),
+        _ => None,
     }
 }
 
@@ -183,7 +207,9 @@ fn growths_are_refused_in_turn(rt: HostRuntime) {
         let mut failed = 0;
         for growth in 1..100 {
             scarce.refuse_nth(growth);
-            if !is_read(&rt, &scarce, line, expected) {
+            let read = is_read(&scarce, line, expected);
+            assert!(rt; read.is_some(), "{growth}");
+            if read == Some(false) {
                 failed = growth;
             }
             if scarce.refused() < growth {
@@ -247,28 +273,35 @@ const INPUTS: [(&[u8], &[&[u8]], &[&[u8]]); 5] = [
     (b"log\nrows 1", &[b"log", b"rows 1"], &[b"log"]),
 ];
 
-/// Reads these lines off an input, and then its end, or that it fails.
-fn read_all(rt: &impl Abort, alloc: Global, mut input: Input<'_>, lines: &[&[u8]]) {
-    let mut line = Vec::new(alloc);
+/// Whether these lines come off an input, and then its end, or that it fails.
+fn gives(input: &mut Input<'_>, line: &mut Vec<u8>, lines: &[&[u8]]) -> bool {
     for expected in lines {
-        let next = next_line(&mut input, &mut line);
-        assert!(rt; matches!(next, Ok(Next::Line)));
-        assert_eq!(rt; line.as_slice(), *expected);
+        let next = next_line(input, line);
+        if !matches!(next, Ok(Next::Line)) || line.as_slice() != *expected {
+            return false;
+        }
     }
-    let fails = input.fails;
-    let end = next_line(&mut input, &mut line);
-    assert_eq!(rt; end.is_err(), fails);
-    assert_eq!(rt; matches!(end, Ok(Next::AtEnd)), !fails);
+    match next_line(input, line) {
+        Ok(Next::AtEnd) => !input.fails,
+        Ok(_) => false,
+        Err(_) => input.fails,
+    }
+}
+
+/// The same, with a line of its own.
+fn gives_all(alloc: Global, bytes: &[u8], shown: usize, fails: bool, lines: &[&[u8]]) -> bool {
+    let mut input = Input::new(bytes, shown, fails);
+    let mut line = Vec::new(alloc);
+    gives(&mut input, &mut line, lines)
 }
 
 #[test]
 fn lines_are_read_one_by_one(rt: HostRuntime) {
-    for (bytes, ended, failed) in &INPUTS {
+    for (at, (bytes, ended, failed)) in INPUTS.iter().enumerate() {
         for shown in [1, 4, 100] {
-            for fails in [false, true] {
-                let input = Input::new(bytes, shown, fails);
-                let lines = if fails { *failed } else { *ended };
-                read_all(&rt, rt.alloc(), input, lines);
+            for (fails, lines) in [(false, *ended), (true, *failed)] {
+                let met = gives_all(rt.alloc(), bytes, shown, fails, lines);
+                assert!(rt; met, "{at} {shown} {fails}");
             }
         }
     }

@@ -79,17 +79,33 @@ fn fault_of(rt: &impl Abort, alloc: Global, lines: &[&str]) -> String {
     }
 }
 
+/// Whether the fault of lines is printed so.
+fn is_told(rt: &impl Abort, alloc: Global, lines: &[&str], text: &str) -> bool {
+    let told = fault_of(rt, alloc, lines);
+    told.as_str() == text
+}
+
+/// Whether a fault is printed so.
+fn is_printed(rt: &impl Abort, alloc: Global, fault: ScriptFault, text: &str) -> bool {
+    let printed = fault.to_string(alloc).expect(rt, "memory");
+    printed.as_str() == text
+}
+
 #[test]
 fn faults_are_printed(rt: HostRuntime) {
-    for (lines, text) in &FAULTS {
-        let told = fault_of(&rt, rt.alloc(), lines);
-        assert_eq!(rt; told.as_str(), *text);
+    for (at, (lines, text)) in FAULTS.iter().enumerate() {
+        let met = is_told(&rt, rt.alloc(), lines, text);
+        assert!(rt; met, "{at}");
     }
     let cause = FaultCause::NoMemory;
-    let told = ScriptFault { line: 0, cause }
-        .to_string(rt.alloc())
-        .expect(&rt, "memory");
-    assert_eq!(rt; told.as_str(), "line 0: L9");
+    assert!(rt;
+        is_printed(
+            &rt,
+            rt.alloc(),
+            ScriptFault { line: 0, cause },
+            "line 0: L9"
+        )
+    );
 }
 
 const LINES: [&str; 5] = [
@@ -115,21 +131,16 @@ fn has_lines<A: Allocator + Copy>(settings: Settings<A>) -> bool {
     limits && catalogue.by_name(b"one") == Some(9) && widths == [Some(128), Some(8)]
 }
 
-/// Whether the lines are set; where they aren't, it was for want of memory.
-fn are_set(rt: &impl Abort, alloc: &Scarce) -> bool {
+/// Whether the lines are set; where they aren't, it was for want of memory. None where another fault was told, or they
+/// were set otherwise.
+fn are_set<A: Allocator + Copy>(alloc: A) -> Option<bool> {
     let Ok(mut settings) = Settings::new(alloc) else {
-        return false;
+        return Some(false);
     };
-    let told = set_lines(&mut settings, alloc);
-    match told {
-        Ok(()) => {
-            assert!(rt; has_lines(settings));
-            true
-        }
-        Err(cause) => {
-            assert!(rt; matches!(cause, FaultCause::NoMemory));
-            false
-        }
+    match set_lines(&mut settings, alloc) {
+        Ok(()) if has_lines(settings) => Some(true),
+        Err(FaultCause::NoMemory) => Some(false),
+        _ => None,
     }
 }
 
@@ -140,7 +151,9 @@ fn growths_are_refused_in_turn(rt: HostRuntime) {
     let mut failed = 0;
     for growth in 1..500 {
         scarce.refuse_nth(growth);
-        if !are_set(&rt, &scarce) {
+        let set = are_set(&scarce);
+        assert!(rt; set.is_some(), "{growth}");
+        if set == Some(false) {
             failed = growth;
         }
         if scarce.refused() < growth {

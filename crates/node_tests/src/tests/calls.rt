@@ -1,18 +1,9 @@
 //! What callers ask, and what they have to be answered.
 
-use super::gate::{Hold, HoldingGate};
 use log_model::{RequestId, Verdict};
-use node::{Added, Desk, Node, ProgramRefusal};
+use node::{Added, ProgramRefusal};
 use node_calls::{Answer, CallRefusal};
-use ordered_entries::LogSetting;
-use session::Session;
-use std::alloc::Global;
-use std::process::Abort;
-use std::sync::Wait;
-use std::thread;
-use std::thread::Threads;
-use tallies::Ledgers;
-use test_procedures::{ONE as ONE_PROGRAM, bytes_of};
+use test_callers::{Addition, Asking, Told, Words};
 
 const ADD: u16 = 1;
 
@@ -21,85 +12,160 @@ const PUT: u16 = 3;
 const ONE: u16 = 9;
 
 /// How many callers there are where several call at once.
-const CALLERS: usize = 8;
+pub(crate) const CALLERS: usize = 8;
 
-/// Two words as an argument block, each least byte first.
-fn args_of(first: u8, second: u8) -> [u8; 16] {
-    [first, 0, 0, 0, 0, 0, 0, 0, second, 0, 0, 0, 0, 0, 0, 0]
-}
-
-/// Arguments by which 1 is added to row 5.
-const ADD_ONE: [u8; 16] = [5, 0, 0, 0, 0, 0, 0, 0, 1, 0, 0, 0, 0, 0, 0, 0];
-
-/// Arguments by which 10 is added to it.
-const ADD_TEN: [u8; 16] = [5, 0, 0, 0, 0, 0, 0, 0, 10, 0, 0, 0, 0, 0, 0, 0];
-
-/// A call: its replica, what the caller has seen, the procedure, arguments, and a request; and what it has to be
-/// answered.
-type Row = (u32, u32, u16, &'static [u8], Option<RequestId>, Answer);
-
-/// Makes calls in turn, each of which has to be answered as its row says.
-fn ask<J: LogSetting + Ledgers + Send + Sync + 'static, R: Wait + Abort>(
-    rt: &R,
-    desk: &Desk<J, HoldingGate>,
-    rows: &[Row],
-) {
-    for (replica, least, procedure, args, request, expected) in rows {
-        let (answer, _) = match request {
-            None => desk.execute(rt, *replica, *least, *procedure, args),
-            Some(it) => desk.execute_numbered(rt, *replica, *least, *procedure, args, *it),
-        };
-        assert_eq!(rt; answer, *expected);
+const fn args_of(first: u8, second: u8) -> Words {
+    Words {
+        count: 2,
+        first,
+        second,
     }
 }
 
+const NO_ARGS: Words = Words {
+    count: 0,
+    first: 0,
+    second: 0,
+};
+
+/// Arguments by which 1 is added to row 5.
+const ADD_ONE: Words = Words {
+    count: 2,
+    first: 5,
+    second: 1,
+};
+
+/// Arguments by which 10 is added to it.
+const ADD_TEN: Words = Words {
+    count: 2,
+    first: 5,
+    second: 10,
+};
+
+/// A call: its replica, what the caller has seen, the procedure, arguments, and a request; and what it has to be
+/// answered.
+pub(crate) type Row = (u32, u32, u16, Words, Option<RequestId>, Answer);
+
+/// The call of a row.
+fn call_of(row: &Row) -> Asking {
+    let (replica, least, procedure, words, request, _) = *row;
+    Asking::Call {
+        replica,
+        least,
+        procedure,
+        words,
+        request,
+    }
+}
+
+/// The call after so many of these. None after the last.
+pub(crate) fn row_at(rows: &[Row], index: usize) -> Option<Asking> {
+    rows.get(index).map(call_of)
+}
+
+fn is_answer(told: &Told, expected: Answer) -> bool {
+    match told {
+        Told::Answer(answer) => *answer == expected,
+        _ => false,
+    }
+}
+
+/// Whether it is answered as its row says.
+pub(crate) fn is_as_in(rows: &[Row], index: usize, told: &Told) -> bool {
+    match rows.get(index) {
+        Some(row) => is_answer(told, row.5),
+        None => false,
+    }
+}
+
+/// A call of a session at the first replica.
+fn in_session(procedure: u16, words: Words, request: Option<RequestId>) -> Option<Asking> {
+    Some(Asking::InSession {
+        replica: 1,
+        procedure,
+        words,
+        request,
+    })
+}
+
 /// A thousand additions of 1 at one replica by one session, and then a call that only replies.
-pub(crate) fn one_session<J: LogSetting + Ledgers + Send + Sync + 'static, R: Wait + Abort>(
-    rt: &R,
-    desk: &Desk<J, HoldingGate>,
-) {
-    let mut session = Session::new(desk);
-    for number in 1..1_001u32 {
-        let (answer, _) = session.call(rt, 1, ADD, &ADD_ONE);
+pub(crate) fn one_session(index: usize) -> Option<Asking> {
+    match index {
+        0..=999 => in_session(ADD, ADD_ONE, None),
+        1_000 => in_session(ONE, NO_ARGS, None),
+        _ => None,
+    }
+}
+
+/// Whether these are answered as they should be.
+pub(crate) fn is_one_session(index: usize, told: &Told) -> bool {
+    let number = u32::try_from(index).unwrap_or(0).wrapping_add(1);
+    if index < 1_000 {
         let committed = Answer::Committed {
             position: number,
             reply: u64::from(number),
         };
-        assert_eq!(rt; answer, committed);
+        return is_answer(told, committed);
     }
-    let (answer, _) = session.call(rt, 1, ONE, &[]);
     let read = Answer::Read {
         snapshot: 1_000,
         reply: 1,
     };
-    assert_eq!(rt; answer, read);
+    is_answer(told, read)
 }
 
-/// A call that is held at its first look while another is answered, where two threads execute; where one does, the
-/// other comes after it. What was answered to both.
-pub(crate) fn overlap<
-    J: LogSetting + Ledgers + Send + Sync + 'static,
-    R: Threads + Wait + Abort + Sync,
->(rt: &R, desk: &Desk<J, HoldingGate>, hold: &Hold) -> (Answer, Answer) {
-    thread::join(
-        rt,
-        || Session::new(desk).call(rt, 1, ADD, &ADD_TEN).0,
-        || {
-            hold.await_held();
-            let answer = Session::new(desk).call(rt, 1, PUT, &args_of(6, 1)).0;
-            hold.release();
-            answer
-        },
-    )
+fn call_at_first(procedure: u16, words: Words) -> Option<Asking> {
+    Some(Asking::Call {
+        replica: 1,
+        least: 0,
+        procedure,
+        words,
+        request: None,
+    })
+}
+
+/// A call of the first caller that is held at its first look, and a put that the second asks for while it is held.
+pub(crate) fn overlap(place: usize, index: usize) -> Option<Asking> {
+    match (place, index) {
+        (0, 0) => call_at_first(ADD, ADD_TEN),
+        (1, 0) => Some(Asking::AwaitHeld),
+        (1, 1) => call_at_first(PUT, args_of(6, 1)),
+        (1, 2) => Some(Asking::Release),
+        _ => None,
+    }
+}
+
+/// Whether the put is ordered first, where there is a second thread for it, and else the call that is held.
+pub(crate) fn is_overlap(alone: bool, place: usize, told: &Told) -> bool {
+    let (of_addition, of_put) = if alone { (1, 2) } else { (2, 1) };
+    let expected = if place == 0 {
+        Answer::Committed {
+            position: of_addition,
+            reply: 10,
+        }
+    } else {
+        Answer::Committed {
+            position: of_put,
+            reply: 0,
+        }
+    };
+    match told {
+        Told::Nothing => place == 1,
+        told => is_answer(told, expected),
+    }
 }
 
 /// A put at each of two replicas of a node whose log takes one entry.
-static TWO_PUTS: [Row; 2] = [
+pub(crate) static TWO_PUTS: [Row; 2] = [
     (
         1,
         0,
         PUT,
-        &[1, 0, 0, 0, 0, 0, 0, 0, 1, 0, 0, 0, 0, 0, 0, 0],
+        Words {
+            count: 2,
+            first: 1,
+            second: 1,
+        },
         None,
         Answer::Committed {
             position: 1,
@@ -110,66 +176,56 @@ static TWO_PUTS: [Row; 2] = [
         2,
         0,
         PUT,
-        &[2, 0, 0, 0, 0, 0, 0, 0, 2, 0, 0, 0, 0, 0, 0, 0],
+        Words {
+            count: 2,
+            first: 2,
+            second: 2,
+        },
         None,
         Answer::Full,
     ),
 ];
 
-/// Makes the two puts.
-pub(crate) fn two_puts<J: LogSetting + Ledgers + Send + Sync + 'static, R: Wait + Abort>(
-    rt: &R,
-    desk: &Desk<J, HoldingGate>,
-) {
-    ask(rt, desk, &TWO_PUTS);
+/// How often each of several callers asks.
+const OFTEN: usize = 25;
+
+/// The replica of a caller, one of so many.
+fn replica_of(place: usize, replicas: u32) -> u32 {
+    let place = u32::try_from(place).unwrap_or(0);
+    (place % replicas.max(1)).wrapping_add(1)
 }
 
-/// 200 additions of 1 to one row, by several sessions at as many replicas.
-pub(crate) fn adds<
-    J: LogSetting + Ledgers + Send + Sync + 'static,
-    R: Threads + Wait + Abort + Sync,
->(rt: &R, alloc: Global, desk: &Desk<J, HoldingGate>) {
-    let replicas = desk.replicas();
-    let called = thread::map_indices(
-        rt,
-        alloc,
-        CALLERS,
-        &|caller: usize| {
-            let mut session = Session::new(desk);
-            let replica = u32::try_from(caller % replicas.max(1)).unwrap_or(0);
-            for _ in 0..25 {
-                let _answered = session.call(rt, replica.wrapping_add(1), ADD, &ADD_ONE);
-            }
-        },
-    );
-    assert!(rt; called.is_ok());
-}
-
-/// 200 puts of as many rows, by several sessions at two replicas: each commits.
-pub(crate) fn puts<
-    J: LogSetting + Ledgers + Send + Sync + 'static,
-    R: Threads + Wait + Abort + Sync,
->(rt: &R, alloc: Global, desk: &Desk<J, HoldingGate>) {
-    let called = thread::map_indices(
-        rt,
-        alloc,
-        CALLERS,
-        &|caller: usize| {
-            let mut committed = 0u32;
-            for index in 0..25usize {
-                let key = caller.wrapping_mul(25).wrapping_add(index);
-                let put = args_of(u8::try_from(key).unwrap_or(0), 1);
-                let (answer, _) = desk.execute(rt, (caller % 2) as u32 + 1, 0, PUT, &put);
-                if let Answer::Committed { .. } = answer {
-                    committed = committed.wrapping_add(1);
-                }
-            }
-            committed
-        },
-    );
-    for committed in &called.expect(rt, "memory") {
-        assert_eq!(rt; *committed, 25);
+/// Of several callers' sessions each adds 1 to one row.
+pub(crate) fn often_add(replicas: u32, place: usize, index: usize) -> Option<Asking> {
+    if index >= OFTEN {
+        return None;
     }
+    Some(Asking::InSession {
+        replica: replica_of(place, replicas),
+        procedure: ADD,
+        words: ADD_ONE,
+        request: None,
+    })
+}
+
+/// Each of several callers puts rows of its own.
+pub(crate) fn often_put(replicas: u32, place: usize, index: usize) -> Option<Asking> {
+    if index >= OFTEN {
+        return None;
+    }
+    let key = place.wrapping_mul(OFTEN).wrapping_add(index);
+    Some(Asking::Call {
+        replica: replica_of(place, replicas),
+        least: 0,
+        procedure: PUT,
+        words: args_of(u8::try_from(key).unwrap_or(0), 1),
+        request: None,
+    })
+}
+
+/// Whether a put commits, as all do.
+pub(crate) fn is_committed(told: &Told) -> bool {
+    matches!(told, Told::Answer(Answer::Committed { .. }))
 }
 
 /// The first request of session 7.
@@ -189,7 +245,7 @@ static SECOND_CALL: [Row; 1] = [(
     1,
     2,
     ADD,
-    &ADD_TEN,
+    ADD_TEN,
     Some(SECOND),
     Answer::Committed {
         position: 3,
@@ -197,54 +253,83 @@ static SECOND_CALL: [Row; 1] = [(
     },
 )];
 
-/// A call with a request, and the same again.
-fn numbered_twice<J: LogSetting + Ledgers + Send + Sync + 'static, R: Wait + Abort>(
-    rt: &R,
-    desk: &Desk<J, HoldingGate>,
-) {
-    let mut session = Session::new(desk);
-    let (answer, _) = session.call_numbered(rt, 1, ADD, &ADD_TEN, FIRST);
-    let committed = Answer::Committed {
+/// Calls with one request, and what each has to be answered.
+static TWICE: [Answer; 2] = [
+    Answer::Committed {
         position: 1,
         reply: 10,
-    };
-    assert_eq!(rt; answer, committed);
-    let (answer, _) = session.call_numbered(rt, 1, ADD, &ADD_TEN, FIRST);
-    let repeated = Answer::Repeated {
+    },
+    Answer::Repeated {
         position: 2,
         earlier: 1,
         reply: 10,
-    };
-    assert_eq!(rt; answer, repeated);
-    assert_eq!(rt; session.position(), 2);
+    },
+];
+
+/// A call of a session with a request, the same again, and another; and verdicts on two positions.
+pub(crate) fn numbered(index: usize) -> Option<Asking> {
+    match index {
+        0 | 1 => in_session(ADD, ADD_TEN, Some(FIRST)),
+        2 => Some(Asking::Position),
+        3 => row_at(&SECOND_CALL, 0),
+        4 => Some(Asking::Verdict {
+            replica: 1,
+            position: 2,
+        }),
+        5 => Some(Asking::Verdict {
+            replica: 1,
+            position: 4,
+        }),
+        _ => None,
+    }
 }
 
-/// A call with a request, the same again, and another.
-pub(crate) fn numbered<J: LogSetting + Ledgers + Send + Sync + 'static, R: Wait + Abort>(
-    rt: &R,
-    desk: &Desk<J, HoldingGate>,
-) {
-    numbered_twice(rt, desk);
-    ask(rt, desk, &SECOND_CALL);
-    let second = desk.verdict(rt, 1, 2).map(|found| (found.0, found.1.len()));
-    assert_eq!(rt; second, Some((Verdict::Repeated(1), 3)));
-    assert!(rt; desk.verdict(rt, 1, 4).is_none());
+/// Whether these are answered as they should be.
+pub(crate) fn is_numbered(index: usize, told: &Told) -> bool {
+    match index {
+        0 | 1 => is_answer(told, TWICE[index]),
+        2 => matches!(told, Told::Position(2)),
+        3 => is_as_in(&SECOND_CALL, 0, told),
+        4 => matches!(told, Told::Verdict(Some((Verdict::Repeated(1), 3)))),
+        _ => matches!(told, Told::Verdict(None)),
+    }
 }
 
-/// A procedure is added through the log, and what isn't accepted isn't.
-pub(crate) fn added<J: LogSetting + Ledgers + Send + Sync + 'static, R: Wait + Abort>(
-    rt: &R,
-    alloc: Global,
-    node: &Node<J, HoldingGate>,
-) {
-    let one = bytes_of(alloc, ONE_PROGRAM).expect(rt, "memory");
-    assert_eq!(rt; node.add(rt, b"one", 10, 0, &one).0, Added::Ordered(1));
-    assert_eq!(rt; node.add(rt, b"a-b", 11, 0, &one).0, Added::Name);
-    let long = Added::Program(ProgramRefusal::ArgumentsLimit);
-    assert_eq!(rt; node.add(rt, b"a-b", 11, 257, &one).0, long);
-    let (cut, seen) = node.add(rt, b"a-b", 11, 0, one.get(..8).unwrap_or(&[]));
-    assert!(rt; matches!(cut, Added::Program(ProgramRefusal::Fault(_))));
-    assert!(rt; seen.is_none());
+/// What is added: a name, a number, and the length of arguments in bytes. The last is a program that is cut off.
+static ADDITIONS: [([u8; 3], u16, u16); 4] = [
+    (*b"one", 10, 0),
+    (*b"a-b", 11, 0),
+    (*b"a-b", 11, 257),
+    (*b"a-b", 11, 0),
+];
+
+/// The program of an addition: this one, or what the cut leaves of it.
+fn bytes_at(program: &[u8], index: usize) -> &[u8] {
+    match (index, program.get(..8)) {
+        (3, Some(cut)) => cut,
+        _ => program,
+    }
+}
+
+/// The addition of a program after so many. None after the last.
+pub(crate) fn addition_of(program: &[u8], index: usize) -> Option<Addition<'_>> {
+    let (name, number, args_len) = ADDITIONS.get(index)?;
+    Some(Addition {
+        name,
+        number: *number,
+        args_len: *args_len,
+        bytes: bytes_at(program, index),
+    })
+}
+
+/// Whether a procedure is added through the log, and what isn't accepted isn't.
+pub(crate) fn is_addition(index: usize, added: &Added, seen: bool) -> bool {
+    match index {
+        0 => *added == Added::Ordered(1),
+        1 => *added == Added::Name,
+        2 => *added == Added::Program(ProgramRefusal::ArgumentsLimit),
+        _ => matches!(added, Added::Program(ProgramRefusal::Fault(_))) && !seen,
+    }
 }
 
 /// A request without a session.
@@ -254,12 +339,12 @@ const NO_SESSION: RequestId = RequestId {
 };
 
 /// What is refused, or is behind.
-static REFUSALS: [Row; 7] = [
+pub(crate) static REFUSALS: [Row; 7] = [
     (
         0,
         0,
         ADD,
-        &ADD_TEN,
+        ADD_TEN,
         None,
         Answer::Refused(CallRefusal::NoReplica),
     ),
@@ -267,7 +352,7 @@ static REFUSALS: [Row; 7] = [
         3,
         9,
         77,
-        &ADD_TEN,
+        ADD_TEN,
         None,
         Answer::Refused(CallRefusal::NoReplica),
     ),
@@ -275,7 +360,7 @@ static REFUSALS: [Row; 7] = [
         1,
         0,
         77,
-        &ADD_TEN,
+        ADD_TEN,
         None,
         Answer::Refused(CallRefusal::NoProcedure),
     ),
@@ -283,7 +368,11 @@ static REFUSALS: [Row; 7] = [
         1,
         0,
         ADD,
-        &[5, 0, 0, 0, 0, 0, 0, 0],
+        Words {
+            count: 1,
+            first: 5,
+            second: 0,
+        },
         None,
         Answer::Refused(CallRefusal::ArgumentsLength),
     ),
@@ -291,7 +380,7 @@ static REFUSALS: [Row; 7] = [
         1,
         0,
         ADD,
-        &ADD_TEN,
+        ADD_TEN,
         Some(NO_SESSION),
         Answer::Refused(CallRefusal::ZeroInRequest),
     ),
@@ -299,17 +388,9 @@ static REFUSALS: [Row; 7] = [
         1,
         0,
         77,
-        &ADD_TEN,
+        ADD_TEN,
         Some(NO_SESSION),
         Answer::Refused(CallRefusal::NoProcedure),
     ),
-    (1, 1, 77, &ADD_TEN, None, Answer::Behind),
+    (1, 1, 77, ADD_TEN, None, Answer::Behind),
 ];
-
-/// Makes these calls.
-pub(crate) fn refusals<J: LogSetting + Ledgers + Send + Sync + 'static, R: Wait + Abort>(
-    rt: &R,
-    desk: &Desk<J, HoldingGate>,
-) {
-    ask(rt, desk, &REFUSALS);
-}

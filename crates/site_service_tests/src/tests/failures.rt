@@ -6,6 +6,7 @@ use crate::streams::{PacedInput, WatchedOutput};
 use scarce::Scarce;
 use site_service::site_over;
 use std::alloc::Global;
+use std::io::{BufRead, Write};
 use std::process::Abort;
 use std::sync::atomic::AtomicU64;
 use test_streams::{Full, Input, Output};
@@ -49,11 +50,22 @@ fn texts_of(rt: &impl Abort, alloc: Global) -> Texts {
     }
 }
 
+/// The status of a site over these streams, and whether it said nothing of faults.
+fn status_over<S: BufRead, I: BufRead, O: Write>(
+    alloc: Global,
+    settings: &mut S,
+    input: &mut I,
+    output: &mut O,
+) -> (u8, bool) {
+    let mut faults = Vec::new(alloc);
+    let status = site_over(alloc, settings, input, output, &mut faults);
+    (status, faults.is_empty())
+}
+
 /// A line is waited for when the answer to the one before it has left, by an input that is interrupted, too.
 #[test]
 fn answers_leave_before_the_next_line_is_waited_for(rt: HostRuntime) {
     let texts = texts_of(&rt, rt.alloc());
-    let mut settings = texts.settings.as_slice();
     let answered = AtomicU64::new(0);
     let mut input = PacedInput {
         left: &texts.input,
@@ -65,15 +77,10 @@ fn answers_leave_before_the_next_line_is_waited_for(rt: HostRuntime) {
         written: 0,
         answered: &answered,
     };
-    let mut faults = Vec::new(rt.alloc());
-    let status = site_over(
-        rt.alloc(),
-        &mut settings,
-        &mut input,
-        &mut output,
-        &mut faults,
-    );
-    assert_eq!(rt; (status, output.written, input.left.len()), (0, 8, 0));
+    let mut settings = texts.settings.as_slice();
+    let ended = status_over(rt.alloc(), &mut settings, &mut input, &mut output);
+    assert_eq!(rt; ended, (0, true));
+    assert_eq!(rt; (output.written, input.left.len()), (8, 0));
 }
 
 /// The first lines of a text, so many.
@@ -90,90 +97,104 @@ fn first_lines(text: &[u8], count: usize) -> &[u8] {
     text
 }
 
+/// Whether a site that reads so many bytes of its input, which then fails or ends, answers the lines that are whole.
+fn answers_before(alloc: Global, texts: &Texts, length: usize, fails: bool) -> bool {
+    let front = texts.input.get(..length).unwrap_or(&[]);
+    let mut input = Input {
+        left: front,
+        at_once: length % 7 + 1,
+        fails,
+    };
+    let mut output = Vec::new(alloc);
+    let mut settings = texts.settings.as_slice();
+    let (status, silent) = status_over(alloc, &mut settings, &mut input, &mut output);
+    let whole = front.iter().filter(|byte| **byte == b'\n').count();
+    let wanted = if fails { 3 } else { 0 };
+    status == wanted && silent != fails && output.as_slice() == first_lines(&texts.answers, whole)
+}
+
 /// Wherever the input fails, the lines before it are answered; where it ends, the same, and nothing failed.
 #[test]
 fn inputs_may_fail(rt: HostRuntime) {
-    let alloc = rt.alloc();
-    let texts = texts_of(&rt, alloc);
+    let texts = texts_of(&rt, rt.alloc());
     for length in 0..=texts.input.len() {
-        for (fails, wanted) in [(true, 3), (false, 0)] {
-            let (front, _) = texts.input.split_at(length);
-            let mut settings = texts.settings.as_slice();
-            let mut input = Input {
-                left: front,
-                at_once: length % 7 + 1,
-                fails,
-            };
-            let mut output = Vec::new(alloc);
-            let mut faults = Vec::new(alloc);
-            let status = site_over(alloc, &mut settings, &mut input, &mut output, &mut faults);
-            let whole = front.iter().filter(|byte| **byte == b'\n').count();
-            assert_eq!(rt; (status, faults.is_empty()), (wanted, !fails));
-            assert_eq!(rt;
-                output.as_slice(),
-                first_lines(&texts.answers, whole),
-                "{length}"
-            );
+        for fails in [true, false] {
+            let met = answers_before(rt.alloc(), &texts, length, fails);
+            assert!(rt; met, "{length} {fails}");
         }
     }
+}
+
+/// Whether a site whose settings fail behind so many bytes answers nothing, and leaves its input.
+fn ends_at_once(alloc: Global, texts: &Texts, length: usize) -> bool {
+    let mut settings = Input {
+        left: texts.settings.get(..length).unwrap_or(&[]),
+        at_once: 3,
+        fails: true,
+    };
+    let mut input = texts.input.as_slice();
+    let mut output = Vec::new(alloc);
+    let (status, silent) = status_over(alloc, &mut settings, &mut input, &mut output);
+    status == 3 && !silent && output.is_empty() && input.len() == texts.input.len()
 }
 
 /// Settings that fail end a site before it answers.
 #[test]
 fn settings_may_fail(rt: HostRuntime) {
-    let alloc = rt.alloc();
-    let texts = texts_of(&rt, alloc);
+    let texts = texts_of(&rt, rt.alloc());
     for length in (0..texts.settings.len()).step_by(7) {
-        let (front, _) = texts.settings.split_at(length);
-        let mut settings = Input {
-            left: front,
-            at_once: 3,
-            fails: true,
-        };
-        let mut input = texts.input.as_slice();
-        let mut output = Vec::new(alloc);
-        let mut faults = Vec::new(alloc);
-        let status = site_over(alloc, &mut settings, &mut input, &mut output, &mut faults);
-        assert_eq!(rt; (status, faults.is_empty()), (3, false));
-        assert_eq!(rt; (output.len(), input.len()), (0, texts.input.len()));
+        let met = ends_at_once(rt.alloc(), &texts, length);
+        assert!(rt; met, "{length}");
     }
+}
+
+/// How an output may go on that is full.
+const WAYS: [Full; 2] = [Full::Fails, Full::TakesNothing];
+
+/// Whether an output with room for so many bytes holds them in the end, and wasn't asked again.
+fn holds_what_came(alloc: Global, texts: &Texts, room: usize, full: Full) -> bool {
+    let mut output = Output::new(alloc, room, room % 5 + 1, full);
+    let mut settings = texts.settings.as_slice();
+    let mut input = texts.input.as_slice();
+    let (status, silent) = status_over(alloc, &mut settings, &mut input, &mut output);
+    status == 3
+        && !silent
+        && output.after_failure == 0
+        && Some(output.held.as_slice()) == texts.answers.get(..room)
 }
 
 /// Wherever the output fails, it holds what came before, and is asked no more.
 #[test]
 fn outputs_may_fail(rt: HostRuntime) {
-    let alloc = rt.alloc();
-    let texts = texts_of(&rt, alloc);
-    for full in [Full::Fails, Full::TakesNothing] {
+    let texts = texts_of(&rt, rt.alloc());
+    for (at, full) in WAYS.iter().enumerate() {
         for room in 0..texts.answers.len() {
-            let mut settings = texts.settings.as_slice();
-            let mut input = texts.input.as_slice();
-            let mut output = Output::new(alloc, room, room % 5 + 1, full);
-            let mut faults = Vec::new(alloc);
-            let status = site_over(alloc, &mut settings, &mut input, &mut output, &mut faults);
-            assert_eq!(rt;
-                (status, faults.is_empty(), output.after_failure),
-                (3, false, 0)
-            );
-            assert_eq!(rt; Some(output.held.as_slice()), texts.answers.get(..room));
+            let met = holds_what_came(rt.alloc(), &texts, room, *full);
+            assert!(rt; met, "{at} {room}");
         }
     }
+}
+
+/// Whether an output that takes a byte at a time, and whose flush may fail, has so many lines in the end.
+fn takes_lines(alloc: Global, texts: &Texts, flushes: bool, count: usize) -> bool {
+    let mut output = Output::new(alloc, texts.answers.len(), 1, Full::Fails);
+    output.flushes = flushes;
+    let mut settings = texts.settings.as_slice();
+    let mut input = texts.input.as_slice();
+    let (status, silent) = status_over(alloc, &mut settings, &mut input, &mut output);
+    let wanted = if flushes { 0 } else { 3 };
+    status == wanted
+        && silent == flushes
+        && output.held.as_slice() == first_lines(&texts.answers, count)
 }
 
 /// An output that takes a byte at a time has all in the end. Where its flush fails, the first answer is all that it has.
 #[test]
 fn outputs_may_take_little_at_once(rt: HostRuntime) {
-    let alloc = rt.alloc();
-    let texts = texts_of(&rt, alloc);
-    for (flushes, wanted, count) in [(true, 0, 8), (false, 3, 1)] {
-        let mut settings = texts.settings.as_slice();
-        let mut input = texts.input.as_slice();
-        let mut output = Output::new(alloc, texts.answers.len(), 1, Full::Fails);
-        output.flushes = flushes;
-        let mut faults = Vec::new(alloc);
-        let status = site_over(alloc, &mut settings, &mut input, &mut output, &mut faults);
-        assert_eq!(rt; (status, faults.is_empty()), (wanted, flushes));
-        assert_eq!(rt; output.held.as_slice(), first_lines(&texts.answers, count));
+    let texts = texts_of(&rt, rt.alloc());
+    for (flushes, count) in [(true, 8), (false, 1)] {
+        let met = takes_lines(rt.alloc(), &texts, flushes, count);
+        assert!(rt; met, "{flushes}");
     }
 }
 
@@ -197,6 +218,24 @@ fn long_addition(rt: &impl Abort, alloc: Global, slots: usize) -> (Vec<u8>, Vec<
     (input, answer)
 }
 
+/// Whether a site answers this line to an output with room for so many bytes, which isn't asked again.
+fn answers_long(
+    alloc: Global,
+    settings: &[u8],
+    line: &[u8],
+    answer: &[u8],
+    room: usize,
+    wanted: u8,
+) -> bool {
+    let mut output = Output::new(alloc, room, 1_000, Full::Fails);
+    let mut reader = settings;
+    let mut input = line;
+    let (status, _) = status_over(alloc, &mut reader, &mut input, &mut output);
+    status == wanted
+        && output.after_failure == 0
+        && Some(output.held.as_slice()) == answer.get(..room)
+}
+
 /// A long answer leaves whole, and where the output fails in its midst it is asked no more.
 #[test]
 fn long_answers_leave(rt: HostRuntime) {
@@ -212,30 +251,32 @@ fn long_answers_leave(rt: HostRuntime) {
         (4_095, 3),
         (0, 3),
     ] {
-        let mut reader = settings.as_slice();
-        let mut input = line.as_slice();
-        let mut output = Output::new(alloc, room, 1_000, Full::Fails);
-        let mut faults = Vec::new(alloc);
-        let ended = site_over(alloc, &mut reader, &mut input, &mut output, &mut faults);
-        assert_eq!(rt; (ended, output.after_failure), (status, 0));
-        assert_eq!(rt; Some(output.held.as_slice()), answer.get(..room));
+        let met = answers_long(alloc, &settings, &line, &answer, room, status);
+        assert!(rt; met, "{room}");
     }
+}
+
+/// Whether settings at fault, told to a writer with room for so many bytes, end a site as with ample room.
+fn tells_with_room(alloc: Global, settings: &[u8], room: usize, full: Full) -> bool {
+    let mut reader = settings;
+    let mut input = b"position\n".as_slice();
+    let mut output = Vec::new(alloc);
+    let mut faults = Output::new(alloc, room, 3, full);
+    let status = site_over(alloc, &mut reader, &mut input, &mut output, &mut faults);
+    status == 1
+        && output.is_empty()
+        && input.len() == 9
+        && Some(faults.held.as_slice()) == b"line 2: L5\n".get(..room)
 }
 
 /// A writer for faults that finds no room changes neither answers nor status.
 #[test]
 fn faults_may_find_no_room(rt: HostRuntime) {
-    let alloc = rt.alloc();
-    let settings = joined(&rt, alloc, &["window 4", "replicas 2"]);
-    for full in [Full::Fails, Full::TakesNothing] {
+    let settings = joined(&rt, rt.alloc(), &["window 4", "replicas 2"]);
+    for (at, full) in WAYS.iter().enumerate() {
         for room in 0..11 {
-            let mut reader = settings.as_slice();
-            let mut input = b"position\n".as_slice();
-            let mut output = Vec::new(alloc);
-            let mut faults = Output::new(alloc, room, 3, full);
-            let status = site_over(alloc, &mut reader, &mut input, &mut output, &mut faults);
-            assert_eq!(rt; (status, output.len(), input.len()), (1, 0, 9));
-            assert_eq!(rt; Some(faults.held.as_slice()), b"line 2: L5\n".get(..room));
+            let met = tells_with_room(rt.alloc(), &settings, room, *full);
+            assert!(rt; met, "{at} {room}");
         }
     }
 }
@@ -298,6 +339,13 @@ fn course_of(ended: &Ended) -> Option<Course> {
     }
 }
 
+/// The course of a site that finds no memory at its n-th growth, and whether it answered; none where it is no course.
+fn course_at(global: Global, scarce: &Scarce, texts: &Texts, nth: u64) -> Option<(Course, bool)> {
+    scarce.refuse_nth(nth);
+    let ended = run_site(scarce, global, &texts.settings, &texts.input);
+    Some((course_of(&ended)?, !ended.answers.is_empty()))
+}
+
 /// Each growth is refused in turn, up to the first that isn't made: some end the site, and some refuse a call.
 #[test]
 fn growths_are_refused_in_turn(rt: HostRuntime) {
@@ -306,14 +354,13 @@ fn growths_are_refused_in_turn(rt: HostRuntime) {
     let scarce = Scarce::new(alloc);
     let (mut ended_late, mut refused) = (false, false);
     for nth in 1..MOST {
-        scarce.refuse_nth(nth);
-        let ended = run_site(&scarce, alloc, &texts.settings, &texts.input);
-        let course = course_of(&ended);
+        let course = course_at(alloc, &scarce, &texts, nth);
         assert!(rt; course.is_some(), "{nth}");
-        ended_late = ended_late || (course == Some(Course::Ended) && !ended.answers.is_empty());
-        refused = refused || course == Some(Course::Refused);
+        let (course, answered) = course.unwrap_or((Course::Same, false));
+        ended_late = ended_late || (course == Course::Ended && answered);
+        refused = refused || course == Course::Refused;
         if scarce.refused() < nth {
-            assert!(rt; ended_late && refused && course == Some(Course::Same));
+            assert!(rt; ended_late && refused && course == Course::Same);
             return;
         }
     }

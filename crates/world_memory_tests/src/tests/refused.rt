@@ -216,7 +216,7 @@ const ADD_UNNAMED: Step<'static> = Step::Add {
     bytes: &ONE,
 };
 
-static CASES: [Case; 10] = [
+static CASES: [Case; 11] = [
     Case {
         before: &[],
         step: Step::BeginNumbered {
@@ -287,6 +287,22 @@ static CASES: [Case; 10] = [
         },
         refused: NO_MEMORY,
         next: Step::Turn { call: 1 },
+        left: NO_CALL,
+    },
+    // It begins in the memory of one that is over.
+    Case {
+        before: &[
+            (BEGIN_TEN, 1),
+            (Step::Turn { call: 1 }, 17),
+            (Step::Order { call: 1 }, 1),
+        ],
+        step: BEGIN_TEN,
+        answer: Outcome::Begun {
+            call: 2,
+            snapshot: 0,
+        },
+        refused: NO_MEMORY,
+        next: Step::Turn { call: 2 },
         left: NO_CALL,
     },
     // Its seventh instruction gets a row.
@@ -395,6 +411,50 @@ fn each_step_may_find_no_memory(rt: HostRuntime) {
         }
         assert!(rt; refused > 0 && refused < MOST - 1, "{at} {refused}");
     }
+}
+
+/// The first call runs to its end, and is ordered.
+static FIRST_ENDS: [(Step<'static>, usize); 2] = [
+    (Step::Turn { call: 1 }, 17),
+    (Step::Order { call: 1 }, 1),
+];
+
+/// How many growths the first call makes as it begins, and the second, which begins when that is over.
+fn growths_of_two<A: Allocator + Copy>(
+    rt: &impl Abort,
+    alloc: Global,
+    scarce: &Scarce,
+    world: &mut World<A>,
+) -> (u64, u64) {
+    let none = scarce.growths();
+    let _begun = world.step(BEGIN_TEN);
+    let first = scarce.growths().wrapping_sub(none);
+    for step in &steps_of(rt, alloc, &FIRST_ENDS) {
+        let _ = world.step(*step);
+    }
+    let before = scarce.growths();
+    let _begun = world.step(BEGIN_TEN);
+    (first, scarce.growths().wrapping_sub(before))
+}
+
+/// The same in a world that takes memory from here.
+fn growths_over<A: Allocator + Copy>(
+    rt: &impl Abort,
+    alloc: Global,
+    scarce: &Scarce,
+    taken_from: A,
+) -> (u64, u64) {
+    let mut world = two_replicas(rt, taken_from);
+    growths_of_two(rt, alloc, scarce, &mut world)
+}
+
+/// A first call takes memory for its arguments, itself and a list of calls; the next begins in the memory of that one,
+/// and takes some for its arguments alone.
+#[test]
+fn calls_begin_in_the_memory_of_one_that_is_over(rt: HostRuntime) {
+    let scarce = Scarce::new(rt.alloc());
+    let growths = growths_over(&rt, rt.alloc(), &scarce, &scarce);
+    assert_eq!(rt; growths, (3, 1));
 }
 
 /// Beginnings of calls of which more than one refusal holds: replica, procedure, arguments, session and sequence

@@ -122,10 +122,10 @@ returns-in-Ok-enter-clause-step g c =
     let number = c.len-3.result + 1 in
     subst (λ n. IsStep (setting_of s) (world_of s) (Begin c.args.replica c.args.procedure c.args.args.now c.args.request) (Begun number n) (world_of (with_slots s (map (λ slot. option_map (λ b. b.value) slot) c.enter.new.calls.items)))) (sym snapshot)
     (subst (λ xs. IsStep (setting_of s) (world_of s) (Begin c.args.replica c.args.procedure c.args.args.now c.args.request) (Begun number old.position) (world_of (with_slots s xs))) (sym c.in-Ok-enter.ensures.entered)
-    (begins s slots c.args.replica at c.args.procedure c.args.args.now c.args.request old p.0 c.in-Ok.open_call number c.requires.together place.0 there p.1
+    (begins s slots c.args.replica at c.args.procedure c.args.args.now c.args.request old p.0 c.in-Ok.open_call.value number c.requires.together place.0 there p.1
     (c.if-args-from.false ∙ c.from.ensures ∙ c.args_len.ensures.length ∙ ap (λ (q : Procedure). q.args_len) p.2) (sym c.has_zero.ensures ∙ c.if-has_zero.false) (let additions = c.requires.additions in let counted = calls_are s slots c.requires.together in omega arith) (omega arith)
-    (subst (λ n. open_call_of c.in-Ok.open_call ≡ record { replica = c.args.replica; call = record { number = number; procedure = c.args.procedure; args = c.args.args.now; snapshot = n; request = or_none c.args.request }; turns = 0 }) snapshot
-    (subst (λ q. open_call_of c.in-Ok.open_call ≡ record { replica = c.args.replica; call = record { number = number; procedure = c.args.procedure; args = c.args.args.now; snapshot = c.begin-snapshot.result; request = q }; turns = 0 }) c.or_none-request.ensures c.in-Ok.ensures.begun))))
+    (subst (λ n. open_call_of c.in-Ok.open_call.value ≡ record { replica = c.args.replica; call = record { number = number; procedure = c.args.procedure; args = c.args.args.now; snapshot = n; request = or_none c.args.request }; turns = 0 }) snapshot
+    (subst (λ q. open_call_of c.in-Ok.open_call.value ≡ record { replica = c.args.replica; call = record { number = number; procedure = c.args.procedure; args = c.args.args.now; snapshot = c.begin-snapshot.result; request = q }; turns = 0 }) c.or_none-request.ensures c.in-Ok.ensures.begun))))
 
 pub returns-in-Ok-enter-clause-consistent : goal.returns-in-Ok-enter-clause-consistent
 returns-in-Ok-enter-clause-consistent g c =
@@ -146,7 +146,7 @@ returns-in-Ok-enter-clause-consistent g c =
     let world = c.steps_keep_a_world.ensures.step (setting_of s) (world_of s) (Begin c.args.replica c.args.procedure c.args.args.now c.args.request) _ _ (each_byte c.args.args.now (λ i. let f = c.type_inv.args i in omega (arith, f))) (returns-in-Ok-enter-clause-step g c) c.requires.together.world in
     record {
       together = subst (λ xs. IsTogether (with_slots s xs) xs) (sym c.in-Ok-enter.ensures.entered)
-          (call_entered s slots c.in-Ok.open_call c.requires.together (c.in-Ok.ensures.follows (setting_of s) (items_of s.entries) p.0 (ap (λ n. by_number (procedures_after (setting_of s) (items_of s.entries) n) c.args.procedure) snapshot ∙ p.1) p.2 rows) (subst (λ xs. IsWorld (setting_of s) (world_of (with_slots s xs))) c.in-Ok-enter.ensures.entered world));
+          (call_entered s slots c.in-Ok.open_call.value c.requires.together (c.in-Ok.ensures.follows (setting_of s) (items_of s.entries) p.0 (ap (λ n. by_number (procedures_after (setting_of s) (items_of s.entries) n) c.args.procedure) snapshot ∙ p.1) p.2 rows) (subst (λ xs. IsWorld (setting_of s) (world_of (with_slots s xs))) c.in-Ok-enter.ensures.entered world));
       for_tables = c.requires.for_tables;
       additions = c.requires.additions;
     }

@@ -55,8 +55,8 @@ returns-in_default-reply-clause-consistent g c =
       additions = c.requires.additions;
     }
 
-pub complete-requires : goal.complete-requires
-complete-requires g c = (c.in-Some-reply._reply, ap (λ (x : OpenCallState _). x.machine.last) (c.into_inner-open_call.ensures ∙ sym c.deref.ensures) ∙ c.in-Some-reply.ensures.exit)
+pub end_call-requires : goal.end_call-requires
+end_call-requires g c = (c.in-Some-reply._reply, ap (λ (x : OpenCallState _). x.machine.last) (sym c.deref.ensures) ∙ c.in-Some-reply.ensures.exit)
 
 pub returns-in-Cancelled-clause-step : goal.returns-in-Cancelled-clause-step
 returns-in-Cancelled-clause-step g c =
@@ -66,8 +66,7 @@ returns-in-Cancelled-clause-step g c =
     let f = open_facts s slots c.args.call c.in-Some.at o c.requires.together c.in-Some.ensures.place c.in-Some.ensures.stood in
     let end = subst (λ (x : OpenCallState _). IsReplyOf (setting_of s) (items_of s.entries) (open_call_of x) (Some c.in-Some-reply._reply)) c.deref.ensures
     (c.in-Some-reply.ensures.run (setting_of s) (items_of s.entries) (subst (λ (x : OpenCallState _). Follows (setting_of s) (items_of s.entries) x) (sym c.deref.ensures) f.follows)) in
-    let done = subst (λ (x : OpenCallState _). IsCompletion {A = g.row.A.Denot} (setting_of s) (items_of s.entries) (call_of x) (completion.Cancelled c.in-Cancelled.snapshot c.in-Cancelled.code)) c.into_inner-open_call.ensures
-    (c.in-Cancelled.ensures (setting_of s) (items_of s.entries) (subst (λ (x : OpenCallState _). Follows (setting_of s) (items_of s.entries) x) (sym c.into_inner-open_call.ensures) f.follows)) in
+    let done = c.in-Cancelled.ensures (setting_of s) (items_of s.entries) f.follows in
     subst (λ xs. IsStep (setting_of s) (world_of s) (Order c.args.call) (Cancelled c.in-Cancelled.snapshot c.in-Cancelled.code) (world_of (with_slots s xs))) (sym c.in-Some.ensures.taken)
     (cancelled s slots c.args.call c.in-Some.at o c.in-Cancelled.snapshot c.in-Cancelled.code c.requires.together c.in-Some.ensures.place f end.0 done.0 done.1)
 
@@ -91,8 +90,7 @@ returns-in-Read-clause-step g c =
     let f = open_facts s slots c.args.call c.in-Some.at o c.requires.together c.in-Some.ensures.place c.in-Some.ensures.stood in
     let end = subst (λ (x : OpenCallState _). IsReplyOf (setting_of s) (items_of s.entries) (open_call_of x) (Some c.in-Some-reply._reply)) c.deref.ensures
     (c.in-Some-reply.ensures.run (setting_of s) (items_of s.entries) (subst (λ (x : OpenCallState _). Follows (setting_of s) (items_of s.entries) x) (sym c.deref.ensures) f.follows)) in
-    let done = subst (λ (x : OpenCallState _). IsCompletion {A = g.row.A.Denot} (setting_of s) (items_of s.entries) (call_of x) (completion.Read c.in-Read.snapshot c.in-Read.reply)) c.into_inner-open_call.ensures
-    (c.in-Read.ensures (setting_of s) (items_of s.entries) (subst (λ (x : OpenCallState _). Follows (setting_of s) (items_of s.entries) x) (sym c.into_inner-open_call.ensures) f.follows)) in
+    let done = c.in-Read.ensures (setting_of s) (items_of s.entries) f.follows in
     subst (λ xs. IsStep (setting_of s) (world_of s) (Order c.args.call) (Read c.in-Read.snapshot c.in-Read.reply) (world_of (with_slots s xs))) (sym c.in-Some.ensures.taken)
     (read s slots c.args.call c.in-Some.at o c.in-Read.snapshot c.in-Read.reply c.requires.together c.in-Some.ensures.place f end.0 done.0 done.1 done.2 done.3)
 
@@ -116,8 +114,7 @@ returns-in-Wrote-clause-step g c =
     let f = open_facts s slots c.args.call c.in-Some.at o c.requires.together c.in-Some.ensures.place c.in-Some.ensures.stood in
     let end = subst (λ (x : OpenCallState _). IsReplyOf (setting_of s) (items_of s.entries) (open_call_of x) (Some c.in-Some-reply._reply)) c.deref.ensures
     (c.in-Some-reply.ensures.run (setting_of s) (items_of s.entries) (subst (λ (x : OpenCallState _). Follows (setting_of s) (items_of s.entries) x) (sym c.deref.ensures) f.follows)) in
-    let done = subst (λ (x : OpenCallState _). IsCompletion {A = g.row.A.Denot} (setting_of s) (items_of s.entries) (call_of x) (completion.Wrote c.in-Wrote.call)) c.into_inner-open_call.ensures
-    (c.in-Wrote.ensures (setting_of s) (items_of s.entries) (subst (λ (x : OpenCallState _). Follows (setting_of s) (items_of s.entries) x) (sym c.into_inner-open_call.ensures) f.follows)) in
+    let done = c.in-Wrote.ensures (setting_of s) (items_of s.entries) f.follows in
     let a : IsToAppend s o c.in-Wrote.call = record { end = end.0; kept = done.0; some = done.1; call = done.2; carries = done.3; fits = done.4 } in
     subst (λ xs. IsStep (setting_of s) (world_of s) (Order c.args.call) c.append.result (world_of (with_entries (with_slots s xs) (entries_of c.append.new.entries.items)))) (sym c.in-Some.ensures.taken)
     (append_steps s slots c.args.call c.in-Some.at o c.in-Wrote.call c.append.result (entries_of c.append.new.entries.items) c.requires.together c.in-Some.ensures.place f a c.append.ensures.appended)
@@ -130,8 +127,7 @@ returns-in-Wrote-clause-consistent g c =
     let f = open_facts s slots c.args.call c.in-Some.at o c.requires.together c.in-Some.ensures.place c.in-Some.ensures.stood in
     let end = subst (λ (x : OpenCallState _). IsReplyOf (setting_of s) (items_of s.entries) (open_call_of x) (Some c.in-Some-reply._reply)) c.deref.ensures
     (c.in-Some-reply.ensures.run (setting_of s) (items_of s.entries) (subst (λ (x : OpenCallState _). Follows (setting_of s) (items_of s.entries) x) (sym c.deref.ensures) f.follows)) in
-    let done = subst (λ (x : OpenCallState _). IsCompletion {A = g.row.A.Denot} (setting_of s) (items_of s.entries) (call_of x) (completion.Wrote c.in-Wrote.call)) c.into_inner-open_call.ensures
-    (c.in-Wrote.ensures (setting_of s) (items_of s.entries) (subst (λ (x : OpenCallState _). Follows (setting_of s) (items_of s.entries) x) (sym c.into_inner-open_call.ensures) f.follows)) in
+    let done = c.in-Wrote.ensures (setting_of s) (items_of s.entries) f.follows in
     let a : IsToAppend s o c.in-Wrote.call = record { end = end.0; kept = done.0; some = done.1; call = done.2; carries = done.3; fits = done.4 } in
     let world = c.steps_keep_a_world.ensures.step (setting_of s) (world_of s) (Order c.args.call) _ _ tt (returns-in-Wrote-clause-step g c) c.requires.together.world in
     record {

@@ -1,6 +1,7 @@
 //! A gate that holds the first call of procedure 1 at its first look.
 
 use node_calls::Gate;
+use std::alloc::Global;
 use std::sync::atomic::AtomicU32;
 use std::sync::atomic::Ordering::SeqCst;
 use std::sync::{Arc, Wait};
@@ -18,14 +19,14 @@ const RELEASED: u32 = 3;
 /// How often a loop yields before it gives up.
 const TURNS: u32 = 1_000_000;
 
-/// Where the gate stands.
+/// Where the gate stands: who has it hears of a held call, and lets it go.
 #[derive(Drop)]
-pub(crate) struct Hold {
+pub struct Hold {
     state: AtomicU32,
 }
 
 impl Hold {
-    pub(crate) fn new(armed: bool) -> Hold {
+    fn new(armed: bool) -> Hold {
         Hold {
             state: AtomicU32::new(if armed { ARMED } else { OPEN }),
         }
@@ -66,8 +67,17 @@ impl Hold {
 
 /// The gate of a node under test.
 #[derive(Drop)]
-pub(crate) struct HoldingGate {
-    pub(crate) hold: Arc<Hold>,
+pub struct HoldingGate {
+    hold: Arc<Hold>,
+}
+
+/// A gate that holds a call where it is armed, and where it stands. None where memory is wanting.
+pub fn gate_of(alloc: Global, armed: bool) -> Option<(HoldingGate, Arc<Hold>)> {
+    let hold = Arc::new(alloc, Hold::new(armed)).ok()?;
+    let gate = HoldingGate {
+        hold: Arc::try_clone(&hold).ok()?,
+    };
+    Some((gate, hold))
 }
 
 impl Gate for HoldingGate {

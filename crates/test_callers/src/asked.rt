@@ -1,0 +1,92 @@
+//! What is asked of a node, and what is told then.
+
+use log_model::{RequestId, Verdict};
+use node::Added;
+use node_calls::Answer;
+
+/// Arguments of a call: 0 to 2 words, each given by its least byte.
+#[derive(Clone, Copy)]
+pub struct Words {
+    pub count: usize,
+    pub first: u8,
+    pub second: u8,
+}
+
+/// What a caller asks.
+#[derive(Clone, Copy)]
+pub enum Asking {
+    /// A call of a procedure at a replica, which sees at least the log up to a position, with a request or without one.
+    Call {
+        replica: u32,
+        least: u32,
+        procedure: u16,
+        words: Words,
+        request: Option<RequestId>,
+    },
+    /// A call of the caller's session.
+    InSession {
+        replica: u32,
+        procedure: u16,
+        words: Words,
+        request: Option<RequestId>,
+    },
+    /// The position of the log that the session's next call sees at least.
+    Position,
+    /// The verdict on the entry at a position, at a replica.
+    Verdict {
+        replica: u32,
+        position: u32,
+    },
+    /// To wait until a call is held, as long as a loop goes.
+    AwaitHeld,
+    /// To let it go.
+    Release,
+}
+
+/// What a caller is told.
+#[derive(Clone, Copy)]
+pub enum Told {
+    Answer(Answer),
+    Position(u32),
+    /// The verdict, where the replica has come there, and how many entries it has delivered by now.
+    Verdict(Option<(Verdict, u32)>),
+    Nothing,
+}
+
+/// A procedure to be added: its name, number, length of arguments in bytes, and program.
+#[derive(Clone, Copy)]
+pub struct Addition<'a> {
+    pub name: &'a [u8],
+    pub number: u16,
+    pub args_len: u16,
+    pub bytes: &'a [u8],
+}
+
+/// What wasn't as it should have been.
+#[derive(Clone, Copy, Debug, PartialEq, Eq)]
+pub enum Stray {
+    /// The answer to the addition after so many.
+    Addition(usize),
+    /// What the caller of a place, from 0 on, was told after so many.
+    Told { place: usize, index: usize },
+    /// Memory was wanting.
+    NoMemory,
+}
+
+/// What is asked of a node: first additions in turn, then calls of several callers at once.
+pub trait Asked {
+    /// The addition after so many. None after the last.
+    fn addition(&self, index: usize) -> Option<Addition<'_>>;
+
+    /// Whether it may be answered so, where something of the log is seen then or not.
+    fn is_added(&self, index: usize, added: &Added, seen: bool) -> bool;
+
+    /// How many callers there are.
+    fn callers(&self) -> usize;
+
+    /// What the caller of a place, from 0 on, asks after so many. None after the last.
+    fn asking(&self, place: usize, index: usize) -> Option<Asking>;
+
+    /// Whether it may be told so.
+    fn is_told(&self, place: usize, index: usize, told: &Told) -> bool;
+}

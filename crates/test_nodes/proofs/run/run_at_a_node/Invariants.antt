@@ -1,0 +1,12 @@
+use Rattle.tallies.specs.Shared.{names_by_place}
+use Rattle.test_nodes.proofs.run.run_at_a_node.Given as goal
+
+-- the node whose log's cells and ledgers were just made, of this catalogue and window
+abbrev pub ghosts-run_node-J-LogSetting : goal.ghosts-run_node-J-LogSetting
+ghosts-run_node-J-LogSetting g a = record { setting = record { tables = a.catalogue.tables; catalogue = a.catalogue.procedures; window = a.size.window } }
+
+abbrev pub ghosts-run_node-J-LogIdentity : goal.ghosts-run_node-J-LogIdentity
+ghosts-run_node-J-LogIdentity g a = record { groups = a.cells }
+
+abbrev pub ghosts-run_node-J-Ledgers : goal.ghosts-run_node-J-Ledgers
+ghosts-run_node-J-Ledgers g a = record { names = names_by_place a.blanks }

@@ -1,0 +1,96 @@
+//! A node from its making to its end.
+
+ghost use Rattle.std.specs.Prelude.{◌≡◌};
+ghost use Rattle.tallies.specs.Shared.{names_by_place};
+
+use crate::ending::{Ending, ending_of};
+use catalogue::Catalogue;
+use node::{Node, Size};
+use order_log::GroupCells;
+use ordered_entries::LogSetting;
+use std::alloc::Global;
+use std::marker::Brand;
+use std::sync::Wait;
+use std::thread::Threads;
+use tallies::{Blanks, Ledgers};
+use test_callers::{Asked, Hold, HoldingGate, ask_all, gate_of};
+use test_entries::catalogue_of;
+use test_procedures::TABLES;
+
+/// Has a node asked, and finishes it.
+fn finish_asked<
+    J: LogSetting + Ledgers + Send + Sync + 'static,
+    R: Threads + Wait + Copy + Send + Sync + 'static,
+    A: Asked + Sync,
+>(
+    rt: &R,
+    alloc: Global,
+    node: Node<J, HoldingGate>,
+    hold: &Hold,
+    asked: &A,
+    key: u64,
+) -> Option<Ending> {
+    let stray = ask_all(rt, alloc, &node, hold, asked);
+    let finish = node.finish(rt);
+    ending_of(rt, alloc, &finish, key, stray)
+}
+
+/// Starts a node of these parts, has it asked, and finishes it.
+fn run_node<
+    J: LogSetting + Ledgers + Send + Sync + 'static,
+    R: Threads + Wait + Copy + Send + Sync + 'static,
+    A: Asked + Sync,
+>(
+    rt: &R,
+    alloc: Global,
+    cells: GroupCells,
+    blanks: Blanks,
+    size: Size,
+    catalogue: Catalogue,
+    gate: HoldingGate,
+    hold: &Hold,
+    asked: &A,
+    key: u64,
+) -> Option<Ending>
+    requires cells { cells ≡ J.groups }
+    requires ledgers { J.names ≡ names_by_place blanks }
+    requires setting { J.setting ≡ record {
+      tables = catalogue.tables;
+      catalogue = catalogue.procedures;
+      window = size.window;
+    } }
+{
+    let started = Node::<J, HoldingGate>::start_sized(
+        rt, alloc, cells, blanks, size, catalogue, gate,
+    );
+    finish_asked(rt, alloc, started.ok()?, hold, asked, key)
+}
+
+/// Makes a node of a size, with these procedures over table 1 of rows of 8 bytes, each a number with a program and how
+/// many words that takes; has it asked, its calls of procedure 1 held where its gate is armed; and finishes it. How it
+/// ended, with its replicas' rows at a key. None where it can't be made, or memory is wanting.
+pub fn run_at_a_node<R: Threads + Wait + Copy + Send + Sync + 'static, A: Asked + Sync>(
+    rt: &R,
+    alloc: Global,
+    size: Size,
+    armed: bool,
+    procedures: &[(u16, &str, usize)],
+    asked: &A,
+    key: u64,
+) -> Option<Ending> {
+    let (gate, hold) = gate_of(alloc, armed)?;
+    let cells = GroupCells::new(alloc).ok()?;
+    let catalogue = catalogue_of(alloc, &TABLES, procedures)?;
+    run_node::<Brand, R, A>(
+        rt,
+        alloc,
+        cells,
+        Blanks::new(),
+        size,
+        catalogue,
+        gate,
+        &hold,
+        asked,
+        key,
+    )
+}
