@@ -18,7 +18,7 @@ use test_worlds::{Call, DrawnWorld, History, KINDS, Ordered, PROCEDURES, new_wor
 use txn_view::{Gone, Store};
 
 /// How many worlds are drawn.
-const WORLDS: u64 = 320;
+const WORLDS: u64 = 720;
 
 /// Where a world isn't what the plain replay says.
 #[derive(Clone, Copy, Debug, PartialEq, Eq)]
@@ -367,5 +367,5 @@ fn worlds_come_to_what_the_plain_replay_says(rt: HostRuntime) {
     }
     // All but a full log and too many calls.
     assert_eq!(rt; common(&kinds), KINDS - 2, "{kinds:?}");
-    assert!(rt; events.all_above(50), "{events:?}");
+    assert!(rt; events.all_above(100), "{events:?}");
 }
