@@ -1,7 +1,7 @@
 -- The states that words stand for, after a register or the slot is written.
 use Rattle.std.proofs.Common.{◌≡◌, ℕ, zero, suc, ◌+◌, ◌^◌, ◌<◌, ℤ, pos, negsuc, List, [], ◌∷◌, ◌++◌, length, take, drop, replicate, true, false, Bool, if◌then◌else◌, Option, Some, None, refl, sym, ◌∙◌, ap, subst, arith, lit≤, length-take}
 use Rattle.std.proofs.Math.ListN.{set}
-use Rattle.std.proofs.lemmas.List.{length-set, length-replicate, take-append-drop}
+use Rattle.std.proofs.lemmas.List.{length-set, take-append-drop}
 use Rattle.std.specs.List.{AllZip}
 use Rattle.bpf_words.specs.declared.operation.BinaryOperation.{BinaryOperation}
 use Rattle.bpf_words.specs.declared.operation.ByteOrder.{ByteOrder}
@@ -210,6 +210,3 @@ entry_holds args rows m slot registers stack is_args = record {
   bytes = stack;
   args = is_args;
 }
-
-pub zeros_long : (n : ℕ) → length (replicate {A = ℕ} n 0) ≡ n
-zeros_long n = length-replicate n 0

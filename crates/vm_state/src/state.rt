@@ -19,24 +19,22 @@ use bpf_code::{Register, Size};
 use schema::MAX_ARGUMENTS;
 use std::marker::Model;
 
-/// How many bytes the stack has.
-const STACK_BYTES: u64 = 512;
-
 /// The address of the stack's end.
 const STACK_END: u64 = 1 << 40;
 
 /// The address of the first argument.
 const ARGS_START: u64 = 1 << 41;
 
-/// How many bytes the stack has, and the most arguments behind it.
-const MEMORY_BYTES: usize = 512 + MAX_ARGUMENTS as usize;
+/// How many bytes lie behind each other: the arguments from 0 on, and the stack from 512 on. Nobody reads or writes what
+/// is between.
+const MEMORY_BYTES: usize = 1024;
 
 /// A run's state in bare words.
 #[derive(Drop)]
 pub struct WordState {
     slot: usize,
     registers: [u64; 11],
-    /// The stack, and behind it the arguments.
+    /// The arguments, and behind them the stack.
     memory: [u8; MEMORY_BYTES],
     /// How many bytes of arguments there are.
     args_len: usize,
@@ -75,14 +73,14 @@ impl WordState {
     }
 
     /// The state in which a run on these arguments begins, in the memory of this one. What its run left in the stack
-    /// stays there: no program reads a byte that its own run hasn't written.
+    /// stays there: no accepted program reads a byte that its own run hasn't written.
     pub fn restart(&mut self, args: &[u8])
         requires { length args.now ≤ MAX_ARGUMENTS }
         ensures { (rows : Rows) → Holds (entry_state args.now rows) self.new }
     {
         self.slot = 0;
         self.registers = [0, ARGS_START, 0, 0, 0, 0, 0, 0, 0, 0, STACK_END];
-        write(&mut self.memory, 512, args);
+        write(&mut self.memory, 0, args);
         self.args_len = args.len();
     }
 
@@ -186,21 +184,20 @@ impl WordState {
     }
 }
 
-/// Where the byte at an address lies in the memory. Stack and arguments meet there at 512, and their addresses at 2^40
-/// and 2^41, both of which are 0 modulo 2^32: so the low 32 bits tell it of either, and none has to be told from the
-/// other.
+/// Where the byte at an address lies in the memory: its low ten bits say so. The stack's end and the first argument are
+/// 0 by them, so neither has to be told from the other, and nothing is added.
 #[inline(always)]
 fn place(address: u64) -> usize
-    ensures { result ≡ (address + 512) % 2 ^ 32 }
+    ensures { result ≡ address % 1024 }
 {
-    (address.wrapping_add(STACK_BYTES) % (1 << 32)) as usize
+    (address % 1024) as usize
 }
 
 /// So many bytes of a memory, from an address on.
 #[inline(always)]
 fn part(memory: &[u8], address: u64, count: usize) -> &[u8]
-    requires { (address + 512) % 2 ^ 32 + count ≤ length memory.now }
-    ensures { result.now ≡ take count (drop ((address + 512) % 2 ^ 32) memory.now) }
+    requires { address % 1024 + count ≤ length memory.now }
+    ensures { result.now ≡ take count (drop (address % 1024) memory.now) }
 {
     let from = place(address);
     &memory[from..from + count]
@@ -215,12 +212,12 @@ fn write(memory: &mut [u8], from: usize, bytes: &[u8])
     memory[from..from + bytes.len()].copy_from_slice(bytes);
 }
 
-/// A stack of zeros with these arguments behind it.
+/// These arguments, with zeros behind them.
 fn memory_with(args: &[u8]) -> [u8; MEMORY_BYTES]
     requires { length args.now ≤ MAX_ARGUMENTS }
     ensures { args_of (length args.now) result ≡ args.now }
 {
     let mut memory = [0; MEMORY_BYTES];
-    write(&mut memory, 512, args);
+    write(&mut memory, 0, args);
     memory
 }

@@ -1,4 +1,4 @@
-use Rattle.std.proofs.Common.{◌≡◌, ◌∙◌, List, ℕ, ap, length, refl, rules, arith}
+use Rattle.std.proofs.Common.{◌≡◌, ◌∙◌, List, ℕ, ap, length, refl, rules}
 use Rattle.vm_state.specs.Memory.{args_of}
 use Rattle.vm_state.proofs.Holding.{entry_holds}
 use Rattle.vm_state.proofs.OneMemory.{args_written, stack_long}
@@ -6,10 +6,8 @@ use Rattle.vm_state.proofs.state.WordState.restart.Goals as goal
 
 pub returns : goal.returns
 returns c = λ rows.
-    let before = c.self.inside.memory in
     let after = c.write.new.memory in
     let bytes = c.args.args.now in
-    let long : length after ≡ 768 = search rules in
-    let was : length before ≡ 768 = search rules in
-    entry_holds bytes rows _ refl refl (stack_long after (omega (arith, long)))
-    (ap (λ (l : List ℕ). args_of (length bytes) l) c.write.ensures ∙ args_written before bytes (omega (arith, was)))
+    let long : length after ≡ 1024 = search rules in
+    entry_holds bytes rows _ refl refl (stack_long after long)
+    (ap (λ (l : List ℕ). args_of (length bytes) l) c.write.ensures ∙ args_written c.self.inside.memory bytes)
