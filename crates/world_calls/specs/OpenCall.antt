@@ -7,7 +7,8 @@ use Rattle.bpf_vm.specs.declared.turn.Turn.{Turn}
 use Rattle.bpf_vm.specs.declared.turn.Turn.TheVariants.{More, Exit, Stale, NoMemory}
 use Rattle.bpf_vm.specs.Turns.{MachineState}
 use Rattle.bpf_vm.specs.Run.{Effects, IsAcceptedProcedure, HasRun, HasEnded, own_effects}
-use Rattle.log_model.specs.Log.{Setting, Call, Log, rows_after, run_in, moment_at, procedure_of}
+use Rattle.log_model.specs.declared.request.RequestId.{RequestId}
+use Rattle.log_model.specs.Log.{Setting, Call, Log, StoredProcedure, by_number, procedures_after, rows_after, run_in, moment_at, procedure_of}
 use Rattle.log_model.specs.Entries.{CarriesRun}
 use Rattle.log_model.specs.Fit.{IsCall}
 use Rattle.call_model.specs.OpenCall.{OpenCall, makes_look, at_row_helper}
@@ -47,6 +48,23 @@ pub record CanGoOn {A : Type 0} (w : Setting) (log : Log) (accepted : Procedure)
   pub follows : Follows w log c
   pub program : accepted ≡ accepted_of w.tables follows.is_call.procedure
   pub answers : answers_from (rows_after w log c.snapshot)
+
+-- ---- its beginning
+
+-- a call that has run nothing yet
+abbrev pub call_before_its_run : (replica number procedure : ℕ) → List ℕ → (snapshot : ℕ) → RequestId → OpenCall
+call_before_its_run replica number procedure args snapshot request = record {
+  replica = replica;
+  call = record { number = number; procedure = procedure; args = args; snapshot = snapshot; request = request };
+  turns = 0;
+}
+
+-- it follows its run in each setting and log where the procedure of this number has this program at this snapshot, and the
+-- rows there fit the tables
+abbrev pub FollowsInItsLogs : {A : Type 0} → Procedure → (procedure snapshot : ℕ) → OpenCallState A → Type 0
+FollowsInItsLogs accepted procedure snapshot c =
+    (w : Setting) (log : Log) (p : StoredProcedure) → by_number (procedures_after w log snapshot) procedure ≡ Some p
+    → accepted ≡ accepted_of w.tables p → AreRows w.tables (rows_after w log snapshot) → Follows w log c
 
 -- ---- a turn
 

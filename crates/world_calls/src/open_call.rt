@@ -1,13 +1,12 @@
-//! A call that isn't over.
+//! A call, until it is over.
 
-ghost use Rattle.std.specs.Prelude.{◌≡◌, ◌≢◌, ◌<◌, ℕ, true, length, Some, IfOk, IfSome, OnOk, OnErr};
+ghost use Rattle.std.specs.Prelude.{◌≡◌, ◌≢◌, ◌<◌, ℕ, true, [], length, None, IfOk, IfSome, OnOk, OnErr};
+ghost use Rattle.std.specs.FinMap.{empty};
 ghost use Rattle.bpf_code.specs.Program.{max_slots};
-ghost use Rattle.schema.specs.Rows.{AreRows};
-ghost use Rattle.log_model.specs.Log.{Setting, Log, StoredProcedure, by_number, procedures_after, rows_after};
-ghost use Rattle.catalogue.specs.Catalogue.{accepted_of};
+ghost use Rattle.log_model.specs.Log.{Setting, Log};
 ghost use Rattle.bpf_vm.specs.declared.turn.Turn.TheVariants.{More, Exit};
 ghost use Rattle.world_calls.specs.OpenCall.{open_call_of, Follows, CanGoOn, IsTurn, stays_open, call_of, IsReplyOf};
-ghost use Rattle.world_calls.specs.OpenCall.{AreTurns, IsCompletion};
+ghost use Rattle.world_calls.specs.OpenCall.{AreTurns, IsCompletion, call_before_its_run, FollowsInItsLogs};
 
 use crate::completion::Completion;
 use acceptance::accepted_programs_never_go_wrong;
@@ -21,7 +20,7 @@ use std::alloc::{AllocError, Allocator, Global};
 use std::mem;
 use txn_view::{Own, Store, View};
 
-/// A call that isn't over.
+/// A call that isn't over, or, once it was completed, what is left of it: another may begin in its memory.
 #[derive(Drop)]
 pub struct OpenCall<A: Allocator + Copy = Global> {
     /// The number of its replica.
@@ -64,20 +63,9 @@ impl<A: Allocator + Copy> OpenCall<A> {
         request: RequestId,
     ) -> Result<OpenCall<A>, AllocError>
         requires { length args.now ≡ accepted.now.args_len }
-        ensures begun { IfOk result (λ c. open_call_of c ≡ record {
-          replica = replica;
-          call = record {
-            number = number;
-            procedure = procedure;
-            args = args.now;
-            snapshot = snapshot;
-            request = request;
-          };
-          turns = 0;
-        }) }
-        ensures follows { IfOk result (λ c. (w : Setting) (log : Log) (p : StoredProcedure)
-            → by_number (procedures_after w log snapshot) procedure ≡ Some p → accepted.now ≡ accepted_of w.tables p
-            → AreRows w.tables (rows_after w log snapshot) → Follows w log c) }
+        ensures begun { IfOk result (λ c. open_call_of c
+            ≡ call_before_its_run replica number procedure args.now snapshot request) }
+        ensures follows { IfOk result (λ c. FollowsInItsLogs accepted.now procedure snapshot c) }
         ensures ready { IfOk result (λ c. c.machine.last ≡ More) }
     {
         let Ok(machine) = Machine::start(accepted, args) else {
@@ -109,20 +97,9 @@ impl<A: Allocator + Copy> OpenCall<A> {
         request: RequestId,
     ) -> Result<(), AllocError>
         requires { length args.now ≡ accepted.now.args_len }
-        ensures begun { OnOk result (open_call_of self.new ≡ record {
-          replica = replica;
-          call = record {
-            number = number;
-            procedure = procedure;
-            args = args.now;
-            snapshot = snapshot;
-            request = request;
-          };
-          turns = 0;
-        }) }
-        ensures follows { OnOk result ((w : Setting) (log : Log) (p : StoredProcedure)
-            → by_number (procedures_after w log snapshot) procedure ≡ Some p → accepted.now ≡ accepted_of w.tables p
-            → AreRows w.tables (rows_after w log snapshot) → Follows w log self.new) }
+        ensures begun { OnOk result (open_call_of self.new
+            ≡ call_before_its_run replica number procedure args.now snapshot request) }
+        ensures follows { OnOk result (FollowsInItsLogs accepted.now procedure snapshot self.new) }
         ensures ready { OnOk result (self.new.machine.last ≡ More) }
         ensures unchanged { OnErr result (self.new ≡ self.old) }
     {
@@ -260,8 +237,10 @@ impl<A: Allocator + Copy> OpenCall<A> {
     /// What comes of a call that is at its end: its arguments, looks and writes are taken out. Takes no memory.
     pub fn complete(&mut self, alloc: A) -> Completion<A>
         requires { (reply : ℕ) × (self.old.machine.last ≡ Exit reply) }
-        ensures { (w : Setting) (log : Log) → Follows w log self.old
+        ensures completion { (w : Setting) (log : Log) → Follows w log self.old
             → IsCompletion w log (call_of self.old) result }
+        ensures left { self.new
+            ≡ record self.old { args = []; own = record { looks = []; writes = empty; cancel_code = None } } }
     {
         states_fit();
         let Turn::Exit(reply) = self.machine.last() else {

@@ -47,4 +47,4 @@ returns-in-Exit g c w entries can =
     let stays : stays_open c.run.result ≡ true = ap stays_open c.in-Exit.is in
     let follows = (c.run.ensures.goes_on w log go stays).follows in
     let same = call_stays w log c.at.result.gone before (open_call_of o) (open_call_of c.run.new.self) c.run.result c.in-Exit.field-0 c.in-Exit.is are ∙ ap (λ (x : OpenCall). x.call) c.in_ok-open_call.ensures.begun in
-    subst (λ (x : Call). IsCompletion w log x c.complete.result) same (c.complete.ensures w log follows)
+    subst (λ (x : Call). IsCompletion w log x c.complete.result) same (c.complete.ensures.completion w log follows)
