@@ -1,8 +1,2 @@
-pub mod Numbered
-pub mod StepLemmas
-pub mod EntryLemmas
-pub mod ReplicaLemmas
-pub mod CallLemmas
-pub mod AddLemmas
-pub mod RunLemmas
+mod RunLemmas
 pub mod RowLemmas

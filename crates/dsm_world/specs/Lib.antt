@@ -1,5 +1,1 @@
-pub mod System
-pub mod Execution
-pub mod Turned
-pub mod Holdings
 pub mod Codes

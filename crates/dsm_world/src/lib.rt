@@ -3,18 +3,8 @@
 #![tactic(auto)]
 
 pub use rows::ListedRows;
-pub use step::Step;
 pub use world::World;
+pub use world_steps::Step;
 
-mod add;
-mod begin;
-mod calls;
-mod deliver;
-mod holdings;
-mod numbers;
-mod order;
-mod rebuild;
 mod rows;
-mod step;
-mod turn;
 mod world;

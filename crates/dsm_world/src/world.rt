@@ -20,32 +20,24 @@ ghost use Rattle.dsm_model.specs.Sound.{IsGiven, IsSound, IsSerialReply, IsWorld
 ghost use Rattle.model_laws.specs.Worlds.{HasExited, IsCallNumbered, turns_of};
 ghost use Rattle.replica.specs.Replica.{Replica as ReplicaState, AreEntriesOf};
 ghost use Rattle.catalogue.specs.Catalogue.{IsCatalogue};
-ghost use Rattle.dsm_world.specs.System.{setting_of, world_of, step_of, progress_of, KeepsDelivered};
-ghost use Rattle.dsm_world.specs.Execution.{IsExecution};
-ghost use Rattle.dsm_world.specs.Holdings.{system_of, AreConsistentHoldings, IsReplicaOf};
+ghost use Rattle.world_steps.specs.System.{setting_of, world_of, step_of, progress_of, KeepsDelivered};
+ghost use Rattle.world_steps.specs.Execution.{IsExecution};
+ghost use Rattle.world_steps.specs.Holdings.{system_of, AreConsistentHoldings, IsReplicaOf};
 
-use crate::add::add;
-use crate::begin::begin;
-use crate::deliver::deliver;
-use crate::holdings::Holdings;
-use crate::numbers::index_of;
-use crate::order::order;
-use crate::rebuild::rebuild;
-use crate::step::Step;
-use crate::turn::{exec, turn};
 use catalogue::{Catalogue, catalogues_are_safe, each_catalogue_is_consistent};
 use dsm_model::{
     Outcome, delivered_verdicts_are_the_logs, open_calls_are_sound, replies_are_serial,
     steps_keep_a_world,
 };
 use log_entry::Entry;
-use log_model::{RequestId, a_log_only_grows};
+use log_model::a_log_only_grows;
 use model_laws::{
     enough_turns_reach_exit, entries_carry_serial_replies, open_calls_keep_their_replies,
 };
 use replica::{Replica, replicas_follow_the_log};
 use std::alloc::{AllocError, Allocator, Global};
 use std::marker::Model;
+use world_steps::{Holdings, Step, exec, index_of, take_step};
 
 /// A world of replicas of one database, which share one log. Contracts see what it holds, and by that the world of the
 /// definitions.
@@ -63,8 +55,8 @@ pub struct World<A: Allocator + Copy = Global> {
 }
 
 impl<A: Allocator + Copy> Model for World<A> {
-    ghost use Rattle.dsm_world.specs.System.{SystemWorld};
-    ghost use Rattle.dsm_world.specs.Holdings.{system_of, AreConsistentHoldings};
+    ghost use Rattle.world_steps.specs.System.{SystemWorld};
+    ghost use Rattle.world_steps.specs.Holdings.{system_of, AreConsistentHoldings};
     ghost use Rattle.dsm_world.specs.Codes.{world_code};
 
     ghost Value = { SystemWorld };
@@ -74,45 +66,6 @@ impl<A: Allocator + Copy> Model for World<A> {
     ghost view = { λ w. system_of w.holdings };
 
     ghost invariant = { λ w. AreConsistentHoldings w.holdings };
-}
-
-/// One step.
-fn take_step<A: Allocator + Copy>(world: &mut Holdings<A>, step: Step<'_>) -> Outcome
-    requires { AreConsistentHoldings world.old }
-    ensures step { IsStep (setting_of (system_of world.old)) (world_of (system_of world.old))
-        (step_of (setting_of (system_of world.old)) step.entry) result (world_of (system_of world.new)) }
-    ensures setting { setting_of (system_of world.new) ≡ setting_of (system_of world.old) }
-    ensures consistent { AreConsistentHoldings world.new }
-    ensures given { IsGiven (setting_of (system_of world.old))
-        (step_of (setting_of (system_of world.old)) step.entry) result }
-{
-    match step {
-        Step::Begin {
-            replica,
-            procedure,
-            args,
-        } => begin(world, replica, procedure, args, None),
-        Step::BeginNumbered {
-            replica,
-            procedure,
-            args,
-            session,
-            sequence,
-        } => {
-            let request = RequestId { session, sequence };
-            begin(world, replica, procedure, args, Some(request))
-        }
-        Step::Turn { call } => turn(world, call),
-        Step::Order { call } => order(world, call),
-        Step::Deliver { replica } => deliver(world, replica),
-        Step::Rebuild { replica } => rebuild(world, replica),
-        Step::Add {
-            name,
-            number,
-            args_len,
-            bytes,
-        } => add(world, name, number, args_len, bytes),
-    }
 }
 
 /// So many replicas to which nothing was delivered.

@@ -8,8 +8,8 @@ use Rattle.dsm_model.specs.declared.outcome.Outcome.TheVariants.{More, Refused}
 use Rattle.dsm_model.specs.declared.outcome.StepRefusal.TheVariants.{NoReplica, NoProcedure}
 use Rattle.log_model.specs.declared.request.RequestId.{RequestId}
 use Rattle.bpf_code.specs.Program.{max_slots}
-use Rattle.dsm_world.specs.System.{check_of, progress_of}
-use Rattle.dsm_world.specs.Execution.{IsExecution}
+use Rattle.world_steps.specs.System.{check_of, progress_of}
+use Rattle.world_steps.specs.Execution.{IsExecution}
 use Rattle.replica.specs.Replica.{Replica as ReplicaState}
 use Rattle.log_model.specs.Log.{Setting, by_number, by_name, procedures_after}
 use Rattle.dsm_model.specs.World.{World, Replica, Begin, Turn, Order, Deliver, Rebuild, Add, IsStep, after_begin, after_step, numbered, position_of}

@@ -8,8 +8,8 @@ use Rattle.log_model.specs.Log.{Item, verdict_of}
 use Rattle.log_model.specs.Entries.{Entry, item_of, items_of}
 use Rattle.dsm_model.specs.World.{Replica as Progress}
 use Rattle.replica.specs.Replica.{Replica, AreEntriesOf, certification_of}
-use Rattle.dsm_world.specs.System.{SystemWorld, setting_of, world_of, progress_of, KeepsDelivered}
-use Rattle.dsm_world.proofs.Numbered.{get_map}
+use Rattle.world_steps.specs.System.{SystemWorld, setting_of, world_of, progress_of, KeepsDelivered}
+use Rattle.world_steps.proofs.Numbered.{get_map}
 use Rattle.report.specs.declared.printed.Line.TheVariants as line
 use Rattle.report.specs.Lines.{line_text}
 use Rattle.script_actions.specs.Printed.{entry_of, logged_entry, compared_count, is_delivered, certified_line, logged_text}

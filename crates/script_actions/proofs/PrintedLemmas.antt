@@ -13,8 +13,8 @@ use Rattle.dsm_model.specs.Sound.{reply_of}
 use Rattle.certifications.specs.declared.certification.Certification.{Certification}
 use Rattle.replica.specs.Replica.{Replica, AreEntriesOf, StandsFor, rows_kept, certification_of}
 use Rattle.replica.proofs.KeepsLemmas.{certified_more, certified_count}
-use Rattle.dsm_world.specs.System.{SystemWorld, setting_of, world_of, KeepsDelivered}
-use Rattle.dsm_world.proofs.Numbered.{numbered_map}
+use Rattle.world_steps.specs.System.{SystemWorld, setting_of, world_of, KeepsDelivered}
+use Rattle.world_steps.proofs.Numbered.{numbered_map}
 use Rattle.dsm_world.proofs.RowLemmas.{log_is, position_within}
 use Rattle.replica.proofs.EntryLemmas.{take_all, take_first, take_drop, items_append, items_count, take_count, all_at, entries_taken}
 use Rattle.byte_output.specs.declared.paged.PagedOutput.{PagedOutput}

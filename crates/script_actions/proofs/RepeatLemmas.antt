@@ -10,7 +10,7 @@ use Rattle.dsm_model.specs.declared.outcome.Outcome.{Outcome}
 use Rattle.dsm_model.specs.declared.outcome.Outcome.TheVariants.{More}
 use Rattle.log_model.specs.Log.{Setting}
 use Rattle.dsm_model.specs.World.{World, Step, Turn, IsStep, after_step}
-use Rattle.dsm_world.specs.Execution.{IsExecution}
+use Rattle.world_steps.specs.Execution.{IsExecution}
 use Rattle.script_actions.specs.Printed.{step_text}
 use Rattle.script_actions.specs.Actions.{Later, Repeats, is_more, last_line}
 use Rattle.script_actions.specs.Doing.{PassesBeginning}

@@ -14,9 +14,9 @@ use Rattle.call_model.specs.OpenCall.{OpenCall}
 use Rattle.dsm_model.specs.Sound.{IsGiven, IsSound, IsWorld}
 use Rattle.stored_procedures.specs.Held.{ListedProcedure, stored, stored_procedures, WasAccepted, AreStored}
 use Rattle.replica.specs.Replica.{Replica}
-use Rattle.dsm_world.specs.System.{SystemWorld, setting_of, world_of, progress_of, KeepsDelivered}
+use Rattle.world_steps.specs.System.{SystemWorld, setting_of, world_of, progress_of, KeepsDelivered}
 use Rattle.world_calls.proofs.CallLemmas.{instructions-le}
-use Rattle.dsm_world.proofs.Numbered.{numbered_map, numbered_set}
+use Rattle.world_steps.proofs.Numbered.{numbered_map, numbered_set}
 use Rattle.script.specs.declared.statements.Action.TheVariants as action
 use Rattle.script_actions.specs.Printed.{step_text}
 use Rattle.script_actions.specs.Actions.{Later, Repeats, Does, is_more, last_line}

@@ -6,13 +6,13 @@ use Rattle.dsm_model.specs.declared.outcome.Outcome.{Outcome}
 use Rattle.dsm_model.specs.declared.outcome.Outcome.TheVariants.{More, Delivered}
 use Rattle.log_model.specs.Log.{Setting, by_name, procedures_after}
 use Rattle.log_model.specs.declared.request.RequestId.{RequestId}
-use Rattle.dsm_world.specs.System.{check_of}
+use Rattle.world_steps.specs.System.{check_of}
 use Rattle.dsm_model.specs.World.{World, Step, Begin, Add, Turn, Order, Deliver, Rebuild, IsStep, after_begin, numbered, position_of}
 use Rattle.script.specs.Script.{ScriptAction}
 use Rattle.script.specs.declared.statements.Action.TheVariants as action
 use Rattle.script_actions.specs.Printed.{step_text, rows_text, log_text, entry_text}
 -- a world as its engine sees it
-pub use Rattle.dsm_world.specs.System.{SystemWorld, setting_of, world_of}
+pub use Rattle.world_steps.specs.System.{SystemWorld, setting_of, world_of}
 
 -- ---- steps that are taken again
 

@@ -2,7 +2,7 @@
 
 ghost use Rattle.std.specs.Prelude.{◌≡◌};
 ghost use Rattle.byte_output.specs.Pending.{output_of};
-ghost use Rattle.dsm_world.specs.System.{setting_of, world_of};
+ghost use Rattle.world_steps.specs.System.{setting_of, world_of};
 ghost use Rattle.script.specs.Script.{IsActionWithinLimits};
 ghost use Rattle.script_actions.specs.Doing.{HasDone};
 

@@ -6,7 +6,7 @@ ghost use Rattle.dsm_model.specs.declared.outcome.Outcome.{Outcome as ModelOutco
 ghost use Rattle.dsm_model.specs.World.{IsStep, Begin as BeginStep, Turn as TurnStep, numbered};
 ghost use Rattle.dsm_model.specs.Sound.{reply_of, told_by};
 ghost use Rattle.log_model.specs.Log.{Setting};
-ghost use Rattle.dsm_world.specs.System.{setting_of, world_of, step_of};
+ghost use Rattle.world_steps.specs.System.{setting_of, world_of, step_of};
 ghost use Rattle.report.specs.Answers.{answer_line};
 ghost use Rattle.script.specs.declared.statements.Action.TheVariants as action;
 ghost use Rattle.script_actions.specs.Printed.{delivered_entry, step_text};

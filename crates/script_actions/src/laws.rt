@@ -3,7 +3,7 @@
 ghost use Rattle.std.specs.Prelude.{◌≡◌, ℕ, List, slice_get, Some, false};
 ghost use Rattle.dsm_model.specs.declared.outcome.Outcome.{Outcome};
 ghost use Rattle.dsm_model.specs.World.{World as ModelWorld, Turn};
-ghost use Rattle.dsm_world.specs.System.{setting_of, world_of};
+ghost use Rattle.world_steps.specs.System.{setting_of, world_of};
 ghost use Rattle.replica.specs.Replica.{Replica as ReplicaState};
 ghost use Rattle.stored_procedures.specs.Held.{AreStored};
 ghost use Rattle.script.specs.declared.statements.Action.TheVariants as action;

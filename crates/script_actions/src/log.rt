@@ -6,7 +6,7 @@ ghost use Rattle.log_model.specs.Log.{Item};
 ghost use Rattle.hex.specs.Hex.{encode_lower};
 ghost use Rattle.log_entry.specs.Kind.{entry_of};
 ghost use Rattle.log_entry.specs.Bytes.{entry_bytes};
-ghost use Rattle.dsm_world.specs.System.{setting_of, world_of};
+ghost use Rattle.world_steps.specs.System.{setting_of, world_of};
 ghost use Rattle.report.specs.Lines.{line_text};
 ghost use Rattle.script_actions.specs.Printed.{logged_entry, logged_text, log_text, entry_text};
 ghost use Rattle.script_actions.specs.Doing.{Gives};

@@ -3,7 +3,7 @@
 ghost use Rattle.std.specs.Prelude.{◌≡◌, ◌≤◌, ◌^◌, ◌+◌, ◌-◌, false, List, ℕ, IfOk, IfSome};
 ghost use Rattle.byte_output.specs.Pending.{output_of};
 ghost use Rattle.dsm_model.specs.World.{numbered};
-ghost use Rattle.dsm_world.specs.System.{setting_of, world_of};
+ghost use Rattle.world_steps.specs.System.{setting_of, world_of};
 ghost use Rattle.schema.specs.Rows.{Key, Rows, first_in};
 ghost use Rattle.txn_view.specs.Found.{row_found};
 ghost use Rattle.script_actions.specs.Printed.{rows_text};

@@ -1,10 +1,19 @@
-use Rattle.std.proofs.Common.{false, ◌≡◌, List, [], ◌∷◌, length, ap, ◌∙◌, arith}
+use Rattle.std.proofs.Common.{false, ◌≡◌, List, [], ◌∷◌, length, slice_get, sym, ap, ◌∙◌, arith}
 use Rattle.std.proofs.lemmas.List.{length-append}
 use Rattle.replica.specs.Replica.{Replica}
-use Rattle.dsm_world.specs.System.{progress_of}
-use Rattle.dsm_world.specs.Holdings.{IsReplicaOf}
+use Rattle.world_steps.specs.System.{progress_of}
+use Rattle.world_steps.specs.Holdings.{IsReplicaOf}
 use Rattle.dsm_world.proofs.RunLemmas.{first_replica, first_progress, one_more_replica}
 use Rattle.dsm_world.proofs.world.replicas_of.Goals as goal
+
+pub loop-init : goal.loop-init
+loop-init g c =
+    let none = c.new-replicas.ensures.items in
+    record {
+      counted = ap (λ (xs : List Replica). length xs) none;
+      each = λ k r at. absurd (let nowhere = ap (λ (xs : List Replica). slice_get xs k) (sym none) ∙ at in cc);
+      fresh = λ k r at. absurd (let nowhere = ap (λ (xs : List Replica). slice_get xs k) (sym none) ∙ at in cc);
+    }
 
 pub loop-preserved : goal.loop-preserved
 loop-preserved g c =

@@ -1,5 +1,5 @@
 use Rattle.std.proofs.Common.{sym, subst}
-use Rattle.dsm_world.specs.System.{setting_of, world_of}
+use Rattle.world_steps.specs.System.{setting_of, world_of}
 use Rattle.script.specs.Script.{ScriptAction}
 use Rattle.script_actions.specs.Doing.{HasDone}
 use Rattle.script_actions.proofs.DoneLemmas.{shows_rows, shows_log, shows_entry}

@@ -1,7 +1,7 @@
 use Rattle.std.proofs.lemmas.Result.{err_from_is_err_and}
 use Rattle.dsm_model.specs.World.{Add}
-use Rattle.dsm_world.specs.System.{check_of}
-use Rattle.dsm_world.specs.System.{setting_of, world_of}
+use Rattle.world_steps.specs.System.{check_of}
+use Rattle.world_steps.specs.System.{setting_of, world_of}
 use Rattle.script_actions.specs.Printed.{step_text}
 use Rattle.script_actions.proofs.DoneLemmas.{adds}
 use Rattle.script_actions.proofs.answers.add.Goals as goal

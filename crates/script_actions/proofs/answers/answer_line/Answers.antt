@@ -1,6 +1,6 @@
 use Rattle.std.proofs.Common.{[], None, sym, ap, ◌∙◌}
 use Rattle.call_model.specs.Check.{Passed}
-use Rattle.dsm_world.specs.System.{step_of}
+use Rattle.world_steps.specs.System.{step_of}
 use Rattle.report.specs.Answers.{answer_line}
 use Rattle.script_actions.proofs.answers.answer_line.Goals as goal
 

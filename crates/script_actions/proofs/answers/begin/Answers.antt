@@ -3,8 +3,8 @@ use Rattle.std.specs.Prelude.{option_map}
 use Rattle.std.proofs.lemmas.Result.{err_from_is_err_and}
 use Rattle.byte_output.specs.Pending.{Passes}
 use Rattle.dsm_model.specs.World.{Step, Begin, IsStep, numbered}
-use Rattle.dsm_world.specs.System.{setting_of, world_of, progress_of}
-use Rattle.dsm_world.proofs.Numbered.{numbered_map}
+use Rattle.world_steps.specs.System.{setting_of, world_of, progress_of}
+use Rattle.world_steps.proofs.Numbered.{numbered_map}
 use Rattle.replica.specs.Replica.{Replica as ReplicaState}
 use Rattle.report.specs.Answers.{text_of}
 use Rattle.report.specs.Lines.{line_text}

@@ -4,7 +4,7 @@ use Rattle.std.specs.List.{concat}
 use Rattle.log_model.specs.Log.{Setting}
 use Rattle.dsm_model.specs.World.{Deliver, IsStep}
 use Rattle.byte_output.specs.Pending.{Passes}
-use Rattle.dsm_world.specs.System.{setting_of, world_of}
+use Rattle.world_steps.specs.System.{setting_of, world_of}
 use Rattle.script_actions.specs.Printed.{step_text}
 use Rattle.script_actions.specs.Actions.{is_delivery}
 use Rattle.script_actions.specs.Doing.{PassesBeginning}

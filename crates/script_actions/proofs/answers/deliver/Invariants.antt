@@ -1,7 +1,7 @@
 use Rattle.std.proofs.Common.{◌≡◌, ◌-◌}
 use Rattle.byte_output.specs.Pending.{output_of}
 use Rattle.dsm_model.specs.World.{Deliver}
-use Rattle.dsm_world.specs.System.{setting_of, world_of}
+use Rattle.world_steps.specs.System.{setting_of, world_of}
 use Rattle.script_actions.specs.Actions.{is_delivery}
 use Rattle.script_actions.proofs.RepeatLemmas.{Came}
 use Rattle.script_actions.proofs.answers.deliver.Given as goal

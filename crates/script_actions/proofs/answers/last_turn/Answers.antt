@@ -1,7 +1,7 @@
 use Rattle.std.proofs.Common.{◌≡◌, suc, ◌+◌, ◌-◌, zero, subst, arith, rules, refl, ◌∙◌}
 use Rattle.log_model.specs.Log.{Setting}
 use Rattle.dsm_model.specs.World.{Turn as TurnStep, IsStep}
-use Rattle.dsm_world.specs.System.{setting_of, world_of}
+use Rattle.world_steps.specs.System.{setting_of, world_of}
 use Rattle.script_actions.specs.Actions.{is_more}
 use Rattle.script_actions.proofs.RepeatLemmas.{Ran, none_ran, ran_more, ran_last, ran_out}
 use Rattle.script_actions.proofs.answers.last_turn.Goals as goal

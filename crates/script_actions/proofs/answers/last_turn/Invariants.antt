@@ -1,6 +1,6 @@
 use Rattle.std.proofs.Common.{◌≡◌, suc, ◌-◌}
 use Rattle.dsm_model.specs.World.{Turn as TurnStep}
-use Rattle.dsm_world.specs.System.{setting_of, world_of}
+use Rattle.world_steps.specs.System.{setting_of, world_of}
 use Rattle.script_actions.specs.Actions.{is_more}
 use Rattle.script_actions.proofs.RepeatLemmas.{Ran}
 use Rattle.script_actions.proofs.answers.last_turn.Given as goal

@@ -1,6 +1,6 @@
 use Rattle.std.proofs.lemmas.Result.{err_from_is_err_and}
 use Rattle.dsm_model.specs.World.{Order}
-use Rattle.dsm_world.specs.System.{setting_of, world_of}
+use Rattle.world_steps.specs.System.{setting_of, world_of}
 use Rattle.script_actions.specs.Printed.{step_text}
 use Rattle.script_actions.proofs.DoneLemmas.{orders}
 use Rattle.script_actions.proofs.answers.order.Goals as goal

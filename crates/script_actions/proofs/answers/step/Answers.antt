@@ -1,7 +1,7 @@
 use Rattle.std.proofs.Common.{◌≡◌, ap, subst, ◌∙◌}
 use Rattle.std.proofs.lemmas.Result.{err_from_is_err_and}
 use Rattle.byte_output.specs.Pending.{Passes}
-use Rattle.dsm_world.specs.System.{setting_of, world_of, step_of}
+use Rattle.world_steps.specs.System.{setting_of, world_of, step_of}
 use Rattle.report.specs.Answers.{answer_line, text_of}
 use Rattle.script_actions.specs.Printed.{delivered_entry, step_text}
 use Rattle.script_actions.specs.Doing.{PassesBeginning}

@@ -1,6 +1,6 @@
 use Rattle.std.proofs.Common.{None, ap, subst}
 use Rattle.dsm_model.specs.World.{Turn as TurnStep}
-use Rattle.dsm_world.specs.System.{setting_of, world_of}
+use Rattle.world_steps.specs.System.{setting_of, world_of}
 use Rattle.report.specs.Answers.{text_of}
 use Rattle.report.specs.declared.printed.DeliveredEntry.TheVariants as delivered
 use Rattle.script.specs.declared.statements.Action.TheVariants as action

@@ -1,5 +1,5 @@
 use Rattle.std.proofs.Common.{List, subst}
-use Rattle.dsm_world.specs.System.{setting_of, world_of}
+use Rattle.world_steps.specs.System.{setting_of, world_of}
 use Rattle.replica.specs.Replica.{Replica}
 use Rattle.script_actions.proofs.TurnLemmas.{AllStored, short_programs, execution_ends}
 use Rattle.script_actions.proofs.laws.executions_end.Goals as goal

@@ -2,8 +2,8 @@ use Rattle.std.proofs.Common.{◌≡◌, List, slice_get, inl, inr, ap, subst, �
 use Rattle.std.proofs.lemmas.Bool.{cases_lt}
 use Rattle.replica.specs.Replica.{Replica}
 use Rattle.stored_procedures.specs.Held.{ListedProcedure, AreStored}
-use Rattle.dsm_world.proofs.Numbered.{get_lt}
-use Rattle.dsm_world.proofs.ReplicaLemmas.{get_is, same_item}
+use Rattle.world_steps.proofs.Numbered.{get_lt}
+use Rattle.world_steps.proofs.ReplicaLemmas.{get_is, same_item}
 use Rattle.script_actions.proofs.laws.procedures_are_stored.Goals as goal
 
 pub loop-replica-preserved : goal.loop-replica-preserved

@@ -1,7 +1,7 @@
 use Rattle.std.proofs.Common.{◌+◌, cond, Bool, Some, drop, sym, ap, ◌∙◌, arith}
 use Rattle.std.specs.List.{find}
 use Rattle.std.proofs.lemmas.List.{drop_all}
-use Rattle.dsm_world.proofs.ReplicaLemmas.{get_is}
+use Rattle.world_steps.proofs.ReplicaLemmas.{get_is}
 use Rattle.script_actions.proofs.LogLemmas.{further, found_next, is_further, is_not_further}
 use Rattle.script_actions.proofs.log.further_than.Goals as goal
 

@@ -1,7 +1,7 @@
 use Rattle.std.proofs.Common.{◌≡◌, ◌+◌, ◌-◌, ◌<◌, Some, take, slice_get, subst, sym, ap, ◌∙◌, refl, arith, suc}
 use Rattle.std.proofs.lemmas.Bool.{ltb-true}
 use Rattle.std.specs.List.{find}
-use Rattle.dsm_world.proofs.Numbered.{numbered_at}
+use Rattle.world_steps.proofs.Numbered.{numbered_at}
 use Rattle.certifications.specs.declared.certification.Certification.{Certification}
 use Rattle.replica.specs.Replica.{certification_of}
 use Rattle.report.specs.declared.printed.LoggedEntry.{LoggedEntry}

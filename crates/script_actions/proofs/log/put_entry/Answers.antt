@@ -5,7 +5,7 @@ use Rattle.log_model.specs.Log.{Item}
 use Rattle.log_model.specs.Entries.{item_of}
 use Rattle.log_entry.specs.Kind as kind
 use Rattle.dsm_model.specs.World.{numbered}
-use Rattle.dsm_world.specs.System.{setting_of, world_of}
+use Rattle.world_steps.specs.System.{setting_of, world_of}
 use Rattle.log_entry.specs.Bytes.{entry_bytes}
 use Rattle.report.specs.Lines as lines
 use Rattle.report.specs.Lines.{bytes_words}

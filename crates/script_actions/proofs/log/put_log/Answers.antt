@@ -1,9 +1,9 @@
 use Rattle.std.proofs.Common.{subst, sym, ◌∙◌, refl, arith}
 use Rattle.std.proofs.lemmas.Result.{err_from_is_err_and}
 use Rattle.byte_output.specs.Pending.{Passes}
-use Rattle.dsm_world.specs.System.{setting_of, world_of}
+use Rattle.world_steps.specs.System.{setting_of, world_of}
 use Rattle.replica.proofs.EntryLemmas.{items_count}
-use Rattle.dsm_world.proofs.Numbered.{get_within}
+use Rattle.world_steps.proofs.Numbered.{get_within}
 use Rattle.script_actions.specs.Doing.{PassesBeginning, Gives}
 use Rattle.script_actions.proofs.PrintedLemmas.{no_lines, one_more_line, line_breaks, log_given}
 use Rattle.script_actions.proofs.log.put_log.Goals as goal

@@ -1,6 +1,6 @@
 use Rattle.std.proofs.Common.{◌≡◌}
 use Rattle.byte_output.specs.Pending.{output_of}
-use Rattle.dsm_world.specs.System.{setting_of, world_of}
+use Rattle.world_steps.specs.System.{setting_of, world_of}
 use Rattle.script_actions.proofs.PrintedLemmas.{HaveLines}
 use Rattle.script_actions.proofs.log.put_log.Given as goal
 

@@ -3,8 +3,8 @@ use Rattle.std.proofs.lemmas.Result.{err_from_is_err_and}
 use Rattle.std.specs.FinMap.{entries}
 use Rattle.log_model.specs.Log.{rows_after}
 use Rattle.dsm_model.specs.World.{Replica, numbered}
-use Rattle.dsm_world.specs.System.{setting_of, world_of, progress_of}
-use Rattle.dsm_world.proofs.Numbered.{numbered_map}
+use Rattle.world_steps.specs.System.{setting_of, world_of, progress_of}
+use Rattle.world_steps.proofs.Numbered.{numbered_map}
 use Rattle.replica.specs.Replica.{Replica as ReplicaState}
 use Rattle.report.specs.Lines.{line_text}
 use Rattle.report.specs.declared.printed.Line.TheVariants as line

@@ -1,0 +1,6 @@
+pub mod Numbered
+mod StepLemmas
+mod EntryLemmas
+pub mod ReplicaLemmas
+pub mod CallLemmas
+mod AddLemmas

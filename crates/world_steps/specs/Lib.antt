@@ -1,0 +1,4 @@
+pub mod System
+pub mod Execution
+pub mod Turned
+pub mod Holdings
