@@ -1,4 +1,4 @@
-//! Tests of lines: those of scripts, what they set, and those that are printed.
+//! Tests of lines: those of scripts, and those that are printed.
 #![tactic(auto)]
 
 #[cfg(test)]

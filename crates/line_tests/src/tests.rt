@@ -1,4 +1,2 @@
-mod calls;
 mod lines;
 mod scripts;
-mod settings;

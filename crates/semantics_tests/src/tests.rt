@@ -1,5 +1,5 @@
-//! `programs.rt` has whole programs, `forms.rt` each form of instruction and `calls.rt` each helper: where
-//! it steps, and for each reason one state where it doesn't; `schemas.rt` has tables, faults and helpers.
+//! `forms.rt` has each form of instruction and `calls.rt` each helper: where it steps, and for each reason one state
+//! where it doesn't; `schemas.rt` has tables, faults and helpers.
 
 use std::fmt::Debug;
 use std::process::Abort;
@@ -7,7 +7,6 @@ use std::process::Abort;
 mod assembly;
 mod calls;
 mod forms;
-mod programs;
 mod schemas;
 
 /// Asserts that a value is the one that is wanted. It stands in a function of its own, since a proof of many

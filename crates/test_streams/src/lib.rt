@@ -1,6 +1,6 @@
-//! Inputs and outputs that fail, for tests.
+//! Inputs and outputs that fail, or are interrupted, for tests.
 #![tactic(auto)]
 
-pub use streams::{Full, Input, Output};
+pub use streams::{Full, Input, InterruptedInput, Output};
 
 mod streams;

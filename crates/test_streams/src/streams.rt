@@ -1,4 +1,4 @@
-//! Inputs and outputs that fail.
+//! Inputs and outputs that fail, or are interrupted.
 
 use std::alloc::Global;
 use std::io;
@@ -33,6 +33,50 @@ impl BufRead for Input<'_> {
     fn consume(&mut self, amt: usize) {
         let (_, left) = self.left.split_at(self.left.len().min(amt));
         self.left = left;
+    }
+}
+
+/// Gives its bytes, so many at a time, and then fails, or ends. Each look is interrupted once before.
+#[derive(Drop)]
+pub struct InterruptedInput<'a> {
+    pub left: &'a [u8],
+    pub at_once: usize,
+    pub fails: bool,
+    interrupts: bool,
+}
+
+impl<'a> InterruptedInput<'a> {
+    /// One whose first look is interrupted.
+    pub fn new(left: &'a [u8], at_once: usize, fails: bool) -> InterruptedInput<'a> {
+        InterruptedInput {
+            left,
+            at_once,
+            fails,
+            interrupts: false,
+        }
+    }
+}
+
+impl Read for InterruptedInput<'_> {
+    fn read(&mut self, buf: &mut [u8]) -> io::Result<usize> {
+        self.left.read(buf)
+    }
+}
+
+impl BufRead for InterruptedInput<'_> {
+    fn fill_buf(&mut self) -> io::Result<&[u8]> {
+        self.interrupts = !self.interrupts;
+        if self.interrupts {
+            return Err(io::Error::from(ErrorKind::Interrupted));
+        }
+        if self.left.is_empty() && self.fails {
+            return Err(io::Error::from(ErrorKind::Other));
+        }
+        Ok(&self.left[..self.left.len().min(self.at_once)])
+    }
+
+    fn consume(&mut self, amount: usize) {
+        self.left = &self.left[amount.min(self.left.len())..];
     }
 }
 

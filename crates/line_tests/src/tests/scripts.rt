@@ -2,9 +2,8 @@ use row_sets::Bytes;
 use scarce::Scarce;
 use script::{Action, LineFault, MAX_LINE, Next, Statement, next_line, statement};
 use std::alloc::{Allocator, Global};
-use std::io;
-use std::io::{BufRead, ErrorKind, Read};
 use std::process::Abort;
+use test_streams::InterruptedInput;
 
 /// Lines with a character that none may have.
 static OTHER_CHARACTERS: [&[u8]; 4] = [b"window\t4", b"# \t", b"log\r", b"rows \x7f"];
@@ -220,49 +219,6 @@ fn growths_are_refused_in_turn(rt: HostRuntime) {
     }
 }
 
-/// Shows so many bytes at a time, interrupts each look once, and fails where it is at its end.
-#[derive(Drop)]
-pub(crate) struct Input<'a> {
-    left: &'a [u8],
-    shown: usize,
-    interrupts: bool,
-    fails: bool,
-}
-
-impl<'a> Input<'a> {
-    pub(crate) fn new(left: &'a [u8], shown: usize, fails: bool) -> Input<'a> {
-        Input {
-            left,
-            shown,
-            interrupts: false,
-            fails,
-        }
-    }
-}
-
-impl Read for Input<'_> {
-    fn read(&mut self, buf: &mut [u8]) -> io::Result<usize> {
-        self.left.read(buf)
-    }
-}
-
-impl BufRead for Input<'_> {
-    fn fill_buf(&mut self) -> io::Result<&[u8]> {
-        self.interrupts = !self.interrupts;
-        if !self.interrupts {
-            return Err(io::Error::from(ErrorKind::Interrupted));
-        }
-        if self.left.is_empty() && self.fails {
-            return Err(io::Error::from(ErrorKind::Other));
-        }
-        Ok(&self.left[..self.left.len().min(self.shown)])
-    }
-
-    fn consume(&mut self, amount: usize) {
-        self.left = &self.left[amount.min(self.left.len())..];
-    }
-}
-
 /// Inputs, the lines of one that ends, and those of one that fails at its end: a last line is known to be whole by its
 /// LF.
 const INPUTS: [(&[u8], &[&[u8]], &[&[u8]]); 5] = [
@@ -274,7 +230,7 @@ const INPUTS: [(&[u8], &[&[u8]], &[&[u8]]); 5] = [
 ];
 
 /// Whether these lines come off an input, and then its end, or that it fails.
-fn gives(input: &mut Input<'_>, line: &mut Vec<u8>, lines: &[&[u8]]) -> bool {
+fn gives(input: &mut InterruptedInput<'_>, line: &mut Vec<u8>, lines: &[&[u8]]) -> bool {
     for expected in lines {
         let next = next_line(input, line);
         if !matches!(next, Ok(Next::Line)) || line.as_slice() != *expected {
@@ -290,7 +246,7 @@ fn gives(input: &mut Input<'_>, line: &mut Vec<u8>, lines: &[&[u8]]) -> bool {
 
 /// The same, with a line of its own.
 fn gives_all(alloc: Global, bytes: &[u8], shown: usize, fails: bool, lines: &[&[u8]]) -> bool {
-    let mut input = Input::new(bytes, shown, fails);
+    let mut input = InterruptedInput::new(bytes, shown, fails);
     let mut line = Vec::new(alloc);
     gives(&mut input, &mut line, lines)
 }
@@ -311,12 +267,7 @@ fn lines_are_read_one_by_one(rt: HostRuntime) {
 #[test]
 fn long_lines_stay_on_the_input(rt: HostRuntime) {
     let bytes = vec![in rt.alloc(); b'a'; MAX_LINE + 10].expect(&rt, "memory");
-    let mut input = Input {
-        left: &bytes,
-        shown: 1000,
-        interrupts: false,
-        fails: false,
-    };
+    let mut input = InterruptedInput::new(&bytes, 1000, false);
     let mut line = Vec::new(rt.alloc());
     assert!(rt; matches!(next_line(&mut input, &mut line), Ok(Next::TooLong)));
     assert_eq!(rt; line.len(), MAX_LINE);

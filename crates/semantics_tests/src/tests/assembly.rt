@@ -2,7 +2,7 @@
 
 use super::same;
 use bpf_code::decode;
-use plain_runner::{CompletedRun, Row, run_program};
+use plain_runner::{Row, run_program};
 use schema::Schema;
 use std::alloc::Global;
 use std::process::Abort;
@@ -197,9 +197,15 @@ pub(super) fn replace(program: &mut [u8], at: usize, step: &Step) {
     }
 }
 
+/// Table 1 of width 8, and table 2 of width 2.
+const TABLES: [(u8, u16); 2] = [(1, 8), (2, 2)];
+
 /// What a program replies on no rows; none where it is stuck.
 pub(super) fn reply_of(rt: &impl Abort, alloc: Global, program: &[u8]) -> Option<u64> {
-    match run(rt, alloc, program, &ARGS, &[]) {
+    let code = decode(alloc, program).expect(rt, "the program");
+    let schema = Schema::new(alloc, &TABLES).expect(rt, "the schema");
+    let rows: [Row; 0] = [];
+    match run_program(alloc, &code, &schema, &ARGS, &rows).expect(rt, "the run") {
         Some(run) => Some(run.reply()),
         None => None,
     }
@@ -239,43 +245,4 @@ pub(super) fn replies(rt: &impl Abort, alloc: Global, form: &Form, cases: &[Case
 fn try_steps(rt: &impl Abort, alloc: Global, form: &Form, steps: &[Step]) -> Option<u64> {
     let program = program_of(rt, alloc, form, steps);
     reply_of(rt, alloc, &program)
-}
-
-/// Table 1 of width 8, and table 2 of width 2.
-pub(super) const TABLES: [(u8, u16); 2] = [(1, 8), (2, 2)];
-
-/// The run of a program on arguments and rows, which are table, key and value: 2 bytes of it in
-/// table 2, and 8 in the others. None where it is stuck.
-pub(super) fn run(
-    rt: &impl Abort,
-    alloc: Global,
-    program: &[u8],
-    args: &[u8],
-    rows: &[(u8, u64, u64)],
-) -> Option<CompletedRun> {
-    let list = rows_of(rt, alloc, rows);
-    let code = decode(alloc, program).expect(rt, "the program");
-    let schema = Schema::new(alloc, &TABLES).expect(rt, "the schema");
-    run_program(alloc, &code, &schema, args, &list).expect(rt, "the run")
-}
-
-/// A row of table, key and value: 2 bytes of it in table 2, and 8 in the others.
-pub(super) fn row_of(rt: &impl Abort, alloc: Global, table: u8, key: u64, value: u64) -> Row {
-    let width = if table == 2 { 2 } else { 8 };
-    let bytes = value.to_le_bytes();
-    let (front, _) = bytes.split_at(width);
-    Row::new(
-        table,
-        key,
-        Vec::from_slice(alloc, front).expect(rt, "a row"),
-    )
-}
-
-fn rows_of(rt: &impl Abort, alloc: Global, rows: &[(u8, u64, u64)]) -> Vec<Row> {
-    let mut list = Vec::new(alloc);
-    for &(table, key, value) in rows {
-        let row = row_of(rt, alloc, table, key, value);
-        list.push(row).expect(rt, "room for the row");
-    }
-    list
 }

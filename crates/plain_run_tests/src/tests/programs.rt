@@ -1,6 +1,6 @@
 //! Whole programs, with what comes of them.
 
-use super::assembly::{TABLES, row_of, run};
+use super::rows::{TABLES, row_of, run};
 use super::same;
 use bpf_code::{Code, decode};
 use plain_runner::{CompletedRun, Row, Write, run_program};
@@ -493,7 +493,8 @@ fn described(rt: &impl Abort, alloc: Global, run: &CompletedRun) -> String {
 
 fn describe_look(rt: &impl Abort, text: &mut String, look: Look) {
     let Look { table, lo, hi } = look;
-    write!(text, " look {table}:{lo}-{hi}").expect(rt, "a look");
+    write!(text, " look {table}:").expect(rt, "a table");
+    write!(text, "{lo}-{hi}").expect(rt, "an interval");
 }
 
 fn describe_code(rt: &impl Abort, text: &mut String, code: Option<u64>) {
@@ -531,8 +532,9 @@ fn describe_bytes(
     bytes: &[u8],
 ) {
     let (table, key) = place;
+    write!(text, " {name} {table}:").expect(rt, "a table");
     let hex = hex::encode(alloc, bytes).expect(rt, "the digits");
-    write!(text, " {name} {table}:{key}={hex}").expect(rt, "the bytes");
+    write!(text, "{key}={hex}").expect(rt, "the bytes");
 }
 
 /// The bytes of arguments.
@@ -640,40 +642,32 @@ static WORDS: [u8; 24] = [
     10, 0, 0, 0, 0, 0, 0, 0, 20, 0, 0, 0, 0, 0, 0, 0, 101, 0, 0, 0, 0, 0, 0, 0,
 ];
 
-/// Whether memory was enough. Where it was, the program gets to its end or it doesn't.
-fn has_run(
-    rt: &impl Abort,
-    scarce: &Scarce,
-    code: &Code,
-    schema: &Schema,
-    rows: &[Row],
-    ends: bool,
-) -> bool {
+/// Whether the program gets to its end; none where memory was wanting.
+fn ends(scarce: &Scarce, code: &Code, schema: &Schema, rows: &[Row]) -> Option<bool> {
     match run_program(scarce, code, schema, &WORDS, rows) {
-        Ok(run) => {
-            assert!(rt; run.is_some() == ends);
-            true
-        }
-        Err(_) => false,
+        Ok(run) => Some(run.is_some()),
+        Err(_) => None,
     }
 }
 
 fn refuse_growths(rt: &impl Abort, alloc: Global, case: &(&str, u64, bool)) {
-    let (program, key, ends) = *case;
+    let (program, key, at_end) = *case;
     let bytes = bytes_of(alloc, program).expect(rt, program);
     let code = decode(alloc, &bytes).expect(rt, program);
     let rows = [row_of(rt, alloc, 1, key, 0x0101_0101_0101_0101)];
     let scarce = Scarce::new(alloc);
     let schema = Schema::new(alloc, &TABLES).expect(rt, "the schema");
-    same(
-        rt,
-        program,
-        has_run(rt, &scarce, &code, &schema, &rows, ends),
-        true,
-    );
+    let run = ends(&scarce, &code, &schema, &rows);
+    same(rt, program, run, Some(at_end));
     let growths = scarce.growths();
-    let failed = scarce.refuse_each(|| has_run(rt, &scarce, &code, &schema, &rows, ends));
-    same(rt, program, failed, Some(growths));
+    for growth in 1..=growths {
+        scarce.refuse_nth(growth);
+        let run = ends(&scarce, &code, &schema, &rows);
+        same(rt, program, (growth, run), (growth, None));
+    }
+    scarce.refuse_nth(growths.saturating_add(1));
+    let run = ends(&scarce, &code, &schema, &rows);
+    same(rt, program, run, Some(at_end));
 }
 
 #[test]

@@ -1,4 +1,3 @@
-use crate::tests::scripts::Input;
 use log_model::RequestId;
 use row_sets::Bytes;
 use scarce::Scarce;
@@ -7,6 +6,7 @@ use script_settings::FaultCause;
 use script_stops::Stop;
 use std::alloc::{Allocator, Global};
 use std::process::Abort;
+use test_streams::InterruptedInput;
 
 /// Settings and calls of both forms, with lines between them that say nothing.
 const SCRIPT: &[u8] = b"# two replicas\n\
@@ -60,7 +60,7 @@ fn is_read<A: Allocator + Copy>(script: &CallScript<A>) -> bool {
 
 /// Whether it is read whole by an input that shows so many bytes at a time.
 fn is_read_whole(alloc: Global, shown: usize) -> bool {
-    let mut input = Input::new(SCRIPT, shown, false);
+    let mut input = InterruptedInput::new(SCRIPT, shown, false);
     match read_script(alloc, &mut input) {
         Ok(script) => is_read(&script),
         Err(_) => false,
@@ -121,7 +121,7 @@ const NO_CALLS: [&str; 9] = [
 
 /// How the fault of a script is printed; empty where it has none.
 fn fault_of(rt: &impl Abort, alloc: Global, text: &str) -> String {
-    let mut input = Input::new(text.as_bytes(), 1000, false);
+    let mut input = InterruptedInput::new(text.as_bytes(), 1000, false);
     match read_script(alloc, &mut input) {
         Err(Stop::Fault(fault)) => fault.to_string(alloc).expect(rt, "memory"),
         _ => String::new(alloc),
@@ -155,7 +155,7 @@ fn faults_of_scripts_of_calls(rt: HostRuntime) {
 /// Whether the script is read; where it isn't, memory was wanting. None where another fault was told, or the script was
 /// read otherwise.
 fn is_read_by<A: Allocator + Copy>(alloc: A) -> Option<bool> {
-    let mut input = Input::new(SCRIPT, 1000, false);
+    let mut input = InterruptedInput::new(SCRIPT, 1000, false);
     match read_script(alloc, &mut input) {
         Ok(script) if is_read(&script) => Some(true),
         Err(Stop::Fault(fault)) if matches!(fault.cause, FaultCause::NoMemory) => Some(false),
@@ -184,7 +184,7 @@ fn a_script_of_calls_finds_no_memory(rt: HostRuntime) {
 }
 
 fn is_stopped_by_its_input(alloc: Global, shown: &[u8]) -> bool {
-    let mut input = Input::new(shown, 1000, true);
+    let mut input = InterruptedInput::new(shown, 1000, true);
     matches!(read_script(alloc, &mut input), Err(Stop::Input(_)))
 }
 

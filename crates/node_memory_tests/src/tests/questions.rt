@@ -1,0 +1,196 @@
+//! What is asked of two replicas that find no memory.
+
+use node_calls::Answer;
+use served_replicas::RebuildFault;
+use test_requests::{Heard, Question, Questioner};
+
+/// An addition at the first replica, of which no growth is refused.
+const TO_FIRST: Question = Question::Add {
+    second: false,
+    least: 0,
+    growth: 0,
+};
+
+/// One at the second, which is to have come as far as the first.
+const TO_SECOND: Question = Question::Add {
+    second: true,
+    least: 1,
+    growth: 0,
+};
+
+/// What is asked of both, the second of which finds no memory at first.
+static STOPPED: [(Question, Heard); 8] = [
+    (
+        TO_FIRST,
+        Heard::Answer(Answer::Committed {
+            position: 1,
+            reply: 10,
+        }),
+    ),
+    (TO_SECOND, Heard::Answer(Answer::Behind)),
+    (
+        Question::Rebuild { replica: 2 },
+        Heard::Rebuilt(Err(RebuildFault::NoMemory)),
+    ),
+    (
+        Question::Rebuild { replica: 3 },
+        Heard::Rebuilt(Err(RebuildFault::NoReplica)),
+    ),
+    (TO_SECOND, Heard::Answer(Answer::Behind)),
+    (Question::Allow, Heard::Allowed),
+    (Question::Rebuild { replica: 2 }, Heard::Rebuilt(Ok(1))),
+    (
+        TO_SECOND,
+        Heard::Answer(Answer::Committed {
+            position: 2,
+            reply: 20,
+        }),
+    ),
+];
+
+/// Where whoever refuses growths stands.
+#[derive(Clone, Copy, Debug, PartialEq, Eq)]
+enum Place {
+    /// A call is asked, of which a growth is refused.
+    Call,
+    /// The first replica has stopped before an entry, and is made anew.
+    Rebuilding { position: u32 },
+    /// The log's length is asked for.
+    Length,
+    /// Whether the call asked for that growth.
+    Refusals { length: u32 },
+    /// It didn't: one more call comes to this position.
+    LastCall { position: u32 },
+    End,
+}
+
+/// Refuses each growth of a call at the first replica in turn, until a call asks for no more. The log has what was
+/// answered as ordered, whatever was refused.
+#[derive(Clone, Copy, Debug, PartialEq, Eq)]
+pub(super) struct Refusals {
+    place: Place,
+    /// Which growth is refused.
+    growth: u64,
+    /// How many were refused.
+    refused: u64,
+    /// How many calls were answered as ordered.
+    ordered: u32,
+    /// How many weren't, for want of memory.
+    pub(super) wanting: u32,
+    /// How many were ordered, and not delivered at their replica.
+    pub(super) stopped: u32,
+    /// How many answers were lost.
+    lost: u32,
+}
+
+impl Refusals {
+    pub(super) const FIRST: Refusals = Refusals {
+        place: Place::Call,
+        growth: 1,
+        refused: 0,
+        ordered: 0,
+        wanting: 0,
+        stopped: 0,
+        lost: 0,
+    };
+
+    /// Counts a call of which a growth was refused: where that leads.
+    fn place_after(&mut self, heard: Heard) -> Place {
+        match heard {
+            Heard::Answer(Answer::Committed { .. }) => self.ordered = self.ordered.wrapping_add(1),
+            Heard::Answer(Answer::Stopped { position }) => {
+                self.ordered = self.ordered.wrapping_add(1);
+                self.stopped = self.stopped.wrapping_add(1);
+                return Place::Rebuilding { position };
+            }
+            Heard::Answer(Answer::NoMemory) => self.wanting = self.wanting.wrapping_add(1),
+            _ => self.lost = self.lost.wrapping_add(1),
+        }
+        Place::Length
+    }
+
+    /// Where it leads that so many growths were refused so far, beside a log of this length.
+    fn place_of(&mut self, refused: u64, length: u32) -> Place {
+        if refused == self.refused {
+            return Place::LastCall {
+                position: length.wrapping_add(1),
+            };
+        }
+        self.refused = refused;
+        self.growth = self.growth.wrapping_add(1);
+        Place::Call
+    }
+
+    fn next(&self) -> Option<Question> {
+        match self.place {
+            Place::Call => Some(Question::Add {
+                second: false,
+                least: 0,
+                growth: self.growth,
+            }),
+            Place::Rebuilding { .. } => Some(Question::Rebuild { replica: 1 }),
+            Place::Length => Some(Question::Length),
+            Place::Refusals { .. } => Some(Question::Refusals),
+            Place::LastCall { .. } => Some(TO_FIRST),
+            Place::End => None,
+        }
+    }
+
+    /// Whether this may be heard where it stands; then it goes on.
+    fn hear(&mut self, heard: Heard) -> bool {
+        match (self.place, heard) {
+            (Place::Call, Heard::OtherAnswer | Heard::NotAsked) => false,
+            (Place::Call, _) => {
+                self.place = self.place_after(heard);
+                true
+            }
+            (Place::Rebuilding { position }, _) => {
+                self.place = Place::Length;
+                heard == Heard::Rebuilt(Ok(position))
+            }
+            (Place::Length, Heard::Length(length)) => {
+                self.place = Place::Refusals { length };
+                self.ordered <= length && length <= self.ordered.wrapping_add(self.lost)
+            }
+            (Place::Refusals { length }, Heard::Refusals(refused)) => {
+                self.place = self.place_of(refused, length);
+                true
+            }
+            (Place::LastCall { position }, Heard::Answer(Answer::Committed { position: at, .. })) =>
+                {
+                    self.place = Place::End;
+                    at == position
+                }
+            _ => false,
+        }
+    }
+}
+
+/// What is tried at the two.
+#[derive(Clone, Copy, Debug, PartialEq, Eq)]
+pub(super) enum Case {
+    /// The second finds no memory, until it is made anew: how much of that was asked.
+    Stopped(usize),
+    /// Each growth is refused in turn, at the first.
+    Refused(Refusals),
+}
+
+impl Questioner for Case {
+    fn next(&self) -> Option<Question> {
+        match self {
+            Case::Stopped(index) => Some(STOPPED.get(*index)?.0),
+            Case::Refused(refusals) => refusals.next(),
+        }
+    }
+
+    fn hear(&mut self, heard: Heard) -> bool {
+        match self {
+            Case::Stopped(index) => {
+                let wanted = STOPPED.get(*index);
+                *index = index.wrapping_add(1);
+                matches!(wanted, Some((_, wanted)) if *wanted == heard)
+            }
+            Case::Refused(refusals) => refusals.hear(heard),
+        }
+    }
+}
