@@ -36,8 +36,6 @@ pub struct Certifier<A: Allocator + Copy = Global> {
     blocks: Vec<Block, A>,
     writes: Vec<WriteSet<A>, A>,
     requests: Requests<A>,
-    /// What the latest has taken the place of: what is kept next may have its memory.
-    replaced: Option<WriteSet<A>>,
 }
 
 impl<A: Allocator + Copy> Model for Certifier<A> {
@@ -83,7 +81,6 @@ impl<A: Allocator + Copy> Certifier<A> {
             blocks,
             writes,
             requests: IndexMap::new(alloc),
-            replaced: None,
         })
     }
 
@@ -147,8 +144,7 @@ impl<A: Allocator + Copy> Certifier<A> {
         if !is_none(entry.request) {
             self.requests.reserve(1)?;
         }
-        let others = self.replaced.take();
-        prepared_of(self.alloc, others, entry.request, &entry.writes)
+        prepared_of(self.alloc, entry.request, &entry.writes)
     }
 
     /// What will be kept of an addition: nothing.
@@ -160,7 +156,7 @@ impl<A: Allocator + Copy> Certifier<A> {
             session: 0,
             sequence: 0,
         };
-        prepared_of(self.alloc, None, none, &WriteSet::new(self.alloc))
+        prepared_of(self.alloc, none, &WriteSet::new(self.alloc))
     }
 
     /// Keeps an item of this verdict, which stands at the next position. Takes no memory.
@@ -180,7 +176,7 @@ impl<A: Allocator + Copy> Certifier<A> {
             writes,
         } = prepared;
         let before = self.count as usize;
-        let replaced = keep_in(
+        keep_in(
             &mut self.blocks,
             &mut self.writes,
             before,
@@ -188,7 +184,6 @@ impl<A: Allocator + Copy> Certifier<A> {
             &signature,
             writes,
         );
-        self.replaced = Some(replaced);
         keep_request(&mut self.requests, request, verdict, position);
         self.count = position;
     }

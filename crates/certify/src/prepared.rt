@@ -1,7 +1,7 @@
 //! What will be kept of a call.
 
 ghost use Rattle.std.specs.Prelude.{◌≡◌, IfOk, IsSome, ◌↔◌, ℕ};
-ghost use Rattle.std.specs.FinMap.{empty, get};
+ghost use Rattle.std.specs.FinMap.{get};
 ghost use Rattle.schema.specs.Rows.{Key};
 ghost use Rattle.certify.specs.Kept.{IsPreparedOf};
 
@@ -12,7 +12,7 @@ use sig_lanes::Sig;
 use std::alloc::{AllocError, Allocator, Global};
 use std::marker::Model;
 
-/// What will be kept of an item, in memory that is the certifier's. Contracts see its request, its signature and writes of its keys.
+/// What will be kept of an item, in memory of its own. Contracts see its request, its signature and writes of its keys.
 #[derive(Drop)]
 pub struct Prepared<A: Allocator + Copy = Global> {
     pub(crate) request: RequestId,
@@ -31,43 +31,23 @@ impl<A: Allocator + Copy> Model for Prepared<A> {
     ghost view = { λ p. record { request = p.request; signature = p.signature; writes = p.writes } };
 }
 
-/// No writes, with room for those of so many keys: in the memory of other writes, where these have as many.
-fn with_room<A: Allocator + Copy>(
-    alloc: A,
-    others: Option<WriteSet<A>>,
-    count: usize,
-) -> Result<WriteSet<A>, AllocError>
-    ensures { IfOk result (λ none. none ≡ empty) }
-{
-    if let Some(mut others) = others {
-        if others.len() == count {
-            others.clear();
-            return Ok(others);
-        }
-    }
-    WriteSet::with_room(alloc, count)
-}
-
-/// A removal of each written key: with looks it shares a key where the writes do. It may take the memory of other
-/// writes.
+/// A removal of each written key: with looks it shares a key where the writes do.
 fn removals<A: Allocator + Copy, B: Allocator + Copy>(
     alloc: A,
-    others: Option<WriteSet<A>>,
     writes: &WriteSet<B>,
 ) -> Result<WriteSet<A>, AllocError>
     ensures { IfOk result (λ copy. (k : Key) → IsSome (get copy k) ↔ IsSome (get writes.now k)) }
 {
-    let mut copy = with_room(alloc, others, writes.len())?;
+    let mut copy = WriteSet::with_room(alloc, writes.len())?;
     for (key, _) in writes.iter() {
         copy.remove(key.0, key.1)?;
     }
     Ok(copy)
 }
 
-/// What will be kept of a call that carried this request and wrote this. It may take the memory of other writes.
+/// What will be kept of a call that carried this request and wrote this.
 pub(crate) fn prepared_of<A: Allocator + Copy, B: Allocator + Copy>(
     alloc: A,
-    others: Option<WriteSet<A>>,
     request: RequestId,
     writes: &WriteSet<B>,
 ) -> Result<Prepared<A>, AllocError>
@@ -76,7 +56,7 @@ pub(crate) fn prepared_of<A: Allocator + Copy, B: Allocator + Copy>(
 {
     writes_share_a_key_with_looks();
     let signature = Sig::of_writes(writes);
-    let writes = removals(alloc, others, writes)?;
+    let writes = removals(alloc, writes)?;
     Ok(Prepared {
         request,
         signature,

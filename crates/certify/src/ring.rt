@@ -10,7 +10,6 @@ use log_model::Verdict;
 use row_sets::WriteSet;
 use sig_lanes::{Block, Sig};
 use std::alloc::{AllocError, Allocator};
-use std::mem;
 
 /// So many blocks of eight signatures without bits.
 pub fn empty_blocks<A: Allocator>(alloc: A, count: usize) -> Result<Vec<Block, A>, AllocError>
@@ -59,16 +58,12 @@ fn put_signature<A: Allocator>(
     }
 }
 
-/// Puts writes at a place, and returns those that were there.
-fn put_writes<A: Allocator + Copy>(
-    all: &mut Vec<WriteSet<A>, A>,
-    place: usize,
-    writes: WriteSet<A>,
-) -> WriteSet<A>
+/// Puts writes at a place.
+fn put_writes<A: Allocator + Copy>(all: &mut Vec<WriteSet<A>, A>, place: usize, writes: WriteSet<A>)
     requires { place < length all.old.items }
     ensures { all.new.items ≡ slice_set all.old.items place writes }
 {
-    mem::replace(&mut all[place], writes)
+    all[place] = writes;
 }
 
 pub(crate) fn is_commit(verdict: Verdict) -> bool
@@ -77,7 +72,7 @@ pub(crate) fn is_commit(verdict: Verdict) -> bool
     matches!(verdict, Verdict::Commit)
 }
 
-/// Keeps one call more, which has so many before it, and returns the writes whose place its own have taken.
+/// Keeps one call more, which has so many before it.
 pub fn keep_in<A: Allocator + Copy>(
     blocks: &mut Vec<Block, A>,
     kept: &mut Vec<WriteSet<A>, A>,
@@ -85,7 +80,7 @@ pub fn keep_in<A: Allocator + Copy>(
     verdict: Verdict,
     signature: &Sig,
     writes: WriteSet<A>,
-) -> WriteSet<A>
+)
     requires { HasPlaces (record { blocks = blocks.old.items; writes = kept.old.items }) }
     ensures blocks { length blocks.new.items ≡ length blocks.old.items }
     ensures writes { length kept.new.items ≡ length kept.old.items }
@@ -97,5 +92,5 @@ pub fn keep_in<A: Allocator + Copy>(
     let all: &[WriteSet<A>] = kept;
     let place = before % all.len();
     put_signature(blocks, place, is_commit(verdict), signature);
-    put_writes(kept, place, writes)
+    put_writes(kept, place, writes);
 }
