@@ -2,7 +2,7 @@
 
 ghost use Rattle.std.specs.Prelude.{◌≡◌, [], ◌∷◌, ◌++◌, OnOk, OnErr};
 
-use crate::room::take_first_room;
+use crate::room::take_room;
 use schema::Look;
 use std::alloc::{AllocError, Allocator, Global};
 use std::marker::Model;
@@ -53,7 +53,7 @@ impl<A: Allocator> ReadSet<A> {
         ensures added { OnOk result (self.new ≡ self.old ++ look ∷ []) }
         ensures unchanged { OnErr result (self.new ≡ self.old) }
     {
-        take_first_room(&mut self.looks)?;
+        take_room(&mut self.looks)?;
         self.looks.push(look)?;
         Ok(())
     }

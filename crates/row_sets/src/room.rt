@@ -1,15 +1,16 @@
-//! Room for what most calls need.
+//! Room for few.
 
 ghost use Rattle.std.specs.Prelude.{◌≡◌};
 
 use std::alloc::{AllocError, Allocator};
 
-/// Where there is no room yet, room for two: most calls look at no more keys, and write no more.
-pub(crate) fn take_first_room<T, A: Allocator>(items: &mut Vec<T, A>) -> Result<(), AllocError>
+/// Where there is no room left, room for one item, and then twice as much each time: what is kept of a call that looks
+/// at one key and writes it takes no more than that.
+pub(crate) fn take_room<T, A: Allocator>(items: &mut Vec<T, A>) -> Result<(), AllocError>
     ensures { items.new.items ≡ items.old.items }
 {
-    if items.capacity() == 0 {
-        items.reserve_exact(2)?;
+    if items.len() == items.capacity() {
+        items.reserve_exact(items.len().max(1))?;
     }
     Ok(())
 }

@@ -8,7 +8,7 @@ ghost use Rattle.std.specs.declared.cmp.Ordering.TheVariants.{Less, Equal, Great
 ghost use Rattle.std.specs.FinMap.{find, put, is_sorted};
 ghost use Rattle.schema.specs.Rows.{covers, key_cmp};
 
-use crate::room::take_first_room;
+use crate::room::take_room;
 use crate::row::Bytes;
 use schema::Look;
 use std::alloc::{AllocError, Allocator};
@@ -51,10 +51,12 @@ pub(crate) fn put<A: Allocator>(
     ensures done { OnOk result (writes.new.items ≡ put key_cmp key write writes.old.items) }
     ensures unchanged { OnErr result (writes.new.items ≡ writes.old.items) }
 {
-    take_first_room(writes)?;
     match search(writes, key) {
         Ok(at) => writes[at] = (key, write),
-        Err(at) => writes.insert(at, (key, write))?,
+        Err(at) => {
+            take_room(writes)?;
+            writes.insert(at, (key, write))?;
+        }
     }
     Ok(())
 }
