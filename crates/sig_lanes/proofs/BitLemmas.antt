@@ -43,13 +43,13 @@ any_last p lo (suc n) =
 pub gathered : {X : Type 0} → (p : X → Bool) (xs : List X) (i : ℕ) (d : X) (w v t : Bool) → i < length xs → w ≡ (v || p (get_or xs i d)) → (v || list_any p (drop i xs)) ≡ t → (w || list_any p (drop (i + 1) xs)) ≡ t
 gathered p xs i d w v t lt e f = moved w v (p (get_or xs i d)) _ t e (ap (λ (x : Bool). v || x) (sym (any_more p xs i d lt)) ∙ f)
 
-decide : (m n : ℕ) → (m ≡ n) ⊎ (nat_eq m n ≡ false)
+pub decide : (m n : ℕ) → (m ≡ n) ⊎ (nat_eq m n ≡ false)
 decide m n = elim (nat_eq m n) as (λ b. nat_eq m n ≡ b → (m ≡ n) ⊎ (nat_eq m n ≡ false)) [ true ↦ λ e. inl (grind (arith, nat_tests)) | false ↦ λ e. inr e ] refl
 
 equal : (m n : ℕ) → m ≡ n → nat_eq m n ≡ true
 equal m n e = grind (arith, nat_tests)
 
-unlike : (m n : ℕ) → nat_eq m n ≡ false → m ≢ n
+pub unlike : (m n : ℕ) → nat_eq m n ≡ false → m ≢ n
 unlike m n f e = ne (sym (equal m n e) ∙ f)
   where
     ne : true ≡ false → ⊥

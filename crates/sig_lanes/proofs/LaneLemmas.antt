@@ -8,7 +8,7 @@ use Rattle.std.proofs.lemmas.List.{get_or-map, length-map, ext_get_or, get_or_ap
 use Rattle.std.proofs.lemmas.Nat.Bits.{bit_at-zero, bit_at-lt, bit_at_and, bit_at_or, bit_at-trailing_zeros}
 use Rattle.std.proofs.lemmas.Simd.{bitmask_splat, bit_mask_l, mask_l-lt, get_or-zip2, length-zip2}
 use lib.Lanes.{zip2, mask_l, top}
-use Rattle.sig_lanes.specs.Bits.{Meet, signature_at, SharePlace}
+use Rattle.sig_lanes.specs.Bits.{IsSubset, Meet, signature_at, SharePlace}
 use Rattle.sig_lanes.proofs.BitLemmas.{last_or_before, meet_some, has_bit_at}
 
 abbrev some : ℕ → Bool
@@ -34,7 +34,7 @@ some_is x ne = grind (arith, nat_tests)
 is_some : (x : ℕ) → ◌≡◌ {A = ℕ} (cond (some x) 1 0) 1 → 0 < x
 is_some x e = grind (arith, nat_tests)
 
-zero_has_none : (n k : ℕ) → n ≡ 0 → bit_at n k ≡ 1 → ⊥
+pub zero_has_none : (n k : ℕ) → n ≡ 0 → bit_at n k ≡ 1 → ⊥
 zero_has_none n k none e = absurd (let z = sym (bit_at-zero k) ∙ sym (ap (λ (x : ℕ). bit_at x k) none) ∙ e in omega arith)
 
 pub mask_bit : (xs : List ℕ) (j : ℕ) → j < length xs → get_or xs j 0 < 2 ^ 64
@@ -67,7 +67,7 @@ max_is_one m n a b = (λ e. from e, λ s. elim s [ inl x ↦ omega arith | inr y
 min_is_one : (m n : ℕ) → m < 2 → n < 2 → (min m n ≡ 1) ↔ ((m ≡ 1) × (n ≡ 1))
 min_is_one m n a b = (λ e. (omega arith, omega arith), λ p. omega arith)
 
-or_bit : (a b k : ℕ) → (bit_at (bit_or a b) k ≡ 1) ↔ ((bit_at a k ≡ 1) ⊎ (bit_at b k ≡ 1))
+pub or_bit : (a b k : ℕ) → (bit_at (bit_or a b) k ≡ 1) ↔ ((bit_at a k ≡ 1) ⊎ (bit_at b k ≡ 1))
 or_bit a b k =
     let r = max_is_one (bit_at a k) (bit_at b k) (bit_at-lt a k) (bit_at-lt b k) in
     (λ e. r.0 (sym (bit_at_or a b k) ∙ e), λ s. bit_at_or a b k ∙ r.1 s)
@@ -77,7 +77,7 @@ and_bit a b k =
     let r = min_is_one (bit_at a k) (bit_at b k) (bit_at-lt a k) (bit_at-lt b k) in
     (λ e. r.0 (sym (bit_at_and a b k) ∙ e), λ s. bit_at_and a b k ∙ r.1 s)
 
-at_word : (v w k : ℕ) → v ≡ w → bit_at v k ≡ 1 → bit_at w k ≡ 1
+pub at_word : (v w k : ℕ) → v ≡ w → bit_at v k ≡ 1 → bit_at w k ≡ 1
 at_word v w k e h = ap (λ (x : ℕ). bit_at x k) (sym e) ∙ h
 
 -- ---- a place that two signatures share
@@ -99,6 +99,12 @@ pub place_from_meet : (a b : List ℕ) → Meet a b → (k : ℕ) × (k < 64) ×
 place_from_meet a b m =
     let lt = m.1 in
     (m.0 % 64, omega arith, (m.0 / 64, omega arith, has_bit_at a m.0 m.2, has_bit_at b m.0 m.3))
+
+-- what meets bits meets all that they are within
+pub meet_within : (a b c : List ℕ) → IsSubset a b → Meet a c → Meet b c
+meet_within a b c within m =
+    let p = place_from_meet a c m in
+    meet_from_place b c p.0 p.1 (p.2.0, p.2.1, within p.2.0 p.0 p.2.1 p.2.2, p.2.3)
 
 -- the bits shared in one word more
 pub share_more : (a b : List ℕ) (n k new old : ℕ) → new ≡ bit_or old (both a b n)

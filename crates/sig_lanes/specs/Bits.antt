@@ -17,3 +17,7 @@ signature_at block j = map (λ vector. slice_index_or vector j 0) block
 -- one of the first n words has bit k in both
 abbrev pub SharePlace : List ℕ → List ℕ → ℕ → ℕ → Type 0
 SharePlace a b n k = (i : ℕ) × (i < n) × (bit_at (slice_index_or a i 0) k ≡ 1) × (bit_at (slice_index_or b i 0) k ≡ 1)
+
+-- each bit of the first 16 words of a is one of b
+abbrev pub IsSubset : List ℕ → List ℕ → Type 0
+IsSubset a b = (i k : ℕ) → i < 16 → bit_at (slice_index_or a i 0) k ≡ 1 → bit_at (slice_index_or b i 0) k ≡ 1

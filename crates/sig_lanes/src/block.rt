@@ -2,10 +2,11 @@
 
 ghost use Rattle.std.specs.Prelude.{◌≡◌, ◌≢◌, ◌<◌, ◌↔◌, ℕ, List, bit_and, bit_or, false, slice_index_or};
 ghost use Rattle.std.specs.Int.{bit_at};
-ghost use Rattle.sig_lanes.specs.Bits.{has_bit, Meet, signature_at, SharePlace};
+ghost use Rattle.sig_lanes.specs.Bits.{has_bit, IsSubset, Meet, signature_at, SharePlace};
 
 use crate::Sig;
 use crate::lanes::{lanes_with_bits, or_shared};
+use crate::sig::words_meet;
 use std::marker::Model;
 use std::simd::prelude::*;
 
@@ -14,14 +15,19 @@ use std::simd::prelude::*;
 #[derive(Drop)]
 pub struct Block {
     words: [[u64; 8]; 16],
+    /// The bits of all eight, and of some that stood there before: what meets none of these meets none of the eight.
+    superset: [u64; 16],
 }
 
 impl Model for Block {
-    ghost use Rattle.std.specs.Prelude.{ℕ, List};
+    ghost use Rattle.std.specs.Prelude.{ℕ, List, ◌<◌};
+    ghost use Rattle.sig_lanes.specs.Bits.{IsSubset, signature_at};
 
     ghost Value = { List (List ℕ) };
 
     ghost view = { λ b. b.words };
+
+    ghost invariant = { λ b. (j : ℕ) → j < 8 → IsSubset (signature_at b.words j) b.superset };
 }
 
 /// Replaces the word of one signature.
@@ -43,6 +49,38 @@ fn put_signature(block: &mut [[u64; 8]; 16], lane: usize, signature: &Sig)
     for index in 0..16 {
         put_word(&mut block[index], lane, source[index]);
     }
+}
+
+/// Adds the bits of other words to those of 16.
+fn add_words(words: &mut [u64; 16], more: &[u64; 16])
+    ensures { (i : ℕ) → i < 16 → slice_index_or words.new i 0
+        ≡ bit_or (slice_index_or words.old i 0) (slice_index_or more.now i 0) }
+{
+    for index in 0..16 {
+        words[index] |= more[index];
+    }
+}
+
+/// The bits of eight words.
+fn bits_of_lanes(lanes: &[u64; 8]) -> u64
+    ensures { (j k : ℕ) → j < 8 → bit_at (slice_index_or lanes.now j 0) k ≡ 1 → bit_at result k ≡ 1 }
+{
+    let mut bits = 0;
+    for lane in 0..8 {
+        bits |= lanes[lane];
+    }
+    bits
+}
+
+/// The bits of eight signatures.
+fn bits_of_block(block: &[[u64; 8]; 16]) -> [u64; 16]
+    ensures { (j : ℕ) → j < 8 → IsSubset (signature_at block.now j) result }
+{
+    let mut bits = [0; 16];
+    for index in 0..16 {
+        bits[index] = bits_of_lanes(&block[index]);
+    }
+    bits
 }
 
 /// The bits so far, with those that each lane shares with a word. Lanes that are held against 0 aren't read: most words
@@ -79,6 +117,7 @@ impl Block {
     {
         Block {
             words: [[0; 8]; 16],
+            superset: [0; 16],
         }
     }
 
@@ -89,6 +128,12 @@ impl Block {
         ensures others { (other : ℕ) → other ≢ lane → signature_at self.new other ≡ signature_at self.old other }
     {
         put_signature(&mut self.words, lane, signature);
+        // Bits of signatures that went are let go with the last lane: who fills lanes in turn keeps few of them.
+        if lane == 7 {
+            self.superset = bits_of_block(&self.words);
+        } else {
+            add_words(&mut self.superset, &signature.words());
+        }
     }
 
     /// Leaves no bits in a lane.
@@ -97,7 +142,7 @@ impl Block {
         ensures none { (bit : ℕ) → has_bit (signature_at self.new lane) bit ≡ false }
         ensures others { (other : ℕ) → other ≢ lane → signature_at self.new other ≡ signature_at self.old other }
     {
-        put_signature(&mut self.words, lane, &Sig::empty());
+        self.set(lane, &Sig::empty());
     }
 
     /// Which of the eight share a bit with a signature: bit j is set where signature j does.
@@ -105,6 +150,9 @@ impl Block {
     pub fn meets(&self, signature: &Sig) -> u8
         ensures { (j : ℕ) → j < 8 → ((bit_at result j ≡ 1) ↔ Meet (signature_at self.now j) signature.now) }
     {
+        if !words_meet(&self.superset, &signature.words()) {
+            return 0;
+        }
         lanes_with_bits(shared_bits(&self.words, signature))
     }
 }

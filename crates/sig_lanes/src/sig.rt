@@ -54,6 +54,16 @@ fn halves(words: &[u64; 16]) -> (u64x8, u64x8)
     (low, high)
 }
 
+/// Whether two sets of bits have one in common.
+#[inline(always)]
+pub(crate) fn words_meet(words: &[u64; 16], others: &[u64; 16]) -> bool
+    ensures { IsTrue result ↔ Meet words.now others.now }
+{
+    let (low, high) = halves(words);
+    let (other_low, other_high) = halves(others);
+    halves_meet(low, high, other_low, other_high)
+}
+
 impl Sig {
     /// No bits.
     pub fn empty() -> Sig
@@ -132,9 +142,7 @@ impl Sig {
     pub fn meets(&self, other: &Sig) -> bool
         ensures { IsTrue result ↔ Meet self.now other.now }
     {
-        let (low, high) = halves(&self.words);
-        let (other_low, other_high) = halves(&other.words);
-        halves_meet(low, high, other_low, other_high)
+        words_meet(&self.words, &other.words)
     }
 }
 
