@@ -4,14 +4,17 @@ ghost use Rattle.std.specs.Prelude.{◌≡◌, ◌==◌, ◌++◌, [], ◌∷◌
 ghost use Rattle.std.specs.Option.{option_copied};
 ghost use Rattle.row_chain.specs.Version.{row_up_to, needed_versions, HasRoom};
 ghost use Rattle.row_chain.specs.Lone.{versions_of_lone, IsFit};
+ghost use Rattle.row_chain.specs.Pair.{versions_of_pair, IsPair};
+ghost use Rattle.row_chain.specs.Layout.{chain_of, IsLaidOut};
 
 use crate::lone::{Lone, NARROW_WIDTH};
+use crate::pair::Pair;
 use crate::run::Run;
 use std::alloc::{AllocError, Allocator, Global};
 use std::marker::Model;
 
 /// The versions of one key's row, oldest first; each row has the same width. The only version of a narrow row lies
-/// inside, and takes no memory of its own; others lie in a run.
+/// inside, and takes no memory of its own; two of them lie in a pair, and others in a run.
 #[derive(Drop)]
 pub struct Chain<A: Allocator = Global> {
     layout: Layout<A>,
@@ -22,8 +25,10 @@ pub struct Chain<A: Allocator = Global> {
 enum Layout<A: Allocator> {
     /// The only one, or none yet.
     Inside(Lone),
+    /// Two, or one and room for another.
+    Two(Box<Pair, A>),
     /// Any number.
-    Outside(Box<Run<A>, A>),
+    Many(Box<Run<A>, A>),
 }
 
 impl<A: Allocator> Model for Chain<A> {
@@ -55,7 +60,8 @@ impl<A: Allocator> Chain<A> {
     {
         match &self.layout {
             Layout::Inside(lone) => !lone.is_written(),
-            Layout::Outside(run) => run.is_empty(),
+            Layout::Two(_) => false,
+            Layout::Many(run) => run.is_empty(),
         }
     }
 
@@ -65,24 +71,61 @@ impl<A: Allocator> Chain<A> {
     {
         match &self.layout {
             Layout::Inside(lone) => lone.at(position),
-            Layout::Outside(run) => run.at(position),
+            Layout::Two(pair) => pair.at(position),
+            Layout::Many(run) => run.at(position),
         }
     }
 }
 
-/// A run of the only version, with room for one more.
-fn run_of<A: Allocator + Copy>(alloc: A, lone: &Lone) -> Result<Run<A>, AllocError>
+/// What lies inside, in memory of its own, with room for one more: a version in a pair, none yet of a wide row in a run.
+fn outside<A: Allocator + Copy>(alloc: A, lone: &Lone) -> Result<Layout<A>, AllocError>
     requires { IsFit lone.now }
-    ensures versions { IfOk result (λ r. r.versions ≡ versions_of_lone lone.now) }
-    ensures width { IfOk result (λ r. r.width ≡ lone.now.width) }
+    ensures versions { IfOk result (λ l. (chain_of l).versions ≡ versions_of_lone lone.now) }
+    ensures width { IfOk result (λ l. (chain_of l).width ≡ lone.now.width) }
+    ensures room { IfOk result (λ l. HasRoom (chain_of l)) }
+    ensures laid_out { IfOk result IsLaidOut }
+{
+    if lone.is_written() {
+        return Ok(Layout::Two(Box::new(alloc, Pair::of(*lone))?));
+    }
+    Ok(Layout::Many(Box::new(alloc, first_run(alloc, lone.width)?)?))
+}
+
+/// A run of no version, with room for one.
+fn first_run<A: Allocator + Copy>(alloc: A, width: u16) -> Result<Run<A>, AllocError>
+    ensures versions { IfOk result (λ r. r.versions ≡ []) }
+    ensures width { IfOk result (λ r. r.width ≡ width) }
     ensures room { IfOk result (λ r. HasRoom r) }
 {
-    let count = if lone.is_written() { 2 } else { 1 };
-    let mut run = Run::new(alloc, lone.width, count)?;
+    let mut run = Run::new(alloc, width, 1)?;
+    run.reserve()?;
+    Ok(run)
+}
+
+/// Adds the version of a narrow row, where there is one.
+fn push_lone<A: Allocator + Copy>(run: &mut Run<A>, lone: &Lone) -> Result<(), AllocError>
+    requires fit { IsFit lone.now }
+    requires width { lone.now.width ≡ run.old.width }
+    ensures versions { OnOk result (run.new.versions ≡ run.old.versions ++ versions_of_lone lone.now) }
+    ensures width { run.new.width ≡ run.old.width }
+{
     if let Some(position) = lone.position() {
         run.reserve()?;
         run.push(position, lone.at(u32::MAX));
     }
+    Ok(())
+}
+
+/// A run of the versions of a pair, with room for one more.
+fn run_of<A: Allocator + Copy>(alloc: A, pair: &Pair) -> Result<Run<A>, AllocError>
+    requires { IsPair pair.now }
+    ensures versions { IfOk result (λ r. r.versions ≡ versions_of_pair pair.now) }
+    ensures width { IfOk result (λ r. r.width ≡ pair.now.first.width) }
+    ensures room { IfOk result (λ r. HasRoom r) }
+{
+    let mut run = Run::new(alloc, pair.first.width, 3)?;
+    push_lone(&mut run, &pair.first)?;
+    push_lone(&mut run, &pair.second)?;
     run.reserve()?;
     Ok(run)
 }
@@ -95,17 +138,26 @@ impl<A: Allocator + Copy> Chain<A> {
         ensures room { OnOk result (HasRoom self.new) }
         ensures more { HasRoom self.old → HasRoom self.new }
     {
-        match &mut self.layout {
+        match &self.layout {
             Layout::Inside(lone) => {
-                if lone.has_place() {
-                    return Ok(());
+                if !lone.has_place() {
+                    self.layout = outside(alloc, lone)?;
                 }
-                let run = run_of(alloc, lone)?;
-                self.layout = Layout::Outside(Box::new(alloc, run)?);
-                Ok(())
+                return Ok(());
             }
-            Layout::Outside(run) => run.reserve(),
+            Layout::Two(pair) => {
+                if !pair.second.has_place() {
+                    let run = run_of(alloc, pair)?;
+                    self.layout = Layout::Many(Box::new(alloc, run)?);
+                }
+                return Ok(());
+            }
+            Layout::Many(_) => {}
         }
+        if let Layout::Many(run) = &mut self.layout {
+            run.reserve()?;
+        }
+        Ok(())
     }
 }
 
@@ -120,7 +172,8 @@ impl<A: Allocator> Chain<A> {
     {
         match &mut self.layout {
             Layout::Inside(lone) => *lone = Lone::of(lone.width, position, row),
-            Layout::Outside(run) => run.push(position, row),
+            Layout::Two(pair) => pair.push(position, row),
+            Layout::Many(run) => run.push(position, row),
         }
     }
 
@@ -129,12 +182,22 @@ impl<A: Allocator> Chain<A> {
         ensures versions { self.new.versions ≡ needed_versions horizon self.old.versions }
         ensures width { self.new.width ≡ self.old.width }
     {
-        match &mut self.layout {
-            Layout::Inside(lone) => *lone = lone.pruned(horizon),
-            Layout::Outside(run) => {
-                if let Some(lone) = run.prune_to(horizon) {
+        match &self.layout {
+            Layout::Inside(lone) => {
+                self.layout = Layout::Inside(lone.pruned(horizon));
+                return;
+            }
+            Layout::Two(pair) => {
+                if let Some(lone) = pair.pruned(horizon) {
                     self.layout = Layout::Inside(lone);
                 }
+                return;
+            }
+            Layout::Many(_) => {}
+        }
+        if let Layout::Many(run) = &mut self.layout {
+            if let Some(lone) = run.prune_to(horizon) {
+                self.layout = Layout::Inside(lone);
             }
         }
     }

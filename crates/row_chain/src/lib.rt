@@ -7,5 +7,6 @@ pub use laws::{one_more_version, pruned_versions_answer_alike};
 mod chain;
 mod laws;
 mod lone;
+mod pair;
 mod run;
 mod vectors;
