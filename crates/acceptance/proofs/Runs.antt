@@ -7,7 +7,7 @@ use Rattle.std.proofs.lemmas.Bool.Decides.{nat_tests}
 use Rattle.std.proofs.lemmas.Int.{ints}
 use Rattle.bpf_code.specs.declared.instruction.Instruction.{Instruction}
 use Rattle.bpf_code.specs.Program.{Program, IsProgram, instruction_at, distance_of, Lands}
-use Rattle.bpf_code.proofs.ProgramLemmas.{range_at}
+use Rattle.bpf_code.proofs.RangeLemmas.{range_at}
 use Rattle.schema.specs.Schema.{Tables, AreTables}
 use Rattle.schema.specs.Rows.{Rows, AreRows}
 use Rattle.bpf_semantics.specs.State.{State, entry_state}

@@ -1,10 +1,3 @@
 pub mod Register
 pub mod Sizes
-pub mod Opcode
-pub mod Fields
-pub mod Fault
-pub mod Reading
-pub mod Spelling
 pub mod Program
-pub mod Decoding
-pub mod Steps

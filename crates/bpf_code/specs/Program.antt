@@ -1,12 +1,10 @@
--- A program as a list of slots, its bytes, and what makes it one.
+-- A program as a list of slots, and what makes it one.
 use Rattle.std.specs.Prelude.{◌≡◌, ℕ, ℤ, pos, negsuc, ◌+◌, ◌-◌, ◌^◌, ◌<◌, ◌≤◌, FitsSigned, Bool, true, false, List, [], ◌∷◌, length, slice_get, Option, Some, None, IsSome}
-use Rattle.std.specs.List.{flat_map}
 use Rattle.std.specs.Int.{w16, w32}
 use Rattle.std.specs.Option.{option_and_then}
 use Rattle.bpf_code.specs.declared.instruction.Instruction.{Instruction}
 use Rattle.bpf_code.specs.declared.instruction.Instruction.TheVariants.{LoadWide, Load, StoreImmediate, StoreRegister, Arithmetic, Jump, LongJump, Branch, Call, Exit}
 use Rattle.bpf_code.specs.declared.instruction.Source.TheVariants.{Immediate, Register}
-use Rattle.bpf_code.specs.Spelling.{instruction_bytes}
 
 -- the most slots that a program has
 abbrev pub max_slots : ℕ
@@ -15,18 +13,6 @@ max_slots = 4096
 -- each slot is an instruction's first, or the second half of the wide load before it
 abbrev pub Program : Type 0
 Program = List (Option Instruction)
-
--- ---- its bytes
-
-abbrev pub spelling_at : Option Instruction → List ℕ
-spelling_at None = []
-spelling_at (Some i) = instruction_bytes i
-
--- the bytes of the instructions, one after another
-abbrev pub spelling : Program → List ℕ
-spelling p = flat_map spelling_at p
-
--- ---- what makes it a program
 
 abbrev pub instruction_at : Program → ℕ → Option Instruction
 instruction_at p slot = option_and_then (λ i. i) (slice_get p slot)

@@ -1,5 +1,5 @@
-ghost use Rattle.std.specs.Prelude.{◌≡◌, ◌*◌, length, IfSome};
-ghost use Rattle.bpf_code.specs.Program.{instruction_at, IsInRange, IsProgram, spelling};
+ghost use Rattle.std.specs.Prelude.{◌≡◌, length, IfSome};
+ghost use Rattle.bpf_code.specs.Program.{instruction_at, IsInRange, IsProgram};
 
 use crate::instruction::Instruction;
 use std::alloc::{Allocator, Global};
@@ -8,7 +8,7 @@ use std::marker::Model;
 /// The most slots that a program has.
 pub const MAX_SLOTS: usize = 4096;
 
-/// A program that was decoded. Contracts see its slots, each an instruction or the second half of
+/// A program. Contracts see its slots, each an instruction or the second half of
 /// the wide load before it.
 #[derive(Drop)]
 pub struct Code<A: Allocator = Global> {
@@ -26,7 +26,8 @@ impl<A: Allocator> Model for Code<A> {
 }
 
 impl<A: Allocator> Code<A> {
-    pub(crate) fn new(slots: Vec<Option<Instruction>, A>) -> Code<A>
+    /// The program of its slots.
+    pub fn new(slots: Vec<Option<Instruction>, A>) -> Code<A>
         requires { IsProgram slots.items }
         ensures { result ≡ slots.items }
     {
@@ -43,7 +44,6 @@ impl<A: Allocator> Code<A> {
     /// How many slots of eight bytes the program has, 1 to 4,096.
     pub fn slots(&self) -> usize
         ensures count { result ≡ length self.now }
-        ensures bytes { length (spelling self.now) ≡ 8 * length self.now }
         // What is known of every program.
         ensures program { IsProgram self.now }
     {

@@ -4,10 +4,11 @@ ghost use Rattle.hex.specs.Hex.{encode_lower};
 ghost use Rattle.arrayvec.specs.ArrayVec.{array_vec_len};
 ghost use Rattle.byte_output.specs.declared.line.TheConstants.{LINE_BYTES};
 ghost use Rattle.bpf_list.specs.Listing.{name_parts, name_text, slot_hex, immediate_text, line as line_of};
-ghost use Rattle.bpf_code.specs.Spelling.{fields_of, second_slot};
+ghost use Rattle.bpf_fields.specs.Spelling.{fields_of, second_slot};
 
 use crate::name::name;
 use bpf_code::Instruction;
+use bpf_fields::Fields;
 use byte_output::line::{LineBuffer, push, push_column, push_signed, push_unsigned};
 use itoa::Buffer;
 
@@ -41,8 +42,8 @@ fn push_bytes(line: &mut LineBuffer, instruction: Instruction)
         ++ (slot_hex (Some (fields_of instruction)) ++ slot_hex (second_slot instruction)) }
     ensures len { array_vec_len line.new ≤ array_vec_len line.old + 32 }
 {
-    push_hex(line, &instruction.fields().to_bytes());
-    if let Some(half) = instruction.second_slot() {
+    push_hex(line, &Fields::of(instruction).to_bytes());
+    if let Some(half) = Fields::of_second_slot(instruction) {
         push_hex(line, &half.to_bytes());
     }
 }
@@ -54,7 +55,7 @@ fn push_immediate(line: &mut LineBuffer, instruction: Instruction)
 {
     match instruction {
         Instruction::LoadWide { value, .. } => push_unsigned(line, " imm ", value),
-        _ => push_signed(line, " imm ", instruction.fields().immediate),
+        _ => push_signed(line, " imm ", Fields::of(instruction).immediate),
     }
 }
 
@@ -64,7 +65,7 @@ pub fn line(slot: usize, instruction: Instruction) -> LineBuffer
     requires { slot < 10000 }
     ensures { result.items ≡ line_of slot instruction }
 {
-    let fields = instruction.fields();
+    let fields = Fields::of(instruction);
     let mut line = LineBuffer::new();
     push_column(&mut line, 4, slot as u64);
     push(&mut line, b" ");

@@ -25,7 +25,7 @@ use Rattle.bpf_code.specs.Sizes.{size_bytes, load_bytes, width_bits, extension_w
 use Rattle.bpf_code.specs.Program.{Program, instruction_at, IsInRange, AllInRange}
 use Rattle.std.proofs.lemmas.Int.{ints}
 use Rattle.std.specs.Int.{w64, cast_unsigned}
-use Rattle.bpf_code.proofs.ProgramLemmas.{range_at}
+use Rattle.bpf_code.proofs.RangeLemmas.{range_at}
 use Rattle.schema.specs.Schema.{Tables}
 use Rattle.schema.specs.declared.look.Look.{Look}
 use Rattle.schema.specs.Rows.{Key, Rows, Writes, IsKey, IsRow, IsWrite, AreRows, AreWrites, row_at, first_in, after_write, with_write, after_writes, key_cmp, key_cmp_total}

@@ -1,6 +1,6 @@
 //! Why a program isn't added.
 use abs_cause::Cause;
-use bpf_code::DecodeFault;
+use bpf_bytes::DecodeFault;
 
 /// What is wrong with a program that was to be added.
 #[derive(Clone, Copy, Debug, PartialEq, Eq)]

@@ -5,7 +5,7 @@
 ghost use Rattle.std.specs.Prelude.{◌≡◌};
 ghost use Rattle.tallies.specs.Shared.{names_by_place};
 
-use bpf_code::decode;
+use bpf_bytes::decode;
 use bpf_verify::verify;
 use catalogue::Catalogue;
 use node::{Desk, Node};

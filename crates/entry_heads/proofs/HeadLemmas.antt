@@ -5,7 +5,7 @@ use Rattle.std.proofs.lemmas.List.{append_assoc, append-nil, length-append}
 use Rattle.std.proofs.Math.Seq.{drop-append-add, take-append_seam}
 use Rattle.byteorder.specs.Endian.{little_bytes, little_number}
 use Rattle.byteorder.specs.Numbers.{length-bytes_low_first, little_number-reads_back}
-use Rattle.bpf_code.specs.Program.{spelling}
+use Rattle.bpf_fields.specs.Spelling.{spelling}
 use Rattle.log_model.specs.declared.request.RequestId.{RequestId}
 use Rattle.log_model.specs.Log.{Call, StoredProcedure}
 use Rattle.log_model.specs.Entries.{ExecutedCall, CallEntry, AdditionEntry}

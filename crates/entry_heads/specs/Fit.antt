@@ -1,6 +1,6 @@
 -- Entries whose numbers and lengths fit their fields.
 use Rattle.std.specs.Prelude.{◌≡◌, ℕ, ◌<◌, ◌^◌, true, length}
-use Rattle.bpf_code.specs.Program.{spelling}
+use Rattle.bpf_fields.specs.Spelling.{spelling}
 use Rattle.log_model.specs.Log.{StoredProcedure}
 use Rattle.log_model.specs.Entries.{ExecutedCall}
 use Rattle.entry_heads.specs.Head.{NamedProcedure, is_whole}

@@ -1,4 +1,4 @@
-use bpf_code::decode;
+use bpf_bytes::decode;
 use bpf_verify::{Accepted, verify};
 use inputs::{Call, random_call};
 use outcome::{line_of_call, line_of_completed, line_of_run};

@@ -1,5 +1,5 @@
 use crate::{AddedProcedure, Entry, ExecutedCall, to_bytes};
-use bpf_code::decode;
+use bpf_bytes::decode;
 use bpf_verify::verify;
 use log_model::RequestId;
 use row_sets::{Bytes, ReadSet, WriteSet};

@@ -4,7 +4,7 @@
 #![tactic(auto)]
 
 use anyhow::Context;
-use bpf_code::decode;
+use bpf_bytes::decode;
 use bpf_verify::{Accepted, verify};
 use plain_rows::Row;
 use plain_site::{complete_call, run_call};

@@ -9,7 +9,8 @@ ghost use Rattle.program_checks.specs.Check.{check_of};
 ghost use Rattle.program_checks.specs.Fault.{IsFaultOf, IsRefusedFor};
 
 use crate::laws::programs_pass_where_they_are_accepted;
-use bpf_code::{Code, DecodeCause, decode};
+use bpf_bytes::{DecodeCause, decode};
+use bpf_code::Code;
 use bpf_verify::{Accepted, Refusal, verify};
 use call_model::ProgramFault;
 use or_no_memory::OrNoMemory;

@@ -1,9 +1,9 @@
 //! What the check of a program means.
 
 ghost use Rattle.std.specs.Prelude.{◌≡◌, ◌↔◌, ℕ, List, Ok, Err};
-ghost use Rattle.bpf_code.specs.declared.fault.DecodeFault.{DecodeFault};
+ghost use Rattle.bpf_bytes.specs.declared.fault.DecodeFault.{DecodeFault};
 ghost use Rattle.bpf_code.specs.Program.{Program};
-ghost use Rattle.bpf_code.specs.Decoding.{program_of};
+ghost use Rattle.bpf_bytes.specs.Decoding.{program_of};
 ghost use Rattle.schema.specs.Schema.{Tables};
 ghost use Rattle.bpf_verify.specs.Refusal.{Cause};
 ghost use Rattle.bpf_verify.specs.Flow.{IsAccepted, IsRefused};

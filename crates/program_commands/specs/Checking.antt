@@ -3,7 +3,7 @@ use Rattle.std.specs.Prelude.{◌≡◌, ℕ, List, ◌++◌, codes, length, Res
 use Rattle.std.specs.Fmt.{decimal}
 use Rattle.schema.specs.declared.fault.SchemaFault.{SchemaFault}
 use Rattle.schema.specs.Schema.{Tables, fault_text}
-use Rattle.bpf_code.specs.declared.fault.DecodeFault.{DecodeFault}
+use Rattle.bpf_bytes.specs.declared.fault.DecodeFault.{DecodeFault}
 use Rattle.bpf_code.specs.Program.{Program}
 use Rattle.bpf_semantics.specs.Path.{longest_path}
 use Rattle.bpf_verify.specs.declared.refusal.Refusal.TheVariants.{At}

@@ -1,7 +1,7 @@
 -- What `list` prints for a program's bytes, and its exit status.
 use Rattle.std.specs.Prelude.{ℕ, List, ◌++◌, codes, Result, Ok, Err}
-use Rattle.bpf_code.specs.declared.fault.DecodeFault.{DecodeFault}
-use Rattle.bpf_code.specs.Fault.{fault_text}
+use Rattle.bpf_bytes.specs.declared.fault.DecodeFault.{DecodeFault}
+use Rattle.bpf_bytes.specs.Fault.{fault_text}
 use Rattle.bpf_code.specs.Program.{Program}
 use Rattle.bpf_list.specs.Listing.{listing_of}
 

@@ -5,7 +5,7 @@ ghost use Rattle.std.specs.Io.KnownBytes.{Appends};
 ghost use Rattle.schema.specs.declared.limits.TheConstants.{MAX_ARGUMENTS};
 ghost use Rattle.byte_output.specs.Writes.{AppendsBeginning, WritesText};
 ghost use Rattle.schema.specs.Schema.{schema_of};
-ghost use Rattle.bpf_code.specs.Decoding.{program_of};
+ghost use Rattle.bpf_bytes.specs.Decoding.{program_of};
 ghost use Rattle.program_commands.specs.Checking.{IsVerdictOf, OfVerdict, verdict_text, verdict_status};
 ghost use Rattle.program_commands.specs.Failures.{IsBeforeOutput, IsSaid, Leaves};
 ghost use Rattle.or_no_memory.specs.declared.OrNoMemory.{OrNoMemory};

@@ -4,7 +4,7 @@ ghost use Rattle.std.specs.Prelude.{◌≡◌, ◌≢◌, ◌⊎◌, IfErr, IfOk
 ghost use Rattle.std.specs.Io.KnownBytes.{Appends};
 ghost use Rattle.byte_output.specs.Writes.{AppendsBeginning, WritesText};
 ghost use Rattle.byte_output.specs.Pending.{output_of, Takes};
-ghost use Rattle.bpf_code.specs.Decoding.{program_of};
+ghost use Rattle.bpf_bytes.specs.Decoding.{program_of};
 ghost use Rattle.program_commands.specs.Failures.{IsSaid, Leaves};
 ghost use Rattle.program_commands.specs.Listing.{refused_text, listing_text, listing_status};
 ghost use Rattle.or_no_memory.specs.declared.OrNoMemory.{OrNoMemory};
@@ -13,7 +13,8 @@ ghost use Rattle.exit_status.specs.declared.status.TheConstants.{FAILED};
 
 use crate::failure::{StreamFault, say};
 use crate::source::read_program;
-use bpf_code::{Code, DecodeFault};
+use bpf_bytes::DecodeFault;
+use bpf_code::Code;
 use bpf_list::put_listing;
 use byte_output::line::{LineBuffer, push, push_unsigned};
 use byte_output::paged::PagedOutput;

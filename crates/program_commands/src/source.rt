@@ -2,12 +2,13 @@
 
 ghost use Rattle.std.specs.Prelude.{◌≡◌, ◌≤◌, ◌++◌, ℕ, List, [], IfErr, IfOk, OnOk, IfSome, length};
 ghost use Rattle.std.specs.Io.KnownBytes.{ReadConsumes};
-ghost use Rattle.bpf_code.specs.Decoding.{program_of};
+ghost use Rattle.bpf_bytes.specs.Decoding.{program_of};
 ghost use Rattle.program_commands.specs.Failures.{IsBeforeOutput};
 ghost use Rattle.program_commands.specs.Source.{IsSourceOf};
 
 use crate::failure::StreamFault;
-use bpf_code::{Code, DecodeCause, DecodeFault, MAX_SLOTS, decode};
+use bpf_bytes::{DecodeCause, DecodeFault, decode};
+use bpf_code::{Code, MAX_SLOTS};
 use or_no_memory::OrNoMemory;
 use std::alloc::{AllocError, Allocator};
 use std::io;
@@ -112,7 +113,7 @@ fn read_source<A: Allocator, R: Read>(
 }
 
 /// What the bytes of a source decode to; the error is want of memory.
-#[tactic(auto, unfolding(bpf_code::specs::Decoding::program_of))]
+#[tactic(auto, unfolding(bpf_bytes::specs::Decoding::program_of))]
 fn decode_source<A: Allocator>(
     alloc: A,
     source: &ProgramSource<A>,

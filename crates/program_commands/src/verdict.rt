@@ -4,7 +4,7 @@ ghost use Rattle.std.specs.Prelude.{◌≡◌};
 ghost use Rattle.program_commands.specs.Checking.{verdict_text, verdict_status};
 
 use crate::list::refused_line;
-use bpf_code::DecodeFault;
+use bpf_bytes::DecodeFault;
 use bpf_verify::Cause;
 use byte_output::line::{LineBuffer, push, push_unsigned};
 use schema::SchemaFault;

@@ -1,7 +1,7 @@
 //! Deliveries of additions.
 
 use crate::delivering::{catalogue_of, deliver};
-use bpf_code::decode;
+use bpf_bytes::decode;
 use bpf_verify::{Accepted, verify};
 use catalogue::Catalogue;
 use log_entry::{AddedProcedure, Entry};

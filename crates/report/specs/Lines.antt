@@ -4,7 +4,7 @@ use Rattle.std.specs.Fmt.{decimal}
 use Rattle.std.specs.Option.{option_map}
 use Rattle.hex.specs.Hex.{encode_lower}
 use Rattle.byte_output.specs.Column.{right_in}
-use Rattle.bpf_code.specs.Fault.{fault_text}
+use Rattle.bpf_bytes.specs.Fault.{fault_text}
 use Rattle.bpf_verify.specs.Refusal.{refusal_text}
 use Rattle.bpf_verify.specs.declared.refusal.Refusal.TheVariants.{At}
 use Rattle.log_model.specs.declared.verdict.Identifier.TheVariants.{Name, Number}

@@ -2,7 +2,7 @@
 use Rattle.std.specs.Prelude.{ℕ, List, ◌++◌, codes}
 use Rattle.std.specs.Fmt.{decimal}
 use Rattle.schema.specs.Schema as schema
-use Rattle.bpf_code.specs.Fault as decoding
+use Rattle.bpf_bytes.specs.Fault as decoding
 use Rattle.bpf_verify.specs.Refusal.{refusal_text}
 use Rattle.catalogue.specs.Fault as catalogue
 use Rattle.script.specs.declared.fault.LineFault.{LineFault}

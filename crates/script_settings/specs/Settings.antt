@@ -4,7 +4,7 @@ use Rattle.std.specs.Coded.{Coded, code_by, coded×, coded_ℕ, coded_option}
 use Rattle.std.specs.FinMap.{empty}
 use Rattle.schema.specs.declared.limits.TheConstants.{MAX_REPLICAS, MAX_WINDOW}
 use Rattle.bpf_code.specs.Program.{Program}
-use Rattle.bpf_code.specs.Decoding.{program_of}
+use Rattle.bpf_bytes.specs.Decoding.{program_of}
 use Rattle.schema.specs.Schema.{Tables, with_pairs}
 use Rattle.bpf_verify.specs.declared.refusal.Refusal.{Refusal}
 use Rattle.bpf_verify.specs.Flow.{Procedure}

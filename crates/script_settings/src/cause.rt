@@ -4,7 +4,7 @@ ghost use Rattle.std.specs.Prelude.{◌≡◌};
 ghost use Rattle.script_settings.specs.Fault.{cause_of_line_fault};
 ghost use Rattle.script_settings.specs.declared.cause.FaultCause.TheVariants.{NoMemory};
 
-use bpf_code::DecodeFault;
+use bpf_bytes::DecodeFault;
 use bpf_verify::Refusal;
 use catalogue::CatalogueFault;
 use schema::SchemaFault;

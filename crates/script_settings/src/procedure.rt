@@ -2,12 +2,13 @@
 
 ghost use Rattle.std.specs.Prelude.{◌≡◌, ◌⊎◌, ◌≤◌, None, Some, Ok, Err, IfOk, IfErr, OnOk, OnErr};
 ghost use Rattle.schema.specs.declared.limits.TheConstants.{MAX_ARGUMENTS};
-ghost use Rattle.bpf_code.specs.Decoding.{program_of};
+ghost use Rattle.bpf_bytes.specs.Decoding.{program_of};
 ghost use Rattle.script_settings.specs.Settings.{caused, verified, program_for, with_procedure};
 ghost use Rattle.script_settings.specs.declared.cause.FaultCause.TheVariants.{NoMemory, Program};
 
 use crate::cause::FaultCause;
-use bpf_code::{Code, DecodeCause, decode};
+use bpf_bytes::{DecodeCause, decode};
+use bpf_code::Code;
 use bpf_verify::{Accepted, Refusal, verify};
 use catalogue::{Catalogue, CatalogueFault};
 use schema::Schema;

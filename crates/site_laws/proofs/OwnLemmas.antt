@@ -12,7 +12,8 @@ use Rattle.log_model.specs.Log.{StoredProcedure, Catalogue, Setting, Call, Log, 
 use Rattle.log_model.specs.Entries.{Entry, ExecutedCall, CallEntry, AdditionEntry, item_of, items_of}
 use Rattle.log_model.proofs.GrowthLemmas.{procedures_grown, run_grown}
 use Rattle.log_entry.specs.Bytes.{entry_bytes}
-use Rattle.bpf_code.specs.Program.{Program, spelling}
+use Rattle.bpf_code.specs.Program.{Program}
+use Rattle.bpf_fields.specs.Spelling.{spelling}
 use Rattle.schema.specs.declared.limits.TheConstants.{MAX_ARGUMENTS}
 use Rattle.log_model.specs.Name.{is_name}
 use Rattle.call_model.specs.Check.{Passed}

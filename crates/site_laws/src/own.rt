@@ -1,7 +1,8 @@
 //! What a site gave to be ordered, when it comes back.
 
 ghost use Rattle.std.specs.Prelude.{◌≡◌, ◌≢◌, ◌≤◌, ℕ, ◌++◌, List};
-ghost use Rattle.bpf_code.specs.Program.{Program, spelling};
+ghost use Rattle.bpf_code.specs.Program.{Program};
+ghost use Rattle.bpf_fields.specs.Spelling.{spelling};
 ghost use Rattle.schema.specs.declared.limits.TheConstants.{MAX_ARGUMENTS};
 ghost use Rattle.call_model.specs.Check.{Passed};
 ghost use Rattle.program_checks.specs.Check.{check_of};

@@ -1,4 +1,4 @@
-use bpf_code::decode;
+use bpf_bytes::decode;
 use bpf_verify::{Accepted, verify};
 use catalogue::Catalogue;
 use schema::Schema;

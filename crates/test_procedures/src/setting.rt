@@ -1,7 +1,7 @@
 //! The procedures as those that replay a log take them.
 
 use crate::programs::PROCEDURES;
-use bpf_code::decode;
+use bpf_bytes::decode;
 use plain_replayer::{PlainProcedure, PlainSetting};
 use schema::Schema;
 use std::alloc::Global;

@@ -1,4 +1,5 @@
-use bpf_code::{Code, decode};
+use bpf_bytes::decode;
+use bpf_code::Code;
 use bpf_verify::{Accepted, Refusal, verify};
 use plain_runner::{Row, run_program};
 use scarce::Scarce;

@@ -3,7 +3,7 @@
 ghost use Rattle.std.specs.Prelude.{◌≤◌};
 ghost use Rattle.schema.specs.declared.limits.TheConstants.{MAX_REPLICAS};
 
-use bpf_code::decode;
+use bpf_bytes::decode;
 use bpf_verify::verify;
 use catalogue::Catalogue;
 use dsm_model::Outcome;

@@ -1,5 +1,6 @@
 use super::same;
-use bpf_code::{Code, decode};
+use bpf_bytes::decode;
+use bpf_code::Code;
 use bpf_list::{listing, put_listing};
 use byte_output::paged::PagedOutput;
 use std::alloc::Global;

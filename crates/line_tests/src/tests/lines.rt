@@ -1,4 +1,4 @@
-use bpf_code::{DecodeCause, DecodeFault};
+use bpf_bytes::{DecodeCause, DecodeFault};
 use bpf_verify::Cause;
 use call_model::ProgramFault;
 use dsm_model::{Outcome, StepRefusal};

@@ -2,7 +2,8 @@
 
 use super::rows::{TABLES, row_of, run};
 use super::same;
-use bpf_code::{Code, decode};
+use bpf_bytes::decode;
+use bpf_code::Code;
 use plain_runner::{CompletedRun, Row, Write, run_program};
 use scarce::Scarce;
 use schema::{Look, Schema};

@@ -1,6 +1,6 @@
 //! Runs of programs on rows.
 
-use bpf_code::decode;
+use bpf_bytes::decode;
 use plain_runner::{CompletedRun, Row, run_program};
 use schema::Schema;
 use std::alloc::Global;

@@ -1,7 +1,7 @@
 //! Programs as lists of steps, one a slot. Each is followed by EXIT, and its reply tells that the last step was made.
 
 use super::same;
-use bpf_code::decode;
+use bpf_bytes::decode;
 use plain_runner::{Row, run_program};
 use schema::Schema;
 use std::alloc::Global;

@@ -1,6 +1,6 @@
 //! Sites of the tests: table 1 with rows of eight bytes, the procedures `add` and `claim`, and a window of 4.
 
-use bpf_code::decode;
+use bpf_bytes::decode;
 use bpf_verify::verify;
 use catalogue::Catalogue;
 use log_entry::{Entry, to_bytes};

@@ -1,0 +1,4 @@
+pub mod Opcode
+pub mod Uses
+pub mod Fields
+pub mod Spelling
