@@ -4,11 +4,9 @@
 pub use desk::Desk;
 pub use ended::EndedReplica;
 pub use node::{Ended, Finish, Node};
+pub use node_crew::{Size, StartFault};
 pub use served_replicas::{Added, ProgramRefusal, RebuildFault};
-pub use size::{Size, StartFault};
 
-mod crew;
 mod desk;
 mod ended;
 mod node;
-mod size;

@@ -9,25 +9,24 @@ ghost use Rattle.served_replicas.specs.Added.{IsAddedAnswer};
 ghost use Rattle.served_replicas.specs.Replicas.{IsNoReplica};
 ghost use Rattle.served_replicas.specs.declared.rebuild.RebuildFault.TheVariants.{NoReplica};
 ghost use Rattle.node.specs.Agreement.{AgreeBy};
-ghost use Rattle.node.specs.Size.{IsSize, IsStartFault, IsWant, size_of};
+ghost use Rattle.node_crew.specs.Size.{IsSize, IsStartFault, IsWant, size_of};
 
-use crate::crew::Crew;
 use crate::desk::Desk;
 use crate::ended::{EndedReplica, agree_all};
-use crate::size::{Size, StartFault};
 use catalogue::Catalogue;
 use crossbeam_channel::Sender;
 use locked_replica::LockedReplica;
 use node_calls::{Gate, OpenGate};
+use node_crew::{Crew, Size, StartFault};
 use order_log::{Fact, GroupCells, OrderLog, Seen};
 use ordered_entries::{LogSetting, OrderedEntries};
 use schema::MAX_LOG;
 use served_replicas::{Added, RebuildFault, Request, Shared};
-use std::alloc::Global;
+use std::alloc::{AllocError, Global};
 use std::marker::Model;
 use std::sync::{Arc, RwLock, Wait};
 use std::thread::Threads;
-use tallies::{Blanks, Counts, Ledgers, Shares};
+use tallies::{Blanks, Counts, Ledgers, Shares, Totals};
 
 /// How a node has ended.
 #[derive(Drop)]
@@ -109,23 +108,10 @@ impl<J: LogSetting + Ledgers + Send + Sync + 'static, G: Gate + Drop + Send + Sy
     {
         size.check()?;
         let (totals, shares) = blanks.open();
-        let Ok(log) = OrderLog::with_limit(alloc, cells, size.limit) else {
-            return Err(StartFault::NoMemory);
-        };
-        let replicas = size.replicas as usize;
-        let shared = Shared::new(alloc, log, catalogue, size.window, totals, gate, replicas);
-        let Ok(mut shared) = shared else {
-            return Err(StartFault::NoMemory);
-        };
-        for place in 0..size.replicas {
-            if shared.add_replica(alloc, size.executors as usize).is_err() {
-                return Err(StartFault::NoMemory);
-            }
+        match shared_of(alloc, cells, totals, size, catalogue, gate) {
+            Ok(shared) => start_threads(rt, alloc, shared, shares, size),
+            Err(_) => Err(StartFault::NoMemory),
         }
-        let Ok(shared) = Arc::new(alloc, shared) else {
-            return Err(StartFault::NoMemory);
-        };
-        start_threads(rt, alloc, shared, shares, size)
     }
 
     /// As `start_sized`, with a log of 1,048,576 entries.
@@ -301,6 +287,46 @@ fn push_end<J: LogSetting + Ledgers, G: Gate, R: Wait>(
     if let Some(replica) = shared.locked(number) {
         ended.push_reserved(EndedReplica::of(&replica.read(rt)));
     }
+}
+
+/// Adds as many replicas as a node of this size has.
+fn add_all_replicas<J: LogSetting + Ledgers, G: Gate>(
+    shared: &mut Shared<J, Global, Global, G>,
+    alloc: Global,
+    size: Size,
+) -> Result<(), AllocError>
+    requires { shared.old.replicas ≡ 0 }
+    ensures { OnOk result (shared.new.replicas ≡ size.replicas) }
+{
+    for place in 0..size.replicas {
+        shared.add_replica(alloc, size.executors as usize)?;
+    }
+    Ok(())
+}
+
+/// What the threads of a node of this size share.
+fn shared_of<J: LogSetting + Ledgers, G: Gate + Drop>(
+    alloc: Global,
+    cells: GroupCells,
+    totals: Totals<J>,
+    size: Size,
+    catalogue: Catalogue,
+    gate: G,
+) -> Result<Arc<Shared<J, Global, Global, G>>, AllocError>
+    requires size { IsSize size }
+    requires cells { cells ≡ J.groups }
+    requires setting { J.setting ≡ record {
+      tables = catalogue.tables;
+      catalogue = catalogue.procedures;
+      window = size.window;
+    } }
+    ensures { IfOk result (λ shared. (arc_value shared).replicas ≡ size.replicas) }
+{
+    let log = OrderLog::with_limit(alloc, cells, size.limit)?;
+    let replicas = size.replicas as usize;
+    let mut shared = Shared::new(alloc, log, catalogue, size.window, totals, gate, replicas)?;
+    add_all_replicas(&mut shared, alloc, size)?;
+    Ok(Arc::new(alloc, shared)?)
 }
 
 /// Starts the threads of a node. Where one isn't started those that were have ended.

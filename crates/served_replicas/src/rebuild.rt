@@ -54,6 +54,23 @@ fn put_in_place<J: LogSetting, A: Allocator + Copy, P: Allocator + Copy, R: Wait
     Some(locked.position())
 }
 
+/// Delivers all that the log shows to one that was made anew, until it takes a replica's place. The position there
+/// then.
+fn catch_up_and_replace<J: LogSetting, A: Allocator + Copy, P: Allocator + Copy, R: Wait>(
+    rt: &R,
+    replica: &RwLock<LockedReplica<J, A, P>>,
+    fresh: &mut LockedReplica<J, A, P>,
+    log: &OrderLog<J, OrderedEntries<J>, P>,
+) -> Result<u32, AllocError> {
+    for _ in rt.forever() {
+        deliver_to_the_end(rt, fresh, log)?;
+        if let Some(position) = put_in_place(rt, replica, fresh) {
+            return Ok(position);
+        }
+    }
+    unreachable!()
+}
+
 impl<J: LogSetting + Ledgers, A: Allocator + Copy, P: Allocator + Copy, G: Gate> Shared<
     J,
     A,
@@ -90,12 +107,6 @@ impl<J: LogSetting + Ledgers, A: Allocator + Copy, P: Allocator + Copy, G: Gate>
             self.catalogue.window(),
             self.catalogue.get(),
         )?;
-        for _ in rt.forever() {
-            deliver_to_the_end(rt, &mut fresh, &self.log)?;
-            if let Some(position) = put_in_place(rt, &served.replica, &mut fresh) {
-                return Ok(position);
-            }
-        }
-        unreachable!()
+        catch_up_and_replace(rt, &served.replica, &mut fresh, &self.log)
     }
 }

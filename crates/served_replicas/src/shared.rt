@@ -64,6 +64,18 @@ where
     ghost invariant = { λ s. Unit {0} };
 }
 
+/// Where so many executing threads wait.
+fn new_waiters<P: Allocator + Copy>(
+    alloc: P,
+    count: usize,
+) -> Result<Vec<CachePadded<Waiter>, P>, AllocError> {
+    let mut waiters = Vec::with_capacity(alloc, count)?;
+    for _ in 0..count {
+        waiters.push(CachePadded::new(Waiter::new()))?;
+    }
+    Ok(waiters)
+}
+
 impl<J: LogSetting, A: Allocator + Copy, P: Allocator + Copy> ServedReplica<J, A, P> {
     /// A replica to which nothing was delivered, for so many executing threads.
     fn new(
@@ -72,11 +84,8 @@ impl<J: LogSetting, A: Allocator + Copy, P: Allocator + Copy> ServedReplica<J, A
         catalogue: &NodeCatalogue<J, P>,
         executors: usize,
     ) -> Result<ServedReplica<J, A, P>, AllocError> {
+        let waiters = new_waiters(shared, executors)?;
         let replica = LockedReplica::new(alloc, catalogue.window(), catalogue.get())?;
-        let mut waiters = Vec::with_capacity(shared, executors)?;
-        for _ in 0..executors {
-            waiters.push(CachePadded::new(Waiter::new()))?;
-        }
         Ok(ServedReplica {
             alloc,
             replica: RwLock::new(replica),

@@ -1,6 +1,5 @@
 //! Requests and their replies.
 
-use crate::asked::{Heard, Mismatch, Question, Questioner};
 use crossbeam_channel::{Receiver, Sender, bounded};
 use node_calls::{Answer, Asked, OpenGate};
 use order_log::Seen;
@@ -12,6 +11,7 @@ use served_replicas::{Reply, Request, Shared};
 use std::alloc::Allocator;
 use std::sync::Wait;
 use tallies::Ledgers;
+use test_questions::{Case, Heard, Mismatch, Question};
 
 /// The most that is asked.
 const MOST: usize = 10_000;
@@ -137,25 +137,20 @@ fn heard<J: LogSetting + Ledgers, A: Allocator + Copy, P: Allocator + Copy, R: W
     }
 }
 
-/// Asks two replicas, whose requests these are, to the end. What was heard first that may not be; none where all may.
-pub fn ask_all<
-    J: LogSetting + Ledgers,
-    A: Allocator + Copy,
-    P: Allocator + Copy,
-    R: Wait,
-    Q: Questioner,
->(
+/// Asks two replicas, whose requests these are, all that a case asks. What was heard first that may not be; none where
+/// all may.
+pub fn ask_all<J: LogSetting + Ledgers, A: Allocator + Copy, P: Allocator + Copy, R: Wait>(
     rt: &R,
     alloc: P,
     shared: &Shared<J, A, P, OpenGate>,
     memories: Memories<'_>,
     requests: &[Sender<Request<J, P>, P>; 2],
-    questioner: &mut Q,
+    case: &mut Case,
 ) -> Option<Mismatch> {
     for index in 0..MOST {
-        let question = questioner.next()?;
+        let question = case.next()?;
         let heard = heard(rt, alloc, shared, memories, requests, question);
-        if !questioner.hear(heard) {
+        if !case.hear(heard) {
             let heard = Some(heard);
             return Some(Mismatch { index, heard });
         }

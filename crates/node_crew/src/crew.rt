@@ -2,13 +2,12 @@
 
 ghost use Rattle.std.specs.Prelude.{◌≡◌, ◌+◌, ◌<◌, ◌≤◌, OnOk, IfErr};
 ghost use Rattle.schema.specs.declared.limits.TheConstants.{MAX_EXECUTORS};
-ghost use Rattle.node.specs.Size.{IsWant};
+ghost use Rattle.node_crew.specs.Size.{IsWant};
 
 use crate::size::StartFault;
 use crossbeam_channel::{Receiver, Sender, bounded};
 use node_calls::Gate;
-use order_log::Fact;
-use ordered_entries::{LogSetting, OrderedEntries};
+use ordered_entries::LogSetting;
 use served_replicas::{Request, Shared, deliver_all, serve};
 use std::alloc::Global;
 use std::marker::Model;
@@ -45,7 +44,7 @@ impl<J: LogSetting + Ledgers> ThreadShares<J> {
 
 /// The threads of a node. Contracts see how many answer calls.
 #[derive(Drop)]
-pub(crate) struct Crew<J: LogSetting + Ledgers> {
+pub struct Crew<J: LogSetting + Ledgers> {
     alloc: Global,
     executors: Vec<JoinHandle<ThreadShares<J>>>,
     deliverers: Vec<JoinHandle<()>>,
@@ -53,7 +52,7 @@ pub(crate) struct Crew<J: LogSetting + Ledgers> {
 
 impl<J: LogSetting + Ledgers> Model for Crew<J> {
     ghost use Rattle.std.specs.Prelude.{vec_len};
-    ghost use Rattle.node.specs.Crew.{CrewState};
+    ghost use Rattle.node_crew.specs.Crew.{CrewState};
 
     ghost Value = { CrewState };
 
@@ -64,7 +63,7 @@ impl<J: LogSetting + Ledgers> Model for Crew<J> {
 
 impl<J: LogSetting + Ledgers + Send + Sync + 'static> Crew<J> {
     /// No threads.
-    pub(crate) fn new(alloc: Global) -> Crew<J>
+    pub fn new(alloc: Global) -> Crew<J>
         ensures { result.executors ≡ 0 }
     {
         Crew {
@@ -75,8 +74,8 @@ impl<J: LogSetting + Ledgers + Send + Sync + 'static> Crew<J> {
     }
 
     /// Starts the threads of the replica of a number: so many that answer calls, and one that delivers. Where their
-    /// requests go.
-    pub(crate) fn start_replica<
+    /// requests go. Where one isn't started, those that were stay in the crew.
+    pub fn start_replica<
         G: Gate + Drop + Send + Sync + 'static,
         R: Threads + Wait + Copy + Send + Sync + 'static,
     >(
@@ -174,7 +173,7 @@ impl<J: LogSetting + Ledgers + Send + Sync + 'static> Crew<J> {
 
     /// Waits until all threads have ended: those that answer calls when nobody sends requests any more, then those that
     /// deliver, at the end of the log. What was counted is in the shares then.
-    pub(crate) fn end<G: Gate, R: Threads + Wait>(
+    pub fn end<G: Gate, R: Threads + Wait>(
         self,
         rt: &R,
         shared: &Shared<J, Global, Global, G>,

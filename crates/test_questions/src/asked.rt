@@ -52,12 +52,3 @@ pub struct Mismatch {
     pub index: usize,
     pub heard: Option<Heard>,
 }
-
-/// Who asks.
-pub trait Questioner {
-    /// What is asked next. None at the end.
-    fn next(&self) -> Option<Question>;
-
-    /// Takes what is heard then: whether it may be so.
-    fn hear(&mut self, heard: Heard) -> bool;
-}

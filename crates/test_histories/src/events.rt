@@ -32,14 +32,15 @@ enum Event {
 
 const EVENTS: usize = 10;
 
-/// How often each came.
+/// How often each event came that needs several steps of a world.
 #[derive(Clone, Copy, Debug)]
-pub(super) struct Events {
+pub struct Events {
     counts: [u32; EVENTS],
 }
 
 impl Events {
-    pub(super) fn new() -> Events {
+    /// Nothing came yet.
+    pub fn new() -> Events {
         Events {
             counts: [0; EVENTS],
         }
@@ -56,7 +57,7 @@ impl Events {
     }
 
     /// Whether each came more often than this.
-    pub(super) fn all_above(&self, least: u32) -> bool {
+    pub fn all_above(&self, least: u32) -> bool {
         self.counts.iter().all(|count| *count > least)
     }
 }
@@ -144,8 +145,8 @@ impl Events {
         }
     }
 
-    /// Counts what became of all that was ordered.
-    pub(super) fn count_all(&mut self, history: &History, window: u32, reports: &[ItemReport]) {
+    /// Counts what became of all that was ordered, by the replay's reports, and of what wasn't.
+    pub fn count_all(&mut self, history: &History, window: u32, reports: &[ItemReport]) {
         for (place, ordered) in history.ordered.iter().enumerate() {
             let (past, later) = reports.split_at(place.min(reports.len()));
             let Some(report) = later.first() else {

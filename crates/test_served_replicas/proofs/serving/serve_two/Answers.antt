@@ -1,4 +1,4 @@
-use Rattle.node_memory_tests.proofs.tests.try_two.Goals as goal
+use Rattle.test_served_replicas.proofs.serving.serve_two.Goals as goal
 
 pub run_two-requires-send-J : goal.run_two-requires-send-J
 run_two-requires-send-J g c κs within = c.type_bounds.send-J

@@ -1,8 +1,8 @@
 //! What is asked of two replicas that find no memory.
 
+use crate::asked::{Heard, Question};
 use node_calls::Answer;
 use served_replicas::RebuildFault;
-use test_requests::{Heard, Question, Questioner};
 
 /// An addition at the first replica, of which no growth is refused.
 const TO_FIRST: Question = Question::Add {
@@ -67,7 +67,7 @@ enum Place {
 /// Refuses each growth of a call at the first replica in turn, until a call asks for no more. The log has what was
 /// answered as ordered, whatever was refused.
 #[derive(Clone, Copy, Debug, PartialEq, Eq)]
-pub(super) struct Refusals {
+pub struct RefusedGrowths {
     place: Place,
     /// Which growth is refused.
     growth: u64,
@@ -75,16 +75,17 @@ pub(super) struct Refusals {
     refused: u64,
     /// How many calls were answered as ordered.
     ordered: u32,
-    /// How many weren't, for want of memory.
-    pub(super) wanting: u32,
-    /// How many were ordered, and not delivered at their replica.
-    pub(super) stopped: u32,
+    /// How many calls weren't ordered, for want of memory.
+    pub wanting: u32,
+    /// How many calls were ordered, and not delivered at their replica.
+    pub stopped: u32,
     /// How many answers were lost.
     lost: u32,
 }
 
-impl Refusals {
-    pub(super) const FIRST: Refusals = Refusals {
+impl RefusedGrowths {
+    /// The first growth is refused next, and nothing was counted yet.
+    pub const FIRST: RefusedGrowths = RefusedGrowths {
         place: Place::Call,
         growth: 1,
         refused: 0,
@@ -166,24 +167,26 @@ impl Refusals {
     }
 }
 
-/// What is tried at the two.
+/// What is tried at two replicas.
 #[derive(Clone, Copy, Debug, PartialEq, Eq)]
-pub(super) enum Case {
+pub enum Case {
     /// The second finds no memory, until it is made anew: how much of that was asked.
     Stopped(usize),
     /// Each growth is refused in turn, at the first.
-    Refused(Refusals),
+    Refused(RefusedGrowths),
 }
 
-impl Questioner for Case {
-    fn next(&self) -> Option<Question> {
+impl Case {
+    /// What is asked next. None at the end.
+    pub fn next(&self) -> Option<Question> {
         match self {
             Case::Stopped(index) => Some(STOPPED.get(*index)?.0),
             Case::Refused(refusals) => refusals.next(),
         }
     }
 
-    fn hear(&mut self, heard: Heard) -> bool {
+    /// Takes what is heard then: whether it may be so.
+    pub fn hear(&mut self, heard: Heard) -> bool {
         match self {
             Case::Stopped(index) => {
                 let wanted = STOPPED.get(*index);

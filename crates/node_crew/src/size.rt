@@ -1,7 +1,7 @@
 //! What a node is made of.
 
 ghost use Rattle.std.specs.Prelude.{◌≤◌, ◌↔◌, IsTrue, OnOk, IfErr};
-ghost use Rattle.node.specs.Size.{IsSize, IsSizeFault, IsWithin};
+ghost use Rattle.node_crew.specs.Size.{IsSize, IsSizeFault, IsWithin};
 
 use schema::{MAX_EXECUTORS, MAX_LOG, MAX_REPLICAS, MAX_WINDOW};
 

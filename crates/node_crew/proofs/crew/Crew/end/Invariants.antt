@@ -1,6 +1,6 @@
 use Rattle.std.proofs.Common.{◌≡◌, ◌+◌}
 use Rattle.std.specs.Prelude.{vec_len}
-use Rattle.node.proofs.crew.Crew.end.Given as goal
+use Rattle.node_crew.proofs.crew.Crew.end.Given as goal
 
 abbrev pub decreases-loop-child : goal.decreases-loop-child
 decreases-loop-child g l = vec_len l.executors

@@ -1,9 +1,9 @@
 -- What a node may be made of.
 use Rattle.std.specs.Prelude.{◌≡◌, ◌≤◌, ◌⊎◌, ℕ}
 use Rattle.schema.specs.declared.limits.TheConstants.{MAX_REPLICAS, MAX_EXECUTORS, MAX_WINDOW, MAX_LOG}
-use Rattle.node.specs.declared.size.Size.{Size as NodeSize}
-use Rattle.node.specs.declared.size.StartFault.{StartFault}
-use Rattle.node.specs.declared.size.StartFault.TheVariants.{Replicas, Executors, Window, NoMemory, NoThread, Limit}
+use Rattle.node_crew.specs.declared.size.Size.{Size as NodeSize}
+use Rattle.node_crew.specs.declared.size.StartFault.{StartFault}
+use Rattle.node_crew.specs.declared.size.StartFault.TheVariants.{Replicas, Executors, Window, NoMemory, NoThread, Limit}
 
 abbrev pub IsWithin : ℕ → ℕ → Type 0
 IsWithin limit n = (1 ≤ n) × (n ≤ limit)

@@ -1,0 +1,229 @@
+//! Two replicas in memory of their own, the threads of a scope that serve and deliver to them, and who asks both.
+
+ghost use Rattle.std.specs.Prelude.{◌≡◌};
+ghost use Rattle.tallies.specs.Shared.{names_by_place};
+
+use catalogue::Catalogue;
+use crossbeam_channel::{Receiver, Sender, bounded};
+use node_calls::OpenGate;
+use order_log::{GroupCells, OrderLog};
+use ordered_entries::LogSetting;
+use served_replicas::{Request, Shared, deliver_all, serve};
+use std::alloc::{AllocError, Allocator, Global};
+use std::sync::Wait;
+use std::thread;
+use std::thread::Threads;
+use tallies::{Blanks, Ledgers, Shares, Totals};
+use test_questions::{Case, Mismatch};
+use test_requests::{Memories, ask_all};
+
+/// What two replicas share, each in memory of its own of the first kind; calls and entries take memory of the second.
+type TwoReplicas<J, A, P> = Shared<J, A, P, OpenGate>;
+
+/// Where requests to both go, until nobody asks any more.
+type Callers<J, P> = Option<[Sender<Request<J, P>, P>; 2]>;
+
+/// Asks both, and lets their requests' ends go, so that nobody serves them any more. What was heard that may not be.
+fn ask_to_the_end<J: LogSetting + Ledgers, A: Allocator + Copy, P: Allocator + Copy, R: Wait>(
+    rt: &R,
+    alloc: P,
+    shared: &TwoReplicas<J, A, P>,
+    memories: Memories<'_>,
+    callers: &mut Callers<J, P>,
+    case: &mut Case,
+) -> Option<Mismatch> {
+    let requests = callers.as_ref()?;
+    let mismatch = ask_all(rt, alloc, shared, memories, requests, case);
+    *callers = None;
+    mismatch
+}
+
+/// Serves both until no caller is left.
+fn serve_both<
+    J: LogSetting + Ledgers + Send + Sync,
+    A: Allocator + Copy + Send + Sync,
+    P: Allocator + Copy + Send + Sync,
+    R: Threads + Wait + Sync,
+>(
+    rt: &R,
+    shared: &TwoReplicas<J, A, P>,
+    requests: &[Receiver<Request<J, P>, P>; 2],
+    one: &mut Shares<J>,
+    other: &mut Shares<J>,
+) {
+    thread::join(
+        rt,
+        || serve(rt, shared, 1, 0, &requests[0], one),
+        || serve(rt, shared, 2, 0, &requests[1], other),
+    );
+}
+
+/// Has both asked, whose requests these are, and served until nobody asks any more; then stops what is delivered. What
+/// was heard that may not be.
+fn ask_and_serve<
+    J: LogSetting + Ledgers + Send + Sync,
+    A: Allocator + Copy + Send + Sync,
+    P: Allocator + Copy + Send + Sync,
+    R: Threads + Wait + Copy + Sync,
+>(
+    rt: &R,
+    alloc: P,
+    shared: &TwoReplicas<J, A, P>,
+    memories: Memories<'_>,
+    callers: &mut Callers<J, P>,
+    served: &[Receiver<Request<J, P>, P>; 2],
+    one: &mut Shares<J>,
+    other: &mut Shares<J>,
+    case: &mut Case,
+) -> Option<Mismatch> {
+    let (_, mismatch) = thread::join(
+        rt,
+        || serve_both(rt, shared, served, one, other),
+        || ask_to_the_end(rt, alloc, shared, memories, callers, case),
+    );
+    shared.stop_deliveries();
+    mismatch
+}
+
+/// Delivers to both until that is stopped.
+fn deliver_to_both<
+    J: LogSetting + Ledgers + Send + Sync,
+    A: Allocator + Copy + Send + Sync,
+    P: Allocator + Copy + Send + Sync,
+    R: Threads + Wait + Sync,
+>(rt: &R, shared: &TwoReplicas<J, A, P>) {
+    thread::join(
+        rt,
+        || deliver_all(rt, shared, 1),
+        || deliver_all(rt, shared, 2),
+    );
+}
+
+/// Has two replicas, whose requests these are, served and delivered to by threads of a scope, while both are asked.
+/// What was heard that may not be.
+fn run_two<
+    J: LogSetting + Ledgers + Send + Sync,
+    A: Allocator + Copy + Send + Sync,
+    P: Allocator + Copy + Send + Sync,
+    R: Threads + Wait + Copy + Sync,
+>(
+    rt: &R,
+    alloc: P,
+    shared: &TwoReplicas<J, A, P>,
+    memories: Memories<'_>,
+    callers: &mut Callers<J, P>,
+    served: &[Receiver<Request<J, P>, P>; 2],
+    one: &mut Shares<J>,
+    other: &mut Shares<J>,
+    case: &mut Case,
+) -> Option<Mismatch> {
+    let (_, mismatch) = thread::join(
+        rt,
+        || deliver_to_both(rt, shared),
+        || ask_and_serve(
+            rt, alloc, shared, memories, callers, served, one, other, case,
+        ),
+    );
+    mismatch
+}
+
+/// Adds two replicas that take memory from these.
+fn add_both<J: LogSetting + Ledgers, A: Allocator + Copy, P: Allocator + Copy>(
+    shared: &mut TwoReplicas<J, A, P>,
+    replicas: (A, A),
+) -> Result<(), AllocError> {
+    shared.add_replica(replicas.0, 1)?;
+    shared.add_replica(replicas.1, 1)
+}
+
+/// What two replicas share that take memory from these.
+fn shared_by<J: LogSetting + Ledgers, A: Allocator + Copy, P: Allocator + Copy>(
+    global: Global,
+    alloc: P,
+    cells: GroupCells<P>,
+    totals: Totals<J>,
+    catalogue: Catalogue<P>,
+    window: u32,
+    replicas: (A, A),
+) -> Result<TwoReplicas<J, A, P>, AllocError>
+    requires cells { cells ≡ J.groups }
+    requires setting { J.setting ≡ record {
+      tables = catalogue.tables;
+      catalogue = catalogue.procedures;
+      window = window;
+    } }
+{
+    let log = OrderLog::new(global, cells)?;
+    let mut shared = Shared::new(alloc, log, catalogue, window, totals, OpenGate, 2)?;
+    add_both(&mut shared, replicas)?;
+    Ok(shared)
+}
+
+/// Makes the ends of both replicas' requests, and has both served and asked until nobody asks any more. What was heard
+/// that may not be.
+fn serve_two<
+    J: LogSetting + Ledgers + Send + Sync,
+    A: Allocator + Copy + Send + Sync,
+    P: Allocator + Copy + Send + Sync,
+    R: Threads + Wait + Copy + Sync,
+>(
+    rt: &R,
+    alloc: P,
+    shared: &TwoReplicas<J, A, P>,
+    memories: Memories<'_>,
+    one: &mut Shares<J>,
+    other: &mut Shares<J>,
+    case: &mut Case,
+) -> Result<Option<Mismatch>, AllocError> {
+    let (to_first, at_first) = bounded(alloc, 4)?;
+    let (to_second, at_second) = bounded(alloc, 4)?;
+    let mut callers = Some([to_first, to_second]);
+    let served = [at_first, at_second];
+    Ok(run_two(
+        rt,
+        alloc,
+        shared,
+        memories,
+        &mut callers,
+        &served,
+        one,
+        other,
+        case,
+    ))
+}
+
+/// Tries a case at two replicas, each with an allocator of its own (`replicas`), whose growths `memories` refuse. Where
+/// the case is that the second stops, it finds no memory at first. What was heard that may not be.
+pub fn try_two<
+    J: LogSetting + Ledgers + Send + Sync,
+    A: Allocator + Copy + Send + Sync,
+    P: Allocator + Copy + Send + Sync,
+    R: Threads + Wait + Copy + Sync,
+>(
+    rt: &R,
+    global: Global,
+    alloc: P,
+    cells: GroupCells<P>,
+    blanks: Blanks,
+    catalogue: Catalogue<P>,
+    window: u32,
+    replicas: (A, A),
+    memories: Memories<'_>,
+    case: &mut Case,
+) -> Result<Option<Mismatch>, AllocError>
+    requires cells { cells ≡ J.groups }
+    requires ledgers { J.names ≡ names_by_place blanks }
+    requires setting { J.setting ≡ record {
+      tables = catalogue.tables;
+      catalogue = catalogue.procedures;
+      window = window;
+    } }
+{
+    let (totals, mut one) = blanks.open();
+    let mut other = one.split();
+    let shared: TwoReplicas<J, A, P> = shared_by(
+        global, alloc, cells, totals, catalogue, window, replicas,
+    )?;
+    memories.1.refuse_all(matches!(case, Case::Stopped(_)));
+    serve_two(rt, alloc, &shared, memories, &mut one, &mut other, case)
+}
