@@ -17,7 +17,8 @@ fn short(log: &[PlainItem]) -> &[PlainItem]
     if log.len() < 10_000 { log } else { &[] }
 }
 
-/// An addition as the plain replayer takes it, with the program that was asked for.
+/// An addition as the plain replayer takes it, with the program that was asked for. None, here and below, where memory
+/// is wanting.
 fn addition_of(alloc: Global, name: &str, number: u16) -> Option<PlainItemKind> {
     let (words, program) = program_of(number);
     let added = procedure_of(alloc, name.as_bytes(), number, program, words)?;
@@ -32,7 +33,7 @@ fn call_of(alloc: Global, number: u32, call: &Call) -> Option<PlainItemKind> {
     Some(PlainItemKind::Call(taken))
 }
 
-/// What was ordered, as it takes it. None, here and below, where memory is wanting, or the history hasn't the call.
+/// What was ordered, as it takes it. None also where the history hasn't the call.
 fn item_of(alloc: Global, history: &History, ordered: &Ordered) -> Option<PlainItemKind> {
     match ordered {
         Ordered::Addition { name, number } => addition_of(alloc, name, *number),
@@ -61,7 +62,8 @@ fn plain_setting(alloc: Global, window: u32) -> Option<PlainSetting> {
     Some(PlainSetting::new(schema, catalogue, window))
 }
 
-/// The replay of what was ordered, fewer than 10,000 items, with this window.
+/// The replay of what was ordered, fewer than 10,000 items, with this window. None where memory is wanting, or the
+/// history hasn't one of the calls.
 pub fn replay_of(alloc: Global, history: &History, window: u32) -> Option<CompletedReplay> {
     let log = log_of(alloc, history)?;
     let setting = plain_setting(alloc, window)?;
