@@ -210,7 +210,7 @@ pub const OF_PROCEDURES: [Explanation; 33] = [
 ];
 
 /// Of what is run, each refusal once.
-pub const OF_RUNS: [Explanation; 35] = [
+pub const OF_RUNS: [Explanation; 39] = [
     Explanation {
         number: "P1",
         cause: "there is no such replica; a `rows` line asks for one, too",
@@ -337,8 +337,34 @@ pub const OF_RUNS: [Explanation; 35] = [
     },
     Explanation {
         number: "O1",
-        cause: "printed by a site as `fault O1`: the order has 4,294,967,295 byte strings, and no more are taken in",
-        cure: "begin a new order, with the rows put in by calls",
+        cause: "the log or the order is full: a node's log has as many entries as it was started for (1,048,576 at \
+            most), or a site's order has 4,294,967,295 byte strings, which the site prints as `fault O1`",
+        cure: "begin a new log, with a larger limit where there is one, or a new order, with the rows put in by \
+            calls",
+        in_c: "",
+    },
+    Explanation {
+        number: "O2",
+        cause: "out of memory, at a node's log; the entry isn't in the log",
+        cure: "give the process more memory, and call again",
+        in_c: "",
+    },
+    Explanation {
+        number: "O3",
+        cause: "the snapshot of an entry lies beyond what its appender has seen of the log; nothing was appended",
+        cure: "read the log on to the snapshot, and append the entry again",
+        in_c: "",
+    },
+    Explanation {
+        number: "K1",
+        cause: "the node has no replica of this number (`RebuildFault::NoReplica`)",
+        cure: "ask for one of 1 to the node's number of replicas",
+        in_c: "",
+    },
+    Explanation {
+        number: "K2",
+        cause: "out of memory (`RebuildFault::NoMemory`); the replica is as it was",
+        cure: "give the process more memory, and rebuild the replica again",
         in_c: "",
     },
     Explanation {

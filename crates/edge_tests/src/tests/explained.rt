@@ -3,14 +3,15 @@ use std::alloc::Global;
 use std::process::Abort;
 
 /// The letters of refusals, and how many numbers each has from 1 on.
-const LETTERS: [(&str, u32); 9] = [
+const LETTERS: [(&str, u32); 10] = [
     ("B", 12),
     ("S", 4),
     ("V", 12),
     ("C", 5),
     ("P", 14),
     ("E", 5),
-    ("O", 1),
+    ("O", 3),
+    ("K", 2),
     ("L", 9),
     ("N", 6),
 ];
