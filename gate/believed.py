@@ -19,7 +19,7 @@ CLAUSES = [
 ]
 # which program the bytes of an addition are, and whether it passes its check
 LEFT_OUT = {("definition", "program_checks", "Check", "check_of")}
-PAGE = "docs/DEFINITIONS.md"
+MADE = "docs/DEFINITIONS.md"
 FIGURES = re.compile(r"(\d+) lines of definitions and (\d+) of types, as `python3 gate/believed.py` counts them")
 
 NAME = re.compile(r"[^\W\d][\w'-]*(?:\.[\w'-]+)*")
@@ -178,7 +178,7 @@ def sums(found):
 
 def is_today():
     """Whether the page has the figures of today's definitions."""
-    said = FIGURES.search(workspace.read(PAGE).decode())
+    said = FIGURES.search(workspace.read(MADE).decode())
     return bool(said) and tuple(map(int, said.groups())) == sums(believed())
 
 

@@ -1,7 +1,5 @@
 """Command lines of the program, each with its exit status, what it prints and how its fault begins: the contracts of
-the engines say nothing of words and files. What is expected is what the README, docs/FORMATS.md and docs/REFUSALS.md say.
-
-`python3 gate/command_lines.py PROGRAM` runs them alone.
+the engines say nothing of words and files. What is expected is what docs/FORMATS.md and docs/REFUSALS.md say.
 """
 import collections
 import contextlib
@@ -10,7 +8,6 @@ import pty
 import re
 import shutil
 import subprocess
-import sys
 import tempfile
 
 import explanations
@@ -239,14 +236,10 @@ def failures(program):
     return [f"{said(row)}: {why}" for row, why in found if why]
 
 
-def run(program):
-    """Prints which command lines failed. Returns how many passed, and how many did not."""
+def run(program, tally):
+    """Counts the command lines, and prints which failed."""
     failed, count = failures(program), len(rows())
     for it in failed:
         print(f"command line {it}: FAILED", flush=True)
     print(f"command lines: {count - len(failed)} of {count} as they should be", flush=True)
-    return count - len(failed), len(failed)
-
-
-if __name__ == "__main__":
-    sys.exit(1 if run(sys.argv[1])[1] else 0)
+    tally.count(count - len(failed), len(failed))

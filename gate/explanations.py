@@ -9,7 +9,7 @@ import textwrap
 import workspace
 
 PAGE = "docs/REFUSALS.md"
-ROWS = "crates/explanations/src/rows.rt"
+MADE = "crates/explanations/src/rows.rt"
 ROW = re.compile(r"\| [A-Z]\d+ \|")
 HEAD = """\
 //! The rows of docs/REFUSALS.md, as gate/explanations.py copies them.
@@ -56,9 +56,9 @@ def source():
 
 
 def is_today():
-    return workspace.read(ROWS).decode() == source()
+    return workspace.read(MADE).decode() == source()
 
 
 if __name__ == "__main__":
-    with open(f"{workspace.ROOT}/{ROWS}", "w") as file:
-        print(f"{ROWS}: {file.write(source())} characters", file=sys.stderr)
+    with open(f"{workspace.ROOT}/{MADE}", "w") as file:
+        print(f"{MADE}: {file.write(source())} characters", file=sys.stderr)

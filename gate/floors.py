@@ -7,7 +7,7 @@ import re
 
 import workspace
 
-PAGE = "docs/MAP.md"
+MADE = "docs/MAP.md"
 HEAD = """\
 # Map
 
@@ -74,9 +74,9 @@ def page():
 
 
 def is_today():
-    return workspace.read(PAGE).decode() == page()
+    return workspace.read(MADE).decode() == page()
 
 
 if __name__ == "__main__":
-    with open(f"{workspace.ROOT}/{PAGE}", "w") as file:
+    with open(f"{workspace.ROOT}/{MADE}", "w") as file:
         file.write(page())

@@ -1,4 +1,4 @@
-"""Tests of the kit for procedures (sdk/), by the program that was built: what the stories of examples/ print, the
+"""Tests of the kit for procedures (sdk/), by a program: what the stories of examples/ print, the
 programs and pictures that are committed, and, where clang is there, that they come out of their sources again."""
 import glob
 import os
@@ -13,15 +13,11 @@ import workspace
 KIT = f"{workspace.ROOT}/sdk"
 VERSION = 19  # of clang, with which the committed programs were made
 OLDEST = 18  # that makes programs as the kit asks
+INSTALL = f"apt-get install clang-{VERSION} libclang-rt-{VERSION}-dev"
 
 
 def ran(words, program, **how):
     return subprocess.run(words, env={**os.environ, "DSMDB": program}, capture_output=True, text=True, **how)
-
-
-def told(name, well, why=""):
-    print(f"{name}: {'as it should be' if well else f'FAILED {why}'}".rstrip(), flush=True)
-    return well
 
 
 def text_of(path):
@@ -78,8 +74,8 @@ def compiles(program, folder, room, clang, of_bytes):
             return False
     flags = ["-fsanitize=undefined", "-fno-sanitize-recover=all", "-fwrapv", f"-I{KIT}/c"]
     words = [clang, *flags, f"{anew}/{name}_test.c", f"{KIT}/c/host.c", "-o", f"{anew}/test"]
-    for it in (ran(words, program), ran([f"{anew}/test"], program)):
-        if it.returncode:
+    for step in (words, [f"{anew}/test"]):
+        if (it := ran(step, program)).returncode:
             print(it.stdout + it.stderr)
             return False
     committed = glob.glob(f"{folder}/*.bpf") + glob.glob(f"{folder}/*.dsm")
@@ -90,25 +86,43 @@ def named(path):
     return os.path.relpath(path, workspace.ROOT)
 
 
-def run(program):
-    """Runs the tests with a program. Returns how many passed, and how many did not."""
+def run_in_c(program, folders, clang, tally):
+    """Compiles the sources of examples/ anew, and tries what the kit answers to mistakes in such sources."""
+    os.environ["CLANG"] = clang
+    with tempfile.TemporaryDirectory(prefix="procedures-") as room:
+        for it in folders:
+            tally.tell(f"source of {named(it)}", compiles(program, it, room, clang, version_of(clang) == VERSION))
+    if version_of(clang) == VERSION:  # whose words the kit has in words of its own
+        answered = ran([f"{KIT}/c/tests/refused"], program)
+        tally.tell("answers to mistakes in C", answered.returncode == 0, answered.stderr[-300:])
+
+
+def run_layouts(program, tally):
+    """Compares the kit's layouts of procedures with what clang made, on drawn arguments and rows."""
+    clang = clang_here()
+    if clang:
+        os.environ["CLANG"] = clang
+        compared = ran([f"{KIT}/c/tests/compare_layouts"], program)
+        tally.tell("layouts of procedures", compared.returncode == 0, compared.stderr[-300:])
+    else:
+        tally.leave_out("layouts of procedures", INSTALL)
+
+
+def clang_here():
+    """Returns the command of a clang that makes programs for BPF as the kit asks; None where there is none."""
+    return next((it for it in (f"clang-{VERSION}", "clang") if version_of(it)), None)
+
+
+def run(program, tally):
     sys.stdout.flush()
     folders = sorted(os.path.dirname(it) for it in glob.glob(f"{workspace.ROOT}/examples/*/README.md"))
-    pictures = sorted(glob.glob(f"{workspace.ROOT}/examples/**/*.svg", recursive=True))
-    results = [told(f"picture {named(it)}", draws(program, it)) for it in pictures]
+    for it in sorted(glob.glob(f"{workspace.ROOT}/examples/**/*.svg", recursive=True)):
+        tally.tell(f"picture {named(it)}", draws(program, it))
     for folder in folders:
         scripts = glob.glob(f"{folder}/*.dsm")
-        results.append(told(f"programs of {named(folder)}", scripts and all(accepts(program, it) for it in scripts)))
-    clang = next((it for it in (f"clang-{VERSION}", "clang") if version_of(it)), None)
-    if clang is None:
-        print(f"procedures in C were not compiled anew: clang-{VERSION} isn't here (apt-get install clang-{VERSION})", flush=True)
-    else:
-        os.environ["CLANG"] = clang
-        with tempfile.TemporaryDirectory(prefix="procedures-") as room:
-            results += [told(f"source of {named(it)}", compiles(program, it, room, clang, version_of(clang) == VERSION)) for it in folders]
-        compared = ran([f"{KIT}/c/tests/compare_layouts"], program)
-        results.append(told("layouts of procedures", compared.returncode == 0, compared.stderr[-300:]))
-        if version_of(clang) == VERSION:  # whose words the kit has in words of its own
-            answered = ran([f"{KIT}/c/tests/refused"], program)
-            results.append(told("answers to mistakes in C", answered.returncode == 0, answered.stderr[-300:]))
-    return sum(map(bool, results)), sum(not it for it in results)
+        tally.tell(f"programs of {named(folder)}", scripts and all(accepts(program, it) for it in scripts))
+    clang = clang_here()
+    if clang:
+        run_in_c(program, folders, clang, tally)
+    if version_of(clang or "") != VERSION:
+        tally.leave_out("procedures in C, to the byte" if clang else "procedures in C", INSTALL)

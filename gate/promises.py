@@ -1,22 +1,29 @@
-"""The table of promises: of each public function its documentation and the names of its clauses, read off the sources.
-
-`python3 gate/promises.py` writes it into docs/PROMISES.md, behind the line that says so.
+"""What is promised, read off the sources: the definitions of each crate with the comments at them, and each public
+function with its documentation and its clauses. `./prove --promises` prints them.
 """
 import re
-import sys
 
 import workspace
 
-PAGE = "docs/PROMISES.md"
-MARK = "<!-- what follows is made by gate/promises.py from the sources -->\n"
 WITHOUT = re.compile(r".*_(tests|bench)")
 HEAD = re.compile(r"(?P<indent> *)(?:#\[[^\]]*\] *)?(?P<public>pub )?(?:const )?fn (?P<name>\w+)")
 IMPL = re.compile(r"impl(?:<.*?>)? (?:(?P<interface>[\w:]+)(?:<.*?>)? for )?&?(?:'\w+ )?(?:mut )?(?P<type>\w+)")
-CLAUSE = re.compile(r" *ensures\*? +(?:(?P<name>\w+) +)?\{")
+CLAUSE = re.compile(r" *(?:requires|ensures)\b")
+
+
+def head_of(crate):
+    """Returns what a crate's root says of it: its first paragraph of documentation."""
+    said = []
+    for root in ("lib", "main"):
+        for line in workspace.read(f"crates/{crate}/src/{root}.rt").decode().splitlines():
+            if not line.startswith("//!") or line == "//!":
+                break
+            said.append(line.removeprefix("//!").strip())
+    return " ".join(said)
 
 
 def shown(crate):
-    """Returns the names that a crate's root hands on, and whether it has modules that are public whole."""
+    """Returns the names that a crate's root hands on, and the modules that are public whole."""
     root = workspace.read(f"crates/{crate}/src/lib.rt").decode()
     names = set()
     for it in re.findall(r"^pub use [^;]*;", root, re.M):
@@ -26,23 +33,23 @@ def shown(crate):
 
 
 def clauses_of(lines, at):
-    """Returns the names of a function's clauses, from the line that it begins with."""
-    found, left_open = [], 0
+    """Returns the lines of a function's clauses, from the line that it begins with."""
+    found, left_open, inside = [], 0, False
     if lines[at].endswith("{"):
         return found
     for line in lines[at + 1 :]:
         starts = re.match(r" *(ensures|requires|ghost)\b", line)
-        if clause := CLAUSE.match(line):
-            found.append(clause["name"] or "")
         if starts or left_open:
+            inside = bool(CLAUSE.match(line)) if starts else inside
             # a clause of several lines may have records, whose fields end like a function without a body
             left_open += line.count("{") - line.count("}")
+            found += [line.strip()] if inside else []
         elif re.match(r" *(\{\}?|\) *(->.*)?\{|.*;)$", line):
             break
     return found
 
 
-def promises_of(path, names, is_public_module):
+def functions_of(path, names, is_public_module):
     """Yields (name, documentation, clauses) of each function of a file that callers can see."""
     lines, said, owner, interface = workspace.read(path).decode().splitlines(), [], None, None
     for at, line in enumerate(lines):
@@ -65,33 +72,30 @@ def promises_of(path, names, is_public_module):
             said = []
 
 
-def rows():
-    for crate in sorted(it for it in workspace.lines() if not WITHOUT.fullmatch(it)):
-        names, modules = shown(crate)
-        first = True
-        for path in workspace.files(crate):
-            if not path.endswith(".rt") or "/tests" in path:
-                continue
+def functions(crate):
+    """Yields the public functions of a crate, as its files have them."""
+    names, modules = shown(crate)
+    for path in workspace.files(crate):
+        if path.endswith(".rt") and path.startswith(f"crates/{crate}/src/") and "/tests" not in path:
             module = path.removeprefix(f"crates/{crate}/src/").removesuffix(".rt").split("/")[0]
-            for name, said, clauses in promises_of(path, names, module in modules or module == "lib"):
-                named = ", ".join(f"`{it}`" if it else "lone" for it in clauses) or "none"
-                yield f"| {crate if first else ''} | `{name}` | {said.replace('|', chr(92) + '|')} | {named} |"
-                first = False
+            yield from functions_of(path, names, module in modules or module == "lib")
+
+
+def definitions(crate):
+    """Yields (file, text) of each file of a crate's definitions, without its imports."""
+    for path in workspace.files(crate):
+        if path.startswith(f"crates/{crate}/specs/") and not path.endswith("/Lib.antt"):
+            lines = [it for it in workspace.read(path).decode().splitlines() if not re.match(r"(pub |unfoldable )*use ", it)]
+            yield path, "\n".join(lines).strip()
 
 
 def page():
-    """Returns the page as it should be: what stands there by hand, and the table."""
-    by_hand = workspace.read(PAGE).decode().partition(MARK)[0]
-    head = "\n| Crate | Function or law | What it says | Clauses |\n|---|---|---|---|\n"
-    return by_hand + MARK + head + "\n".join(re.sub(r"\| +\|", "| |", it) for it in rows()) + "\n"
-
-
-def is_today():
-    return workspace.read(PAGE).decode() == page()
-
-
-if __name__ == "__main__":
-    text = page()
-    with open(f"{workspace.ROOT}/{PAGE}", "w") as file:
-        file.write(text)
-    print(f"{PAGE}: {text.count(chr(10))} lines", file=sys.stderr)
+    """Yields the lines of a page with all definitions and all public functions, a crate after another."""
+    yield "# Definitions and promises, as the sources have them"
+    for crate in (it for it in workspace.lines() if not WITHOUT.fullmatch(it)):
+        yield from ["", f"## {crate}", "", head_of(crate)]
+        for path, text in definitions(crate):
+            yield from ["", f"### {path}", "", "```", text, "```"]
+        for name, said, clauses in functions(crate):
+            yield from ["", f"### `{name}`", "", said or "(no documentation)"]
+            yield from ["", "```", *clauses, "```"] if clauses else []

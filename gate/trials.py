@@ -10,7 +10,7 @@ AGAIN = 2  # how many crates of those whose trial stands are tried again
 HEAD = """# The crates whose must-fail edits were all refused: sums of what that trial saw (the crate's own files; of the crates
 # below code and definitions, all sources, the interfaces of their libraries), the run of the gate that tried them, the
 # run since which they wait for another trial (- where the trial stands), and the processor seconds that they take.
-# ./test writes this file; commit it. docs/TESTING.md says how it is used.
+# ./prove writes this file; commit it. `./prove --plan` says which edits it would try, and why.
 """
 
 

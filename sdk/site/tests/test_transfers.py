@@ -15,7 +15,7 @@ import unittest.mock
 
 import fixtures
 from etcd_nodes import NOT_THERE, THERE, Node, Relay
-from fixtures import KIT, LONG, SiteTest, words
+from fixtures import KIT, LONG, SiteTest, until, words
 from order.etcd import EtcdOrder
 from order.gateway import Gateway
 from order.journal import Journal
@@ -153,7 +153,8 @@ class Transfers(SiteTest):
         reads it from its beginning."""
         end = int(sites["one"].ask(f"call transfer {words(0, 0, 0, 2000)} 1 1 fresh").split(" ")[1])
         sites["four"] = self.start("four").begun()
-        self.alike(end, *sites.values())
+        # a session that was asked for may still come to stand behind it
+        self.alike(until(lambda: self.where_all_stand(sites, end)), *sites.values())
         rows = dict(it.split()[1:] for it in sites["one"].rows()[:-1])
         number = {int(key): int.from_bytes(bytes.fromhex(row), "little") for key, row in rows.items()}
         self.assertEqual(sum(number.get(it, 0) for it in range(ACCOUNTS)) % (1 << 64), 0)
@@ -165,6 +166,12 @@ class Transfers(SiteTest):
         heard = [(pair, answer) for it in clients for pair, answer in it.answers.items()]
         answered = {int(answer[1]): pair for pair, answer in heard if answer[0] == "committed"}
         self.assertEqual(self.commits(), {**answered, end: (1, 1)})
+
+    def where_all_stand(self, sites, end):
+        """Returns the position at which all sites have taken in what they have read, at least this; None where there is none."""
+        found = {tuple(it.at(end).status()[:2]) for it in sites.values()}
+        position, read = found.pop()
+        return int(position) if not found and position == read else None
 
     def strings(self):
         """Returns the strings of the order, as HEX."""

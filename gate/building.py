@@ -1,0 +1,115 @@
+"""Proves and builds the program here, by all processors. What was proved is kept when that is interrupted."""
+import os
+import re
+import subprocess
+import sys
+
+import programs
+from workspace import ROOT
+
+FOLDER = f"{ROOT}/crates/{programs.NAME}"
+MEMORY = 4 << 30  # what a check may take, in bytes
+
+
+class Failed(Exception):
+    """The program wasn't built; what was said of it stands on standard error."""
+
+
+def say(text):
+    print(f"dsmdb: {text}", file=sys.stderr, flush=True)
+
+
+def number_in(path, pattern):
+    """Returns the first number of a file that follows the pattern, or None."""
+    try:
+        with open(path) as file:
+            found = re.search(pattern, file.read())
+    except OSError:
+        return None
+    return int(found[1]) if found else None
+
+
+def jobs():
+    """Returns how many crates to prove at a time: one a processor, as far as memory goes."""
+    processors = len(os.sched_getaffinity(0))
+    quota, period = (number_in("/sys/fs/cgroup/cpu.max", it) for it in (r"^(\d+)", r" (\d+)"))
+    if quota and period:
+        processors = min(processors, max(quota // period, 1))
+    free = 1024 * (number_in("/proc/meminfo", r"MemAvailable:\s+(\d+)") or 0)
+    limit = number_in("/sys/fs/cgroup/memory.max", r"^(\d+)")
+    if limit:
+        free = min(free, limit - (number_in("/sys/fs/cgroup/memory.stat", r"anon (\d+)") or 0))
+    return max(min(processors, free // MEMORY), 1)
+
+
+def run(words, heard):
+    """Runs a command in the program's folder, hands on each line that it prints, and returns its status."""
+    how = {"stdin": subprocess.DEVNULL, "stdout": subprocess.PIPE, "stderr": subprocess.STDOUT, "text": True}
+    with subprocess.Popen(words, cwd=FOLDER, errors="replace", **how) as command:
+        try:
+            for line in command.stdout:
+                heard(line.rstrip("\n"))
+        except KeyboardInterrupt:
+            command.terminate()
+            raise
+    return command.returncode
+
+
+class Progress:
+    """Tells of each crate when it is proved, and keeps what was said of those that weren't."""
+
+    def __init__(self, count):
+        self.count, self.done, self.block, self.failed, self.killed = count, 0, [], [], False
+
+    def hear(self, line):
+        if line.startswith("== "):
+            self.end_block()
+            self.block = [line]
+        elif line.startswith("rt: waiting for another rt"):
+            say(line.removeprefix("rt: "))
+        else:
+            self.block.append(line)
+
+    def end_block(self):
+        """A block is what was said of one crate: nothing where it was proved before."""
+        name, said = (self.block or [""])[0].removeprefix("== "), self.block[1:]
+        proved = [it for it in said if it.startswith("logic=")][-1:]
+        if not self.block or not self.block[0].startswith("== ") or name == "summary":
+            self.failed += self.block
+            self.killed = self.killed or any("failed (-9)" in it for it in said)
+        elif not said or proved and proved[0].startswith("logic=proved"):
+            self.done += 1
+            if said:
+                say(f"proved {self.done} of {self.count}: {name}")
+        else:
+            self.failed += self.block
+            say(f"not proved: {name}")
+
+
+def prove_all():
+    """Proves the program and all below it. Returns the status, and what was said where that failed."""
+    at_once, count = jobs(), len(programs.crates())
+    say(f"proving and building it, {count} crates, {at_once} at a time, from nothing half an hour or more")
+    while True:
+        progress = Progress(count)
+        status = run(["rt", "all", "check", "--jobs", str(at_once)], progress.hear)
+        progress.end_block()
+        if status == 0 or not progress.killed or at_once == 1:
+            return status, progress.failed
+        at_once = max(at_once // 2, 1)
+        say(f"memory ran out: going on with {at_once} at a time")
+
+
+def build(reason):
+    """Proves and builds the program. Raises Failed where that fails."""
+    say(f"{reason}; what is proved is kept when this is interrupted")
+    of_sources = programs.sources()
+    status, said = prove_all()
+    if status == 0:
+        said = []
+        say("linking")
+        status = run(["rt", "run", "--jobs", str(jobs()), "--", "--help"], said.append)
+    if status or not os.path.isfile(programs.BUILT):
+        print("\n".join(said), file=sys.stderr)
+        raise Failed("the build failed")
+    programs.write_origin(programs.BUILT, of_sources, programs.kit_here())
