@@ -1,17 +1,19 @@
 """The floors of the workspace: the blocks of crates.txt, the edges between crates, and the map of both.
 
 In crates.txt each block begins with a comment, `## Name: what it is`, lowest first; a crate lists none of a higher block.
+What a crate is stands at its head: the first sentence of its root file's documentation.
 `python3 gate/floors.py` writes docs/MAP.md.
 """
 import re
 
+import promises
 import workspace
 
 MADE = "docs/MAP.md"
 HEAD = """\
 # Map
 
-Made by `python3 gate/floors.py` from `crates.txt`, which lists of each crate all that its files name. Here stand only the edges that aren't implied by others: a crate that stands on another stands on all below it, too. No edge goes up. What each crate does is in [ARCHITECTURE](ARCHITECTURE.md).
+Every crate, by block, with the subject that its head names. `crates.txt` has the blocks and lists what each crate uses; no crate uses a crate of a higher block. The last column leaves out what another crate in that column stands on. This page is made by `python3 gate/floors.py`; [the life of a call](ARCHITECTURE.md) says how the parts work together.
 
 """
 
@@ -30,6 +32,11 @@ def blocks():
 def direct(crate):
     """Returns the crates of the tree that a crate lists."""
     return [it for it in workspace.libraries(crate) if it in workspace.lines()]
+
+
+def subject(crate):
+    """Returns the first sentence of a crate's head, without its full stop."""
+    return re.split(r"[.:](?: |$)", promises.head_of(crate), maxsplit=1)[0].replace("|", "\\|")
 
 
 def faults():
@@ -68,8 +75,9 @@ def page():
     edges = reduced({crate: direct(crate) for crate in workspace.lines()})
     parts = [HEAD, picture()]
     for at, (name, said, crates) in reversed([*enumerate(found)]):
-        rows = [f"| `{crate}` | {', '.join(f'`{it}`' for it in edges[crate])} |" for crate in reversed(crates)]
-        parts.append("\n".join(["", f"## {at + 1}. {name}", "", f"{said[0].upper()}{said[1:]}.", "", "| Crate | Stands on |", "|---|---|", *rows, ""]))
+        rows = [f"| `{crate}` | {subject(crate)} | {', '.join(f'`{it}`' for it in edges[crate])} |" for crate in reversed(crates)]
+        head = ["", f"## {at + 1}. {name}", "", f"{said[0].upper()}{said[1:]}.", "", "| Crate | Subject | Stands on |", "|---|---|---|"]
+        parts.append("\n".join([*head, *rows, ""]))
     return "".join(parts)
 
 
