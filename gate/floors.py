@@ -13,7 +13,7 @@ MADE = "docs/MAP.md"
 HEAD = """\
 # Map
 
-Every crate, by block, with the subject that its head names. `crates.txt` has the blocks and lists what each crate uses; no crate uses a crate of a higher block. The last column leaves out what another crate in that column stands on. This page is made by `python3 gate/floors.py`; [the life of a call](ARCHITECTURE.md) says how the parts work together.
+Every crate, by block, with the subject that its head names. `crates.txt` has the blocks and lists what each crate uses; and no crate uses a crate of a higher block. This page is made by `python3 gate/floors.py`; [the life of a call](ARCHITECTURE.md) says how the parts work together.
 
 """
 
@@ -72,11 +72,10 @@ def picture():
 
 def page():
     found = blocks()
-    edges = reduced({crate: direct(crate) for crate in workspace.lines()})
     parts = [HEAD, picture()]
     for at, (name, said, crates) in reversed([*enumerate(found)]):
-        rows = [f"| `{crate}` | {subject(crate)} | {', '.join(f'`{it}`' for it in edges[crate])} |" for crate in reversed(crates)]
-        head = ["", f"## {at + 1}. {name}", "", f"{said[0].upper()}{said[1:]}.", "", "| Crate | Subject | Stands on |", "|---|---|---|"]
+        rows = [f"| `{crate}` | {subject(crate)} |" for crate in reversed(crates)]
+        head = ["", f"## {at + 1}. {name}", "", f"{said[0].upper()}{said[1:]}.", "", "| Crate | Subject |", "|---|---|"]
         parts.append("\n".join([*head, *rows, ""]))
     return "".join(parts)
 
