@@ -13,7 +13,7 @@ MADE = "docs/MAP.md"
 HEAD = """\
 # Map
 
-Every crate, by block, with the subject that its head names. `crates.txt` has the blocks and lists what each crate uses; and no crate uses a crate of a higher block. This page is made by `python3 gate/floors.py`; [the life of a call](ARCHITECTURE.md) says how the parts work together.
+Every crate, by block, with the subject that its head names. `crates.txt` has the blocks and lists what each crate uses, and no crate uses a crate of a higher block. This page is made by `python3 gate/floors.py`; [the life of a call](ARCHITECTURE.md) says how the parts work together.
 
 """
 
