@@ -278,7 +278,7 @@ class Sites(SiteTest):
     def rewrite(self):
         with open(self.path, "r+b") as file:
             lines = file.read().split(b"\n")
-            lines[1] = b"00" * (len(lines[1]) // 2)
+            lines[-2] = b"00" * (len(lines[-2]) // 2)
             file.seek(0)
             file.write(b"\n".join(lines))
 
@@ -287,10 +287,17 @@ class Sites(SiteTest):
         session = one.ask("session").split(" ")[1]
         two.at(2)
         with open(self.path, "r+b") as file:
-            fcntl.flock(file, fcntl.LOCK_EX)
-            connection = one.connect()
-            connection.send(f"call add {words(5, 3)} {session} 1")
-            fixtures.until(lambda: "WRITE" in one.waits_for_locks())
+            connection, asked = one.connect(), 0
+            while "WRITE" not in one.waits_for_locks():
+                if asked > 0:  # the reader waits first: it is let through, and another call is made
+                    fcntl.flock(file, fcntl.LOCK_UN)
+                    self.assertIn("committed", connection.line())
+                    two.at(2 + asked)
+                fcntl.flock(file, fcntl.LOCK_EX)
+                asked += 1
+                connection.send(f"call add {words(5, 3)} {session} {asked}")
+                one.rows()  # the engine has answered the call
+                fixtures.until(one.waits_for_locks)
             self.rewrite()
             with open(self.path, "rb") as now:
                 before = now.read()
