@@ -8,6 +8,7 @@ import programs
 from workspace import ROOT
 
 FOLDER = f"{ROOT}/crates/{programs.NAME}"
+RT = [sys.executable, f"{ROOT}/gate/rt.py"]
 MEMORY = 4 << 30  # what a check may take, in bytes
 
 
@@ -92,7 +93,7 @@ def prove_all():
     say(f"proving and building it, {count} crates, {at_once} at a time, from nothing half an hour or more")
     while True:
         progress = Progress(count)
-        status = run(["rt", "all", "check", "--jobs", str(at_once)], progress.hear)
+        status = run([*RT, "all", "check", "--jobs", str(at_once)], progress.hear)
         progress.end_block()
         if status == 0 or not progress.killed or at_once == 1:
             return status, progress.failed
@@ -108,7 +109,7 @@ def build(reason):
     if status == 0:
         said = []
         say("linking")
-        status = run(["rt", "run", "--jobs", str(jobs()), "--", "--help"], said.append)
+        status = run([*RT, "run", "--jobs", str(jobs()), "--", "--help"], said.append)
     if status or not os.path.isfile(programs.BUILT):
         print("\n".join(said), file=sys.stderr)
         raise Failed("the build failed")

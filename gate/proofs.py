@@ -6,6 +6,7 @@ import resource
 import shutil
 import signal
 import subprocess
+import sys
 import time
 
 import workspace
@@ -60,7 +61,7 @@ def prove(tree, scratch):
     """Runs rt ci on a tree, and prints what it says but for its last line."""
     found = Proofs()
     gate = subprocess.Popen(
-        ["rt", "ci"], cwd=tree, env=environment(scratch), stdin=subprocess.DEVNULL, stdout=subprocess.PIPE,
+        [sys.executable, f"{ROOT}/gate/rt.py", "ci"], cwd=tree, env=environment(scratch), stdin=subprocess.DEVNULL, stdout=subprocess.PIPE,
         stderr=subprocess.STDOUT, text=True, errors="replace", start_new_session=True)
     try:
         for line in gate.stdout:

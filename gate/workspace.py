@@ -42,11 +42,6 @@ def below(crate):
     return sorted({*direct, *(lower for it in direct for lower in below(it))})
 
 
-def readings(crate):
-    """Returns how often rt reads a crate's files to see whether one is built: once for each way down to it."""
-    return 1 + sum(readings(it) for it in libraries(crate) if it in lines())
-
-
 @cache
 def files(crate):
     """Returns the paths of a crate's files, but for what was built."""
