@@ -1,0 +1,39 @@
+package order
+
+import (
+	"crypto/rand"
+	"crypto/sha256"
+	"fmt"
+)
+
+// Strings that servers make for themselves begin with 00, so that they are nothing to a site:
+//
+//	00 01  and the SHA-256 of the settings: the first of an order
+//	00 02  and 16 random bytes: a session, whose number is its position
+
+// First returns the string that an order for these settings begins with.
+func First(settings []byte) []byte {
+	sum := sha256.Sum256(settings)
+	return append([]byte{0, 1}, sum[:]...)
+}
+
+// NewSession returns a string whose position is a session's number.
+func NewSession() ([]byte, error) {
+	drawn := make([]byte, 18)
+	drawn[1] = 2
+	if _, err := rand.Read(drawn[2:]); err != nil {
+		return nil, fmt.Errorf("drawing a session: %w", err)
+	}
+	return drawn, nil
+}
+
+// IsOfServers returns whether a string has the form of one that servers make for themselves.
+func IsOfServers(text []byte) bool {
+	switch len(text) {
+	case 34:
+		return text[0] == 0 && text[1] == 1
+	case 18:
+		return text[0] == 0 && text[1] == 2
+	}
+	return false
+}
