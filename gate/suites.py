@@ -3,6 +3,7 @@ import command_lines
 import examples
 import launching
 import procedures
+import server
 import sites
 
 SUITES = {
@@ -12,6 +13,7 @@ SUITES = {
     "layouts": procedures.run_layouts,
     "launcher": launching.run,
     "sites": sites.run,
+    "server": server.run,
 }
 
 

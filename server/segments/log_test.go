@@ -139,8 +139,11 @@ func TestARecordHasOneToLongestBytes(t *testing.T) {
 // Wherever the power goes, and whatever becomes of what wasn't forced: what was appended is there, and at most the
 // record besides that was on its way.
 func TestPowerCutsLoseNothing(t *testing.T) {
-	seed := int64(1)
-	for round := 0; round < 3000; round++ {
+	seed, rounds := int64(1), 1000
+	if testing.Short() {
+		rounds = 100
+	}
+	for round := 0; round < rounds; round++ {
 		random := rand.New(rand.NewSource(seed + int64(round)))
 		disk := newMemory()
 		kept, begun := 0, 0
@@ -188,8 +191,11 @@ func TestEachFlippedBitIsFound(t *testing.T) {
 	disk, count := newMemory(), 12
 	filled(t, disk, count)
 	flip := func(bytes []byte, at int) { bytes[at/8] ^= 1 << (at % 8) }
-	refused, cut := 0, 0
-	changed(disk, flip, 1, 1, func(other *memory, name string, at int) {
+	refused, cut, step := 0, 0, 1
+	if testing.Short() {
+		step = 5
+	}
+	changed(disk, flip, step, 1, func(other *memory, name string, at int) {
 		_, found, err := opened(t, other, Options{})
 		same(t, found)
 		var damage *Damage
@@ -204,7 +210,7 @@ func TestEachFlippedBitIsFound(t *testing.T) {
 			t.Fatalf("%s, bit %d: %d records", name, at, len(found))
 		}
 	})
-	if refused == 0 || cut < 8*len(textOf(count)) {
+	if refused == 0 || cut < 8*len(textOf(count))/step {
 		t.Errorf("%d were refused, %d cut", refused, cut)
 	}
 }
