@@ -8,7 +8,7 @@ import tempfile
 from workspace import ROOT
 
 INSTALL = "apt-get install golang-go"
-FUZZED = {"batch": "FuzzRead"}  # by package
+FUZZED = {"batch": "FuzzRead", "wire": "FuzzRead"}  # by package
 SECONDS = 20  # of fuzzing, for each
 
 
