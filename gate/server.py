@@ -15,13 +15,13 @@ SECONDS = 20  # of fuzzing, for each
 class Tree:
     """The server's packages as Go looks for them: below a folder of GOPATH, before Debian's."""
 
-    def __init__(self, room):
+    def __init__(self, room, program=""):
         self.folder = f"{room}/src/dsmdb/server"
         os.mkdir(f"{room}/src")
         os.symlink(ROOT, f"{room}/src/dsmdb")
         self.environment = {
             **os.environ, "GOPATH": f"{room}:/usr/share/gocode", "GO111MODULE": "off", "GOFLAGS": "", "PWD": self.folder,
-            "GOCACHE": f"{ROOT}/out/go-build"}
+            "GOCACHE": f"{ROOT}/out/go-build", "DSMDB": program}
 
     def ran(self, *words):
         return subprocess.run(
@@ -62,15 +62,15 @@ def run_tests(tree, tally, *more):
 def run(program, tally):
     if there(tally):
         with tempfile.TemporaryDirectory(prefix="server-") as room:
-            run_tests(Tree(room), tally)
+            run_tests(Tree(room, program), tally)
 
 
-def run_long(tally):
+def run_long(program, tally):
     """Format, vet, the race detector, and some fuzzing."""
     if not there(tally):
         return
     with tempfile.TemporaryDirectory(prefix="server-") as room:
-        tree = Tree(room)
+        tree = Tree(room, program)
         found = tree.ran("gofmt", "-l", ".").stdout
         tally.tell("the server's format", not found, found)
         found = tree.ran("go", "vet", "./...")
