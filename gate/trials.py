@@ -4,8 +4,8 @@ from typing import NamedTuple
 import workspace
 
 LIST = "edits-tried.txt"
-BUDGET = 60 * 60  # processor seconds of edits that a run plans
-PATIENCE = 5  # how many runs may put a crate off
+BUDGET = 30 * 60  # processor seconds of edits that a run plans
+PATIENCE = 12  # how many runs may put a crate off
 AGAIN = 2  # how many crates of those whose trial stands are tried again
 HEAD = """# The crates whose must-fail edits were all refused: sums of what that trial saw (the crate's own files; of the crates
 # below code and definitions, all sources, the interfaces of their libraries), the run of the gate that tried them, the
