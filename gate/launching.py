@@ -12,7 +12,9 @@ import workspace
 from workspace import ROOT
 
 SCRIPT = "examples/two-replicas.dsm"
+CHANGED = "crates/dsmdb/src/main.rt"
 KIT = "a kit"  # which the release in the copy names
+LIMIT = 300  # seconds, after which a command has failed
 
 
 class Copy:
@@ -29,7 +31,9 @@ class Copy:
         shutil.copytree(f"{ROOT}/gate", f"{self.folder}/gate", ignore=shutil.ignore_patterns("__pycache__"))
         for name in ("dsmdb", "test", "crates.txt", ".gitignore"):
             shutil.copy(f"{ROOT}/{name}", self.folder)
+        os.chmod(f"{self.folder}/{CHANGED}", 0o644)
         self.shipped = f"{self.folder}/release/dsmdb"
+        self.sources = programs.sources_of(self.folder)
         self.put(program, self.shipped)
         self.files = self.listing()
 
@@ -38,14 +42,15 @@ class Copy:
         os.makedirs(os.path.dirname(path), exist_ok=True)
         shutil.copy(program, path)
         os.chmod(path, 0o755)
-        programs.write_origin(path, programs.sources(), KIT)
+        programs.write_origin(path, self.sources, KIT)
 
     def listing(self):
         return {os.path.relpath(f"{at}/{name}", self.folder) for at, _, names in os.walk(self.folder) for name in names}
 
     def asked(self, *words):
         """Runs a command of the copy, and returns its status, its output and its lines of faults."""
-        ran = subprocess.run(words, cwd=self.folder, env={"PATH": self.path}, capture_output=True, text=True, timeout=60)
+        how = {"cwd": self.folder, "env": {"PATH": self.path}, "capture_output": True, "text": True, "errors": "replace"}
+        ran = subprocess.run(words, timeout=LIMIT, **how)
         return ran.returncode, ran.stdout, ran.stderr.splitlines()
 
     def replayed(self):
@@ -82,7 +87,7 @@ def try_shipped(copy, output, tally):
 def try_built(copy, program, output, tally):
     """A program that was built here is taken before the shipped one, as long as it is whole."""
     built = f"{copy.folder}/crates/dsmdb/out/dsmdb"
-    os.remove(f"{copy.folder}/out/told")
+    shutil.rmtree(f"{copy.folder}/out", ignore_errors=True)
     copy.put(program, built)
     found = copy.replayed()
     tally.tell("the program that was built here comes first", found == (0, output, []), str(found)[:300])
@@ -113,8 +118,7 @@ def try_changed_release(copy, program, tally):
 
 def try_changed_sources(copy, tally):
     """No program of other sources is run, or tested."""
-    source = f"{copy.folder}/crates/dsmdb/src/main.rt"
-    with open(source, "a") as file:
+    with open(f"{copy.folder}/{CHANGED}", "a") as file:
         file.write("\n")
     found = copy.replayed()
     tally.tell("a changed source isn't run", refused(found, "aren't those of the shipped program", "kit"), str(found)[:300])

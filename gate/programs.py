@@ -7,6 +7,7 @@ import os
 import re
 import shutil
 import subprocess
+import sys
 from typing import NamedTuple
 
 import workspace
@@ -48,6 +49,13 @@ def sources():
             if path.split("/")[2] in PARTS:
                 whole.update(f"{path} {hashlib.sha256(workspace.read(path)).hexdigest()}\n".encode())
     return whole.hexdigest()
+
+
+def sources_of(tree):
+    """Returns the sum of the sources of another tree, or of this one as it is by now."""
+    words = [sys.executable, "-B", "-c", "import programs; print(programs.sources())"]
+    ran = subprocess.run(words, cwd=f"{tree}/gate", check=True, stdout=subprocess.PIPE, text=True)
+    return ran.stdout.strip()
 
 
 def origin_path(program):

@@ -1,4 +1,7 @@
 """What `./test` runs, by name, with a program."""
+import sys
+import traceback
+
 import command_lines
 import examples
 import launching
@@ -18,7 +21,11 @@ SUITES = {
 
 
 def run(program, tally, names=()):
-    """Runs the suites of some names, or all."""
+    """Runs the suites of some names, or all. One that ends in an exception has failed, and the others run."""
     for name, suite in SUITES.items():
         if not names or name in names:
-            suite(program, tally)
+            try:
+                suite(program, tally)
+            except Exception as fault:
+                traceback.print_exc(file=sys.stdout)
+                tally.tell(f"suite {name}", False, f"ended in {type(fault).__name__}")
