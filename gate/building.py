@@ -1,6 +1,8 @@
 """Proves and builds the program here, by all processors. What was proved is kept when that is interrupted."""
+import contextlib
 import os
 import re
+import signal
 import subprocess
 import sys
 
@@ -17,7 +19,9 @@ class Failed(Exception):
 
 
 def say(text):
-    print(f"dsmdb: {text}", file=sys.stderr, flush=True)
+    """Writes a line to standard error. Where nobody takes it, what was begun goes on."""
+    with contextlib.suppress(OSError):
+        os.write(2, f"dsmdb: {text}\n".encode(errors="replace"))
 
 
 def number_in(path, pattern):
@@ -50,7 +54,7 @@ def run(words, heard):
         try:
             for line in command.stdout:
                 heard(line.rstrip("\n"))
-        except KeyboardInterrupt:
+        except BaseException:
             command.terminate()
             raise
     return command.returncode
@@ -102,7 +106,22 @@ def prove_all():
 
 
 def build(reason):
-    """Proves and builds the program. Raises Failed where that fails."""
+    """Proves and builds the program. Returns 0, or says why there is none and returns the status to end with."""
+    for number in (signal.SIGTERM, signal.SIGHUP):
+        if signal.getsignal(number) == signal.SIG_DFL:
+            signal.signal(number, signal.default_int_handler)
+    try:
+        build_or_fail(reason)
+    except Failed as failed:
+        say(failed)
+        return 3
+    except KeyboardInterrupt:
+        say("interrupted: what was proved is kept, and the next run goes on from there")
+        return 130
+    return 0
+
+
+def build_or_fail(reason):
     say(f"{reason}; what is proved is kept when this is interrupted")
     of_sources = programs.sources()
     status, said = prove_all()
@@ -113,4 +132,6 @@ def build(reason):
     if status or not os.path.isfile(programs.BUILT):
         print("\n".join(said), file=sys.stderr)
         raise Failed("the build failed")
+    if programs.sources_of(ROOT) != of_sources:
+        raise Failed("its sources changed while it was built; what was proved is kept, and the next run goes on from there")
     programs.write_origin(programs.BUILT, of_sources, programs.kit_here())
