@@ -114,6 +114,10 @@ def try_changed_release(copy, program, tally):
     found = copy.replayed()
     tally.tell("a release without its program is refused", refused(found, "can't be read"), str(found)[:300])
     copy.put(program, copy.shipped)
+    os.chmod(copy.shipped, 0o644)
+    found = copy.replayed()
+    tally.tell("a release that isn't executable is refused", refused(found, "755"), str(found)[:300])
+    os.chmod(copy.shipped, 0o755)
 
 
 def try_changed_sources(copy, tally):

@@ -16,6 +16,7 @@ from workspace import ROOT
 NAME = "dsmdb"
 BUILT = f"{ROOT}/crates/{NAME}/out/{NAME}"
 SHIPPED = f"{ROOT}/release/{NAME}"
+BACK = "`git checkout -- release` brings it back"
 PARTS = ("src", "specs", "proofs")  # what a crate is built from
 
 
@@ -105,9 +106,11 @@ def is_shipped(of_sources):
     try:
         found = sum_of(SHIPPED)
     except OSError as error:
-        raise Changed(f"{named(SHIPPED)} can't be read: {error.strerror}") from error
+        raise Changed(f"{named(SHIPPED)} can't be read: {error.strerror}; {BACK}") from error
     if found != origin.program:
-        raise Changed(f"{named(SHIPPED)} was changed: {named(origin_path(SHIPPED))} names the sum {origin.program[:16]}.., and its sum is {found[:16]}..")
+        raise Changed(f"{named(SHIPPED)} was changed: {named(origin_path(SHIPPED))} names the sum {origin.program[:16]}.., and its sum is {found[:16]}..; {BACK}")
+    if not os.access(SHIPPED, os.X_OK):
+        raise Changed(f"{named(SHIPPED)} can't be run: its mode isn't 755, or its file system is mounted noexec")
     return True
 
 
@@ -128,10 +131,11 @@ def ship(program, of_sources, kit):
 
 
 def release_state(of_sources):
-    """Says in a few words whether there is a release of these sources: `none`, `stale` or `of these sources`."""
+    """Says in a few words whether there is a release of these sources: `none`, `stale`, `of these sources`, or that its
+    origin can't be read."""
     origin = origin_of(SHIPPED)
     if not origin:
-        return "none"
+        return "its origin can't be read" if os.path.lexists(SHIPPED) or os.path.lexists(origin_path(SHIPPED)) else "none"
     return "of these sources" if origin.sources == of_sources else "stale"
 
 

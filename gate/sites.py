@@ -1,25 +1,53 @@
 """Tests of the bridges of sites (sdk/site), around a program."""
+import contextlib
 import os
 import re
+import shlex
 import shutil
+import signal
 import subprocess
+import tempfile
+import threading
 
 import workspace
 
 INSTALL = "apt-get install etcd-server etcd-client"
+LIMIT = 1800  # seconds, after which the tests are ended
+
+
+@contextlib.contextmanager
+def started(words, drawn):
+    """Runs a command in a folder for what it leaves, and ends it, and all that it started, at the end."""
+    room = tempfile.mkdtemp(prefix="sites-")
+    how = {"stdout": subprocess.PIPE, "text": True, "errors": "replace", "env": {**os.environ, **drawn, "TMPDIR": room}}
+    tests = subprocess.Popen(words, start_new_session=True, **how)
+
+    def end():
+        with contextlib.suppress(ProcessLookupError):
+            os.killpg(tests.pid, signal.SIGKILL)
+
+    limit = threading.Timer(LIMIT, end)
+    limit.start()
+    try:
+        yield tests
+    finally:
+        limit.cancel()
+        end()
+        tests.wait()
+        shutil.rmtree(room, ignore_errors=True)
 
 
 def run_tests(program, tally, *names, **drawn):
     """Runs the tests, or those of some names, with the seed and the seconds of drawn faults."""
-    words = [f"{workspace.ROOT}/sdk/site/tests/run", "--engine", program, *names]
-    tests = subprocess.Popen(words, stdout=subprocess.PIPE, text=True, env={**os.environ, **drawn})
+    words = [f"{workspace.ROOT}/sdk/site/tests/run", "--engine", shlex.quote(program), *names]
     ending = None
-    for line in tests.stdout:
-        if found := re.fullmatch(r"(\d+) passed, (\d+) failed\n", line):
-            ending = found
-        else:
-            print(line, end="", flush=True)
-    status = tests.wait()
+    with started(words, drawn) as tests:
+        for line in tests.stdout:
+            if found := re.fullmatch(r"(\d+) passed, (\d+) failed\n", line):
+                ending = found
+            else:
+                print(line, end="", flush=True)
+        status = tests.wait()
     passed, failed = map(int, ending.groups()) if ending else (0, 1)
     tally.count(passed, failed or int(status != 0))
 
@@ -28,6 +56,8 @@ def run(program, tally):
     run_tests(program, tally)
     if not (shutil.which("etcd") and shutil.which("etcdctl")):
         tally.leave_out("orders in etcd", INSTALL)
+    elif not shutil.which("openssl"):
+        tally.leave_out("orders in an etcd over TLS", "apt-get install openssl")
 
 
 def run_long(program, tally):

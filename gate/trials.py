@@ -1,5 +1,5 @@
 """Which must-fail edits a run tries: the list of those that were refused, and the plan for the next run."""
-from typing import NamedTuple
+from typing import NamedTuple, Optional
 
 import workspace
 
@@ -20,7 +20,7 @@ class Trial(NamedTuple):
     sources: str
     interfaces: str
     run: int
-    waits: int | None
+    waits: Optional[int]
     seconds: int
 
 

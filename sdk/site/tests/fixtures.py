@@ -13,8 +13,8 @@ import unittest
 HERE = os.path.dirname(os.path.realpath(__file__))
 KIT = os.path.dirname(HERE)
 LONG = 30  # seconds after which a test has failed
-ENGINE = f"{KIT}/../../dsmdb"
-PLAIN = f"{sys.executable} {HERE}/plain_engine.py"
+ENGINE = shlex.quote(f"{KIT}/../../dsmdb")
+PLAIN = shlex.join([sys.executable, f"{HERE}/plain_engine.py"])
 
 ADD = (
     "79160000000000007917080000000000b701000001000000bf62000000000000bfa300000000000007030000f8ffffff8500000001000000"
