@@ -216,7 +216,7 @@ def unlike(room, row):
     """Says what a command line does otherwise than its row says; nothing where it is as it should be."""
     try:
         found = watched(room, row) if row.watched else ran(room, row)
-    except (OSError, subprocess.TimeoutExpired) as error:
+    except (OSError, subprocess.SubprocessError) as error:
         return str(error)
     output, fault = ((it or b"").decode(errors="replace") for it in (found.stdout, found.stderr))
     whole = isinstance(row.output, str)

@@ -12,12 +12,14 @@ import workspace
 
 KIT = f"{workspace.ROOT}/sdk"
 VERSION = 19  # of clang, with which the committed programs were made
+LIMIT = 600  # seconds, after which a command has failed
 OLDEST = 18  # that makes programs as the kit asks
 INSTALL = f"apt-get install clang-{VERSION} libclang-rt-{VERSION}-dev"
 
 
-def ran(words, program, **how):
-    return subprocess.run(words, env={**os.environ, "DSMDB": program}, capture_output=True, text=True, **how)
+def ran(words, program):
+    how = {"env": {**os.environ, "DSMDB": program}, "capture_output": True, "text": True, "errors": "replace", "timeout": LIMIT}
+    return subprocess.run(words, **how)
 
 
 def text_of(path):
@@ -110,7 +112,14 @@ def run_layouts(program, tally):
 
 def clang_here():
     """Returns the command of a clang that makes programs for BPF as the kit asks; None where there is none."""
-    return next((it for it in (f"clang-{VERSION}", "clang") if version_of(it)), None)
+    return next((it for it in (f"clang-{VERSION}", "clang") if version_of(it) and sanitizes(it)), None)
+
+
+def sanitizes(command):
+    """Whether a clang links a program of the host with its checks of undefined behaviour, for which it needs libclang-rt."""
+    with tempfile.TemporaryDirectory(prefix="procedures-") as room:
+        words = [command, "-fsanitize=undefined", "-x", "c", "-", "-o", f"{room}/it"]
+        return subprocess.run(words, input=b"int main(void) { return 0; }", capture_output=True).returncode == 0
 
 
 def run(program, tally):
@@ -125,4 +134,4 @@ def run(program, tally):
     if clang:
         run_in_c(program, folders, clang, tally)
     if version_of(clang or "") != VERSION:
-        tally.leave_out("procedures in C, to the byte" if clang else "procedures in C", INSTALL)
+        tally.leave_out("procedures in C, to the byte, and answers to mistakes in C" if clang else "procedures in C", INSTALL)

@@ -22,31 +22,32 @@ def loaded(path):
     return module
 
 
-def keeps_itself(rtlib):
-    """Whether a kit has none of the two functions that would be asked again and again."""
-    return not all(hasattr(rtlib.Crate, it) for it in ("stamp", "below")) or not hasattr(rtlib, "files_of")
+def can_keep(rt):
+    """Whether a kit has the functions that are asked again and again, by the names that are known here."""
+    rtlib = getattr(rt, "rtlib", None)
+    crate = getattr(rtlib, "Crate", None)
+    return hasattr(rtlib, "files_of") and all(hasattr(crate, it) for it in ("stamp", "below"))
 
 
 def keep(rtlib):
-    """Has the crates of the kit's library keep their sums, and the lists of what is below them."""
+    """Has each crate of the kit's library keep its sum, and the list of what is below it."""
     stamp, below = rtlib.Crate.stamp, rtlib.Crate.below
-    stamps, lists = {}, {}
 
     def state_of(crate):
         files = [path for it in [*crate.below(), crate] for path in rtlib.files_of(it.folder)]
         return [(path, found.st_mtime_ns, found.st_size) for path in files for found in [os.stat(path)]]
 
     def kept_stamp(crate):
-        state = state_of(crate)
-        if stamps.get(crate.folder, (None,))[0] != state:
-            stamps[crate.folder] = state, stamp(crate)
-        return stamps[crate.folder][1]
+        state, kept = state_of(crate), vars(crate).get("kept_stamp")
+        if not kept or kept[0] != state:
+            kept = crate.kept_stamp = state, stamp(crate)
+        return kept[1]
 
     def kept_below(crate):
-        key = crate.folder, len(crate.deps)
-        if key not in lists:
-            lists[key] = below(crate)
-        return [*lists[key]]
+        kept = vars(crate).get("kept_below")
+        if not kept or kept[0] != crate.deps:
+            kept = crate.kept_below = [*crate.deps], below(crate)
+        return [*kept[1]]
 
     rtlib.Crate.stamp, rtlib.Crate.below = kept_stamp, kept_below
 
@@ -64,7 +65,7 @@ def main(words):
     if not is_python(path):
         os.execv(path, ["rt", *words])
     rt = loaded(os.path.realpath(path))
-    if not keeps_itself(rt.rtlib):
+    if can_keep(rt):
         keep(rt.rtlib)
     return rt.main(words)
 

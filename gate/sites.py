@@ -48,6 +48,8 @@ def run_tests(program, tally, *names, **drawn):
             else:
                 print(line, end="", flush=True)
         status = tests.wait()
+    if not ending:
+        print(f"the tests of sites ended with status {status}, and without a last line", flush=True)
     passed, failed = map(int, ending.groups()) if ending else (0, 1)
     tally.count(passed, failed or int(status != 0))
 

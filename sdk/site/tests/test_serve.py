@@ -35,18 +35,20 @@ class Served(SiteTest):
         """Holds the order's lock, with an append of this serve waiting for it: a session. Where its reader waits first, it
         is let through, and another session is asked for; `sessions` counts them."""
         with open(self.path, "ab") as file, contextlib.closing(serve.connect()) as connection:
-            self.sessions = 0
+            self.sessions = 1
+            self.asks_while_locked(serve, connection, file)
             while "WRITE" not in serve.waits_for_locks():
-                if self.sessions > 0:
-                    fcntl.flock(file, fcntl.LOCK_UN)
-                    connection.line()
-                fcntl.flock(file, fcntl.LOCK_EX)
-                connection.send("session")
-                self.sessions += 1
-                self.settled(serve)
+                fcntl.flock(file, fcntl.LOCK_UN)
+                self.sessions += connection.line().startswith("session")
+                self.asks_while_locked(serve, connection, file)
             yield
             fcntl.flock(file, fcntl.LOCK_UN)
             connection.line()
+
+    def asks_while_locked(self, serve, connection, file):
+        fcntl.flock(file, fcntl.LOCK_EX)
+        connection.send("session")
+        self.settled(serve)
 
     def settled(self, serve):
         """Waits until this serve has done all it can with the lines it was sent, and waits for the order's lock."""

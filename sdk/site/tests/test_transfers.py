@@ -154,7 +154,7 @@ class Transfers(SiteTest):
         end = int(sites["one"].ask(f"call transfer {words(0, 0, 0, 2000)} 1 1 fresh").split(" ")[1])
         sites["four"] = self.start("four").begun()
         # a session that was asked for may still come to stand behind it
-        self.alike(until(lambda: self.where_all_stand(sites, end)), *sites.values())
+        until(lambda: self.are_alike(sites, end))
         rows = dict(it.split()[1:] for it in sites["one"].rows()[:-1])
         number = {int(key): int.from_bytes(bytes.fromhex(row), "little") for key, row in rows.items()}
         self.assertEqual(sum(number.get(it, 0) for it in range(ACCOUNTS)) % (1 << 64), 0)
@@ -167,11 +167,10 @@ class Transfers(SiteTest):
         answered = {int(answer[1]): pair for pair, answer in heard if answer[0] == "committed"}
         self.assertEqual(self.commits(), {**answered, end: (1, 1)})
 
-    def where_all_stand(self, sites, end):
-        """Returns the position at which all sites have taken in what they have read, at least this; None where there is none."""
-        found = {tuple(it.at(end).status()[:2]) for it in sites.values()}
-        position, read = found.pop()
-        return int(position) if not found and position == read else None
+    def are_alike(self, sites, end):
+        """Whether all sites have come to one position, at least this, and have one digest and the same rows there."""
+        first, *others = [(it.at(end).status(), it.rows()) for it in sites.values()]
+        return first[0][0] == first[0][1] and all(it == first for it in others)
 
     def strings(self):
         """Returns the strings of the order, as HEX."""
