@@ -18,6 +18,7 @@ BUILT = f"{ROOT}/crates/{NAME}/out/{NAME}"
 SHIPPED = f"{ROOT}/release/{NAME}"
 BACK = "`git checkout -- release` brings it back"
 PARTS = ("src", "specs", "proofs")  # what a crate is built from
+EDITORS = re.compile(r"\.#.*|#.*#|.*~|\..*\.sw[a-p]")  # what they leave beside a file that is open
 
 
 class Origin(NamedTuple):
@@ -47,7 +48,7 @@ def sources():
     for crate in crates():
         whole.update(f"{workspace.lines()[crate]}\n".encode())
         for path in workspace.files(crate):
-            if path.split("/")[2] in PARTS:
+            if path.split("/")[2] in PARTS and not EDITORS.fullmatch(os.path.basename(path)):
                 whole.update(f"{path} {hashlib.sha256(workspace.read(path)).hexdigest()}\n".encode())
     return whole.hexdigest()
 
