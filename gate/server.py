@@ -21,7 +21,7 @@ class Tree:
         os.symlink(ROOT, f"{room}/src/dsmdb")
         self.environment = {
             **os.environ, "GOPATH": f"{room}:/usr/share/gocode", "GO111MODULE": "off", "GOFLAGS": "", "PWD": self.folder,
-            "GOCACHE": f"{ROOT}/out/go-build", "DSMDB": program}
+            "GOCACHE": f"{room}/cache", "DSMDB": program}
 
     def ran(self, *words):
         return subprocess.run(
@@ -48,10 +48,12 @@ def run_tests(tree, tally, *more):
         name = (event["Package"], event.get("Test", ""))
         if event["Action"] == "output":
             said.setdefault(name, []).append(event["Output"])
-        elif event["Action"] == "fail":
+        elif event["Action"] == "fail" and "/" not in name[1]:
             failed.append(name)
         elif event["Action"] == "pass" and name[1] and "/" not in name[1]:
             passed += 1
+    # a package fails with its tests, and counts where none of them is named
+    failed = [it for it in failed if it[1] or not any(other[0] == it[0] and other[1] for other in failed)]
     for name in failed:
         print(f"{' '.join(name)}: FAILED\n{''.join(said.get(name, []))}", end="")
     whole = ran.returncode == 0 and passed > 0
