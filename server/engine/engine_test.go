@@ -10,6 +10,7 @@ import (
 	"os"
 	"os/exec"
 	"strings"
+	"syscall"
 	"testing"
 	"time"
 )
@@ -60,13 +61,22 @@ func play(path string) int {
 			fmt.Fprintln(os.Stderr, "line 7: L9")
 			return 3
 		case "work\n":
-			for end := time.Now().Add(300 * time.Millisecond); time.Now().Before(end); {
+			for end := used() + 300*time.Millisecond; used() < end; {
 			}
 			fmt.Println("done")
 		default:
 			fmt.Print("echo ", line)
 		}
 	}
+}
+
+// used returns how much time of processors this process has used.
+func used() time.Duration {
+	var usage syscall.Rusage
+	if err := syscall.Getrusage(syscall.RUSAGE_SELF, &usage); err != nil {
+		panic(err)
+	}
+	return time.Duration(usage.Utime.Nano() + usage.Stime.Nano())
 }
 
 func started(t *testing.T, settings string) (*Engine, error) {
