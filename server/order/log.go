@@ -1,4 +1,3 @@
-// Package order keeps orders: sequences of byte strings, numbered from 1, that only grow.
 package order
 
 import (
@@ -12,15 +11,6 @@ import (
 
 // Magic is what the segments of an order's log begin with.
 var Magic = segments.Magic{'d', 's', 'm', 'd', 'b', 'l', 'o', 'g'}
-
-// ErrFull says that the order can't grow now. None of the strings was appended.
-var ErrFull = errors.New("the order is full")
-
-// Maker says who makes the batches of an order.
-type Maker struct {
-	ID      batch.ID
-	Version string // of the program
-}
 
 // Log is an order in the folder of one server, who alone appends to it. One goroutine has it.
 type Log struct {
