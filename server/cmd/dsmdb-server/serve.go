@@ -161,6 +161,9 @@ type server struct {
 func (o *serveOptions) run() error {
 	debug.SetGCPercent(400)
 	raiseFileLimit()
+	if o.pprof != "" {
+		profile(o.pprof)
+	}
 	s := &server{serveOptions: o, log: newLogger(os.Stderr), failures: make(chan error, 8), began: time.Now()}
 	settings, err := s.prepare()
 	if err != nil {
