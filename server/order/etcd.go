@@ -1,0 +1,232 @@
+package order
+
+import (
+	"context"
+	"errors"
+	"fmt"
+	"sync"
+	"sync/atomic"
+	"time"
+
+	"dsmdb/server/batch"
+	pb "go.etcd.io/etcd/etcdserver/etcdserverpb"
+)
+
+// Etcd is an order in the keys of etcd, to which several servers append. Each batch stands under a key of its own; the
+// order is that of their creation.
+type Etcd struct {
+	keys    keys
+	maker   Maker
+	secret  *batch.Secret
+	nodes   *nodes
+	journal *journal
+	out     *outbox
+	log     func(format string, args ...any)
+
+	ctx     context.Context // over once the order ends
+	cancel  context.CancelFunc
+	done    chan struct{}
+	failure error // once done is closed; before, under the mutex
+
+	strangers atomic.Uint64
+
+	mutex    sync.Mutex
+	rule     rule // changed by the reader alone, under the mutex
+	tally    *tally
+	caughtUp bool
+	closing  bool
+	making   making
+	ends     ends
+}
+
+var _ Order = (*Etcd)(nil)
+
+// OpenEtcd opens an order in etcd. It returns at once where the options are well formed; whether etcd can be reached is
+// told by Reached.
+func OpenEtcd(options EtcdOptions) (*Etcd, error) {
+	hosts, secure, err := hostsOf(options.Endpoints)
+	if err != nil {
+		return nil, err
+	}
+	template := remote{}
+	if secure {
+		if template.tls, err = options.tlsOf(); err != nil {
+			return nil, err
+		}
+	}
+	if options.Login != "" {
+		if template.login, err = loginOf(options.Login, secure); err != nil {
+			return nil, err
+		}
+	}
+	all := &nodes{}
+	for _, host := range hosts {
+		all.all = append(all.all, &remote{host: host, tls: template.tls, login: template.login})
+	}
+	return openEtcd(options, all)
+}
+
+// Peer says how another member of an embedded cluster is asked: at its peer URL, with the certificates of members.
+type Peer struct {
+	URL           string
+	CA, Cert, Key string
+}
+
+// OpenMember opens an order in etcd by a member in this process. The other members are asked where this one fails, and
+// for what it may have kept wrongly. Of the options the endpoints, the certificates and the login aren't used.
+func OpenMember(options EtcdOptions, kv pb.KVClient, watch pb.WatchClient, others []Peer) (*Etcd, error) {
+	all := &nodes{home: true, all: []node{&member{kv, watch}}}
+	for _, it := range others {
+		hosts, secure, err := hostsOf([]string{it.URL})
+		if err != nil {
+			return nil, err
+		}
+		made := &remote{host: hosts[0]}
+		if secure {
+			access := EtcdOptions{CA: it.CA, Cert: it.Cert, Key: it.Key}
+			if made.tls, err = access.tlsOf(); err != nil {
+				return nil, err
+			}
+		}
+		all.all = append(all.all, made)
+	}
+	return openEtcd(options, all)
+}
+
+func openEtcd(options EtcdOptions, all *nodes) (*Etcd, error) {
+	if err := options.check(); err != nil {
+		return nil, err
+	}
+	e := &Etcd{
+		keys: keysOf(options.Prefix, options.Number), maker: options.Maker, secret: options.Secret, nodes: all,
+		log: options.Log, done: make(chan struct{}), rule: rule{secret: options.Secret},
+	}
+	if e.log == nil {
+		e.log = func(string, ...any) {}
+	}
+	all.log = e.log
+	e.ctx, e.cancel = context.WithCancel(context.Background())
+	e.out = newOutbox()
+	e.journal = newJournal(options.Journal, e)
+	e.tally = newTally(e.keys.folder, 0)
+	if err := e.making.begin(); err != nil {
+		return nil, err
+	}
+	e.ends.wake, e.ends.cut = make(chan struct{}, 1), func() {}
+	e.making.more.L = &e.mutex
+	go e.run()
+	return e, nil
+}
+
+// run has the order's goroutines work until one of them fails, or the order is closed.
+func (e *Etcd) run() {
+	var all sync.WaitGroup
+	for _, work := range []func(context.Context) error{e.read, e.journal.write, e.make, e.askEnds} {
+		all.Add(1)
+		go func(work func(context.Context) error) {
+			defer all.Done()
+			if err := work(e.ctx); err != nil {
+				e.fail(err)
+			}
+		}(work)
+	}
+	go func() { // wakes all that wait
+		<-e.ctx.Done()
+		e.mutex.Lock()
+		e.making.more.Broadcast()
+		e.mutex.Unlock()
+		e.journal.wake()
+		e.out.wake()
+	}()
+	all.Wait()
+	e.cancel()
+	e.making.underWay.Wait()
+	e.nodes.close()
+	e.journal.close()
+	close(e.done)
+	e.out.finish()
+}
+
+// fail ends the order, for the first reason that is told.
+func (e *Etcd) fail(why error) {
+	e.mutex.Lock()
+	if e.failure == nil && !e.closing && !errors.Is(why, context.Canceled) {
+		e.failure = why
+	}
+	e.mutex.Unlock()
+	e.cancel()
+}
+
+// Append implements Order.
+func (e *Etcd) Append(strings []*String) { e.take(strings) }
+
+// Events implements Order.
+func (e *Etcd) Events() <-chan []Event { return e.out.events }
+
+// Err implements Order.
+func (e *Etcd) Err() error {
+	<-e.done
+	return e.failure
+}
+
+// Reached implements Order.
+func (e *Etcd) Reached() (since time.Time, why error) { return e.nodes.reach.get() }
+
+// Strangers returns how many keys were met since the start that are no batches of the order, though they stand among
+// them.
+func (e *Etcd) Strangers() uint64 { return e.strangers.Load() }
+
+// Reread implements Order.
+func (e *Etcd) Reread(ctx context.Context, upto uint64, take func(found *batch.Batch) error) error {
+	if upto == 0 {
+		return nil
+	}
+	position := uint64(0)
+	err := e.journal.reread(ctx, func(it *entryKept) error {
+		if err := ctx.Err(); err != nil {
+			return err
+		}
+		found, err := e.opened(it.key, it.value)
+		if err != nil {
+			return fmt.Errorf("reading the order again: %w", err)
+		}
+		position += uint64(len(found.Strings))
+		if err := take(found); err != nil {
+			return err
+		}
+		if position >= upto {
+			return errEnough
+		}
+		return nil
+	})
+	if errors.Is(err, errEnough) {
+		return nil
+	}
+	return err
+}
+
+// errEnough ends a reading.
+var errEnough = errors.New("enough was read")
+
+// opened reads a batch that has counted.
+func (e *Etcd) opened(key string, value []byte) (*batch.Batch, error) {
+	if e.secret != nil {
+		bytes, err := e.secret.Open(key, value)
+		if err != nil {
+			return nil, err
+		}
+		value = bytes
+	}
+	return batch.Read(value)
+}
+
+// Close implements Order.
+func (e *Etcd) Close() error {
+	e.mutex.Lock()
+	e.closing = true
+	e.mutex.Unlock()
+	e.out.abandon()
+	e.cancel()
+	<-e.done
+	return nil
+}

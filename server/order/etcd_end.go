@@ -1,0 +1,217 @@
+package order
+
+import (
+	"context"
+	"time"
+
+	pb "go.etcd.io/etcd/etcdserver/etcdserverpb"
+)
+
+const (
+	askAnyway  = 2 * time.Second        // after which etcd is asked though nobody wants to know
+	showIn     = 3 * time.Second        // that the watch may take to show what etcd has counted
+	showOthers = 200 * time.Millisecond // the same, where only keys that don't count may be wanting
+)
+
+// ends are questions for the order's end. The order's mutex guards them.
+type ends struct {
+	asked    uint64        // the last question
+	answered uint64        // up to here
+	wake     chan struct{} // of the goroutine that asks etcd
+	cut      func()        // ends the watch
+	decided  int64         // revision up to which the watch has shown all
+	tallies  uint64        // how many tallies there were: a count is compared with the one that it was asked for
+	held     bool          // whether the tally's floor stays, since a count from there on is asked for
+	wanted   *count        // what the watch has to have shown
+}
+
+// count is how many keys etcd had from the tally's floor on.
+type count struct {
+	question uint64
+	keys     int64
+	revision int64
+	over     chan struct{} // closed once all are shown, or once the keys are listed again
+}
+
+// AskEnd implements Order.
+func (e *Etcd) AskEnd() uint64 {
+	e.mutex.Lock()
+	defer e.mutex.Unlock()
+	e.ends.asked++
+	select {
+	case e.ends.wake <- struct{}{}:
+	default:
+	}
+	return e.ends.asked
+}
+
+// askEnds asks etcd how many keys there are, for all questions at once that came meanwhile.
+func (e *Etcd) askEnds(ctx context.Context) error {
+	for failures := 0; ctx.Err() == nil; {
+		anyway := false
+		if failures == 0 {
+			select {
+			case <-ctx.Done():
+				return nil
+			case <-e.ends.wake:
+			case <-time.After(askAnyway):
+				anyway = true
+				e.goHome(ctx)
+			}
+			e.sweep()
+		}
+		err := e.askEnd(ctx, anyway || failures > 0)
+		if isEnd(err) {
+			return err
+		}
+		if err == nil {
+			failures = 0
+			continue
+		}
+		if failures++; !e.nodes.pause(ctx, failures) {
+			return nil
+		}
+	}
+	return nil
+}
+
+// askEnd asks until all questions are answered, at least once where that is wanted anyway.
+func (e *Etcd) askEnd(ctx context.Context, anyway bool) error {
+	for ; ctx.Err() == nil; anyway = false {
+		question, floor, tallies, ok := e.beginCount(anyway)
+		if !ok {
+			return nil
+		}
+		answer, err := e.nodes.rangeOf(ctx, &pb.RangeRequest{
+			Key: []byte(e.keys.from(floor)), RangeEnd: []byte(e.keys.end()), CountOnly: true,
+		})
+		if err != nil {
+			e.endCount()
+			return err
+		}
+		wanted := &count{question, answer.Count, answer.Header.Revision, make(chan struct{})}
+		if e.want(wanted, tallies) {
+			e.await(ctx, wanted)
+		}
+		e.endCount()
+	}
+	return nil
+}
+
+// beginCount returns which questions a count answers, and from which hint on; false where none is wanted.
+func (e *Etcd) beginCount(anyway bool) (question, floor, tallies uint64, ok bool) {
+	e.mutex.Lock()
+	defer e.mutex.Unlock()
+	if !e.caughtUp || e.ends.asked == e.ends.answered && !anyway {
+		return 0, 0, 0, false // before, the first listing answers
+	}
+	e.ends.held = true
+	return e.ends.asked, e.tally.floor, e.ends.tallies, true
+}
+
+func (e *Etcd) endCount() {
+	e.mutex.Lock()
+	defer e.mutex.Unlock()
+	e.ends.held, e.ends.wanted = false, nil
+}
+
+// want has the reader show as many keys; false where they were listed since the count was begun.
+func (e *Etcd) want(wanted *count, tallies uint64) bool {
+	e.mutex.Lock()
+	defer e.mutex.Unlock()
+	if tallies != e.ends.tallies {
+		return false
+	}
+	e.ends.wanted = wanted
+	e.answer()
+	return true
+}
+
+// await waits for the reader to show as many keys. Where that takes too long the watch is ended, and the keys are
+// listed again.
+func (e *Etcd) await(ctx context.Context, wanted *count) {
+	for _, wait := range []time.Duration{showOthers, showIn - showOthers} {
+		timer := time.NewTimer(wait)
+		select {
+		case <-wanted.over:
+			timer.Stop()
+			return
+		case <-ctx.Done():
+			timer.Stop()
+			return
+		case <-timer.C:
+		}
+		if e.areShown(wanted) {
+			break
+		}
+	}
+	e.mutex.Lock()
+	cut := e.ends.cut
+	e.mutex.Unlock()
+	cut()
+	select {
+	case <-wanted.over:
+	case <-ctx.Done():
+	}
+}
+
+// areShown returns whether the watch has shown as many keys as there were.
+func (e *Etcd) areShown(wanted *count) bool {
+	e.mutex.Lock()
+	defer e.mutex.Unlock()
+	all, _ := e.tally.sum(e.keys.from(e.tally.floor))
+	return all >= wanted.keys
+}
+
+// answer answers the questions for which the watch has shown enough: as many keys as etcd had. Where there are keys that
+// don't count, they may have made up for keys that do, if they were deleted meanwhile: then the watch has to have come to
+// the revision of etcd's count.
+func (e *Etcd) answer() {
+	if wanted := e.ends.wanted; wanted != nil {
+		all, others := e.tally.sum(e.keys.from(e.tally.floor))
+		if all < wanted.keys || others > 0 && e.ends.decided < wanted.revision {
+			return
+		}
+		e.answered(wanted.question)
+		e.ends.wanted = nil
+		close(wanted.over)
+	}
+}
+
+// answered answers all questions up to one.
+func (e *Etcd) answered(question uint64) {
+	if question > e.ends.answered {
+		e.ends.answered = question
+		e.out.post(0, End{question, e.rule.position})
+	}
+}
+
+// retally has what is asked for be asked anew, since the keys are listed.
+func (e *Etcd) retally() {
+	e.ends.tallies++
+	e.ends.held = false
+	if wanted := e.ends.wanted; wanted != nil {
+		e.ends.wanted = nil
+		close(wanted.over)
+	}
+}
+
+// shown notes up to which revision the watch has shown all.
+func (e *Etcd) shown(revision int64) {
+	e.ends.decided = revision
+	e.answer()
+	if !e.ends.held {
+		e.tally.raise(floorOf(e.rule.counted))
+	}
+}
+
+// goHome goes back to the member in this process, where it answers again.
+func (e *Etcd) goHome(ctx context.Context) {
+	if !e.nodes.home || e.nodes.at.Load() == 0 {
+		return
+	}
+	asked := &pb.RangeRequest{Key: []byte(e.keys.folder), CountOnly: true}
+	if _, err := e.nodes.rangeAt(ctx, e.nodes.all[0], asked); err == nil {
+		e.nodes.at.Store(0)
+	}
+}

@@ -1,0 +1,266 @@
+package order
+
+import (
+	"container/heap"
+	"context"
+	"errors"
+	"fmt"
+
+	pb "go.etcd.io/etcd/etcdserver/etcdserverpb"
+	"go.etcd.io/etcd/mvcc/mvccpb"
+)
+
+const (
+	keysAtOnce   = 1000    // names that are asked for together
+	mostAtOnce   = 1000    // values
+	fewBytes     = 1 << 20 // an answer with fewer is followed by a larger one
+	manyBytes    = 8 << 20 // an answer with more is followed by a smaller one
+	everyHint    = greatest + 1
+	oneRightWant = "none of the batches that stand in %s carries this server's signature: the secret isn't theirs"
+)
+
+// listing is a reading of the order's keys as they stand at one revision.
+type listing struct {
+	reader   *reader
+	revision int64
+	question uint64 // the last one before the listing began
+	from     uint64 // least hint that is listed
+	expected uint64 // how many batches had counted
+	present  []bool // which of them were met, from the history's offset on
+	tally    *tally
+	next     byPlace // keys that aren't decided
+	unsigned int     // keys that are batches but for their signature
+}
+
+// byPlace is a heap of keys.
+type byPlace []*stored
+
+func (h byPlace) Len() int           { return len(h) }
+func (h byPlace) Less(i, j int) bool { return h[i].place().before(h[j].place()) }
+func (h byPlace) Swap(i, j int)      { h[i], h[j] = h[j], h[i] }
+
+// Push implements heap.Interface.
+func (h *byPlace) Push(it any) { *h = append(*h, it.(*stored)) }
+
+// Pop implements heap.Interface.
+func (h *byPlace) Pop() any {
+	last := len(*h) - 1
+	it := (*h)[last]
+	(*h)[last] = nil
+	*h = (*h)[:last]
+	return it
+}
+
+// list reads all that may count from here on, the first time all there is, and compares what has counted.
+func (r *reader) list(ctx context.Context) error {
+	l := &listing{reader: r, expected: r.history.end(), present: make([]bool, len(r.history.entries))}
+	if !r.whole {
+		l.from = floorOf(r.rule.counted)
+	}
+	r.mutex.Lock()
+	l.question = r.ends.asked
+	r.retally()
+	r.mutex.Unlock()
+	l.tally = newTally(r.keys.folder, floorOf(r.rule.counted))
+	key := r.keys.from(l.from)
+	if r.whole {
+		key = r.keys.folder
+	}
+	for more := true; more; {
+		answer, err := l.ask(ctx, key)
+		if err != nil {
+			return err
+		}
+		if more = answer.More && len(answer.Kvs) > 0; more {
+			key = string(answer.Kvs[len(answer.Kvs)-1].Key) + "\x00"
+		}
+		if err := l.page(ctx, answer.Kvs, more); err != nil {
+			return err
+		}
+	}
+	return l.finish()
+}
+
+// ask asks for the names from a key on.
+func (l *listing) ask(ctx context.Context, key string) (*pb.RangeResponse, error) {
+	answer, err := l.reader.nodes.rangeOf(ctx, &pb.RangeRequest{
+		Key: []byte(key), RangeEnd: []byte(l.reader.keys.end()), Limit: keysAtOnce, KeysOnly: true, Revision: l.revision,
+	})
+	if err == nil && l.revision == 0 {
+		l.revision = answer.Header.Revision
+	}
+	return answer, err
+}
+
+// page takes some names, in the order of the keys, and decides what can be decided: a name that is still to come has a
+// hint from the last one's on, so it takes no place before as many batches have counted.
+func (l *listing) page(ctx context.Context, found []*mvccpb.KeyValue, more bool) error {
+	var run []*stored // keys side by side whose values are wanted
+	for _, kv := range found {
+		it, err := l.wanted(ctx, kv)
+		if err != nil {
+			return err
+		}
+		if it != nil {
+			run = append(run, it)
+			continue
+		}
+		if err := l.gather(ctx, run); err != nil {
+			return err
+		}
+		run = nil
+	}
+	if err := l.gather(ctx, run); err != nil {
+		return err
+	}
+	complete := uint64(everyHint)
+	if more {
+		complete = 0
+		if hint, ok := hintOf(string(found[len(found)-1].Key)[len(l.reader.keys.folder):]); ok {
+			complete = hint
+		}
+	}
+	return l.decide(ctx, complete)
+}
+
+// wanted returns a key that is to be decided, or nil.
+func (l *listing) wanted(ctx context.Context, kv *mvccpb.KeyValue) (*stored, error) {
+	r := l.reader
+	it, ok := r.storedOf(kv)
+	if !ok {
+		l.tally.add(it.key, false)
+		r.strangers.Add(1)
+		return nil, nil
+	}
+	if number, ok := r.history.find(it.name); ok {
+		if number < l.expected {
+			l.present[number-r.history.offset] = true
+		}
+		l.tally.add(it.key, true)
+		return nil, r.isUnchanged(ctx, it, r.history.at(number).revision)
+	}
+	if r.decided.before(it.place()) {
+		return it, nil
+	}
+	l.tally.add(it.key, false)
+	return nil, l.isForeign(ctx, it)
+}
+
+// isForeign says what is wrong with a key that stands before what is decided and hasn't counted: it takes no place now,
+// and must not have been one that counts.
+func (l *listing) isForeign(ctx context.Context, it *stored) error {
+	r := l.reader
+	then := rule{counted: r.history.before(r.keys, it.place())}
+	if !then.admits(it.hint) {
+		return nil
+	}
+	if err := l.fetch(ctx, []*stored{it}); err != nil {
+		return err
+	}
+	if _, err := r.rule.read(it); err != nil {
+		return nil
+	}
+	return ended("%w: %s stands before batches that have counted, and wasn't there", errPast, it.key)
+}
+
+// gather reads the values of keys that stand side by side, which are to be decided.
+func (l *listing) gather(ctx context.Context, run []*stored) error {
+	if err := l.fetch(ctx, run); err != nil {
+		return err
+	}
+	for _, it := range run {
+		heap.Push(&l.next, it)
+	}
+	return nil
+}
+
+// fetch reads the values of keys that stand side by side.
+func (l *listing) fetch(ctx context.Context, wanted []*stored) error {
+	r := l.reader
+	for len(wanted) > 0 {
+		answer, err := r.nodes.rangeOf(ctx, &pb.RangeRequest{
+			Key: []byte(wanted[0].key), RangeEnd: []byte(wanted[len(wanted)-1].key + "\x00"), Limit: r.atOnce,
+			Revision: l.revision,
+		})
+		if err != nil {
+			return err
+		}
+		if len(answer.Kvs) == 0 {
+			return errors.New("a listing of etcd has other keys than a moment ago")
+		}
+		size := 0
+		for _, kv := range answer.Kvs {
+			it, _ := r.storedOf(kv)
+			if len(wanted) == 0 || it.key != wanted[0].key || it.create != wanted[0].create {
+				return fmt.Errorf("a listing of etcd has %s in place of another key", it.key)
+			}
+			*wanted[0] = *it
+			wanted = wanted[1:]
+			size += len(it.value)
+		}
+		r.adapt(size)
+	}
+	return nil
+}
+
+// adapt has the next answer be of neither too few nor too many bytes.
+func (r *reader) adapt(size int) {
+	if size > manyBytes && r.atOnce > 1 {
+		r.atOnce /= 2
+	} else if size < fewBytes && r.atOnce < mostAtOnce {
+		r.atOnce *= 2
+	}
+}
+
+// decide decides the keys that are listed, one behind the other, as long as no key of a hint below complete is to come.
+func (l *listing) decide(ctx context.Context, complete uint64) error {
+	r := l.reader
+	for len(l.next) > 0 && r.rule.counted < complete {
+		it := heap.Pop(&l.next).(*stored)
+		counts, err := r.decide(ctx, it)
+		if err != nil {
+			return err
+		}
+		if !counts && isSignedOtherwise(r.secret, it.key, it.value) {
+			l.unsigned++
+		}
+		l.tally.add(it.key, counts)
+		r.decided = it.place()
+	}
+	l.tally.raise(floorOf(r.rule.counted))
+	r.settleVoid()
+	return nil
+}
+
+// finish compares what has counted with what was listed, and answers questions that came before.
+func (l *listing) finish() error {
+	r := l.reader
+	for at, is := range l.present {
+		it := r.history.entries[at]
+		if !is && it.hint >= l.from {
+			return ended("%w: %s, a batch of the order, isn't there any more", errPast, r.keys.of(it.name))
+		}
+	}
+	if r.rule.counted == 0 && l.unsigned > 0 {
+		if r.secret != nil {
+			return ended(oneRightWant, r.keys.folder)
+		}
+		return ended("the batches that stand in %s are signed under a secret, and this server has none", r.keys.folder)
+	}
+	r.whole = false
+	r.history.trim()
+	r.decided = place{l.revision, r.keys.end()}
+	r.nodes.saw(l.revision)
+	r.mutex.Lock()
+	defer r.mutex.Unlock()
+	if !r.caughtUp {
+		r.caughtUp = true
+		r.out.post(0, Begun{r.rule.position})
+	}
+	r.retally()
+	r.tally = l.tally
+	r.ends.decided = l.revision
+	r.answered(l.question)
+	r.making.more.Broadcast()
+	return nil
+}

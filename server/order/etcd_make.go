@@ -1,0 +1,381 @@
+package order
+
+import (
+	"bytes"
+	"context"
+	"crypto/rand"
+	"fmt"
+	"sync"
+
+	"dsmdb/server/batch"
+	pb "go.etcd.io/etcd/etcdserver/etcdserverpb"
+)
+
+const (
+	mostPuts = 4  // batches that are on their way to etcd at once
+	mostOwn  = 64 // batches that the watch hasn't shown yet
+)
+
+// making is what this server appends. The order's mutex guards it.
+type making struct {
+	more     sync.Cond
+	database batch.ID // drawn for an order without batches
+	waiting  []*String
+	wantVote bool
+	puts     int               // batches on their way to etcd
+	own      map[name]*ownMade // batches made since the start that the watch hasn't shown
+	underWay sync.WaitGroup
+}
+
+// ownMade is a batch of this server. Its strings are put under one key, whatever answers are lost. Where some aren't
+// wanted any more by then, it is tried without them: one try stands in the end, and no other can.
+type ownMade struct {
+	name
+	key    string
+	tries  []try // none once its strings were refused
+	unsure bool  // whether a try may have been put, or may still be
+	cancel func()
+}
+
+type try struct {
+	value   []byte
+	strings []*String
+}
+
+func (m *making) begin() error {
+	m.own = map[name]*ownMade{}
+	if _, err := rand.Read(m.database[:]); err != nil {
+		return fmt.Errorf("drawing the database's identity: %w", err)
+	}
+	return nil
+}
+
+// take takes strings that are to be appended.
+func (e *Etcd) take(strings []*String) {
+	e.mutex.Lock()
+	defer e.mutex.Unlock()
+	e.making.waiting = append(e.making.waiting, strings...)
+	e.making.wantVote = e.making.wantVote || len(strings) == 0
+	e.making.more.Broadcast()
+}
+
+// make makes batches of what is to be appended, several at once. What comes meanwhile is gathered.
+func (e *Etcd) make(ctx context.Context) error {
+	for {
+		own, strings, vote, err := e.nextOwn(ctx)
+		if own == nil || err != nil {
+			return err
+		}
+		wanted, dropped := sorted(strings)
+		if len(dropped) > 0 {
+			e.out.post(0, &Dropped{dropped})
+		}
+		if len(wanted) == 0 && !vote {
+			e.mutex.Lock()
+			e.making.gone(own.name)
+			e.making.puts--
+			e.mutex.Unlock()
+			continue
+		}
+		within, cancel := context.WithCancel(ctx)
+		first := try{e.valueOf(own.key, wanted), wanted}
+		e.mutex.Lock()
+		own.cancel, own.tries = cancel, []try{first}
+		e.mutex.Unlock()
+		e.making.underWay.Add(1)
+		go e.bring(within, own)
+	}
+}
+
+// nextOwn waits for something to append, and returns a batch for it, without a value yet; none at the end.
+func (e *Etcd) nextOwn(ctx context.Context) (own *ownMade, strings []*String, vote bool, err error) {
+	e.mutex.Lock()
+	defer e.mutex.Unlock()
+	m := &e.making
+	for ctx.Err() == nil {
+		idle := len(m.waiting) == 0 && !m.wantVote
+		if !idle && e.journal.noRoom() {
+			if len(m.waiting) > 0 {
+				e.out.post(0, &Refused{m.waiting, ErrFull})
+			}
+			m.waiting, m.wantVote, idle = nil, false, true
+		}
+		if !idle && e.caughtUp && m.puts < mostPuts && len(m.own) < mostOwn {
+			break
+		}
+		m.more.Wait()
+	}
+	if ctx.Err() != nil {
+		return nil, nil, false, nil
+	}
+	drawn, err := newName(e.rule.counted)
+	if err != nil {
+		return nil, nil, false, ended("%w", err)
+	}
+	own = &ownMade{name: drawn, key: e.keys.of(drawn), cancel: func() {}}
+	m.own[drawn] = own
+	m.puts++
+	strings, m.waiting = fitting(m.waiting, batch.Longest-batch.HeaderSize(e.maker.Version))
+	vote, m.wantVote = m.wantVote, false
+	return own, strings, vote, nil
+}
+
+// fitting returns the first strings, as many as one batch has room for, and the rest.
+func fitting(strings []*String, room int) (first, rest []*String) {
+	size := 0
+	for at, it := range strings {
+		if size += batch.SizeOf(it.Text); size > room && at > 0 {
+			return strings[:at:at], strings[at:]
+		}
+	}
+	return strings, nil
+}
+
+// sorted asks of each string whether it is still wanted.
+func sorted(strings []*String) (wanted, dropped []*String) {
+	for _, it := range strings {
+		if it.wanted() {
+			wanted = append(wanted, it)
+		} else {
+			dropped = append(dropped, it)
+		}
+	}
+	return wanted, dropped
+}
+
+// valueOf returns what etcd keeps of a batch.
+func (e *Etcd) valueOf(key string, strings []*String) []byte {
+	made := batch.Batch{Header: batch.Header{
+		Version: e.maker.Version, Database: e.database(), Maker: e.maker.ID, Vote: e.maker.vote(),
+	}}
+	for _, it := range strings {
+		made.Strings = append(made.Strings, it.Text)
+	}
+	value := made.Append(nil)
+	if e.secret != nil {
+		value = e.secret.Sign(key, value)
+	}
+	return value
+}
+
+// database returns the identity of the order's database: that of the first batch, or the one drawn for it.
+func (e *Etcd) database() batch.ID {
+	e.mutex.Lock()
+	defer e.mutex.Unlock()
+	if e.rule.begun {
+		return e.rule.database
+	}
+	return e.making.database
+}
+
+// bring puts a batch, again and again until an answer says that it is there, or the watch shows what became of it.
+func (e *Etcd) bring(ctx context.Context, own *ownMade) {
+	defer e.making.underWay.Done()
+	defer func() {
+		e.mutex.Lock()
+		e.making.puts--
+		e.making.more.Broadcast()
+		e.mutex.Unlock()
+	}()
+	for failures := 1; ; failures++ {
+		value := e.lastTry(own)
+		if value == nil {
+			return
+		}
+		err := e.put(ctx, own.key, value)
+		if err == nil || ctx.Err() != nil {
+			return
+		}
+		if isEnd(err) {
+			e.fail(err)
+			return
+		}
+		kind := faultOf(ctx, err)
+		if kind == full || kind == tooLarge {
+			if e.isRefused(ctx, own, err) {
+				return
+			}
+		}
+		if !e.nodes.pause(ctx, failures) || !e.tryAgain(own, kind) {
+			return
+		}
+	}
+}
+
+func (e *Etcd) lastTry(own *ownMade) []byte {
+	e.mutex.Lock()
+	defer e.mutex.Unlock()
+	if len(own.tries) == 0 {
+		return nil
+	}
+	return own.tries[len(own.tries)-1].value
+}
+
+// put puts a value where its key isn't there yet.
+func (e *Etcd) put(ctx context.Context, key string, value []byte) error {
+	none := &pb.Compare{
+		Key: []byte(key), Target: pb.Compare_VERSION, Result: pb.Compare_EQUAL, TargetUnion: &pb.Compare_Version{},
+	}
+	put := &pb.RequestOp{Request: &pb.RequestOp_RequestPut{RequestPut: &pb.PutRequest{Key: []byte(key), Value: value}}}
+	asked := &pb.TxnRequest{Compare: []*pb.Compare{none}, Success: []*pb.RequestOp{put}}
+	return e.nodes.ask(ctx, func(ctx context.Context, kv pb.KVClient) (*pb.ResponseHeader, error) {
+		answer, err := kv.Txn(ctx, asked)
+		if err != nil {
+			return nil, err
+		}
+		return answer.Header, nil
+	})
+}
+
+// isRefused looks whether a batch stands in etcd though etcd has no space for it. Where it doesn't, its strings are
+// refused.
+func (e *Etcd) isRefused(ctx context.Context, own *ownMade, why error) bool {
+	answer, err := e.nodes.rangeOf(ctx, &pb.RangeRequest{Key: []byte(own.key), KeysOnly: true})
+	if err != nil {
+		if isEnd(err) {
+			e.fail(err)
+		}
+		return ctx.Err() != nil
+	}
+	if len(answer.Kvs) > 0 {
+		return true // the watch shows it
+	}
+	e.log("etcd: a batch was refused: %s", wordsOf(why))
+	e.mutex.Lock()
+	defer e.mutex.Unlock()
+	if len(own.tries) == 0 || e.making.own[own.name] != own {
+		return true
+	}
+	refusal := &Refused{own.tries[0].strings, ErrFull}
+	own.tries = nil
+	if own.unsure {
+		refusal.Why = ErrUnknown // and the watch may show it yet
+	} else {
+		e.making.gone(own.name)
+	}
+	if len(refusal.Of) > 0 {
+		e.out.post(0, refusal)
+	}
+	return true
+}
+
+// tryAgain prepares another try of a batch that wasn't answered as was wanted; false where there is none.
+func (e *Etcd) tryAgain(own *ownMade, kind fault) bool {
+	e.mutex.Lock()
+	if len(own.tries) == 0 || e.making.own[own.name] != own {
+		e.mutex.Unlock()
+		return false
+	}
+	own.unsure = own.unsure || kind == lost
+	last := own.tries[len(own.tries)-1].strings
+	e.mutex.Unlock()
+	wanted, dropped := sorted(last)
+	if len(dropped) == 0 {
+		return true
+	}
+	again := try{e.valueOf(own.key, wanted), wanted}
+	e.mutex.Lock()
+	defer e.mutex.Unlock()
+	if len(own.tries) == 0 || e.making.own[own.name] != own {
+		return false
+	}
+	if own.unsure {
+		own.tries = append(own.tries, again)
+		return true
+	}
+	own.tries = []try{again}
+	e.out.post(0, &Dropped{dropped})
+	if len(wanted) == 0 {
+		e.making.gone(own.name)
+	}
+	return len(wanted) > 0
+}
+
+// gone forgets a batch of this server.
+func (m *making) gone(which name) {
+	if own := m.own[which]; own != nil {
+		own.cancel()
+		delete(m.own, which)
+		m.more.Broadcast()
+	}
+}
+
+// settle is told of a batch that counts. Where it is of this server the event says of which strings; what isn't in it
+// was dropped.
+func (m *making) settle(it *stored, event *Counted) []Event {
+	own := m.own[it.name]
+	if own == nil {
+		return nil
+	}
+	m.gone(it.name)
+	event.Made = true
+	for _, tried := range own.tries {
+		if !bytes.Equal(tried.value, it.value) {
+			continue
+		}
+		event.Own = tried.strings
+		if left := without(own.tries[0].strings, tried.strings); len(left) > 0 {
+			return []Event{&Dropped{left}}
+		}
+		return nil
+	}
+	return nil
+}
+
+// without returns the strings that aren't among others.
+func without(all, others []*String) []*String {
+	among := make(map[*String]bool, len(others))
+	for _, it := range others {
+		among[it] = true
+	}
+	var left []*String
+	for _, it := range all {
+		if !among[it] {
+			left = append(left, it)
+		}
+	}
+	return left
+}
+
+// void has the strings of a batch that takes no place go into another one.
+func (m *making) void(which name) {
+	own := m.own[which]
+	if own == nil {
+		return
+	}
+	m.gone(which)
+	if len(own.tries) > 0 {
+		m.waiting = append(append([]*String(nil), own.tries[0].strings...), m.waiting...)
+		m.wantVote = m.wantVote || len(own.tries[0].strings) == 0
+	}
+}
+
+// settleVoid finds the batches of this server that can't count any more.
+func (e *Etcd) settleVoid() {
+	e.mutex.Lock()
+	defer e.mutex.Unlock()
+	for which := range e.making.own {
+		if e.rule.isVoid(which.hint) {
+			e.making.void(which)
+		}
+	}
+}
+
+// sweep drops strings that wait for etcd, and that nobody wants any more.
+func (e *Etcd) sweep() {
+	if _, why := e.Reached(); why == nil {
+		return
+	}
+	e.mutex.Lock()
+	waiting := e.making.waiting
+	e.making.waiting = nil
+	e.mutex.Unlock()
+	wanted, dropped := sorted(waiting)
+	e.mutex.Lock()
+	defer e.mutex.Unlock()
+	e.making.waiting = append(wanted, e.making.waiting...)
+	if len(dropped) > 0 {
+		e.out.post(0, &Dropped{dropped})
+	}
+	e.making.more.Broadcast()
+}
