@@ -42,14 +42,15 @@ type serveOptions struct {
 	patience           time.Duration
 	connections        int
 	served             []string // names of HTTP's hosts
-	logFile            string
 	pprof              string
+	etcd               etcdOptions
 }
 
 const serveText = `Keeps a replica of the database of SETTINGS in the folder DIR, and answers clients.
 
-The order of calls lies in DIR. DIR/socket is a Unix socket that this user alone can reach: may do everything. Others
-come by --listen and --http; without --roles only those with a certificate may call, or all with --open.`
+The order of calls lies in DIR, which is one server's. Several servers share an order in etcd: --etcd. Who comes by the
+Unix socket DIR/socket, which this user alone can reach, may do everything. Others come by --listen and --http; without
+--roles those with a certificate may call, or all with --open.`
 
 func serveCommand() *cobra.Command {
 	o := &serveOptions{}
@@ -83,6 +84,7 @@ func serveCommand() *cobra.Command {
 	flags.StringVar(&o.engine, "engine", os.Getenv("DSMDB"), "the program dsmdb")
 	flags.StringVar(&o.pprof, "pprof", "", "where Go's profiles are given: HOST:PORT on loopback")
 	flags.MarkHidden("pprof")
+	o.etcd.add(flags)
 	return command
 }
 
@@ -112,6 +114,9 @@ func (o *serveOptions) check() error {
 		return words("--patience is from 1s to 24h")
 	case o.connections < 1:
 		return words("--connections is at least 1")
+	}
+	if err := o.etcd.check(); err != nil {
+		return err
 	}
 	for _, it := range o.listen {
 		if strings.HasPrefix(it, "tls://") && o.cert == "" {
@@ -236,7 +241,15 @@ func (s *server) openOrder(settings []byte) error {
 		return fmt.Errorf("the order's folder: %w", err)
 	}
 	vote := &lateVote{}
-	s.order = order.OpenLocal(path, order.Maker{ID: s.folder.Maker(), Version: version, Vote: vote.Vote})
+	maker := order.Maker{ID: s.folder.Maker(), Version: version, Vote: vote.Vote}
+	if s.etcd.isGiven() {
+		s.order, err = s.etcd.open(maker, path, s.log.say)
+	} else {
+		s.order = order.OpenLocal(path, maker)
+	}
+	if err != nil {
+		return fmt.Errorf("the order in etcd: %w", err)
+	}
 	s.site = site.New(site.Options{
 		Settings: settings, Order: s.order, Maker: s.folder.Maker(), Patience: s.patience, Overrule: s.overrule, Say: s.log.say,
 		Start: func(ctx context.Context) (site.Engine, error) {

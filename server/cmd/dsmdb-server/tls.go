@@ -1,7 +1,6 @@
 package main
 
 import (
-	"context"
 	"crypto/tls"
 	"crypto/x509"
 	"fmt"
@@ -35,5 +34,3 @@ func poolOf(path string) (*x509.CertPool, error) {
 	}
 	return pool, nil
 }
-
-var _ = context.Background
