@@ -128,7 +128,7 @@ func TestStringsOfServers(t *testing.T) {
 	for _, it := range []struct {
 		text []byte
 		is   bool
-	}{{first, true}, {one, true}, {first[:33], false}, {one[1:], false}, {nil, false}, {append([]byte{1}, first[1:]...), false}} {
+	}{{first, true}, {one, true}, {first[:33], false}, {one[1:], false}, {nil, false}, {Filling, true}, {[]byte{2}, false}, {append([]byte{1}, first[1:]...), false}} {
 		if IsOfServers(it.text) != it.is {
 			t.Errorf("%x", it.text)
 		}

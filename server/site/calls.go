@@ -18,8 +18,6 @@ const (
 	leastAhead = 16
 )
 
-var filling = []byte{0} // a string that is nothing to an engine
-
 // arrive takes in a request.
 func (s *Site) arrive(r *Request) {
 	if s.now.IsZero() {
@@ -65,6 +63,9 @@ func (s *Site) admit(r *Request) {
 		}
 		if ask.After > 0 {
 			r.padding = s.now.Add(fillAfter)
+			if half := s.now.Add(r.deadline.Sub(s.now) / 2); half.Before(r.padding) {
+				r.padding = half
+			}
 		}
 		r.question = s.order.AskEnd()
 		s.fresh.push(r)
@@ -286,6 +287,6 @@ func (s *Site) fillUp() {
 		from = s.filledTo
 	}
 	for s.filledTo = from; s.filledTo < most; s.filledTo++ {
-		s.submitted = append(s.submitted, &order.String{Text: filling})
+		s.submitted = append(s.submitted, &order.String{Text: order.Filling})
 	}
 }

@@ -357,9 +357,9 @@ func (s *Site) takeEvents(some []order.Event, is bool) error {
 // takeTick looks at what only time changes.
 func (s *Site) takeTick(ctx context.Context) error {
 	s.growth.note(s.now, s.end)
-	s.expire()
 	s.beginOrder()
 	s.fillUp()
+	s.expire()
 	if err := s.watchEngine(ctx); err != nil {
 		return err
 	}

@@ -199,9 +199,12 @@ func (o *clientOptions) call(name string, given []string) error {
 	}
 	if line, is := c.Unsettled(); is {
 		answer, err := c.Settle(ctx)
-		fmt.Printf("earlier %s: %s\n", line, said(known, answer))
 		if err != nil {
-			return failed(err)
+			return failed(fmt.Errorf("earlier %s: %w", line, err))
+		}
+		fmt.Printf("earlier %s: %s\n", line, said(known, answer))
+		if !answer.Settled() {
+			return ended(answer)
 		}
 	}
 	answer, err := c.Call(ctx, name, args, client.When{After: o.after, Fresh: o.fresh})

@@ -1,4 +1,4 @@
-"""What the tests of the bridges share: a folder, settings, processes that are ended, and lines that are asked."""
+"""What the tests of the server share: a folder, settings, servers that are ended, and lines that are asked."""
 import contextlib
 import os
 import shlex
@@ -11,9 +11,10 @@ import time
 import unittest
 
 HERE = os.path.dirname(os.path.realpath(__file__))
-KIT = os.path.dirname(HERE)
-LONG = 30  # seconds after which a test has failed
-ENGINE = shlex.quote(f"{KIT}/../../dsmdb")
+ROOT = os.path.dirname(os.path.dirname(HERE))
+LONG = 60  # seconds after which a test has failed
+ENGINE = f"{ROOT}/release/dsmdb"  # the program that is tested; `run --engine` names another
+SERVER = f"{ROOT}/out/server/dsmdb-server"  # and the server
 PLAIN = shlex.join([sys.executable, f"{HERE}/plain_engine.py"])
 
 ADD = (
@@ -47,12 +48,15 @@ def until(holds, seconds=LONG):
 
 
 class Connection:
-    """A connection to a serve."""
+    """A connection to a server, over its Unix socket or TCP."""
 
-    def __init__(self, path):
-        self.socket = socket.socket(socket.AF_UNIX, socket.SOCK_STREAM)
+    def __init__(self, place):
+        if isinstance(place, tuple):
+            self.socket = socket.create_connection(place)
+        else:
+            self.socket = socket.socket(socket.AF_UNIX, socket.SOCK_STREAM)
+            self.socket.connect(place)
         self.socket.settimeout(LONG)
-        self.socket.connect(path)
         self._lines = self.socket.makefile("rb")
 
     def send(self, *lines):
@@ -70,15 +74,13 @@ class Connection:
         self.socket.close()
 
 
-class Serve:
-    """A serve that runs: its socket, and what it said when it ended."""
+class Server:
+    """A server that runs, with its data folder and its log."""
 
-    def __init__(self, folder, name, order, *more, limit=None):
-        self.path = f"{folder}/{name}.socket"
-        wanted = [f"{KIT}/serve", f"{folder}/settings", "--order", order, "--listen", self.path]
-        wanted += ["--engine", ENGINE, *more]
-        if limit is not None:  # of the size of files, in bytes
-            wanted = ["prlimit", f"--fsize={limit}", *wanted]
+    def __init__(self, folder, name, *more, limits=(), engine=None):
+        self.name, self.data = name, f"{folder}/{name}"
+        self.path = f"{self.data}/socket"
+        wanted = [*limits, SERVER, "serve", f"{folder}/settings", "--data", self.data, "--engine", engine or ENGINE, *more]
         self.said = open(f"{folder}/{name}.said", "w+")
         self.process = subprocess.Popen(wanted, stderr=self.said, stdout=self.said, umask=0)
 
@@ -102,24 +104,22 @@ class Serve:
     def rows(self):
         with contextlib.closing(self.connect()) as connection:
             lines = [connection.ask("rows")]
-            while not lines[-1].startswith("position"):
+            while lines[-1].startswith(" "):
                 lines.append(connection.line())
         return lines
 
     def status(self):
-        """Returns position, end, digest, committed, refused, nothing."""
-        return self.ask("status").split(" ")[1:]
+        """Returns what the server says of itself, by name."""
+        return dict(it.split("=") for it in self.ask("status").split(" ")[1:] if "=" in it)
 
     def at(self, position):
-        until(lambda: int(self.status()[0]) >= position)
+        until(lambda: int(self.status()["position"]) >= position)
         return self
 
-    def waits_for_locks(self):
-        """Returns the kernel's lines of the locks that it waits for, or the process that has its order."""
-        pid = self.process.pid
-        with open(f"/proc/{pid}/task/{pid}/children") as children, open("/proc/locks") as locks:
-            pids = {str(pid), *children.read().split()}
-            return "".join(it for it in locks if "->" in it and pids.intersection(it.split()))
+    def engine(self):
+        """Returns the process that is the engine."""
+        found = subprocess.run(["ps", "-o", "pid=", "--ppid", str(self.process.pid)], capture_output=True, text=True)
+        return int(found.stdout.split()[0])
 
     def ends(self):
         """Waits until it ends by itself, and returns what it said."""
@@ -133,11 +133,11 @@ class Serve:
                 self.process.wait(LONG)
 
 
-class SiteTest(unittest.TestCase):
+class ServerTest(unittest.TestCase):
     """A test with a folder of its own."""
 
     def setUp(self):
-        holder = tempfile.TemporaryDirectory(prefix="site-")
+        holder = tempfile.TemporaryDirectory(prefix="served-")
         self.addCleanup(holder.cleanup)
         self.folder = holder.name
         self.settings(SETTINGS)
@@ -146,23 +146,16 @@ class SiteTest(unittest.TestCase):
         with open(f"{self.folder}/settings", "w") as file:
             file.write(text)
 
-    def serve(self, name, order, *more, **how):
-        """Starts a serve, which is killed when the test is over."""
-        serve = Serve(self.folder, name, order, *more, **how)
-        self.addCleanup(serve.said.close)
-        self.addCleanup(serve.kill)
-        return serve
-
-    def alike(self, position, *serves):
-        """Asserts that all have come to a position, and stand there with one digest and the same rows."""
-        found = [(it.at(position).status(), it.rows()) for it in serves]
-        for it in found:
-            self.assertEqual(it[0][0], str(position))
-            self.assertEqual(it, found[0])
+    def serve(self, name, *more, **how):
+        """Starts a server, which is killed when the test is over."""
+        server = Server(self.folder, name, *more, **how)
+        self.addCleanup(server.said.close)
+        self.addCleanup(server.kill)
+        return server
 
     def client(self, *said):
-        """Runs a client, and returns its status and the lines that it prints."""
-        ran = subprocess.run([f"{KIT}/client", *said], capture_output=True, text=True, timeout=2 * LONG)
+        """Runs a command of clients, and returns its status and the lines that it prints."""
+        ran = subprocess.run([SERVER, *said], capture_output=True, text=True, timeout=2 * LONG)
         return ran.returncode, ran.stdout.splitlines() + ran.stderr.splitlines()
 
 
@@ -182,6 +175,3 @@ def engine(settings, folder):
         file.write(settings)
     how = {"stdin": subprocess.PIPE, "stdout": subprocess.PIPE, "stderr": subprocess.PIPE, "text": True}
     return subprocess.Popen([*shlex.split(ENGINE), "site", path], **how)
-
-
-sys.path.insert(0, KIT)

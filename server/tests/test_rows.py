@@ -1,11 +1,11 @@
 """Rows of the specification of a site, on the engine that is tried."""
 import fixtures
-from fixtures import ADD, CLAIM, ONE, ONE_ADDED, SiteTest, words
+from fixtures import ADD, CLAIM, ONE, ONE_ADDED, ServerTest, words
 from fixtures import increment as call
 
 WINDOW = f"window 4\ntable 1 8\nadditions\nproc add 1 16 {ADD}\n"
 
-class Rows(SiteTest):
+class Rows(ServerTest):
     def answers(self, *lines, settings=WINDOW):
         """Asks lines of an engine one after the other: each answer is there before the next line is given."""
         process = fixtures.engine(settings, self.folder)

@@ -10,7 +10,7 @@ import sys
 from struct import unpack_from
 
 sys.dont_write_bytecode = True
-sys.path.insert(0, f"{os.path.dirname(os.path.realpath(__file__))}/../../c/tests")
+sys.path.insert(0, f"{os.path.dirname(os.path.realpath(__file__))}/../../sdk/c/tests")
 from decoding import decode_fault
 from machine import Machine
 

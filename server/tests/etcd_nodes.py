@@ -1,7 +1,5 @@
-"""Nodes of etcd on loopback, and a relay before one that swallows or holds what passes it."""
+"""Nodes of etcd on loopback, and a relay before one that cuts connections."""
 import contextlib
-import http.client
-import http.server
 import os
 import shutil
 import socket
@@ -88,51 +86,37 @@ class Node:
 
 
 class Relay:
-    """Hands requests on to a node. `before` is asked of each path before it is handed on, and `after` when it was
-    answered: each may wait, and where it answers False the connection is cut."""
+    """Hands bytes on to a node and back. Each connection is cut after a number of bytes that is drawn, one way or the other,
+    while `cuts` is true: so requests are lost, and answers to requests that went through."""
 
-    def __init__(self, node):
-        relay = self
-        self.port, self.node = free_port(), node
-        self.before = self.after = lambda path: True
+    def __init__(self, node, drawn):
+        self.node, self.random, self.cuts = node, drawn, True
+        self.listening = socket.create_server(("127.0.0.1", 0))
+        self.url = f"http://127.0.0.1:{self.listening.getsockname()[1]}"
+        threading.Thread(target=self.serve, daemon=True).start()
 
-        class Handler(http.server.BaseHTTPRequestHandler):
-            protocol_version = "HTTP/1.1"
+    def serve(self):
+        with contextlib.suppress(OSError):  # it is closed
+            while True:
+                accepted, _ = self.listening.accept()
+                try:
+                    reached = socket.create_connection(("127.0.0.1", self.node.port), 5)
+                except OSError:
+                    accepted.close()
+                    continue
+                for one, other in ((accepted, reached), (reached, accepted)):
+                    threading.Thread(target=self.hand_on, args=(one, other), daemon=True).start()
 
-            def do_POST(self):
-                body = self.rfile.read(int(self.headers["Content-Length"]))
-                if self.path == "/v3/watch" or not relay.before(self.path):
-                    self.close_connection = True
-                    return
-                status, answer = relay.passed(self.path, body)
-                if status is None or not relay.after(self.path):
-                    self.close_connection = True
-                    return
-                self.send_response(status)
-                self.send_header("Content-Length", str(len(answer)))
-                self.end_headers()
-                self.wfile.write(answer)
-
-            def log_message(self, *_):
-                pass
-
-        self.server = http.server.ThreadingHTTPServer(("127.0.0.1", self.port), Handler)
-        self.server.handle_error = lambda *_: None  # a connection that its other end has cut
-        self.server.daemon_threads = True
-        threading.Thread(target=self.server.serve_forever, daemon=True).start()
-        self.url = f"http://127.0.0.1:{self.port}"
-
-    def passed(self, path, body):
-        connection = http.client.HTTPConnection("127.0.0.1", self.node.port, timeout=LONG)
-        try:
-            connection.request("POST", path, body)
-            answer = connection.getresponse()
-            return answer.status, answer.read()
-        except (OSError, http.client.HTTPException):
-            return None, b""
-        finally:
-            connection.close()
+    def hand_on(self, one, other):
+        left = self.random.randrange(2_000, 400_000)
+        with contextlib.suppress(OSError):
+            while (some := one.recv(1 << 16)) and (left > 0 or not self.cuts):
+                other.sendall(some)
+                left -= len(some)
+        for it in (one, other):
+            with contextlib.suppress(OSError):
+                it.shutdown(socket.SHUT_RDWR)
+            it.close()
 
     def close(self):
-        self.server.shutdown()
-        self.server.server_close()
+        self.listening.close()
