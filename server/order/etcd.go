@@ -44,6 +44,9 @@ var _ Order = (*Etcd)(nil)
 // OpenEtcd opens an order in etcd. It returns at once where the options are well formed; whether etcd can be reached is
 // told by Reached.
 func OpenEtcd(options EtcdOptions) (*Etcd, error) {
+	if err := options.check(); err != nil {
+		return nil, err
+	}
 	hosts, secure, err := hostsOf(options.Endpoints)
 	if err != nil {
 		return nil, err
@@ -75,6 +78,9 @@ type Peer struct {
 // OpenMember opens an order in etcd by a member in this process. The other members are asked where this one fails, and
 // for what it may have kept wrongly. Of the options the endpoints, the certificates and the login aren't used.
 func OpenMember(options EtcdOptions, kv pb.KVClient, watch pb.WatchClient, others []Peer) (*Etcd, error) {
+	if err := options.check(); err != nil {
+		return nil, err
+	}
 	all := &nodes{home: true, all: []node{&member{kv, watch}}}
 	for _, it := range others {
 		hosts, secure, err := hostsOf([]string{it.URL})
@@ -94,9 +100,6 @@ func OpenMember(options EtcdOptions, kv pb.KVClient, watch pb.WatchClient, other
 }
 
 func openEtcd(options EtcdOptions, all *nodes) (*Etcd, error) {
-	if err := options.check(); err != nil {
-		return nil, err
-	}
 	e := &Etcd{
 		keys: keysOf(options.Prefix, options.Number), maker: options.Maker, secret: options.Secret, nodes: all,
 		log: options.Log, done: make(chan struct{}), rule: rule{secret: options.Secret},
