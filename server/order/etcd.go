@@ -2,6 +2,7 @@ package order
 
 import (
 	"context"
+	"crypto/sha256"
 	"errors"
 	"fmt"
 	"sync"
@@ -107,7 +108,7 @@ func openEtcd(options EtcdOptions, all *nodes) (*Etcd, error) {
 	if e.log == nil {
 		e.log = func(string, ...any) {}
 	}
-	all.log = e.log
+	all.log, all.left = e.log, e.leftMember
 	e.ctx, e.cancel = context.WithCancel(context.Background())
 	e.out = newOutbox()
 	e.journal = newJournal(options.Journal, e)
@@ -189,7 +190,7 @@ func (e *Etcd) Reread(ctx context.Context, upto uint64, take func(found *batch.B
 		if err := ctx.Err(); err != nil {
 			return err
 		}
-		found, err := e.opened(it.key, it.value)
+		found, err := e.kept(it.value)
 		if err != nil {
 			return fmt.Errorf("reading the order again: %w", err)
 		}
@@ -211,14 +212,10 @@ func (e *Etcd) Reread(ctx context.Context, upto uint64, take func(found *batch.B
 // errEnough ends a reading.
 var errEnough = errors.New("enough was read")
 
-// opened reads a batch that has counted.
-func (e *Etcd) opened(key string, value []byte) (*batch.Batch, error) {
-	if e.secret != nil {
-		bytes, err := e.secret.Open(key, value)
-		if err != nil {
-			return nil, err
-		}
-		value = bytes
+// kept reads a batch that has counted, whose signature was checked.
+func (e *Etcd) kept(value []byte) (*batch.Batch, error) {
+	if e.secret != nil && len(value) >= sha256.Size {
+		value = value[:len(value)-sha256.Size]
 	}
 	return batch.Read(value)
 }

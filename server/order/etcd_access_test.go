@@ -77,6 +77,7 @@ func (a *authority) path(name string) string { return filepath.Join(a.folder, na
 
 // An etcd that wants certificates of clients, and has users. A small time to live has tokens be refused.
 func TestEtcdIsReachedByCertificatesAndALogin(t *testing.T) {
+	t.Parallel()
 	a, foreign := newAuthority(t, "ca"), newAuthority(t, "foreign")
 	for _, it := range []string{"server", "client"} {
 		// etcd takes a certificate's common name for a user, where a request has no token
@@ -144,6 +145,7 @@ func TestEtcdIsReachedByCertificatesAndALogin(t *testing.T) {
 }
 
 func TestOptionsThatCannotBeAreRefused(t *testing.T) {
+	t.Parallel()
 	a := newAuthority(t, "ca")
 	a.make("client", nil)
 	a.write("login", []byte("a\nb\n"))

@@ -32,6 +32,7 @@ func (w *watched) reread() []string {
 }
 
 func TestAnEtcdWithoutSpaceRefusesUntilThereIsSome(t *testing.T) {
+	t.Parallel()
 	etcd := runEtcd(t, 1, "--quota-backend-bytes", "8388608")
 	w, reads := etcd.opened(nil), etcd.opened(nil)
 	w.appended("1")
@@ -70,6 +71,7 @@ func TestAnEtcdWithoutSpaceRefusesUntilThereIsSome(t *testing.T) {
 
 // What etcd says of its space isn't believed: it may have put the batch.
 func TestABatchThatStandsThoughThereWasNoSpaceCounts(t *testing.T) {
+	t.Parallel()
 	etcd := runEtcd(t, 1)
 	relay := etcd.relayed(0)
 	relay.txn = func(*pb.TxnRequest, *pb.TxnResponse) error {
@@ -97,6 +99,7 @@ func TestABatchThatStandsThoughThereWasNoSpaceCounts(t *testing.T) {
 }
 
 func TestAJournalIsHealedFromEtcd(t *testing.T) {
+	t.Parallel()
 	etcd, folder := runEtcd(t, 1), t.TempDir()
 	w := etcd.opened(func(o *EtcdOptions) { o.Journal = folder })
 	w.appended("1", "2", "3", "4", "5")
@@ -132,6 +135,7 @@ func TestAJournalIsHealedFromEtcd(t *testing.T) {
 }
 
 func TestTheJournalOfAnotherOrderIsRefused(t *testing.T) {
+	t.Parallel()
 	etcd, folder := runEtcd(t, 1), t.TempDir()
 	w := etcd.opened(func(o *EtcdOptions) { o.Journal = folder })
 	w.appended("1")
@@ -181,6 +185,7 @@ func (l *fullLog) AppendAll(kept [][]byte) (int, error) {
 }
 
 func TestAFullDiskOfTheJournalRefusesUntilThereIsRoom(t *testing.T) {
+	t.Parallel()
 	etcd, folder := runEtcd(t, 1), t.TempDir()
 	w, other := etcd.opened(func(o *EtcdOptions) { o.Journal = folder }), etcd.opened(nil)
 	w.appended("1")

@@ -135,7 +135,7 @@ func (r *reader) handOn(ctx context.Context) error {
 		if !r.out.room(ctx) {
 			return ctx.Err()
 		}
-		found, err := r.opened(kept.key, kept.value)
+		found, err := r.kept(kept.value)
 		if err != nil {
 			return err
 		}
@@ -291,10 +291,17 @@ func (j *journal) valueOf(ctx context.Context, it *entryKept) ([]byte, error) {
 	if len(answer.Kvs) != 1 || answer.Kvs[0].ModRevision != it.revision {
 		return nil, ended("%w: %s, a batch of the order, isn't as it was", errPast, it.key)
 	}
-	if _, err := j.etcd.opened(it.key, answer.Kvs[0].Value); err != nil {
+	value := answer.Kvs[0].Value
+	if secret := j.etcd.secret; secret != nil {
+		_, err = secret.Open(it.key, value)
+	}
+	if err == nil {
+		_, err = j.etcd.kept(value)
+	}
+	if err != nil {
 		return nil, fmt.Errorf("a member has a damaged copy of %s: %w", it.key, err)
 	}
-	return answer.Kvs[0].Value, nil
+	return value, nil
 }
 
 // reread hands over all batches that have counted, once the journal is opened.

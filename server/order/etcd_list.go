@@ -183,6 +183,7 @@ func (l *listing) fetch(ctx context.Context, wanted []*stored) error {
 			Revision: l.revision,
 		})
 		if err != nil {
+			r.atOnce = (r.atOnce + 1) / 2 // it may have been too much for one answer
 			return err
 		}
 		if len(answer.Kvs) == 0 {

@@ -175,6 +175,7 @@ type nodes struct {
 	seen  atomic.Int64 // the greatest revision of a linearizable answer, or of a key
 	reach reach        // whether etcd answers
 	log   func(format string, args ...any)
+	left  func(at int32) // is told which one isn't asked any more
 }
 
 // errPast says that etcd doesn't have what it had.
@@ -187,7 +188,9 @@ func (n *nodes) now() (node, int32) {
 
 // leave goes on with the next member, where the one that failed is still asked.
 func (n *nodes) leave(at int32) {
-	n.at.CompareAndSwap(at, (at+1)%int32(len(n.all)))
+	if len(n.all) > 1 && n.at.CompareAndSwap(at, (at+1)%int32(len(n.all))) {
+		n.left(at)
+	}
 }
 
 // question asks a member, and returns the header of its answer.
@@ -201,7 +204,7 @@ func (n *nodes) ask(ctx context.Context, ask question) error {
 	if err == nil || errors.Is(err, errPast) {
 		return err
 	}
-	if ctx.Err() == nil {
+	if kind := faultOf(ctx, err); kind == lost || kind == refused || kind == badToken {
 		n.leave(at)
 	}
 	return err

@@ -15,6 +15,7 @@ import (
 
 // Who changes the past ends the servers that run, and those that start with a journal.
 func TestAChangedPastEndsTheOrder(t *testing.T) {
+	t.Parallel()
 	for _, it := range []struct {
 		name, live, down string
 		change           func(etcd *etcds, keys []string)
@@ -70,6 +71,7 @@ func TestAChangedPastEndsTheOrder(t *testing.T) {
 
 // A snapshot of etcd that is put back takes batches away that have counted.
 func TestAnOlderEtcdEndsTheOrder(t *testing.T) {
+	t.Parallel()
 	etcd, folder := runEtcd(t, 1), t.TempDir()
 	live := etcd.opened(nil)
 	live.appended("1", "2")
@@ -120,6 +122,7 @@ func keyOf(hint uint64, last byte) string {
 }
 
 func TestStrangersKeysTakeNoPlace(t *testing.T) {
+	t.Parallel()
 	for _, secret := range []*batch.Secret{nil, {7}} {
 		t.Run(fmt.Sprintf("secret %v", secret != nil), func(t *testing.T) {
 			t.Parallel()
@@ -157,6 +160,7 @@ func TestStrangersKeysTakeNoPlace(t *testing.T) {
 }
 
 func TestAnotherSecretIsFound(t *testing.T) {
+	t.Parallel()
 	etcd := runEtcd(t, 1)
 	w := etcd.opened(func(o *EtcdOptions) { o.Secret = &batch.Secret{1} })
 	w.appended("1")
@@ -179,6 +183,7 @@ func TestAnotherSecretIsFound(t *testing.T) {
 }
 
 func TestAnOrderOfANewerProgramIsRefused(t *testing.T) {
+	t.Parallel()
 	etcd := runEtcd(t, 1)
 	key := keyOf(0, 1)
 	etcd.put(key, "\x02\x00\x00\x00 what a newer program writes")
@@ -191,6 +196,7 @@ func TestAnOrderOfANewerProgramIsRefused(t *testing.T) {
 
 // Keys that one transaction makes have one revision: the order is that of the keys, for all who read.
 func TestKeysOfOneRevisionAreInTheOrderOfTheirNames(t *testing.T) {
+	t.Parallel()
 	etcd := runEtcd(t, 1)
 	live := etcd.opened(nil)
 	live.untilBegun()
@@ -218,6 +224,7 @@ func TestKeysOfOneRevisionAreInTheOrderOfTheirNames(t *testing.T) {
 
 // A batch that comes too late takes no place, and its strings go into another.
 func TestABatchThatComesTooLateIsMadeAnew(t *testing.T) {
+	t.Parallel()
 	etcd := runEtcd(t, 1)
 	relay := etcd.relayed(0)
 	held := make(chan struct{})
@@ -264,6 +271,7 @@ func TestABatchThatComesTooLateIsMadeAnew(t *testing.T) {
 }
 
 func TestEtcdThatStopsIsToldAndGoneOnWith(t *testing.T) {
+	t.Parallel()
 	etcd := runEtcd(t, 3)
 	w := etcd.opened(nil)
 	w.appended("1")

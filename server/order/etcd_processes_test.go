@@ -16,6 +16,7 @@ import (
 
 	pb "go.etcd.io/etcd/etcdserver/etcdserverpb"
 	"google.golang.org/grpc"
+	"google.golang.org/grpc/backoff"
 	"google.golang.org/grpc/credentials"
 )
 
@@ -178,7 +179,11 @@ func (c *etcds) kv(at int) pb.KVClient {
 		}
 		option = grpc.WithTransportCredentials(credentials.NewTLS(config))
 	}
-	conn, err := grpc.Dial(fmt.Sprintf("127.0.0.1:%d", c.all[at].client), option)
+	quick := grpc.ConnectParams{
+		Backoff:           backoff.Config{BaseDelay: firstPause, Multiplier: 1, MaxDelay: firstPause},
+		MinConnectTimeout: 5 * time.Second,
+	}
+	conn, err := grpc.Dial(fmt.Sprintf("127.0.0.1:%d", c.all[at].client), option, grpc.WithConnectParams(quick))
 	if err != nil {
 		c.t.Fatal(err)
 	}

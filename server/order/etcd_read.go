@@ -135,7 +135,7 @@ func (r *reader) askMembers(ctx context.Context, it *stored, why error) (*batch.
 				return r.rightElsewhere(it, kept, found, member)
 			}
 		}
-		if answers > len(r.nodes.all)/2 {
+		if answers > 0 && 2*answers >= len(r.nodes.all) {
 			r.once("etcd: %s takes no place in the order: %v", it.key, why)
 			return nil, why
 		}

@@ -123,6 +123,7 @@ func (r *relay) Watch(server pb.Watch_WatchServer) error {
 }
 
 func TestLostAnswersDoNoHarm(t *testing.T) {
+	t.Parallel()
 	etcd := runEtcd(t, 1)
 	near, far := etcd.relayed(0), etcd.relayed(0)
 	var mutex sync.Mutex
@@ -168,6 +169,7 @@ func TestLostAnswersDoNoHarm(t *testing.T) {
 // A string that isn't wanted any more after a lost answer is settled by a batch under the same key: it stands in the
 // order if it was put, and is dropped if not.
 func TestWhatIsNotWantedAfterALostAnswerIsSettled(t *testing.T) {
+	t.Parallel()
 	for _, put := range []bool{true, false} {
 		t.Run(fmt.Sprintf("put %v", put), func(t *testing.T) {
 			etcd := runEtcd(t, 1)
@@ -213,6 +215,7 @@ func TestWhatIsNotWantedAfterALostAnswerIsSettled(t *testing.T) {
 }
 
 func TestEventsThatComeAgainArePassedOver(t *testing.T) {
+	t.Parallel()
 	etcd := runEtcd(t, 1)
 	relay := etcd.relayed(0)
 	again, all := 0, []*pb.WatchResponse(nil)
@@ -233,6 +236,7 @@ func TestEventsThatComeAgainArePassedOver(t *testing.T) {
 }
 
 func TestAWatchThatBreaksIsMadeAgain(t *testing.T) {
+	t.Parallel()
 	etcd := runEtcd(t, 1)
 	relay, number := etcd.relayed(0), 0
 	relay.told = func(answer *pb.WatchResponse) ([]*pb.WatchResponse, error) {
@@ -252,6 +256,7 @@ func TestAWatchThatBreaksIsMadeAgain(t *testing.T) {
 
 // A watch that says nothing any more is found by etcd's count.
 func TestAWatchThatFallsSilentIsMadeAgain(t *testing.T) {
+	t.Parallel()
 	etcd := runEtcd(t, 1)
 	relay := etcd.relayed(0)
 	silent := make(chan struct{})
@@ -277,6 +282,7 @@ func TestAWatchThatFallsSilentIsMadeAgain(t *testing.T) {
 }
 
 func TestADamagedCopyAtOneMemberIsReadElsewhere(t *testing.T) {
+	t.Parallel()
 	etcd := runEtcd(t, 1)
 	damaged, whole := etcd.relayed(0), etcd.relayed(0)
 	flip := func(value []byte) {

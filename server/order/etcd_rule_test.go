@@ -203,6 +203,7 @@ func (d *drawn) count(some []*mvccpb.KeyValue) {
 // Readers that begin anywhere, whose watches and requests break, and who list from wherever they had come to, agree with
 // the words of the rule.
 func TestAllReadersCountAlike(t *testing.T) {
+	t.Parallel()
 	seed := time.Now().UnixNano()
 	t.Logf("seed %d", seed)
 	etcd, random := newMemoryEtcd(seed), rand.New(rand.NewSource(seed+1))
