@@ -2,6 +2,7 @@ package order
 
 import (
 	"context"
+	"crypto/sha256"
 	"errors"
 	"fmt"
 	"sync"
@@ -44,6 +45,9 @@ var _ Order = (*Etcd)(nil)
 // OpenEtcd opens an order in etcd. It returns at once where the options are well formed; whether etcd can be reached is
 // told by Reached.
 func OpenEtcd(options EtcdOptions) (*Etcd, error) {
+	if err := options.check(); err != nil {
+		return nil, err
+	}
 	hosts, secure, err := hostsOf(options.Endpoints)
 	if err != nil {
 		return nil, err
@@ -75,6 +79,9 @@ type Peer struct {
 // OpenMember opens an order in etcd by a member in this process. The other members are asked where this one fails, and
 // for what it may have kept wrongly. Of the options the endpoints, the certificates and the login aren't used.
 func OpenMember(options EtcdOptions, kv pb.KVClient, watch pb.WatchClient, others []Peer) (*Etcd, error) {
+	if err := options.check(); err != nil {
+		return nil, err
+	}
 	all := &nodes{home: true, all: []node{&member{kv, watch}}}
 	for _, it := range others {
 		hosts, secure, err := hostsOf([]string{it.URL})
@@ -94,9 +101,6 @@ func OpenMember(options EtcdOptions, kv pb.KVClient, watch pb.WatchClient, other
 }
 
 func openEtcd(options EtcdOptions, all *nodes) (*Etcd, error) {
-	if err := options.check(); err != nil {
-		return nil, err
-	}
 	e := &Etcd{
 		keys: keysOf(options.Prefix, options.Number), maker: options.Maker, secret: options.Secret, nodes: all,
 		log: options.Log, done: make(chan struct{}), rule: rule{secret: options.Secret},
@@ -104,7 +108,7 @@ func openEtcd(options EtcdOptions, all *nodes) (*Etcd, error) {
 	if e.log == nil {
 		e.log = func(string, ...any) {}
 	}
-	all.log = e.log
+	all.log, all.left = e.log, e.leftMember
 	e.ctx, e.cancel = context.WithCancel(context.Background())
 	e.out = newOutbox()
 	e.journal = newJournal(options.Journal, e)
@@ -186,7 +190,7 @@ func (e *Etcd) Reread(ctx context.Context, upto uint64, take func(found *batch.B
 		if err := ctx.Err(); err != nil {
 			return err
 		}
-		found, err := e.opened(it.key, it.value)
+		found, err := e.kept(it.value)
 		if err != nil {
 			return fmt.Errorf("reading the order again: %w", err)
 		}
@@ -208,14 +212,10 @@ func (e *Etcd) Reread(ctx context.Context, upto uint64, take func(found *batch.B
 // errEnough ends a reading.
 var errEnough = errors.New("enough was read")
 
-// opened reads a batch that has counted.
-func (e *Etcd) opened(key string, value []byte) (*batch.Batch, error) {
-	if e.secret != nil {
-		bytes, err := e.secret.Open(key, value)
-		if err != nil {
-			return nil, err
-		}
-		value = bytes
+// kept reads a batch that has counted, whose signature was checked.
+func (e *Etcd) kept(value []byte) (*batch.Batch, error) {
+	if e.secret != nil && len(value) >= sha256.Size {
+		value = value[:len(value)-sha256.Size]
 	}
 	return batch.Read(value)
 }

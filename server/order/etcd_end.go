@@ -19,6 +19,8 @@ type ends struct {
 	answered uint64        // up to here
 	wake     chan struct{} // of the goroutine that asks etcd
 	cut      func()        // ends the watch
+	watched  int32         // which member is watched
+	silent   bool          // whether the watch was ended since its member shows nothing
 	decided  int64         // revision up to which the watch has shown all
 	tallies  uint64        // how many tallies there were: a count is compared with the one that it was asked for
 	held     bool          // whether the tally's floor stays, since a count from there on is asked for
@@ -145,13 +147,27 @@ func (e *Etcd) await(ctx context.Context, wanted *count) {
 			break
 		}
 	}
-	e.mutex.Lock()
-	cut := e.ends.cut
-	e.mutex.Unlock()
-	cut()
+	e.endWatch(!e.areShown(wanted))
 	select {
 	case <-wanted.over:
 	case <-ctx.Done():
+	}
+}
+
+// endWatch ends the watch, so that the keys are listed again: at another member where this one shows nothing.
+func (e *Etcd) endWatch(silent bool) {
+	e.mutex.Lock()
+	defer e.mutex.Unlock()
+	e.ends.silent = silent
+	e.ends.cut()
+}
+
+// leftMember ends the watch of a member that doesn't answer any more.
+func (e *Etcd) leftMember(at int32) {
+	e.mutex.Lock()
+	defer e.mutex.Unlock()
+	if e.ends.watched == at {
+		e.ends.cut()
 	}
 }
 
@@ -212,6 +228,7 @@ func (e *Etcd) goHome(ctx context.Context) {
 	}
 	asked := &pb.RangeRequest{Key: []byte(e.keys.folder), CountOnly: true}
 	if _, err := e.nodes.rangeAt(ctx, e.nodes.all[0], asked); err == nil {
-		e.nodes.at.Store(0)
+		left := e.nodes.at.Swap(0)
+		e.leftMember(left)
 	}
 }

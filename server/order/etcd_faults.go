@@ -24,6 +24,10 @@ const (
 
 // faultOf returns what became of a request.
 func faultOf(ctx context.Context, err error) fault {
+	var told *said
+	if errors.As(err, &told) {
+		err = told.cause
+	}
 	text := wordsOf(err)
 	switch code := codeOf(err); {
 	case ctx.Err() != nil && !errors.Is(ctx.Err(), context.DeadlineExceeded):

@@ -28,11 +28,18 @@ type journal struct {
 
 	mutex   sync.Mutex
 	more    sync.Cond
-	log     *segments.Log // nil until it is opened
-	kept    uint64        // records on the disk
-	waiting []*entryKept  // batches that aren't on the disk yet
-	size    int           // of their values
+	log     journalLog   // nil until it is opened
+	kept    uint64       // records on the disk
+	waiting []*entryKept // batches that aren't on the disk yet
+	size    int          // of their values
 	isFull  bool
+}
+
+// journalLog is a *segments.Log. Tests have one whose disk is full.
+type journalLog interface {
+	AppendAll(kept [][]byte) (count int, err error)
+	Reread(upto uint64, take func(kept []byte) error) error
+	Close() error
 }
 
 // entryKept is a batch that has counted. Its value is nil where it has to be read from etcd again.
@@ -128,7 +135,7 @@ func (r *reader) handOn(ctx context.Context) error {
 		if !r.out.room(ctx) {
 			return ctx.Err()
 		}
-		found, err := r.opened(kept.key, kept.value)
+		found, err := r.kept(kept.value)
 		if err != nil {
 			return err
 		}
@@ -187,11 +194,11 @@ func (j *journal) add(ctx context.Context, it *stored) error {
 // write writes what was handed over, until the context is over.
 func (j *journal) write(ctx context.Context) error {
 	for {
-		some := j.next(ctx)
+		log, some := j.next(ctx)
 		if some == nil {
 			return nil
 		}
-		count, err := j.writeSome(ctx, some)
+		count, err := j.writeSome(ctx, log, some)
 		full := errors.Is(err, segments.ErrFull)
 		if err != nil && !full && ctx.Err() == nil {
 			return ended("the journal in %s: %w", j.path, err)
@@ -204,14 +211,14 @@ func (j *journal) write(ctx context.Context) error {
 }
 
 // next waits for batches to write, and returns as many as are forced together; nil at the end.
-func (j *journal) next(ctx context.Context) []*entryKept {
+func (j *journal) next(ctx context.Context) (journalLog, []*entryKept) {
 	j.mutex.Lock()
 	defer j.mutex.Unlock()
 	for (j.log == nil || len(j.waiting) == 0) && ctx.Err() == nil {
 		j.more.Wait()
 	}
 	if j.log == nil {
-		return nil
+		return nil, nil
 	}
 	count, size := 0, 0
 	for count < len(j.waiting) && size < journalAtOnce {
@@ -222,13 +229,13 @@ func (j *journal) next(ctx context.Context) []*entryKept {
 		count++
 	}
 	if count == 0 {
-		return nil
+		return nil, nil
 	}
-	return j.waiting[:count:count]
+	return j.log, j.waiting[:count:count]
 }
 
 // writeSome writes batches, and returns how many are on the disk.
-func (j *journal) writeSome(ctx context.Context, some []*entryKept) (int, error) {
+func (j *journal) writeSome(ctx context.Context, log journalLog, some []*entryKept) (int, error) {
 	records := make([][]byte, 0, len(some))
 	for _, it := range some {
 		value, err := j.valueOf(ctx, it)
@@ -244,7 +251,7 @@ func (j *journal) writeSome(ctx context.Context, some []*entryKept) (int, error)
 		rest(ctx, longPause)
 		return 0, nil
 	}
-	return j.log.AppendAll(records)
+	return log.AppendAll(records)
 }
 
 // wrote notes that the first of what waits is on the disk, and whether there is no room for the rest.
@@ -284,10 +291,17 @@ func (j *journal) valueOf(ctx context.Context, it *entryKept) ([]byte, error) {
 	if len(answer.Kvs) != 1 || answer.Kvs[0].ModRevision != it.revision {
 		return nil, ended("%w: %s, a batch of the order, isn't as it was", errPast, it.key)
 	}
-	if _, err := j.etcd.opened(it.key, answer.Kvs[0].Value); err != nil {
+	value := answer.Kvs[0].Value
+	if secret := j.etcd.secret; secret != nil {
+		_, err = secret.Open(it.key, value)
+	}
+	if err == nil {
+		_, err = j.etcd.kept(value)
+	}
+	if err != nil {
 		return nil, fmt.Errorf("a member has a damaged copy of %s: %w", it.key, err)
 	}
-	return answer.Kvs[0].Value, nil
+	return value, nil
 }
 
 // reread hands over all batches that have counted, once the journal is opened.

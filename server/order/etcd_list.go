@@ -83,7 +83,7 @@ func (r *reader) list(ctx context.Context) error {
 
 // ask asks for the names from a key on.
 func (l *listing) ask(ctx context.Context, key string) (*pb.RangeResponse, error) {
-	answer, err := l.reader.nodes.rangeOf(ctx, &pb.RangeRequest{
+	answer, err := l.reader.nodes.rangeAgain(ctx, &pb.RangeRequest{
 		Key: []byte(key), RangeEnd: []byte(l.reader.keys.end()), Limit: keysAtOnce, KeysOnly: true, Revision: l.revision,
 	})
 	if err == nil && l.revision == 0 {
@@ -178,11 +178,12 @@ func (l *listing) gather(ctx context.Context, run []*stored) error {
 func (l *listing) fetch(ctx context.Context, wanted []*stored) error {
 	r := l.reader
 	for len(wanted) > 0 {
-		answer, err := r.nodes.rangeOf(ctx, &pb.RangeRequest{
+		answer, err := r.nodes.rangeAgain(ctx, &pb.RangeRequest{
 			Key: []byte(wanted[0].key), RangeEnd: []byte(wanted[len(wanted)-1].key + "\x00"), Limit: r.atOnce,
 			Revision: l.revision,
 		})
 		if err != nil {
+			r.atOnce = (r.atOnce + 1) / 2 // it may have been too much for one answer
 			return err
 		}
 		if len(answer.Kvs) == 0 {

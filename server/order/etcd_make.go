@@ -12,7 +12,7 @@ import (
 )
 
 const (
-	mostPuts = 4  // batches that are on their way to etcd at once
+	mostPuts = 3  // batches that are on their way to etcd at once
 	mostOwn  = 64 // batches that the watch hasn't shown yet
 )
 
@@ -24,6 +24,7 @@ type making struct {
 	wantVote bool
 	puts     int               // batches on their way to etcd
 	own      map[name]*ownMade // batches made since the start that the watch hasn't shown
+	unknown  map[name]bool     // those whose strings were refused, though they may stand yet
 	underWay sync.WaitGroup
 }
 
@@ -32,7 +33,7 @@ type making struct {
 type ownMade struct {
 	name
 	key    string
-	tries  []try // none once its strings were refused
+	tries  []try // none before its strings are chosen
 	unsure bool  // whether a try may have been put, or may still be
 	cancel func()
 }
@@ -43,7 +44,7 @@ type try struct {
 }
 
 func (m *making) begin() error {
-	m.own = map[name]*ownMade{}
+	m.own, m.unknown = map[name]*ownMade{}, map[name]bool{}
 	if _, err := rand.Read(m.database[:]); err != nil {
 		return fmt.Errorf("drawing the database's identity: %w", err)
 	}
@@ -247,12 +248,11 @@ func (e *Etcd) isRefused(ctx context.Context, own *ownMade, why error) bool {
 		return true
 	}
 	refusal := &Refused{own.tries[0].strings, ErrFull}
-	own.tries = nil
 	if own.unsure {
-		refusal.Why = ErrUnknown // and the watch may show it yet
-	} else {
-		e.making.gone(own.name)
+		refusal.Why = ErrUnknown
+		e.making.unknown[own.name] = true
 	}
+	e.making.gone(own.name)
 	if len(refusal.Of) > 0 {
 		e.out.post(0, refusal)
 	}
@@ -266,7 +266,7 @@ func (e *Etcd) tryAgain(own *ownMade, kind fault) bool {
 		e.mutex.Unlock()
 		return false
 	}
-	own.unsure = own.unsure || kind == lost
+	own.unsure = own.unsure || kind == lost || kind == full || kind == tooLarge
 	last := own.tries[len(own.tries)-1].strings
 	e.mutex.Unlock()
 	wanted, dropped := sorted(last)
@@ -305,6 +305,8 @@ func (m *making) gone(which name) {
 func (m *making) settle(it *stored, event *Counted) []Event {
 	own := m.own[it.name]
 	if own == nil {
+		event.Made = m.unknown[it.name]
+		delete(m.unknown, it.name)
 		return nil
 	}
 	m.gone(it.name)
@@ -357,6 +359,11 @@ func (e *Etcd) settleVoid() {
 	for which := range e.making.own {
 		if e.rule.isVoid(which.hint) {
 			e.making.void(which)
+		}
+	}
+	for which := range e.making.unknown {
+		if e.rule.isVoid(which.hint) {
+			delete(e.making.unknown, which)
 		}
 	}
 }

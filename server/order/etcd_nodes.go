@@ -6,6 +6,8 @@ import (
 	"errors"
 	"fmt"
 	"math"
+	"net"
+	"strings"
 	"sync"
 	"sync/atomic"
 	"time"
@@ -13,8 +15,10 @@ import (
 	pb "go.etcd.io/etcd/etcdserver/etcdserverpb"
 	"google.golang.org/grpc"
 	"google.golang.org/grpc/backoff"
+	"google.golang.org/grpc/codes"
 	"google.golang.org/grpc/credentials"
 	"google.golang.org/grpc/keepalive"
+	"google.golang.org/grpc/status"
 )
 
 const (
@@ -28,6 +32,8 @@ type node interface {
 	name() string
 	// clients returns how the member is asked now, connected and logged in where need be.
 	clients(ctx context.Context) (pb.KVClient, pb.WatchClient, error)
+	// explain says more of a request that wasn't answered, where there is more to say.
+	explain(err error) error
 	// refuseToken has the next clients be logged in anew.
 	refuseToken()
 	close()
@@ -43,8 +49,9 @@ func (m *member) name() string { return "the member in this process" }
 func (m *member) clients(context.Context) (pb.KVClient, pb.WatchClient, error) {
 	return m.kv, m.watch, nil
 }
-func (m *member) refuseToken() {}
-func (m *member) close()       {}
+func (m *member) explain(err error) error { return err }
+func (m *member) refuseToken()            {}
+func (m *member) close()                  {}
 
 // remote is a member of etcd that is asked over the network, by a connection of its own. A request to a member that is
 // away fails at once: etcd's client would wait, and ask another member.
@@ -100,6 +107,26 @@ func (r *remote) options() []grpc.DialOption {
 	return options
 }
 
+// explain asks a member that only ends connections why: it may refuse this server's certificate, which gRPC keeps to
+// itself.
+func (r *remote) explain(err error) error {
+	if r.tls == nil || status.Code(err) != codes.Unavailable || strings.Contains(wordsOf(err), "refused") {
+		return err
+	}
+	config := r.tls.Clone()
+	config.NextProtos = []string{"h2"}
+	conn, fault := tls.DialWithDialer(&net.Dialer{Timeout: longPause}, "tcp", r.host, config)
+	if fault == nil {
+		defer conn.Close()
+		conn.SetReadDeadline(time.Now().Add(longPause))
+		_, fault = conn.Read(make([]byte, 1))
+	}
+	if fault != nil && strings.Contains(fault.Error(), "tls: ") {
+		return status.Error(codes.Unavailable, fault.Error())
+	}
+	return err
+}
+
 func (r *remote) refuseToken() { r.token.set("") }
 
 func (r *remote) close() {
@@ -148,6 +175,7 @@ type nodes struct {
 	seen  atomic.Int64 // the greatest revision of a linearizable answer, or of a key
 	reach reach        // whether etcd answers
 	log   func(format string, args ...any)
+	left  func(at int32) // is told which one isn't asked any more
 }
 
 // errPast says that etcd doesn't have what it had.
@@ -160,7 +188,9 @@ func (n *nodes) now() (node, int32) {
 
 // leave goes on with the next member, where the one that failed is still asked.
 func (n *nodes) leave(at int32) {
-	n.at.CompareAndSwap(at, (at+1)%int32(len(n.all)))
+	if len(n.all) > 1 && n.at.CompareAndSwap(at, (at+1)%int32(len(n.all))) {
+		n.left(at)
+	}
 }
 
 // question asks a member, and returns the header of its answer.
@@ -174,7 +204,7 @@ func (n *nodes) ask(ctx context.Context, ask question) error {
 	if err == nil || errors.Is(err, errPast) {
 		return err
 	}
-	if ctx.Err() == nil {
+	if kind := faultOf(ctx, err); kind == lost || kind == refused || kind == badToken {
 		n.leave(at)
 	}
 	return err
@@ -211,6 +241,16 @@ func (n *nodes) rangeOf(ctx context.Context, asked *pb.RangeRequest) (answer *pb
 	return answer, err
 }
 
+// rangeAgain asks for keys as rangeOf does, at each member once or twice, since much may depend on one answer.
+func (n *nodes) rangeAgain(ctx context.Context, asked *pb.RangeRequest) (answer *pb.RangeResponse, err error) {
+	for failures := 1; ; failures++ {
+		answer, err = n.rangeOf(ctx, asked)
+		if err == nil || isEnd(err) || failures > 2*len(n.all) || faultOf(ctx, err) == compacted || !n.pause(ctx, failures) {
+			return answer, err
+		}
+	}
+}
+
 // rangeAt asks a member for keys as it has kept them, as far as the others have come.
 func (n *nodes) rangeAt(ctx context.Context, at node, asked *pb.RangeRequest) (answer *pb.RangeResponse, err error) {
 	least := n.seen.Load()
@@ -234,7 +274,7 @@ func (n *nodes) failed(ctx context.Context, it node, err error) error {
 		n.reach.succeeded()
 		return err
 	}
-	why := explained(it.name(), err)
+	why := explained(it.name(), it.explain(err))
 	if n.reach.failed(why) {
 		n.log("etcd: %v", why)
 	}

@@ -16,6 +16,8 @@ import (
 
 	pb "go.etcd.io/etcd/etcdserver/etcdserverpb"
 	"google.golang.org/grpc"
+	"google.golang.org/grpc/backoff"
+	"google.golang.org/grpc/credentials"
 )
 
 // starts are processes to be started from a thread that never ends, for they are killed when their thread is.
@@ -35,7 +37,8 @@ type etcds struct {
 	t       *testing.T
 	all     []*etcdProcess
 	cluster string
-	more    []string // arguments
+	more    []string   // arguments
+	access  *authority // where it is reached by TLS
 }
 
 type etcdProcess struct {
@@ -47,10 +50,23 @@ type etcdProcess struct {
 // runEtcd starts a cluster of some members, which ends with the test.
 func runEtcd(t *testing.T, count int, more ...string) *etcds {
 	t.Helper()
+	return run(&etcds{t: t, more: more}, count)
+}
+
+// runEtcdTLS starts a member that wants certificates of an authority, which has made some for server and client.
+func runEtcdTLS(t *testing.T, access *authority, more ...string) *etcds {
+	t.Helper()
+	more = append(more, "--cert-file", access.path("server.crt"), "--key-file", access.path("server.key"),
+		"--trusted-ca-file", access.path("ca.crt"), "--client-cert-auth")
+	return run(&etcds{t: t, more: more, access: access}, 1)
+}
+
+func run(c *etcds, count int) *etcds {
+	t := c.t
+	t.Helper()
 	if _, err := exec.LookPath("etcd"); err != nil {
 		t.Skip("etcd isn't installed")
 	}
-	c := &etcds{t: t, more: more}
 	folder := t.TempDir()
 	var urls []string
 	for at := 0; at < count; at++ {
@@ -86,7 +102,7 @@ func freePort(t *testing.T) int {
 func (c *etcds) start(at int) {
 	c.t.Helper()
 	it := c.all[at]
-	client, peer := fmt.Sprintf("http://127.0.0.1:%d", it.client), fmt.Sprintf("http://127.0.0.1:%d", it.peer)
+	client, peer := c.endpoints()[at], fmt.Sprintf("http://127.0.0.1:%d", it.peer)
 	args := append([]string{
 		"--name", it.name, "--data-dir", it.folder, "--listen-client-urls", client, "--advertise-client-urls", client,
 		"--listen-peer-urls", peer, "--initial-advertise-peer-urls", peer, "--initial-cluster", c.cluster,
@@ -116,8 +132,12 @@ func (c *etcds) signal(at int, what syscall.Signal) { c.all[at].running.Process.
 
 func (c *etcds) endpoints() []string {
 	var all []string
+	scheme := "http"
+	if c.access != nil {
+		scheme = "https"
+	}
 	for _, it := range c.all {
-		all = append(all, fmt.Sprintf("http://127.0.0.1:%d", it.client))
+		all = append(all, fmt.Sprintf("%s://127.0.0.1:%d", scheme, it.client))
 	}
 	return all
 }
@@ -150,7 +170,20 @@ func (c *etcds) await(at int) {
 // kv asks one member.
 func (c *etcds) kv(at int) pb.KVClient {
 	c.t.Helper()
-	conn, err := grpc.Dial(fmt.Sprintf("127.0.0.1:%d", c.all[at].client), grpc.WithInsecure())
+	option := grpc.WithInsecure()
+	if c.access != nil {
+		options := EtcdOptions{CA: c.access.path("ca.crt"), Cert: c.access.path("client.crt"), Key: c.access.path("client.key")}
+		config, err := options.tlsOf()
+		if err != nil {
+			c.t.Fatal(err)
+		}
+		option = grpc.WithTransportCredentials(credentials.NewTLS(config))
+	}
+	quick := grpc.ConnectParams{
+		Backoff:           backoff.Config{BaseDelay: firstPause, Multiplier: 1, MaxDelay: firstPause},
+		MinConnectTimeout: 5 * time.Second,
+	}
+	conn, err := grpc.Dial(fmt.Sprintf("127.0.0.1:%d", c.all[at].client), option, grpc.WithConnectParams(quick))
 	if err != nil {
 		c.t.Fatal(err)
 	}
@@ -209,7 +242,12 @@ func within(t *testing.T) context.Context {
 // ctl runs etcdctl.
 func (c *etcds) ctl(args ...string) string {
 	c.t.Helper()
-	ctl := exec.Command("etcdctl", append([]string{"--endpoints", c.endpoints()[0]}, args...)...)
+	with := []string{"--endpoints", c.endpoints()[0]}
+	if c.access != nil {
+		with = append(with, "--cacert", c.access.path("ca.crt"), "--cert", c.access.path("client.crt"),
+			"--key", c.access.path("client.key"))
+	}
+	ctl := exec.Command("etcdctl", append(with, args...)...)
 	ctl.Env = append(os.Environ(), "ETCDCTL_API=3")
 	var told bytes.Buffer
 	ctl.Stdout, ctl.Stderr = &told, &told

@@ -5,7 +5,6 @@ import (
 	"context"
 	"errors"
 	"fmt"
-	"time"
 
 	"dsmdb/server/batch"
 	pb "go.etcd.io/etcd/etcdserver/etcdserverpb"
@@ -43,7 +42,7 @@ func (e *Etcd) read(ctx context.Context) error {
 		return err
 	}
 	for failures := 0; ctx.Err() == nil; failures++ {
-		began := time.Now()
+		before := r.history.end()
 		err := r.list(ctx)
 		if err == nil {
 			err = r.watch(ctx)
@@ -51,7 +50,7 @@ func (e *Etcd) read(ctx context.Context) error {
 		if isEnd(err) {
 			return err
 		}
-		if time.Since(began) > longPause {
+		if r.history.end() > before {
 			failures = 0
 		}
 		if !rest(ctx, backOff(failures)) {
@@ -136,7 +135,7 @@ func (r *reader) askMembers(ctx context.Context, it *stored, why error) (*batch.
 				return r.rightElsewhere(it, kept, found, member)
 			}
 		}
-		if answers > len(r.nodes.all)/2 {
+		if answers > 0 && 2*answers >= len(r.nodes.all) {
 			r.once("etcd: %s takes no place in the order: %v", it.key, why)
 			return nil, why
 		}

@@ -32,6 +32,7 @@ func manyCallers(callers, each int, orders ...*watched) map[string]bool {
 }
 
 func TestTwoServersReadOneOrder(t *testing.T) {
+	t.Parallel()
 	for _, members := range []int{1, 3} {
 		t.Run(fmt.Sprintf("%d members", members), func(t *testing.T) {
 			etcd := runEtcd(t, members)
@@ -69,6 +70,7 @@ func TestTwoServersReadOneOrder(t *testing.T) {
 }
 
 func TestAServerGoesOnFromItsJournal(t *testing.T) {
+	t.Parallel()
 	etcd, folder := runEtcd(t, 1), t.TempDir()
 	secret := &batch.Secret{1}
 	open := func() *watched {
@@ -101,6 +103,7 @@ func TestAServerGoesOnFromItsJournal(t *testing.T) {
 }
 
 func TestABatchCarriesItsMakersVote(t *testing.T) {
+	t.Parallel()
 	etcd := runEtcd(t, 1)
 	vote := batch.Vote{Position: 7, Strings: batch.Digest{1}, Answers: batch.Digest{2}}
 	w := etcd.opened(func(o *EtcdOptions) { o.Maker.Vote = func() batch.Vote { return vote } })

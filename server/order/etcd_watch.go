@@ -16,19 +16,30 @@ import (
 func (r *reader) watch(ctx context.Context) error {
 	ctx, cancel := context.WithCancel(ctx)
 	defer cancel()
-	r.mutex.Lock()
-	r.ends.cut = cancel
-	r.mutex.Unlock()
 	it, at := r.nodes.now()
+	r.mutex.Lock()
+	r.ends.cut, r.ends.watched, r.ends.silent = cancel, at, false
+	r.mutex.Unlock()
 	stream, err := r.openWatch(ctx, it)
 	if err == nil {
 		err = r.takeAll(ctx, stream)
 	}
-	if err != nil && !isEnd(err) && ctx.Err() == nil {
-		r.nodes.failed(ctx, it, err)
-		r.nodes.leave(at)
+	if err == nil || isEnd(err) {
+		return err
 	}
+	if ctx.Err() == nil {
+		r.nodes.failed(ctx, it, err)
+	} else if !r.fellSilent() {
+		return err
+	}
+	r.nodes.leave(at)
 	return err
+}
+
+func (r *reader) fellSilent() bool {
+	r.mutex.Lock()
+	defer r.mutex.Unlock()
+	return r.ends.silent
 }
 
 // openWatch opens a watch of all keys of the order, from behind what is decided on.
