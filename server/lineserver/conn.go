@@ -3,8 +3,10 @@ package lineserver
 import (
 	"bufio"
 	"bytes"
+	"context"
 	"io"
 	"net"
+	"strings"
 	"sync"
 	"time"
 
@@ -131,6 +133,8 @@ func (c *conn) take(lines []byte, passing *bool) bool {
 			c.showToken(line.Tag, ask, &some)
 		case wire.Layout:
 			c.answerAtOnce(line.Tag, "layout "+c.server.Layout.String(), &some)
+		case *wire.Join:
+			c.answerAtOnce(line.Tag, c.invite(ask), &some)
 		default:
 			if err := c.who.May(ask, time.Now()); err != nil {
 				c.answerAtOnce(line.Tag, "refused "+err.Error(), &some)
@@ -146,6 +150,23 @@ func (c *conn) take(lines []byte, passing *bool) bool {
 		c.server.Site.Ask(some...)
 	}
 	return true
+}
+
+// invite takes a new member into the cluster. The connection's other lines wait meanwhile.
+func (c *conn) invite(ask *wire.Join) string {
+	if err := c.who.Has(access.Join); err != nil {
+		return "refused " + err.Error()
+	}
+	if c.server.Invite == nil {
+		return "refused no-cluster"
+	}
+	ctx, cancel := context.WithTimeout(context.Background(), time.Minute)
+	defer cancel()
+	members, err := c.server.Invite(ctx, ask.Name, ask.Place)
+	if err != nil {
+		return "refused join " + strings.ReplaceAll(err.Error(), "\n", " ")
+	}
+	return "invited " + members
 }
 
 // showToken says who asks from now on.

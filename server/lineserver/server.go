@@ -33,6 +33,8 @@ type Server struct {
 	Policy *access.Policy
 	Layout *layout.Layout // nil for none
 	Limits Limits
+	// Invite takes a new member into the cluster, and returns all members; nil where there is no cluster.
+	Invite func(ctx context.Context, name, place string) (members string, err error)
 	Say    func(format string, values ...any)
 
 	open    atomic.Int64

@@ -35,7 +35,7 @@ type Line struct {
 }
 
 // Ask is one of Call, Add, NewSession, Rows, Scan, Position, Status, Hello, Layout,
-// Token; nil for an empty line or a comment.
+// Join, Token; nil for an empty line or a comment.
 type Ask interface{ isAsk() }
 
 type (
@@ -73,6 +73,8 @@ type (
 	Hello struct{}
 	// Layout asks for the names and types of fields, as JSON.
 	Layout struct{}
+	// Join asks that a new member is taken into the cluster.
+	Join struct{ Name, Place string }
 	// Token says who asks.
 	Token struct{ Word string }
 )
@@ -86,6 +88,7 @@ func (Position) isAsk()   {}
 func (Status) isAsk()     {}
 func (Hello) isAsk()      {}
 func (Layout) isAsk()     {}
+func (*Join) isAsk()      {}
 func (Token) isAsk()      {}
 
 // Read reads a line, which is without its LF. The error is a Fault; the tag is read all the same where there is one.
@@ -139,6 +142,7 @@ var readers = map[string]func(fields []string) (Ask, error){
 	"call":     readCall,
 	"add":      readAdd,
 	"token":    readToken,
+	"join":     readJoin,
 	"session":  alone(NewSession{}),
 	"rows":     alone(Rows{}),
 	"scan":     readScan,
@@ -165,6 +169,16 @@ func readToken(fields []string) (Ask, error) {
 		return nil, WrongField
 	}
 	return Token{fields[0]}, nil
+}
+
+func readJoin(fields []string) (Ask, error) {
+	if len(fields) != 2 {
+		return nil, WrongCount
+	}
+	if fields[0] == "" || fields[1] == "" {
+		return nil, WrongField
+	}
+	return &Join{fields[0], fields[1]}, nil
 }
 
 func readScan(fields []string) (Ask, error) {

@@ -33,8 +33,7 @@ type clientOptions struct {
 	limit         uint32
 }
 
-func clientCommands() []*cobra.Command {
-	o := &clientOptions{}
+func (o *clientOptions) commands() []*cobra.Command {
 	all := []*cobra.Command{o.callCommand(), o.addCommand(), o.rowsCommand(), o.sessionCommand(), o.statusCommand()}
 	for _, command := range all {
 		flags := command.Flags()
@@ -129,10 +128,7 @@ func (o *clientOptions) open() (*client.Client, error) {
 	}
 	options := client.Options{Within: o.within}
 	for _, place := range o.at {
-		if found, err := os.Stat(place); err == nil && found.IsDir() {
-			place = filepath.Join(place, "socket")
-		}
-		options.Servers = append(options.Servers, place)
+		options.Servers = append(options.Servers, placeOf(place))
 	}
 	var err error
 	if options.Dialer, err = o.dialer(); err != nil {
@@ -144,6 +140,14 @@ func (o *clientOptions) open() (*client.Client, error) {
 		}
 	}
 	return client.Open(options)
+}
+
+// placeOf returns where a server is reached, which may be named by its data folder.
+func placeOf(word string) string {
+	if found, err := os.Stat(word); err == nil && found.IsDir() {
+		return filepath.Join(word, "socket")
+	}
+	return word
 }
 
 func (o *clientOptions) dialer() (client.Dialer, error) {

@@ -3,6 +3,7 @@ package main
 import (
 	"fmt"
 	"io"
+	"strings"
 	"sync"
 	"time"
 )
@@ -22,6 +23,12 @@ func newLogger(to io.Writer) *logger {
 		}
 	}()
 	return l
+}
+
+// Write has lines of a library be written as events.
+func (l *logger) Write(text []byte) (int, error) {
+	l.say("%s", strings.TrimSpace(string(text)))
+	return len(text), nil
 }
 
 // say writes an event. It never waits.

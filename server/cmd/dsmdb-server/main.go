@@ -54,8 +54,10 @@ func main() {
 	root.SetFlagErrorFunc(func(command *cobra.Command, err error) error {
 		return words("%w: `dsmdb %s --help` says which there are", err, command.Name())
 	})
+	client := &clientOptions{}
 	root.AddCommand(serveCommand(), tokenCommand())
-	root.AddCommand(clientCommands()...)
+	root.AddCommand(clusterCommands(client)...)
+	root.AddCommand(client.commands()...)
 	err := root.Execute()
 	if err == nil {
 		return

@@ -17,6 +17,7 @@ import (
 	"time"
 
 	"dsmdb/server/access"
+	"dsmdb/server/cluster"
 	"dsmdb/server/data"
 	"dsmdb/server/engine"
 	"dsmdb/server/layout"
@@ -48,9 +49,10 @@ type serveOptions struct {
 
 const serveText = `Keeps a replica of the database of SETTINGS in the folder DIR, and answers clients.
 
-The order of calls lies in DIR, which is one server's. Several servers share an order in etcd: --etcd. Who comes by the
-Unix socket DIR/socket, which this user alone can reach, may do everything. Others come by --listen and --http; without
---roles those with a certificate may call, or all with --open.`
+The order of calls lies in DIR, which is one server's. Several servers share an order in etcd: in one that runs elsewhere
+(--etcd), or in their own, for which 'dsmdb begin' has prepared each DIR. Who comes by the Unix socket DIR/socket, which
+this user alone can reach, may do everything. Others come by --listen and --http; without --roles those with a
+certificate may call, or all with --open.`
 
 func serveCommand() *cobra.Command {
 	o := &serveOptions{}
@@ -158,6 +160,7 @@ type server struct {
 	policy   *access.Policy
 	layout   *layout.Layout
 	lines    *lineserver.Server
+	member   *cluster.Member // nil where the order isn't in a cluster of the servers' own
 	web      *http.Server
 	failures chan error
 	began    time.Time
@@ -177,10 +180,11 @@ func (o *serveOptions) run() error {
 	defer s.folder.Close()
 	ctx, stop := signal.NotifyContext(context.Background(), syscall.SIGTERM, syscall.SIGINT)
 	defer stop()
-	if err := s.openOrder(settings); err != nil {
+	err = s.openOrder(settings)
+	defer s.closeOrder()
+	if err != nil {
 		return err
 	}
-	defer s.order.Close()
 	running, end := context.WithCancel(context.Background())
 	defer end()
 	ended := make(chan error, 1)
@@ -242,13 +246,16 @@ func (s *server) openOrder(settings []byte) error {
 	}
 	vote := &lateVote{}
 	maker := order.Maker{ID: s.folder.Maker(), Version: version, Vote: vote.Vote}
-	if s.etcd.isGiven() {
-		s.order, err = s.etcd.open(maker, path, s.log.say)
+	name, err := s.memberName()
+	if err != nil {
+		return err
+	}
+	if name != "" || s.etcd.place != "" {
+		if err := s.openEtcd(name, maker, path); err != nil {
+			return fmt.Errorf("the order in etcd: %w", err)
+		}
 	} else {
 		s.order = order.OpenLocal(path, maker)
-	}
-	if err != nil {
-		return fmt.Errorf("the order in etcd: %w", err)
 	}
 	s.site = site.New(site.Options{
 		Settings: settings, Order: s.order, Maker: s.folder.Maker(), Patience: s.patience, Overrule: s.overrule, Say: s.log.say,
@@ -278,6 +285,12 @@ func (s *server) listenAll(ctx context.Context) error {
 	limits := lineserver.DefaultLimits
 	limits.Connections = s.connections
 	s.lines = &lineserver.Server{Site: s.site, Policy: s.policy, Layout: s.layout, Limits: limits, Say: s.log.say}
+	if s.member != nil {
+		s.lines.Invite = func(ctx context.Context, name, place string) (string, error) {
+			found, err := s.member.Invite(ctx, name, place)
+			return found.Members, err
+		}
+	}
 	for _, place := range append([]string{s.folder.Socket()}, s.listen...) {
 		listener, err := s.listenAt(place)
 		if err != nil {
@@ -318,6 +331,18 @@ func (s *server) drain() {
 			return
 		}
 		time.Sleep(20 * time.Millisecond)
+	}
+}
+
+// closeOrder ends the order, and then the member that keeps it.
+func (s *server) closeOrder() {
+	if s.order != nil {
+		s.order.Close()
+	}
+	if s.member != nil {
+		if err := s.member.Stop(); err != nil {
+			s.log.say("%v", err)
+		}
 	}
 }
 
