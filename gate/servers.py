@@ -1,14 +1,14 @@
-"""Tests of the bridges of sites (sdk/site), around a program."""
+"""Tests of servers with their clients, around a program: as processes, under faults."""
 import contextlib
 import os
 import re
-import shlex
 import shutil
 import signal
 import subprocess
 import tempfile
 import threading
 
+import serving
 import workspace
 
 INSTALL = "apt-get install etcd-server etcd-client"
@@ -18,7 +18,7 @@ LIMIT = 1800  # seconds, after which the tests are ended
 @contextlib.contextmanager
 def started(words, drawn):
     """Runs a command in a folder for what it leaves, and ends it, and all that it started, at the end."""
-    room = tempfile.mkdtemp(prefix="sites-")
+    room = tempfile.mkdtemp(prefix="servers-")
     how = {"stdout": subprocess.PIPE, "text": True, "errors": "replace", "env": {**os.environ, **drawn, "TMPDIR": room}}
     tests = subprocess.Popen(words, start_new_session=True, **how)
 
@@ -39,7 +39,11 @@ def started(words, drawn):
 
 def run_tests(program, tally, *names, **drawn):
     """Runs the tests, or those of some names, with the seed and the seconds of drawn faults."""
-    words = [f"{workspace.ROOT}/sdk/site/tests/run", "--engine", shlex.quote(program), *names]
+    server = serving.built()
+    if server is None:
+        tally.tell("the server", False, "it can't be built")
+        return
+    words = [f"{workspace.ROOT}/server/tests/run", "--engine", program, "--server", server, *names]
     ending = None
     with started(words, drawn) as tests:
         for line in tests.stdout:
@@ -49,12 +53,15 @@ def run_tests(program, tally, *names, **drawn):
                 print(line, end="", flush=True)
         status = tests.wait()
     if not ending:
-        print(f"the tests of sites ended with status {status}, and without a last line", flush=True)
+        print(f"the tests of servers ended with status {status}, and without a last line", flush=True)
     passed, failed = map(int, ending.groups()) if ending else (0, 1)
     tally.count(passed, failed or int(status != 0))
 
 
 def run(program, tally):
+    if serving.missing():
+        tally.leave_out("servers with clients", serving.install_line())
+        return
     run_tests(program, tally)
     if not (shutil.which("etcd") and shutil.which("etcdctl")):
         tally.leave_out("orders in etcd", INSTALL)
@@ -64,4 +71,5 @@ def run(program, tally):
 
 def run_long(program, tally):
     """Transfers under other faults, for a minute each."""
-    run_tests(program, tally, "test_transfers", SEED="2", SECONDS="60")
+    if not serving.missing():
+        run_tests(program, tally, "test_transfers", SEED="2", SECONDS="60")
