@@ -157,7 +157,9 @@ class Transfers(ServerTest):
         return self.serve(name, *self.words_of(name))
 
     def test_transfers(self):
-        servers = {it: self.start(it).begun() for it in self.names}
+        servers = {it: self.start(it) for it in self.names}
+        for it in servers.values():
+            it.begun()
         end = time.monotonic() + SECONDS
         clients = [Command(self, "client0", 1000, end), Command(self, "client1", 1001, end), Library(self, "client2", 1002, end)]
         for it in clients:
