@@ -6,6 +6,7 @@ import (
 	"math"
 	"net"
 	"sync"
+	"sync/atomic"
 	"testing"
 
 	pb "go.etcd.io/etcd/etcdserver/etcdserverpb"
@@ -195,11 +196,11 @@ func TestWhatIsNotWantedAfterALostAnswerIsSettled(t *testing.T) {
 			}
 			w := etcd.opened(func(o *EtcdOptions) { o.Endpoints = []string{relay.url} })
 			w.untilBegun()
-			asked := 0
-			leaves := &String{Text: []byte("leaves"), Wanted: func() bool { asked++; return asked == 1 }}
+			var asked atomic.Int64
+			leaves := &String{Text: []byte("leaves"), Wanted: func() bool { return asked.Add(1) == 1 }}
 			stays := &String{Text: []byte("stays")}
 			w.Append([]*String{leaves, stays})
-			w.until("second try", func() bool { return asked == 2 })
+			w.until("second try", func() bool { return asked.Load() == 2 })
 			close(held)
 			w.until("settled", func() bool { return w.own[stays] > 0 })
 			w.untilEnd()
@@ -238,9 +239,10 @@ func TestEventsThatComeAgainArePassedOver(t *testing.T) {
 func TestAWatchThatBreaksIsMadeAgain(t *testing.T) {
 	t.Parallel()
 	etcd := runEtcd(t, 1)
-	relay, number := etcd.relayed(0), 0
+	relay := etcd.relayed(0)
+	var number atomic.Int64
 	relay.told = func(answer *pb.WatchResponse) ([]*pb.WatchResponse, error) {
-		if number++; number%4 == 0 && len(answer.Events) > 0 {
+		if number.Add(1)%4 == 0 && len(answer.Events) > 0 {
 			return nil, errAway
 		}
 		return []*pb.WatchResponse{answer}, nil
@@ -249,8 +251,8 @@ func TestAWatchThatBreaksIsMadeAgain(t *testing.T) {
 	other := etcd.opened(nil)
 	texts := manyCallers(4, 10, one, other)
 	alike(one, other)
-	if found := one.read(); len(found) != len(texts) || number < 8 {
-		t.Errorf("%d strings of %d, %d answers", len(found), len(texts), number)
+	if found := one.read(); len(found) != len(texts) || number.Load() < 8 {
+		t.Errorf("%d strings of %d, %d answers", len(found), len(texts), number.Load())
 	}
 }
 
