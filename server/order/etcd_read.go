@@ -135,7 +135,15 @@ func (r *reader) askMembers(ctx context.Context, it *stored, why error) (*batch.
 				return r.rightElsewhere(it, kept, found, member)
 			}
 		}
-		if answers > 0 && 2*answers >= len(r.nodes.all) {
+		decided := answers > 0 && 2*answers >= len(r.nodes.all)
+		if decided && r.nodes.compare != nil {
+			fault := r.nodes.compare(ctx, it.create)
+			if errors.Is(fault, ErrDamaged) {
+				return nil, ended("%s can't be read: %w", it.key, fault)
+			}
+			decided = fault == nil
+		}
+		if decided {
 			r.once("etcd: %s takes no place in the order: %v", it.key, why)
 			return nil, why
 		}
