@@ -50,6 +50,9 @@ func (e *Etcd) read(ctx context.Context) error {
 		if isEnd(err) {
 			return err
 		}
+		if _, away := r.Reached(); away == nil && ctx.Err() == nil {
+			r.once("etcd: the order is listed again: %v", err)
+		}
 		if r.history.end() > before {
 			failures = 0
 		}

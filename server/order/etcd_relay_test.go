@@ -104,16 +104,20 @@ func (r *relay) Watch(server pb.Watch_WatchServer) error {
 			client.Send(asked)
 		}
 	}()
-	for {
+	for silent := false; ; {
 		answer, err := client.Recv()
 		if err != nil {
 			return err
+		}
+		if silent {
+			continue
 		}
 		all := []*pb.WatchResponse{answer}
 		if hook := r.hooks().told; hook != nil {
 			if all, err = hook(answer); err != nil {
 				return err
 			}
+			silent = len(all) == 0 // for good: etcd leaves nothing out
 		}
 		for _, it := range all {
 			if err := server.Send(it); err != nil {

@@ -174,7 +174,10 @@ func (w *watched) appended(texts ...string) {
 func (w *watched) untilEnd() uint64 {
 	w.t.Helper()
 	question := w.AskEnd()
-	w.until("end", func() bool { return w.end.Question >= question })
+	w.until("end", func() bool { return w.end.Question >= question || w.closed })
+	if w.closed {
+		w.t.Fatalf("the order has ended: %v", w.Err())
+	}
 	w.mutex.Lock()
 	defer w.mutex.Unlock()
 	return w.end.Position
