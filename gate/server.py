@@ -1,37 +1,18 @@
 """Tests of the server (server/), by Debian's Go."""
 import json
-import os
-import shutil
-import subprocess
 import tempfile
 
-from workspace import ROOT
+import serving
+from serving import Tree
 
-INSTALL = "apt-get install golang-go"
 FUZZED = {"batch": "FuzzRead", "wire": "FuzzRead"}  # by package
 SECONDS = 20  # of fuzzing, for each
 
 
-class Tree:
-    """The server's packages as Go looks for them: below a folder of GOPATH, before Debian's."""
-
-    def __init__(self, room, program=""):
-        self.folder = f"{room}/src/dsmdb/server"
-        os.mkdir(f"{room}/src")
-        os.symlink(ROOT, f"{room}/src/dsmdb")
-        self.environment = {
-            **os.environ, "GOPATH": f"{room}:/usr/share/gocode", "GO111MODULE": "off", "GOFLAGS": "", "PWD": self.folder,
-            "GOCACHE": f"{room}/cache", "DSMDB": program}
-
-    def ran(self, *words):
-        return subprocess.run(
-            words, cwd=self.folder, env=self.environment, stdout=subprocess.PIPE, stderr=subprocess.STDOUT, text=True)
-
-
 def there(tally):
-    if shutil.which("go"):
+    if not serving.missing():
         return True
-    tally.leave_out("the server", INSTALL)
+    tally.leave_out("the server", serving.install_line())
     return False
 
 

@@ -7,7 +7,7 @@ import examples
 import launching
 import procedures
 import server
-import sites
+import servers
 
 SUITES = {
     "examples": examples.run,
@@ -15,8 +15,8 @@ SUITES = {
     "procedures": procedures.run,
     "layouts": procedures.run_layouts,
     "launcher": launching.run,
-    "sites": sites.run,
     "server": server.run,
+    "servers": servers.run,
 }
 
 

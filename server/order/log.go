@@ -56,34 +56,35 @@ func (l *Log) Database() (batch.ID, bool) { return l.database, l.begun }
 // Room returns how many bytes the strings of one batch may take, each by batch.SizeOf.
 func (l *Log) Room() int { return batch.Longest - batch.HeaderSize(l.maker.Version) }
 
-// Append appends strings, one behind the other, with what their maker's engine has come to, and returns the position of
-// the first. They take at most Room bytes. After ErrFull the order is as it was; after any other error it is over.
-func (l *Log) Append(strings [][]byte, vote batch.Vote) (uint64, error) {
+// Append appends strings, one behind the other, with what their maker's engine has come to, and returns their batch,
+// which stands at the order's end. They take at most Room bytes. After ErrFull the order is as it was; after any other
+// error it is over.
+func (l *Log) Append(strings [][]byte, vote batch.Vote) (*batch.Batch, error) {
 	size := 0
 	for _, it := range strings {
 		if len(it) > batch.LongestString {
-			return 0, fmt.Errorf("a string of %d bytes", len(it))
+			return nil, fmt.Errorf("a string of %d bytes", len(it))
 		}
 		size += batch.SizeOf(it)
 	}
 	if size > l.Room() {
-		return 0, fmt.Errorf("strings of %d bytes in one batch", size)
+		return nil, fmt.Errorf("strings of %d bytes in one batch", size)
 	}
 	database, err := l.identity()
 	if err != nil {
-		return 0, err
+		return nil, err
 	}
 	header := batch.Header{Version: l.maker.Version, Database: database, Maker: l.maker.ID, Vote: vote}
-	l.buffer = (&batch.Batch{Header: header, Strings: strings}).Append(l.buffer[:0])
+	made := &batch.Batch{Header: header, Strings: strings}
+	l.buffer = made.Append(l.buffer[:0])
 	if _, err := l.log.Append(l.buffer); errors.Is(err, segments.ErrFull) {
-		return 0, ErrFull
+		return nil, ErrFull
 	} else if err != nil {
-		return 0, fmt.Errorf("appending to the order: %w", err)
+		return nil, fmt.Errorf("appending to the order: %w", err)
 	}
-	first := l.position + 1
 	l.database, l.begun = database, true
 	l.position += uint64(len(strings))
-	return first, nil
+	return made, nil
 }
 
 // identity returns the database's identity, drawn where the order has no batch yet.

@@ -37,12 +37,12 @@ func TestAnOrderIsReadAsItWasAppended(t *testing.T) {
 	}
 	batches := [][][]byte{{[]byte("first")}, {{}, []byte("third"), []byte("fourth")}, {}, {[]byte("fifth")}}
 	votes := []batch.Vote{{}, {Position: 1, Strings: batch.Digest{1}}, {Position: 4, Answers: batch.Digest{2}}, {Position: 4}}
-	position := uint64(1)
+	position := uint64(0)
 	for at, it := range batches {
-		if first, err := l.Append(it, votes[at]); err != nil || first != position {
-			t.Fatalf("batch %d begins at %d, %v", at, first, err)
-		}
 		position += uint64(len(it))
+		if _, err := l.Append(it, votes[at]); err != nil || l.Position() != position {
+			t.Fatalf("batch %d ends at %d, %v", at, l.Position(), err)
+		}
 	}
 	database, _ := l.Database()
 	l.Close()
@@ -63,8 +63,8 @@ func TestAnOrderIsReadAsItWasAppended(t *testing.T) {
 	if len(found) != len(batches) {
 		t.Errorf("%d batches", len(found))
 	}
-	if first, err := l.Append([][]byte{[]byte("sixth")}, batch.Vote{}); first != 6 || err != nil {
-		t.Errorf("the next one is at %d, %v", first, err)
+	if _, err := l.Append([][]byte{[]byte("sixth")}, batch.Vote{}); l.Position() != 6 || err != nil {
+		t.Errorf("the next one is at %d, %v", l.Position(), err)
 	}
 }
 
@@ -77,8 +77,8 @@ func TestABatchHasItsLimits(t *testing.T) {
 		}
 	}
 	left := l.Room() - 3*batch.SizeOf(long) - 4
-	if first, err := l.Append([][]byte{long, long, long, make([]byte, left)}, batch.Vote{}); first != 1 || err != nil {
-		t.Errorf("a whole batch is at %d, %v", first, err)
+	if _, err := l.Append([][]byte{long, long, long, make([]byte, left)}, batch.Vote{}); l.Position() != 4 || err != nil {
+		t.Errorf("a whole batch ends at %d, %v", l.Position(), err)
 	}
 }
 
@@ -128,7 +128,7 @@ func TestStringsOfServers(t *testing.T) {
 	for _, it := range []struct {
 		text []byte
 		is   bool
-	}{{first, true}, {one, true}, {first[:33], false}, {one[1:], false}, {nil, false}, {append([]byte{1}, first[1:]...), false}} {
+	}{{first, true}, {one, true}, {first[:33], false}, {one[1:], false}, {nil, false}, {Filling, true}, {[]byte{2}, false}, {append([]byte{1}, first[1:]...), false}} {
 		if IsOfServers(it.text) != it.is {
 			t.Errorf("%x", it.text)
 		}

@@ -48,6 +48,8 @@ type String struct {
 	// Wanted returns whether it is still to be appended. It is asked right before the string is handed to whatever keeps
 	// the order, each time. Nil stands for yes.
 	Wanted func() bool
+	// For is the handing side's own.
+	For any
 }
 
 func (s *String) wanted() bool { return s.Wanted == nil || s.Wanted() }

@@ -10,6 +10,10 @@ import (
 //
 //	00 01  and the SHA-256 of the settings: the first of an order
 //	00 02  and 16 random bytes: a session, whose number is its position
+//	00     alone: what an order is made longer by
+
+// Filling is a string by which an order is made longer.
+var Filling = []byte{0}
 
 // First returns the string that an order for these settings begins with.
 func First(settings []byte) []byte {
@@ -34,6 +38,8 @@ func IsOfServers(text []byte) bool {
 		return text[0] == 0 && text[1] == 1
 	case 18:
 		return text[0] == 0 && text[1] == 2
+	case 1:
+		return text[0] == 0
 	}
 	return false
 }

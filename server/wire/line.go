@@ -34,7 +34,8 @@ type Line struct {
 	Ask Ask
 }
 
-// Ask is one of Call, Add, NewSession, Rows, Position, Status, Hello, Token; nil for an empty line or a comment.
+// Ask is one of Call, Add, NewSession, Rows, Scan, Position, Status, Hello, Layout,
+// Join, Token; nil for an empty line or a comment.
 type Ask interface{ isAsk() }
 
 type (
@@ -58,12 +59,22 @@ type (
 	NewSession struct{}
 	// Rows asks for all rows.
 	Rows struct{}
+	// Scan asks for the first rows of a table whose keys are in a range, at most Most of them.
+	Scan struct {
+		Table       uint8
+		First, Last uint64
+		Most        uint32
+	}
 	// Position asks how far the server has come.
 	Position struct{}
 	// Status asks that and more.
 	Status struct{}
 	// Hello asks which database and which order this is.
 	Hello struct{}
+	// Layout asks for the names and types of fields, as JSON.
+	Layout struct{}
+	// Join asks that a new member is taken into the cluster.
+	Join struct{ Name, Place string }
 	// Token says who asks.
 	Token struct{ Word string }
 )
@@ -72,9 +83,12 @@ func (*Call) isAsk()      {}
 func (*Add) isAsk()       {}
 func (NewSession) isAsk() {}
 func (Rows) isAsk()       {}
+func (*Scan) isAsk()      {}
 func (Position) isAsk()   {}
 func (Status) isAsk()     {}
 func (Hello) isAsk()      {}
+func (Layout) isAsk()     {}
+func (*Join) isAsk()      {}
 func (Token) isAsk()      {}
 
 // Read reads a line, which is without its LF. The error is a Fault; the tag is read all the same where there is one.
@@ -128,11 +142,14 @@ var readers = map[string]func(fields []string) (Ask, error){
 	"call":     readCall,
 	"add":      readAdd,
 	"token":    readToken,
+	"join":     readJoin,
 	"session":  alone(NewSession{}),
 	"rows":     alone(Rows{}),
+	"scan":     readScan,
 	"position": alone(Position{}),
 	"status":   alone(Status{}),
 	"hello":    alone(Hello{}),
+	"layout":   alone(Layout{}),
 }
 
 func alone(ask Ask) func(fields []string) (Ask, error) {
@@ -152,6 +169,34 @@ func readToken(fields []string) (Ask, error) {
 		return nil, WrongField
 	}
 	return Token{fields[0]}, nil
+}
+
+func readJoin(fields []string) (Ask, error) {
+	if len(fields) != 2 {
+		return nil, WrongCount
+	}
+	if fields[0] == "" || fields[1] == "" {
+		return nil, WrongField
+	}
+	return &Join{fields[0], fields[1]}, nil
+}
+
+func readScan(fields []string) (Ask, error) {
+	if len(fields) != 4 {
+		return nil, WrongCount
+	}
+	var values [4]uint64
+	for at, most := range [...]uint64{1<<8 - 1, 1<<64 - 1, 1<<64 - 1, 1<<32 - 1} {
+		value, err := numberOf(fields[at], most)
+		if err != nil {
+			return nil, err
+		}
+		values[at] = value
+	}
+	if values[3] == 0 {
+		return nil, WrongField
+	}
+	return &Scan{uint8(values[0]), values[1], values[2], uint32(values[3])}, nil
 }
 
 func readAdd(fields []string) (Ask, error) {
@@ -294,6 +339,14 @@ func (c *Call) String() string {
 		text += fmt.Sprintf(" within %d", c.Within/time.Second)
 	}
 	return text
+}
+
+// String writes the line that asks for all rows.
+func (Rows) String() string { return "rows" }
+
+// String writes a scan as a line that Read reads so.
+func (s *Scan) String() string {
+	return fmt.Sprintf("scan %d %d %d %d", s.Table, s.First, s.Last, s.Most)
 }
 
 // String writes an addition as a line that Read reads so.

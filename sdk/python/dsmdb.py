@@ -1,0 +1,448 @@
+"""A client of dsmdb servers, with Python's own library alone: each call is done once, whatever ends meanwhile.
+
+    import dsmdb
+
+    with dsmdb.Client(["db/socket"], store=dsmdb.File("me")) as client:
+        answer = client.call("pay", account=7, amount=100)
+        print(answer.word, answer.value)
+
+A server's place is the path of its Unix socket or of its data folder, `tcp://HOST:PORT` or `tls://HOST:PORT`. A store keeps
+the session and the call that isn't settled: `File` over the ends of the process, `Memory` as long as it runs.
+"""
+import contextlib
+import fcntl
+import json
+import os
+import random
+import re
+import socket
+import ssl
+import time
+from typing import NamedTuple
+
+SILENCE = 10  # seconds beyond the time that a server was given, before another one is asked
+LAST_SEQUENCE = 2**32 - 1
+SETTLED = {"committed", "read", "cancelled", "conflict", "stale", "other", "fault"}
+SETTLED_REFUSALS = {"P2", "P3", "P13", "P15"}
+NOT_BEGUN = {"role", "rate"}  # refusals of a call that says that the call wasn't begun
+
+
+class Unsettled(Exception):
+    """It isn't known whether a call was done. `settle` asks what became of it."""
+
+
+class NothingSent(Exception):
+    """No server was reached: nothing was asked of any."""
+
+
+class OtherDatabase(Exception):
+    """A server has another database than the one that the store is of."""
+
+
+class Answer(NamedTuple):
+    """What a call was answered: the line, its word, the position, the reply or code, and why where it was refused."""
+
+    line: str
+    word: str
+    at: int = 0
+    value: int = 0
+    why: str = ""
+    code: str = ""  # the code's name, of a call that was cancelled, where the server has a layout
+
+    @property
+    def done(self):
+        return self.word in ("committed", "read")
+
+    @property
+    def settled(self):
+        return self.word in SETTLED or self.word == "refused" and self.why in SETTLED_REFUSALS
+
+
+def parse(line):
+    words = line.split(" ")
+    if words[0] in ("committed", "read", "cancelled"):
+        return Answer(line, words[0], int(words[1]), int(words[3]))
+    if words[0] == "conflict":
+        return Answer(line, words[0], int(words[1]), int(words[2]))
+    if words[0] in ("stale", "other", "late", "session", "added"):
+        return Answer(line, words[0], int(words[1]))
+    return Answer(line, words[0], why=" ".join(words[1:]))
+
+
+# ---- what is kept
+
+
+class State(NamedTuple):
+    database: str = ""
+    session: int = 0
+    next: int = 1
+    call: str = ""  # the line of the call that isn't settled, up to its pair
+    upto: int = 0  # the greatest position up to which that call may run
+
+
+class Memory:
+    """A store that lasts as long as the process."""
+
+    def __init__(self):
+        self._state = State()
+
+    def load(self):
+        return self._state
+
+    def save(self, state):
+        self._state = state
+
+    def close(self):
+        pass
+
+
+class File:
+    """A store in a file, which one process has. The Go library reads and writes the same form."""
+
+    FORM = re.compile(r"dsmdb client 1\ndatabase ([0-9a-f]{32})?\nsession (\d+)\nnext (\d+)\n(?:(call [!-~]* [!-~]+ \d+ \d+) upto (\d+)\n)?")
+
+    def __init__(self, path):
+        self.path = path
+        while True:
+            self._file = open(path, "a+")
+            try:
+                fcntl.flock(self._file, fcntl.LOCK_EX | fcntl.LOCK_NB)
+            except BlockingIOError:
+                self._file.close()
+                raise OSError(f"{path}: another client is at work with it") from None
+            with contextlib.suppress(FileNotFoundError):
+                if os.path.samestat(os.fstat(self._file.fileno()), os.stat(path)):
+                    return
+            self._file.close()  # it was written anew by the client that had it
+
+    def load(self):
+        with open(self.path) as file:
+            text = file.read()
+        if not text:
+            return State()
+        found = self.FORM.fullmatch(text)
+        if not found:
+            raise ValueError(f"{self.path} is no client's file of this version, and was left as it is")
+        database, session, number, call, upto = found.groups()
+        return State(database or "", int(session), int(number), call or "", int(upto or 0))
+
+    def save(self, state):
+        made = open(f"{self.path}.new", "w")
+        fcntl.flock(made, fcntl.LOCK_EX | fcntl.LOCK_NB)
+        made.write(f"dsmdb client 1\ndatabase {state.database}\nsession {state.session}\nnext {state.next}\n")
+        if state.call:
+            made.write(f"{state.call} upto {state.upto}\n")
+        made.flush()
+        os.fsync(made.fileno())
+        os.replace(f"{self.path}.new", self.path)
+        folder = os.open(os.path.dirname(os.path.abspath(self.path)), os.O_RDONLY)
+        try:
+            os.fsync(folder)
+        finally:
+            os.close(folder)
+        self._file.close()
+        self._file = made
+
+    def close(self):
+        self._file.close()
+
+
+# ---- typed values
+
+
+def pack(procedure, values):
+    """Returns the bytes of a procedure's arguments, by the layout of the server: all fields, and no others."""
+    names = [it["name"] for it in procedure["fields"]]
+    if sorted(values) != sorted(names):
+        raise ValueError(f"{procedure['name']} takes {', '.join(names) or 'no arguments'}")
+    block = bytearray(procedure["length"])
+    for it in procedure["fields"]:
+        raw = _raw(it, values[it["name"]])
+        block[it["at"] : it["at"] + len(raw)] = raw
+    return bytes(block)
+
+
+def _raw(field, value):
+    kind, _, size = field["type"].partition(":")
+    if kind in ("text", "bytes"):
+        raw = value.encode() if isinstance(value, str) else bytes(value)
+        if len(raw) > int(size):
+            raise ValueError(f"{field['name']} has {size} bytes, and its value has {len(raw)}")
+        return raw
+    try:
+        return int(value).to_bytes(int(kind[1:]) // 8, "little", signed=kind[0] == "i")
+    except OverflowError:
+        raise ValueError(f"{field['name']}={value} doesn't fit {kind}") from None
+
+
+def unpack(table, row):
+    """Returns the values of a row by name, by the layout of the server."""
+    found = {}
+    for it in table["fields"]:
+        kind, _, size = it["type"].partition(":")
+        width = int(size) if size else int(kind[1:]) // 8
+        raw = row[it["at"] : it["at"] + width]
+        if kind == "text":
+            found[it["name"]] = raw.rstrip(b"\0").decode(errors="replace")
+        elif kind == "bytes":
+            found[it["name"]] = raw
+        else:
+            found[it["name"]] = int.from_bytes(raw, "little", signed=kind[0] == "i")
+    return found
+
+
+# ---- asking
+
+
+class _Connection:
+    """A connection to one server."""
+
+    def __init__(self, place, seconds, token, tls):
+        self.place = place
+        if os.path.isdir(place):
+            place = os.path.join(place, "socket")
+        scheme, _, address = place.partition("://")
+        if scheme in ("tcp", "tls") and address:
+            host, _, port = address.rpartition(":")
+            self._socket = socket.create_connection((host.strip("[]"), int(port)), seconds)
+            self._socket.setsockopt(socket.IPPROTO_TCP, socket.TCP_NODELAY, 1)
+            if scheme == "tls":
+                self._socket = (tls or ssl.create_default_context()).wrap_socket(self._socket, server_hostname=host.strip("[]"))
+        else:
+            self._socket = socket.socket(socket.AF_UNIX, socket.SOCK_STREAM)
+            self._socket.settimeout(seconds)
+            self._socket.connect(place.removeprefix("unix:"))
+        self._lines = self._socket.makefile("rb")
+        if token and self.ask(f"token {token}", seconds) != "token accepted":
+            self.close()
+            raise NothingSent(f"{self.place}: the token is refused")
+
+    def ask(self, line, seconds):
+        self._socket.settimeout(seconds)
+        self._socket.sendall(f"{line}\n".encode("ascii"))
+        return self.line()
+
+    def line(self):
+        found = self._lines.readline()
+        if not found.endswith(b"\n"):
+            raise ConnectionError("the server closed the connection")
+        return found[:-1].decode("ascii")
+
+    def close(self):
+        self._lines.close()
+        self._socket.close()
+
+
+class Client:
+    """One session with a database, which has one call out at a time. One thread has it."""
+
+    def __init__(self, servers, store=None, within=10, patience=60, token="", tls=None):
+        """`within` is for how many seconds one server may try a call, `patience` for how many servers are asked."""
+        self._servers, self._store = list(servers), store or Memory()
+        self._within, self._patience, self._token, self._tls = within, patience, token, tls
+        self._state, self._connection, self._layout = self._store.load(), None, None
+        self._known = self._ahead = 0
+
+    def __enter__(self):
+        return self
+
+    def __exit__(self, *_):
+        self.close()
+
+    def close(self):
+        try:
+            self._leave()
+        finally:
+            self._store.close()
+
+    @property
+    def unsettled(self):
+        """The line of a call that isn't settled; empty where there is none."""
+        return self._state.call
+
+    def call(self, name, args=None, *, after=0, fresh=False, **fields):
+        """Calls a procedure, and returns what became of the call. Arguments are bytes, or values by name."""
+        if self._state.call:
+            raise Unsettled(f"an earlier call isn't settled: {self._state.call}")
+        until = time.monotonic() + self._patience
+        if args is None:
+            args = self._pack(name, fields, until)
+        self._begin(until)
+        state = self._state
+        line = f"call {name} {args.hex() or '-'} {state.session} {state.next}"
+        self._save(call=line, upto=max(self._known, after) + self._ahead, next=state.next + 1)
+        return self._settle(until, False, f" after {after}" * bool(after) + " fresh" * fresh)
+
+    def settle(self):
+        """Asks what became of the call that isn't settled, and has it done where it wasn't."""
+        if not self._state.call:
+            raise ValueError("no call is to be settled")
+        return self._settle(time.monotonic() + self._patience, True, "")
+
+    def layout(self):
+        """Returns the names and types of fields as the server has them; None where it has none."""
+        if self._layout is None:
+            line = self.ask("layout").removeprefix("layout ")
+            self._layout = None if line == "none" else json.loads(json.loads(line))
+        return self._layout
+
+    def rows(self, table=None, first=0, last=2**64 - 1, most=1000):
+        """Yields (table, key, row) for each row, or for those of a table whose keys are in a range; a row is a dictionary
+        where the server has a layout of the table, else bytes."""
+        known = {it["number"]: it for it in (self.layout() or {"tables": []})["tables"]}
+        by_name = {it["name"]: number for number, it in known.items()}
+        line = "rows" if table is None else f"scan {by_name.get(table, table)} {first} {last} {most}"
+        for row in self._lines(line):
+            number, key, raw = row.split()
+            raw = bytes.fromhex(raw)
+            yield int(number), int(key), unpack(known[int(number)], raw) if int(number) in known else raw
+
+    def status(self):
+        """Returns what a server says of itself, by name."""
+        return dict(it.split("=", 1) for it in self.ask("status").split(" ")[1:] if "=" in it)
+
+    def ask(self, line):
+        """Asks a line that may be asked any number of times, until a server answers with one line."""
+        until = time.monotonic() + self._patience
+        for tries in range(1 << 30):
+            try:
+                self._connect(until)
+                answer = self._connection.ask(line, SILENCE + self._within)
+                if not answer.startswith("unknown"):
+                    return answer
+                why = answer
+            except OSError as fault:
+                why = str(fault)
+            self._next()
+            self._wait(until, tries, NothingSent(why))
+        raise NothingSent("no answer")
+
+    def _lines(self, line):
+        answer = self.ask(line)
+        while answer.startswith(" "):
+            yield answer
+            answer = self._connection.line()
+        if not answer.startswith("position "):
+            raise ValueError(f"{line}: {answer}")
+
+    # ---- settling
+
+    def _settle(self, until, sent, when):
+        """Asks the call until it is settled. Where an earlier ask may have left a copy behind, the call is asked on rows
+        behind those on which the copy may run, so that the answer holds of that too."""
+        why = ""
+        for tries in range(1 << 30):
+            try:
+                answer = self._ask_call(until, sent, when)
+            except OSError as fault:
+                sent, answer, why = sent or self._asked, None, str(fault)
+                self._next()
+            if answer:
+                why = answer.line
+                begun = not (answer.word == "late" or answer.word == "refused" and answer.why in NOT_BEGUN)
+                if answer.settled or not sent and not begun and answer.word != "late":
+                    self._save(call="", upto=0)
+                    return self._named(answer)
+                sent = sent or begun
+                if answer.word not in ("late", "unknown", "full"):
+                    return answer  # `settle` may ask again
+                if answer.word == "unknown":
+                    self._next()
+            if not self._wait(until, tries):
+                break
+        if not sent:
+            self._save(call="", upto=0, next=self._state.next - 1)
+            raise NothingSent(why)
+        raise Unsettled(why)
+
+    def _ask_call(self, until, again, when):
+        self._asked = False
+        self._connect(until)
+        line = self._state.call + (f" fresh after {self._state.upto}" if again else when)
+        upto = max(self._known, self._state.upto) + self._ahead
+        if upto > self._state.upto:
+            self._save(upto=upto)
+        self._asked = True
+        answer = parse(self._connection.ask(f"{line} upto {self._state.upto} within {self._within}", self._within + SILENCE))
+        if answer.word in ("committed", "read", "cancelled", "conflict", "stale", "late"):
+            self._known = max(self._known, answer.at)
+        return answer
+
+    def _named(self, answer):
+        """Gives a code its name, where the layout was asked for."""
+        if answer.word == "cancelled" and self._layout:
+            return answer._replace(code=self._layout["codes"].get(str(answer.value), ""))
+        return answer
+
+    def _pack(self, name, fields, until):
+        layout = self.layout()
+        for it in (layout or {"procedures": []})["procedures"]:
+            if it["name"] == name:
+                return pack(it, fields)
+        if fields:
+            raise ValueError(f"the server has no layout of {name}: give its arguments as bytes")
+        return b""
+
+    def _begin(self, until):
+        """Has a session for the next call."""
+        for tries in range(1 << 30):
+            try:
+                self._connect(until)
+                if self._state.session and self._state.next <= LAST_SEQUENCE:
+                    return
+                answer = parse(self._connection.ask("session", SILENCE + self._within))
+                if answer.word == "session":
+                    self._save(session=answer.at, next=1)
+                    return
+                why = answer.line
+            except OSError as fault:
+                why = str(fault)
+            self._next()
+            self._wait(until, tries, NothingSent(why))
+
+    # ---- connections
+
+    def _connect(self, until):
+        if self._connection:
+            return
+        place = self._servers[0]
+        connection = _Connection(place, SILENCE, self._token, self._tls)
+        try:
+            word, database, _, position, ahead = connection.ask("hello", SILENCE).split(" ")
+        except ValueError:
+            connection.close()
+            raise ConnectionError(f"{place} is no server of dsmdb, or of another version") from None
+        except OSError:
+            connection.close()
+            raise
+        if self._state.database not in ("", database):
+            connection.close()
+            raise OtherDatabase(f"{place} has database {database}, and the store is of {self._state.database}")
+        self._connection, self._ahead = connection, int(ahead)
+        self._state = self._state._replace(database=database)
+        self._known = max(self._known, int(position))
+
+    def _leave(self):
+        if self._connection:
+            self._connection.close()
+        self._connection = None
+
+    def _next(self):
+        """Leaves the server, so that the next one is asked."""
+        self._leave()
+        self._servers.append(self._servers.pop(0))
+
+    def _save(self, **changes):
+        state = self._state._replace(**changes)
+        self._store.save(state)
+        self._state = state
+
+    def _wait(self, until, tries, fault=None):
+        """Waits before it is asked again, longer each time; false, or the fault, where the patience has ended."""
+        pause = min(0.01 * 2 ** min(tries, 10), 1) * (0.5 + random.random())
+        if time.monotonic() + pause > until:
+            if fault:
+                raise fault
+            return False
+        time.sleep(pause)
+        return True

@@ -1,0 +1,351 @@
+package client
+
+import (
+	"context"
+	"errors"
+	"fmt"
+	"math/rand"
+	"strings"
+	"time"
+
+	"dsmdb/server/wire"
+)
+
+const (
+	longestPause = time.Second
+	silence      = 10 * time.Second // beyond the time that a server was given, before another one is asked
+	lastSequence = 1<<32 - 1
+)
+
+var (
+	// ErrUnsettled says that a call may have been done, or may still be. Settle asks what became of it.
+	ErrUnsettled = errors.New("it isn't known whether the call was done")
+	// ErrNothingSent says that no server could be reached: nothing was asked of any.
+	ErrNothingSent = errors.New("no server was reached")
+)
+
+// OtherDatabase says that servers have another database than the one that the client's state is of.
+type OtherDatabase struct{ Place, Own, Found string }
+
+func (o *OtherDatabase) Error() string {
+	return fmt.Sprintf("%s has database %s, and this client's state is of database %s: take another file", o.Place, o.Found, o.Own)
+}
+
+// Options are of a client.
+type Options struct {
+	// Servers are places as of Dialer.Dial, of which the first one that answers is asked.
+	Servers []string
+	Dialer  Dialer
+	// Store keeps session, number and the call that isn't settled. Nil stands for the process's memory.
+	Store Store
+	// Within is for how long a server may try a call. 0 stands for ten seconds.
+	Within time.Duration
+}
+
+// Client is one session with a database. It has one call out at a time, and one goroutine has it.
+type Client struct {
+	servers []string
+	dialer  Dialer
+	store   Store
+	within  time.Duration
+	state   State
+	conn    *Conn
+	known   uint64 // the last position that a server told
+	ahead   uint64
+}
+
+// Open opens a client. A call that a client before this one wasn't answered has to be settled before another is made.
+func Open(o Options) (*Client, error) {
+	if len(o.Servers) == 0 {
+		return nil, errors.New("a client asks for a server's place")
+	}
+	c := &Client{servers: append([]string(nil), o.Servers...), dialer: o.Dialer, store: o.Store, within: o.Within}
+	if c.store == nil {
+		c.store = &Memory{State{Next: 1}}
+	}
+	if c.within == 0 {
+		c.within = 10 * time.Second
+	}
+	state, err := c.store.Load()
+	if err != nil {
+		return nil, err
+	}
+	c.state = state
+	return c, nil
+}
+
+// Close ends the client. Its store is closed too.
+func (c *Client) Close() error {
+	c.leave()
+	return c.store.Close()
+}
+
+// Unsettled returns the line of a call that isn't settled; false where there is none.
+func (c *Client) Unsettled() (string, bool) { return c.state.Call, c.state.Call != "" }
+
+// When says on which rows a call begins.
+type When struct {
+	After uint64 // those after this position, or newer ones
+	Fresh bool   // those of the order's end as it is when the call is asked, or newer ones
+}
+
+// Call calls a procedure, and returns what became of the call. It goes on asking until the context ends. After
+// ErrUnsettled, or where the process ends, Settle asks for what became of it.
+func (c *Client) Call(ctx context.Context, name string, args []byte, when When) (Answer, error) {
+	if c.state.Call != "" {
+		return Answer{}, fmt.Errorf("an earlier call isn't settled: %w", ErrUnsettled)
+	}
+	if err := c.begin(ctx); err != nil {
+		return Answer{}, err
+	}
+	call := wire.Call{Name: name, Args: args, Session: uint32(c.state.Session), Sequence: uint32(c.state.Next)}
+	c.state.Call, c.state.Upto = call.String(), c.known+c.ahead
+	c.state.Next++
+	if err := c.store.Save(c.state); err != nil {
+		c.state.Call, c.state.Next = "", c.state.Next-1
+		return Answer{}, err
+	}
+	return c.settle(ctx, when, true)
+}
+
+// Settle asks what became of the call that isn't settled, and has it done where it wasn't.
+func (c *Client) Settle(ctx context.Context) (Answer, error) {
+	if c.state.Call == "" {
+		return Answer{}, errors.New("no call is to be settled")
+	}
+	return c.settle(ctx, When{}, false)
+}
+
+// settle asks the call until it is settled. Where an earlier ask may have left a copy behind, an answer has to hold of
+// that too: the call is asked on rows behind those on which the copy may run.
+func (c *Client) settle(ctx context.Context, when When, first bool) (Answer, error) {
+	sent := !first
+	for tries := 0; ; tries++ {
+		answer, asked, err := c.askCall(ctx, when, sent)
+		sent = sent || asked
+		var other *OtherDatabase
+		switch {
+		case errors.As(err, &other):
+			return Answer{}, err
+		case err == nil && answer.Settled():
+			c.state.Call = ""
+			return answer, c.store.Save(c.state)
+		case err == nil && !(answer.Word == "late" || answer.Word == "unknown" || answer.Word == "full"):
+			if !sent {
+				c.state.Call = ""
+				err = c.store.Save(c.state)
+			}
+			return answer, err // it may be asked again by Settle
+		case err != nil || answer.Word == "unknown":
+			c.next()
+		}
+		if wait(ctx, tries) {
+			continue
+		}
+		if !sent {
+			c.state.Call = ""
+			if fault := c.store.Save(c.state); fault != nil {
+				return answer, fault
+			}
+			return answer, fmt.Errorf("%w: %v", ErrNothingSent, err)
+		}
+		if err == nil {
+			err = errors.New(answer.Line)
+		}
+		return answer, fmt.Errorf("%w: %v", ErrUnsettled, err)
+	}
+}
+
+// askCall asks the call once; asked is whether the server may have heard of it.
+func (c *Client) askCall(ctx context.Context, when When, again bool) (answer Answer, asked bool, err error) {
+	if err := c.connect(ctx); err != nil {
+		return Answer{}, false, err
+	}
+	line := c.state.Call
+	if again {
+		line += fmt.Sprintf(" fresh after %d", c.state.Upto)
+	} else if when.Fresh {
+		line += " fresh"
+	}
+	if when.After > 0 && !again {
+		line += fmt.Sprintf(" after %d", when.After)
+	}
+	if upto := c.upto(when); upto > c.state.Upto {
+		c.state.Upto = upto
+		if err := c.store.Save(c.state); err != nil {
+			return Answer{}, false, err
+		}
+	}
+	line += fmt.Sprintf(" upto %d within %d", c.state.Upto, c.seconds())
+	limited, cancel := context.WithTimeout(ctx, c.within+silence)
+	defer cancel()
+	text, err := c.conn.Ask(limited, line)
+	if err != nil {
+		return Answer{}, true, err
+	}
+	if answer, err = parse(text); err != nil {
+		return answer, true, err
+	}
+	c.learn(answer)
+	return answer, again || !isBefore(answer), nil
+}
+
+// isBefore returns whether an answer says that the call wasn't begun.
+func isBefore(answer Answer) bool {
+	return answer.Word == "late" || answer.Word == "refused" && (answer.Why == "role" || answer.Why == "rate")
+}
+
+// upto returns the position up to which a new ask may run.
+func (c *Client) upto(when When) uint64 {
+	from := c.known
+	for _, it := range []uint64{when.After, c.state.Upto} {
+		if it > from {
+			from = it
+		}
+	}
+	return from + c.ahead
+}
+
+func (c *Client) seconds() int64 { return int64((c.within + time.Second - 1) / time.Second) }
+
+// learn takes a position from an answer.
+func (c *Client) learn(answer Answer) {
+	switch answer.Word {
+	case "committed", "read", "cancelled", "conflict", "stale", "late":
+		if answer.At > c.known {
+			c.known = answer.At
+		}
+	}
+}
+
+// begin has a session for the next call.
+func (c *Client) begin(ctx context.Context) error {
+	for tries := 0; ; tries++ {
+		err := c.tryBegin(ctx)
+		var other *OtherDatabase
+		if err == nil || errors.As(err, &other) {
+			return err
+		}
+		c.next()
+		if !wait(ctx, tries) {
+			return fmt.Errorf("%w: %v", ErrNothingSent, err)
+		}
+	}
+}
+
+func (c *Client) tryBegin(ctx context.Context) error {
+	if err := c.connect(ctx); err != nil {
+		return err
+	}
+	if c.state.Session != 0 && c.state.Next <= lastSequence {
+		return nil
+	}
+	limited, cancel := context.WithTimeout(ctx, c.within+silence)
+	defer cancel()
+	line, err := c.conn.Ask(limited, "session")
+	if err != nil {
+		return err
+	}
+	answer, err := parse(line)
+	if err != nil || answer.Word != "session" {
+		return fmt.Errorf("a session is asked for, and answered %s", line)
+	}
+	c.state.Session, c.state.Next = answer.At, 1
+	return c.store.Save(c.state)
+}
+
+// Session returns the client's session, which is begun where there is none.
+func (c *Client) Session(ctx context.Context) (uint64, error) {
+	err := c.begin(ctx)
+	return c.state.Session, err
+}
+
+// Ask asks a line that may be asked any number of times, until a server answers.
+func (c *Client) Ask(ctx context.Context, line string) (string, error) {
+	return c.Lines(ctx, line, func(string) error { return nil })
+}
+
+// Lines asks a line whose answer may have rows, which are handed over. Where a server ends while it answers, take gets
+// rows from the first one on again, behind a call of restart.
+func (c *Client) Lines(ctx context.Context, line string, take func(row string) error) (string, error) {
+	for tries := 0; ; tries++ {
+		rows := 0
+		answer, err := "", c.connect(ctx)
+		if err == nil {
+			answer, err = c.conn.Lines(ctx, line, func(row string) error { rows++; return take(row) })
+		}
+		if err == nil && !strings.HasPrefix(answer, "unknown") {
+			return answer, nil
+		}
+		c.next()
+		var other *OtherDatabase
+		if errors.As(err, &other) || rows > 0 || !wait(ctx, tries) {
+			if err == nil {
+				err = errors.New(answer)
+			}
+			return answer, err
+		}
+	}
+}
+
+// connect reaches a server, and compares its database with the state's.
+func (c *Client) connect(ctx context.Context) error {
+	if c.conn != nil {
+		return nil
+	}
+	limited, cancel := context.WithTimeout(ctx, silence)
+	defer cancel()
+	reached, err := c.dialer.Dial(limited, c.servers[0])
+	if err != nil {
+		return fmt.Errorf("%s: %w", c.servers[0], err)
+	}
+	line, err := reached.Ask(limited, "hello")
+	if err != nil {
+		reached.Close()
+		return fmt.Errorf("%s: %w", c.servers[0], err)
+	}
+	found, err := parseHello(line)
+	if err != nil {
+		reached.Close()
+		return fmt.Errorf("%s: %w", c.servers[0], err)
+	}
+	if c.state.Database != "" && c.state.Database != found.database {
+		reached.Close()
+		return &OtherDatabase{c.servers[0], c.state.Database, found.database}
+	}
+	c.conn, c.state.Database = reached, found.database
+	c.ahead = found.ahead
+	if found.position > c.known {
+		c.known = found.position
+	}
+	return nil
+}
+
+func (c *Client) leave() {
+	if c.conn != nil {
+		c.conn.Close()
+	}
+	c.conn = nil
+}
+
+// next leaves the server, so that the next one is asked.
+func (c *Client) next() {
+	c.leave()
+	c.servers = append(c.servers[1:len(c.servers):len(c.servers)], c.servers[0])
+}
+
+// wait waits before it is asked again, longer each time; false where the context ends first.
+func wait(ctx context.Context, tries int) bool {
+	most := 10 * time.Millisecond << uint(tries)
+	if most > longestPause || most <= 0 {
+		most = longestPause
+	}
+	timer := time.NewTimer(most/2 + time.Duration(rand.Int63n(int64(most))))
+	defer timer.Stop()
+	select {
+	case <-ctx.Done():
+		return false
+	case <-timer.C:
+		return true
+	}
+}

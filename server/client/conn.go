@@ -1,0 +1,125 @@
+// Package client asks servers of a database, so that each call is done once, whatever ends meanwhile.
+package client
+
+import (
+	"bufio"
+	"context"
+	"crypto/tls"
+	"errors"
+	"fmt"
+	"io"
+	"net"
+	"strings"
+	"time"
+)
+
+// Dialer reaches servers.
+type Dialer struct {
+	// TLS is for places that begin with tls://; nil for the system's certificates.
+	TLS *tls.Config
+	// Token is shown on each connection where it isn't empty.
+	Token string
+}
+
+// Conn is a connection to one server. One goroutine has it.
+type Conn struct {
+	net   net.Conn
+	lines *bufio.Reader
+}
+
+// Dial reaches a server at a place: the path of a Unix socket, tcp://HOST:PORT or tls://HOST:PORT.
+func (d *Dialer) Dial(ctx context.Context, place string) (*Conn, error) {
+	reached, err := d.reach(ctx, place)
+	if err != nil {
+		return nil, err
+	}
+	c := &Conn{net: reached, lines: bufio.NewReaderSize(reached, 1<<16)}
+	if d.Token == "" {
+		return c, nil
+	}
+	if answer, err := c.Ask(ctx, "token "+d.Token); err != nil || answer != "token accepted" {
+		c.Close()
+		if err == nil {
+			err = fmt.Errorf("%s: the token is refused", place)
+		}
+		return nil, err
+	}
+	return c, nil
+}
+
+func (d *Dialer) reach(ctx context.Context, place string) (net.Conn, error) {
+	dialer := net.Dialer{Timeout: 10 * time.Second}
+	if address := strings.TrimPrefix(place, "tcp://"); address != place {
+		return dialer.DialContext(ctx, "tcp", address)
+	}
+	if address := strings.TrimPrefix(place, "tls://"); address != place {
+		secured := tls.Dialer{NetDialer: &dialer, Config: d.TLS}
+		return secured.DialContext(ctx, "tcp", address)
+	}
+	return dialer.DialContext(ctx, "unix", strings.TrimPrefix(place, "unix:"))
+}
+
+// Ask asks a line, which is without LF, and returns the line that answers it. After an error the connection is of no use.
+func (c *Conn) Ask(ctx context.Context, line string) (string, error) {
+	defer c.until(ctx)()
+	if _, err := io.WriteString(c.net, line+"\n"); err != nil {
+		return "", fmt.Errorf("asking: %w", c.why(ctx, err))
+	}
+	answer, err := c.lines.ReadString('\n')
+	if err != nil {
+		return "", fmt.Errorf("waiting for an answer: %w", c.why(ctx, err))
+	}
+	return answer[:len(answer)-1], nil
+}
+
+// Lines asks a line whose answer has several, and hands these over up to the one that doesn't begin with a space, which is
+// returned.
+func (c *Conn) Lines(ctx context.Context, line string, take func(row string) error) (string, error) {
+	answer, err := c.Ask(ctx, line)
+	for ; err == nil && strings.HasPrefix(answer, " "); answer, err = c.next(ctx) {
+		if err := take(answer); err != nil {
+			return "", err
+		}
+	}
+	return answer, err
+}
+
+func (c *Conn) next(ctx context.Context) (string, error) {
+	defer c.until(ctx)()
+	answer, err := c.lines.ReadString('\n')
+	if err != nil {
+		return "", fmt.Errorf("reading rows: %w", c.why(ctx, err))
+	}
+	return answer[:len(answer)-1], nil
+}
+
+// until has the connection's calls end with a context.
+func (c *Conn) until(ctx context.Context) (release func()) {
+	deadline, _ := ctx.Deadline()
+	c.net.SetDeadline(deadline)
+	if ctx.Done() == nil {
+		return func() {}
+	}
+	over := make(chan struct{})
+	go func() {
+		select {
+		case <-ctx.Done():
+			c.net.SetDeadline(time.Unix(1, 0))
+		case <-over:
+		}
+	}()
+	return func() { close(over) }
+}
+
+func (c *Conn) why(ctx context.Context, err error) error {
+	if ctx.Err() != nil {
+		return ctx.Err()
+	}
+	if errors.Is(err, io.EOF) {
+		return errors.New("the server closed the connection")
+	}
+	return err
+}
+
+// Close ends the connection. What was asked on it and not answered may still be done.
+func (c *Conn) Close() error { return c.net.Close() }

@@ -1,0 +1,377 @@
+package main
+
+import (
+	"context"
+	"crypto/tls"
+	"errors"
+	"fmt"
+	"net"
+	"net/http"
+	"os"
+	"os/signal"
+	"path/filepath"
+	"runtime/debug"
+	"strings"
+	"sync"
+	"syscall"
+	"time"
+
+	"dsmdb/server/access"
+	"dsmdb/server/cluster"
+	"dsmdb/server/data"
+	"dsmdb/server/engine"
+	"dsmdb/server/layout"
+	"dsmdb/server/lineserver"
+	"dsmdb/server/order"
+	"dsmdb/server/site"
+	"github.com/spf13/cobra"
+)
+
+// drainFor is for how long a server that ends answers what is out.
+const drainFor = 10 * time.Second
+
+// serveOptions are the words of `serve`.
+type serveOptions struct {
+	settings, data     string
+	engine             string
+	listen             []string
+	http               string
+	cert, key, clients string
+	roles, layout      string
+	open, insecure     bool
+	overrule           bool
+	patience           time.Duration
+	connections        int
+	served             []string // names of HTTP's hosts
+	pprof              string
+	etcd               etcdOptions
+}
+
+const serveText = `Keeps a replica of the database of SETTINGS in the folder DIR, and answers clients.
+
+The order of calls lies in DIR, which is one server's. Several servers share an order in etcd: in one that runs elsewhere
+(--etcd), or in their own, for which 'dsmdb begin' has prepared each DIR. Who comes by the Unix socket DIR/socket, which
+this user alone can reach, may do everything. Others come by --listen and --http; without --roles those with a
+certificate may call, or all with --open.`
+
+func serveCommand() *cobra.Command {
+	o := &serveOptions{}
+	command := &cobra.Command{
+		Use: "serve SETTINGS --data DIR", Short: "keeps a replica, and answers clients", Long: serveText,
+		Example: "  dsmdb serve examples/counter.settings --data db",
+		Args:    exactly(1, "SETTINGS"),
+		RunE: func(_ *cobra.Command, given []string) error {
+			o.settings = given[0]
+			if err := o.check(); err != nil {
+				return err
+			}
+			return o.run()
+		},
+	}
+	flags := command.Flags()
+	flags.StringVar(&o.data, "data", "", "the server's own folder, made where it isn't there")
+	flags.StringArrayVar(&o.listen, "listen", nil, "where clients ask too: tls://HOST:PORT, tcp://HOST:PORT, or a Unix socket's path; may be given again")
+	flags.StringVar(&o.http, "http", "", "where HTTP is answered: HOST:PORT, with TLS where there is --cert")
+	flags.StringVar(&o.cert, "cert", "", "this server's certificate, a PEM file")
+	flags.StringVar(&o.key, "key", "", "its key")
+	flags.StringVar(&o.clients, "clients", "", "a PEM file of who signs clients' certificates")
+	flags.StringVar(&o.roles, "roles", "", "a file that says who may do what")
+	flags.StringVar(&o.layout, "layout", "", "a file of fields' names and types, by `sdk/c/build --layout`")
+	flags.BoolVar(&o.open, "open", false, "without --roles: all who come may call")
+	flags.BoolVar(&o.insecure, "insecure", false, "take TCP without TLS on addresses that aren't loopback")
+	flags.BoolVar(&o.overrule, "overrule", false, "go on whatever other servers voted before this start")
+	flags.DurationVar(&o.patience, "patience", 30*time.Second, "for how long a call is tried that doesn't say for how long")
+	flags.IntVar(&o.connections, "connections", lineserver.DefaultLimits.Connections, "clients at once")
+	flags.StringArrayVar(&o.served, "served", nil, "a name under which HTTP is reached, besides loopback; may be given again")
+	flags.StringVar(&o.engine, "engine", os.Getenv("DSMDB"), "the program dsmdb")
+	flags.StringVar(&o.pprof, "pprof", "", "where Go's profiles are given: HOST:PORT on loopback")
+	flags.MarkHidden("pprof")
+	o.etcd.add(flags)
+	return command
+}
+
+func exactly(count int, usage string) cobra.PositionalArgs {
+	return func(command *cobra.Command, given []string) error {
+		if len(given) != count {
+			return words("`dsmdb %s` takes %s: `dsmdb %s --help`", command.Name(), usage, command.Name())
+		}
+		return nil
+	}
+}
+
+// check returns what is wrong with the words.
+func (o *serveOptions) check() error {
+	switch {
+	case o.data == "":
+		return words("--data DIR is missing: the server's own folder")
+	case o.engine == "":
+		return words("no engine: --engine PATH or DSMDB=PATH is the program dsmdb, as ./dsmdb gives it")
+	case (o.cert == "") != (o.key == ""):
+		return words("--cert and --key go together")
+	case o.clients != "" && o.cert == "":
+		return words("--clients asks for --cert and --key")
+	case o.roles != "" && o.open:
+		return words("--open is for servers without --roles")
+	case o.patience < time.Second || o.patience > 24*time.Hour:
+		return words("--patience is from 1s to 24h")
+	case o.connections < 1:
+		return words("--connections is at least 1")
+	}
+	if err := o.etcd.check(); err != nil {
+		return err
+	}
+	for _, it := range o.listen {
+		if strings.HasPrefix(it, "tls://") && o.cert == "" {
+			return words("%s asks for --cert and --key", it)
+		}
+		if err := o.checkPlain("tcp://", it); err != nil {
+			return err
+		}
+	}
+	if o.http != "" && o.cert == "" {
+		return o.checkPlain("", o.http)
+	}
+	return nil
+}
+
+// checkPlain returns why a place may not be reached without TLS.
+func (o *serveOptions) checkPlain(prefix, place string) error {
+	address := strings.TrimPrefix(place, prefix)
+	if prefix != "" && address == place || o.insecure {
+		return nil
+	}
+	host, _, err := net.SplitHostPort(address)
+	if err != nil {
+		return words("%s: HOST:PORT", place)
+	}
+	if ip := net.ParseIP(host); host == "localhost" || ip != nil && ip.IsLoopback() {
+		return nil
+	}
+	return words("%s isn't loopback, and without TLS everybody on the way reads along: take tls:// with --cert, or --insecure", place)
+}
+
+// server is a server that runs.
+type server struct {
+	*serveOptions
+	log      *logger
+	folder   *data.Folder
+	order    order.Order
+	site     *site.Site
+	policy   *access.Policy
+	layout   *layout.Layout
+	lines    *lineserver.Server
+	member   *cluster.Member // nil where the order isn't in a cluster of the servers' own
+	web      *http.Server
+	failures chan error
+	began    time.Time
+}
+
+func (o *serveOptions) run() error {
+	debug.SetGCPercent(400)
+	raiseFileLimit()
+	if o.pprof != "" {
+		profile(o.pprof)
+	}
+	s := &server{serveOptions: o, log: newLogger(os.Stderr), failures: make(chan error, 8), began: time.Now()}
+	settings, err := s.prepare()
+	if err != nil {
+		return err
+	}
+	defer s.folder.Close()
+	ctx, stop := signal.NotifyContext(context.Background(), syscall.SIGTERM, syscall.SIGINT)
+	defer stop()
+	err = s.openOrder(settings)
+	defer s.closeOrder()
+	if err != nil {
+		return err
+	}
+	running, end := context.WithCancel(context.Background())
+	defer end()
+	ended := make(chan error, 1)
+	go func() { ended <- s.site.Run(running) }()
+	listening, stopListening := context.WithCancel(running)
+	defer stopListening()
+	if err := s.listenAll(listening); err != nil {
+		end()
+		<-ended
+		return err
+	}
+	go s.tellSystem(running)
+	select {
+	case err = <-ended:
+		end()
+	case err = <-s.failures:
+		end()
+		<-ended
+	case <-ctx.Done():
+		s.log.say("stopping: no more calls are taken")
+		notify("STOPPING=1")
+		stopListening()
+		s.drain()
+		end()
+		err = <-ended
+	}
+	s.close()
+	return err
+}
+
+// prepare reads what the words name, and opens the folder.
+func (s *server) prepare() ([]byte, error) {
+	settings, err := os.ReadFile(s.settings)
+	if err != nil {
+		return nil, fmt.Errorf("reading the settings: %w", err)
+	}
+	if s.policy = access.Without(s.open); s.roles != "" {
+		if s.policy, err = access.Load(s.roles); err != nil {
+			return nil, err
+		}
+	}
+	if s.serveOptions.layout != "" {
+		if s.layout, err = layout.Load(s.serveOptions.layout); err != nil {
+			return nil, err
+		}
+		if err := s.layout.Check(settings); err != nil {
+			return nil, fmt.Errorf("%s: %w", s.serveOptions.layout, err)
+		}
+	}
+	s.folder, err = data.Open(s.data)
+	return settings, err
+}
+
+// openOrder opens the order, and makes the site over it.
+func (s *server) openOrder(settings []byte) error {
+	path, err := s.folder.Order(1)
+	if err != nil {
+		return fmt.Errorf("the order's folder: %w", err)
+	}
+	vote := &lateVote{}
+	maker := order.Maker{ID: s.folder.Maker(), Version: version, Vote: vote.Vote}
+	name, err := s.memberName()
+	if err != nil {
+		return err
+	}
+	if name != "" || s.etcd.place != "" {
+		if err := s.openEtcd(name, maker, path); err != nil {
+			return fmt.Errorf("the order in etcd: %w", err)
+		}
+	} else {
+		s.order = order.OpenLocal(path, maker)
+	}
+	s.site = site.New(site.Options{
+		Settings: settings, Order: s.order, Maker: s.folder.Maker(), Patience: s.patience, Overrule: s.overrule, Say: s.log.say,
+		Start: func(ctx context.Context) (site.Engine, error) {
+			started, err := engine.Start(ctx, s.engine, settings)
+			var fault *engine.SettingsFault
+			if errors.As(err, &fault) {
+				return nil, fmt.Errorf("%s: %s: `dsmdb explain %s` says what is wrong", s.settings, fault.Text, lastWord(fault.Text))
+			}
+			if err != nil {
+				return nil, err
+			}
+			return started, nil
+		},
+	})
+	vote.set(s.site)
+	return nil
+}
+
+func lastWord(text string) string {
+	fields := strings.Fields(text)
+	return fields[len(fields)-1]
+}
+
+// listenAll opens all doors.
+func (s *server) listenAll(ctx context.Context) error {
+	limits := lineserver.DefaultLimits
+	limits.Connections = s.connections
+	s.lines = &lineserver.Server{Site: s.site, Policy: s.policy, Layout: s.layout, Limits: limits, Say: s.log.say}
+	if s.member != nil {
+		s.lines.Invite = func(ctx context.Context, name, place string) (string, error) {
+			found, err := s.member.Invite(ctx, name, place)
+			return found.Members, err
+		}
+	}
+	for _, place := range append([]string{s.folder.Socket()}, s.listen...) {
+		listener, err := s.listenAt(place)
+		if err != nil {
+			return fmt.Errorf("listening at %s: %w", place, err)
+		}
+		s.log.say("clients are answered at %s", place)
+		go func() {
+			if err := s.lines.Serve(ctx, listener); err != nil {
+				s.failures <- err
+			}
+		}()
+	}
+	if s.http == "" {
+		return nil
+	}
+	return s.listenHTTP(ctx)
+}
+
+func (s *server) listenAt(place string) (net.Listener, error) {
+	if address := strings.TrimPrefix(place, "tcp://"); address != place {
+		return net.Listen("tcp", address)
+	}
+	if address := strings.TrimPrefix(place, "tls://"); address != place {
+		config, err := s.tlsConfig()
+		if err != nil {
+			return nil, err
+		}
+		return tls.Listen("tcp", address, config)
+	}
+	return lineserver.ListenUnix(strings.TrimPrefix(place, "unix:"))
+}
+
+// drain waits until what is out is answered, for some seconds.
+func (s *server) drain() {
+	until := time.Now().Add(drainFor - time.Second)
+	for time.Now().Before(until) {
+		if found, is := s.site.Snapshot(); !is || found.Waiting == 0 {
+			return
+		}
+		time.Sleep(20 * time.Millisecond)
+	}
+}
+
+// closeOrder ends the order, and then the member that keeps it.
+func (s *server) closeOrder() {
+	if s.order != nil {
+		s.order.Close()
+	}
+	if s.member != nil {
+		if err := s.member.Stop(); err != nil {
+			s.log.say("%v", err)
+		}
+	}
+}
+
+// close gives up what is open.
+func (s *server) close() {
+	var all sync.WaitGroup
+	all.Add(1)
+	go func() {
+		defer all.Done()
+		s.lines.Close()
+	}()
+	if s.web != nil {
+		limited, cancel := context.WithTimeout(context.Background(), time.Second)
+		defer cancel()
+		s.web.Shutdown(limited)
+	}
+	all.Wait()
+	os.Remove(s.folder.Socket())
+	for _, it := range s.listen {
+		if !strings.Contains(it, "://") {
+			os.Remove(filepath.Clean(strings.TrimPrefix(it, "unix:")))
+		}
+	}
+}
+
+func raiseFileLimit() {
+	var limit syscall.Rlimit
+	if syscall.Getrlimit(syscall.RLIMIT_NOFILE, &limit) == nil {
+		limit.Cur = limit.Max
+		syscall.Setrlimit(syscall.RLIMIT_NOFILE, &limit)
+	}
+}

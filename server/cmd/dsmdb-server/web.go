@@ -1,0 +1,50 @@
+package main
+
+import (
+	"context"
+	"crypto/tls"
+	"errors"
+	"fmt"
+	"io"
+	"log"
+	"net"
+	"net/http"
+	"time"
+
+	"dsmdb/server/api"
+	"dsmdb/server/console"
+	"dsmdb/server/metrics"
+)
+
+// listenHTTP answers HTTP/1.1: in HTTP/2 a client gives a request up without the kernel's knowledge.
+func (s *server) listenHTTP(ctx context.Context) error {
+	handler := api.New(api.Options{
+		Site: s.site, Policy: s.policy, Layout: s.layout, Hosts: s.served, Name: s.data,
+		Metrics: metrics.New(s.site, s.lines), Console: console.Handler(),
+	})
+	s.web = &http.Server{
+		Handler: handler, ReadHeaderTimeout: 10 * time.Second, ReadTimeout: time.Minute, IdleTimeout: 5 * time.Minute,
+		MaxHeaderBytes: 1 << 16, ConnContext: api.ConnContext, ErrorLog: log.New(io.Discard, "", 0),
+		TLSNextProto: map[string]func(*http.Server, *tls.Conn, http.Handler){},
+	}
+	listener, err := net.Listen("tcp", s.http)
+	if err != nil {
+		return fmt.Errorf("listening at %s: %w", s.http, err)
+	}
+	scheme := "http"
+	if s.cert != "" {
+		config, err := s.tlsConfig()
+		if err != nil {
+			return err
+		}
+		config.NextProtos = []string{"http/1.1"}
+		listener, scheme = tls.NewListener(listener, config), "https"
+	}
+	s.log.say("HTTP is answered at %s://%s", scheme, listener.Addr())
+	go func() {
+		if err := s.web.Serve(listener); err != nil && !errors.Is(err, http.ErrServerClosed) && ctx.Err() == nil {
+			s.failures <- fmt.Errorf("answering HTTP: %w", err)
+		}
+	}()
+	return nil
+}

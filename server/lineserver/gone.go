@@ -1,0 +1,40 @@
+package lineserver
+
+import (
+	"crypto/tls"
+	"net"
+	"syscall"
+
+	"golang.org/x/sys/unix"
+)
+
+// GoneOf returns a question whether the other end of a connection is closed, wholly or for writing, which the kernel is
+// asked. Data that wasn't read yet don't count as being there.
+func GoneOf(connection net.Conn) func() bool {
+	if secured, is := connection.(*tls.Conn); is {
+		connection = secured.NetConn()
+	}
+	system, is := connection.(syscall.Conn)
+	if !is {
+		return func() bool { return true }
+	}
+	raw, err := system.SyscallConn()
+	if err != nil {
+		return func() bool { return true }
+	}
+	return func() bool {
+		closed := true
+		raw.Control(func(fd uintptr) {
+			asked := [1]unix.PollFd{{Fd: int32(fd), Events: unix.POLLRDHUP}}
+			for {
+				_, err := unix.Poll(asked[:], 0)
+				if err == unix.EINTR {
+					continue
+				}
+				closed = err != nil || asked[0].Revents&(unix.POLLRDHUP|unix.POLLHUP|unix.POLLERR|unix.POLLNVAL) != 0
+				return
+			}
+		})
+		return closed
+	}
+}

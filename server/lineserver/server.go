@@ -1,0 +1,130 @@
+// Package lineserver answers lines of clients over connections: a Unix socket, TCP or TLS.
+package lineserver
+
+import (
+	"context"
+	"crypto/tls"
+	"errors"
+	"net"
+	"sync"
+	"sync/atomic"
+	"time"
+
+	"dsmdb/server/access"
+	"dsmdb/server/layout"
+	"dsmdb/server/site"
+)
+
+// Limits are of the connections of a server.
+type Limits struct {
+	Connections int           // at once; over them a connection is closed at once
+	Requests    int           // under way on one connection before more are read
+	Bytes       int           // of answers that a client hasn't read, before more of its requests are read
+	Idle        time.Duration // of a connection on which nothing is asked, or a line stays half sent
+	Send        time.Duration // for which a client may not read an answer
+}
+
+// DefaultLimits are those of a server that isn't told others.
+var DefaultLimits = Limits{Connections: 20_000, Requests: 1_024, Bytes: 4 << 20, Idle: 30 * time.Minute, Send: time.Minute}
+
+// Server answers lines by a site.
+type Server struct {
+	Site   *site.Site
+	Policy *access.Policy
+	Layout *layout.Layout // nil for none
+	Limits Limits
+	// Invite takes a new member into the cluster, and returns all members; nil where there is no cluster.
+	Invite func(ctx context.Context, name, place string) (members string, err error)
+	Say    func(format string, values ...any)
+
+	open    atomic.Int64
+	refused atomic.Uint64
+	mutex   sync.Mutex
+	conns   map[*conn]struct{}
+	closed  bool
+	all     sync.WaitGroup
+}
+
+// Open returns how many connections there are, and how many were refused for their number.
+func (s *Server) Open() (open int64, refused uint64) { return s.open.Load(), s.refused.Load() }
+
+// Serve takes connections until the context ends.
+func (s *Server) Serve(ctx context.Context, listener net.Listener) error {
+	stop := make(chan struct{})
+	defer close(stop)
+	go func() {
+		select {
+		case <-ctx.Done():
+			listener.Close()
+		case <-stop:
+		}
+	}()
+	for {
+		accepted, err := listener.Accept()
+		switch {
+		case err == nil:
+		case ctx.Err() != nil || errors.Is(err, net.ErrClosed):
+			return nil
+		default: // as where there are too many files
+			s.Say("taking a connection: %v", err)
+			time.Sleep(100 * time.Millisecond)
+			continue
+		}
+		if s.open.Add(1) > int64(s.Limits.Connections) {
+			s.refused.Add(1)
+			s.open.Add(-1)
+			accepted.Close()
+			continue
+		}
+		s.all.Add(1)
+		go func() {
+			defer s.all.Done()
+			defer s.open.Add(-1)
+			s.serve(accepted)
+		}()
+	}
+}
+
+// Close has each connection send what it has, and end. New ones are closed at once.
+func (s *Server) Close() {
+	s.mutex.Lock()
+	s.closed = true
+	for it := range s.conns {
+		it.finish()
+	}
+	s.mutex.Unlock()
+	s.all.Wait()
+}
+
+func (s *Server) serve(accepted net.Conn) {
+	who := s.Policy.Local()
+	if _, isUnix := accepted.(*net.UnixConn); !isUnix {
+		who = s.Policy.Remote(nil)
+	}
+	if secured, is := accepted.(*tls.Conn); is {
+		accepted.SetDeadline(time.Now().Add(10 * time.Second))
+		if err := secured.Handshake(); err != nil {
+			accepted.Close()
+			return
+		}
+		accepted.SetDeadline(time.Time{})
+		state := secured.ConnectionState()
+		who = s.Policy.Remote(&state)
+	}
+	c := newConn(s, accepted, who)
+	s.mutex.Lock()
+	if s.closed {
+		s.mutex.Unlock()
+		accepted.Close()
+		return
+	}
+	if s.conns == nil {
+		s.conns = map[*conn]struct{}{}
+	}
+	s.conns[c] = struct{}{}
+	s.mutex.Unlock()
+	c.run()
+	s.mutex.Lock()
+	delete(s.conns, c)
+	s.mutex.Unlock()
+}

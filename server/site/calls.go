@@ -1,0 +1,292 @@
+package site
+
+import (
+	"container/heap"
+	"math/rand"
+	"time"
+
+	"dsmdb/server/order"
+	"dsmdb/server/wire"
+)
+
+const (
+	firstPause = 2 * time.Millisecond // before a call in conflict is tried again, at most
+	lastPause  = 250 * time.Millisecond
+	fillAfter  = time.Second // for which an order is given time to grow by itself
+	// MostAhead is how far a call's upto may be behind the order's end for the order to be filled up to there.
+	MostAhead  = 65_536
+	leastAhead = 16
+)
+
+// arrive takes in a request.
+func (s *Site) arrive(r *Request) {
+	if s.now.IsZero() {
+		s.now = time.Now()
+	}
+	r.began, r.text.For = s.now, r
+	r.deadline = s.now.Add(s.patience)
+	if call := r.call(); call != nil && call.Within > 0 {
+		r.deadline = s.now.Add(call.Within)
+	}
+	r.text.Wanted = func() bool { return !r.done.Load() && !r.Asker.Gone() }
+	s.asking.add(r)
+	switch r.Ask.(type) {
+	case wire.Position:
+		s.tell(r, Answer{Kind: Text, Text: s.positionLine()})
+	case wire.Status:
+		s.tell(r, Answer{Kind: Text, Text: s.statusLine()})
+	case wire.Hello:
+		s.hello(r)
+	default:
+		if s.begun {
+			s.admit(r)
+		} else {
+			s.early = append(s.early, r)
+		}
+	}
+}
+
+// admit begins a request that needs the rows, or the order.
+func (s *Site) admit(r *Request) {
+	if r.done.Load() {
+		return
+	}
+	r.after = s.beginning
+	switch ask := r.Ask.(type) {
+	case *wire.Call:
+		if ask.After > r.after {
+			r.after = ask.After
+		}
+		if !ask.Fresh {
+			s.place(r)
+			return
+		}
+		if ask.After > 0 {
+			r.padding = s.now.Add(fillAfter)
+			if half := s.now.Add(r.deadline.Sub(s.now) / 2); half.Before(r.padding) {
+				r.padding = half
+			}
+		}
+		r.question = s.order.AskEnd()
+		s.fresh.push(r)
+	default:
+		s.place(r)
+	}
+}
+
+// askReady hands the engine what may begin where it is.
+func (s *Site) askReady() {
+	if s.restarting != nil {
+		return
+	}
+	for len(s.behind) > 0 && s.behind[0].for_ <= s.fed {
+		r := heap.Pop(&s.behind).(waiter).of
+		if !r.done.Load() {
+			s.try(r)
+		}
+	}
+	s.askRows()
+}
+
+// try begins a request where the engine has all strings up to the last that it was handed.
+func (s *Site) try(r *Request) {
+	switch ask := r.Ask.(type) {
+	case *wire.Call:
+		if ask.Upto > 0 && s.fed > ask.Upto {
+			s.tooLate(r)
+			return
+		}
+		r.tries++
+		s.out = append(ask.AppendRun(s.out), '\n')
+		s.pending.push(pending{forCall, r})
+	case *wire.Add:
+		s.out = append(append(s.out, ask.String()...), '\n')
+		s.pending.push(pending{forAddition, r})
+	case wire.NewSession:
+		text, err := order.NewSession()
+		if err != nil {
+			s.say("%v", err)
+			s.tell(r, Answer{Kind: Unknown, Text: NoOrder})
+			return
+		}
+		s.submit(r, text)
+	case wire.Rows, *wire.Scan:
+		s.rowsNext = append(s.rowsNext, r)
+	case wire.Hello:
+		s.hello(r)
+	}
+}
+
+// tooLate answers a call that may not run on rows so new: by what the last try came to, where there was one.
+func (s *Site) tooLate(r *Request) {
+	if r.last.Kind != None {
+		s.tell(r, r.last)
+	} else {
+		s.tell(r, Answer{Kind: Late, At: s.fed})
+	}
+}
+
+func (s *Site) submit(r *Request, text []byte) {
+	r.text.Text, r.out = text, true
+	s.submitted = append(s.submitted, &r.text)
+}
+
+// ran takes in what the engine answers to a call's run.
+func (s *Site) ran(r *Request, line []byte) error {
+	if r.done.Load() {
+		return nil
+	}
+	it, ok := wire.ReadRun(line)
+	if !ok {
+		return &Stopped{"the engine answers a call by " + string(line)}
+	}
+	call := r.call()
+	switch it.Kind {
+	case wire.RunSubmit:
+		if call.Session == 0 { // a copy of a call without a pair would be done twice
+			s.tell(r, Answer{Kind: Refused, Text: "P13"})
+			return nil
+		}
+		s.submit(r, it.Bytes)
+	case wire.RunRead:
+		s.tell(r, Answer{Kind: Read, At: it.At, Value: it.Value})
+	case wire.RunCancelled:
+		s.tell(r, Answer{Kind: Cancelled, At: it.At, Value: it.Value})
+	case wire.RunRepeat:
+		s.repeated(r, it.At, it.Value)
+	case wire.RunRefused:
+		s.tell(r, Answer{Kind: Refused, Text: string(it.Bytes)})
+	}
+	return nil
+}
+
+// repeated answers a call whose pair has committed before, by whether that was this very call.
+func (s *Site) repeated(r *Request, position, reply uint64) {
+	call := r.call()
+	if s.askedAt.at(position) == askedBy(uint16(s.procedures[call.Name].number), call.Args) {
+		s.tell(r, Answer{Kind: Committed, At: position, Value: reply})
+	} else {
+		s.tell(r, Answer{Kind: Other, At: position})
+	}
+}
+
+// again has a call tried once more behind what it met, after a pause that grows and is drawn, while its asker is there
+// and its time isn't over.
+func (s *Site) again(r *Request, met Answer) {
+	if r.done.Load() {
+		return
+	}
+	r.last, r.after, r.out = met, met.At, false
+	most := firstPause << uint(r.tries-1)
+	if most > lastPause || most <= 0 {
+		most = lastPause
+	}
+	due := s.now.Add(time.Duration(rand.Int63n(int64(most))))
+	if due.After(r.deadline) || r.Asker.Gone() {
+		s.tell(r, met)
+		return
+	}
+	s.stats.retried++
+	heap.Push(&s.retries, waiter{uint64(due.UnixNano()), r})
+}
+
+// retryDue has calls tried again whose time has come.
+func (s *Site) retryDue() {
+	now := uint64(s.now.UnixNano())
+	for len(s.retries) > 0 && s.retries[0].for_ <= now {
+		r := heap.Pop(&s.retries).(waiter).of
+		if !r.done.Load() {
+			s.place(r)
+		}
+	}
+}
+
+// adds takes in what the engine answers to an addition.
+func (s *Site) adds(r *Request, line []byte) error {
+	if r.done.Load() || s.isThere(r) {
+		return nil
+	}
+	it, ok := wire.ReadRun(line)
+	switch {
+	case ok && it.Kind == wire.RunSubmit:
+		s.submit(r, it.Bytes)
+	case ok && it.Kind == wire.RunRefused:
+		s.tell(r, Answer{Kind: Refused, Text: string(it.Bytes)})
+	default:
+		return &Stopped{"the engine answers an addition by " + string(line)}
+	}
+	return nil
+}
+
+// isThere answers an addition whose name is that very procedure's already.
+func (s *Site) isThere(r *Request) bool {
+	add := r.Ask.(*wire.Add)
+	found, is := s.procedures[add.Name]
+	if !is || found != procedureIn(add) {
+		return false
+	}
+	s.tell(r, Answer{Kind: Added, At: uint64(add.Number)})
+	return true
+}
+
+// tell answers a request, once. While votes disagree nothing that rests on the rows is told.
+func (s *Site) tell(r *Request, answer Answer) {
+	if r.done.Load() {
+		return
+	}
+	if s.isSilent() && answer.Kind != Text && answer.Kind != Unknown {
+		r.held = answer
+		return
+	}
+	r.done.Store(true)
+	s.asking.remove(r)
+	s.stats.answered(answer.Kind, s.now.Sub(r.began), r.call() != nil)
+	r.Asker.Answer(r, answer)
+	s.flushes = append(s.flushes, r.Asker)
+}
+
+// expire answers the requests whose time is over.
+func (s *Site) expire() {
+	why := NoTime
+	switch {
+	case s.isSilent():
+		why = Diverged
+	case s.isAway():
+		why = NoOrder
+	}
+	for r := s.asking.first; r != nil; {
+		next := r.behind
+		if s.now.After(r.deadline) {
+			if r.last.Kind != None && !r.out {
+				s.tell(r, r.last)
+			}
+			s.tell(r, Answer{Kind: Unknown, Text: why})
+		}
+		r = next
+	}
+}
+
+func (s *Site) isAway() bool {
+	_, why := s.order.Reached()
+	return why != nil
+}
+
+// fillUp makes an order longer for calls that ask for rows behind its end, where it doesn't grow by itself.
+func (s *Site) fillUp() {
+	most := s.end
+	for r := s.asking.first; r != nil; r = r.behind {
+		if !r.padding.IsZero() && s.now.After(r.padding) && r.after > most && r.after-s.end <= MostAhead {
+			most = r.after
+		}
+	}
+	if most <= s.end || most <= s.filledTo {
+		return
+	}
+	from := s.end
+	if s.filledTo > from {
+		from = s.filledTo
+	}
+	for s.filledTo = from; s.filledTo < most; s.filledTo++ {
+		s.submitted = append(s.submitted, &order.String{Text: order.Filling})
+	}
+}

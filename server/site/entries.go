@@ -1,0 +1,226 @@
+package site
+
+import (
+	"bytes"
+	"container/heap"
+	"fmt"
+
+	"dsmdb/server/order"
+	"dsmdb/server/wire"
+)
+
+// begin is told where the order ended at the start. An empty one gets its first string.
+func (s *Site) begin(position uint64) {
+	s.begun, s.beginning = true, position
+	if position == 0 {
+		s.beginning, s.wantsFirst = 1, true
+	}
+	s.beginOrder()
+	early := s.early
+	s.early = nil
+	for _, r := range early {
+		s.admit(r)
+	}
+}
+
+// beginOrder puts the first string into an order that is empty.
+func (s *Site) beginOrder() {
+	if s.wantsFirst && s.end == 0 {
+		s.submitted = append(s.submitted, &order.String{Text: order.First(s.settings)})
+	}
+	s.wantsFirst = false
+}
+
+// count takes in a batch of the order.
+func (s *Site) count(it *order.Counted) error {
+	if it.First != s.end+1 {
+		return fmt.Errorf("the order has a batch at position %d behind position %d", it.First, s.end)
+	}
+	s.unheard.push(unheard{s.end, it.Header, it.Made, !s.begun})
+	s.database = it.Header.Database
+	for _, text := range it.Strings {
+		if s.end == 0 && !bytes.Equal(text, order.First(s.settings)) {
+			return &Stopped{"the order was begun for other settings: one order has one settings file"}
+		}
+		s.end++
+		s.backlog += len(text)
+		s.unfed.push(text)
+	}
+	if len(it.Own) > 0 {
+		s.owns.push(own{it.First, it.Own})
+	}
+	if it.Made {
+		s.lastVote, s.votedAt, s.newStrings = it.Header.Vote.Position, s.now, false
+	} else {
+		s.newStrings = s.newStrings || len(it.Strings) > 0
+	}
+	return s.hearVotes()
+}
+
+// feed hands the engine as many strings as it should have waiting.
+func (s *Site) feed() {
+	if s.restarting != nil {
+		return
+	}
+	for s.unfed.len() > 0 && s.engine.Unsent()+len(s.out) < unsentMost {
+		text := s.unfed.pop()
+		s.unread.push(text)
+		s.putEntry(text)
+		s.pending.push(pending{kind: forString})
+		s.fed++
+	}
+}
+
+func (s *Site) putEntry(text []byte) {
+	s.out = append(wire.AppendHex(append(s.out, "entry "...), text), '\n')
+}
+
+// entered takes in what the engine answers to the next string of the order.
+func (s *Site) entered(line []byte) error {
+	it, ok := wire.ReadEntry(line)
+	if !ok || it.Position != s.position+1 {
+		return &Stopped{fmt.Sprintf("the engine answers %q at position %d", line, s.position+1)}
+	}
+	text := s.unread.pop()
+	s.backlog -= len(text)
+	s.position = it.Position
+	s.votes.Answered(text, line)
+	s.mutex.Lock()
+	s.vote = s.votes.Own()
+	s.mutex.Unlock()
+	s.noteAsked(it, text)
+	if err := s.becameOwn(it, line); err != nil {
+		return err
+	}
+	return s.hearVotes()
+}
+
+// noteAsked counts what became of a string, and keeps what a committed call asked.
+func (s *Site) noteAsked(it wire.Entry, text []byte) {
+	var found asked
+	switch it.Kind {
+	case wire.EntryCommit:
+		s.counts.Committed++
+		if it.HasPair {
+			found = askedIn(text)
+		}
+	case wire.EntryAdded:
+		s.counts.Committed++
+		name, added := additionIn(text)
+		s.procedures[name] = added
+	case wire.EntryNothing:
+		if !order.IsOfServers(text) {
+			s.counts.Nothing++
+		}
+		if string(it.Word) == "E5" {
+			s.counts.Untrue++
+			s.say("position %d: nothing E5: its maker has other rows, or is no server of this database", it.Position)
+		}
+	default:
+		s.counts.Refused++
+	}
+	s.askedAt.push(found)
+}
+
+// becameOwn tells who handed a string what became of it.
+func (s *Site) becameOwn(it wire.Entry, line []byte) error {
+	if s.owns.len() == 0 || s.owns.first().first > it.Position {
+		return nil
+	}
+	mine := s.owns.first()
+	at := it.Position - mine.first
+	text := mine.of[at]
+	if at == uint64(len(mine.of)-1) {
+		s.owns.pop()
+	}
+	r, _ := text.For.(*Request)
+	if r == nil {
+		return nil
+	}
+	switch r.Ask.(type) {
+	case wire.NewSession:
+		s.tell(r, Answer{Kind: Session, At: it.Position})
+	case *wire.Add:
+		return s.becameAddition(r, it, line)
+	case *wire.Call:
+		return s.becameCall(r, it, line)
+	}
+	return nil
+}
+
+func (s *Site) becameAddition(r *Request, it wire.Entry, line []byte) error {
+	switch it.Kind {
+	case wire.EntryNothing:
+		return s.ownNothing(line)
+	case wire.EntryAdded:
+		s.tell(r, Answer{Kind: Added, At: it.Value})
+	default:
+		if !s.isThere(r) {
+			s.tell(r, Answer{Kind: Taken, Text: string(it.Word)})
+		}
+	}
+	return nil
+}
+
+func (s *Site) becameCall(r *Request, it wire.Entry, line []byte) error {
+	switch it.Kind {
+	case wire.EntryCommit:
+		s.tell(r, Answer{Kind: Committed, At: it.Position, Value: it.Value})
+	case wire.EntryRepeat:
+		s.repeated(r, it.Other, it.Value)
+	case wire.EntryConflict:
+		s.again(r, Answer{Kind: Conflict, At: it.Position, Value: it.Other})
+	case wire.EntryStale:
+		s.again(r, Answer{Kind: Stale, At: it.Position})
+	default:
+		return s.ownNothing(line)
+	}
+	return nil
+}
+
+func (s *Site) ownNothing(line []byte) error {
+	return &Stopped{fmt.Sprintf("the engine answers '%s' to what it had submitted itself: its program or its memory isn't as it was", line)}
+}
+
+// refuse tells whose strings weren't appended.
+func (s *Site) refuse(it *order.Refused) {
+	answer := Answer{Kind: Full}
+	if it.Why != order.ErrFull {
+		answer = Answer{Kind: Unknown, Text: NoOrder}
+	}
+	for _, text := range it.Of {
+		if r, is := text.For.(*Request); is {
+			s.tell(r, answer)
+		} else {
+			s.wantsFirst, s.filledTo = s.end == 0, 0
+		}
+	}
+}
+
+// drop gives up the requests whose askers have left.
+func (s *Site) drop(it *order.Dropped) {
+	for _, text := range it.Of {
+		if r, is := text.For.(*Request); is {
+			s.stats.dropped++
+			s.tell(r, Answer{Kind: Unknown, Text: NoTime})
+		}
+	}
+}
+
+// endsAt answers questions for the order's end.
+func (s *Site) endsAt(it order.End) {
+	for s.fresh.len() > 0 && (*s.fresh.first()).question <= it.Question {
+		r := s.fresh.pop()
+		if r.done.Load() {
+			continue
+		}
+		r.question = 0
+		if it.Position > r.after {
+			r.after = it.Position
+		}
+		s.place(r)
+	}
+}
+
+// place has a call begin where the engine has the strings that it asks for.
+func (s *Site) place(r *Request) { heap.Push(&s.behind, waiter{r.after, r}) }

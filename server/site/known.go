@@ -1,0 +1,111 @@
+package site
+
+import (
+	"bytes"
+	"crypto/sha256"
+	"encoding/binary"
+	"encoding/hex"
+	"sort"
+	"strconv"
+
+	"dsmdb/server/wire"
+)
+
+// procedure is what a procedure is besides its name.
+type procedure struct {
+	number, argsLen uint32
+	program         [sha256.Size]byte
+}
+
+// Procedure is a procedure that a site has.
+type Procedure struct {
+	Name            string
+	Number, ArgsLen uint32
+	Program         [sha256.Size]byte // SHA-256 of its bytes
+}
+
+// proceduresOf returns the procedures of settings that an engine has accepted, by their names.
+func proceduresOf(settings []byte) map[string]procedure {
+	found := map[string]procedure{}
+	for _, line := range bytes.Split(settings, []byte{'\n'}) {
+		fields := bytes.Split(line, []byte{' '})
+		if string(fields[0]) != "proc" || len(fields) != 5 {
+			continue
+		}
+		number, _ := strconv.ParseUint(string(fields[2]), 10, 16)
+		length, _ := strconv.ParseUint(string(fields[3]), 10, 16)
+		program, _ := hex.DecodeString(string(bytes.TrimPrefix(fields[4], []byte{'-'})))
+		found[string(fields[1])] = procedure{uint32(number), uint32(length), sha256.Sum256(program)}
+	}
+	return found
+}
+
+// ProceduresOf returns the procedures of settings that an engine has accepted.
+func ProceduresOf(settings []byte) []Procedure {
+	var all []Procedure
+	for name, found := range proceduresOf(settings) {
+		all = append(all, Procedure{name, found.number, found.argsLen, found.program})
+	}
+	sort.Slice(all, func(a, b int) bool { return all[a].Name < all[b].Name })
+	return all
+}
+
+// additionIn returns the name and the procedure of an addition that was taken into an order.
+func additionIn(text []byte) (string, procedure) {
+	number, length := binary.LittleEndian.Uint16(text[1:]), binary.LittleEndian.Uint16(text[3:])
+	name := text[6 : 6+int(text[5])]
+	return string(name), procedure{uint32(number), uint32(length), sha256.Sum256(text[10+len(name):])}
+}
+
+func procedureIn(it *wire.Add) procedure {
+	return procedure{it.Number, it.ArgsLen, sha256.Sum256(it.Program)}
+}
+
+// asked tells what a committed call asked, so that its repetition can be told from another call with its pair: procedure
+// and arguments themselves where they are short, else a sum of them.
+type asked [32]byte
+
+func askedBy(number uint16, args []byte) asked {
+	var it asked
+	if len(args) <= len(it)-3 {
+		it[0] = byte(len(args)) + 1
+		binary.LittleEndian.PutUint16(it[1:], number)
+		copy(it[3:], args)
+		return it
+	}
+	sum := sha256.Sum256(append(binary.LittleEndian.AppendUint16(nil, number), args...))
+	it[0] = 0xff
+	copy(it[1:], sum[:])
+	return it
+}
+
+// askedIn returns what a call that stands in the order asked.
+func askedIn(call []byte) asked {
+	length := int(binary.LittleEndian.Uint16(call[15:]))
+	return askedBy(binary.LittleEndian.Uint16(call[13:]), call[17:17+length])
+}
+
+const askedPage = 1 << 14
+
+// askedAt has by position what its call asked, 32 bytes for each string of the order.
+type askedAt struct {
+	pages [][]asked
+	count uint64
+}
+
+func (a *askedAt) push(it asked) {
+	if a.count%askedPage == 0 {
+		a.pages = append(a.pages, make([]asked, askedPage))
+	}
+	a.pages[a.count/askedPage][a.count%askedPage] = it
+	a.count++
+}
+
+// at returns what stands at a position from 1; nothing of a position that isn't there.
+func (a *askedAt) at(position uint64) asked {
+	if position == 0 || position > a.count {
+		return asked{}
+	}
+	position--
+	return a.pages[position/askedPage][position%askedPage]
+}

@@ -1,0 +1,203 @@
+package site
+
+import (
+	"context"
+	"errors"
+	"fmt"
+	"time"
+
+	"dsmdb/server/batch"
+)
+
+const (
+	hangsFor     = 10 * time.Second // of an engine that neither answers nor uses its processor
+	longestPause = time.Minute      // before an engine is started again
+)
+
+// restart is an engine's that has ended, and is started again from the order.
+type restart struct {
+	upto    uint64 // the position that the engine before had come to
+	from    uint64 // the last position that the new one has answered
+	fed     uint64
+	digest  batch.Digest // the digest of what it has answered
+	refeeds chan refeed
+	ready   bool // whether there is a new engine
+	cancel  context.CancelFunc
+}
+
+// refeed is a step of an engine's start.
+type refeed struct {
+	engine Engine
+	texts  [][]byte
+	err    error
+	taken  chan struct{}
+}
+
+// answers returns where answers and steps are to be taken from.
+func (r *restart) answers(of <-chan []byte) (<-chan []byte, <-chan refeed) {
+	if !r.ready {
+		return nil, r.refeeds
+	}
+	return of, r.refeeds
+}
+
+// restart gives an engine up that has ended, and has another one started, which is given the order again. Its answers
+// have to be those of the one before.
+func (s *Site) restart(why error) error {
+	s.say("%v: it is started again from the order", why)
+	if s.restarting != nil {
+		s.restarting.cancel()
+	}
+	s.restarts++
+	s.stats.restarts++
+	s.takeBack()
+	ctx, cancel := context.WithCancel(context.Background())
+	r := &restart{
+		upto: s.position, refeeds: make(chan refeed), cancel: cancel, digest: batch.OfSettings(s.settings),
+	}
+	s.restarting = r
+	pause := time.Duration(0)
+	if s.restarts > 1 {
+		pause = time.Second << uint(s.restarts-2)
+		if pause > longestPause || pause <= 0 {
+			pause = longestPause
+		}
+	}
+	go s.refeed(ctx, r, pause)
+	return nil
+}
+
+// takeBack takes what the engine was asked back into what it is to be asked.
+func (s *Site) takeBack() {
+	for _, it := range s.pending.all() {
+		if it.of == nil || it.of.done.Load() {
+			continue
+		}
+		if it.kind == forRows {
+			s.spool.Close()
+			s.spooling, s.spool = nil, nil
+			s.rowsNext = append(s.rowsNext, it.of)
+			continue
+		}
+		s.place(it.of)
+	}
+	texts := append(s.unread.all(), s.unfed.all()...)
+	for _, text := range texts {
+		s.unfed.push(text)
+	}
+	s.fed, s.out = s.position, s.out[:0]
+	s.spooling, s.spool = nil, nil
+}
+
+// refeed starts an engine, and hands it what stands in the order up to where the one before was.
+func (s *Site) refeed(ctx context.Context, r *restart, pause time.Duration) {
+	step := func(it refeed) error {
+		it.taken = make(chan struct{})
+		select {
+		case r.refeeds <- it:
+		case <-ctx.Done():
+			return ctx.Err()
+		case <-s.closed:
+			return errors.New("the site has ended")
+		}
+		select {
+		case <-it.taken:
+		case <-ctx.Done():
+		}
+		return ctx.Err()
+	}
+	select {
+	case <-time.After(pause):
+	case <-ctx.Done():
+		return
+	}
+	started, err := s.start(ctx)
+	if err != nil {
+		step(refeed{err: err})
+		return
+	}
+	if step(refeed{engine: started}) != nil {
+		return
+	}
+	err = s.order.Reread(ctx, r.upto, func(found *batch.Batch) error {
+		for started.Unsent() > unsentMost && ctx.Err() == nil {
+			time.Sleep(time.Millisecond)
+		}
+		return step(refeed{texts: found.Strings})
+	})
+	if err != nil && ctx.Err() == nil {
+		step(refeed{err: fmt.Errorf("reading the order again: %w", err)})
+	}
+}
+
+// takeRefeed takes in a step of an engine's start.
+func (s *Site) takeRefeed(it refeed) error {
+	defer close(it.taken)
+	r := s.restarting
+	if r == nil {
+		return nil
+	}
+	if it.err != nil {
+		return it.err
+	}
+	if it.engine != nil {
+		s.engine.Close()
+		s.engine, r.ready, s.heardAt = it.engine, true, s.now
+	}
+	for _, text := range it.texts {
+		if r.fed == r.upto {
+			break // what is behind waits for the engine already
+		}
+		r.fed++
+		s.putEntry(text)
+		s.pending.push(pending{kind: forOldOne})
+	}
+	s.refed()
+	return nil
+}
+
+// enteredAgain takes in what a new engine answers to a string that one before has answered.
+func (s *Site) enteredAgain(line []byte) error {
+	r := s.restarting
+	r.from++
+	r.digest = r.digest.WithAnswer(line)
+	s.refed()
+	if r.from == r.upto && r.digest != s.votes.Own().Answers {
+		return &Stopped{fmt.Sprintf("the engine was started again, and answers otherwise than before up to position %d", r.upto)}
+	}
+	return nil
+}
+
+// refed has the site go on where the new engine has come to where the one before was.
+func (s *Site) refed() {
+	if r := s.restarting; r.ready && r.from == r.upto {
+		r.cancel()
+		s.restarting = nil
+		s.say("the engine is back at position %d", s.position)
+	}
+}
+
+// watchEngine ends an engine that hangs.
+func (s *Site) watchEngine(context.Context) error {
+	if s.pending.len() == 0 || s.restarting != nil && !s.restarting.ready {
+		s.heardAt, s.usedAt = s.now, 0
+		s.hangs = false
+		return nil
+	}
+	if s.now.Sub(s.heardAt) < hangsFor {
+		s.hangs = false
+		return nil
+	}
+	used, err := s.engine.Processor()
+	if err != nil {
+		return nil // it ends, which its answers tell
+	}
+	if !s.hangs || used != s.usedAt {
+		s.hangs, s.usedAt, s.heardAt = true, used, s.now // it works, or is looked at once more
+		return nil
+	}
+	s.say("the engine has neither answered nor worked for %v", hangsFor)
+	s.engine.Kill()
+	s.heardAt = s.now
+	return nil
+}

@@ -1,0 +1,388 @@
+// Package site keeps a replica for its clients: an engine that has the rows, an order that has the calls, and between
+// them one goroutine that has all that is known of the site. Whatever comes together goes on together: lines to the
+// engine, strings to the order, answers to clients.
+package site
+
+import (
+	"context"
+	"errors"
+	"fmt"
+	"sync"
+	"time"
+
+	"dsmdb/server/batch"
+	"dsmdb/server/engine"
+	"dsmdb/server/order"
+	"dsmdb/server/votes"
+)
+
+const (
+	unsentMost  = 1 << 20  // bytes that wait for the engine before more of the order is handed to it
+	backlogMost = 64 << 20 // bytes of strings that wait for the engine before the order is read further
+	tick        = 100 * time.Millisecond
+	silentFor   = 60 * time.Second // of a server that others disagree with, before it ends
+	voteWithin  = 50 * time.Second // of strings that were counted since the last vote
+)
+
+// Stopped says why a site can't go on.
+type Stopped struct{ Why string }
+
+func (s *Stopped) Error() string { return s.Why }
+
+// Engine is what a site asks of its engine.
+type Engine interface {
+	Ask(lines []byte)
+	Unsent() int
+	Answers() <-chan []byte
+	Err() error
+	Processor() (time.Duration, error)
+	Kill()
+	Close()
+}
+
+var _ Engine = (*engine.Engine)(nil)
+
+// Options are what a site is made of.
+type Options struct {
+	Settings []byte
+	Order    order.Order
+	Maker    batch.ID
+	// Start starts an engine over the settings, which has no string yet.
+	Start func(ctx context.Context) (Engine, error)
+	// Patience is for how long a call is tried that doesn't say for how long.
+	Patience time.Duration
+	// Overrule has the site go on whatever other servers voted before its start.
+	Overrule bool
+	// Say is told of what happens, a line an event. It never waits.
+	Say func(format string, values ...any)
+}
+
+// Site is one site, from its start to its end.
+type Site struct {
+	settings []byte
+	order    order.Order
+	start    func(ctx context.Context) (Engine, error)
+	patience time.Duration
+	overrule bool
+	say      func(format string, values ...any)
+	maker    batch.ID
+
+	mutex  sync.Mutex
+	inbox  []*Request
+	tasks  []func()
+	ended  bool
+	wake   chan struct{}
+	closed chan struct{}
+
+	engine     Engine
+	out        []byte // lines that go to the engine at the turn's end
+	pending    queue[pending]
+	restarting *restart
+	heardAt    time.Time     // when the engine last answered, or was seen to work
+	usedAt     time.Duration // of processors, when it was last looked at
+	hangs      bool          // whether it was seen not to answer
+	restarts   int
+
+	vote       batch.Vote // by mutex
+	position   uint64     // of the last string that the engine has answered
+	fed        uint64     // of the last string that the engine was handed
+	end        uint64     // of the last string that was counted
+	begun      bool       // whether it is known where the order ended at the start
+	beginning  uint64     // where
+	wantsFirst bool       // whether the order is empty and its first string is still to be appended
+	database   batch.ID
+	unfed      queue[[]byte]
+	unread     queue[[]byte] // strings that the engine was handed and hasn't answered
+	backlog    int           // bytes of both
+	owns       queue[own]
+
+	votes       *votes.Votes
+	unheard     queue[unheard]
+	lastVote    uint64    // position of this server's last vote
+	votedAt     time.Time // when
+	newStrings  bool      // whether strings came since
+	silentSince time.Time // zero where votes agree
+	diverged    votes.Divergence
+	isDiverged  bool
+
+	procedures map[string]procedure
+	askedAt    askedAt
+	asking     outstanding
+	early      []*Request // that came before the site had caught up
+	behind     waiting    // calls that wait for a position
+	fresh      queue[*Request]
+	retries    waiting // calls that wait for a time, in nanoseconds
+	submitted  []*order.String
+	filledTo   uint64   // the position up to which the order was filled up
+	spooling   *Request // whose rows the engine prints, into spool
+	spool      *Spool
+	rowsNext   []*Request // who wait for their rows
+	flushes    []Asker
+	counts     Counts
+	growth     growth
+	stats      stats
+	now        time.Time
+}
+
+// pending is what the engine was asked for.
+type pending struct {
+	kind pendingKind
+	of   *Request
+}
+
+type pendingKind uint8
+
+const (
+	forString   pendingKind = iota // of the order
+	forOldOne                      // a string that an engine before this one has answered
+	forCall                        // a call's run
+	forAddition                    // what an addition would append
+	forRows                        // rows, up to the line of their position
+)
+
+// own is a batch of this server's strings.
+type own struct {
+	first uint64
+	of    []*order.String
+}
+
+// unheard is a vote, until the engine has come to where its batch stands.
+type unheard struct {
+	position uint64
+	header   batch.Header
+	made     bool // by this server since its start
+	early    bool // whether the batch stood in the order at the start
+}
+
+// Counts are of what became of the order's strings.
+type Counts struct{ Committed, Refused, Nothing, Untrue uint64 }
+
+// New makes a site, which Run runs.
+func New(o Options) *Site {
+	return &Site{
+		settings: o.Settings, order: o.Order, start: o.Start, patience: o.Patience, overrule: o.Overrule, say: o.Say, maker: o.Maker,
+		wake: make(chan struct{}, 1), closed: make(chan struct{}),
+		votes: votes.New(o.Maker, o.Settings), procedures: proceduresOf(o.Settings),
+		vote: batch.Vote{Answers: batch.OfSettings(o.Settings)},
+	}
+}
+
+// Vote returns what the engine has come to. It may be called from any goroutine.
+func (s *Site) Vote() batch.Vote {
+	s.mutex.Lock()
+	defer s.mutex.Unlock()
+	return s.vote
+}
+
+// Ask hands over requests, each of which is answered once. It never waits, and may be called from any goroutine.
+func (s *Site) Ask(requests ...*Request) {
+	s.mutex.Lock()
+	ended := s.ended
+	if !ended {
+		s.inbox = append(s.inbox, requests...)
+	}
+	s.mutex.Unlock()
+	if !ended {
+		s.ring()
+		return
+	}
+	for _, r := range requests {
+		r.Asker.Answer(r, Answer{Kind: Unknown, Text: IsStopping})
+		r.Asker.Flush()
+	}
+}
+
+// do has the site's goroutine do something; false where the site has ended.
+func (s *Site) do(task func()) bool {
+	s.mutex.Lock()
+	ended := s.ended
+	if !ended {
+		s.tasks = append(s.tasks, task)
+	}
+	s.mutex.Unlock()
+	s.ring()
+	return !ended
+}
+
+func (s *Site) ring() {
+	select {
+	case s.wake <- struct{}{}:
+	default:
+	}
+}
+
+// Run goes on until the context ends, where it returns nil, or an error says why it can't. All requests are answered.
+func (s *Site) Run(ctx context.Context) error {
+	err := s.run(ctx)
+	s.mutex.Lock()
+	s.ended = true
+	left, tasks := s.inbox, s.tasks
+	s.inbox, s.tasks = nil, nil
+	s.mutex.Unlock()
+	for _, r := range left {
+		s.arrive(r)
+	}
+	for s.asking.first != nil {
+		s.tell(s.asking.first, Answer{Kind: Unknown, Text: IsStopping})
+	}
+	s.flush()
+	for _, task := range tasks {
+		task()
+	}
+	close(s.closed)
+	if s.engine != nil {
+		s.engine.Close()
+	}
+	return err
+}
+
+func (s *Site) run(ctx context.Context) error {
+	started, err := s.start(ctx)
+	if err != nil {
+		return err
+	}
+	s.engine, s.heardAt, s.votedAt = started, time.Now(), time.Now()
+	ticks := time.NewTicker(tick)
+	defer ticks.Stop()
+	timer := time.NewTimer(time.Hour)
+	defer timer.Stop()
+	for {
+		s.setTimer(timer)
+		if stop, err := s.turn(ctx, ticks.C, timer.C); stop || err != nil {
+			return err
+		}
+		s.goOn()
+	}
+}
+
+// turn waits for something to happen, and takes it in.
+func (s *Site) turn(ctx context.Context, ticks, timer <-chan time.Time) (stop bool, err error) {
+	events := s.order.Events()
+	if s.backlog > backlogMost {
+		events = nil
+	}
+	answers := s.engine.Answers()
+	var refed <-chan refeed
+	if s.restarting != nil {
+		answers, refed = s.restarting.answers(answers)
+	}
+	select {
+	case <-ctx.Done():
+		return true, nil
+	case <-s.wake:
+		s.now = time.Now()
+		s.takeInbox()
+	case some, is := <-events:
+		s.now = time.Now()
+		return false, s.takeEvents(some, is)
+	case lines, is := <-answers:
+		s.now = time.Now()
+		return false, s.takeAnswers(lines, is)
+	case it := <-refed:
+		s.now = time.Now()
+		return false, s.takeRefeed(it)
+	case <-timer:
+		s.now = time.Now()
+	case <-ticks:
+		s.now = time.Now()
+		return false, s.takeTick(ctx)
+	}
+	return false, nil
+}
+
+// goOn hands on what has come together in a turn.
+func (s *Site) goOn() {
+	s.feed()
+	s.retryDue()
+	s.askReady()
+	if len(s.out) > 0 {
+		s.engine.Ask(s.out)
+		s.out = s.out[:0]
+	}
+	if len(s.submitted) > 0 {
+		s.order.Append(s.submitted)
+		s.submitted = nil
+	}
+	s.flush()
+}
+
+func (s *Site) flush() {
+	for at, it := range s.flushes {
+		it.Flush()
+		s.flushes[at] = nil
+	}
+	s.flushes = s.flushes[:0]
+}
+
+func (s *Site) takeInbox() {
+	s.mutex.Lock()
+	requests, tasks := s.inbox, s.tasks
+	s.inbox, s.tasks = nil, nil
+	s.mutex.Unlock()
+	for _, r := range requests {
+		s.arrive(r)
+	}
+	for _, task := range tasks {
+		task()
+	}
+}
+
+// takeEvents takes in what the order says.
+func (s *Site) takeEvents(some []order.Event, is bool) error {
+	if !is {
+		if err := s.order.Err(); err != nil {
+			return fmt.Errorf("the order can't be gone on with: %w", err)
+		}
+		return errors.New("the order was closed")
+	}
+	for _, event := range some {
+		switch it := event.(type) {
+		case *order.Counted:
+			if err := s.count(it); err != nil {
+				return err
+			}
+		case *order.Refused:
+			s.refuse(it)
+		case *order.Dropped:
+			s.drop(it)
+		case order.Begun:
+			s.begin(it.Position)
+		case order.End:
+			s.endsAt(it)
+		}
+	}
+	return nil
+}
+
+// takeTick looks at what only time changes.
+func (s *Site) takeTick(ctx context.Context) error {
+	s.growth.note(s.now, s.end)
+	s.beginOrder()
+	s.fillUp()
+	s.expire()
+	if err := s.watchEngine(ctx); err != nil {
+		return err
+	}
+	if s.isDiverged && s.diverged.Silences() && s.now.Sub(s.silentSince) > silentFor {
+		return &Stopped{fmt.Sprintf("other servers came to other answers than this one from position %d on: %d disagree, %d agree",
+			s.diverged.Since, s.diverged.Disagree, s.diverged.Agree)}
+	}
+	if s.caughtUp() && s.newStrings && s.now.Sub(s.votedAt) > voteWithin {
+		s.giveVote()
+	}
+	return nil
+}
+
+// caughtUp returns whether the engine has what stood in the order at the start.
+func (s *Site) caughtUp() bool { return s.begun && s.position >= s.beginning }
+
+func (s *Site) setTimer(timer *time.Timer) {
+	if len(s.retries) == 0 {
+		return
+	}
+	left := time.Duration(int64(s.retries[0].for_) - time.Now().UnixNano())
+	if left < 0 {
+		left = 0
+	}
+	timer.Reset(left)
+}

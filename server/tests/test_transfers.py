@@ -1,0 +1,290 @@
+"""Clients who transfer amounts between accounts, and faults that are drawn: what they were answered is what stands in the
+order, once."""
+import contextlib
+import os
+import random
+import signal
+import subprocess
+import sys
+import threading
+import time
+import unittest
+
+import fixtures
+import orders
+from etcd_nodes import NOT_THERE, THERE, Node, Relay
+from fixtures import LONG, ROOT, ServerTest, until, words
+
+sys.path.insert(0, f"{ROOT}/sdk/python")
+import dsmdb
+
+SEED = int(os.environ.get("SEED", "1"))
+SECONDS = int(os.environ.get("SECONDS", "12"))
+ACCOUNTS = 64
+
+
+def at_row(register, change):
+    """Returns slots that get the row whose key is in a register, change it in register 1, and put it."""
+    where = f"b701000001000000bf{register}2000000000000bfa300000000000007030000f8ffffff"
+    return f"{where}850000000100000079a1f8ff00000000{change}7b1af8ff00000000{where}8500000002000000"
+
+
+# arguments: from, to, amount, and a row of the client's own, to which 1 is added; replies with that
+TRANSFER = (
+    "7916000000000000791708000000000079181000000000007919180000000000"
+    + at_row(6, "1f81000000000000") + at_row(7, "0f81000000000000") + at_row(9, "0701000001000000")
+    + "79a0f8ff000000009500000000000000"
+)
+TRANSFERS = f"window 64\ntable 1 8\nproc transfer 1 32 {TRANSFER}\n"
+
+
+class Client(threading.Thread):
+    """A client that makes transfers, and keeps what it was answered, by pair."""
+
+    def __init__(self, test, name, own, until):
+        super().__init__()
+        self.test, self.own, self.until = test, own, until
+        self.path, self.random = f"{test.folder}/{name}", random.Random(f"{SEED} {name}")
+        self.answers, self.faults = {}, []
+
+    def run(self):
+        try:
+            while time.monotonic() < self.until:
+                self.transfer()
+            self.settle()
+        except Exception as fault:
+            self.faults.append(repr(fault))
+
+    def drawn(self):
+        one, other, amount = (self.random.randrange(it) for it in (ACCOUNTS, ACCOUNTS, 100))
+        return words(one, other, amount, self.own)
+
+    def places(self):
+        return [f"{self.test.folder}/{it}" for it in self.random.sample(self.test.names, len(self.test.names))]
+
+    def heard(self, pair, answer):
+        if answer[0] not in ("unknown", "full", "late"):
+            earlier = self.answers.setdefault(pair, answer)
+            if earlier != answer:
+                self.faults.append(f"{pair} was answered {earlier}, and then {answer}")
+
+
+class Command(Client):
+    """One that runs the command `call`, which is killed now and then, and goes on with its file."""
+
+    def transfer(self, killed=True):
+        places = [word for place in self.places() for word in ("--at", place)]
+        asked = [fixtures.SERVER, "call", *places, "--file", self.path, "--within", "1s", "--patience", "5s", "transfer", self.drawn()]
+        ran = subprocess.Popen(asked, stdout=subprocess.PIPE, stderr=subprocess.PIPE, text=True)
+        if killed and self.random.random() < 0.2:
+            time.sleep(self.random.random() / 2)
+            ran.kill()
+        said, self.last = ran.communicate(timeout=4 * LONG)
+        for line in said.splitlines():
+            if line.startswith("earlier "):
+                call, _, answer = line.removeprefix("earlier ").partition(": ")
+                self.heard(tuple(map(int, call.split(" ")[3:5])), answer.split(" "))
+            else:
+                self.heard(self.last_pair(), line.split(" "))
+        return ran.returncode
+
+    def last_pair(self):
+        with open(self.path) as file:
+            lines = dict(it.split(" ", 1) for it in file.read().splitlines() if not it.startswith(("dsmdb", "call")))
+        return int(lines["session"]), int(lines["next"]) - 1
+
+    def settle(self):
+        for _ in range(20):
+            if self.transfer(killed=False) in (0, 4):
+                return
+        self.faults.append(self.last)
+
+
+class Library(Client):
+    """One over the library for Python, whose connections the servers' ends cut."""
+
+    def store(self):
+        """Opens the client's file, which a process that another thread has just forked may have for a moment."""
+
+        def opened():
+            with contextlib.suppress(OSError):
+                return dsmdb.File(self.path)
+
+        return until(opened)
+
+    def transfer(self, patience=5):
+        store = self.store()
+        with dsmdb.Client(self.places(), store, within=1, patience=patience) as client:
+            try:
+                if client.unsettled:
+                    self.hear(client.unsettled, client.settle)
+                for _ in range(self.random.randrange(1, 20)):
+                    self.hear(None, lambda: client.call("transfer", bytes.fromhex(self.drawn())), store)
+            except (dsmdb.Unsettled, dsmdb.NothingSent):
+                pass
+
+    def hear(self, line, ask, store=None):
+        answer = ask()
+        state = store.load() if store else None
+        pair = tuple(map(int, line.split(" ")[3:5])) if line else (state.session, state.next - 1)
+        self.heard(pair, answer.line.split(" "))
+
+    def settle(self):
+        def settled():
+            with dsmdb.Client(self.places(), self.store(), patience=LONG) as client:
+                if client.unsettled:
+                    self.hear(client.unsettled, client.settle)
+                return True
+
+        until(settled)
+
+
+class Transfers(ServerTest):
+    """At one server, over the order in its folder."""
+
+    names = ("one",)
+
+    def setUp(self):
+        super().setUp()
+        self.settings(TRANSFERS)
+        self.random = random.Random(SEED)
+        print(f"(seed {SEED}, {SECONDS} s) ", end="", flush=True)
+
+    def words_of(self, name):
+        return []
+
+    def start(self, name):
+        return self.serve(name, *self.words_of(name))
+
+    def test_transfers(self):
+        servers = {it: self.start(it).begun() for it in self.names}
+        end = time.monotonic() + SECONDS
+        clients = [Command(self, "client0", 1000, end), Command(self, "client1", 1001, end), Library(self, "client2", 1002, end)]
+        for it in clients:
+            it.start()
+        while time.monotonic() < end:
+            time.sleep(self.random.random())
+            self.fault(servers)
+        self.mend()
+        for it in clients:
+            it.join()
+        self.assertEqual([it.faults for it in clients], [[], [], []])
+        for it in servers.values():
+            it.begun()
+        self.assert_true(servers, clients)
+
+    def fault(self, servers):
+        name = self.random.choice(self.names)
+        chosen = self.random.random()
+        if chosen < 0.4:
+            servers[name].kill()
+            servers[name] = self.start(name)
+        elif chosen < 0.6:
+            os.kill(servers[name].begun().engine(), signal.SIGKILL)
+        else:
+            servers[name].kill(signal.SIGSTOP)
+            time.sleep(2 * self.random.random())
+            servers[name].kill(signal.SIGCONT)
+
+    def mend(self):
+        """Ends the faults of what is below the servers."""
+
+    def assert_true(self, servers, clients):
+        """Asserts that what clients were answered is what stands in the order, and that all servers have it."""
+        first = servers[self.names[0]]
+        session = int(first.ask("session").split(" ")[1])
+        end = int(first.ask(f"call transfer {words(0, 0, 0, 2000)} {session} 1 fresh").split(" ")[1])
+        more = self.newcomer()
+        until(lambda: self.are_alike([*servers.values(), *more], end))
+        rows = dict(it.split()[1:] for it in first.rows()[:-1])
+        number = {int(key): int.from_bytes(bytes.fromhex(row), "little") for key, row in rows.items()}
+        self.assertEqual(sum(number.get(it, 0) for it in range(ACCOUNTS)) % (1 << 64), 0)
+        for it in clients:
+            committed = [int(answer[1]) for answer in it.answers.values() if answer[0] == "committed"]
+            self.assertEqual(number.get(it.own, 0), len(committed))
+            self.assertEqual(len(committed), len(set(committed)))
+            self.assertGreater(len(committed), 0)
+        heard = [(pair, answer) for it in clients for pair, answer in it.answers.items()]
+        answered = {int(answer[1]): pair for pair, answer in heard if answer[0] == "committed"}
+        self.assertEqual(self.commits(), {**answered, end: (session, 1)})
+
+    def newcomer(self):
+        return []
+
+    def are_alike(self, servers, end):
+        """Whether all servers have come to one position, at least this, and have one digest and the same rows there."""
+        found = []
+        for it in servers:
+            status = it.at(end).status()
+            found.append((status["position"], status["end"], status["digest"], it.rows()))
+        return found[0][0] == found[0][1] and all(it == found[0] for it in found)
+
+    def strings(self):
+        return orders.strings(f"{self.folder}/one/order-0000000001")
+
+    def commits(self):
+        """Returns the pair of each commit by its position, as an engine that is given the order says."""
+        process = fixtures.engine(TRANSFERS, self.folder)
+        said, _ = process.communicate("".join(f"entry {it.hex() or '-'}\n" for it in self.strings()), timeout=4 * LONG)
+        found = [it.split(" ") for it in said.splitlines()]
+        return {int(it[1]): (int(it[6]), int(it[8])) for it in found if it[2] == "commit"}
+
+
+@unittest.skipUnless(THERE, NOT_THERE)
+class TransfersOverEtcd(Transfers):
+    """At three servers, over three nodes that are killed and stopped, behind relays that cut connections."""
+
+    names = ("one", "two", "three")
+
+    def setUp(self):
+        super().setUp()
+        slow = ["--heartbeat-interval", "200", "--election-timeout", "2000"]  # the machine may be busy
+        self.nodes = [Node(self.folder, it, *slow) for it in ("a", "b", "c")]
+        cluster = ",".join(f"{it.name}={it.peer}" for it in self.nodes)
+        for node in self.nodes:
+            node.cluster = cluster
+            self.addCleanup(node.kill)
+            node.start()
+        self.relays = [Relay(it, random.Random(f"{SEED} {it.name}")) for it in self.nodes]
+        for node, relay in zip(self.nodes, self.relays):
+            node.healthy()
+            self.addCleanup(relay.close)
+        with open(f"{self.folder}/secret", "wb", opener=lambda *it: os.open(*it, mode=0o600)) as file:
+            file.write(self.random.randbytes(32))
+
+    def words_of(self, name):
+        places = self.random.sample(self.relays, 3)
+        return ["--etcd", f"{','.join(it.url for it in places)}/p", "--secret", f"{self.folder}/secret"]
+
+    def fault(self, servers):
+        node, chosen = self.random.choice(self.nodes), self.random.random()
+        if chosen < 0.2:
+            node.kill()
+            node.start().healthy()
+        elif chosen < 0.4:
+            node.process.send_signal(signal.SIGSTOP)
+            time.sleep(2 * self.random.random())
+            node.process.send_signal(signal.SIGCONT)
+        elif chosen < 0.5:  # a stranger's
+            node.put(f"p/1/{0:010d}-{self.random.randbytes(16).hex()}", self.random.randbytes(200))
+        else:
+            super().fault(servers)
+
+    def mend(self):
+        for relay in self.relays:
+            relay.cuts = False
+
+    def newcomer(self):
+        return [self.serve("four", *self.words_of("four")).begun()]
+
+    def strings(self):
+        def whole():
+            found = orders.strings(f"{self.folder}/four/order-0000000001", journal=True, signed=True)
+            return found if len(found) >= self.end else None
+
+        with open(f"{self.folder}/four.said"):
+            return until(whole)
+
+    def are_alike(self, servers, end):
+        self.end = end
+        return super().are_alike(servers, end)
