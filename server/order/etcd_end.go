@@ -106,6 +106,7 @@ func (e *Etcd) beginCount(anyway bool) (question, floor, tallies uint64, ok bool
 	if !e.caughtUp || e.ends.asked == e.ends.answered && !anyway {
 		return 0, 0, 0, false // before, the first listing answers
 	}
+	e.tally.raise(floorOf(e.rule.counted))
 	e.ends.held = true
 	return e.ends.asked, e.tally.floor, e.ends.tallies, true
 }

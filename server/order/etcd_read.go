@@ -73,7 +73,7 @@ func (r *reader) decide(ctx context.Context, it *stored) (counts bool, err error
 		return false, nil
 	}
 	found, err := r.rule.read(it)
-	if errors.Is(err, errNotRight) {
+	if errors.Is(err, errNotRight) && !errors.Is(err, errSigned) {
 		found, err = r.askMembers(ctx, it, err)
 	}
 	var other *batch.FormError

@@ -5,6 +5,7 @@ import (
 	"fmt"
 	"math"
 	"net"
+	"strings"
 	"sync"
 	"sync/atomic"
 	"testing"
@@ -27,6 +28,7 @@ type relay struct {
 	before func(asked *pb.TxnRequest) error                             // before etcd is asked
 	ranged func(asked *pb.RangeRequest, answer *pb.RangeResponse) error // after
 	told   func(answer *pb.WatchResponse) ([]*pb.WatchResponse, error)
+	opened func() // before a watch is opened
 }
 
 var errAway = status.Error(codes.Unavailable, "the relay is away")
@@ -65,7 +67,7 @@ func (r *relay) does(change func()) {
 func (r *relay) hooks() relay {
 	r.mutex.Lock()
 	defer r.mutex.Unlock()
-	return relay{txn: r.txn, before: r.before, ranged: r.ranged, told: r.told}
+	return relay{txn: r.txn, before: r.before, ranged: r.ranged, told: r.told, opened: r.opened}
 }
 
 func (r *relay) Range(ctx context.Context, asked *pb.RangeRequest) (*pb.RangeResponse, error) {
@@ -91,6 +93,9 @@ func (r *relay) Txn(ctx context.Context, asked *pb.TxnRequest) (*pb.TxnResponse,
 }
 
 func (r *relay) Watch(server pb.Watch_WatchServer) error {
+	if hook := r.hooks().opened; hook != nil {
+		hook()
+	}
 	client, err := r.watch.Watch(server.Context())
 	if err != nil {
 		return err
@@ -260,6 +265,54 @@ func TestAWatchThatBreaksIsMadeAgain(t *testing.T) {
 	}
 }
 
+// What a listing or a watch goes on from may be compacted meanwhile: then the order is listed again.
+func TestACompactionHasTheOrderListedAgain(t *testing.T) {
+	t.Parallel()
+	etcd := runEtcd(t, 1)
+	const batches = 1200 // more than a page
+	for number := 0; number < batches; number += 100 {
+		asked := &pb.TxnRequest{}
+		for at := 0; at < 100; at++ {
+			key := keyOf(uint64(number), byte(at))
+			asked.Success = append(asked.Success, &pb.RequestOp{Request: &pb.RequestOp_RequestPut{RequestPut: &pb.PutRequest{
+				Key: []byte(key), Value: []byte(batchOf(1, nil, key, key))}}})
+		}
+		if _, err := etcd.kv(0).Txn(within(t), asked); err != nil {
+			t.Fatal(err)
+		}
+	}
+	relay := etcd.relayed(0)
+	compact := func() {
+		etcd.put("else", "x")
+		answer, err := etcd.kv(0).Range(within(t), &pb.RangeRequest{Key: []byte("else")})
+		if err == nil {
+			_, err = etcd.kv(0).Compact(within(t), &pb.CompactionRequest{Revision: answer.Header.Revision, Physical: true})
+		}
+		if err != nil {
+			t.Error(err)
+		}
+	}
+	var pages, watches atomic.Int64
+	relay.ranged = func(asked *pb.RangeRequest, answer *pb.RangeResponse) error {
+		if asked.KeysOnly && answer.More && pages.Add(1) <= 2 {
+			compact()
+		}
+		return nil
+	}
+	relay.opened = func() {
+		if watches.Add(1) == 1 {
+			compact()
+			compact()
+		}
+	}
+	w := etcd.opened(func(o *EtcdOptions) { o.Endpoints = []string{relay.url} })
+	w.appended("more")
+	w.untilEnd()
+	if w.sound(); len(w.read()) != batches+1 || pages.Load() < 3 || watches.Load() < 2 {
+		t.Errorf("%d strings, %d pages, %d watches", len(w.read()), pages.Load(), watches.Load())
+	}
+}
+
 // A watch that says nothing any more is found by etcd's count.
 func TestAWatchThatFallsSilentIsMadeAgain(t *testing.T) {
 	t.Parallel()
@@ -312,7 +365,7 @@ func TestADamagedCopyAtOneMemberIsReadElsewhere(t *testing.T) {
 	live.appended("1x", "2", "3x")
 	later := etcd.opened(func(o *EtcdOptions) { o.Endpoints = []string{damaged.url, whole.url} })
 	alike(live, later)
-	if fmt.Sprint(later.read()) != "[1x 2 3x]" || len(later.said) != 2 || live.Strangers()+later.Strangers() != 0 {
+	if fmt.Sprint(later.read()) != "[1x 2 3x]" || strings.Count(strings.Join(later.said, " "), "damaged copy") != 2 || live.Strangers()+later.Strangers() != 0 {
 		t.Errorf("%v, %v", later.read(), later.said)
 	}
 	alone := etcd.opened(func(o *EtcdOptions) { o.Endpoints = []string{damaged.url} })
