@@ -18,7 +18,6 @@ import (
 	"dsmdb/server/order"
 	"go.etcd.io/etcd/embed"
 	"go.etcd.io/etcd/etcdserver/api/v3rpc"
-	pb "go.etcd.io/etcd/etcdserver/etcdserverpb"
 	"go.etcd.io/etcd/pkg/transport"
 	"go.etcd.io/etcd/proxy/grpcproxy/adapter"
 	"go.uber.org/zap"
@@ -175,27 +174,13 @@ func loggerTo(to io.Writer) func(*embed.Config) error {
 	return embed.NewZapCoreLoggerBuilder(zap.New(core), core, syncer)
 }
 
-// KV returns how this process reads and writes keys.
-func (m *Member) KV() pb.KVClient {
-	return adapter.KvServerToKvClient(v3rpc.NewQuotaKVServer(m.etcd.Server))
-}
-
-// Watch returns how this process watches keys.
-func (m *Member) Watch() pb.WatchClient {
-	return adapter.WatchServerToWatchClient(v3rpc.NewWatchServer(m.etcd.Server))
-}
-
-// Peers returns how the other members are asked, as far as they are known now.
-func (m *Member) Peers() []order.Peer {
-	var all []order.Peer
-	for _, it := range m.etcd.Server.Cluster().Members() {
-		if it.ID != m.etcd.Server.ID() && len(it.PeerURLs) > 0 {
-			all = append(all, order.Peer{
-				URL: it.PeerURLs[0], CA: m.options.CA, Cert: m.options.Cert, Key: m.options.Key,
-			})
-		}
+// Embedded returns how this process asks the member.
+func (m *Member) Embedded() order.Embedded {
+	return order.Embedded{
+		KV:      adapter.KvServerToKvClient(v3rpc.NewQuotaKVServer(m.etcd.Server)),
+		Watch:   adapter.WatchServerToWatchClient(v3rpc.NewWatchServer(m.etcd.Server)),
+		Compare: m.compare,
 	}
-	return all
 }
 
 // Ready returns a channel that is closed once the member has joined its cluster, which takes most of its members.

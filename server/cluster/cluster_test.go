@@ -101,7 +101,7 @@ func (s *server) open() {
 		Prefix: "dsmdb", Number: 1, Journal: s.journal,
 		Maker: order.Maker{ID: batch.ID{byte(len(s.options.Name)), s.options.Name[0]}, Version: "0.1"},
 	}
-	opened, err := order.OpenMember(options, s.member.KV(), s.member.Watch(), s.member.Peers())
+	opened, err := order.OpenEmbedded(options, s.member.Embedded())
 	if err != nil {
 		s.t.Fatal(err)
 	}

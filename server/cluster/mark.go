@@ -100,13 +100,15 @@ func hasData(folder string) bool {
 	return wal.Exist(filepath.Join(folder, folderName, "member", "wal"))
 }
 
-// prepare writes the mark of a folder that has neither a mark nor data.
+// prepare writes the mark of a folder that has neither a mark nor data. An invitation may take the place of what was never
+// followed.
 func prepare(folder string, m *mark) error {
 	before, err := readMark(folder)
 	if err != nil {
 		return err
 	}
-	if before != nil {
+	again := m.state == invited && before != nil && before.state != ran && !hasData(folder) // it has never been a member
+	if before != nil && !again {
 		return fmt.Errorf("it already has member %s of %s", before.name, before.members)
 	}
 	entries, err := os.ReadDir(filepath.Join(folder, folderName))

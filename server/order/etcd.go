@@ -70,34 +70,26 @@ func OpenEtcd(options EtcdOptions) (*Etcd, error) {
 	return openEtcd(options, all)
 }
 
-// Peer says how another member of an embedded cluster is asked: at its peer URL, with the certificates of members.
-type Peer struct {
-	URL           string
-	CA, Cert, Key string
+// Embedded is a member of etcd that runs in this process.
+type Embedded struct {
+	KV    pb.KVClient
+	Watch pb.WatchClient
+	// Compare says whether the member has kept all up to a revision as most members have. An error that is ErrDamaged
+	// says that it hasn't; another that this can't be told now. Nil stands for yes.
+	Compare func(ctx context.Context, revision int64) error
 }
 
-// OpenMember opens an order in etcd by a member in this process. The other members are asked where this one fails, and
-// for what it may have kept wrongly. Of the options the endpoints, the certificates and the login aren't used.
-func OpenMember(options EtcdOptions, kv pb.KVClient, watch pb.WatchClient, others []Peer) (*Etcd, error) {
+// ErrDamaged says that a member of etcd hasn't kept what it was told to.
+var ErrDamaged = errors.New("the data of this server's member of the cluster are damaged")
+
+// OpenEmbedded opens an order in etcd by a member in this process. Of the options the endpoints, the certificates and the
+// login aren't used.
+func OpenEmbedded(options EtcdOptions, embedded Embedded) (*Etcd, error) {
 	if err := options.check(); err != nil {
 		return nil, err
 	}
-	all := &nodes{home: true, all: []node{&member{kv, watch}}}
-	for _, it := range others {
-		hosts, secure, err := hostsOf([]string{it.URL})
-		if err != nil {
-			return nil, err
-		}
-		made := &remote{host: hosts[0]}
-		if secure {
-			access := EtcdOptions{CA: it.CA, Cert: it.Cert, Key: it.Key}
-			if made.tls, err = access.tlsOf(); err != nil {
-				return nil, err
-			}
-		}
-		all.all = append(all.all, made)
-	}
-	return openEtcd(options, all)
+	own := &member{kv: embedded.KV, watch: embedded.Watch}
+	return openEtcd(options, &nodes{all: []node{own}, home: true, compare: embedded.Compare})
 }
 
 func openEtcd(options EtcdOptions, all *nodes) (*Etcd, error) {

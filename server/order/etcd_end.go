@@ -58,7 +58,6 @@ func (e *Etcd) askEnds(ctx context.Context) error {
 			case <-e.ends.wake:
 			case <-time.After(askAnyway):
 				anyway = true
-				e.goHome(ctx)
 			}
 			e.sweep()
 		}
@@ -107,6 +106,7 @@ func (e *Etcd) beginCount(anyway bool) (question, floor, tallies uint64, ok bool
 	if !e.caughtUp || e.ends.asked == e.ends.answered && !anyway {
 		return 0, 0, 0, false // before, the first listing answers
 	}
+	e.tally.raise(floorOf(e.rule.counted))
 	e.ends.held = true
 	return e.ends.asked, e.tally.floor, e.ends.tallies, true
 }
@@ -218,17 +218,5 @@ func (e *Etcd) shown(revision int64) {
 	e.answer()
 	if !e.ends.held {
 		e.tally.raise(floorOf(e.rule.counted))
-	}
-}
-
-// goHome goes back to the member in this process, where it answers again.
-func (e *Etcd) goHome(ctx context.Context) {
-	if !e.nodes.home || e.nodes.at.Load() == 0 {
-		return
-	}
-	asked := &pb.RangeRequest{Key: []byte(e.keys.folder), CountOnly: true}
-	if _, err := e.nodes.rangeAt(ctx, e.nodes.all[0], asked); err == nil {
-		left := e.nodes.at.Swap(0)
-		e.leftMember(left)
 	}
 }

@@ -195,7 +195,7 @@ func TestAFullDiskOfTheJournalRefusesUntilThereIsRoom(t *testing.T) {
 	log.journalLog, w.journal.log = w.journal.log, log
 	w.journal.mutex.Unlock()
 	other.appended("2", "3")
-	w.until("full", func() bool { return len(w.said) > 0 })
+	w.until("full", func() bool { return w.told("disk is full") })
 	it := w.append1("no")
 	w.until("refused", func() bool { return w.refused[it] != nil })
 	if !errors.Is(w.refused[it], ErrFull) {
@@ -213,7 +213,7 @@ func TestAFullDiskOfTheJournalRefusesUntilThereIsRoom(t *testing.T) {
 		t.Errorf("%v", w.reread())
 	}
 	log.full.Store(false)
-	w.until("room", func() bool { return len(w.said) > 1 })
+	w.until("room", func() bool { return w.told("has room again") })
 	w.appended("5")
 	w.Close()
 	again := etcd.opened(func(o *EtcdOptions) { o.Journal = folder })

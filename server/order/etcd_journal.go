@@ -90,6 +90,9 @@ func (r *reader) readJournal(ctx context.Context) error {
 	var last place
 	log, err := segments.Open(r.journal.path, segments.Options{Magic: JournalMagic, CutDamage: true}, func(kept []byte) error {
 		it, err := entryOf(kept)
+		if err == nil {
+			err = ctx.Err()
+		}
 		if err != nil {
 			return err
 		}

@@ -50,6 +50,9 @@ func (e *Etcd) read(ctx context.Context) error {
 		if isEnd(err) {
 			return err
 		}
+		if _, away := r.Reached(); away == nil && ctx.Err() == nil {
+			r.once("etcd: the order is listed again: %v", err)
+		}
 		if r.history.end() > before {
 			failures = 0
 		}
@@ -70,7 +73,7 @@ func (r *reader) decide(ctx context.Context, it *stored) (counts bool, err error
 		return false, nil
 	}
 	found, err := r.rule.read(it)
-	if errors.Is(err, errNotRight) {
+	if errors.Is(err, errNotRight) && !errors.Is(err, errSigned) {
 		found, err = r.askMembers(ctx, it, err)
 	}
 	var other *batch.FormError
@@ -135,7 +138,15 @@ func (r *reader) askMembers(ctx context.Context, it *stored, why error) (*batch.
 				return r.rightElsewhere(it, kept, found, member)
 			}
 		}
-		if answers > 0 && 2*answers >= len(r.nodes.all) {
+		decided := answers > 0 && 2*answers >= len(r.nodes.all)
+		if decided && r.nodes.compare != nil {
+			fault := r.nodes.compare(ctx, it.create)
+			if errors.Is(fault, ErrDamaged) {
+				return nil, ended("%s can't be read: %w", it.key, fault)
+			}
+			decided = fault == nil
+		}
+		if decided {
 			r.once("etcd: %s takes no place in the order: %v", it.key, why)
 			return nil, why
 		}

@@ -5,7 +5,9 @@ import (
 	"fmt"
 	"math"
 	"net"
+	"strings"
 	"sync"
+	"sync/atomic"
 	"testing"
 
 	pb "go.etcd.io/etcd/etcdserver/etcdserverpb"
@@ -26,6 +28,7 @@ type relay struct {
 	before func(asked *pb.TxnRequest) error                             // before etcd is asked
 	ranged func(asked *pb.RangeRequest, answer *pb.RangeResponse) error // after
 	told   func(answer *pb.WatchResponse) ([]*pb.WatchResponse, error)
+	opened func() // before a watch is opened
 }
 
 var errAway = status.Error(codes.Unavailable, "the relay is away")
@@ -64,7 +67,7 @@ func (r *relay) does(change func()) {
 func (r *relay) hooks() relay {
 	r.mutex.Lock()
 	defer r.mutex.Unlock()
-	return relay{txn: r.txn, before: r.before, ranged: r.ranged, told: r.told}
+	return relay{txn: r.txn, before: r.before, ranged: r.ranged, told: r.told, opened: r.opened}
 }
 
 func (r *relay) Range(ctx context.Context, asked *pb.RangeRequest) (*pb.RangeResponse, error) {
@@ -90,6 +93,9 @@ func (r *relay) Txn(ctx context.Context, asked *pb.TxnRequest) (*pb.TxnResponse,
 }
 
 func (r *relay) Watch(server pb.Watch_WatchServer) error {
+	if hook := r.hooks().opened; hook != nil {
+		hook()
+	}
 	client, err := r.watch.Watch(server.Context())
 	if err != nil {
 		return err
@@ -103,16 +109,20 @@ func (r *relay) Watch(server pb.Watch_WatchServer) error {
 			client.Send(asked)
 		}
 	}()
-	for {
+	for silent := false; ; {
 		answer, err := client.Recv()
 		if err != nil {
 			return err
+		}
+		if silent {
+			continue
 		}
 		all := []*pb.WatchResponse{answer}
 		if hook := r.hooks().told; hook != nil {
 			if all, err = hook(answer); err != nil {
 				return err
 			}
+			silent = len(all) == 0 // for good: etcd leaves nothing out
 		}
 		for _, it := range all {
 			if err := server.Send(it); err != nil {
@@ -195,11 +205,11 @@ func TestWhatIsNotWantedAfterALostAnswerIsSettled(t *testing.T) {
 			}
 			w := etcd.opened(func(o *EtcdOptions) { o.Endpoints = []string{relay.url} })
 			w.untilBegun()
-			asked := 0
-			leaves := &String{Text: []byte("leaves"), Wanted: func() bool { asked++; return asked == 1 }}
+			var asked atomic.Int64
+			leaves := &String{Text: []byte("leaves"), Wanted: func() bool { return asked.Add(1) == 1 }}
 			stays := &String{Text: []byte("stays")}
 			w.Append([]*String{leaves, stays})
-			w.until("second try", func() bool { return asked == 2 })
+			w.until("second try", func() bool { return asked.Load() == 2 })
 			close(held)
 			w.until("settled", func() bool { return w.own[stays] > 0 })
 			w.untilEnd()
@@ -238,9 +248,10 @@ func TestEventsThatComeAgainArePassedOver(t *testing.T) {
 func TestAWatchThatBreaksIsMadeAgain(t *testing.T) {
 	t.Parallel()
 	etcd := runEtcd(t, 1)
-	relay, number := etcd.relayed(0), 0
+	relay := etcd.relayed(0)
+	var number atomic.Int64
 	relay.told = func(answer *pb.WatchResponse) ([]*pb.WatchResponse, error) {
-		if number++; number%4 == 0 && len(answer.Events) > 0 {
+		if number.Add(1)%4 == 0 && len(answer.Events) > 0 {
 			return nil, errAway
 		}
 		return []*pb.WatchResponse{answer}, nil
@@ -249,8 +260,56 @@ func TestAWatchThatBreaksIsMadeAgain(t *testing.T) {
 	other := etcd.opened(nil)
 	texts := manyCallers(4, 10, one, other)
 	alike(one, other)
-	if found := one.read(); len(found) != len(texts) || number < 8 {
-		t.Errorf("%d strings of %d, %d answers", len(found), len(texts), number)
+	if found := one.read(); len(found) != len(texts) || number.Load() < 8 {
+		t.Errorf("%d strings of %d, %d answers", len(found), len(texts), number.Load())
+	}
+}
+
+// What a listing or a watch goes on from may be compacted meanwhile: then the order is listed again.
+func TestACompactionHasTheOrderListedAgain(t *testing.T) {
+	t.Parallel()
+	etcd := runEtcd(t, 1)
+	const batches = 1200 // more than a page
+	for number := 0; number < batches; number += 100 {
+		asked := &pb.TxnRequest{}
+		for at := 0; at < 100; at++ {
+			key := keyOf(uint64(number), byte(at))
+			asked.Success = append(asked.Success, &pb.RequestOp{Request: &pb.RequestOp_RequestPut{RequestPut: &pb.PutRequest{
+				Key: []byte(key), Value: []byte(batchOf(1, nil, key, key))}}})
+		}
+		if _, err := etcd.kv(0).Txn(within(t), asked); err != nil {
+			t.Fatal(err)
+		}
+	}
+	relay := etcd.relayed(0)
+	compact := func() {
+		etcd.put("else", "x")
+		answer, err := etcd.kv(0).Range(within(t), &pb.RangeRequest{Key: []byte("else")})
+		if err == nil {
+			_, err = etcd.kv(0).Compact(within(t), &pb.CompactionRequest{Revision: answer.Header.Revision, Physical: true})
+		}
+		if err != nil {
+			t.Error(err)
+		}
+	}
+	var pages, watches atomic.Int64
+	relay.ranged = func(asked *pb.RangeRequest, answer *pb.RangeResponse) error {
+		if asked.KeysOnly && answer.More && pages.Add(1) <= 2 {
+			compact()
+		}
+		return nil
+	}
+	relay.opened = func() {
+		if watches.Add(1) == 1 {
+			compact()
+			compact()
+		}
+	}
+	w := etcd.opened(func(o *EtcdOptions) { o.Endpoints = []string{relay.url} })
+	w.appended("more")
+	w.untilEnd()
+	if w.sound(); len(w.read()) != batches+1 || pages.Load() < 3 || watches.Load() < 2 {
+		t.Errorf("%d strings, %d pages, %d watches", len(w.read()), pages.Load(), watches.Load())
 	}
 }
 
@@ -306,7 +365,7 @@ func TestADamagedCopyAtOneMemberIsReadElsewhere(t *testing.T) {
 	live.appended("1x", "2", "3x")
 	later := etcd.opened(func(o *EtcdOptions) { o.Endpoints = []string{damaged.url, whole.url} })
 	alike(live, later)
-	if fmt.Sprint(later.read()) != "[1x 2 3x]" || len(later.said) != 2 || live.Strangers()+later.Strangers() != 0 {
+	if fmt.Sprint(later.read()) != "[1x 2 3x]" || strings.Count(strings.Join(later.said, " "), "damaged copy") != 2 || live.Strangers()+later.Strangers() != 0 {
 		t.Errorf("%v, %v", later.read(), later.said)
 	}
 	alone := etcd.opened(func(o *EtcdOptions) { o.Endpoints = []string{damaged.url} })

@@ -35,8 +35,12 @@ type stored struct {
 
 func (s *stored) place() place { return place{s.create, s.key} }
 
-// errNotRight says that a key isn't a batch of the order.
-var errNotRight = errors.New("no batch of the order")
+var (
+	// errNotRight says that a key isn't a batch of the order.
+	errNotRight = errors.New("no batch of the order")
+	// errSigned says besides that the secret has signed what was read, so no member has kept it wrongly.
+	errSigned = fmt.Errorf("%w, though it is signed", errNotRight)
+)
 
 // unknownForms is how far the forms of batches may be beyond this program's to be taken for a newer program's. A
 // stranger's bytes are no such form.
@@ -51,7 +55,7 @@ func (r *rule) read(s *stored) (*batch.Batch, error) {
 	if s.lease != 0 {
 		return nil, fmt.Errorf("%w: it has a lease", errNotRight)
 	}
-	bytes := s.value
+	bytes, wrong := s.value, errNotRight
 	if len(bytes) > batch.Longest {
 		return nil, fmt.Errorf("%w: it has %d bytes", errNotRight, len(bytes))
 	}
@@ -60,7 +64,7 @@ func (r *rule) read(s *stored) (*batch.Batch, error) {
 		if err != nil {
 			return nil, fmt.Errorf("%w: %v", errNotRight, err)
 		}
-		bytes = opened
+		bytes, wrong = opened, errSigned
 	}
 	found, err := batch.Read(bytes)
 	var other *batch.FormError
@@ -68,10 +72,10 @@ func (r *rule) read(s *stored) (*batch.Batch, error) {
 		return nil, other
 	}
 	if err != nil {
-		return nil, fmt.Errorf("%w: %v", errNotRight, err)
+		return nil, fmt.Errorf("%w: %v", wrong, err)
 	}
 	if r.begun && found.Database != r.database {
-		return nil, fmt.Errorf("%w: it is of another database", errNotRight)
+		return nil, fmt.Errorf("%w: it is of another database", wrong)
 	}
 	return found, nil
 }

@@ -143,7 +143,7 @@ func (m *memoryEtcd) opened(t *testing.T, journal string) *watched {
 	t.Helper()
 	w := &watched{t: t, own: map[*String]uint64{}, refused: map[*String]error{}, dropped: map[*String]bool{}}
 	options := EtcdOptions{Prefix: "dsmdb", Number: 1, Maker: maker, Journal: journal}
-	opened, err := OpenMember(options, m, m, nil)
+	opened, err := OpenEmbedded(options, Embedded{KV: m, Watch: m})
 	if err != nil {
 		t.Fatal(err)
 	}

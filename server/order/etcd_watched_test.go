@@ -154,6 +154,16 @@ func (w *watched) untilEnded() string {
 	return w.Err().Error()
 }
 
+// told returns whether the log says something. The mutex is held.
+func (w *watched) told(text string) bool {
+	for _, it := range w.said {
+		if strings.Contains(it, text) {
+			return true
+		}
+	}
+	return false
+}
+
 // append1 appends one string, and returns it.
 func (w *watched) append1(text string) *String {
 	it := &String{Text: []byte(text)}
@@ -174,7 +184,10 @@ func (w *watched) appended(texts ...string) {
 func (w *watched) untilEnd() uint64 {
 	w.t.Helper()
 	question := w.AskEnd()
-	w.until("end", func() bool { return w.end.Question >= question })
+	w.until("end", func() bool { return w.end.Question >= question || w.closed })
+	if w.closed {
+		w.t.Fatalf("the order has ended: %v", w.Err())
+	}
 	w.mutex.Lock()
 	defer w.mutex.Unlock()
 	return w.end.Position

@@ -99,7 +99,7 @@ func (s *server) openEtcd(name string, maker order.Maker, journal string) error 
 		<-s.member.Ended()
 		s.failures <- errors.New("the cluster's member has stopped: another one took its place, or its disk failed")
 	}()
-	opened, err := order.OpenMember(options, s.member.KV(), s.member.Watch(), s.member.Peers())
+	opened, err := order.OpenEmbedded(options, s.member.Embedded())
 	s.order = opened
 	return err
 }
