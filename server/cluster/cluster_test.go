@@ -105,13 +105,15 @@ func (s *server) open() {
 	if err != nil {
 		s.t.Fatal(err)
 	}
+	s.mutex.Lock()
 	s.order, s.strings, s.own, s.closed = opened, nil, map[*order.String]bool{}, false
+	s.mutex.Unlock()
 	s.t.Cleanup(func() { opened.Close() })
 	go func() {
 		for some := range opened.Events() {
 			s.mutex.Lock()
 			for _, event := range some {
-				if it, ok := event.(*order.Counted); ok {
+				if it, ok := event.(*order.Counted); ok && s.order == opened {
 					for _, text := range it.Strings {
 						s.strings = append(s.strings, string(text))
 					}
@@ -123,7 +125,7 @@ func (s *server) open() {
 			s.mutex.Unlock()
 		}
 		s.mutex.Lock()
-		s.closed = true
+		s.closed = s.closed || s.order == opened
 		s.mutex.Unlock()
 	}()
 }
