@@ -7,6 +7,7 @@ import (
 	"fmt"
 	"strings"
 	"sync"
+	"time"
 
 	"dsmdb/server/segments"
 	pb "go.etcd.io/etcd/etcdserver/etcdserverpb"
@@ -16,8 +17,9 @@ import (
 var JournalMagic = segments.Magic{'d', 's', 'm', 'd', 'b', 'j', 'n', 'l'}
 
 const (
-	journalAtOnce  = 4 << 20  // bytes that are written and forced together
-	journalWaiting = 64 << 20 // bytes that wait for the disk before no more batches are read
+	journalAtOnce  = 4 << 20               // bytes that are written and forced together
+	journalWaiting = 64 << 20              // bytes that wait for the disk before no more batches are read
+	journalPause   = 50 * time.Millisecond // between two writes, since calls wait for etcd's disks, and this may be one
 )
 
 // journal is a copy of the batches that have counted, on this machine's disk. Batches count whether or not they stand in
@@ -207,7 +209,11 @@ func (j *journal) write(ctx context.Context) error {
 			return ended("the journal in %s: %w", j.path, err)
 		}
 		j.wrote(some[:count], full)
-		if full && !rest(ctx, longPause) {
+		wait := journalPause
+		if full {
+			wait = longPause
+		}
+		if !rest(ctx, wait) && full {
 			return nil
 		}
 	}

@@ -129,7 +129,9 @@ func (l *listing) wanted(ctx context.Context, kv *mvccpb.KeyValue) (*stored, err
 	it, ok := r.storedOf(kv)
 	if !ok {
 		l.tally.add(it.key, false)
-		r.strangers.Add(1)
+		if r.decided.before(it.place()) {
+			r.strangers.Add(1)
+		}
 		return nil, nil
 	}
 	if number, ok := r.history.find(it.name); ok {
