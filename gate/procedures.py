@@ -14,6 +14,7 @@ KIT = f"{workspace.ROOT}/sdk"
 VERSION = 19  # of clang, with which the committed programs were made
 LIMIT = 600  # seconds, after which a command has failed
 OLDEST = 18  # that makes programs as the kit asks
+MADE = ("layout.json", "settings")  # beside a source of examples/, for a server
 INSTALL = f"apt-get install clang-{VERSION} libclang-rt-{VERSION}-dev"
 
 
@@ -63,8 +64,9 @@ def compiles(program, folder, room, clang, of_bytes):
     """Whether a source compiles, passes its test on the host, and its stories print what is committed; of the version
     that made the committed programs and scripts, also whether these come out again, byte for byte."""
     name = os.path.basename(folder)
-    anew = shutil.copytree(folder, f"{room}/{name}", ignore=shutil.ignore_patterns("*.bpf", "*.dsm", "*.o", "*.set"))
-    built = ran([f"{KIT}/c/build", f"{anew}/{name}.c"], program)
+    anew = shutil.copytree(folder, f"{room}/{name}", ignore=shutil.ignore_patterns("*.bpf", "*.dsm", "*.o", "*.set", *MADE))
+    made = ["--layout", f"{anew}/layout.json", "--settings", f"{anew}/settings"]
+    built = ran([f"{KIT}/c/build", f"{anew}/{name}.c", *made], program)
     if built.returncode:
         print(built.stdout + built.stderr)
         return False
@@ -80,7 +82,7 @@ def compiles(program, folder, room, clang, of_bytes):
         if (it := ran(step, program)).returncode:
             print(it.stdout + it.stderr)
             return False
-    committed = glob.glob(f"{folder}/*.bpf") + glob.glob(f"{folder}/*.dsm")
+    committed = [*glob.glob(f"{folder}/*.bpf"), *glob.glob(f"{folder}/*.dsm"), *(f"{folder}/{it}" for it in MADE)]
     return bool(stories) and (not of_bytes or all(same_file(it, f"{anew}/{os.path.basename(it)}") for it in committed))
 
 

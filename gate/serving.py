@@ -10,7 +10,7 @@ import tempfile
 from building import say
 from workspace import ROOT
 
-WORDS = ("serve", "begin", "join", "call", "add", "rows", "session", "status", "token")
+WORDS = ("serve", "begin", "join", "call", "add", "rows", "session", "status", "token", "demo")
 FOLDER = f"{ROOT}/server"
 BUILT = f"{ROOT}/out/server/dsmdb-server"
 SHARED = "/usr/share/gocode/src"  # where Debian's packages of Go have their sources
@@ -104,4 +104,4 @@ def run(program, words):
     server = built()
     if server is None:
         return 3
-    os.execve(server, ["dsmdb", *words], {**os.environ, "DSMDB": program})
+    os.execve(server, ["dsmdb", *words], {**os.environ, "DSMDB": program, "DSMDB_EXAMPLES": f"{ROOT}/examples"})

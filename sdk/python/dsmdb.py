@@ -271,13 +271,13 @@ class Client:
         state = self._state
         line = f"call {name} {args.hex() or '-'} {state.session} {state.next}"
         self._save(call=line, upto=max(self._known, after) + self._ahead, next=state.next + 1)
-        return self._settle(until, False, f" after {after}" * bool(after) + " fresh" * fresh)
+        return self._settle(until, False, after, f" after {after}" * bool(after) + " fresh" * fresh)
 
     def settle(self):
         """Asks what became of the call that isn't settled, and has it done where it wasn't."""
         if not self._state.call:
             raise ValueError("no call is to be settled")
-        return self._settle(time.monotonic() + self._patience, True, "")
+        return self._settle(time.monotonic() + self._patience, True, 0, "")
 
     def layout(self):
         """Returns the names and types of fields as the server has them; None where it has none."""
@@ -327,13 +327,13 @@ class Client:
 
     # ---- settling
 
-    def _settle(self, until, sent, when):
+    def _settle(self, until, sent, after, when):
         """Asks the call until it is settled. Where an earlier ask may have left a copy behind, the call is asked on rows
         behind those on which the copy may run, so that the answer holds of that too."""
         why = ""
         for tries in range(1 << 30):
             try:
-                answer = self._ask_call(until, sent, when)
+                answer = self._ask_call(until, sent, after, when)
             except OSError as fault:
                 sent, answer, why = sent or self._asked, None, str(fault)
                 self._next()
@@ -355,11 +355,11 @@ class Client:
             raise NothingSent(why)
         raise Unsettled(why)
 
-    def _ask_call(self, until, again, when):
+    def _ask_call(self, until, again, after, when):
         self._asked = False
         self._connect(until)
         line = self._state.call + (f" fresh after {self._state.upto}" if again else when)
-        upto = max(self._known, self._state.upto) + self._ahead
+        upto = max(self._known, self._state.upto if again else after) + self._ahead
         if upto > self._state.upto:
             self._save(upto=upto)
         self._asked = True

@@ -99,7 +99,7 @@ func (c *Client) Call(ctx context.Context, name string, args []byte, when When) 
 		return Answer{}, err
 	}
 	call := wire.Call{Name: name, Args: args, Session: uint32(c.state.Session), Sequence: uint32(c.state.Next)}
-	c.state.Call, c.state.Upto = call.String(), c.known+c.ahead
+	c.state.Call, c.state.Upto = call.String(), c.upto(when, false)
 	c.state.Next++
 	if err := c.store.Save(c.state); err != nil {
 		c.state.Call, c.state.Next = "", c.state.Next-1
@@ -170,7 +170,7 @@ func (c *Client) askCall(ctx context.Context, when When, again bool) (answer Ans
 	if when.After > 0 && !again {
 		line += fmt.Sprintf(" after %d", when.After)
 	}
-	if upto := c.upto(when); upto > c.state.Upto {
+	if upto := c.upto(when, again); upto > c.state.Upto {
 		c.state.Upto = upto
 		if err := c.store.Save(c.state); err != nil {
 			return Answer{}, false, err
@@ -195,13 +195,14 @@ func isBefore(answer Answer) bool {
 	return answer.Word == "late" || answer.Word == "refused" && (answer.Why == "role" || answer.Why == "rate")
 }
 
-// upto returns the position up to which a new ask may run.
-func (c *Client) upto(when When) uint64 {
+// upto returns the position up to which a new ask may run. One that is asked again runs behind all asks before.
+func (c *Client) upto(when When, again bool) uint64 {
 	from := c.known
-	for _, it := range []uint64{when.After, c.state.Upto} {
-		if it > from {
-			from = it
-		}
+	if when.After > from {
+		from = when.After
+	}
+	if again && c.state.Upto > from {
+		from = c.state.Upto
 	}
 	return from + c.ahead
 }

@@ -177,27 +177,24 @@ func (s *Site) refed() {
 	}
 }
 
-// watchEngine ends an engine that hangs.
-func (s *Site) watchEngine(context.Context) error {
+// watchEngine ends an engine that hangs: one that has something to answer, and for a time neither answers nor uses its
+// processor.
+func (s *Site) watchEngine() {
 	if s.pending.len() == 0 || s.restarting != nil && !s.restarting.ready {
-		s.heardAt, s.usedAt = s.now, 0
-		s.hangs = false
-		return nil
-	}
-	if s.now.Sub(s.heardAt) < hangsFor {
-		s.hangs = false
-		return nil
+		s.heardAt = s.now
+		return
 	}
 	used, err := s.engine.Processor()
 	if err != nil {
-		return nil // it ends, which its answers tell
+		return // it has ended, which its answers tell
 	}
-	if !s.hangs || used != s.usedAt {
-		s.hangs, s.usedAt, s.heardAt = true, used, s.now // it works, or is looked at once more
-		return nil
+	if used != s.usedAt {
+		s.usedAt, s.heardAt = used, s.now
+		return
 	}
-	s.say("the engine has neither answered nor worked for %v", hangsFor)
-	s.engine.Kill()
-	s.heardAt = s.now
-	return nil
+	if s.now.Sub(s.heardAt) > hangsFor {
+		s.say("the engine has neither answered nor worked for %v", hangsFor)
+		s.engine.Kill()
+		s.heardAt = s.now
+	}
 }

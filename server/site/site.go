@@ -80,7 +80,6 @@ type Site struct {
 	restarting *restart
 	heardAt    time.Time     // when the engine last answered, or was seen to work
 	usedAt     time.Duration // of processors, when it was last looked at
-	hangs      bool          // whether it was seen not to answer
 	restarts   int
 
 	vote       batch.Vote // by mutex
@@ -285,7 +284,7 @@ func (s *Site) turn(ctx context.Context, ticks, timer <-chan time.Time) (stop bo
 		s.now = time.Now()
 	case <-ticks:
 		s.now = time.Now()
-		return false, s.takeTick(ctx)
+		return false, s.takeTick()
 	}
 	return false, nil
 }
@@ -355,14 +354,12 @@ func (s *Site) takeEvents(some []order.Event, is bool) error {
 }
 
 // takeTick looks at what only time changes.
-func (s *Site) takeTick(ctx context.Context) error {
+func (s *Site) takeTick() error {
 	s.growth.note(s.now, s.end)
 	s.beginOrder()
 	s.fillUp()
 	s.expire()
-	if err := s.watchEngine(ctx); err != nil {
-		return err
-	}
+	s.watchEngine()
 	if s.isDiverged && s.diverged.Silences() && s.now.Sub(s.silentSince) > silentFor {
 		return &Stopped{fmt.Sprintf("other servers came to other answers than this one from position %d on: %d disagree, %d agree",
 			s.diverged.Since, s.diverged.Disagree, s.diverged.Agree)}

@@ -12,7 +12,7 @@ import unittest
 
 import fixtures
 import orders
-from etcd_nodes import NOT_THERE, THERE, Node, Relay
+from etcd_nodes import NOT_THERE, THERE, Node, Relay, free_port
 from fixtures import LONG, ROOT, ServerTest, until, words
 
 sys.path.insert(0, f"{ROOT}/sdk/python")
@@ -157,7 +157,9 @@ class Transfers(ServerTest):
         return self.serve(name, *self.words_of(name))
 
     def test_transfers(self):
-        servers = {it: self.start(it).begun() for it in self.names}
+        servers = {it: self.start(it) for it in self.names}
+        for it in servers.values():
+            it.begun()
         end = time.monotonic() + SECONDS
         clients = [Command(self, "client0", 1000, end), Command(self, "client1", 1001, end), Library(self, "client2", 1002, end)]
         for it in clients:
@@ -282,8 +284,30 @@ class TransfersOverEtcd(Transfers):
             found = orders.strings(f"{self.folder}/four/order-0000000001", journal=True, signed=True)
             return found if len(found) >= self.end else None
 
-        with open(f"{self.folder}/four.said"):
-            return until(whole)
+        return until(whole)
+
+    def are_alike(self, servers, end):
+        self.end = end
+        return super().are_alike(servers, end)
+
+
+class TransfersOverACluster(Transfers):
+    """At three servers that are a cluster of their own, which are killed and stopped one at a time."""
+
+    names = ("one", "two", "three")
+
+    def setUp(self):
+        super().setUp()
+        members = ",".join(f"{it}=http://127.0.0.1:{free_port()}" for it in self.names)
+        status, said = self.client("begin", *(f"{self.folder}/{it}" for it in self.names), "--cluster", members)
+        self.assertEqual(status, 0, said)
+
+    def strings(self):
+        def whole():
+            found = orders.strings(f"{self.folder}/one/order-0000000001", journal=True, signed=True)
+            return found if len(found) >= self.end else None
+
+        return until(whole)
 
     def are_alike(self, servers, end):
         self.end = end

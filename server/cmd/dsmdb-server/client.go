@@ -193,27 +193,24 @@ func (o *clientOptions) call(name string, given []string) error {
 	defer c.Close()
 	ctx, cancel := o.context()
 	defer cancel()
-	known, err := layoutOf(ctx, c)
-	if err != nil {
-		return failed(err)
-	}
+	known := &lateLayout{ctx: ctx, client: c}
 	args, err := argumentsOf(known, name, given)
 	if err != nil {
-		return err
+		return failed(err)
 	}
 	if line, is := c.Unsettled(); is {
 		answer, err := c.Settle(ctx)
 		if err != nil {
 			return failed(fmt.Errorf("earlier %s: %w", line, err))
 		}
-		fmt.Printf("earlier %s: %s\n", line, said(known, answer))
+		fmt.Printf("earlier %s: %s\n", line, known.said(answer))
 		if !answer.Settled() {
 			return ended(answer)
 		}
 	}
 	answer, err := c.Call(ctx, name, args, client.When{After: o.after, Fresh: o.fresh})
 	if answer.Line != "" {
-		if _, fault := fmt.Println(said(known, answer)); fault != nil {
+		if _, fault := fmt.Println(known.said(answer)); fault != nil {
 			return fault
 		}
 	}
@@ -223,8 +220,37 @@ func (o *clientOptions) call(name string, given []string) error {
 	return ended(answer)
 }
 
+// lateLayout is the server's layout, which is asked for once it is needed.
+type lateLayout struct {
+	ctx    context.Context
+	client *client.Client
+	asked  bool
+	found  *layout.Layout
+}
+
+func (l *lateLayout) get() (*layout.Layout, error) {
+	if l.asked {
+		return l.found, nil
+	}
+	found, err := layoutOf(l.ctx, l.client)
+	if err == nil {
+		l.asked, l.found = true, found
+	}
+	return found, err
+}
+
+// said returns an answer as people read it: codes by name.
+func (l *lateLayout) said(answer client.Answer) string {
+	if answer.Word == "cancelled" {
+		if found, err := l.get(); err == nil {
+			return fmt.Sprintf("cancelled %d code %s", answer.At, found.Code(answer.Value))
+		}
+	}
+	return answer.Line
+}
+
 // argumentsOf returns the bytes of arguments that are given by name, or as hex digits.
-func argumentsOf(known *layout.Layout, name string, given []string) ([]byte, error) {
+func argumentsOf(known *lateLayout, name string, given []string) ([]byte, error) {
 	if len(given) == 1 && !strings.Contains(given[0], "=") {
 		if given[0] == "-" {
 			return nil, nil
@@ -235,7 +261,11 @@ func argumentsOf(known *layout.Layout, name string, given []string) ([]byte, err
 		}
 		return args, nil
 	}
-	fields := known.Procedure(name)
+	found, err := known.get()
+	if err != nil {
+		return nil, err
+	}
+	fields := found.Procedure(name)
 	if fields == nil {
 		if len(given) == 0 {
 			return nil, nil
@@ -255,14 +285,6 @@ func argumentsOf(known *layout.Layout, name string, given []string) ([]byte, err
 		return nil, &status{statusWords, err}
 	}
 	return args, nil
-}
-
-// said returns an answer as people read it: codes by name.
-func said(known *layout.Layout, answer client.Answer) string {
-	if answer.Word == "cancelled" && known != nil {
-		return fmt.Sprintf("cancelled %d code %s", answer.At, known.Code(answer.Value))
-	}
-	return answer.Line
 }
 
 // ended returns the exit status of an answer.

@@ -55,7 +55,7 @@ func main() {
 		return words("%w: `dsmdb %s --help` says which there are", err, command.Name())
 	})
 	client := &clientOptions{}
-	root.AddCommand(serveCommand(), tokenCommand())
+	root.AddCommand(serveCommand(), tokenCommand(), demoCommand())
 	root.AddCommand(clusterCommands(client)...)
 	root.AddCommand(client.commands()...)
 	err := root.Execute()
