@@ -129,6 +129,7 @@ func (r *reader) recount(check *rule, kept *entryKept, last *place) error {
 		return fmt.Errorf("%s: %w", kept.key, err)
 	}
 	check.count(opened)
+	r.values, r.bytes = r.values+1, r.bytes+int64(len(it.value))
 	r.history.add(it.name, it.create)
 	*last = it.place()
 	return nil

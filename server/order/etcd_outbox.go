@@ -36,6 +36,9 @@ func (o *outbox) post(size int, events ...Event) {
 	}
 	o.mutex.Lock()
 	defer o.mutex.Unlock()
+	if o.isIgnored {
+		return // the channel may be closed
+	}
 	if len(o.waiting) == 0 && !o.sending {
 		select {
 		case o.events <- events:

@@ -4,6 +4,7 @@ import (
 	"bytes"
 	"fmt"
 	"os"
+	"runtime"
 	"sort"
 	"sync"
 	"sync/atomic"
@@ -141,4 +142,42 @@ func timesOf(callers int, do func()) times {
 	all.Wait()
 	sort.Slice(took, func(i, j int) bool { return took[i] < took[j] })
 	return times{len(took), time.Since(began), took[len(took)/2], took[len(took)*99/100]}
+}
+
+// TestLongOrder prints how fast an order of many batches is read, from etcd and from the journal; it wants nothing.
+func TestLongOrder(t *testing.T) {
+	if os.Getenv("DSMDB_LONG") == "" {
+		t.Skip("DSMDB_LONG isn't set")
+	}
+	etcd, journal, kv := runEtcd(t, 1), t.TempDir(), pb.KVClient(nil)
+	kv = etcd.kv(0)
+	const batches = 200_000
+	text := string(bytes.Repeat([]byte("x"), 1000))
+	for number := 0; number < batches; number += 100 {
+		asked := &pb.TxnRequest{}
+		for at := 0; at < 100; at++ {
+			key := keyOf(uint64(number), byte(at))
+			asked.Success = append(asked.Success, &pb.RequestOp{Request: &pb.RequestOp_RequestPut{RequestPut: &pb.PutRequest{
+				Key: []byte(key), Value: []byte(batchOf(1, nil, key, text))}}})
+		}
+		if _, err := kv.Txn(within(t), asked); err != nil {
+			t.Fatal(err)
+		}
+	}
+	for _, from := range []string{"etcd", "the journal"} {
+		began := time.Now()
+		opened, err := OpenEtcd(EtcdOptions{
+			Endpoints: etcd.endpoints(), Prefix: "dsmdb", Number: 1, Maker: maker, Journal: journal, Log: t.Logf,
+		})
+		if err != nil {
+			t.Fatal(err)
+		}
+		paced(t, opened)
+		var memory runtime.MemStats
+		runtime.ReadMemStats(&memory)
+		t.Logf("%d batches from %s: %v, heap %d MB", batches, from, time.Since(began), memory.HeapAlloc>>20)
+		if err := opened.Close(); err != nil {
+			t.Fatal(err)
+		}
+	}
 }
