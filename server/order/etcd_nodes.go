@@ -206,7 +206,7 @@ func (n *nodes) ask(ctx context.Context, ask question) error {
 	if err == nil || errors.Is(err, errPast) {
 		return err
 	}
-	if kind := faultOf(ctx, err); kind == lost || kind == refused || kind == badToken {
+	if faultOf(ctx, err) == lost {
 		n.leave(at)
 	}
 	return err

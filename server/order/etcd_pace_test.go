@@ -6,6 +6,7 @@ import (
 	"os"
 	"runtime"
 	"sort"
+	"strings"
 	"sync"
 	"sync/atomic"
 	"testing"
@@ -149,21 +150,9 @@ func TestLongOrder(t *testing.T) {
 	if os.Getenv("DSMDB_LONG") == "" {
 		t.Skip("DSMDB_LONG isn't set")
 	}
-	etcd, journal, kv := runEtcd(t, 1), t.TempDir(), pb.KVClient(nil)
-	kv = etcd.kv(0)
+	etcd, journal := runEtcd(t, 1), t.TempDir()
 	const batches = 200_000
-	text := string(bytes.Repeat([]byte("x"), 1000))
-	for number := 0; number < batches; number += 100 {
-		asked := &pb.TxnRequest{}
-		for at := 0; at < 100; at++ {
-			key := keyOf(uint64(number), byte(at))
-			asked.Success = append(asked.Success, &pb.RequestOp{Request: &pb.RequestOp_RequestPut{RequestPut: &pb.PutRequest{
-				Key: []byte(key), Value: []byte(batchOf(1, nil, key, text))}}})
-		}
-		if _, err := kv.Txn(within(t), asked); err != nil {
-			t.Fatal(err)
-		}
-	}
+	etcd.fillOrder(0, batches, strings.Repeat("x", 1000))
 	for _, from := range []string{"etcd", "the journal"} {
 		began := time.Now()
 		opened, err := OpenEtcd(EtcdOptions{
