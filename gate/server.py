@@ -5,7 +5,7 @@ import tempfile
 import serving
 from serving import Tree
 
-FUZZED = {"batch": "FuzzRead", "wire": "FuzzRead"}  # by package
+FUZZED = [("batch", "FuzzRead"), ("wire", "FuzzRead"), ("wire", "FuzzReadEntry"), ("layout", "FuzzPack"), ("api", "FuzzCall")]
 SECONDS = 20  # of fuzzing, for each
 
 
@@ -59,6 +59,6 @@ def run_long(program, tally):
         found = tree.ran("go", "vet", "./...")
         tally.tell("go vet of the server", found.returncode == 0, found.stdout)
         run_tests(tree, tally, "-race", "-short")
-        for package, name in FUZZED.items():
-            found = tree.ran("go", "test", f"-fuzz={name}", f"-fuzztime={SECONDS}s", f"./{package}")
-            tally.tell(f"fuzzing of {package}", found.returncode == 0, found.stdout[-2000:])
+        for package, name in FUZZED:
+            found = tree.ran("go", "test", f"-fuzz={name}$", f"-fuzztime={SECONDS}s", f"./{package}")
+            tally.tell(f"fuzzing of {package} ({name})", found.returncode == 0, found.stdout[-2000:])
