@@ -271,6 +271,24 @@ func TestEtcdctlAsksTheSocket(t *testing.T) {
 	}
 }
 
+// A folder whose path is too long for a socket has none, and etcdctl can't ask its member.
+func TestALongPathHasNoSocket(t *testing.T) {
+	s := prepared(t, "http", nil, "only")[0]
+	long := filepath.Join(s.options.Folder, strings.Repeat("x", 100))
+	if err := os.Mkdir(long, 0o700); err != nil {
+		t.Fatal(err)
+	}
+	s.options.Folder = long
+	if err := Begin(s.options); err != nil {
+		t.Fatal(err)
+	}
+	s.start()
+	s.open()
+	if s.append("1"); s.member.Socket() != "" {
+		t.Errorf("%s is a socket", s.member.Socket())
+	}
+}
+
 func TestWhatIsNoClusterIsRefused(t *testing.T) {
 	for _, it := range []struct {
 		o    Options

@@ -7,6 +7,7 @@ import (
 	"fmt"
 	"strings"
 	"sync"
+	"syscall"
 	"time"
 
 	"dsmdb/server/segments"
@@ -86,11 +87,32 @@ func entryOf(kept []byte) (*entryKept, error) {
 	}, nil
 }
 
-// readJournal opens the journal, and counts the batches that stand there.
+// readJournal opens the journal, and counts the batches that stand there. Where the disk is full it waits for room.
 func (r *reader) readJournal(ctx context.Context) error {
+	for {
+		log, last, err := r.openJournal(ctx)
+		if err == nil {
+			r.decided = last
+			r.nodes.saw(last.revision)
+			r.journal.opened(log)
+			return r.handOn(ctx)
+		}
+		if !errors.Is(err, segments.ErrFull) && !errors.Is(err, syscall.ENOSPC) && !errors.Is(err, syscall.EDQUOT) {
+			return ended("the journal in %s: %w", r.journal.path, err)
+		}
+		r.once("the journal's disk is full: the order is read once there is room")
+		if !rest(ctx, longPause) {
+			return nil
+		}
+	}
+}
+
+// openJournal opens the journal, and notes its batches. It returns the place of the last one.
+func (r *reader) openJournal(ctx context.Context) (log *segments.Log, last place, err error) {
 	check := rule{secret: r.secret}
-	var last place
-	log, err := segments.Open(r.journal.path, segments.Options{Magic: JournalMagic, CutDamage: true}, func(kept []byte) error {
+	r.history, r.values, r.bytes = history{}, 0, 0
+	options := segments.Options{Magic: JournalMagic, CutDamage: true}
+	log, err = segments.Open(r.journal.path, options, func(kept []byte) error {
 		it, err := entryOf(kept)
 		if err == nil {
 			err = ctx.Err()
@@ -106,13 +128,7 @@ func (r *reader) readJournal(ctx context.Context) error {
 		}
 		return r.recount(&check, it, &last)
 	})
-	if err != nil {
-		return ended("the journal in %s: %w", r.journal.path, err)
-	}
-	r.decided = last
-	r.nodes.saw(last.revision)
-	r.journal.opened(log)
-	return r.handOn(ctx)
+	return log, last, err
 }
 
 // recount counts a batch of the journal once more.
