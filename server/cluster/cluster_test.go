@@ -348,3 +348,18 @@ func TestAFolderIsPreparedOnce(t *testing.T) {
 		t.Errorf("%v", err)
 	}
 }
+
+func FuzzMarks(f *testing.F) {
+	f.Add((&mark{"a", begun, members{"a": "http://127.0.0.1:1", "b": "https://b:2"}}).String())
+	f.Add("dsmdb member of a cluster, form 1\nname a\nstate ran\nmembers b=http://127.0.0.1:1,a=http://c:1\n")
+	f.Fuzz(func(t *testing.T, text string) {
+		found, err := markOf(text)
+		if err != nil {
+			return
+		}
+		again, err := markOf(found.String())
+		if err != nil || !reflect.DeepEqual(again, found) {
+			t.Errorf("%q is read as %v, and again as %v, %v", text, found, again, err)
+		}
+	})
+}
