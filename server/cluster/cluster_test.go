@@ -105,13 +105,15 @@ func (s *server) open() {
 	if err != nil {
 		s.t.Fatal(err)
 	}
+	s.mutex.Lock()
 	s.order, s.strings, s.own, s.closed = opened, nil, map[*order.String]bool{}, false
+	s.mutex.Unlock()
 	s.t.Cleanup(func() { opened.Close() })
 	go func() {
 		for some := range opened.Events() {
 			s.mutex.Lock()
 			for _, event := range some {
-				if it, ok := event.(*order.Counted); ok {
+				if it, ok := event.(*order.Counted); ok && s.order == opened {
 					for _, text := range it.Strings {
 						s.strings = append(s.strings, string(text))
 					}
@@ -123,7 +125,7 @@ func (s *server) open() {
 			s.mutex.Unlock()
 		}
 		s.mutex.Lock()
-		s.closed = true
+		s.closed = s.closed || s.order == opened
 		s.mutex.Unlock()
 	}()
 }
@@ -269,6 +271,24 @@ func TestEtcdctlAsksTheSocket(t *testing.T) {
 	}
 }
 
+// A folder whose path is too long for a socket has none, and etcdctl can't ask its member.
+func TestALongPathHasNoSocket(t *testing.T) {
+	s := prepared(t, "http", nil, "only")[0]
+	long := filepath.Join(s.options.Folder, strings.Repeat("x", 100))
+	if err := os.Mkdir(long, 0o700); err != nil {
+		t.Fatal(err)
+	}
+	s.options.Folder = long
+	if err := Begin(s.options); err != nil {
+		t.Fatal(err)
+	}
+	s.start()
+	s.open()
+	if s.append("1"); s.member.Socket() != "" {
+		t.Errorf("%s is a socket", s.member.Socket())
+	}
+}
+
 func TestWhatIsNoClusterIsRefused(t *testing.T) {
 	for _, it := range []struct {
 		o    Options
@@ -327,4 +347,19 @@ func TestAFolderIsPreparedOnce(t *testing.T) {
 	if err := Begin(s.options); err == nil || !strings.HasSuffix(err.Error(), "it has data of a member in etcd") {
 		t.Errorf("%v", err)
 	}
+}
+
+func FuzzMarks(f *testing.F) {
+	f.Add((&mark{"a", begun, members{"a": "http://127.0.0.1:1", "b": "https://b:2"}}).String())
+	f.Add("dsmdb member of a cluster, form 1\nname a\nstate ran\nmembers b=http://127.0.0.1:1,a=http://c:1\n")
+	f.Fuzz(func(t *testing.T, text string) {
+		found, err := markOf(text)
+		if err != nil {
+			return
+		}
+		again, err := markOf(found.String())
+		if err != nil || !reflect.DeepEqual(again, found) {
+			t.Errorf("%q is read as %v, and again as %v, %v", text, found, again, err)
+		}
+	})
 }

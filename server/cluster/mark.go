@@ -48,7 +48,12 @@ func readMark(folder string) (*mark, error) {
 	if err != nil {
 		return nil, err
 	}
-	lines := strings.Split(string(raw), "\n")
+	return markOf(string(raw))
+}
+
+// markOf reads a mark.
+func markOf(text string) (*mark, error) {
+	lines, err := strings.Split(text, "\n"), error(nil)
 	if len(lines) != 5 || lines[0] != markHead || lines[4] != "" {
 		return nil, fmt.Errorf("%s is none that this program knows", markName)
 	}

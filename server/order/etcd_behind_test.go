@@ -58,10 +58,10 @@ func (c *etcds) fill(count int) {
 		all.Add(1)
 		go func(worker int) {
 			defer all.Done()
-			for at := 0; at < count/30; at++ {
-				if _, err := kv.Put(within(c.t), &pb.PutRequest{Key: []byte(fmt.Sprint("else/", worker)), Value: []byte("x")}); err != nil {
-					c.t.Error(err)
-					return
+			for at, failures := 0, 0; at < count/30 && failures < 10; at++ {
+				asked := &pb.PutRequest{Key: []byte(fmt.Sprint("else/", worker)), Value: []byte("x")}
+				if _, err := kv.Put(within(c.t), asked); err != nil {
+					failures++ // the member that was stopped may have led
 				}
 			}
 		}(worker)

@@ -10,7 +10,7 @@ import (
 const (
 	askAnyway  = 2 * time.Second        // after which etcd is asked though nobody wants to know
 	showIn     = 3 * time.Second        // that the watch may take to show what etcd has counted
-	showOthers = 200 * time.Millisecond // the same, where only keys that don't count may be wanting
+	showOthers = 100 * time.Millisecond // the same, where only keys that don't count may be wanting
 )
 
 // ends are questions for the order's end. The order's mutex guards them.

@@ -8,6 +8,7 @@ import (
 	"path/filepath"
 	"strings"
 	"sync/atomic"
+	"syscall"
 	"testing"
 
 	"dsmdb/server/batch"
@@ -221,4 +222,29 @@ func TestAFullDiskOfTheJournalRefusesUntilThereIsRoom(t *testing.T) {
 	if fmt.Sprint(again.read()) != "[1 2 3 4 5]" || fmt.Sprint(again.reread()) != "[1 2 3 4 5]" {
 		t.Errorf("%v, %v", again.read(), again.reread())
 	}
+}
+
+// A disk that is full at the start is waited for.
+func TestAStartWaitsForRoomForTheJournal(t *testing.T) {
+	t.Parallel()
+	folder := t.TempDir()
+	if err := syscall.Mount("dsmdb-test", folder, "tmpfs", 0, "size=24m"); err != nil {
+		t.Skipf("mounting a small disk: %v", err)
+	}
+	t.Cleanup(func() { syscall.Unmount(folder, syscall.MNT_DETACH) })
+	etcd := runEtcd(t, 1)
+	w := etcd.opened(func(o *EtcdOptions) { o.Journal = folder })
+	w.appended("1")
+	w.Close()
+	w = etcd.opened(func(o *EtcdOptions) { o.Journal = folder })
+	w.until("full", func() bool { return w.told("the journal's disk is full: the order is read once there is room") })
+	if err := syscall.Mount("dsmdb-test", folder, "tmpfs", syscall.MS_REMOUNT, "size=64m"); err != nil {
+		t.Fatal(err)
+	}
+	w.appended("2")
+	if w.untilEnd(); fmt.Sprint(w.read()) != "[1 2]" {
+		t.Errorf("%v", w.read())
+	}
+	w.sound()
+	w.Close()
 }

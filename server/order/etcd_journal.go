@@ -7,6 +7,8 @@ import (
 	"fmt"
 	"strings"
 	"sync"
+	"syscall"
+	"time"
 
 	"dsmdb/server/segments"
 	pb "go.etcd.io/etcd/etcdserver/etcdserverpb"
@@ -16,8 +18,9 @@ import (
 var JournalMagic = segments.Magic{'d', 's', 'm', 'd', 'b', 'j', 'n', 'l'}
 
 const (
-	journalAtOnce  = 4 << 20  // bytes that are written and forced together
-	journalWaiting = 64 << 20 // bytes that wait for the disk before no more batches are read
+	journalAtOnce  = 4 << 20               // bytes that are written and forced together
+	journalWaiting = 64 << 20              // bytes that wait for the disk before no more batches are read
+	journalPause   = 50 * time.Millisecond // between two writes, since calls wait for etcd's disks, and this may be one
 )
 
 // journal is a copy of the batches that have counted, on this machine's disk. Batches count whether or not they stand in
@@ -84,11 +87,32 @@ func entryOf(kept []byte) (*entryKept, error) {
 	}, nil
 }
 
-// readJournal opens the journal, and counts the batches that stand there.
+// readJournal opens the journal, and counts the batches that stand there. Where the disk is full it waits for room.
 func (r *reader) readJournal(ctx context.Context) error {
+	for {
+		log, last, err := r.openJournal(ctx)
+		if err == nil {
+			r.decided = last
+			r.nodes.saw(last.revision)
+			r.journal.opened(log)
+			return r.handOn(ctx)
+		}
+		if !errors.Is(err, segments.ErrFull) && !errors.Is(err, syscall.ENOSPC) && !errors.Is(err, syscall.EDQUOT) {
+			return ended("the journal in %s: %w", r.journal.path, err)
+		}
+		r.once("the journal's disk is full: the order is read once there is room")
+		if !rest(ctx, longPause) {
+			return nil
+		}
+	}
+}
+
+// openJournal opens the journal, and notes its batches. It returns the place of the last one.
+func (r *reader) openJournal(ctx context.Context) (log *segments.Log, last place, err error) {
 	check := rule{secret: r.secret}
-	var last place
-	log, err := segments.Open(r.journal.path, segments.Options{Magic: JournalMagic, CutDamage: true}, func(kept []byte) error {
+	r.history, r.values, r.bytes = history{}, 0, 0
+	options := segments.Options{Magic: JournalMagic, CutDamage: true}
+	log, err = segments.Open(r.journal.path, options, func(kept []byte) error {
 		it, err := entryOf(kept)
 		if err == nil {
 			err = ctx.Err()
@@ -104,13 +128,7 @@ func (r *reader) readJournal(ctx context.Context) error {
 		}
 		return r.recount(&check, it, &last)
 	})
-	if err != nil {
-		return ended("the journal in %s: %w", r.journal.path, err)
-	}
-	r.decided = last
-	r.nodes.saw(last.revision)
-	r.journal.opened(log)
-	return r.handOn(ctx)
+	return log, last, err
 }
 
 // recount counts a batch of the journal once more.
@@ -127,6 +145,7 @@ func (r *reader) recount(check *rule, kept *entryKept, last *place) error {
 		return fmt.Errorf("%s: %w", kept.key, err)
 	}
 	check.count(opened)
+	r.values, r.bytes = r.values+1, r.bytes+int64(len(it.value))
 	r.history.add(it.name, it.create)
 	*last = it.place()
 	return nil
@@ -207,7 +226,11 @@ func (j *journal) write(ctx context.Context) error {
 			return ended("the journal in %s: %w", j.path, err)
 		}
 		j.wrote(some[:count], full)
-		if full && !rest(ctx, longPause) {
+		wait := journalPause
+		if full {
+			wait = longPause
+		}
+		if !rest(ctx, wait) && full {
 			return nil
 		}
 	}

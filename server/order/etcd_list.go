@@ -11,11 +11,13 @@ import (
 )
 
 const (
-	keysAtOnce   = 1000    // names that are asked for together
+	span         = 5000    // hints whose names are asked for one behind the other
+	fewNames     = 200     // that are asked for together, before it is known how long their values are
+	manyNames    = 5000    // the same, at most
 	mostAtOnce   = 1000    // values
 	fewBytes     = 1 << 20 // an answer with fewer is followed by a larger one
 	manyBytes    = 8 << 20 // an answer with more is followed by a smaller one
-	everyHint    = greatest + 1
+	everyHint    = 10 * greatest
 	oneRightWant = "none of the batches that stand in %s carries this server's signature: the secret isn't theirs"
 )
 
@@ -62,29 +64,40 @@ func (r *reader) list(ctx context.Context) error {
 	r.retally()
 	r.mutex.Unlock()
 	l.tally = newTally(r.keys.folder, floorOf(r.rule.counted))
-	key := r.keys.from(l.from)
+	start, upto := r.keys.from(l.from), l.from+span
 	if r.whole {
-		key = r.keys.folder
+		start = r.keys.folder
 	}
-	for more := true; more; {
-		answer, err := l.ask(ctx, key)
+	for {
+		answer, err := l.ask(ctx, start, upto)
 		if err != nil {
 			return err
 		}
-		if more = answer.More && len(answer.Kvs) > 0; more {
-			key = string(answer.Kvs[len(answer.Kvs)-1].Key) + "\x00"
-		}
-		if err := l.page(ctx, answer.Kvs, more); err != nil {
+		more := answer.More && len(answer.Kvs) > 0
+		if err := l.page(ctx, answer.Kvs, more, upto); err != nil {
 			return err
 		}
+		switch {
+		case more:
+			start = string(answer.Kvs[len(answer.Kvs)-1].Key) + "\x00"
+		case upto == everyHint:
+			return l.finish()
+		case len(answer.Kvs) == 0 || upto > greatest-span:
+			start, upto = r.keys.from(upto), everyHint // what strangers may have put there
+		default:
+			start, upto = r.keys.from(upto), upto+span
+		}
 	}
-	return l.finish()
 }
 
-// ask asks for the names from a key on.
-func (l *listing) ask(ctx context.Context, key string) (*pb.RangeResponse, error) {
+// ask asks for the names from a key up to a hint: etcd looks at all that there are in a range, however few it tells.
+func (l *listing) ask(ctx context.Context, start string, upto uint64) (*pb.RangeResponse, error) {
+	end := l.reader.keys.end()
+	if upto < everyHint {
+		end = l.reader.keys.from(upto)
+	}
 	answer, err := l.reader.nodes.rangeAgain(ctx, &pb.RangeRequest{
-		Key: []byte(key), RangeEnd: []byte(l.reader.keys.end()), Limit: keysAtOnce, KeysOnly: true, Revision: l.revision,
+		Key: []byte(start), RangeEnd: []byte(end), Limit: l.reader.namesAtOnce(), KeysOnly: true, Revision: l.revision,
 	})
 	if err == nil && l.revision == 0 {
 		l.revision = answer.Header.Revision
@@ -92,9 +105,24 @@ func (l *listing) ask(ctx context.Context, key string) (*pb.RangeResponse, error
 	return answer, err
 }
 
-// page takes some names, in the order of the keys, and decides what can be decided: a name that is still to come has a
-// hint from the last one's on, so it takes no place before as many batches have counted.
-func (l *listing) page(ctx context.Context, found []*mvccpb.KeyValue, more bool) error {
+// namesAtOnce returns how many names are asked for together. Etcd reads their values too, though it doesn't tell them.
+func (r *reader) namesAtOnce() int64 {
+	if r.values == 0 {
+		return fewNames
+	}
+	switch fitting := manyBytes / (r.bytes/r.values + 1); {
+	case fitting < fewNames/10:
+		return fewNames / 10
+	case fitting > manyNames:
+		return manyNames
+	default:
+		return fitting
+	}
+}
+
+// page takes some names, in the order of the keys up to a hint, and decides what can be decided: a name that is still to
+// come has a hint from the last one's on, so it takes no place before as many batches have counted.
+func (l *listing) page(ctx context.Context, found []*mvccpb.KeyValue, more bool, upto uint64) error {
 	var run []*stored // keys side by side whose values are wanted
 	for _, kv := range found {
 		it, err := l.wanted(ctx, kv)
@@ -113,7 +141,7 @@ func (l *listing) page(ctx context.Context, found []*mvccpb.KeyValue, more bool)
 	if err := l.gather(ctx, run); err != nil {
 		return err
 	}
-	complete := uint64(everyHint)
+	complete := upto
 	if more {
 		complete = 0
 		if hint, ok := hintOf(string(found[len(found)-1].Key)[len(l.reader.keys.folder):]); ok {
@@ -129,7 +157,9 @@ func (l *listing) wanted(ctx context.Context, kv *mvccpb.KeyValue) (*stored, err
 	it, ok := r.storedOf(kv)
 	if !ok {
 		l.tally.add(it.key, false)
-		r.strangers.Add(1)
+		if r.decided.before(it.place()) {
+			r.strangers.Add(1)
+		}
 		return nil, nil
 	}
 	if number, ok := r.history.find(it.name); ok {

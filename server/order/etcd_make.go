@@ -67,7 +67,7 @@ func (e *Etcd) make(ctx context.Context) error {
 		if own == nil || err != nil {
 			return err
 		}
-		wanted, dropped := sorted(strings)
+		wanted, dropped := stillWanted(strings)
 		if len(dropped) > 0 {
 			e.out.post(0, &Dropped{dropped})
 		}
@@ -116,24 +116,13 @@ func (e *Etcd) nextOwn(ctx context.Context) (own *ownMade, strings []*String, vo
 	own = &ownMade{name: drawn, key: e.keys.of(drawn), cancel: func() {}}
 	m.own[drawn] = own
 	m.puts++
-	strings, m.waiting = fitting(m.waiting, batch.Longest-batch.HeaderSize(e.maker.Version))
+	strings, m.waiting = cutToRoom(m.waiting, batch.Longest-batch.HeaderSize(e.maker.Version))
 	vote, m.wantVote = m.wantVote, false
 	return own, strings, vote, nil
 }
 
-// fitting returns the first strings, as many as one batch has room for, and the rest.
-func fitting(strings []*String, room int) (first, rest []*String) {
-	size := 0
-	for at, it := range strings {
-		if size += batch.SizeOf(it.Text); size > room && at > 0 {
-			return strings[:at:at], strings[at:]
-		}
-	}
-	return strings, nil
-}
-
-// sorted asks of each string whether it is still wanted.
-func sorted(strings []*String) (wanted, dropped []*String) {
+// stillWanted asks of each string whether it is still wanted.
+func stillWanted(strings []*String) (wanted, dropped []*String) {
 	for _, it := range strings {
 		if it.wanted() {
 			wanted = append(wanted, it)
@@ -269,7 +258,7 @@ func (e *Etcd) tryAgain(own *ownMade, kind fault) bool {
 	own.unsure = own.unsure || kind == lost || kind == full || kind == tooLarge
 	last := own.tries[len(own.tries)-1].strings
 	e.mutex.Unlock()
-	wanted, dropped := sorted(last)
+	wanted, dropped := stillWanted(last)
 	if len(dropped) == 0 {
 		return true
 	}
@@ -377,7 +366,7 @@ func (e *Etcd) sweep() {
 	waiting := e.making.waiting
 	e.making.waiting = nil
 	e.mutex.Unlock()
-	wanted, dropped := sorted(waiting)
+	wanted, dropped := stillWanted(waiting)
 	e.mutex.Lock()
 	defer e.mutex.Unlock()
 	e.making.waiting = append(wanted, e.making.waiting...)

@@ -206,7 +206,7 @@ func (n *nodes) ask(ctx context.Context, ask question) error {
 	if err == nil || errors.Is(err, errPast) {
 		return err
 	}
-	if kind := faultOf(ctx, err); kind == lost || kind == refused || kind == badToken {
+	if faultOf(ctx, err) == lost {
 		n.leave(at)
 	}
 	return err
@@ -304,29 +304,32 @@ type reach struct {
 	mutex sync.Mutex
 	since time.Time
 	why   error
-	told  map[string]bool // what was said since etcd answered last
+	told  map[string]time.Time // what was said, and when
 }
 
 func (r *reach) succeeded() {
 	r.mutex.Lock()
 	defer r.mutex.Unlock()
-	if r.why != nil {
-		r.why, r.told = nil, nil
-	}
+	r.why = nil
 }
 
-// failed returns whether the reason is new since etcd answered last.
+// failed returns whether the reason wasn't told in the last minute.
 func (r *reach) failed(why error) bool {
 	r.mutex.Lock()
 	defer r.mutex.Unlock()
+	now := time.Now()
 	if r.why == nil {
-		r.since, r.told = time.Now(), map[string]bool{}
+		r.since = now
 	}
 	r.why = why
-	if len(r.told) > 100 || r.told[why.Error()] {
+	if len(r.told) > 1000 || r.told == nil {
+		r.told = map[string]time.Time{}
+	}
+	told, is := r.told[why.Error()]
+	if is && now.Sub(told) < time.Minute {
 		return false
 	}
-	r.told[why.Error()] = true
+	r.told[why.Error()] = now
 	return true
 }
 

@@ -17,6 +17,7 @@ type outbox struct {
 	more      sync.Cond
 	waiting   []Event
 	size      int
+	sending   bool // whether some that were taken from what waits aren't handed on yet
 	finished  bool
 	isIgnored bool
 }
@@ -28,15 +29,25 @@ func newOutbox() *outbox {
 	return o
 }
 
-// post hands on events, whose strings have so many bytes.
+// post hands on events, whose strings have so many bytes: at once where somebody waits for them.
 func (o *outbox) post(size int, events ...Event) {
 	if len(events) == 0 {
 		return
 	}
 	o.mutex.Lock()
+	defer o.mutex.Unlock()
+	if o.isIgnored {
+		return // the channel may be closed
+	}
+	if len(o.waiting) == 0 && !o.sending {
+		select {
+		case o.events <- events:
+			return
+		default:
+		}
+	}
 	o.waiting = append(o.waiting, events...)
 	o.size += size
-	o.mutex.Unlock()
 	o.more.Broadcast()
 }
 
@@ -93,14 +104,14 @@ func (o *outbox) run() {
 func (o *outbox) next() []Event {
 	o.mutex.Lock()
 	defer o.mutex.Unlock()
-	for len(o.waiting) == 0 && !o.finished && !o.isIgnored {
+	for o.sending = false; len(o.waiting) == 0 && !o.finished && !o.isIgnored; {
 		o.more.Wait()
 	}
 	if len(o.waiting) == 0 || o.isIgnored {
 		return nil
 	}
 	some := o.waiting
-	o.waiting, o.size = nil, 0
+	o.waiting, o.size, o.sending = nil, 0, true
 	o.more.Broadcast()
 	return some
 }

@@ -4,7 +4,9 @@ import (
 	"bytes"
 	"fmt"
 	"os"
+	"runtime"
 	"sort"
+	"strings"
 	"sync"
 	"sync/atomic"
 	"testing"
@@ -141,4 +143,30 @@ func timesOf(callers int, do func()) times {
 	all.Wait()
 	sort.Slice(took, func(i, j int) bool { return took[i] < took[j] })
 	return times{len(took), time.Since(began), took[len(took)/2], took[len(took)*99/100]}
+}
+
+// TestLongOrder prints how fast an order of many batches is read, from etcd and from the journal; it wants nothing.
+func TestLongOrder(t *testing.T) {
+	if os.Getenv("DSMDB_LONG") == "" {
+		t.Skip("DSMDB_LONG isn't set")
+	}
+	etcd, journal := runEtcd(t, 1), t.TempDir()
+	const batches = 200_000
+	etcd.fillOrder(0, batches, strings.Repeat("x", 1000))
+	for _, from := range []string{"etcd", "the journal"} {
+		began := time.Now()
+		opened, err := OpenEtcd(EtcdOptions{
+			Endpoints: etcd.endpoints(), Prefix: "dsmdb", Number: 1, Maker: maker, Journal: journal, Log: t.Logf,
+		})
+		if err != nil {
+			t.Fatal(err)
+		}
+		paced(t, opened)
+		var memory runtime.MemStats
+		runtime.ReadMemStats(&memory)
+		t.Logf("%d batches from %s: %v, heap %d MB", batches, from, time.Since(began), memory.HeapAlloc>>20)
+		if err := opened.Close(); err != nil {
+			t.Fatal(err)
+		}
+	}
 }

@@ -240,17 +240,7 @@ func TestABatchThatComesTooLateIsMadeAnew(t *testing.T) {
 	etcd.put(key, batchOf(1, nil, key, "first"))
 	slow.until("first", func() bool { return len(slow.strings) == 1 })
 	it := slow.append1("late")
-	for number := 1; number <= window+100; number += 100 {
-		asked := &pb.TxnRequest{}
-		for at := 0; at < 100; at++ {
-			key := keyOf(uint64(number), byte(at))
-			asked.Success = append(asked.Success, &pb.RequestOp{Request: &pb.RequestOp_RequestPut{RequestPut: &pb.PutRequest{
-				Key: []byte(key), Value: []byte(batchOf(1, nil, key, key))}}})
-		}
-		if _, err := etcd.kv(0).Txn(within(t), asked); err != nil {
-			t.Fatal(err)
-		}
-	}
+	etcd.fillOrder(1, window+200, "x")
 	slow.until("late one counts", func() bool { return slow.own[it] > window })
 	close(held)
 	slow.until("late one stands in etcd", func() bool {
@@ -267,6 +257,53 @@ func TestABatchThatComesTooLateIsMadeAnew(t *testing.T) {
 	}
 	if late != 1 || later.Strangers() != 0 {
 		t.Errorf("%d late ones, %d strangers", late, later.Strangers())
+	}
+}
+
+// fillOrder puts batches, from a number up to another, as servers without a secret would, a hundred with one revision.
+func (c *etcds) fillOrder(from, upto int, text string) {
+	c.t.Helper()
+	kv := c.kv(0)
+	for number := from; number < upto; number += 100 {
+		asked := &pb.TxnRequest{}
+		for at := 0; at < 100; at++ {
+			key := keyOf(uint64(number), byte(at))
+			asked.Success = append(asked.Success, &pb.RequestOp{Request: &pb.RequestOp_RequestPut{RequestPut: &pb.PutRequest{
+				Key: []byte(key), Value: []byte(batchOf(1, nil, key, text))}}})
+		}
+		if _, err := kv.Txn(within(c.t), asked); err != nil {
+			c.t.Fatal(err)
+		}
+	}
+}
+
+// What stands so far back that no listing has it any more isn't forgotten.
+func TestTheFarPastIsKeptToo(t *testing.T) {
+	t.Parallel()
+	etcd := runEtcd(t, 1)
+	etcd.fillOrder(0, 100, "x")
+	strange := keyOf(20, 200)
+	etcd.put(strange, "a stranger's")
+	live, other := etcd.opened(nil), etcd.opened(nil)
+	live.untilBegun()
+	etcd.fillOrder(100, 6*window, "x")
+	alike(live, other)
+	live.mutex.Lock()
+	count := len(live.strings)
+	live.mutex.Unlock()
+	if count < 6*window {
+		t.Fatalf("%d strings", count)
+	}
+	etcd.put(strange, "a stranger's again")
+	etcd.remove(strange)
+	alike(live, other)
+	live.appended("more")
+	key := keyOf(0, 7)
+	etcd.remove(key)
+	for _, w := range []*watched{live, other} {
+		if why := w.untilEnded(); why != "somebody changed the past: "+key+", a batch of the order, was deleted" {
+			t.Errorf("%s", why)
+		}
 	}
 }
 

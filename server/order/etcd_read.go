@@ -19,6 +19,8 @@ type reader struct {
 	whole   bool  // whether the next listing is of all keys
 	first   name  // of the first batch that counted
 	atOnce  int64 // how many values are asked for together
+	values  int64 // how many have counted
+	bytes   int64 // of them
 	told    map[string]bool
 }
 
@@ -102,6 +104,7 @@ func (r *reader) count(ctx context.Context, it *stored, found *batch.Batch) erro
 		r.first = it.name
 	}
 	r.history.add(it.name, it.create)
+	r.values, r.bytes = r.values+1, r.bytes+int64(len(it.value))
 	r.mutex.Lock()
 	defer r.mutex.Unlock()
 	event := &Counted{First: r.rule.count(found), Header: found.Header, Strings: found.Strings}

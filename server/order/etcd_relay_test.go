@@ -270,17 +270,7 @@ func TestACompactionHasTheOrderListedAgain(t *testing.T) {
 	t.Parallel()
 	etcd := runEtcd(t, 1)
 	const batches = 1200 // more than a page
-	for number := 0; number < batches; number += 100 {
-		asked := &pb.TxnRequest{}
-		for at := 0; at < 100; at++ {
-			key := keyOf(uint64(number), byte(at))
-			asked.Success = append(asked.Success, &pb.RequestOp{Request: &pb.RequestOp_RequestPut{RequestPut: &pb.PutRequest{
-				Key: []byte(key), Value: []byte(batchOf(1, nil, key, key))}}})
-		}
-		if _, err := etcd.kv(0).Txn(within(t), asked); err != nil {
-			t.Fatal(err)
-		}
-	}
+	etcd.fillOrder(0, batches, "x")
 	relay := etcd.relayed(0)
 	compact := func() {
 		etcd.put("else", "x")

@@ -265,3 +265,27 @@ func TestNamesAreReadAsTheyAreWritten(t *testing.T) {
 		}
 	}
 }
+
+func FuzzNames(f *testing.F) {
+	f.Add("0000000001-0123456789abcdef0123456789abcdef")
+	f.Add("9999999999-0123456789abcdef0123456789abcdeF")
+	f.Fuzz(func(t *testing.T, text string) {
+		if found, ok := nameOf(text); ok && found.String() != text {
+			t.Errorf("%q is read as %v", text, found)
+		}
+	})
+}
+
+func FuzzJournalEntries(f *testing.F) {
+	f.Add((&entryKept{"p/1/a", 7, []byte("value")}).append(nil))
+	f.Add([]byte("0123456789"))
+	f.Fuzz(func(t *testing.T, raw []byte) {
+		found, err := entryOf(raw)
+		if err != nil {
+			return
+		}
+		if again := found.append(nil); string(again) != string(raw) {
+			t.Errorf("%x is read, and written as %x", raw, again)
+		}
+	})
+}
