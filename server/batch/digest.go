@@ -21,10 +21,6 @@ func (d Digest) WithString(text []byte) Digest {
 // WithAnswer returns the digest of answers with one more, which has no LF: the SHA-256 of the digest so far and the
 // answer.
 func (d Digest) WithAnswer(answer []byte) Digest {
-	of := sha256.New()
-	of.Write(d[:])
-	of.Write(answer)
-	var found Digest
-	of.Sum(found[:0])
-	return found
+	var room [256]byte // enough for most
+	return sha256.Sum256(append(append(room[:0], d[:]...), answer...))
 }

@@ -101,7 +101,13 @@ func Read(text string) (Line, error) {
 	if text == "" || line.Tag == "" && text[0] == '#' {
 		return line, nil
 	}
-	words := strings.Split(text, " ")
+	var room [12]string
+	words := splitText(text, room[:0])
+	if words[0] == "call" { // the one that matters for speed
+		ask, err := readCall(words[1:])
+		line.Ask = ask
+		return line, err
+	}
 	read, is := readers[words[0]]
 	if !is {
 		return line, NoWord
@@ -112,6 +118,18 @@ func Read(text string) (Line, error) {
 	}
 	line.Ask = ask
 	return line, nil
+}
+
+// splitText appends the words of a text, cut at each space.
+func splitText(text string, to []string) []string {
+	for {
+		at := strings.IndexByte(text, ' ')
+		if at < 0 {
+			return append(to, text)
+		}
+		to = append(to, text[:at])
+		text = text[at+1:]
+	}
 }
 
 func isPrintable(text string) bool {
@@ -139,7 +157,6 @@ func cutTag(text string) (tag, rest string) {
 }
 
 var readers = map[string]func(fields []string) (Ask, error){
-	"call":     readCall,
 	"add":      readAdd,
 	"token":    readToken,
 	"join":     readJoin,
@@ -244,6 +261,9 @@ func readCall(fields []string) (Ask, error) {
 
 // readOptions reads what stands behind a call's pair, each option once and in any order.
 func (c *Call) readOptions(fields []string) error {
+	if len(fields) == 0 {
+		return nil
+	}
 	seen := map[string]bool{}
 	for first := true; len(fields) > 0; first = false {
 		word := fields[0]
