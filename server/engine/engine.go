@@ -180,6 +180,19 @@ func (e *Engine) Processor() (time.Duration, error) {
 	return time.Duration(ticks) * time.Second / ticksPerSecond, nil
 }
 
+// Memory returns how many bytes of memory the engine has.
+func (e *Engine) Memory() (uint64, error) {
+	text, err := os.ReadFile(fmt.Sprintf("/proc/%d/statm", e.command.Process.Pid))
+	if err != nil {
+		return 0, err
+	}
+	var all, resident uint64
+	if _, err := fmt.Sscan(string(text), &all, &resident); err != nil {
+		return 0, fmt.Errorf("/proc/%d/statm: %w", e.command.Process.Pid, err)
+	}
+	return resident * uint64(os.Getpagesize()), nil
+}
+
 // ticksPerSecond is the unit of /proc on Linux, whatever the kernel's own is.
 const ticksPerSecond = 100
 

@@ -42,6 +42,7 @@ var (
 	waiting      = desc("waiting_requests", "Requests that aren't answered.")
 	engineLines  = desc("engine_waiting_lines", "Lines that the engine hasn't answered.")
 	engineTime   = desc("engine_processor_seconds_total", "Processor time of the engine that runs.")
+	engineMemory = desc("engine_memory_bytes", "Resident memory of the engine.")
 	restarts     = desc("engine_restarts_total", "How often the engine was started again.")
 	dropped      = desc("dropped_total", "Calls whose clients had left before they were appended.")
 	retried      = desc("retried_total", "Tries of calls that were in conflict or stale.")
@@ -55,7 +56,7 @@ var (
 // Describe implements prometheus.Collector.
 func (c *collector) Describe(to chan<- *prometheus.Desc) {
 	for _, it := range []*prometheus.Desc{
-		position, end, backlog, texts, answers, latency, appends, batches, strangers, waiting, engineLines, engineTime, restarts, dropped, retried, connections,
+		position, end, backlog, texts, answers, latency, appends, batches, strangers, waiting, engineLines, engineTime, engineMemory, restarts, dropped, retried, connections,
 		refusedDesc, caughtUp, orderReached, divergence,
 	} {
 		to <- it
@@ -82,6 +83,7 @@ func (c *collector) Collect(to chan<- prometheus.Metric) {
 	gauge(backlog, float64(it.Backlog))
 	gauge(waiting, float64(it.Waiting))
 	gauge(engineLines, float64(it.EngineLines))
+	gauge(engineMemory, float64(it.EngineMemory))
 	gauge(caughtUp, truth(it.CaughtUp))
 	gauge(orderReached, truth(it.Away == ""))
 	gauge(divergence, truth(it.Diverged)+truth(it.Silent))

@@ -12,6 +12,7 @@ import (
 const (
 	hangsFor     = 10 * time.Second // of an engine that neither answers nor uses its processor
 	longestPause = time.Minute      // before an engine is started again
+	forgiveAfter = 5 * time.Minute  // since the last start, so that the next one doesn't wait
 )
 
 // restart is an engine's that has ended, and is started again from the order.
@@ -48,7 +49,11 @@ func (s *Site) restart(why error) error {
 	if s.restarting != nil {
 		s.restarting.cancel()
 	}
+	if s.now.Sub(s.restartedAt) > forgiveAfter {
+		s.restarts = 0
+	}
 	s.restarts++
+	s.restartedAt = s.now
 	s.stats.restarts++
 	s.takeBack()
 	ctx, cancel := context.WithCancel(context.Background())
@@ -91,21 +96,6 @@ func (s *Site) takeBack() {
 
 // refeed starts an engine, and hands it what stands in the order up to where the one before was.
 func (s *Site) refeed(ctx context.Context, r *restart, pause time.Duration) {
-	step := func(it refeed) error {
-		it.taken = make(chan struct{})
-		select {
-		case r.refeeds <- it:
-		case <-ctx.Done():
-			return ctx.Err()
-		case <-s.closed:
-			return errors.New("the site has ended")
-		}
-		select {
-		case <-it.taken:
-		case <-ctx.Done():
-		}
-		return ctx.Err()
-	}
 	select {
 	case <-time.After(pause):
 	case <-ctx.Done():
@@ -113,21 +103,40 @@ func (s *Site) refeed(ctx context.Context, r *restart, pause time.Duration) {
 	}
 	started, err := s.start(ctx)
 	if err != nil {
-		step(refeed{err: err})
+		r.hand(ctx, s.closed, refeed{err: err})
 		return
 	}
-	if step(refeed{engine: started}) != nil {
+	if !r.hand(ctx, s.closed, refeed{engine: started}) {
+		started.Close()
 		return
 	}
 	err = s.order.Reread(ctx, r.upto, func(found *batch.Batch) error {
 		for started.Unsent() > unsentMost && ctx.Err() == nil {
 			time.Sleep(time.Millisecond)
 		}
-		return step(refeed{texts: found.Strings})
+		if !r.hand(ctx, s.closed, refeed{texts: found.Strings}) {
+			return errGivenUp
+		}
+		return nil
 	})
 	if err != nil && ctx.Err() == nil {
-		step(refeed{err: fmt.Errorf("reading the order again: %w", err)})
+		r.hand(ctx, s.closed, refeed{err: fmt.Errorf("reading the order again: %w", err)})
 	}
+}
+
+var errGivenUp = errors.New("the engine's start was given up")
+
+// hand hands a step to the site, and waits until it was taken; false where it isn't taken.
+func (r *restart) hand(ctx context.Context, closed <-chan struct{}, it refeed) bool {
+	it.taken = make(chan struct{})
+	select {
+	case r.refeeds <- it:
+		<-it.taken
+		return true
+	case <-ctx.Done():
+	case <-closed:
+	}
+	return false
 }
 
 // takeRefeed takes in a step of an engine's start.

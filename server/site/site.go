@@ -36,6 +36,7 @@ type Engine interface {
 	Answers() <-chan []byte
 	Err() error
 	Processor() (time.Duration, error)
+	Memory() (uint64, error)
 	Kill()
 	Close()
 }
@@ -74,13 +75,14 @@ type Site struct {
 	wake   chan struct{}
 	closed chan struct{}
 
-	engine     Engine
-	out        []byte // lines that go to the engine at the turn's end
-	pending    queue[pending]
-	restarting *restart
-	heardAt    time.Time     // when the engine last answered, or was seen to work
-	usedAt     time.Duration // of processors, when it was last looked at
-	restarts   int
+	engine      Engine
+	out         []byte // lines that go to the engine at the turn's end
+	pending     queue[pending]
+	restarting  *restart
+	heardAt     time.Time     // when the engine last answered, or was seen to work
+	usedAt      time.Duration // of processors, when it was last looked at
+	restarts    int           // of late
+	restartedAt time.Time     // the last one
 
 	vote       batch.Vote // by mutex
 	position   uint64     // of the last string that the engine has answered

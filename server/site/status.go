@@ -69,6 +69,7 @@ type Snapshot struct {
 	Backlog        int // bytes of strings that wait for the engine
 	EngineLines    int // that the engine hasn't answered
 	EngineTime     time.Duration
+	EngineMemory   uint64 // bytes
 	EngineRestarts uint64
 	Restarting     bool
 	Ahead          uint64
@@ -114,6 +115,7 @@ func (s *Site) snapshot() Snapshot {
 	}
 	if s.engine != nil {
 		it.EngineTime, _ = s.engine.Processor()
+		it.EngineMemory, _ = s.engine.Memory()
 	}
 	for kind, count := range s.stats.answers {
 		if word := words[kind]; word != "" {
@@ -152,8 +154,9 @@ func (s *Site) statusLine() string {
 
 // hello answers which database and order this is, where it is, and how far a call's upto should be ahead.
 func (s *Site) hello(r *Request) {
-	if s.end == 0 {
-		s.early = append(s.early, r)
+	if s.end == 0 { // the first batch brings the database's identity
+		r.after = 1
+		s.place(r)
 		return
 	}
 	s.tell(r, Answer{Kind: Text, Text: fmt.Sprintf("hello %s 1 %d %d", hex.EncodeToString(s.database[:]), s.position, s.growth.ahead(s.end))})
