@@ -5,6 +5,7 @@ import (
 	"net/http"
 
 	"dsmdb/server/lineserver"
+	"dsmdb/server/order"
 	"dsmdb/server/site"
 	"github.com/prometheus/client_golang/prometheus"
 	"github.com/prometheus/client_golang/prometheus/collectors"
@@ -12,14 +13,15 @@ import (
 )
 
 // New returns the handler of a server's metrics.
-func New(of *site.Site, lines *lineserver.Server) http.Handler {
+func New(of *site.Site, order order.Order, lines *lineserver.Server) http.Handler {
 	all := prometheus.NewRegistry()
-	all.MustRegister(collectors.NewGoCollector(), collectors.NewProcessCollector(collectors.ProcessCollectorOpts{}), &collector{of, lines})
+	all.MustRegister(collectors.NewGoCollector(), collectors.NewProcessCollector(collectors.ProcessCollectorOpts{}), &collector{of, order, lines})
 	return promhttp.HandlerFor(all, promhttp.HandlerOpts{})
 }
 
 type collector struct {
 	site  *site.Site
+	order order.Order
 	lines *lineserver.Server
 }
 
@@ -34,6 +36,9 @@ var (
 	texts        = desc("strings_total", "What became of the order's strings.", "as")
 	answers      = desc("answers_total", "What requests were answered.", "answer")
 	latency      = desc("call_seconds", "From the reading of a call to its answer.")
+	appends      = desc("append_seconds", "From handing a string to the order to its being counted there.")
+	batches      = desc("batches_total", "Batches of strings that the server has appended, each forced once.")
+	strangers    = desc("strangers_total", "Keys of the order in etcd that take no place in it.")
 	waiting      = desc("waiting_requests", "Requests that aren't answered.")
 	engineLines  = desc("engine_waiting_lines", "Lines that the engine hasn't answered.")
 	engineTime   = desc("engine_processor_seconds_total", "Processor time of the engine that runs.")
@@ -50,7 +55,7 @@ var (
 // Describe implements prometheus.Collector.
 func (c *collector) Describe(to chan<- *prometheus.Desc) {
 	for _, it := range []*prometheus.Desc{
-		position, end, backlog, texts, answers, latency, waiting, engineLines, engineTime, restarts, dropped, retried, connections,
+		position, end, backlog, texts, answers, latency, appends, batches, strangers, waiting, engineLines, engineTime, restarts, dropped, retried, connections,
 		refusedDesc, caughtUp, orderReached, divergence,
 	} {
 		to <- it
@@ -91,19 +96,24 @@ func (c *collector) Collect(to chan<- prometheus.Metric) {
 	for word, count := range it.Answers {
 		counter(answers, count, word)
 	}
-	c.collectLatency(to, &it)
+	counter(batches, it.Batches)
+	if etcd, is := c.order.(interface{ Strangers() uint64 }); is {
+		counter(strangers, etcd.Strangers())
+	}
+	to <- histogram(latency, &it.Calls)
+	to <- histogram(appends, &it.Appends)
 }
 
-// collectLatency tells the latencies of calls by powers of two of a nanosecond, from 16 microseconds to 69 seconds.
-func (c *collector) collectLatency(to chan<- prometheus.Metric, it *site.Snapshot) {
+// histogram tells durations by powers of two of a nanosecond, from 16 microseconds to 69 seconds.
+func histogram(of *prometheus.Desc, it *site.Durations) prometheus.Metric {
 	buckets, count := map[float64]uint64{}, uint64(0)
-	for bits, more := range it.Latency {
+	for bits, more := range it.Counts {
 		count += more
 		if bits >= 14 && bits <= 36 {
 			buckets[float64(uint64(1)<<bits)*1e-9] = count
 		}
 	}
-	to <- prometheus.MustNewConstHistogram(latency, count, it.LatencySum.Seconds(), buckets)
+	return prometheus.MustNewConstHistogram(of, count, it.Sum.Seconds(), buckets)
 }
 
 func truth(is bool) float64 {

@@ -127,7 +127,7 @@ func (s *Site) tooLate(r *Request) {
 }
 
 func (s *Site) submit(r *Request, text []byte) {
-	r.text.Text, r.out = text, true
+	r.text.Text, r.out, r.handed = text, true, s.now
 	s.submitted = append(s.submitted, &r.text)
 }
 

@@ -48,8 +48,14 @@ func (s *Site) count(it *order.Counted) error {
 	}
 	if len(it.Own) > 0 {
 		s.owns.push(own{it.First, it.Own})
+		for _, text := range it.Own {
+			if r, is := text.For.(*Request); is {
+				s.stats.appends.add(s.now.Sub(r.handed))
+			}
+		}
 	}
 	if it.Made {
+		s.stats.batches++
 		s.lastVote, s.votedAt, s.newStrings = it.Header.Vote.Position, s.now, false
 	} else {
 		s.newStrings = s.newStrings || len(it.Strings) > 0

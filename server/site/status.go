@@ -3,6 +3,7 @@ package site
 import (
 	"encoding/hex"
 	"fmt"
+	"math/bits"
 	"sort"
 	"time"
 
@@ -12,8 +13,9 @@ import (
 // stats are counts of what a site did.
 type stats struct {
 	answers  [kinds]uint64
-	latency  [48]uint64 // of calls, by the length of their nanoseconds in bits
-	sum      time.Duration
+	calls    durations
+	appends  durations // from handing a string over to its being counted
+	batches  uint64    // of this server
 	dropped  uint64
 	retried  uint64
 	restarts uint64
@@ -21,18 +23,33 @@ type stats struct {
 
 func (c *stats) answered(kind Kind, took time.Duration, isCall bool) {
 	c.answers[kind]++
-	if !isCall {
-		return
+	if isCall {
+		c.calls.add(took)
 	}
+}
+
+// durations are how long things took.
+type durations struct {
+	counts [48]uint64 // by the length of their nanoseconds in bits
+	sum    time.Duration
+}
+
+func (d *durations) add(took time.Duration) {
 	if took < 0 {
 		took = 0
 	}
-	bits := 0
-	for left := uint64(took); left > 0 && bits < len(c.latency)-1; left >>= 1 {
-		bits++
+	at := bits.Len64(uint64(took))
+	if at >= len(d.counts) {
+		at = len(d.counts) - 1
 	}
-	c.latency[bits]++
-	c.sum += took
+	d.counts[at]++
+	d.sum += took
+}
+
+// Durations are how long things took: Counts by the length of their nanoseconds in bits.
+type Durations struct {
+	Counts [48]uint64
+	Sum    time.Duration
 }
 
 // Snapshot is what is known of a site at a time.
@@ -58,8 +75,9 @@ type Snapshot struct {
 	Dropped        uint64
 	Retried        uint64
 	Answers        map[string]uint64
-	Latency        [48]uint64 // of calls, by the length of their nanoseconds in bits
-	LatencySum     time.Duration
+	Calls          Durations
+	Appends        Durations   // of strings, from handing them over to their being counted
+	Batches        uint64      // that this server has made since its start
 	Procedures     []Procedure // by name
 }
 
@@ -88,7 +106,8 @@ func (s *Site) snapshot() Snapshot {
 		CaughtUp: s.caughtUp(), Beginning: s.beginning, Diverged: s.isDiverged, Silent: s.isSilent(), DivergedSince: s.diverged.Since,
 		Waiting: s.asking.count, Backlog: s.backlog, EngineLines: s.pending.len(), EngineRestarts: s.stats.restarts,
 		Restarting: s.restarting != nil, Ahead: s.growth.ahead(s.end), Dropped: s.stats.dropped, Retried: s.stats.retried,
-		Answers: map[string]uint64{}, Latency: s.stats.latency, LatencySum: s.stats.sum,
+		Answers: map[string]uint64{}, Calls: Durations{s.stats.calls.counts, s.stats.calls.sum},
+		Appends: Durations{s.stats.appends.counts, s.stats.appends.sum}, Batches: s.stats.batches,
 	}
 	if since, why := s.order.Reached(); why != nil {
 		it.AwaySince, it.Away = since, why.Error()

@@ -3,6 +3,7 @@ import contextlib
 import hashlib
 import json
 import os
+import resource
 import signal
 import socket
 import ssl
@@ -118,13 +119,19 @@ class Lines(ServerTest):
         until(lambda: few.ask("position"))
 
     def test_ten_thousand_connections(self):
-        few = self.serve("many", "--connections", "500").begun()
-        some = [few.connect() for _ in range(500)]
+        soft, hard = resource.getrlimit(resource.RLIMIT_NOFILE)
+        most = 10_000 if hard == resource.RLIM_INFINITY or hard > 10_500 else hard - 500
+        resource.setrlimit(resource.RLIMIT_NOFILE, (most + 400, hard))
+        self.addCleanup(resource.setrlimit, resource.RLIMIT_NOFILE, (soft, hard))
+        many = self.serve("many", "--connections", str(most)).begun()
+        session = many.ask("session").split(" ")[1]
+        some = [many.connect() for _ in range(most)]
         for it in some:
             it.send("position")
-        self.assertEqual({it.line() for it in some}, {"position 1"})
-        over = few.connect()
+        self.assertEqual({it.line() for it in some}, {"position 2"})
+        over = many.connect()
         self.assertEqual(over.line(), "")  # it is closed at once
+        self.assertEqual(some[0].ask(f"call add {words(5, 1)} {session} 1"), "committed 3 reply 1")
         for it in [*some, over]:
             it.close()
 

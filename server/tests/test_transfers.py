@@ -3,6 +3,7 @@ order, once."""
 import contextlib
 import os
 import random
+import shutil
 import signal
 import subprocess
 import sys
@@ -298,9 +299,12 @@ class TransfersOverACluster(Transfers):
 
     def setUp(self):
         super().setUp()
-        members = ",".join(f"{it}=http://127.0.0.1:{free_port()}" for it in self.names)
-        status, said = self.client("begin", *(f"{self.folder}/{it}" for it in self.names), "--cluster", members)
+        status, said = self.begin()
         self.assertEqual(status, 0, said)
+
+    def begin(self):
+        members = ",".join(f"{it}=http://127.0.0.1:{free_port()}" for it in self.names)
+        return self.client("begin", *(f"{self.folder}/{it}" for it in self.names), "--cluster", members)
 
     def strings(self):
         def whole():
@@ -312,3 +316,59 @@ class TransfersOverACluster(Transfers):
     def are_alike(self, servers, end):
         self.end = end
         return super().are_alike(servers, end)
+
+
+@unittest.skipUnless(os.geteuid() == 0 and shutil.which("ip"), "partitions ask for root and for ip (apt-get install iproute2)")
+class TransfersOverPartitions(TransfersOverACluster):
+    """At three servers in network namespaces of their own, of which one or another is cut off from the rest."""
+
+    def setUp(self):
+        self.hosts = {it: f"dsmdb-{os.getpid()}-{it}" for it in self.names}
+        self.bridge = f"dsmdb-{os.getpid()}-bridge"
+        self.addCleanup(self.end_hosts)
+        ip("netns", "add", self.bridge)
+        ip("-n", self.bridge, "link", "add", "bridge", "type", "bridge")
+        ip("-n", self.bridge, "link", "set", "bridge", "up")
+        for number, (name, host) in enumerate(self.hosts.items(), 1):
+            ip("netns", "add", host)
+            ip("-n", host, "link", "set", "lo", "up")
+            ip("-n", host, "link", "add", "way", "type", "veth", "peer", "name", name, "netns", self.bridge)
+            ip("-n", host, "address", "add", f"10.99.0.{number}/24", "dev", "way")
+            ip("-n", host, "link", "set", "way", "up")
+            ip("-n", self.bridge, "link", "set", name, "master", "bridge", "up")
+        super().setUp()
+
+    def end_hosts(self):
+        for it in (*self.hosts.values(), self.bridge):
+            subprocess.run(["ip", "netns", "del", it], stderr=subprocess.DEVNULL)
+
+    def begin(self):
+        members = ",".join(f"{it}=http://10.99.0.{number}:2380" for number, it in enumerate(self.names, 1))
+        return self.client("begin", *(f"{self.folder}/{it}" for it in self.names), "--cluster", members, "--insecure")
+
+    def start(self, name):
+        return self.serve(name, "--insecure", limits=["ip", "netns", "exec", self.hosts[name]])
+
+    def fault(self, servers):
+        if self.random.random() < 0.3:
+            super().fault(servers)
+            return
+        name = self.random.choice(self.names)
+        ip("-n", self.bridge, "link", "set", name, "down")
+        if not self.cut:
+            self.cut = True
+            self.assert_cut_off(servers[name].begun())
+        time.sleep(1 + 2 * self.random.random())
+        ip("-n", self.bridge, "link", "set", name, "up")
+
+    cut = False
+
+    def assert_cut_off(self, server):
+        """Asserts that a server that is cut off writes nothing, and reads on."""
+        row = words(0, 0, 0, 3000)
+        self.assertEqual(server.ask(f"call transfer {row} 1 1 within 2").split(" ")[0], "unknown")
+        self.assertEqual(server.ask("position").split(" ")[0], "position")
+
+
+def ip(*words):
+    subprocess.run(["ip", *words], check=True, capture_output=True)

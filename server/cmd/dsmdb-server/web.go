@@ -20,7 +20,7 @@ import (
 func (s *server) listenHTTP(ctx context.Context) error {
 	handler := api.New(api.Options{
 		Site: s.site, Policy: s.policy, Layout: s.layout, Hosts: s.served, Name: s.data,
-		Metrics: metrics.New(s.site, s.lines), Console: console.Handler(),
+		Metrics: metrics.New(s.site, s.order, s.lines), Console: console.Handler(),
 	})
 	s.web = &http.Server{
 		Handler: handler, ReadHeaderTimeout: 10 * time.Second, ReadTimeout: time.Minute, IdleTimeout: 5 * time.Minute,

@@ -23,7 +23,7 @@ import (
 )
 
 var (
-	at          = flag.String("at", "", "servers: Unix sockets' paths, tcp://, tls:// or http://HOST:PORT, with commas between them")
+	at          = flag.String("at", "", "servers: Unix sockets' paths, tcp://, tls://, http:// or etcd://HOST:PORT, with commas between them")
 	clients     = flag.Int("clients", 1, "how many clients")
 	connections = flag.Int("connections", 0, "on how many connections they share; 0 for one each")
 	seconds     = flag.Float64("seconds", 5, "for how long")
@@ -95,6 +95,9 @@ func main() {
 func run(place string, first, count int, until time.Time, found *counted) error {
 	if strings.HasPrefix(place, "http://") || strings.HasPrefix(place, "https://") {
 		return overHTTP(place, first, until, found)
+	}
+	if address := strings.TrimPrefix(place, "etcd://"); address != place {
+		return overEtcd(address, first, until, found)
 	}
 	reached, err := dial(place)
 	if err != nil {
