@@ -49,6 +49,8 @@ func (e *Etcd) AskEnd() uint64 {
 
 // askEnds asks etcd how many keys there are, for all questions at once that came meanwhile.
 func (e *Etcd) askEnds(ctx context.Context) error {
+	clock := time.NewTicker(askAnyway)
+	defer clock.Stop()
 	for failures := 0; ctx.Err() == nil; {
 		anyway := false
 		if failures == 0 {
@@ -56,7 +58,7 @@ func (e *Etcd) askEnds(ctx context.Context) error {
 			case <-ctx.Done():
 				return nil
 			case <-e.ends.wake:
-			case <-time.After(askAnyway):
+			case <-clock.C:
 				anyway = true
 			}
 			e.sweep()

@@ -67,7 +67,7 @@ func (e *Etcd) read(ctx context.Context) error {
 
 // decide decides whether a key that comes next is a batch that counts, and counts it.
 func (r *reader) decide(ctx context.Context, it *stored) (counts bool, err error) {
-	if !r.rule.begun && it.version > 1 && isGone(it.value) {
+	if !r.rule.begun && it.hint == 0 && it.version > 1 && isGone(it.value) {
 		return false, r.goneOrder(it.key)
 	}
 	if !r.rule.admits(it.hint) {

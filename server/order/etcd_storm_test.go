@@ -106,6 +106,25 @@ func (s *storm) callers(until time.Time) map[string]*String {
 	return handed
 }
 
+// fresh asks one server after the other for the order's end, until a time: what another server was told of before has to
+// stand before the end. It returns how many were asked.
+func (s *storm) fresh(until time.Time) (asked int) {
+	for ; time.Now().Before(until); asked++ {
+		told := uint64(0)
+		for _, w := range s.servers {
+			w.mutex.Lock()
+			if w.latest > told {
+				told = w.latest
+			}
+			w.mutex.Unlock()
+		}
+		if end := s.servers[asked%len(s.servers)].untilEnd(); end < told {
+			s.t.Errorf("the end is at %d, and a string was at %d before", end, told)
+		}
+	}
+	return asked
+}
+
 // Each string stands in the order once, where its server was told, whatever goes wrong between servers and members.
 func TestNothingIsLostAndNothingIsTwice(t *testing.T) {
 	t.Parallel()
@@ -127,7 +146,10 @@ func TestNothingIsLostAndNothingIsTwice(t *testing.T) {
 	}
 	until := time.Now().Add(lasts)
 	go s.members(rand.New(rand.NewSource(seed)), until.Add(-time.Second))
+	ends := make(chan int)
+	go func() { ends <- s.fresh(until) }()
 	handed := s.callers(until)
+	asked := <-ends
 	s.calm.Store(true)
 	fresh := s.etcd.opened(nil)
 	alike(append(s.servers, fresh)...)
@@ -151,5 +173,5 @@ func TestNothingIsLostAndNothingIsTwice(t *testing.T) {
 	for at := range s.faults {
 		counts = append(counts, fmt.Sprint(s.faults[at].Load()))
 	}
-	t.Logf("%d strings; faults: %s", len(fresh.read()), strings.Join(counts, ", "))
+	t.Logf("%d strings, %d questions; faults: %s", len(fresh.read()), asked, strings.Join(counts, ", "))
 }

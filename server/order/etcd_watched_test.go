@@ -19,6 +19,7 @@ type watched struct {
 	strings []string
 	headers []batch.Header
 	own     map[*String]uint64 // positions
+	latest  uint64             // the greatest of them
 	made    int
 	refused map[*String]error
 	dropped map[*String]bool
@@ -90,6 +91,7 @@ func (w *watched) take(event Event) {
 				}
 				w.tell(it.Own[at])
 				w.own[it.Own[at]] = uint64(len(w.strings))
+				w.latest = uint64(len(w.strings))
 			}
 		}
 		w.headers = append(w.headers, it.Header)
