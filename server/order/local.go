@@ -8,6 +8,7 @@ import (
 	"time"
 
 	"dsmdb/server/batch"
+	"dsmdb/server/segments"
 )
 
 // eventsAtOnce is how many events are handed on together at most.
@@ -28,7 +29,6 @@ type Local struct {
 	wantVote bool
 	asked    uint64 // the last question
 	closing  bool
-	log      *Log
 	counted  []uint64 // position of the last string of each record, for Reread
 }
 
@@ -76,17 +76,21 @@ func (l *Local) Reached() (time.Time, error) { return time.Time{}, nil }
 // Reread implements Order.
 func (l *Local) Reread(ctx context.Context, upto uint64, take func(found *batch.Batch) error) error {
 	l.mutex.Lock()
-	log, records := l.log, uint64(0)
+	records := uint64(0)
 	for records < uint64(len(l.counted)) && (records == 0 || l.counted[records-1] < upto) {
 		records++
 	}
 	l.mutex.Unlock()
-	if log == nil || upto == 0 {
+	if upto == 0 {
 		return nil
 	}
-	return log.reread(records, func(found *batch.Batch) error {
+	return segments.Reread(l.path, Magic, records, func(kept []byte) error {
 		if err := ctx.Err(); err != nil {
 			return err
+		}
+		found, err := batch.Read(append([]byte(nil), kept...))
+		if err != nil {
+			return fmt.Errorf("reading the order again: %w", err)
 		}
 		return take(found)
 	})
@@ -131,9 +135,6 @@ func (l *Local) work() error {
 		return err
 	}
 	defer log.Close()
-	l.mutex.Lock()
-	l.log = log
-	l.mutex.Unlock()
 	if err := l.send(append(some, Begun{log.Position()})); err != nil {
 		return err
 	}
@@ -240,15 +241,4 @@ func (l *Local) send(some []Event) error {
 	case <-l.closed:
 		return errClosed
 	}
-}
-
-// reread hands over the batches of the first records once more. It may be called beside Append.
-func (l *Log) reread(records uint64, take func(found *batch.Batch) error) error {
-	return l.log.Reread(records, func(kept []byte) error {
-		found, err := batch.Read(append([]byte(nil), kept...))
-		if err != nil {
-			return fmt.Errorf("reading the order again: %w", err)
-		}
-		return take(found)
-	})
 }

@@ -5,8 +5,17 @@ import "fmt"
 // Reread hands over the records up to a number once more, as they stand on the disk, while the log goes on. What a record
 // keeps is handed to take, which may not keep the slice. It may be called from any goroutine, for records that count.
 func (l *Log) Reread(upto uint64, take func(kept []byte) error) error {
-	from := &Log{disk: l.disk, magic: l.magic, size: l.size}
-	segment := make([]byte, l.size)
+	return reread(&Log{disk: l.disk, magic: l.magic, size: l.size}, upto, take)
+}
+
+// Reread hands over the records of the log in a folder up to a number, which was read before, as Log.Reread does: also while
+// the log is being opened.
+func Reread(path string, magic Magic, upto uint64, take func(kept []byte) error) error {
+	return reread(&Log{disk: folder(path), magic: magic, size: DefaultSize}, upto, take)
+}
+
+func reread(from *Log, upto uint64, take func(kept []byte) error) error {
+	segment := make([]byte, from.size)
 	for number := uint32(1); from.last.number < upto; number++ {
 		damage, err := from.load(number, segment)
 		if err != nil {

@@ -1,0 +1,181 @@
+package client
+
+import (
+	"bufio"
+	"context"
+	"errors"
+	"net"
+	"os"
+	"path/filepath"
+	"reflect"
+	"strings"
+	"sync"
+	"testing"
+	"time"
+)
+
+const greeting = "hello 00000000000000000000000000000000 1 5 16"
+
+// stranger answers each line by the next of a list; an empty one closes the connection.
+type stranger struct {
+	path    string
+	mutex   sync.Mutex
+	answers []string
+	asked   []string
+}
+
+func serve(t *testing.T, answers ...string) *stranger {
+	t.Helper()
+	s := &stranger{path: filepath.Join(t.TempDir(), "socket"), answers: answers}
+	listener, err := net.Listen("unix", s.path)
+	if err != nil {
+		t.Fatal(err)
+	}
+	t.Cleanup(func() { listener.Close() })
+	go func() {
+		for {
+			accepted, err := listener.Accept()
+			if err != nil {
+				return
+			}
+			s.serve(accepted)
+		}
+	}()
+	return s
+}
+
+func (s *stranger) serve(accepted net.Conn) {
+	defer accepted.Close()
+	lines := bufio.NewReader(accepted)
+	for {
+		line, err := lines.ReadString('\n')
+		if err != nil {
+			return
+		}
+		s.mutex.Lock()
+		s.asked = append(s.asked, strings.TrimSuffix(line, "\n"))
+		answer := ""
+		if len(s.answers) > 0 {
+			answer, s.answers = s.answers[0], s.answers[1:]
+		}
+		s.mutex.Unlock()
+		if answer == "" {
+			return
+		}
+		accepted.Write([]byte(answer + "\n"))
+	}
+}
+
+func (s *stranger) calls() []string {
+	s.mutex.Lock()
+	defer s.mutex.Unlock()
+	var found []string
+	for _, line := range s.asked {
+		if strings.HasPrefix(line, "call ") {
+			found = append(found, line)
+		}
+	}
+	return found
+}
+
+func within(t *testing.T, limit time.Duration) context.Context {
+	ctx, cancel := context.WithTimeout(context.Background(), limit)
+	t.Cleanup(cancel)
+	return ctx
+}
+
+func TestACallIsAskedUntilItIsSettled(t *testing.T) {
+	for _, it := range []struct {
+		name    string
+		answers []string
+		calls   []string
+		want    string
+		left    bool // whether the call isn't settled
+	}{
+		{"at once", []string{greeting, "session 7", "committed 8 reply 1"}, []string{"call add 01 7 1 upto 21 within 2"}, "committed 8 reply 1", false},
+		{"an answer is lost", []string{greeting, "session 7", "", greeting, "committed 30 reply 1"},
+			[]string{"call add 01 7 1 upto 21 within 2", "call add 01 7 1 fresh after 21 upto 37 within 2"}, "committed 30 reply 1", false},
+		{"late, and then lost", []string{greeting, "session 7", "late 100", "", greeting, "conflict 140 3"},
+			[]string{"call add 01 7 1 upto 21 within 2", "call add 01 7 1 upto 116 within 2", "call add 01 7 1 fresh after 116 upto 132 within 2"}, "conflict 140 3", false},
+		{"no role", []string{greeting, "session 7", "refused role"}, []string{"call add 01 7 1 upto 21 within 2"}, "refused role", false},
+		{"no memory", []string{greeting, "session 7", "refused P9"}, []string{"call add 01 7 1 upto 21 within 2"}, "refused P9", true},
+	} {
+		s := serve(t, it.answers...)
+		store := &Memory{State{Next: 1}}
+		c, err := Open(Options{Servers: []string{s.path}, Store: store, Within: 2 * time.Second})
+		if err != nil {
+			t.Fatal(err)
+		}
+		answer, err := c.Call(within(t, 20*time.Second), "add", []byte{1}, When{})
+		if err != nil || answer.Line != it.want || !reflect.DeepEqual(s.calls(), it.calls) {
+			t.Errorf("%s: %q, %v; asked %q", it.name, answer.Line, err, s.calls())
+		}
+		if _, left := c.Unsettled(); left != it.left || left != (store.state.Call != "") {
+			t.Errorf("%s: unsettled %v", it.name, left)
+		}
+		c.Close()
+	}
+}
+
+func TestWhereNobodyAnswersInTime(t *testing.T) {
+	c, _ := Open(Options{Servers: []string{filepath.Join(t.TempDir(), "nobody")}})
+	if _, err := c.Call(within(t, 300*time.Millisecond), "add", nil, When{}); !errors.Is(err, ErrNothingSent) {
+		t.Error(err)
+	}
+	s := serve(t, greeting, "session 7") // and then nothing
+	c, _ = Open(Options{Servers: []string{s.path}})
+	if _, err := c.Call(within(t, 300*time.Millisecond), "add", nil, When{}); !errors.Is(err, ErrUnsettled) {
+		t.Error(err)
+	}
+	if _, is := c.Unsettled(); !is {
+		t.Error("it is forgotten")
+	}
+	if _, err := c.Call(within(t, time.Second), "add", nil, When{}); !errors.Is(err, ErrUnsettled) {
+		t.Error(err)
+	}
+}
+
+func TestAnotherDatabase(t *testing.T) {
+	s := serve(t, greeting, greeting, greeting)
+	c, _ := Open(Options{Servers: []string{s.path}, Store: &Memory{State{Database: strings.Repeat("1", 32), Session: 3, Next: 1}}})
+	var other *OtherDatabase
+	if _, err := c.Call(within(t, 5*time.Second), "add", nil, When{}); !errors.As(err, &other) {
+		t.Error(err)
+	}
+}
+
+func TestAFileHoldsWhatWasSaved(t *testing.T) {
+	path := filepath.Join(t.TempDir(), "client")
+	f, err := OpenFile(path)
+	if err != nil {
+		t.Fatal(err)
+	}
+	if state, err := f.Load(); err != nil || state != (State{Next: 1}) {
+		t.Error(state, err)
+	}
+	want := State{strings.Repeat("a", 32), 7, 3, "call add 00 7 2", 40}
+	for _, state := range []State{{Next: 1}, {strings.Repeat("a", 32), 7, 3, "", 0}, want} {
+		if err := f.Save(state); err != nil {
+			t.Fatal(err)
+		}
+		if found, err := f.Load(); err != nil || found != state {
+			t.Error(found, err)
+		}
+	}
+	if _, err := OpenFile(path); err == nil || !strings.Contains(err.Error(), "another client is at work with it") {
+		t.Error(err)
+	}
+	f.Close()
+	text, _ := os.ReadFile(path)
+	if string(text) != "dsmdb client 1\ndatabase "+strings.Repeat("a", 32)+"\nsession 7\nnext 3\ncall add 00 7 2 upto 40\n" {
+		t.Errorf("%q", text)
+	}
+	os.WriteFile(path, []byte("session 7\n"), 0o600)
+	if f, err = OpenFile(path); err != nil {
+		t.Fatal(err)
+	}
+	defer f.Close()
+	if _, err := f.Load(); err == nil || !strings.Contains(err.Error(), "left as it is") {
+		t.Error(err)
+	}
+}
