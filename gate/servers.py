@@ -12,6 +12,10 @@ import serving
 import workspace
 
 INSTALL = "apt-get install etcd-server etcd-client"
+TOOLS = [  # a command, what asks for it, and its package
+    ("openssl", "TLS", "openssl"), ("ip", "servers that are cut off", "iproute2"), ("ps", "engines that are killed", "procps"),
+    ("chromedriver", "the console in a browser", "chromium chromium-driver"),
+]
 LIMIT = 1800  # seconds, after which the tests are ended
 
 
@@ -65,8 +69,9 @@ def run(program, tally):
     run_tests(program, tally)
     if not (shutil.which("etcd") and shutil.which("etcdctl")):
         tally.leave_out("orders in etcd", INSTALL)
-    elif not shutil.which("openssl"):
-        tally.leave_out("orders in an etcd over TLS", "apt-get install openssl")
+    for command, what, package in TOOLS:
+        if not shutil.which(command):
+            tally.leave_out(what, f"apt-get install {package}")
 
 
 def run_long(program, tally):

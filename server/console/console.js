@@ -7,6 +7,8 @@ const make = (kind, text, ...inside) => {
   return it
 }
 
+const option = name => Object.assign(make("option", name), { value: name })
+
 let procedures = [], layout = { tables: [], codes: {} }, pair = null, unsettled = null, next = "0"
 
 async function asked(path, body) {
@@ -140,10 +142,10 @@ async function scan(from) {
 async function begin() {
   const found = await asked("v1/procedures")
   procedures = found.procedures || []
-  find("procedure").replaceChildren(...procedures.map(it => make("option", it.name)))
+  find("procedure").replaceChildren(...procedures.map(it => option(it.name)))
   const known = await asked("v1/layout")
   if (known.ok) layout = { tables: known.tables || [], codes: known.codes || {} }
-  find("table").replaceChildren(...layout.tables.map(it => make("option", it.name)))
+  find("table").replaceChildren(...layout.tables.map(it => option(it.name)))
   find("table").hidden = !layout.tables.length
   find("table-number").hidden = !!layout.tables.length
   showFields()

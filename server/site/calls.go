@@ -238,6 +238,9 @@ func (s *Site) tell(r *Request, answer Answer) {
 		r.held = answer
 		return
 	}
+	if r.held.Lines != nil && r.held.Lines != answer.Lines {
+		r.held.Lines.Close()
+	}
 	r.done.Store(true)
 	s.asking.remove(r)
 	s.stats.answered(answer.Kind, s.now.Sub(r.began), r.call() != nil)

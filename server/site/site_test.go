@@ -219,6 +219,10 @@ func TestWhatIsAnswered(t *testing.T) {
 		{"call add " + words_(5, 1) + " 2 3 upto 5", "late 6"},
 		{"call add " + words_(5, 1) + " 2 3 upto 6", "committed 7 reply 11"},
 		{"rows", " 1                    5 0b00000000000000\nposition 7 rows 1\n"},
+		{"scan 1 5 5 9", " 1                    5 0b00000000000000\nposition 7 rows 1\n"},
+		{"scan 1 6 9 9", "position 7 rows 0\n"},
+		{"scan 1 9 5 9", "position 7 rows 0\n"},
+		{"scan 2 0 9 9", "refused P16"},
 		{"position", "position 7"},
 	} {
 		r.want(it[0], it[1])

@@ -4,6 +4,7 @@ import hashlib
 import json
 import os
 import resource
+import shutil
 import signal
 import socket
 import ssl
@@ -12,6 +13,7 @@ import subprocess
 import sys
 import threading
 import time
+import unittest
 import urllib.error
 import urllib.request
 
@@ -331,6 +333,7 @@ class Doors(ServerTest):
                 file.write(f"subjectAltName={alternative}\n")
             openssl("x509", "-req", "-in", f"{name}.csr", "-CA", "ca.pem", "-CAkey", "ca.key", "-CAcreateserial", "-out", f"{name}.pem", "-days", "2", "-extfile", f"{name}.ext")
 
+    @unittest.skipUnless(shutil.which("openssl"), "no openssl is here (apt-get install openssl)")
     def test_tls(self):
         self.certificates()
         port = free_port()

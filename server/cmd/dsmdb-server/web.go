@@ -9,6 +9,7 @@ import (
 	"log"
 	"net"
 	"net/http"
+	"path/filepath"
 	"time"
 
 	"dsmdb/server/api"
@@ -19,7 +20,7 @@ import (
 // listenHTTP answers HTTP/1.1: in HTTP/2 a client gives a request up without the kernel's knowledge.
 func (s *server) listenHTTP(ctx context.Context) error {
 	handler := api.New(api.Options{
-		Site: s.site, Policy: s.policy, Layout: s.layout, Hosts: s.served, Name: s.data,
+		Site: s.site, Policy: s.policy, Layout: s.layout, Hosts: s.served, Name: filepath.Base(filepath.Clean(s.data)),
 		Metrics: metrics.New(s.site, s.order, s.lines), Console: console.Handler(),
 	})
 	s.web = &http.Server{
