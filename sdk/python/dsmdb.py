@@ -22,9 +22,12 @@ from typing import NamedTuple
 
 SILENCE = 10  # seconds beyond the time that a server was given, before another one is asked
 LAST_SEQUENCE = 2**32 - 1
-SETTLED = {"committed", "read", "cancelled", "conflict", "stale", "other", "fault"}
+MOST_AHEAD = 65_536  # strings that a server makes an order longer by
+PAGE = 1000  # rows that are asked for at a time
+SETTLED = {"committed", "read", "cancelled", "conflict", "stale", "other"}
 SETTLED_REFUSALS = {"P2", "P3", "P13", "P15"}
-NOT_BEGUN = {"role", "rate"}  # refusals of a call that says that the call wasn't begun
+NOT_BEGUN = {"role", "rate", "token"}  # refusals that say that a call wasn't begun
+NAME = re.compile(r"[!-~]+")
 
 
 class Unsettled(Exception):
@@ -33,6 +36,10 @@ class Unsettled(Exception):
 
 class NothingSent(Exception):
     """No server was reached: nothing was asked of any."""
+
+
+class MayNot(Exception):
+    """A server refuses this client: its role, or its token."""
 
 
 class OtherDatabase(Exception):
@@ -104,7 +111,7 @@ class File:
     def __init__(self, path):
         self.path = path
         while True:
-            self._file = open(path, "a+")
+            self._file = open(os.open(path, os.O_RDWR | os.O_CREAT | os.O_NOFOLLOW, 0o600), "r+")
             try:
                 fcntl.flock(self._file, fcntl.LOCK_EX | fcntl.LOCK_NB)
             except BlockingIOError:
@@ -127,7 +134,7 @@ class File:
         return State(database or "", int(session), int(number), call or "", int(upto or 0))
 
     def save(self, state):
-        made = open(f"{self.path}.new", "w")
+        made = open(os.open(f"{self.path}.new", os.O_RDWR | os.O_CREAT | os.O_TRUNC | os.O_NOFOLLOW, 0o600), "w")
         fcntl.flock(made, fcntl.LOCK_EX | fcntl.LOCK_NB)
         made.write(f"dsmdb client 1\ndatabase {state.database}\nsession {state.session}\nnext {state.next}\n")
         if state.call:
@@ -213,14 +220,18 @@ class _Connection:
             self._socket.settimeout(seconds)
             self._socket.connect(place.removeprefix("unix:"))
         self._lines = self._socket.makefile("rb")
+        self.is_open = False  # whether an answer is still to come
         if token and self.ask(f"token {token}", seconds) != "token accepted":
             self.close()
-            raise NothingSent(f"{self.place}: the token is refused")
+            raise MayNot(f"{self.place}: the token is refused")
 
     def ask(self, line, seconds):
+        self.is_open = True
         self._socket.settimeout(seconds)
         self._socket.sendall(f"{line}\n".encode("ascii"))
-        return self.line()
+        found = self.line()
+        self.is_open = found.startswith(" ")
+        return found
 
     def line(self):
         found = self._lines.readline()
@@ -242,6 +253,7 @@ class Client:
         self._within, self._patience, self._token, self._tls = within, patience, token, tls
         self._state, self._connection, self._layout = self._store.load(), None, None
         self._known = self._ahead = 0
+        self._answered = False  # whether the state's call is settled, and its answer was handed on
 
     def __enter__(self):
         return self
@@ -250,20 +262,26 @@ class Client:
         self.close()
 
     def close(self):
+        """Ends the client, whose last answer was handed on."""
         try:
             self._leave()
+            if self._answered:
+                self._forget()
         finally:
             self._store.close()
 
     @property
     def unsettled(self):
-        """The line of a call that isn't settled; empty where there is none."""
-        return self._state.call
+        """The line of a call that isn't settled; empty where there is none. The store has a call until the next one, or
+        `close`: who dies with an answer in hand is told it again by `settle`."""
+        return "" if self._answered else self._state.call
 
     def call(self, name, args=None, *, after=0, fresh=False, **fields):
         """Calls a procedure, and returns what became of the call. Arguments are bytes, or values by name."""
-        if self._state.call:
-            raise Unsettled(f"an earlier call isn't settled: {self._state.call}")
+        if self.unsettled:
+            raise Unsettled(f"an earlier call isn't settled: {self.unsettled}")
+        if not NAME.fullmatch(name):
+            raise ValueError(f"{name!r} is no procedure's name")
         until = time.monotonic() + self._patience
         if args is None:
             args = self._pack(name, fields, until)
@@ -271,11 +289,12 @@ class Client:
         state = self._state
         line = f"call {name} {args.hex() or '-'} {state.session} {state.next}"
         self._save(call=line, upto=max(self._known, after) + self._ahead, next=state.next + 1)
+        self._answered = False
         return self._settle(until, False, after, f" after {after}" * bool(after) + " fresh" * fresh)
 
     def settle(self):
         """Asks what became of the call that isn't settled, and has it done where it wasn't."""
-        if not self._state.call:
+        if not self.unsettled:
             raise ValueError("no call is to be settled")
         return self._settle(time.monotonic() + self._patience, True, 0, "")
 
@@ -286,16 +305,32 @@ class Client:
             self._layout = None if line == "none" else json.loads(json.loads(line))
         return self._layout
 
-    def rows(self, table=None, first=0, last=2**64 - 1, most=1000):
+    def rows(self, table=None, first=0, last=2**64 - 1):
         """Yields (table, key, row) for each row, or for those of a table whose keys are in a range; a row is a dictionary
-        where the server has a layout of the table, else bytes."""
+        where the server has a layout of the table, else bytes. All rows are those of one position; rows of a table are read
+        in pages, each of a position of its own, on a connection of its own."""
         known = {it["number"]: it for it in (self.layout() or {"tables": []})["tables"]}
-        by_name = {it["name"]: number for number, it in known.items()}
-        line = "rows" if table is None else f"scan {by_name.get(table, table)} {first} {last} {most}"
-        for row in self._lines(line):
-            number, key, raw = row.split()
-            raw = bytes.fromhex(raw)
-            yield int(number), int(key), unpack(known[int(number)], raw) if int(number) in known else raw
+        if table is None:
+            yield from self._page("rows", known)
+            return
+        number = {it["name"]: number for number, it in known.items()}.get(table, table)
+        while first <= last:
+            page = list(self._page(f"scan {number} {first} {last} {PAGE}", known))
+            yield from page
+            if len(page) < PAGE:
+                return
+            first = page[-1][1] + 1
+
+    def _page(self, line, known):
+        with contextlib.closing(self._reach()) as connection:
+            answer = connection.ask(line, SILENCE + self._within)
+            while answer.startswith(" "):
+                number, key, raw = answer.split()
+                raw = bytes.fromhex(raw)
+                yield int(number), int(key), unpack(known[int(number)], raw) if int(number) in known else raw
+                answer = connection.line()
+        if not answer.startswith("position "):
+            raise ValueError(f"{line}: {answer}")
 
     def status(self):
         """Returns what a server says of itself, by name."""
@@ -317,55 +352,67 @@ class Client:
             self._wait(until, tries, NothingSent(why))
         raise NothingSent("no answer")
 
-    def _lines(self, line):
-        answer = self.ask(line)
-        while answer.startswith(" "):
-            yield answer
-            answer = self._connection.line()
-        if not answer.startswith("position "):
-            raise ValueError(f"{line}: {answer}")
-
     # ---- settling
 
     def _settle(self, until, sent, after, when):
         """Asks the call until it is settled. Where an earlier ask may have left a copy behind, the call is asked on rows
         behind those on which the copy may run, so that the answer holds of that too."""
-        why = ""
-        for tries in range(1 << 30):
+        why, tries = "", 0
+        while True:
+            answer = None
             try:
                 answer = self._ask_call(until, sent, after, when)
+            except MayNot as fault:
+                why = str(fault)
+                if not sent:
+                    self._forget()
+                    raise
             except OSError as fault:
-                sent, answer, why = sent or self._asked, None, str(fault)
-                self._next()
+                sent, why = sent or self._asked, str(fault)
             if answer:
                 why = answer.line
-                begun = not (answer.word == "late" or answer.word == "refused" and answer.why in NOT_BEGUN)
-                if answer.settled or not sent and not begun and answer.word != "late":
-                    self._save(call="", upto=0)
+                if answer.settled or answer.word == "fault" and not sent:
+                    self._answered = True
                     return self._named(answer)
-                sent = sent or begun
-                if answer.word not in ("late", "unknown", "full"):
-                    return answer  # `settle` may ask again
-                if answer.word == "unknown":
-                    self._next()
+                if answer.word == "late":
+                    if time.monotonic() < until:
+                        continue  # at once, with a higher bound
+                elif answer.word == "refused" and answer.why in NOT_BEGUN and not sent:
+                    self._forget()
+                    return answer
+                elif answer.word == "refused" and answer.why != "rate":
+                    raise Unsettled(why)
+                else:
+                    sent = sent or answer.word != "refused"
+            if not answer or answer.word == "unknown":
+                self._next()
             if not self._wait(until, tries):
                 break
+            tries += 1
         if not sent:
-            self._save(call="", upto=0, next=self._state.next - 1)
+            self._forget()
             raise NothingSent(why)
         raise Unsettled(why)
+
+    def _forget(self):
+        self._save(call="", upto=0)
+        self._answered = False
 
     def _ask_call(self, until, again, after, when):
         self._asked = False
         self._connect(until)
         line = self._state.call + (f" fresh after {self._state.upto}" if again else when)
         upto = max(self._known, self._state.upto if again else after) + self._ahead
+        if again:  # as far as a server makes an order longer
+            upto = min(upto, self._known + MOST_AHEAD)
         if upto > self._state.upto:
             self._save(upto=upto)
         self._asked = True
         answer = parse(self._connection.ask(f"{line} upto {self._state.upto} within {self._within}", self._within + SILENCE))
         if answer.word in ("committed", "read", "cancelled", "conflict", "stale", "late"):
             self._known = max(self._known, answer.at)
+        if answer.word == "late":
+            self._hear(self._connection)  # the order grows faster than was told
         return answer
 
     def _named(self, answer):
@@ -394,6 +441,8 @@ class Client:
                 if answer.word == "session":
                     self._save(session=answer.at, next=1)
                     return
+                if answer.word == "refused" and answer.why != "rate":
+                    raise MayNot(answer.line)
                 why = answer.line
             except OSError as fault:
                 why = str(fault)
@@ -403,22 +452,29 @@ class Client:
     # ---- connections
 
     def _connect(self, until):
-        if self._connection:
-            return
-        place = self._servers[0]
-        connection = _Connection(place, SILENCE, self._token, self._tls)
+        if self._connection and self._connection.is_open:
+            self._leave()  # an answer would come that nobody waits for
+        if not self._connection:
+            self._connection = self._reach()
+
+    def _reach(self):
+        connection = _Connection(self._servers[0], SILENCE, self._token, self._tls)
+        try:
+            self._hear(connection)
+        except BaseException:
+            connection.close()
+            raise
+        return connection
+
+    def _hear(self, connection):
+        """Asks which database this is, and where its order is."""
         try:
             word, database, _, position, ahead = connection.ask("hello", SILENCE).split(" ")
         except ValueError:
-            connection.close()
-            raise ConnectionError(f"{place} is no server of dsmdb, or of another version") from None
-        except OSError:
-            connection.close()
-            raise
+            raise ConnectionError(f"{connection.place} is no server of dsmdb, or of another version") from None
         if self._state.database not in ("", database):
-            connection.close()
-            raise OtherDatabase(f"{place} has database {database}, and the store is of {self._state.database}")
-        self._connection, self._ahead = connection, int(ahead)
+            raise OtherDatabase(f"{connection.place} has database {database}, and the store is of {self._state.database}")
+        self._ahead = int(ahead)
         self._state = self._state._replace(database=database)
         self._known = max(self._known, int(position))
 

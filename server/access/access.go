@@ -222,7 +222,13 @@ func (w *Who) May(ask wire.Ask, now time.Time) error {
 	case *wire.Call:
 		return w.mayCall(it.Name, now)
 	case wire.NewSession:
-		return w.mayBegin()
+		if err := w.mayBegin(); err != nil || w.role == nil {
+			return err
+		}
+		if !w.role.takeCall(now) {
+			return TooMany
+		}
+		return nil
 	case *wire.Add:
 		return w.has(Add)
 	case wire.Rows, *wire.Scan:
@@ -249,11 +255,19 @@ func (w *Who) has(right Right) error {
 }
 
 func (w *Who) mayBegin() error {
-	if w.local || w.role != nil || w.policy.roles == nil && (w.named || w.policy.open) {
+	switch {
+	case w.local:
+		return nil
+	case w.role != nil && len(w.role.Call) > 0:
+		return nil
+	case w.role == nil && w.policy.roles == nil && (w.named || w.policy.open):
 		return nil
 	}
 	return NoRole
 }
+
+// MayCall returns whether somebody may call anything.
+func (w *Who) MayCall() bool { return w.mayBegin() == nil }
 
 func (w *Who) mayCall(name string, now time.Time) error {
 	if err := w.mayBegin(); err != nil || w.role == nil {

@@ -67,7 +67,7 @@ func TestRoles(t *testing.T) {
 	hash := sha256.Sum256([]byte("word"))
 	p, err := parse([]byte(fmt.Sprintf(`{"roles": [
 		{"name": "till", "certificates": ["till.example", "spiffe://x/till"], "call": ["pay"]},
-		{"name": "clerk", "tokens": ["%x"], "call": ["*"], "rights": ["rows", "add"], "calls_per_second": 2},
+		{"name": "clerk", "tokens": ["%x"], "call": ["*"], "rights": ["rows", "add"], "calls_per_second": 10},
 		{"name": "none"}]}`, hash)))
 	if err != nil {
 		t.Fatal(err)

@@ -13,6 +13,7 @@ import (
 	"net/http"
 	"strconv"
 	"strings"
+	"sync/atomic"
 	"time"
 
 	"dsmdb/server/access"
@@ -39,7 +40,15 @@ type Options struct {
 // Handler answers requests.
 type Handler struct {
 	Options
-	routes *http.ServeMux
+	routes   *http.ServeMux
+	draining atomic.Bool
+}
+
+// Drain has requests that change something be refused from now on. It does nothing to none.
+func (h *Handler) Drain() {
+	if h != nil {
+		h.draining.Store(true)
+	}
 }
 
 // New makes a handler.
@@ -80,6 +89,10 @@ func (h *Handler) ServeHTTP(w http.ResponseWriter, r *http.Request) {
 		return
 	}
 	w.Header().Set("X-Content-Type-Options", "nosniff")
+	if h.draining.Load() && r.Method == http.MethodPost {
+		tell(w, problem{Status: http.StatusServiceUnavailable, Title: "the server is ending", Detail: "ask another server"})
+		return
+	}
 	h.routes.ServeHTTP(w, r)
 }
 
@@ -256,13 +269,26 @@ func (h *Handler) call(w http.ResponseWriter, r *http.Request) {
 	if !h.may(w, r, call) {
 		return
 	}
-	if found, _ := h.Site.Snapshot(); body.Database != "" && body.Database != hex.EncodeToString(found.Database[:]) {
-		tell(w, problem{Status: http.StatusConflict, Title: "this is another database than the one that the call is for"})
+	if body.Database != "" && !h.isOf(w, body.Database) {
 		return
 	}
 	if answer, is := h.ask(r, call); is {
 		h.tellAnswer(w, answer)
 	}
+}
+
+// isOf returns whether this is the database that a call is for; it answers for itself where not.
+func (h *Handler) isOf(w http.ResponseWriter, database string) bool {
+	found, is := h.Site.Snapshot()
+	if !is || found.End == 0 {
+		tell(w, problem{Status: http.StatusServiceUnavailable, Title: "it isn't known yet which database this is", Detail: "ask again"})
+		return false
+	}
+	if database != hex.EncodeToString(found.Database[:]) {
+		tell(w, problem{Status: http.StatusConflict, Title: "this is another database than the one that the call is for"})
+		return false
+	}
+	return true
 }
 
 // callOf returns the record of a call. Nothing of the body becomes part of a line before wire.Call writes it.

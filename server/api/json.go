@@ -87,7 +87,7 @@ func decode(w http.ResponseWriter, r *http.Request, to any) bool {
 	return true
 }
 
-// words are what refusals of calls and additions mean, and what to do.
+// refusals say what those of calls and additions mean, and what to do.
 var refusals = map[string][2]string{
 	"P2":  {"there is no procedure of that name", "GET /v1/procedures lists them"},
 	"P3":  {"the arguments have another length than the procedure's", "GET /v1/procedures has each length"},
@@ -130,7 +130,7 @@ func (h *Handler) tellAnswer(w http.ResponseWriter, answer site.Answer) {
 		}
 		tell(w, problem{Status: 422, Title: known[0], Detail: known[1], Rule: answer.Text, Answer: line})
 	case site.Unknown:
-		tell(w, problem{Status: 503, Title: "it isn't known whether the call was done", Detail: "ask again with the same pair, fresh", Answer: line})
+		tell(w, problem{Status: 503, Title: "it isn't known whether the call was done", Detail: "ask again with the same pair: fresh, after the greatest upto that was given, with a greater upto", Answer: line})
 	default:
 		tell(w, problem{Status: 500, Title: "the engine answers otherwise than it may", Answer: line})
 	}

@@ -131,6 +131,9 @@ func (h *Handler) writeRows(w io.Writer, lines *site.Spool, one bool) {
 		first = false
 		encoder.Encode(found)
 	}
+	if scanner.Err() != nil {
+		panic(http.ErrAbortHandler) // so that nobody takes a part for the whole
+	}
 	if !one {
 		out.WriteString("]}\n")
 	}

@@ -18,10 +18,18 @@ type Answer struct {
 // Done returns whether the call was done: it committed, or it read.
 func (a Answer) Done() bool { return a.Word == "committed" || a.Word == "read" }
 
+// settles returns whether an answer settles a call, of which a copy may have been sent before.
+func (a Answer) settles(sent bool) bool { return a.Settled() || a.Word == "fault" && !sent }
+
+// isRefusal returns whether who asked may not, so that nothing was begun.
+func (a Answer) isRefusal() bool {
+	return a.Word == "refused" && (a.Why == "role" || a.Why == "rate" || a.Why == "token")
+}
+
 // Settled returns whether the call is settled, where it was asked so that an answer holds of all its copies.
 func (a Answer) Settled() bool {
 	switch a.Word {
-	case "committed", "read", "cancelled", "conflict", "stale", "other", "fault":
+	case "committed", "read", "cancelled", "conflict", "stale", "other":
 		return true
 	case "refused":
 		return a.Why == "P2" || a.Why == "P3" || a.Why == "P13" || a.Why == "P15"

@@ -15,11 +15,16 @@ const (
 	longestPause = time.Second
 	silence      = 10 * time.Second // beyond the time that a server was given, before another one is asked
 	lastSequence = 1<<32 - 1
+	mostAhead    = 65_536 // strings that an order is made longer by
 )
 
 var (
 	// ErrUnsettled says that a call may have been done, or may still be. Settle asks what became of it.
 	ErrUnsettled = errors.New("it isn't known whether the call was done")
+	// ErrNoName says that a word can't be a procedure's name.
+	ErrNoName = errors.New("it is no procedure's name")
+	// ErrMayNot says that a server refuses this client.
+	ErrMayNot = errors.New("the server refuses it")
 	// ErrNothingSent says that no server could be reached: nothing was asked of any.
 	ErrNothingSent = errors.New("no server was reached")
 )
@@ -44,14 +49,15 @@ type Options struct {
 
 // Client is one session with a database. It has one call out at a time, and one goroutine has it.
 type Client struct {
-	servers []string
-	dialer  Dialer
-	store   Store
-	within  time.Duration
-	state   State
-	conn    *Conn
-	known   uint64 // the last position that a server told
-	ahead   uint64
+	servers  []string
+	dialer   Dialer
+	store    Store
+	within   time.Duration
+	state    State
+	answered bool // whether the state's call is settled, and its answer was handed to the caller
+	conn     *Conn
+	known    uint64 // the last position that a server told
+	ahead    uint64
 }
 
 // Open opens a client. A call that a client before this one wasn't answered has to be settled before another is made.
@@ -74,14 +80,38 @@ func Open(o Options) (*Client, error) {
 	return c, nil
 }
 
-// Close ends the client. Its store is closed too.
+// Close ends the client, whose last answer was handed on. Its store is closed too.
 func (c *Client) Close() error {
 	c.leave()
-	return c.store.Close()
+	var err error
+	if c.answered {
+		err = c.forget()
+	}
+	if fault := c.store.Close(); err == nil {
+		err = fault
+	}
+	return err
+}
+
+// Abandon ends the client where its last answer wasn't handed on, so that Settle tells it again.
+func (c *Client) Abandon() {
+	c.leave()
+	c.store.Close()
 }
 
 // Unsettled returns the line of a call that isn't settled; false where there is none.
-func (c *Client) Unsettled() (string, bool) { return c.state.Call, c.state.Call != "" }
+func (c *Client) Unsettled() (string, bool) {
+	if c.answered {
+		return "", false
+	}
+	return c.state.Call, c.state.Call != ""
+}
+
+// IsUnsettled returns whether the call that isn't settled is one of a procedure with arguments.
+func (c *Client) IsUnsettled(name string, args []byte) bool {
+	line, is := c.Unsettled()
+	return is && strings.HasPrefix(line, fmt.Sprintf("call %s %s ", name, wire.HexOf(args)))
+}
 
 // When says on which rows a call begins.
 type When struct {
@@ -91,29 +121,51 @@ type When struct {
 
 // Call calls a procedure, and returns what became of the call. It goes on asking until the context ends. After
 // ErrUnsettled, or where the process ends, Settle asks for what became of it.
+//
+// The store has the call until the next one, or Close: who dies with an answer in his hands is told it again by Settle.
 func (c *Client) Call(ctx context.Context, name string, args []byte, when When) (Answer, error) {
-	if c.state.Call != "" {
+	if _, is := c.Unsettled(); is {
 		return Answer{}, fmt.Errorf("an earlier call isn't settled: %w", ErrUnsettled)
+	}
+	if !isName(name) {
+		return Answer{}, fmt.Errorf("%q: %w", name, ErrNoName)
 	}
 	if err := c.begin(ctx); err != nil {
 		return Answer{}, err
 	}
 	call := wire.Call{Name: name, Args: args, Session: uint32(c.state.Session), Sequence: uint32(c.state.Next)}
-	c.state.Call, c.state.Upto = call.String(), c.upto(when, false)
-	c.state.Next++
-	if err := c.store.Save(c.state); err != nil {
-		c.state.Call, c.state.Next = "", c.state.Next-1
+	next := c.state
+	next.Call, next.Upto, next.Next = call.String(), 0, c.state.Next+1
+	next.Upto = c.upto(when, false)
+	if err := c.store.Save(next); err != nil {
 		return Answer{}, err
 	}
+	c.state, c.answered = next, false
 	return c.settle(ctx, when, true)
+}
+
+// isName returns whether a word can be a procedure's in a line: no space, and printable.
+func isName(name string) bool {
+	for _, it := range []byte(name) {
+		if it <= ' ' || it > '~' {
+			return false
+		}
+	}
+	return name != ""
 }
 
 // Settle asks what became of the call that isn't settled, and has it done where it wasn't.
 func (c *Client) Settle(ctx context.Context) (Answer, error) {
-	if c.state.Call == "" {
+	if _, is := c.Unsettled(); !is {
 		return Answer{}, errors.New("no call is to be settled")
 	}
 	return c.settle(ctx, When{}, false)
+}
+
+// forget has the store keep the call no longer.
+func (c *Client) forget() error {
+	c.state.Call, c.state.Upto, c.answered = "", 0, false
+	return c.store.Save(c.state)
 }
 
 // settle asks the call until it is settled. Where an earlier ask may have left a copy behind, an answer has to hold of
@@ -122,29 +174,28 @@ func (c *Client) settle(ctx context.Context, when When, first bool) (Answer, err
 	sent := !first
 	for tries := 0; ; tries++ {
 		answer, asked, err := c.askCall(ctx, when, sent)
-		sent = sent || asked
 		var other *OtherDatabase
 		switch {
 		case errors.As(err, &other):
 			return Answer{}, err
-		case err == nil && answer.Settled():
-			c.state.Call = ""
-			return answer, c.store.Save(c.state)
-		case err == nil && !(answer.Word == "late" || answer.Word == "unknown" || answer.Word == "full"):
-			if !sent {
-				c.state.Call = ""
-				err = c.store.Save(c.state)
-			}
-			return answer, err // it may be asked again by Settle
+		case err == nil && answer.settles(sent):
+			c.answered = true
+			return answer, nil
+		case err == nil && answer.Word == "late":
+			continue // at once, with a higher bound
+		case err == nil && answer.isRefusal() && !sent && !asked:
+			return answer, c.forget() // nothing was begun
+		case err == nil && answer.Word == "refused" && answer.Why != "rate":
+			return answer, fmt.Errorf("%w: %s", ErrUnsettled, answer.Line)
 		case err != nil || answer.Word == "unknown":
 			c.next()
 		}
+		sent = sent || asked
 		if wait(ctx, tries) {
 			continue
 		}
 		if !sent {
-			c.state.Call = ""
-			if fault := c.store.Save(c.state); fault != nil {
+			if fault := c.forget(); fault != nil {
 				return answer, fault
 			}
 			return answer, fmt.Errorf("%w: %v", ErrNothingSent, err)
@@ -187,12 +238,10 @@ func (c *Client) askCall(ctx context.Context, when When, again bool) (answer Ans
 		return answer, true, err
 	}
 	c.learn(answer)
-	return answer, again || !isBefore(answer), nil
-}
-
-// isBefore returns whether an answer says that the call wasn't begun.
-func isBefore(answer Answer) bool {
-	return answer.Word == "late" || answer.Word == "refused" && (answer.Why == "role" || answer.Why == "rate")
+	if answer.Word == "late" {
+		err = c.greet(limited) // the order grows faster than was told
+	}
+	return answer, again || answer.Word != "late" && !answer.isRefusal(), err
 }
 
 // upto returns the position up to which a new ask may run. One that is asked again runs behind all asks before.
@@ -204,7 +253,11 @@ func (c *Client) upto(when When, again bool) uint64 {
 	if again && c.state.Upto > from {
 		from = c.state.Upto
 	}
-	return from + c.ahead
+	from += c.ahead
+	if most := c.known + mostAhead; again && from > most { // as far as a server makes an order longer
+		from = most
+	}
+	return from
 }
 
 func (c *Client) seconds() int64 { return int64((c.within + time.Second - 1) / time.Second) }
@@ -224,7 +277,7 @@ func (c *Client) begin(ctx context.Context) error {
 	for tries := 0; ; tries++ {
 		err := c.tryBegin(ctx)
 		var other *OtherDatabase
-		if err == nil || errors.As(err, &other) {
+		if err == nil || errors.As(err, &other) || errors.Is(err, ErrMayNot) {
 			return err
 		}
 		c.next()
@@ -248,6 +301,9 @@ func (c *Client) tryBegin(ctx context.Context) error {
 		return err
 	}
 	answer, err := parse(line)
+	if err == nil && answer.isRefusal() && answer.Why != "rate" {
+		return fmt.Errorf("%w: %s", ErrMayNot, line)
+	}
 	if err != nil || answer.Word != "session" {
 		return fmt.Errorf("a session is asked for, and answered %s", line)
 	}
@@ -266,14 +322,15 @@ func (c *Client) Ask(ctx context.Context, line string) (string, error) {
 	return c.Lines(ctx, line, func(string) error { return nil })
 }
 
-// Lines asks a line whose answer may have rows, which are handed over. Where a server ends while it answers, take gets
-// rows from the first one on again, behind a call of restart.
+// Lines asks a line whose answer may have rows, which are handed over, on a connection of its own. Where a server ends
+// while it answers, that is an error.
 func (c *Client) Lines(ctx context.Context, line string, take func(row string) error) (string, error) {
 	for tries := 0; ; tries++ {
-		rows := 0
-		answer, err := "", c.connect(ctx)
+		rows, answer := 0, ""
+		reached, err := c.reach(ctx)
 		if err == nil {
-			answer, err = c.conn.Lines(ctx, line, func(row string) error { rows++; return take(row) })
+			answer, err = reached.Lines(ctx, line, func(row string) error { rows++; return take(row) })
+			reached.Close()
 		}
 		if err == nil && !strings.HasPrefix(answer, "unknown") {
 			return answer, nil
@@ -289,33 +346,47 @@ func (c *Client) Lines(ctx context.Context, line string, take func(row string) e
 	}
 }
 
-// connect reaches a server, and compares its database with the state's.
+// connect has a connection for calls.
 func (c *Client) connect(ctx context.Context) error {
 	if c.conn != nil {
 		return nil
 	}
+	reached, err := c.reach(ctx)
+	c.conn = reached
+	return err
+}
+
+// reach reaches a server, and compares its database with the state's.
+func (c *Client) reach(ctx context.Context) (*Conn, error) {
 	limited, cancel := context.WithTimeout(ctx, silence)
 	defer cancel()
 	reached, err := c.dialer.Dial(limited, c.servers[0])
 	if err != nil {
-		return fmt.Errorf("%s: %w", c.servers[0], err)
+		return nil, fmt.Errorf("%s: %w", c.servers[0], err)
 	}
-	line, err := reached.Ask(limited, "hello")
-	if err != nil {
+	if err := c.hear(limited, reached); err != nil {
 		reached.Close()
+		return nil, err
+	}
+	return reached, nil
+}
+
+// greet asks anew where the order is.
+func (c *Client) greet(ctx context.Context) error { return c.hear(ctx, c.conn) }
+
+func (c *Client) hear(ctx context.Context, from *Conn) error {
+	line, err := from.Ask(ctx, "hello")
+	if err != nil {
 		return fmt.Errorf("%s: %w", c.servers[0], err)
 	}
 	found, err := parseHello(line)
 	if err != nil {
-		reached.Close()
 		return fmt.Errorf("%s: %w", c.servers[0], err)
 	}
 	if c.state.Database != "" && c.state.Database != found.database {
-		reached.Close()
 		return &OtherDatabase{c.servers[0], c.state.Database, found.database}
 	}
-	c.conn, c.state.Database = reached, found.database
-	c.ahead = found.ahead
+	c.state.Database, c.ahead = found.database, found.ahead
 	if found.position > c.known {
 		c.known = found.position
 	}

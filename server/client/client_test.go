@@ -95,8 +95,10 @@ func TestACallIsAskedUntilItIsSettled(t *testing.T) {
 		{"at once", []string{greeting, "session 7", "committed 8 reply 1"}, []string{"call add 01 7 1 upto 21 within 2"}, "committed 8 reply 1", false},
 		{"an answer is lost", []string{greeting, "session 7", "", greeting, "committed 30 reply 1"},
 			[]string{"call add 01 7 1 upto 21 within 2", "call add 01 7 1 fresh after 21 upto 37 within 2"}, "committed 30 reply 1", false},
-		{"late, and then lost", []string{greeting, "session 7", "late 100", "", greeting, "conflict 140 3"},
+		{"late, and then lost", []string{greeting, "session 7", "late 100", greeting, "", greeting, "conflict 140 3"},
 			[]string{"call add 01 7 1 upto 21 within 2", "call add 01 7 1 upto 116 within 2", "call add 01 7 1 fresh after 116 upto 132 within 2"}, "conflict 140 3", false},
+		{"a line at fault behind a copy", []string{greeting, "session 7", "", greeting, "fault L4", "committed 60 reply 1"},
+			[]string{"call add 01 7 1 upto 21 within 2", "call add 01 7 1 fresh after 21 upto 37 within 2", "call add 01 7 1 fresh after 37 upto 53 within 2"}, "committed 60 reply 1", false},
 		{"no role", []string{greeting, "session 7", "refused role"}, []string{"call add 01 7 1 upto 21 within 2"}, "refused role", false},
 		{"no memory", []string{greeting, "session 7", "refused P9"}, []string{"call add 01 7 1 upto 21 within 2"}, "refused P9", true},
 	} {
@@ -107,13 +109,16 @@ func TestACallIsAskedUntilItIsSettled(t *testing.T) {
 			t.Fatal(err)
 		}
 		answer, err := c.Call(within(t, 20*time.Second), "add", []byte{1}, When{})
-		if err != nil || answer.Line != it.want || !reflect.DeepEqual(s.calls(), it.calls) {
+		if errors.Is(err, ErrUnsettled) != it.left || answer.Line != it.want || !reflect.DeepEqual(s.calls(), it.calls) {
 			t.Errorf("%s: %q, %v; asked %q", it.name, answer.Line, err, s.calls())
 		}
-		if _, left := c.Unsettled(); left != it.left || left != (store.state.Call != "") {
+		if _, left := c.Unsettled(); left != it.left {
 			t.Errorf("%s: unsettled %v", it.name, left)
 		}
 		c.Close()
+		if left := store.state.Call != ""; left != it.left {
+			t.Errorf("%s: kept %v", it.name, left)
+		}
 	}
 }
 
@@ -132,6 +137,39 @@ func TestWhereNobodyAnswersInTime(t *testing.T) {
 	}
 	if _, err := c.Call(within(t, time.Second), "add", nil, When{}); !errors.Is(err, ErrUnsettled) {
 		t.Error(err)
+	}
+}
+
+// Who dies with an answer in hand, or goes on, is told as the store says.
+func TestAnAnswerIsKeptUntilItIsHandedOn(t *testing.T) {
+	store := &Memory{State{Next: 1}}
+	s := serve(t, greeting, "session 7", "committed 8 reply 1", "committed 9 reply 2", greeting, "committed 9 reply 2")
+	c, _ := Open(Options{Servers: []string{s.path}, Store: store, Within: 2 * time.Second})
+	for _, want := range []string{"call add 01 7 1", "call add 01 7 2"} {
+		if _, err := c.Call(within(t, 10*time.Second), "add", []byte{1}, When{}); err != nil || store.state.Call != want {
+			t.Errorf("%v; %q", err, store.state.Call)
+		}
+	}
+	c.Abandon()
+	c, _ = Open(Options{Servers: []string{s.path}, Store: store, Within: 2 * time.Second})
+	if !c.IsUnsettled("add", []byte{1}) || c.IsUnsettled("add", []byte{2}) || c.IsUnsettled("ad", []byte{1}) {
+		t.Error("another call")
+	}
+	if answer, err := c.Settle(within(t, 10*time.Second)); err != nil || answer.Line != "committed 9 reply 2" {
+		t.Error(answer, err)
+	}
+	c.Close()
+	if store.state.Call != "" || store.state.Next != 3 {
+		t.Errorf("%+v", store.state)
+	}
+}
+
+func TestNamesThatAreNone(t *testing.T) {
+	c, _ := Open(Options{Servers: []string{"nowhere"}})
+	for _, name := range []string{"", "a b", "a\nposition", "a\t", "gr\u00fc"} {
+		if _, err := c.Call(within(t, time.Second), name, nil, When{}); err == nil || errors.Is(err, ErrNothingSent) {
+			t.Errorf("%q: %v", name, err)
+		}
 	}
 }
 

@@ -9,6 +9,8 @@ import (
 	"fmt"
 	"io"
 	"net"
+	"os"
+	"path/filepath"
 	"strings"
 	"time"
 )
@@ -27,7 +29,7 @@ type Conn struct {
 	lines *bufio.Reader
 }
 
-// Dial reaches a server at a place: the path of a Unix socket, tcp://HOST:PORT or tls://HOST:PORT.
+// Dial reaches a server at a place: its data folder, the path of a Unix socket, tcp://HOST:PORT or tls://HOST:PORT.
 func (d *Dialer) Dial(ctx context.Context, place string) (*Conn, error) {
 	reached, err := d.reach(ctx, place)
 	if err != nil {
@@ -56,7 +58,11 @@ func (d *Dialer) reach(ctx context.Context, place string) (net.Conn, error) {
 		secured := tls.Dialer{NetDialer: &dialer, Config: d.TLS}
 		return secured.DialContext(ctx, "tcp", address)
 	}
-	return dialer.DialContext(ctx, "unix", strings.TrimPrefix(place, "unix:"))
+	path := strings.TrimPrefix(place, "unix:")
+	if found, err := os.Stat(path); err == nil && found.IsDir() { // a server's data folder
+		path = filepath.Join(path, "socket")
+	}
+	return dialer.DialContext(ctx, "unix", path)
 }
 
 // Ask asks a line, which is without LF, and returns the line that answers it. After an error the connection is of no use.

@@ -102,9 +102,12 @@ async function call(event) {
       pair = { session: begun.session, sequence: 0 }
     }
     if (unsettled) {
+      const same = unsettled.name === name && JSON.stringify(unsettled.body.args) === JSON.stringify(argsOf())
       const earlier = await asked("v1/call/" + unsettled.name, { ...unsettled.body, fresh: true })
-      tell("earlier " + unsettled.name, earlier)
+      tell((same ? "" : "earlier ") + unsettled.name, earlier)
       if (!isSettled(earlier)) return
+      unsettled = null
+      if (same) return look() // the call that was asked for is that one
     }
     pair.sequence += 1
     unsettled = { name, body: { args: argsOf(), session: pair.session, sequence: String(pair.sequence), fresh: find("fresh").checked } }

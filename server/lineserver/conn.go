@@ -16,8 +16,11 @@ import (
 )
 
 const (
+	finishIn  = 3 * time.Second
 	firstRoom = 1 << 12 // bytes of a connection's buffer
 	keptRoom  = 1 << 16 // bytes of a buffer that is kept
+
+	longestOfStrangers = 1 << 13 // bytes of a line of somebody who may not call
 )
 
 // conn is one client's connection. One goroutine reads its lines, another writes its answers.
@@ -67,9 +70,10 @@ func (c *conn) run() {
 	c.net.Close()
 }
 
-// finish has the connection write what it has, and end.
+// finish has the connection write what it has, for some seconds, and end.
 func (c *conn) finish() {
 	c.net.SetReadDeadline(time.Unix(1, 0))
+	time.AfterFunc(finishIn, func() { c.net.Close() })
 }
 
 // ---- what is asked
@@ -77,8 +81,14 @@ func (c *conn) finish() {
 // read reads lines until the client's end.
 func (c *conn) read() {
 	buffer, held, passing := make([]byte, firstRoom), 0, false
+	var begun time.Time // of a line that is half sent
 	for {
-		c.net.SetReadDeadline(time.Now().Add(c.server.Limits.Idle))
+		if held == 0 && !passing {
+			begun = time.Time{}
+		} else if begun.IsZero() {
+			begun = time.Now()
+		}
+		c.net.SetReadDeadline(c.readUntil(begun))
 		if c.hasEnded() {
 			return
 		}
@@ -95,6 +105,8 @@ func (c *conn) read() {
 			return
 		}
 		switch {
+		case held > longestOfStrangers && !c.who.MayCall():
+			return // nobody who may not call has a line so long
 		case passing || held > wire.LongestLine:
 			passing, held = true, 0 // up to its end
 		case held == len(buffer):
@@ -103,6 +115,14 @@ func (c *conn) read() {
 			buffer = make([]byte, firstRoom)
 		}
 	}
+}
+
+// readUntil returns until when a client may stay silent; with the time at which a line was half sent.
+func (c *conn) readUntil(begun time.Time) time.Time {
+	if begun.IsZero() {
+		return time.Now().Add(c.server.Limits.Idle)
+	}
+	return begun.Add(c.server.Limits.Line)
 }
 
 func (c *conn) hasEnded() bool {
@@ -136,8 +156,8 @@ func (c *conn) take(lines []byte, passing *bool) bool {
 		case *wire.Join:
 			c.answerAtOnce(line.Tag, c.invite(ask), &some)
 		default:
-			if err := c.who.May(ask, time.Now()); err != nil {
-				c.answerAtOnce(line.Tag, "refused "+err.Error(), &some)
+			if why := c.refusal(ask); why != "" {
+				c.answerAtOnce(line.Tag, why, &some)
 				continue
 			}
 			if !c.waitForRoom(line.Tag, &some) {
@@ -148,6 +168,25 @@ func (c *conn) take(lines []byte, passing *bool) bool {
 	}
 	if len(some) > 0 {
 		c.server.Site.Ask(some...)
+	}
+	return true
+}
+
+// refusal returns why a request isn't taken; empty where it is.
+func (c *conn) refusal(ask wire.Ask) string {
+	if c.server.draining.Load() && needsRows(ask) {
+		return "unknown " + site.IsStopping
+	}
+	if err := c.who.May(ask, time.Now()); err != nil {
+		return "refused " + err.Error()
+	}
+	return ""
+}
+
+func needsRows(ask wire.Ask) bool {
+	switch ask.(type) {
+	case wire.Position, wire.Status, wire.Hello:
+		return false
 	}
 	return true
 }
@@ -208,9 +247,14 @@ func (c *conn) waitForRoom(tag string, some *[]*site.Request) bool {
 		}
 		c.less.Wait()
 	}
+	if c.broken {
+		c.waiting -= len(*some) // which nobody is asked any more
+		*some = nil
+		return false
+	}
 	c.waiting++
 	c.plain = c.plain || tag == ""
-	return !c.broken
+	return true
 }
 
 // free says that a request was answered.

@@ -20,12 +20,13 @@ type Limits struct {
 	Connections int           // at once; over them a connection is closed at once
 	Requests    int           // under way on one connection before more are read
 	Bytes       int           // of answers that a client hasn't read, before more of its requests are read
-	Idle        time.Duration // of a connection on which nothing is asked, or a line stays half sent
+	Idle        time.Duration // of a connection on which nothing is asked
+	Line        time.Duration // in which a line has to come whole
 	Send        time.Duration // for which a client may not read an answer
 }
 
 // DefaultLimits are those of a server that isn't told others.
-var DefaultLimits = Limits{Connections: 20_000, Requests: 1_024, Bytes: 4 << 20, Idle: 30 * time.Minute, Send: time.Minute}
+var DefaultLimits = Limits{Connections: 20_000, Requests: 1_024, Bytes: 4 << 20, Idle: 30 * time.Minute, Line: time.Minute, Send: time.Minute}
 
 // Server answers lines by a site.
 type Server struct {
@@ -36,6 +37,8 @@ type Server struct {
 	// Invite takes a new member into the cluster, and returns all members; nil where there is no cluster.
 	Invite func(ctx context.Context, name, place string) (members string, err error)
 	Say    func(format string, values ...any)
+
+	draining atomic.Bool
 
 	open    atomic.Int64
 	refused atomic.Uint64
@@ -84,6 +87,9 @@ func (s *Server) Serve(ctx context.Context, listener net.Listener) error {
 		}()
 	}
 }
+
+// Drain has requests that need rows or the order be answered by "unknown stopping" from now on.
+func (s *Server) Drain() { s.draining.Store(true) }
 
 // Close has each connection send what it has, and end. New ones are closed at once.
 func (s *Server) Close() {

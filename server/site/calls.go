@@ -23,12 +23,11 @@ func (s *Site) arrive(r *Request) {
 	if s.now.IsZero() {
 		s.now = time.Now()
 	}
-	r.began, r.text.For = s.now, r
+	r.began = s.now
 	r.deadline = s.now.Add(s.patience)
 	if call := r.call(); call != nil && call.Within > 0 {
 		r.deadline = s.now.Add(call.Within)
 	}
-	r.text.Wanted = func() bool { return !r.done.Load() && !r.Asker.Gone() }
 	s.asking.add(r)
 	switch r.Ask.(type) {
 	case wire.Position:
@@ -127,8 +126,9 @@ func (s *Site) tooLate(r *Request) {
 }
 
 func (s *Site) submit(r *Request, text []byte) {
-	r.text.Text, r.out, r.handed = text, true, s.now
-	s.submitted = append(s.submitted, &r.text)
+	r.out, r.handed = true, s.now
+	wanted := func() bool { return !r.done.Load() && !r.Asker.Gone() }
+	s.submitted = append(s.submitted, &order.String{Text: text, Wanted: wanted, For: r})
 }
 
 // ran takes in what the engine answers to a call's run.

@@ -7,6 +7,7 @@ import (
 	"time"
 
 	"dsmdb/server/batch"
+	"dsmdb/server/engine"
 )
 
 const (
@@ -28,10 +29,11 @@ type restart struct {
 
 // refeed is a step of an engine's start.
 type refeed struct {
-	engine Engine
-	texts  [][]byte
-	err    error
-	taken  chan struct{}
+	engine  Engine
+	texts   [][]byte
+	err     error
+	reading bool // whether the order can't be read again
+	taken   chan struct{}
 }
 
 // answers returns where answers and steps are to be taken from.
@@ -120,7 +122,7 @@ func (s *Site) refeed(ctx context.Context, r *restart, pause time.Duration) {
 		return nil
 	})
 	if err != nil && ctx.Err() == nil {
-		r.hand(ctx, s.closed, refeed{err: fmt.Errorf("reading the order again: %w", err)})
+		r.hand(ctx, s.closed, refeed{err: fmt.Errorf("reading the order again: %w", err), reading: true})
 	}
 }
 
@@ -146,8 +148,12 @@ func (s *Site) takeRefeed(it refeed) error {
 	if r == nil {
 		return nil
 	}
-	if it.err != nil {
+	var fault *engine.SettingsFault
+	switch {
+	case it.err != nil && (it.reading || errors.As(it.err, &fault)):
 		return it.err
+	case it.err != nil:
+		return s.restart(it.err)
 	}
 	if it.engine != nil {
 		s.engine.Close()

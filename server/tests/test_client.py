@@ -6,6 +6,7 @@ import sys
 import threading
 
 import fixtures
+from etcd_nodes import free_port
 from fixtures import ONE, ROOT, ServerTest, until, words
 
 sys.path.insert(0, f"{ROOT}/sdk/python")
@@ -126,6 +127,26 @@ class Commands(ServerTest):
         self.assertRegex(lines[1], r"^committed \d+ reply 11$")
         self.assertEqual(self.file(), ["session 2", "next 3"])
 
+    def test_the_same_command_asks_on(self):
+        self.asks("session")
+        with open(self.path, "a") as file:
+            file.write(f"call add {words(5, 10)} 2 1 upto 18\n")
+        with open(self.path) as file:
+            text = file.read().replace("next 1", "next 2")
+        with open(self.path, "w") as file:
+            file.write(text)
+        status, (line,) = self.asks("call", "add", words(5, 10))
+        self.assertEqual((status, line.split(" ")[2:]), (0, ["reply", "10"]))
+        self.assertRegex(self.asks("call", "add", words(5, 10))[1][0], r"^committed \d+ reply 20$")
+
+    def test_an_answer_that_cannot_be_printed_is_kept(self):
+        asked = [fixtures.SERVER, "call", "--at", self.one.data, "--file", self.path, "add", words(5, 10)]
+        with open("/dev/full", "w") as full:
+            ran = subprocess.run(asked, stdout=full, stderr=subprocess.PIPE)
+        self.assertEqual(ran.returncode, 5)
+        self.assertTrue(self.file()[-1].startswith(f"call add {words(5, 10)} "))
+        self.assertEqual(self.asks("call", "add", words(5, 10)), (0, ["committed 3 reply 10"]))
+
 
 class Asking(ServerTest):
     """What the library for Python and the commands ask a server that answers as a test says."""
@@ -155,10 +176,42 @@ class Asking(ServerTest):
             self.assertEqual(found, "committed 30 reply 1")
 
     def test_what_is_late_is_asked_again_as_it_was(self):
-        for asked, found in self.both(HELLO, "session 7", "late 100", "committed 101 reply 1"):
+        for asked, found in self.both(HELLO, "session 7", "late 100", HELLO, "committed 101 reply 1"):
             calls = [it for it in asked if it.startswith("call ")]
             self.assertEqual(calls, ["call add 01 7 1 upto 21 within 2", "call add 01 7 1 upto 116 within 2"])
             self.assertEqual(found, "committed 101 reply 1")
+
+
+class Library(ServerTest):
+    """What holds of the library for Python whatever its caller does."""
+
+    def test_an_answer_that_nobody_waits_for_is_nobodys(self):
+        one = self.serve("one").begun()
+        with dsmdb.Client([one.data]) as client:
+            for key in range(1, 4):
+                client.call("add", bytes.fromhex(words(key, key)))
+            for _ in client.rows():  # and no further
+                self.assertEqual(client.call("add", bytes.fromhex(words(9, 1))).value, 1)
+                break
+            self.assertEqual(client.call("add", bytes.fromhex(words(9, 1))).value, 2)
+            client._connection.ask = None  # as after an exception between asking and hearing
+            client._connection.is_open = True
+            self.assertEqual(client.call("add", bytes.fromhex(words(9, 1))).value, 3)
+            for name in ("a\nposition", "a b", "", "a\t"):
+                with self.assertRaises(ValueError):
+                    client.call(name, b"")
+
+    def test_its_file_is_its_owners(self):
+        path = f"{self.folder}/mine"
+        dsmdb.File(path).close()
+        self.assertEqual(os.stat(path).st_mode & 0o777, 0o600)
+
+    def test_who_may_not_is_told_at_once(self):
+        port = free_port()
+        self.serve("one", "--listen", f"tcp://127.0.0.1:{port}").begun()
+        with dsmdb.Client([f"tcp://127.0.0.1:{port}"]) as client, self.assertRaises(dsmdb.MayNot):
+            client.call("add", bytes.fromhex(words(5, 1)))
+        self.assertEqual(self.client("call", "--at", f"tcp://127.0.0.1:{port}", "add", words(5, 1))[0], 3)
 
 
 class Files(ServerTest):

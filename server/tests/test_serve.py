@@ -244,6 +244,50 @@ class Starts(ServerTest):
             self.assertEqual(connection.ask("session"), "session 2")
             self.assertEqual(connection.ask(f"call add {words(5, 10)} 2 1"), "committed 3 reply 10")
 
+    def test_clients_who_leave_or_do_not_read_hold_no_end_up(self):
+        one = self.serve("one").begun()
+        for it in range(5):
+            left = one.connect()
+            left.send(*["rows"] * 3000)
+            if it % 2:
+                left.close()
+            else:
+                self.addCleanup(left.close)
+        until(lambda: one.ask("position"))
+        begun = time.monotonic()
+        one.kill(signal.SIGTERM)
+        self.assertLess(time.monotonic() - begun, 11)
+        self.assertEqual(one.process.returncode, 0)
+
+    def test_a_log_whose_reader_has_left(self):
+        reading, writing = os.pipe()
+        wanted = [fixtures.SERVER, "serve", f"{self.folder}/settings", "--data", f"{self.folder}/one", "--engine", fixtures.ENGINE]
+        process = subprocess.Popen(wanted, stderr=writing)
+        self.addCleanup(process.wait)
+        self.addCleanup(process.kill)
+        os.close(writing)
+        path = f"{self.folder}/one/socket"
+        until(lambda: os.path.exists(path))
+        os.close(reading)
+        with contextlib.closing(Connection(path)) as connection:
+            self.assertEqual(connection.ask("session"), "session 2")
+            engine = subprocess.run(["ps", "-o", "pid=", "--ppid", str(process.pid)], capture_output=True, text=True).stdout
+            os.kill(int(engine), signal.SIGKILL)  # which is logged
+            self.assertEqual(connection.ask(f"call add {words(5, 10)} 2 1"), "committed 3 reply 10")
+        self.assertIsNone(process.poll())
+
+    def test_an_engine_that_cannot_be_started_for_a_while(self):
+        engine = f"{self.folder}/engine"
+        shutil.copy(fixtures.ENGINE, engine)
+        os.chmod(engine, 0o755)
+        one = self.serve("one", engine=engine).begun()
+        session = one.ask("session").split(" ")[1]
+        os.rename(engine, f"{engine}.away")
+        os.kill(one.engine(), signal.SIGKILL)
+        until(lambda: one.text().count("started again") > 1)
+        os.rename(f"{engine}.away", engine)
+        self.assertEqual(one.ask(f"call add {words(5, 10)} {session} 1"), "committed 3 reply 10")
+
     def test_its_engine_is_started_again(self):
         one = self.serve("one").begun()
         session = one.ask("session").split(" ")[1]
@@ -306,7 +350,7 @@ class Doors(ServerTest):
         self.assertEqual(status, 0)
         token, hashed = (it.split()[1] for it in lines)
         roles = [
-            {"name": "till", "tokens": [hashed], "call": ["add"], "calls_per_second": 3, "rights": ["rows"]},
+            {"name": "till", "tokens": [hashed], "call": ["add"], "calls_per_second": 4, "rights": ["rows"]},
             {"name": "clerk", "tokens": ["0" * 64], "call": ["*"]}]
         with open(f"{self.folder}/roles", "w") as file:
             json.dump({"roles": roles}, file)

@@ -140,7 +140,7 @@ func (c *clusterOptions) join(o *clientOptions, server string) error {
 	}
 	ctx, cancel := context.WithTimeout(context.Background(), time.Minute)
 	defer cancel()
-	reached, err := dialer.Dial(ctx, placeOf(server))
+	reached, err := dialer.Dial(ctx, server)
 	if err != nil {
 		return &status{statusNotSent, err}
 	}

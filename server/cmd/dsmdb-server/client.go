@@ -7,7 +7,6 @@ import (
 	"errors"
 	"fmt"
 	"os"
-	"path/filepath"
 	"strconv"
 	"strings"
 	"time"
@@ -128,7 +127,7 @@ func (o *clientOptions) open() (*client.Client, error) {
 	}
 	options := client.Options{Within: o.within}
 	for _, place := range o.at {
-		options.Servers = append(options.Servers, placeOf(place))
+		options.Servers = append(options.Servers, place)
 	}
 	var err error
 	if options.Dialer, err = o.dialer(); err != nil {
@@ -140,14 +139,6 @@ func (o *clientOptions) open() (*client.Client, error) {
 		}
 	}
 	return client.Open(options)
-}
-
-// placeOf returns where a server is reached, which may be named by its data folder.
-func placeOf(word string) string {
-	if found, err := os.Stat(word); err == nil && found.IsDir() {
-		return filepath.Join(word, "socket")
-	}
-	return word
 }
 
 func (o *clientOptions) dialer() (client.Dialer, error) {
@@ -190,7 +181,7 @@ func (o *clientOptions) call(name string, given []string) error {
 	if err != nil {
 		return failed(err)
 	}
-	defer c.Close()
+	defer c.Abandon()
 	ctx, cancel := o.context()
 	defer cancel()
 	known := &lateLayout{ctx: ctx, client: c}
@@ -198,26 +189,40 @@ func (o *clientOptions) call(name string, given []string) error {
 	if err != nil {
 		return failed(err)
 	}
-	if line, is := c.Unsettled(); is {
+	asksOn := c.IsUnsettled(name, args) // the same command goes on with its call
+	if line, is := c.Unsettled(); is && !asksOn {
 		answer, err := c.Settle(ctx)
 		if err != nil {
 			return failed(fmt.Errorf("earlier %s: %w", line, err))
 		}
-		fmt.Printf("earlier %s: %s\n", line, known.said(answer))
-		if !answer.Settled() {
-			return ended(answer)
+		if _, err := fmt.Printf("earlier %s: %s\n", line, known.said(answer)); err != nil {
+			return unsaid(c, err)
 		}
 	}
-	answer, err := c.Call(ctx, name, args, client.When{After: o.after, Fresh: o.fresh})
+	var answer client.Answer
+	if asksOn {
+		answer, err = c.Settle(ctx)
+	} else {
+		answer, err = c.Call(ctx, name, args, client.When{After: o.after, Fresh: o.fresh})
+	}
 	if answer.Line != "" {
 		if _, fault := fmt.Println(known.said(answer)); fault != nil {
-			return fault
+			return unsaid(c, fault)
 		}
 	}
 	if err != nil {
 		return failed(err)
 	}
+	if err := c.Close(); err != nil {
+		return &status{statusAskAgain, err}
+	}
 	return ended(answer)
+}
+
+// unsaid ends a command whose answer couldn't be handed on: the client's file keeps the call.
+func unsaid(c *client.Client, err error) error {
+	c.Abandon()
+	return &status{statusAskAgain, fmt.Errorf("printing the answer: %w", err)}
 }
 
 // lateLayout is the server's layout, which is asked for once it is needed.
@@ -318,6 +323,8 @@ func failed(err error) error {
 		return err
 	case errors.Is(err, client.ErrUnsettled):
 		return &status{statusAskAgain, err}
+	case errors.Is(err, client.ErrNoName):
+		return &status{statusWords, err}
 	}
 	return &status{statusNotSent, err}
 }

@@ -17,6 +17,7 @@ import (
 	"time"
 
 	"dsmdb/server/access"
+	"dsmdb/server/api"
 	"dsmdb/server/cluster"
 	"dsmdb/server/data"
 	"dsmdb/server/engine"
@@ -129,7 +130,12 @@ func (o *serveOptions) check() error {
 		}
 	}
 	if o.http != "" && o.cert == "" {
-		return o.checkPlain("", o.http)
+		if err := o.checkPlain("", o.http); err != nil {
+			return err
+		}
+	}
+	if o.pprof != "" && !isLoopback(o.pprof) {
+		return words("--pprof %s: on loopback alone", o.pprof)
 	}
 	return nil
 }
@@ -140,14 +146,19 @@ func (o *serveOptions) checkPlain(prefix, place string) error {
 	if prefix != "" && address == place || o.insecure {
 		return nil
 	}
-	host, _, err := net.SplitHostPort(address)
-	if err != nil {
+	if _, _, err := net.SplitHostPort(address); err != nil {
 		return words("%s: HOST:PORT", place)
 	}
-	if ip := net.ParseIP(host); host == "localhost" || ip != nil && ip.IsLoopback() {
+	if isLoopback(address) {
 		return nil
 	}
 	return words("%s isn't loopback, and without TLS everybody on the way reads along: take tls:// with --cert, or --insecure", place)
+}
+
+func isLoopback(address string) bool {
+	host, _, err := net.SplitHostPort(address)
+	ip := net.ParseIP(host)
+	return err == nil && (host == "localhost" || ip != nil && ip.IsLoopback())
 }
 
 // server is a server that runs.
@@ -162,6 +173,7 @@ type server struct {
 	lines    *lineserver.Server
 	member   *cluster.Member // nil where the order isn't in a cluster of the servers' own
 	web      *http.Server
+	handler  *api.Handler
 	failures chan error
 	began    time.Time
 }
@@ -169,6 +181,7 @@ type server struct {
 func (o *serveOptions) run() error {
 	debug.SetGCPercent(400)
 	raiseFileLimit()
+	signal.Ignore(syscall.SIGPIPE) // of a log that nobody reads any more
 	if o.pprof != "" {
 		profile(o.pprof)
 	}
@@ -207,6 +220,8 @@ func (o *serveOptions) run() error {
 		s.log.say("stopping: no more calls are taken")
 		notify("STOPPING=1")
 		stopListening()
+		s.lines.Drain()
+		s.handler.Drain()
 		s.drain()
 		end()
 		err = <-ended

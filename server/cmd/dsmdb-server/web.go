@@ -19,12 +19,12 @@ import (
 
 // listenHTTP answers HTTP/1.1: in HTTP/2 a client gives a request up without the kernel's knowledge.
 func (s *server) listenHTTP(ctx context.Context) error {
-	handler := api.New(api.Options{
+	s.handler = api.New(api.Options{
 		Site: s.site, Policy: s.policy, Layout: s.layout, Hosts: s.served, Name: filepath.Base(filepath.Clean(s.data)),
 		Metrics: metrics.New(s.site, s.order, s.lines), Console: console.Handler(),
 	})
 	s.web = &http.Server{
-		Handler: handler, ReadHeaderTimeout: 10 * time.Second, ReadTimeout: time.Minute, IdleTimeout: 5 * time.Minute,
+		Handler: s.handler, ReadHeaderTimeout: 10 * time.Second, ReadTimeout: time.Minute, IdleTimeout: 5 * time.Minute,
 		MaxHeaderBytes: 1 << 16, ConnContext: api.ConnContext, ErrorLog: log.New(io.Discard, "", 0),
 		TLSNextProto: map[string]func(*http.Server, *tls.Conn, http.Handler){},
 	}
