@@ -27,12 +27,13 @@ const longestBody = 1 << 20 // bytes of a request
 
 // Options are what a handler is made of.
 type Options struct {
-	Site   *site.Site
-	Policy *access.Policy
-	Layout *layout.Layout // nil for none
-	Hosts  []string       // names under which the server is reached, besides loopback addresses
-	// Metrics and Console answer /metrics and /.
-	Metrics, Console http.Handler
+	Site    *site.Site
+	Policy  *access.Policy
+	Layout  *layout.Layout // nil for none
+	Hosts   []string       // names under which the server is reached, besides loopback addresses
+	Metrics http.Handler   // answers /metrics; nil for none
+	Console http.Handler   // answers Pages
+	Pages   []string
 	// Name is the server's, for the console.
 	Name string
 }
@@ -65,8 +66,8 @@ func New(o Options) *Handler {
 	if o.Metrics != nil {
 		h.routes.Handle("/metrics", o.Metrics)
 	}
-	if o.Console != nil {
-		h.routes.Handle("/", o.Console)
+	for _, path := range o.Pages {
+		h.routes.Handle(path, o.Console)
 	}
 	return h
 }
@@ -91,6 +92,10 @@ func (h *Handler) ServeHTTP(w http.ResponseWriter, r *http.Request) {
 	w.Header().Set("X-Content-Type-Options", "nosniff")
 	if h.draining.Load() && r.Method == http.MethodPost {
 		tell(w, problem{Status: http.StatusServiceUnavailable, Title: "the server is ending", Detail: "ask another server"})
+		return
+	}
+	if _, path := h.routes.Handler(r); path == "" || path == "/" && r.URL.Path != "/" {
+		tell(w, problem{Status: http.StatusNotFound, Title: "there is nothing at this path", Detail: "paths of calls and rows begin with /v1/"})
 		return
 	}
 	h.routes.ServeHTTP(w, r)
@@ -425,7 +430,7 @@ func (h *Handler) ready(w http.ResponseWriter, _ *http.Request) {
 		why = "the order can't be reached: " + found.Away
 	}
 	if why != "" {
-		http.Error(w, why, http.StatusServiceUnavailable)
+		tell(w, problem{Status: http.StatusServiceUnavailable, Title: "the server doesn't answer calls now", Detail: why})
 		return
 	}
 	io.WriteString(w, "ok\n")

@@ -13,7 +13,16 @@ var kinds = map[string]string{
 	"/": "text/html; charset=utf-8", "/console.js": "text/javascript; charset=utf-8", "/console.css": "text/css; charset=utf-8",
 }
 
-// Handler answers / and the files that the page asks for.
+// Paths returns what Handler answers.
+func Paths() []string {
+	var all []string
+	for path := range kinds {
+		all = append(all, path)
+	}
+	return all
+}
+
+// Handler answers Paths: the page, and the files that the page asks for.
 func Handler() http.Handler {
 	return http.HandlerFunc(func(w http.ResponseWriter, r *http.Request) {
 		kind, is := kinds[r.URL.Path]

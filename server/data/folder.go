@@ -55,6 +55,15 @@ func prepare(path string) error {
 	if err := check(path); err != nil {
 		return err
 	}
+	locked, err := os.Open(path)
+	if err != nil {
+		return err
+	}
+	defer locked.Close()
+	// of two processes that would begin one folder one waits for the other, and finds it begun
+	if err := syscall.Flock(int(locked.Fd()), syscall.LOCK_EX); err != nil {
+		return fmt.Errorf("locking it: %w", err)
+	}
 	if _, err := os.Stat(filepath.Join(path, markName)); !errors.Is(err, fs.ErrNotExist) {
 		return err
 	}
@@ -91,22 +100,27 @@ func begin(path string) error {
 		return err
 	}
 	name := filepath.Join(path, markName)
-	if err := write(name+".new", markHead+hex.EncodeToString(maker[:])+"\n"); err != nil {
-		return err
-	}
-	if err := os.Rename(name+".new", name); err != nil {
-		return err
-	}
-	return Force(path)
+	return Write(name, []byte(markHead+hex.EncodeToString(maker[:])+"\n"))
 }
 
-func write(name, text string) error {
+// Write writes a file that only this user can read, whole or not at all, and forces it to the disk.
+func Write(path string, bytes []byte) error {
+	if err := write(path+".new", bytes); err != nil {
+		return err
+	}
+	if err := os.Rename(path+".new", path); err != nil {
+		return err
+	}
+	return Force(filepath.Dir(path))
+}
+
+func write(name string, bytes []byte) error {
 	made, err := os.OpenFile(name, os.O_WRONLY|os.O_CREATE|os.O_TRUNC, 0o600)
 	if err != nil {
 		return err
 	}
 	defer made.Close()
-	if _, err := made.WriteString(text); err != nil {
+	if _, err := made.Write(bytes); err != nil {
 		return err
 	}
 	return made.Sync()

@@ -48,6 +48,13 @@ type piece struct {
 	tag   string
 }
 
+func (p *piece) size() int {
+	if p.lines != nil {
+		return int(p.lines.Size())
+	}
+	return len(p.bytes)
+}
+
 func newConn(s *Server, accepted net.Conn, who *access.Who) *conn {
 	c := &conn{server: s, net: accepted, isGone: GoneOf(accepted), who: who}
 	c.more.L, c.less.L = &c.mutex, &c.mutex
@@ -275,6 +282,7 @@ func (c *conn) Answer(of *site.Request, answer site.Answer) {
 	c.free(of.Tag)
 	if answer.Kind == site.Rows {
 		c.out = append(c.out, piece{lines: answer.Lines, tag: of.Tag})
+		c.bytes += int(answer.Lines.Size())
 		return
 	}
 	last := c.lastBytes()
@@ -319,7 +327,7 @@ func (c *conn) write() {
 		}
 		written := 0
 		for at := range some {
-			written += len(some[at].bytes)
+			written += some[at].size()
 			c.writePiece(&some[at])
 			some[at] = piece{}
 		}

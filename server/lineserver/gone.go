@@ -1,7 +1,6 @@
 package lineserver
 
 import (
-	"crypto/tls"
 	"net"
 	"syscall"
 
@@ -11,8 +10,12 @@ import (
 // GoneOf returns a question whether the other end of a connection is closed, wholly or for writing, which the kernel is
 // asked. Data that wasn't read yet don't count as being there.
 func GoneOf(connection net.Conn) func() bool {
-	if secured, is := connection.(*tls.Conn); is {
-		connection = secured.NetConn()
+	for {
+		above, is := connection.(interface{ NetConn() net.Conn }) // of TLS, or limited
+		if !is {
+			break
+		}
+		connection = above.NetConn()
 	}
 	system, is := connection.(syscall.Conn)
 	if !is {

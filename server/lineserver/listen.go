@@ -1,6 +1,7 @@
 package lineserver
 
 import (
+	"context"
 	"errors"
 	"fmt"
 	"net"
@@ -27,14 +28,22 @@ func ListenUnix(path string) (net.Listener, error) {
 	if err := removeDead(path); err != nil {
 		return nil, err
 	}
-	mask := syscall.Umask(0o177)
-	listener, err := net.ListenUnix("unix", &net.UnixAddr{Name: path, Net: "unix"})
-	syscall.Umask(mask)
+	private := net.ListenConfig{Control: makePrivate}
+	listener, err := private.Listen(context.Background(), "unix", path)
 	if err != nil {
 		return nil, err
 	}
-	listener.SetUnlinkOnClose(false)
+	listener.(*net.UnixListener).SetUnlinkOnClose(false)
 	return listener, nil
+}
+
+// makePrivate gives a socket that has no name yet the mode with which its name is made (unix(7)).
+func makePrivate(_, _ string, socket syscall.RawConn) error {
+	var fault error
+	if err := socket.Control(func(fd uintptr) { fault = unix.Fchmod(int(fd), 0o600) }); err != nil {
+		return err
+	}
+	return fault
 }
 
 // removeDead removes a socket at which nobody answers.

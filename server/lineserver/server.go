@@ -36,7 +36,8 @@ type Server struct {
 	Limits Limits
 	// Invite takes a new member into the cluster, and returns all members; nil where there is no cluster.
 	Invite func(ctx context.Context, name, place string) (members string, err error)
-	Say    func(format string, values ...any)
+	// Warn is told of connections that can't be taken. It never waits.
+	Warn func(format string, values ...any)
 
 	draining atomic.Bool
 
@@ -48,7 +49,7 @@ type Server struct {
 	all     sync.WaitGroup
 }
 
-// Open returns how many connections there are, and how many were refused for their number.
+// Open returns how many connections there are, those of Limited listeners among them, and how many were refused for their number.
 func (s *Server) Open() (open int64, refused uint64) { return s.open.Load(), s.refused.Load() }
 
 // Serve takes connections until the context ends.
@@ -69,24 +70,34 @@ func (s *Server) Serve(ctx context.Context, listener net.Listener) error {
 		case ctx.Err() != nil || errors.Is(err, net.ErrClosed):
 			return nil
 		default: // as where there are too many files
-			s.Say("taking a connection: %v", err)
+			s.Warn("taking a connection: %v", err)
 			time.Sleep(100 * time.Millisecond)
 			continue
 		}
-		if s.open.Add(1) > int64(s.Limits.Connections) {
-			s.refused.Add(1)
-			s.open.Add(-1)
+		if !s.enter() {
 			accepted.Close()
 			continue
 		}
 		s.all.Add(1)
 		go func() {
 			defer s.all.Done()
-			defer s.open.Add(-1)
+			defer s.leave()
 			s.serve(accepted)
 		}()
 	}
 }
+
+// enter counts a connection; false where there are too many.
+func (s *Server) enter() bool {
+	if s.open.Add(1) <= int64(s.Limits.Connections) {
+		return true
+	}
+	s.leave()
+	s.refused.Add(1)
+	return false
+}
+
+func (s *Server) leave() { s.open.Add(-1) }
 
 // Drain has requests that need rows or the order be answered by "unknown stopping" from now on.
 func (s *Server) Drain() { s.draining.Store(true) }

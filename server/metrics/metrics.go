@@ -4,6 +4,7 @@ package metrics
 import (
 	"net/http"
 
+	"dsmdb/server/durations"
 	"dsmdb/server/lineserver"
 	"dsmdb/server/order"
 	"dsmdb/server/site"
@@ -37,6 +38,8 @@ var (
 	answers      = desc("answers_total", "What requests were answered.", "answer")
 	latency      = desc("call_seconds", "From the reading of a call to its answer.")
 	appends      = desc("append_seconds", "From handing a string to the order to its being counted there.")
+	forces       = desc("force_seconds", "The forcing of the order's strings, or of the journal's, to the disk.")
+	etcdFailures = desc("etcd_failures_total", "Requests to etcd that failed.")
 	batches      = desc("batches_total", "Batches of strings that the server has appended, each forced once.")
 	strangers    = desc("strangers_total", "Keys of the order in etcd that take no place in it.")
 	waiting      = desc("waiting_requests", "Requests that aren't answered.")
@@ -56,58 +59,73 @@ var (
 // Describe implements prometheus.Collector.
 func (c *collector) Describe(to chan<- *prometheus.Desc) {
 	for _, it := range []*prometheus.Desc{
-		position, end, backlog, texts, answers, latency, appends, batches, strangers, waiting, engineLines, engineTime, engineMemory, restarts, dropped, retried, connections,
-		refusedDesc, caughtUp, orderReached, divergence,
+		position, end, backlog, texts, answers, latency, appends, forces, etcdFailures, batches, strangers, waiting, engineLines, engineTime,
+		engineMemory, restarts, dropped, retried, connections, refusedDesc, caughtUp, orderReached, divergence,
 	} {
 		to <- it
 	}
 }
 
+// sink is where metrics go.
+type sink chan<- prometheus.Metric
+
+func (to sink) gauge(of *prometheus.Desc, value float64) {
+	to <- prometheus.MustNewConstMetric(of, prometheus.GaugeValue, value)
+}
+
+func (to sink) counter(of *prometheus.Desc, value uint64, labels ...string) {
+	to <- prometheus.MustNewConstMetric(of, prometheus.CounterValue, float64(value), labels...)
+}
+
 // Collect implements prometheus.Collector.
-func (c *collector) Collect(to chan<- prometheus.Metric) {
+func (c *collector) Collect(metrics chan<- prometheus.Metric) {
+	to := sink(metrics)
 	open, refused := c.lines.Open()
-	gauge := func(of *prometheus.Desc, value float64) {
-		to <- prometheus.MustNewConstMetric(of, prometheus.GaugeValue, value)
+	to.gauge(connections, float64(open))
+	to.counter(refusedDesc, refused)
+	if etcd, is := c.order.(interface {
+		Strangers() uint64
+		Failures() uint64
+	}); is {
+		to.counter(strangers, etcd.Strangers())
+		to.counter(etcdFailures, etcd.Failures())
 	}
-	counter := func(of *prometheus.Desc, value uint64, labels ...string) {
-		to <- prometheus.MustNewConstMetric(of, prometheus.CounterValue, float64(value), labels...)
+	if disk, is := c.order.(interface{ Forces() durations.Histogram }); is {
+		to.histogram(forces, disk.Forces())
 	}
-	gauge(connections, float64(open))
-	counter(refusedDesc, refused)
-	it, is := c.site.Snapshot()
-	if !is {
-		return
+	if it, is := c.site.Snapshot(); is {
+		to.snapshot(&it)
 	}
-	gauge(position, float64(it.Position))
-	gauge(end, float64(it.End))
-	gauge(backlog, float64(it.Backlog))
-	gauge(waiting, float64(it.Waiting))
-	gauge(engineLines, float64(it.EngineLines))
-	gauge(engineMemory, float64(it.EngineMemory))
-	gauge(caughtUp, truth(it.CaughtUp))
-	gauge(orderReached, truth(it.Away == ""))
-	gauge(divergence, truth(it.Diverged)+truth(it.Silent))
-	counter(texts, it.Counts.Committed, "committed")
-	counter(texts, it.Counts.Refused, "refused")
-	counter(texts, it.Counts.Nothing-it.Counts.Untrue, "nothing")
-	counter(texts, it.Counts.Untrue, "untrue")
-	counter(restarts, it.EngineRestarts)
-	counter(dropped, it.Dropped)
-	counter(retried, it.Retried)
+}
+
+func (to sink) snapshot(it *site.Snapshot) {
+	to.gauge(position, float64(it.Position))
+	to.gauge(end, float64(it.End))
+	to.gauge(backlog, float64(it.Backlog))
+	to.gauge(waiting, float64(it.Waiting))
+	to.gauge(engineLines, float64(it.EngineLines))
+	to.gauge(engineMemory, float64(it.EngineMemory))
+	to.gauge(caughtUp, truth(it.CaughtUp))
+	to.gauge(orderReached, truth(it.Away == ""))
+	to.gauge(divergence, truth(it.Diverged)+truth(it.Silent))
+	to.counter(texts, it.Counts.Committed, "committed")
+	to.counter(texts, it.Counts.Refused, "refused")
+	to.counter(texts, it.Counts.Nothing-it.Counts.Untrue, "nothing")
+	to.counter(texts, it.Counts.Untrue, "untrue")
+	to.counter(restarts, it.EngineRestarts)
+	to.counter(dropped, it.Dropped)
+	to.counter(retried, it.Retried)
 	to <- prometheus.MustNewConstMetric(engineTime, prometheus.CounterValue, it.EngineTime.Seconds())
 	for word, count := range it.Answers {
-		counter(answers, count, word)
+		to.counter(answers, count, word)
 	}
-	counter(batches, it.Batches)
-	if etcd, is := c.order.(interface{ Strangers() uint64 }); is {
-		counter(strangers, etcd.Strangers())
-	}
-	to <- histogram(latency, &it.Calls)
-	to <- histogram(appends, &it.Appends)
+	to.counter(batches, it.Batches)
+	to.histogram(latency, it.Calls)
+	to.histogram(appends, it.Appends)
 }
 
 // histogram tells durations by powers of two of a nanosecond, from 16 microseconds to 69 seconds.
-func histogram(of *prometheus.Desc, it *site.Durations) prometheus.Metric {
+func (to sink) histogram(of *prometheus.Desc, it durations.Histogram) {
 	buckets, count := map[float64]uint64{}, uint64(0)
 	for bits, more := range it.Counts {
 		count += more
@@ -115,7 +133,7 @@ func histogram(of *prometheus.Desc, it *site.Durations) prometheus.Metric {
 			buckets[float64(uint64(1)<<bits)*1e-9] = count
 		}
 	}
-	return prometheus.MustNewConstHistogram(of, count, it.Sum.Seconds(), buckets)
+	to <- prometheus.MustNewConstHistogram(of, count, it.Sum.Seconds(), buckets)
 }
 
 func truth(is bool) float64 {

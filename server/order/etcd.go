@@ -10,6 +10,7 @@ import (
 	"time"
 
 	"dsmdb/server/batch"
+	"dsmdb/server/durations"
 	pb "go.etcd.io/etcd/etcdserver/etcdserverpb"
 )
 
@@ -171,6 +172,12 @@ func (e *Etcd) Reached() (since time.Time, why error) { return e.nodes.reach.get
 // Strangers returns how many keys were met since the start that are no batches of the order, though they stand among
 // them.
 func (e *Etcd) Strangers() uint64 { return e.strangers.Load() }
+
+// Failures returns how many requests to etcd failed since the start.
+func (e *Etcd) Failures() uint64 { return e.nodes.failures.Load() }
+
+// Forces returns how long the forcing of the journal's records to the disk took.
+func (e *Etcd) Forces() durations.Histogram { return e.journal.forces.Histogram() }
 
 // Reread implements Order.
 func (e *Etcd) Reread(ctx context.Context, upto uint64, take func(found *batch.Batch) error) error {

@@ -7,9 +7,9 @@ import (
 	"fmt"
 	"strings"
 	"sync"
-	"syscall"
 	"time"
 
+	"dsmdb/server/durations"
 	"dsmdb/server/segments"
 	pb "go.etcd.io/etcd/etcdserver/etcdserverpb"
 )
@@ -26,8 +26,9 @@ const (
 // journal is a copy of the batches that have counted, on this machine's disk. Batches count whether or not they stand in
 // the journal already.
 type journal struct {
-	path string
-	etcd *Etcd
+	path   string
+	etcd   *Etcd
+	forces durations.Shared
 
 	mutex   sync.Mutex
 	more    sync.Cond
@@ -97,7 +98,7 @@ func (r *reader) readJournal(ctx context.Context) error {
 			r.journal.opened(log)
 			return r.handOn(ctx)
 		}
-		if !errors.Is(err, segments.ErrFull) && !errors.Is(err, syscall.ENOSPC) && !errors.Is(err, syscall.EDQUOT) {
+		if !segments.IsFull(err) {
 			return ended("the journal in %s: %w", r.journal.path, err)
 		}
 		r.once("the journal's disk is full: the order is read once there is room")
@@ -111,7 +112,7 @@ func (r *reader) readJournal(ctx context.Context) error {
 func (r *reader) openJournal(ctx context.Context) (log *segments.Log, last place, err error) {
 	check := rule{secret: r.secret}
 	r.history, r.values, r.bytes = history{}, 0, 0
-	options := segments.Options{Magic: JournalMagic, CutDamage: true}
+	options := segments.Options{Magic: JournalMagic, CutDamage: true, Forces: &r.journal.forces}
 	log, err = segments.Open(r.journal.path, options, func(kept []byte) error {
 		it, err := entryOf(kept)
 		if err == nil {

@@ -169,13 +169,14 @@ func (t *token) RequireTransportSecurity() bool { return true }
 
 // nodes are the members of etcd that an order can ask. One that works is asked until it fails.
 type nodes struct {
-	all   []node
-	home  bool         // whether they are the one in this process
-	at    atomic.Int32 // which one is asked
-	seen  atomic.Int64 // the greatest revision of a linearizable answer, or of a key
-	reach reach        // whether etcd answers
-	log   func(format string, args ...any)
-	left  func(at int32) // is told which one isn't asked any more
+	all      []node
+	home     bool          // whether they are the one in this process
+	at       atomic.Int32  // which one is asked
+	seen     atomic.Int64  // the greatest revision of a linearizable answer, or of a key
+	reach    reach         // whether etcd answers
+	failures atomic.Uint64 // of requests
+	log      func(format string, args ...any)
+	left     func(at int32) // is told which one isn't asked any more
 	// compare says whether the member in this process has kept what the others have; nil for yes.
 	compare func(ctx context.Context, revision int64) error
 }
@@ -276,6 +277,7 @@ func (n *nodes) failed(ctx context.Context, it node, err error) error {
 		n.reach.succeeded()
 		return err
 	}
+	n.failures.Add(1)
 	why := explained(it.name(), it.explain(err))
 	if n.reach.failed(why) {
 		n.log("etcd: %v", why)

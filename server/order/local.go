@@ -8,16 +8,20 @@ import (
 	"time"
 
 	"dsmdb/server/batch"
+	"dsmdb/server/durations"
 	"dsmdb/server/segments"
 )
 
-// eventsAtOnce is how many events are handed on together at most.
-const eventsAtOnce = 256
+const (
+	eventsAtOnce = 256         // that are handed on together at most
+	roomPause    = time.Second // before a full disk is tried again
+)
 
 // Local is an order in the folder of one server, who alone appends to it.
 type Local struct {
 	path   string
 	maker  Maker
+	forces durations.Shared
 	events chan []Event
 	closed chan struct{} // by Close
 	done   chan struct{} // at the end of run
@@ -29,7 +33,9 @@ type Local struct {
 	wantVote bool
 	asked    uint64 // the last question
 	closing  bool
-	counted  []uint64 // position of the last string of each record, for Reread
+	counted  []uint64  // position of the last string of each record, for Reread
+	noRoom   error     // why the order can't be opened; nil where it can
+	since    time.Time // when that was so first
 }
 
 var _ Order = (*Local)(nil)
@@ -70,8 +76,15 @@ func (l *Local) Err() error {
 	return l.err
 }
 
-// Reached implements Order: a folder is there, or the order has ended.
-func (l *Local) Reached() (time.Time, error) { return time.Time{}, nil }
+// Reached implements Order: a folder is there, or the order has ended. At the start its disk may be full.
+func (l *Local) Reached() (since time.Time, why error) {
+	l.mutex.Lock()
+	defer l.mutex.Unlock()
+	return l.since, l.noRoom
+}
+
+// Forces returns how long the forcing of strings to the disk took.
+func (l *Local) Forces() durations.Histogram { return l.forces.Histogram() }
 
 // Reread implements Order.
 func (l *Local) Reread(ctx context.Context, upto uint64, take func(found *batch.Batch) error) error {
@@ -121,23 +134,11 @@ func (l *Local) run() {
 var errClosed = errors.New("the order is closed")
 
 func (l *Local) work() error {
-	var some []Event
-	log, err := Open(l.path, l.maker, func(found *batch.Batch) error {
-		some = append(some, l.count(found, nil, false))
-		if len(some) < eventsAtOnce {
-			return nil
-		}
-		err := l.send(some)
-		some = nil
-		return err
-	})
+	log, err := l.open()
 	if err != nil {
 		return err
 	}
 	defer log.Close()
-	if err := l.send(append(some, Begun{log.Position()})); err != nil {
-		return err
-	}
 	answered := uint64(0)
 	for {
 		strings, vote, asked, err := l.take(answered, log.Room())
@@ -154,6 +155,51 @@ func (l *Local) work() error {
 		if err := l.send(some); err != nil {
 			return err
 		}
+	}
+}
+
+// open opens the log, and hands on its batches. Where the disk has no room for the last segment's copy it waits for room.
+func (l *Local) open() (*Log, error) {
+	var some []Event
+	handed := 0
+	for {
+		read := 0
+		log, err := Open(l.path, l.maker, &l.forces, func(found *batch.Batch) error {
+			if read++; read <= handed { // before there was no room
+				return nil
+			}
+			handed++
+			some = append(some, l.count(found, nil, false))
+			if len(some) < eventsAtOnce {
+				return nil
+			}
+			err := l.send(some)
+			some = nil
+			return err
+		})
+		l.noteRoom(err)
+		if err == nil {
+			return log, l.send(append(some, Begun{log.Position()}))
+		}
+		if !segments.IsFull(err) {
+			return nil, err
+		}
+		select {
+		case <-l.closed:
+			return nil, errClosed
+		case <-time.After(roomPause):
+		}
+	}
+}
+
+// noteRoom notes whether the disk is full.
+func (l *Local) noteRoom(err error) {
+	l.mutex.Lock()
+	defer l.mutex.Unlock()
+	if !segments.IsFull(err) {
+		l.noRoom, l.since = nil, time.Time{}
+	} else if l.noRoom == nil {
+		l.noRoom, l.since = err, time.Now()
 	}
 }
 

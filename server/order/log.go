@@ -6,6 +6,7 @@ import (
 	"fmt"
 
 	"dsmdb/server/batch"
+	"dsmdb/server/durations"
 	"dsmdb/server/segments"
 )
 
@@ -22,10 +23,11 @@ type Log struct {
 	buffer   []byte
 }
 
-// Open opens the order in a folder, and hands over its batches, whose strings take may keep.
-func Open(path string, maker Maker, take func(found *batch.Batch) error) (*Log, error) {
+// Open opens the order in a folder, and hands over its batches, whose strings take may keep. How long it takes to force
+// strings to the disk is counted in forces, where that isn't nil.
+func Open(path string, maker Maker, forces *durations.Shared, take func(found *batch.Batch) error) (*Log, error) {
 	l := &Log{maker: maker}
-	log, err := segments.Open(path, segments.Options{Magic: Magic}, func(kept []byte) error { return l.read(kept, take) })
+	log, err := segments.Open(path, segments.Options{Magic: Magic, Forces: forces}, func(kept []byte) error { return l.read(kept, take) })
 	if err != nil {
 		return nil, fmt.Errorf("the order in %s: %w", path, err)
 	}

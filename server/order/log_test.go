@@ -18,7 +18,7 @@ var maker = Maker{ID: batch.ID{1, 2, 3}, Version: "0.1"}
 func opened(t *testing.T, path string) (*Log, []*batch.Batch) {
 	t.Helper()
 	var found []*batch.Batch
-	l, err := Open(path, maker, func(it *batch.Batch) error {
+	l, err := Open(path, maker, nil, func(it *batch.Batch) error {
 		found = append(found, it)
 		return nil
 	})
@@ -95,7 +95,7 @@ func TestBatchesOfAnotherDatabaseAreRefused(t *testing.T) {
 		}
 	}
 	l.Close()
-	_, err = Open(path, maker, func(*batch.Batch) error { return nil })
+	_, err = Open(path, maker, nil, func(*batch.Batch) error { return nil })
 	if err == nil || !strings.HasSuffix(err.Error(), "behind position 1: a batch of another database") {
 		t.Errorf("%v", err)
 	}
@@ -106,7 +106,7 @@ func TestAnOrderOfTheOldFormIsLeftAsItWas(t *testing.T) {
 	if err := os.WriteFile(filepath.Join(path, "order"), []byte(text), 0o600); err != nil {
 		t.Fatal(err)
 	}
-	if _, err := Open(path, maker, nil); err == nil || !strings.HasSuffix(err.Error(), "order: it is no segment of a log") {
+	if _, err := Open(path, maker, nil, nil); err == nil || !strings.HasSuffix(err.Error(), "order: it is no segment of a log") {
 		t.Errorf("%v", err)
 	}
 	if left, err := os.ReadFile(filepath.Join(path, "order")); string(left) != text || err != nil {

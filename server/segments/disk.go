@@ -30,9 +30,9 @@ type file interface {
 	force() error
 }
 
-// isFull returns whether a call failed for want of room.
-func isFull(err error) bool {
-	return errors.Is(err, syscall.ENOSPC) || errors.Is(err, syscall.EDQUOT) || errors.Is(err, syscall.EFBIG)
+// IsFull returns whether something failed for want of room on the disk.
+func IsFull(err error) bool {
+	return errors.Is(err, ErrFull) || errors.Is(err, syscall.ENOSPC) || errors.Is(err, syscall.EDQUOT) || errors.Is(err, syscall.EFBIG)
 }
 
 // folder is a folder of the machine's file system.

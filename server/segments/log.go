@@ -6,6 +6,9 @@ package segments
 import (
 	"errors"
 	"fmt"
+	"time"
+
+	"dsmdb/server/durations"
 )
 
 // ErrFull says that there is no room for another segment. Nothing was written, and a later append may find room.
@@ -31,12 +34,15 @@ type Options struct {
 	// CutDamage cuts a log off at the first record that isn't as it was written, in place of refusing it: for a copy
 	// of what stands elsewhere too.
 	CutDamage bool
+	// Forces counts how long it takes to force records to the disk. Nil stands for nobody who asks.
+	Forces *durations.Shared
 }
 
 // Log is a log that is open for appending. One goroutine has it.
 type Log struct {
 	disk    disk
 	magic   Magic
+	forces  *durations.Shared
 	size    int64 // of a segment
 	segment uint32
 	file    file // the last segment
@@ -58,7 +64,7 @@ func Open(path string, options Options, take func(kept []byte) error) (*Log, err
 }
 
 func open(disk disk, size int64, options Options, take func(kept []byte) error) (*Log, error) {
-	l := &Log{disk: disk, magic: options.Magic, size: size}
+	l := &Log{disk: disk, magic: options.Magic, forces: options.Forces, size: size}
 	count, err := l.count()
 	if err != nil {
 		return nil, err
@@ -122,7 +128,12 @@ func (l *Log) write(bytes []byte) error {
 	if _, err := l.file.WriteAt(bytes, l.at); err != nil {
 		return err
 	}
-	return l.file.force()
+	begun := time.Now()
+	err := l.file.force()
+	if l.forces != nil {
+		l.forces.Add(time.Since(begun))
+	}
+	return err
 }
 
 // Close gives the log up. All that counts has been forced before.
@@ -176,7 +187,7 @@ func (l *Log) roll() error {
 	made, err := l.spare.wait()
 	l.spare = nil
 	if err != nil {
-		if isFull(err) {
+		if IsFull(err) {
 			return ErrFull
 		}
 		return fmt.Errorf("making a segment: %w", err)

@@ -107,7 +107,7 @@ func (s *Site) rowsEnd(r *Request, last []byte) {
 	}
 	switch _, err := fmt.Sscanf(string(last), "position %d rows %d", &lines.Position, &lines.Count); {
 	case lines.failed != nil:
-		s.say("%v", lines.failed)
+		s.warn("%v", lines.failed)
 		s.tell(r, Answer{Kind: Unknown, Text: "room"})
 	case err != nil: // a fault, or a refusal
 		s.tell(r, Answer{Kind: Text, Text: string(last)})

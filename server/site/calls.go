@@ -45,32 +45,38 @@ func (s *Site) arrive(r *Request) {
 	}
 }
 
-// admit begins a request that needs the rows, or the order.
+// admit begins a request that needs the rows, or the order. A call waits until those of its session before are answered.
 func (s *Site) admit(r *Request) {
 	if r.done.Load() {
 		return
 	}
-	r.after = s.beginning
-	switch ask := r.Ask.(type) {
-	case *wire.Call:
-		if ask.After > r.after {
-			r.after = ask.After
-		}
-		if !ask.Fresh {
-			s.place(r)
-			return
-		}
-		if ask.After > 0 {
-			r.padding = s.now.Add(fillAfter)
-			if half := s.now.Add(r.deadline.Sub(s.now) / 2); half.Before(r.padding) {
-				r.padding = half
-			}
-		}
-		r.question = s.order.AskEnd()
-		s.fresh.push(r)
-	default:
+	call := r.call()
+	switch {
+	case call == nil:
+		r.after = s.beginning
 		s.place(r)
+	case call.Session == 0 || s.turns.begin(call.Session, r):
+		s.admitCall(r, call)
 	}
+}
+
+func (s *Site) admitCall(r *Request, call *wire.Call) {
+	r.after = s.beginning
+	if call.After > r.after {
+		r.after = call.After
+	}
+	if !call.Fresh {
+		s.place(r)
+		return
+	}
+	if call.After > 0 {
+		r.padding = s.now.Add(fillAfter)
+		if half := s.now.Add(r.deadline.Sub(s.now) / 2); half.Before(r.padding) {
+			r.padding = half
+		}
+	}
+	r.question = s.order.AskEnd()
+	s.fresh.push(r)
 }
 
 // askReady hands the engine what may begin where it is.
@@ -104,7 +110,7 @@ func (s *Site) try(r *Request) {
 	case wire.NewSession:
 		text, err := order.NewSession()
 		if err != nil {
-			s.say("%v", err)
+			s.warn("%v", err)
 			s.tell(r, Answer{Kind: Unknown, Text: NoOrder})
 			return
 		}
@@ -246,9 +252,14 @@ func (s *Site) tell(r *Request, answer Answer) {
 	s.stats.answered(answer.Kind, s.now.Sub(r.began), r.call() != nil)
 	r.Asker.Answer(r, answer)
 	s.flushes = append(s.flushes, r.Asker)
+	if call := r.call(); call != nil && call.Session != 0 {
+		if next := s.turns.end(call.Session, r); next != nil {
+			s.admitCall(next, next.call())
+		}
+	}
 }
 
-// expire answers the requests whose time is over.
+// expire answers the requests whose time is over, and those whose askers have left where others wait for them.
 func (s *Site) expire() {
 	why := NoTime
 	switch {
@@ -266,6 +277,11 @@ func (s *Site) expire() {
 			s.tell(r, Answer{Kind: Unknown, Text: why})
 		}
 		r = next
+	}
+	for _, it := range s.turns {
+		if len(it.behind) > 0 && !it.out.out && it.out.Asker.Gone() {
+			s.tell(it.out, Answer{Kind: Unknown, Text: NoTime})
+		}
 	}
 }
 

@@ -50,7 +50,7 @@ func (s *Site) count(it *order.Counted) error {
 		s.owns.push(own{it.First, it.Own})
 		for _, text := range it.Own {
 			if r, is := text.For.(*Request); is {
-				s.stats.appends.add(s.now.Sub(r.handed))
+				s.stats.appends.Add(s.now.Sub(r.handed))
 			}
 		}
 	}
@@ -120,7 +120,7 @@ func (s *Site) noteAsked(it wire.Entry, text []byte) {
 		}
 		if string(it.Word) == "E5" {
 			s.counts.Untrue++
-			s.say("position %d: nothing E5: its maker has other rows, or is no server of this database", it.Position)
+			s.warn("position %d: nothing E5: its maker has other rows, or is no server of this database", it.Position)
 		}
 	default:
 		s.counts.Refused++

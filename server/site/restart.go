@@ -47,7 +47,7 @@ func (r *restart) answers(of <-chan []byte) (<-chan []byte, <-chan refeed) {
 // restart gives an engine up that has ended, and has another one started, which is given the order again. Its answers
 // have to be those of the one before.
 func (s *Site) restart(why error) error {
-	s.say("%v: it is started again from the order", why)
+	s.warn("%v: it is started again from the order", why)
 	if s.restarting != nil {
 		s.restarting.cancel()
 	}
@@ -208,7 +208,7 @@ func (s *Site) watchEngine() {
 		return
 	}
 	if s.now.Sub(s.heardAt) > hangsFor {
-		s.say("the engine has neither answered nor worked for %v", hangsFor)
+		s.warn("the engine has neither answered nor worked for %v", hangsFor)
 		s.engine.Kill()
 		s.heardAt = s.now
 	}

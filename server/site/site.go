@@ -21,6 +21,7 @@ const (
 	backlogMost = 64 << 20 // bytes of strings that wait for the engine before the order is read further
 	tick        = 100 * time.Millisecond
 	silentFor   = 60 * time.Second // of a server that others disagree with, before it ends
+	awayFor     = 2 * time.Second  // of an order that can't be reached, before the log tells of it
 	voteWithin  = 50 * time.Second // of strings that were counted since the last vote
 )
 
@@ -54,8 +55,8 @@ type Options struct {
 	Patience time.Duration
 	// Overrule has the site go on whatever other servers voted before its start.
 	Overrule bool
-	// Say is told of what happens, a line an event. It never waits.
-	Say func(format string, values ...any)
+	// Say is told of what happens, a line an event, and Warn of what an operator should look at. They never wait.
+	Say, Warn func(format string, values ...any)
 }
 
 // Site is one site, from its start to its end.
@@ -66,6 +67,7 @@ type Site struct {
 	patience time.Duration
 	overrule bool
 	say      func(format string, values ...any)
+	warn     func(format string, values ...any)
 	maker    batch.ID
 
 	mutex  sync.Mutex
@@ -105,12 +107,14 @@ type Site struct {
 	silentSince time.Time // zero where votes agree
 	diverged    votes.Divergence
 	isDiverged  bool
+	awaySince   time.Time // when it was told that the order can't be reached; zero where it can
 
 	procedures map[string]procedure
 	askedAt    askedAt
 	asking     outstanding
 	early      []*Request // that came before the site had caught up
-	behind     waiting    // calls that wait for a position
+	turns      turns
+	behind     waiting // calls that wait for a position
 	fresh      queue[*Request]
 	retries    waiting // calls that wait for a time, in nanoseconds
 	submitted  []*order.String
@@ -163,9 +167,9 @@ type Counts struct{ Committed, Refused, Nothing, Untrue uint64 }
 // New makes a site, which Run runs.
 func New(o Options) *Site {
 	return &Site{
-		settings: o.Settings, order: o.Order, start: o.Start, patience: o.Patience, overrule: o.Overrule, say: o.Say, maker: o.Maker,
+		settings: o.Settings, order: o.Order, start: o.Start, patience: o.Patience, overrule: o.Overrule, say: o.Say, warn: o.Warn, maker: o.Maker,
 		wake: make(chan struct{}, 1), closed: make(chan struct{}),
-		votes: votes.New(o.Maker, o.Settings), procedures: proceduresOf(o.Settings), tables: tablesOf(o.Settings),
+		votes: votes.New(o.Maker, o.Settings), procedures: proceduresOf(o.Settings), tables: tablesOf(o.Settings), turns: turns{},
 		vote: batch.Vote{Answers: batch.OfSettings(o.Settings)},
 	}
 }
@@ -363,6 +367,7 @@ func (s *Site) takeTick() error {
 	s.beginOrder()
 	s.fillUp()
 	s.expire()
+	s.tellReach()
 	s.watchEngine()
 	if s.isDiverged && s.diverged.Silences() && s.now.Sub(s.silentSince) > silentFor {
 		return &Stopped{fmt.Sprintf("other servers came to other answers than this one from position %d on: %d disagree, %d agree",
@@ -372,6 +377,19 @@ func (s *Site) takeTick() error {
 		s.giveVote()
 	}
 	return nil
+}
+
+// tellReach has the log tell when the order can't be reached, and when it is again.
+func (s *Site) tellReach() {
+	since, why := s.order.Reached()
+	switch {
+	case why != nil && s.awaySince.IsZero() && s.now.Sub(since) > awayFor:
+		s.awaySince = since
+		s.warn("the order can't be reached: %v", why)
+	case why == nil && !s.awaySince.IsZero():
+		s.say("the order is reached again, after %v", s.now.Sub(s.awaySince).Round(time.Millisecond))
+		s.awaySince = time.Time{}
+	}
 }
 
 // caughtUp returns whether the engine has what stood in the order at the start.

@@ -81,7 +81,7 @@ func run(t *testing.T, of *shared, name byte, change func(*Options)) *rig {
 	r := &rig{t: t, seat: of.sit(batch.ID{name}), ended: make(chan error, 1)}
 	options := Options{
 		Settings: []byte(settings), Order: r.seat, Maker: batch.ID{name}, Patience: limit,
-		Say: func(format string, values ...any) { t.Logf(format, values...) },
+		Say: t.Logf, Warn: t.Logf,
 	}
 	options.Start = func(ctx context.Context) (Engine, error) {
 		started, err := engine.Start(ctx, path, options.Settings)
@@ -302,20 +302,56 @@ func TestAfterFreshAndPatience(t *testing.T) {
 func TestWhoHasLeftIsDropped(t *testing.T) {
 	of := newShared()
 	r := run(t, of, 1, nil)
-	s := r.session()
+	for at := 0; at < 3; at++ {
+		r.session()
+	}
 	r.seat.hold(true)
-	left, stays := r.asks("call add "+words_(5, 10)+" "+s+" 1"), r.asks("call add "+words_(6, 10)+" "+s+" 2")
+	left, stays := r.asks("call add "+words_(5, 10)+" 2 1"), r.asks("call add "+words_(6, 10)+" 3 1")
 	until(t, func() bool { return r.seat.isWaiting(2) })
 	left.gone.Store(true)
-	late := r.asks("call add " + words_(7, 10) + " " + s + " 3 within 1")
+	late := r.asks("call add " + words_(7, 10) + " 4 1 within 1")
 	if found := r.answer(late); found != "unknown time" {
 		t.Error(found)
 	}
 	r.seat.hold(false)
-	if found := r.answer(stays); found != "committed 3 reply 10" {
+	if found := r.answer(stays); found != "committed 5 reply 10" {
 		t.Error(found)
 	}
-	r.want("rows", " 1                    6 0a00000000000000\nposition 3 rows 1\n")
+	r.want("rows", " 1                    6 0a00000000000000\nposition 5 rows 1\n")
+}
+
+func TestCallsOfASessionWaitForEachOther(t *testing.T) {
+	r := run(t, newShared(), 1, nil)
+	s, another := r.session(), r.session()
+	r.seat.hold(true)
+	asked := "call add " + words_(5, 1) + " "
+	first, second, third := r.asks(asked+s+" 2"), r.asks(asked+s+" 1 within 1"), r.asks(asked+s+" 1")
+	until(t, func() bool { return r.seat.isWaiting(1) })
+	beside := r.asks("call add " + words_(6, 1) + " " + another + " 1")
+	until(t, func() bool { return r.seat.isWaiting(2) })
+	if found := r.answer(second); found != "unknown time" { // though it was never out
+		t.Error(found)
+	}
+	if r.seat.isWaiting(3) {
+		t.Error("two calls of a session are out")
+	}
+	r.seat.hold(false)
+	for _, it := range []struct {
+		of   *asker
+		want string
+	}{{first, "committed 4 reply 1"}, {beside, "committed 5 reply 1"}, {third, "committed 6 reply 2"}} {
+		if found := r.answer(it.of); found != it.want {
+			t.Errorf("%s, and not %s", found, it.want)
+		}
+	}
+}
+
+func TestWhoHasLeftHoldsNoSessionUp(t *testing.T) {
+	r := run(t, newShared(), 1, nil)
+	s := r.session()
+	left := r.asks("call add " + words_(5, 1) + " " + s + " 1 after 1000000")
+	left.gone.Store(true)
+	r.want("call add "+words_(5, 1)+" "+s+" 2", "committed 3 reply 1")
 }
 
 func TestAFullOrder(t *testing.T) {

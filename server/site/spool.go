@@ -51,6 +51,9 @@ func (s *Spool) spill() error {
 	return nil
 }
 
+// Size returns how many bytes the lines have.
+func (s *Spool) Size() int64 { return s.size }
+
 // WriteTo writes all lines.
 func (s *Spool) WriteTo(to io.Writer) (int64, error) {
 	if s.failed != nil {

@@ -3,19 +3,19 @@ package site
 import (
 	"encoding/hex"
 	"fmt"
-	"math/bits"
 	"sort"
 	"time"
 
 	"dsmdb/server/batch"
+	"dsmdb/server/durations"
 )
 
 // stats are counts of what a site did.
 type stats struct {
 	answers  [kinds]uint64
-	calls    durations
-	appends  durations // from handing a string over to its being counted
-	batches  uint64    // of this server
+	calls    durations.Histogram
+	appends  durations.Histogram // from handing a string over to its being counted
+	batches  uint64              // of this server
 	dropped  uint64
 	retried  uint64
 	restarts uint64
@@ -24,32 +24,8 @@ type stats struct {
 func (c *stats) answered(kind Kind, took time.Duration, isCall bool) {
 	c.answers[kind]++
 	if isCall {
-		c.calls.add(took)
+		c.calls.Add(took)
 	}
-}
-
-// durations are how long things took.
-type durations struct {
-	counts [48]uint64 // by the length of their nanoseconds in bits
-	sum    time.Duration
-}
-
-func (d *durations) add(took time.Duration) {
-	if took < 0 {
-		took = 0
-	}
-	at := bits.Len64(uint64(took))
-	if at >= len(d.counts) {
-		at = len(d.counts) - 1
-	}
-	d.counts[at]++
-	d.sum += took
-}
-
-// Durations are how long things took: Counts by the length of their nanoseconds in bits.
-type Durations struct {
-	Counts [48]uint64
-	Sum    time.Duration
 }
 
 // Snapshot is what is known of a site at a time.
@@ -76,10 +52,10 @@ type Snapshot struct {
 	Dropped        uint64
 	Retried        uint64
 	Answers        map[string]uint64
-	Calls          Durations
-	Appends        Durations   // of strings, from handing them over to their being counted
-	Batches        uint64      // that this server has made since its start
-	Procedures     []Procedure // by name
+	Calls          durations.Histogram
+	Appends        durations.Histogram // of strings, from handing them over to their being counted
+	Batches        uint64              // that this server has made since its start
+	Procedures     []Procedure         // by name
 }
 
 // Snapshot returns what is known of the site now; false where the site has ended.
@@ -107,8 +83,8 @@ func (s *Site) snapshot() Snapshot {
 		CaughtUp: s.caughtUp(), Beginning: s.beginning, Diverged: s.isDiverged, Silent: s.isSilent(), DivergedSince: s.diverged.Since,
 		Waiting: s.asking.count, Backlog: s.backlog, EngineLines: s.pending.len(), EngineRestarts: s.stats.restarts,
 		Restarting: s.restarting != nil, Ahead: s.growth.ahead(s.end), Dropped: s.stats.dropped, Retried: s.stats.retried,
-		Answers: map[string]uint64{}, Calls: Durations{s.stats.calls.counts, s.stats.calls.sum},
-		Appends: Durations{s.stats.appends.counts, s.stats.appends.sum}, Batches: s.stats.batches,
+		Answers: map[string]uint64{}, Calls: s.stats.calls, Appends: s.stats.appends,
+		Batches: s.stats.batches,
 	}
 	if since, why := s.order.Reached(); why != nil {
 		it.AwaySince, it.Away = since, why.Error()

@@ -78,10 +78,10 @@ class Server:
     """A server that runs, with its data folder and its log."""
 
     def __init__(self, folder, name, *more, limits=(), engine=None):
-        self.name, self.data = name, f"{folder}/{name}"
+        self.name, self.data = os.path.basename(name), f"{folder}/{name}"
         self.path = f"{self.data}/socket"
         wanted = [*limits, SERVER, "serve", f"{folder}/settings", "--data", self.data, "--engine", engine or ENGINE, *more]
-        self.said = open(f"{folder}/{name}.said", "w+")
+        self.said = open(f"{folder}/{self.name}.said", "w+")
         self.process = subprocess.Popen(wanted, stderr=self.said, stdout=self.said, umask=0)
 
     def text(self):

@@ -23,6 +23,7 @@ from etcd_nodes import free_port
 from fixtures import ADD, LONG, ONE, ROOT, Connection, ServerTest, until, words
 
 LONGEST_LINE = 1_048_576
+LONG_PROGRAM = "b700000001000000" * 4095 + "9500000000000000"
 LAYOUT = {
     "form": 1,
     "tables": [{"number": 1, "name": "counter", "width": 8, "fields": [{"name": "value", "type": "i64", "at": 0}]}],
@@ -74,12 +75,21 @@ class Lines(ServerTest):
         self.assertEqual(answers, [*(f"committed {it + 2} reply {it}" for it in range(1, 101)), "position 102"])
 
     def test_lines_with_a_number_are_under_way_at_once(self):
+        sessions = {it: self.one.ask("session").split(" ")[1] for it in range(2, 40)}
         with contextlib.closing(self.one.connect()) as connection:
-            connection.send("#1 " + self.call(5, 1, 1, "after 1000000 within 2"), *(f"#{it} {self.call(it, it, it)}" for it in range(2, 40)))
+            others = (f"#{it} call add {words(it, it)} {sessions[it]} 1" for it in range(2, 40))
+            connection.send("#1 " + self.call(5, 1, 1, "after 1000000 within 2"), *others)
             answers = [connection.line() for _ in range(38)]
             self.assertEqual(connection.line(), "#1 unknown time")
         expected = {f"#{it}": f"reply {it}" for it in range(2, 40)}
         self.assertEqual({it.split(" ")[0]: it.split(" ", 3)[3] for it in answers}, expected)
+
+    def test_calls_of_a_session_wait_for_each_other(self):
+        with contextlib.closing(self.one.connect()) as connection:
+            connection.send("#1 " + self.call(5, 1, 1, "after 3 within 30"), "#2 " + self.call(5, 1, 2), "#3 position")
+            self.assertEqual(connection.line(), "#3 position 2")
+            self.assertEqual(self.one.ask("session"), "session 3")
+            self.assertEqual([connection.line() for _ in range(2)], ["#1 committed 4 reply 1", "#2 committed 5 reply 2"])
 
     def test_a_client_who_reads_late_holds_nobody_up(self):
         for it in range(1, 301):
@@ -243,6 +253,30 @@ class Starts(ServerTest):
         with contextlib.closing(Connection(path)) as connection:
             self.assertEqual(connection.ask("session"), "session 2")
             self.assertEqual(connection.ask(f"call add {words(5, 10)} 2 1"), "committed 3 reply 10")
+
+    @unittest.skipUnless(os.geteuid() == 0, "a disk of a few megabytes takes a mount namespace, which only root can make")
+    def test_a_full_disk_that_has_room_again(self):
+        own = f"{self.folder}/own"
+        os.mkdir(own)
+        begin = f"mount -t tmpfs -o size=24m,mode=0700 none {own} && head -c 12m /dev/zero > {own}/filler && exec \"$@\""
+        one = self.serve("own/one", "--listen", f"{self.folder}/door", limits=["unshare", "--mount", "sh", "-c", begin, "sh"])
+        until(lambda: os.path.exists(f"{self.folder}/door"))
+        inside = f"/proc/{one.process.pid}/root{own}"
+        with contextlib.closing(Connection(f"{self.folder}/door")) as connection:
+            until(lambda: "access=away" in connection.ask("status"))
+            connection.send(f"call add {words(5, 1)} 2 1 within 1")
+            self.assertEqual(connection.line(), "unknown order")
+            os.remove(f"{inside}/filler")
+            self.assertEqual(connection.ask("session"), "session 2")
+            answers = [""]
+            for number in range(10, 1000):  # some 16 MB, up to the segment's end
+                answers.append(connection.ask(f"add n{number} {number} 0 {LONG_PROGRAM}"))
+                if answers[-1] == "full":
+                    break
+            self.assertEqual(answers[-2:], [f"added {number - 1}", "full"])
+            self.assertEqual(connection.ask(f"call claim {words(5)} 0 0"), "refused P13")
+            subprocess.run(["nsenter", "--mount", "--target", str(one.process.pid), "mount", "-o", "remount,size=64m", own], check=True)
+            self.assertEqual(until(lambda: (found := connection.ask(f"add late 9 0 {ONE}")) != "full" and found), "added 9")
 
     def test_clients_who_leave_or_do_not_read_hold_no_end_up(self):
         one = self.serve("one").begun()
@@ -429,6 +463,8 @@ class Doors(ServerTest):
         self.assertEqual((status, found["position"], found["committed"], found["order_reached"]), (200, "3", "1", True))
         self.assertEqual(self.web("/healthz"), (200, "ok\n"))
         self.assertEqual(self.web("/readyz"), (200, "ok\n"))
+        status, text = self.web("/nowhere")
+        self.assertEqual((status, text["title"]), (404, "there is nothing at this path"))
         self.assertIn("dsmdb_position 3", self.web("/metrics")[1])
         self.assertIn("<title>dsmdb</title>", self.web("/")[1])
         listed = self.web("/v1/procedures")[1]["procedures"]

@@ -4,7 +4,6 @@ import (
 	"context"
 	"crypto/rand"
 	"fmt"
-	"os"
 	"path/filepath"
 	"strings"
 	"time"
@@ -120,10 +119,10 @@ func (c *clusterOptions) prepare(path string, secret []byte, mark func(cluster.O
 	if secret == nil {
 		return nil
 	}
-	if err := os.WriteFile(filepath.Join(path, secretName), secret, 0o600); err != nil {
+	if err := data.Write(filepath.Join(path, secretName), secret); err != nil {
 		return fmt.Errorf("keeping the secret: %w", err)
 	}
-	return data.Force(path)
+	return nil
 }
 
 func (c *clusterOptions) join(o *clientOptions, server string) error {

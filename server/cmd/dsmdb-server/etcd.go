@@ -81,7 +81,7 @@ func (o *etcdOptions) options(folder string, maker order.Maker, journal string, 
 
 // openEtcd opens an order in etcd: outside, or at the member that runs in this server.
 func (s *server) openEtcd(name string, maker order.Maker, journal string) error {
-	options, err := s.etcd.options(s.data, maker, journal, s.log.say)
+	options, err := s.etcd.options(s.data, maker, journal, s.log.warn)
 	if err != nil {
 		return err
 	}

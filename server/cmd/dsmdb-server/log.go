@@ -27,12 +27,17 @@ func newLogger(to io.Writer) *logger {
 
 // Write has lines of a library be written as events.
 func (l *logger) Write(text []byte) (int, error) {
-	l.say("%s", strings.TrimSpace(string(text)))
+	l.warn("%s", strings.TrimSpace(string(text)))
 	return len(text), nil
 }
 
 // say writes an event. It never waits.
-func (l *logger) say(format string, values ...any) {
+func (l *logger) say(format string, values ...any) { l.write("info", format, values...) }
+
+// warn writes an event that an operator should look at. It never waits.
+func (l *logger) warn(format string, values ...any) { l.write("warn", format, values...) }
+
+func (l *logger) write(level, format string, values ...any) {
 	l.mutex.Lock()
 	defer l.mutex.Unlock()
 	text := fmt.Sprintf(format, values...)
@@ -40,7 +45,7 @@ func (l *logger) say(format string, values ...any) {
 		text = fmt.Sprintf("%s (%d lines before were lost)", text, l.lost)
 	}
 	select {
-	case l.lines <- time.Now().UTC().Format("2006-01-02T15:04:05.000Z") + " info " + text + "\n":
+	case l.lines <- time.Now().UTC().Format("2006-01-02T15:04:05.000Z") + " " + level + " " + text + "\n":
 		l.lost = 0
 	default:
 		l.lost++

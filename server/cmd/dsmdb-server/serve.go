@@ -273,7 +273,7 @@ func (s *server) openOrder(settings []byte) error {
 		s.order = order.OpenLocal(path, maker)
 	}
 	s.site = site.New(site.Options{
-		Settings: settings, Order: s.order, Maker: s.folder.Maker(), Patience: s.patience, Overrule: s.overrule, Say: s.log.say,
+		Settings: settings, Order: s.order, Maker: s.folder.Maker(), Patience: s.patience, Overrule: s.overrule, Say: s.log.say, Warn: s.log.warn,
 		Start: func(ctx context.Context) (site.Engine, error) {
 			started, err := engine.Start(ctx, s.engine, settings)
 			var fault *engine.SettingsFault
@@ -299,7 +299,7 @@ func lastWord(text string) string {
 func (s *server) listenAll(ctx context.Context) error {
 	limits := lineserver.DefaultLimits
 	limits.Connections = s.connections
-	s.lines = &lineserver.Server{Site: s.site, Policy: s.policy, Layout: s.layout, Limits: limits, Say: s.log.say}
+	s.lines = &lineserver.Server{Site: s.site, Policy: s.policy, Layout: s.layout, Limits: limits, Warn: s.log.warn}
 	if s.member != nil {
 		s.lines.Invite = func(ctx context.Context, name, place string) (string, error) {
 			found, err := s.member.Invite(ctx, name, place)
@@ -356,7 +356,7 @@ func (s *server) closeOrder() {
 	}
 	if s.member != nil {
 		if err := s.member.Stop(); err != nil {
-			s.log.say("%v", err)
+			s.log.warn("%v", err)
 		}
 	}
 }

@@ -21,7 +21,7 @@ import (
 func (s *server) listenHTTP(ctx context.Context) error {
 	s.handler = api.New(api.Options{
 		Site: s.site, Policy: s.policy, Layout: s.layout, Hosts: s.served, Name: filepath.Base(filepath.Clean(s.data)),
-		Metrics: metrics.New(s.site, s.order, s.lines), Console: console.Handler(),
+		Metrics: metrics.New(s.site, s.order, s.lines), Console: console.Handler(), Pages: console.Paths(),
 	})
 	s.web = &http.Server{
 		Handler: s.handler, ReadHeaderTimeout: 10 * time.Second, ReadTimeout: time.Minute, IdleTimeout: 5 * time.Minute,
@@ -32,6 +32,7 @@ func (s *server) listenHTTP(ctx context.Context) error {
 	if err != nil {
 		return fmt.Errorf("listening at %s: %w", s.http, err)
 	}
+	listener = s.lines.Limited(listener)
 	scheme := "http"
 	if s.cert != "" {
 		config, err := s.tlsConfig()
