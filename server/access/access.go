@@ -230,17 +230,15 @@ func (w *Who) May(ask wire.Ask, now time.Time) error {
 		}
 		return nil
 	case *wire.Add:
-		return w.has(Add)
+		return w.Has(Add)
 	case wire.Rows, *wire.Scan:
-		return w.has(Read)
+		return w.Has(Read)
 	}
 	return nil
 }
 
 // Has returns whether somebody has a right; NoRole where not.
-func (w *Who) Has(right Right) error { return w.has(right) }
-
-func (w *Who) has(right Right) error {
+func (w *Who) Has(right Right) error {
 	if w.local {
 		return nil
 	}

@@ -121,18 +121,6 @@ func (e *Etcd) nextOwn(ctx context.Context) (own *ownMade, strings []*String, vo
 	return own, strings, vote, nil
 }
 
-// stillWanted asks of each string whether it is still wanted.
-func stillWanted(strings []*String) (wanted, dropped []*String) {
-	for _, it := range strings {
-		if it.wanted() {
-			wanted = append(wanted, it)
-		} else {
-			dropped = append(dropped, it)
-		}
-	}
-	return wanted, dropped
-}
-
 // valueOf returns what etcd keeps of a batch.
 func (e *Etcd) valueOf(key string, strings []*String) []byte {
 	made := batch.Batch{Header: batch.Header{

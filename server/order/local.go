@@ -243,7 +243,11 @@ func cutToRoom(strings []*String, room int) (first, rest []*String) {
 
 // append appends those of the strings that are still wanted, and returns what became of all.
 func (l *Local) append(log *Log, strings []*String, vote bool) ([]Event, error) {
-	wanted, events := chosen(strings)
+	wanted, dropped := stillWanted(strings)
+	var events []Event
+	if dropped != nil {
+		events = append(events, &Dropped{dropped})
+	}
 	if len(wanted) == 0 && !vote {
 		return events, nil
 	}
@@ -259,22 +263,6 @@ func (l *Local) append(log *Log, strings []*String, vote bool) ([]Event, error) 
 		return nil, err
 	}
 	return append(events, l.count(made, wanted, true)), nil
-}
-
-// chosen asks of each string whether it is wanted, and returns those that are, and the event for those that aren't.
-func chosen(strings []*String) (wanted []*String, events []Event) {
-	var dropped []*String
-	for _, it := range strings {
-		if it.wanted() {
-			wanted = append(wanted, it)
-		} else {
-			dropped = append(dropped, it)
-		}
-	}
-	if dropped != nil {
-		events = append(events, &Dropped{dropped})
-	}
-	return wanted, events
 }
 
 func (l *Local) send(some []Event) error {

@@ -54,6 +54,18 @@ type String struct {
 
 func (s *String) wanted() bool { return s.Wanted == nil || s.Wanted() }
 
+// stillWanted asks of each string whether it is still wanted.
+func stillWanted(strings []*String) (wanted, dropped []*String) {
+	for _, it := range strings {
+		if it.wanted() {
+			wanted = append(wanted, it)
+		} else {
+			dropped = append(dropped, it)
+		}
+	}
+	return wanted, dropped
+}
+
 // Event is one of Counted, Refused, Dropped, Begun and End.
 type Event interface{ isEvent() }
 

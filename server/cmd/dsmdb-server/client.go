@@ -141,6 +141,18 @@ func (o *clientOptions) open() (*client.Client, error) {
 	return client.Open(options)
 }
 
+// with opens a client for what is asked once.
+func (o *clientOptions) with(do func(ctx context.Context, c *client.Client) error) error {
+	c, err := o.open()
+	if err != nil {
+		return failed(err)
+	}
+	defer c.Close()
+	ctx, cancel := o.context()
+	defer cancel()
+	return do(ctx, c)
+}
+
 func (o *clientOptions) dialer() (client.Dialer, error) {
 	found := client.Dialer{TLS: &tls.Config{}}
 	if o.token != "" {
@@ -191,12 +203,8 @@ func (o *clientOptions) call(name string, given []string) error {
 	}
 	asksOn := c.IsUnsettled(name, args) // the same command goes on with its call
 	if line, is := c.Unsettled(); is && !asksOn {
-		answer, err := c.Settle(ctx)
-		if err != nil {
-			return failed(fmt.Errorf("earlier %s: %w", line, err))
-		}
-		if _, err := fmt.Printf("earlier %s: %s\n", line, known.said(answer)); err != nil {
-			return unsaid(c, err)
+		if err := settleEarlier(ctx, c, line, known); err != nil {
+			return err
 		}
 	}
 	var answer client.Answer
@@ -217,6 +225,18 @@ func (o *clientOptions) call(name string, given []string) error {
 		return &status{statusAskAgain, err}
 	}
 	return ended(answer)
+}
+
+// settleEarlier settles a call that the client's file has, and says what became of it.
+func settleEarlier(ctx context.Context, c *client.Client, line string, known *lateLayout) error {
+	answer, err := c.Settle(ctx)
+	if err != nil {
+		return failed(fmt.Errorf("earlier %s: %w", line, err))
+	}
+	if _, err := fmt.Printf("earlier %s: %s\n", line, known.said(answer)); err != nil {
+		return unsaid(c, err)
+	}
+	return nil
 }
 
 // unsaid ends a command whose answer couldn't be handed on: the client's file keeps the call.
@@ -333,54 +353,45 @@ func (o *clientOptions) once(line string) error {
 	if _, err := wire.Read(line); err != nil {
 		return words("%s: %v", line, err)
 	}
-	c, err := o.open()
-	if err != nil {
-		return failed(err)
-	}
-	defer c.Close()
-	ctx, cancel := o.context()
-	defer cancel()
-	answer, err := c.Ask(ctx, line)
-	if err != nil {
-		return failed(err)
-	}
-	fmt.Println(answer)
-	word, why, _ := strings.Cut(answer, " ")
-	return ended(client.Answer{Word: word, Why: why})
+	return o.with(func(ctx context.Context, c *client.Client) error {
+		answer, err := c.Ask(ctx, line)
+		if err != nil {
+			return failed(err)
+		}
+		if _, err := fmt.Println(answer); err != nil {
+			return err
+		}
+		word, why, _ := strings.Cut(answer, " ")
+		return ended(client.Answer{Word: word, Why: why})
+	})
 }
 
 func (o *clientOptions) session() error {
 	if o.file == "" {
 		return words("--file is missing: what keeps the session")
 	}
-	c, err := o.open()
-	if err != nil {
-		return failed(err)
-	}
-	defer c.Close()
-	ctx, cancel := o.context()
-	defer cancel()
-	session, err := c.Session(ctx)
-	if err != nil {
-		return failed(err)
-	}
-	_, err = fmt.Printf("session %d\n", session)
-	return err
+	return o.with(func(ctx context.Context, c *client.Client) error {
+		session, err := c.Session(ctx)
+		if err != nil {
+			return failed(err)
+		}
+		_, err = fmt.Printf("session %d\n", session)
+		return err
+	})
 }
 
 func (o *clientOptions) rows(ask fmt.Stringer) error {
-	c, err := o.open()
-	if err != nil {
-		return failed(err)
-	}
-	defer c.Close()
-	ctx, cancel := o.context()
-	defer cancel()
+	return o.with(func(ctx context.Context, c *client.Client) error { return o.rowsOf(ctx, c, ask) })
+}
+
+func (o *clientOptions) rowsOf(ctx context.Context, c *client.Client, ask fmt.Stringer) error {
 	var known *layout.Layout
 	if !o.asHex {
-		if known, err = layoutOf(ctx, c); err != nil {
+		found, err := layoutOf(ctx, c)
+		if err != nil {
 			return failed(err)
 		}
+		known = found
 	}
 	out := newOutput()
 	last, err := c.Lines(ctx, ask.String(), func(row string) error { return out.line(rowOf(known, row)) })

@@ -198,6 +198,11 @@ func (o *serveOptions) run() error {
 	if err != nil {
 		return err
 	}
+	return s.answer(ctx)
+}
+
+// answer answers clients until the context is over, where it lets what is out end, or the site or a listener fails.
+func (s *server) answer(ctx context.Context) error {
 	running, end := context.WithCancel(context.Background())
 	defer end()
 	ended := make(chan error, 1)
@@ -209,25 +214,24 @@ func (o *serveOptions) run() error {
 		<-ended
 		return err
 	}
+	defer s.close()
 	go s.tellSystem(running)
 	select {
-	case err = <-ended:
+	case err := <-ended:
 		end()
-	case err = <-s.failures:
+		return err
+	case err := <-s.failures:
 		end()
 		<-ended
+		return err
 	case <-ctx.Done():
 		s.log.say("stopping: no more calls are taken")
 		notify("STOPPING=1")
 		stopListening()
-		s.lines.Drain()
-		s.handler.Drain()
 		s.drain()
 		end()
-		err = <-ended
+		return <-ended
 	}
-	s.close()
-	return err
 }
 
 // prepare reads what the words name, and opens the folder.
@@ -338,8 +342,10 @@ func (s *server) listenAt(place string) (net.Listener, error) {
 	return lineserver.ListenUnix(strings.TrimPrefix(place, "unix:"))
 }
 
-// drain waits until what is out is answered, for some seconds.
+// drain takes no more calls, and waits until what is out is answered, for some seconds.
 func (s *server) drain() {
+	s.lines.Drain()
+	s.handler.Drain()
 	until := time.Now().Add(drainFor - time.Second)
 	for time.Now().Before(until) {
 		if found, is := s.site.Snapshot(); !is || found.Waiting == 0 {

@@ -81,15 +81,20 @@ func main() {
 		os.Exit(1)
 	default:
 	}
-	sort.Slice(found.took, func(a, b int) bool { return found.took[a] < found.took[b] })
+	found.print(took)
+}
+
+// print says how many calls were committed in so many seconds, and how long they took.
+func (c *counted) print(seconds float64) {
+	sort.Slice(c.took, func(a, b int) bool { return c.took[a] < c.took[b] })
 	part := func(of float64) float64 {
-		if len(found.took) == 0 {
+		if len(c.took) == 0 {
 			return 0
 		}
-		return float64(found.took[int(of*float64(len(found.took)-1))].Microseconds()) / 1000
+		return float64(c.took[int(of*float64(len(c.took)-1))].Microseconds()) / 1000
 	}
 	fmt.Printf("clients=%d committed=%d per_second=%.0f p50_ms=%.3f p99_ms=%.3f others=%v\n",
-		*clients, len(found.took), float64(len(found.took))/took, part(0.5), part(0.99), found.others)
+		*clients, len(c.took), float64(len(c.took))/seconds, part(0.5), part(0.99), c.others)
 }
 
 func run(place string, first, count int, until time.Time, found *counted) error {
