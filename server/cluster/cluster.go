@@ -25,11 +25,12 @@ import (
 )
 
 const (
-	quota      = 8 << 30 // bytes of a member's data
-	token      = "dsmdb" // of a new cluster
-	stopIn     = 10 * time.Second
-	promoteIn  = 2 * time.Second // between looks for members that have caught up
-	longSocket = 107             // bytes of a Unix socket's path
+	quota           = 8 << 30 // bytes of a member's data
+	entriesInMemory = 10_000  // each a batch, before a member keeps them on its disk alone
+	token           = "dsmdb" // of a new cluster
+	stopIn          = 10 * time.Second
+	promoteIn       = 2 * time.Second // between looks for members that have caught up
+	longSocket      = 107             // bytes of a Unix socket's path
 )
 
 // Options say which member a server has.
@@ -155,7 +156,7 @@ func (o *Options) config(found *mark) (*embed.Config, error) {
 			CertFile: o.Cert, KeyFile: o.Key, TrustedCAFile: o.CA, ClientCertAuth: true,
 		}
 	}
-	config.QuotaBackendBytes = quota
+	config.QuotaBackendBytes, config.SnapshotCount = quota, entriesInMemory
 	config.PreVote, config.EnableGRPCGateway, config.EnableV2 = true, false, false
 	config.Logger, config.LogLevel = "zap", "error"
 	config.ZapLoggerBuilder = loggerTo(o.Log)

@@ -8,6 +8,7 @@ import (
 	"net"
 	"strings"
 	"sync"
+	"sync/atomic"
 	"time"
 
 	"dsmdb/server/access"
@@ -17,17 +18,22 @@ import (
 
 const (
 	finishIn  = 3 * time.Second
-	firstRoom = 1 << 12 // bytes of a connection's buffer
-	keptRoom  = 1 << 16 // bytes of a buffer that is kept
+	firstRoom = 1 << 12                // bytes of a connection's buffer
+	keptRoom  = 1 << 16                // bytes of a buffer that is kept
+	alike     = 100 * time.Microsecond // for which a client who was there counts as being there
 
 	longestOfStrangers = 1 << 13 // bytes of a line of somebody who may not call
 )
+
+// began is what times of conn.there are counted from.
+var began = time.Now().Add(-time.Hour)
 
 // conn is one client's connection. One goroutine reads its lines, another writes its answers.
 type conn struct {
 	server *Server
 	net    net.Conn
 	isGone func() bool
+	there  atomic.Int64 // when the kernel last said that the client is there, in nanoseconds
 	who    *access.Who
 
 	mutex   sync.Mutex
@@ -308,8 +314,18 @@ func (c *conn) lastBytes() *piece {
 // Flush implements site.Asker.
 func (c *conn) Flush() { c.more.Signal() }
 
-// Gone implements site.Asker.
-func (c *conn) Gone() bool { return c.isGone() }
+// Gone implements site.Asker. Calls of one connection that are asked for together share an answer of the kernel's.
+func (c *conn) Gone() bool {
+	now := time.Since(began)
+	if now-time.Duration(c.there.Load()) < alike {
+		return false
+	}
+	if c.isGone() {
+		return true
+	}
+	c.there.Store(int64(now))
+	return false
+}
 
 // write writes answers until all requests are answered behind the client's end, or the client doesn't read.
 func (c *conn) write() {
