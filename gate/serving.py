@@ -13,6 +13,7 @@ from workspace import ROOT
 WORDS = ("serve", "begin", "join", "call", "add", "rows", "session", "status", "token", "demo")
 FOLDER = f"{ROOT}/server"
 BUILT = f"{ROOT}/out/server/dsmdb-server"
+CACHE = f"{ROOT}/out/server/cache"  # of Go's compiler
 SHARED = "/usr/share/gocode/src"  # where Debian's packages of Go have their sources
 PACKAGES = {  # by what they bring
     "go.etcd.io/etcd": "golang-etcd-server-dev",
@@ -50,13 +51,13 @@ def sources():
 class Tree:
     """The server's packages as Go looks for them: below a folder of GOPATH, before Debian's."""
 
-    def __init__(self, room, program="", cache=None):
+    def __init__(self, room, program=""):
         self.folder = f"{room}/src/dsmdb/server"
         os.mkdir(f"{room}/src")
         os.symlink(ROOT, f"{room}/src/dsmdb")
         self.environment = {
             **os.environ, "GOPATH": f"{room}:{os.path.dirname(SHARED)}", "GO111MODULE": "off", "GOFLAGS": "",
-            "PWD": self.folder, "GOCACHE": cache or f"{room}/cache", "DSMDB": program}
+            "PWD": self.folder, "GOCACHE": CACHE, "DSMDB": program}
 
     def ran(self, *words, **how):
         how = {"stdout": subprocess.PIPE, "stderr": subprocess.STDOUT, "text": True, **how}
@@ -89,7 +90,7 @@ def built():
             return BUILT
         say("building the server from its sources, once: some ten seconds, or a minute the first time")
         with tempfile.TemporaryDirectory(prefix="server-") as room:
-            said = Tree(room, cache=f"{ROOT}/out/server/cache").build(f"{BUILT}.new")
+            said = Tree(room).build(f"{BUILT}.new")
         if said:
             say(f"the server can't be built:\n{said}")
             return None
