@@ -14,6 +14,7 @@ import (
 
 const (
 	eventsAtOnce = 256         // that are handed on together at most
+	bytesAtOnce  = 4 << 20     // of their strings, or little more
 	roomPause    = time.Second // before a full disk is tried again
 )
 
@@ -161,7 +162,7 @@ func (l *Local) work() error {
 // open opens the log, and hands on its batches. Where the disk has no room for the last segment's copy it waits for room.
 func (l *Local) open() (*Log, error) {
 	var some []Event
-	handed := 0
+	handed, size := 0, 0
 	for {
 		read := 0
 		log, err := Open(l.path, l.maker, &l.forces, func(found *batch.Batch) error {
@@ -170,11 +171,14 @@ func (l *Local) open() (*Log, error) {
 			}
 			handed++
 			some = append(some, l.count(found, nil, false))
-			if len(some) < eventsAtOnce {
+			for _, text := range found.Strings {
+				size += len(text)
+			}
+			if len(some) < eventsAtOnce && size < bytesAtOnce {
 				return nil
 			}
 			err := l.send(some)
-			some = nil
+			some, size = nil, 0
 			return err
 		})
 		l.noteRoom(err)
