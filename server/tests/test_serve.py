@@ -433,6 +433,21 @@ class Doors(ServerTest):
         with dsmdb.Client([f"tls://127.0.0.1:{port}"], tls=context) as client:
             self.assertEqual(client.call("add", bytes.fromhex(words(5, 10))).line, "committed 6 reply 20")
 
+    def test_connections_of_http_are_counted(self):
+        self.ports("--open", "--connections", "2")
+        with contextlib.ExitStack() as all_of_them:
+            for _ in range(2):
+                it = all_of_them.enter_context(contextlib.closing(Connection(("127.0.0.1", self.http))))
+                self.assertEqual(it.ask("GET /healthz HTTP/1.1\r\nHost: localhost\r\n\r"), "HTTP/1.1 200 OK\r")
+            over = all_of_them.enter_context(contextlib.closing(Connection(("127.0.0.1", self.http))))
+            self.assertEqual(over.line(), "")
+
+        def is_answered():
+            with contextlib.suppress(ConnectionError):
+                return self.over_tcp("position") == ["position 1"]
+
+        until(is_answered)
+
     def test_http(self):
         one = self.ports("--open")
         status, begun = self.web("/v1/sessions", {})
