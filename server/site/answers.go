@@ -138,27 +138,29 @@ func (s *Site) askRows() {
 	}
 }
 
-// growth is how fast the order grows.
+// growth is how fast the order grows by what clients ask. What servers fill it up with doesn't count: calls would be asked
+// for further ahead, and the order be filled up further.
 type growth struct {
-	at [11]struct {
-		when time.Time
-		end  uint64
+	strings uint64 // of clients
+	at      [11]struct {
+		when    time.Time
+		strings uint64
 	}
 	next int
 }
 
-func (g *growth) note(now time.Time, end uint64) {
-	g.at[g.next].when, g.at[g.next].end = now, end
+func (g *growth) note(now time.Time) {
+	g.at[g.next].when, g.at[g.next].strings = now, g.strings
 	g.next = (g.next + 1) % len(g.at)
 }
 
 // ahead returns by how much a call's upto should be ahead of the position: what the order grew by in a second.
-func (g *growth) ahead(end uint64) uint64 {
+func (g *growth) ahead() uint64 {
 	oldest := g.at[g.next]
 	if oldest.when.IsZero() {
 		oldest = g.at[0]
 	}
-	grew := end - oldest.end
+	grew := g.strings - oldest.strings
 	switch {
 	case grew < leastAhead:
 		return leastAhead

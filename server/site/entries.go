@@ -43,6 +43,9 @@ func (s *Site) count(it *order.Counted) error {
 			return &Stopped{"the order was begun for other settings: one order has one settings file"}
 		}
 		s.end++
+		if !order.IsOfServers(text) {
+			s.growth.strings++
+		}
 		s.backlog += len(text)
 		s.unfed.push(text)
 	}

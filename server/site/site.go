@@ -363,7 +363,7 @@ func (s *Site) takeEvents(some []order.Event, is bool) error {
 
 // takeTick looks at what only time changes.
 func (s *Site) takeTick() error {
-	s.growth.note(s.now, s.end)
+	s.growth.note(s.now)
 	s.beginOrder()
 	s.fillUp()
 	s.expire()

@@ -297,6 +297,13 @@ func TestAfterFreshAndPatience(t *testing.T) {
 	if found != "committed 41 reply 21" { // the order was filled up to there
 		t.Error(found)
 	}
+	found = r.ask("call add " + words_(5, 1) + " " + s + " 101 fresh after 5000")
+	if found != "committed 5001 reply 22" {
+		t.Error(found)
+	}
+	if found := strings.Fields(r.ask("hello")); found[3] != "5001" || found[4] != "16" { // what it was filled up with doesn't count
+		t.Error(found)
+	}
 }
 
 func TestWhoHasLeftIsDropped(t *testing.T) {

@@ -82,7 +82,7 @@ func (s *Site) snapshot() Snapshot {
 		Database: s.database, Position: s.position, End: s.end, Digest: s.votes.Own().Strings, Counts: s.counts,
 		CaughtUp: s.caughtUp(), Beginning: s.beginning, Diverged: s.isDiverged, Silent: s.isSilent(), DivergedSince: s.diverged.Since,
 		Waiting: s.asking.count, Backlog: s.backlog, EngineLines: s.pending.len(), EngineRestarts: s.stats.restarts,
-		Restarting: s.restarting != nil, Ahead: s.growth.ahead(s.end), Dropped: s.stats.dropped, Retried: s.stats.retried,
+		Restarting: s.restarting != nil, Ahead: s.growth.ahead(), Dropped: s.stats.dropped, Retried: s.stats.retried,
 		Answers: map[string]uint64{}, Calls: s.stats.calls, Appends: s.stats.appends,
 		Batches: s.stats.batches,
 	}
@@ -135,5 +135,5 @@ func (s *Site) hello(r *Request) {
 		s.place(r)
 		return
 	}
-	s.tell(r, Answer{Kind: Text, Text: fmt.Sprintf("hello %s 1 %d %d", hex.EncodeToString(s.database[:]), s.position, s.growth.ahead(s.end))})
+	s.tell(r, Answer{Kind: Text, Text: fmt.Sprintf("hello %s 1 %d %d", hex.EncodeToString(s.database[:]), s.position, s.growth.ahead())})
 }
