@@ -316,7 +316,7 @@ func TestEtcdThatStopsIsToldAndGoneOnWith(t *testing.T) {
 		etcd.signal(at, syscall.SIGSTOP)
 	}
 	it := w.append1("2")
-	leaves := &String{Text: []byte("leaves"), Wanted: func() bool { return false }}
+	leaves := &String{Text: []byte("leaves"), For: wanted(func() bool { return false })}
 	w.Append([]*String{leaves})
 	w.until("told", func() bool { _, why := w.Reached(); return why != nil })
 	w.until("dropped", func() bool { return w.dropped[leaves] })

@@ -206,7 +206,7 @@ func TestWhatIsNotWantedAfterALostAnswerIsSettled(t *testing.T) {
 			w := etcd.opened(func(o *EtcdOptions) { o.Endpoints = []string{relay.url} })
 			w.untilBegun()
 			var asked atomic.Int64
-			leaves := &String{Text: []byte("leaves"), Wanted: func() bool { return asked.Add(1) == 1 }}
+			leaves := &String{Text: []byte("leaves"), For: wanted(func() bool { return asked.Add(1) == 1 })}
 			stays := &String{Text: []byte("stays")}
 			w.Append([]*String{leaves, stays})
 			w.until("second try", func() bool { return asked.Load() == 2 })

@@ -30,6 +30,11 @@ func next(t *testing.T, l *Local, left *[]Event) Event {
 	return found
 }
 
+// wanted has strings appended as long as it says.
+type wanted func() bool
+
+func (w wanted) Wants() bool { return w() }
+
 func stringsOf(texts ...string) []*String {
 	var all []*String
 	for _, it := range texts {
@@ -47,7 +52,7 @@ func TestAnOrderInAFolderTellsWhatBecameOfStrings(t *testing.T) {
 		t.Fatalf("%+v", it)
 	}
 	some := stringsOf("one", "two", "three")
-	some[1].Wanted = func() bool { return false }
+	some[1].For = wanted(func() bool { return false })
 	l.Append(some)
 	if it, is := next(t, l, &left).(*Dropped); !is || len(it.Of) != 1 || it.Of[0] != some[1] {
 		t.Errorf("%+v", it)

@@ -45,14 +45,18 @@ type Order interface {
 // String is a byte string that a server wants appended.
 type String struct {
 	Text []byte // at most batch.LongestString bytes
-	// Wanted returns whether it is still to be appended. It is asked right before the string is handed to whatever keeps
-	// the order, each time. Nil stands for yes.
-	Wanted func() bool
-	// For is the handing side's own.
-	For any
+	// For is who wants it; nil for one that is wanted in any case.
+	For Wanter
 }
 
-func (s *String) wanted() bool { return s.Wanted == nil || s.Wanted() }
+// Wanter is who wants strings appended.
+type Wanter interface {
+	// Wants returns whether the strings are still to be appended. It is asked right before a string is handed to whatever
+	// keeps the order, each time, and may be called from any goroutine.
+	Wants() bool
+}
+
+func (s *String) wanted() bool { return s.For == nil || s.For.Wants() }
 
 // stillWanted asks of each string whether it is still wanted.
 func stillWanted(strings []*String) (wanted, dropped []*String) {

@@ -85,8 +85,14 @@ func (s *Site) askReady() {
 		return
 	}
 	for len(s.behind) > 0 && s.behind[0].for_ <= s.fed {
-		r := heap.Pop(&s.behind).(waiter).of
-		if !r.done.Load() {
+		s.ready.push(heap.Pop(&s.behind).(waiter).of)
+	}
+	for s.ready.len() > 0 {
+		switch r := s.ready.pop(); {
+		case r.done.Load():
+		case r.after > s.fed: // the engine was started again
+			s.place(r)
+		default:
 			s.try(r)
 		}
 	}
@@ -133,8 +139,7 @@ func (s *Site) tooLate(r *Request) {
 
 func (s *Site) submit(r *Request, text []byte) {
 	r.out, r.handed = true, s.now
-	wanted := func() bool { return !r.done.Load() && !r.Asker.Gone() }
-	s.submitted = append(s.submitted, &order.String{Text: text, Wanted: wanted, For: r})
+	s.submitted = append(s.submitted, &order.String{Text: text, For: r})
 }
 
 // ran takes in what the engine answers to a call's run.

@@ -232,4 +232,10 @@ func (s *Site) endsAt(it order.End) {
 }
 
 // place has a call begin where the engine has the strings that it asks for.
-func (s *Site) place(r *Request) { heap.Push(&s.behind, waiter{r.after, r}) }
+func (s *Site) place(r *Request) {
+	if r.after <= s.fed {
+		s.ready.push(r)
+	} else {
+		heap.Push(&s.behind, waiter{r.after, r})
+	}
+}

@@ -109,7 +109,7 @@ func (s *seat) hand() []order.Event {
 	}
 	var wanted, dropped []*order.String
 	for _, it := range s.waiting {
-		if it.Wanted == nil || it.Wanted() {
+		if it.For == nil || it.For.Wants() {
 			wanted = append(wanted, it)
 		} else {
 			dropped = append(dropped, it)

@@ -38,6 +38,9 @@ type Request struct {
 	before, behind *Request // among those that aren't answered
 }
 
+// Wants implements order.Wanter.
+func (r *Request) Wants() bool { return !r.done.Load() && !r.Asker.Gone() }
+
 // call returns what a request for a call asks; nil for another.
 func (r *Request) call() *wire.Call {
 	found, _ := r.Ask.(*wire.Call)

@@ -114,7 +114,8 @@ type Site struct {
 	asking     outstanding
 	early      []*Request // that came before the site had caught up
 	turns      turns
-	behind     waiting // calls that wait for a position
+	ready      queue[*Request] // calls that may begin
+	behind     waiting         // calls that wait for a position
 	fresh      queue[*Request]
 	retries    waiting // calls that wait for a time, in nanoseconds
 	submitted  []*order.String
