@@ -13,8 +13,7 @@ const Kept = 1 << 16
 type Votes struct {
 	own      batch.ID
 	position uint64 // of the own engine
-	first    uint64 // position of digests[0]
-	digests  []pair
+	digests  []pair // of the last Kept positions, each at its position modulo Kept
 	heard    map[batch.ID]opinion
 	earlier  *opinion // of this server before its start, where that disagrees
 }
@@ -37,18 +36,19 @@ func New(own batch.ID, settings []byte) *Votes {
 
 // Answered is told what the own engine has answered to the next string, without LF.
 func (v *Votes) Answered(text, answer []byte) {
-	last := v.digests[len(v.digests)-1]
-	v.digests = append(v.digests, pair{last.strings.WithString(text), last.answers.WithAnswer(answer)})
+	last := v.digests[v.position%Kept]
+	next := pair{last.strings.WithString(text), last.answers.WithAnswer(answer)}
 	v.position++
-	if len(v.digests) > 2*Kept {
-		v.first += uint64(len(v.digests) - Kept)
-		v.digests = append(v.digests[:0:0], v.digests[len(v.digests)-Kept:]...)
+	if len(v.digests) < Kept {
+		v.digests = append(v.digests, next)
+	} else {
+		v.digests[v.position%Kept] = next
 	}
 }
 
 // Own returns the vote that this server gives now.
 func (v *Votes) Own() batch.Vote {
-	last := v.digests[len(v.digests)-1]
+	last := v.digests[v.position%Kept]
 	return batch.Vote{Position: v.position, Strings: last.strings, Answers: last.answers}
 }
 
@@ -85,7 +85,7 @@ func (v *Votes) agrees(vote batch.Vote) bool {
 	if vote.Position > v.position {
 		return false // it speaks of what wasn't there
 	}
-	own := v.digests[vote.Position-v.first]
+	own := v.digests[vote.Position%Kept]
 	return own.strings == vote.Strings && own.answers == vote.Answers
 }
 
