@@ -87,10 +87,10 @@ def fill(path):
     with open(path, "wb", buffering=0) as file:
         about = os.statvfs(path)
         left = about.f_bavail * about.f_frsize - (1 << 20)
-        if left > 0:
-            os.posix_fallocate(file.fileno(), 0, left)
-            file.seek(left)
         try:
+            if left > 0:
+                os.posix_fallocate(file.fileno(), 0, left)
+                file.seek(left)
             while True:
                 file.write(b"\1" * 4096)
         except OSError:

@@ -44,7 +44,7 @@ class Client(threading.Thread):
     """A client that makes transfers, and keeps what it was answered, by pair."""
 
     def __init__(self, test, name, own, until):
-        super().__init__()
+        super().__init__(daemon=True)
         self.test, self.own, self.until = test, own, until
         self.path, self.random = f"{test.folder}/{name}", random.Random(f"{SEED} {name}")
         self.answers, self.faults = {}, []
