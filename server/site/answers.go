@@ -141,7 +141,7 @@ func (s *Site) askRows() {
 // growth is how fast the order grows by what clients ask. What servers fill it up with doesn't count: calls would be asked
 // for further ahead, and the order be filled up further.
 type growth struct {
-	strings uint64 // but for those that fill up
+	strings uint64 // since the start, but for those that fill up
 	at      [11]struct {
 		when    time.Time
 		strings uint64

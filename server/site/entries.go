@@ -43,7 +43,7 @@ func (s *Site) count(it *order.Counted) error {
 			return &Stopped{"the order was begun for other settings: one order has one settings file"}
 		}
 		s.end++
-		if !bytes.Equal(text, order.Filling) {
+		if s.begun && !bytes.Equal(text, order.Filling) {
 			s.growth.strings++
 		}
 		s.backlog += len(text)

@@ -306,6 +306,19 @@ func TestAfterFreshAndPatience(t *testing.T) {
 	}
 }
 
+func TestWhatStoodInTheOrderAtTheStartIsNoGrowth(t *testing.T) {
+	of := newShared()
+	texts := [][]byte{order.First([]byte(settings))}
+	for len(texts) < 1000 {
+		texts = append(texts, []byte{7})
+	}
+	of.insert(batch.ID{9}, atStart, texts...)
+	r := run(t, of, 1, nil).caughtUp()
+	if found := strings.Fields(r.ask("hello")); found[3] != "1000" || found[4] != "16" {
+		t.Error(found)
+	}
+}
+
 func TestWhoHasLeftIsDropped(t *testing.T) {
 	of := newShared()
 	r := run(t, of, 1, nil)
