@@ -17,7 +17,8 @@ ENOUGH = 150  # seconds: votes are given within 50, and who is in the wrong ends
 
 @unittest.skipUnless(SECONDS >= ENOUGH, "server/soak runs it")
 class SoakOnSmallDisks(test_transfers.TransfersOverPartitions):
-    """At three servers whose disks are full now and then."""
+    """At three servers whose disks are full now and then. A member of etcd that can't write ends its server, which is
+    started again."""
 
     def begin(self):
         for it in self.names:
@@ -28,16 +29,17 @@ class SoakOnSmallDisks(test_transfers.TransfersOverPartitions):
         return super().begin()
 
     def fault(self, servers):
+        for name, it in servers.items():
+            if it.process.poll() is not None and "no space left" in it.text():
+                servers[name] = self.start(name)
         if self.random.random() < 0.9:
             super().fault(servers)
             return
-        name = self.random.choice(self.names)
-        filler = f"{self.folder}/{name}/filler"
+        filler = f"{self.folder}/{self.random.choice(self.names)}/filler"
         fill(filler)
         time.sleep(1 + 2 * self.random.random())
         os.remove(filler)
-        if servers[name].process.poll() is not None:  # a member of etcd ends where it can't write
-            servers[name] = self.start(name)
+        time.sleep(0.5)  # who ends has ended
 
 
 class SoakWithFlippedBits(SoakOnSmallDisks):

@@ -1,6 +1,7 @@
 package main
 
 import (
+	"bytes"
 	"fmt"
 	"io"
 	"strings"
@@ -10,25 +11,51 @@ import (
 
 // logger writes a line an event, with the time. What can't be written is dropped: a server goes on without its log.
 type logger struct {
-	lines chan string
+	lines chan logLine
 	mutex sync.Mutex
 	lost  int
 }
 
+// logLine is a line that is to be written, and who waits until it is; nil for nobody.
+type logLine struct {
+	text    string
+	written chan struct{}
+}
+
 func newLogger(to io.Writer) *logger {
-	l := &logger{lines: make(chan string, 1024)}
+	l := &logger{lines: make(chan logLine, 1024)}
 	go func() {
 		for line := range l.lines {
-			io.WriteString(to, line)
+			io.WriteString(to, line.text)
+			if line.written != nil {
+				close(line.written)
+			}
 		}
 	}()
 	return l
 }
 
-// Write has lines of a library be written as events.
+// Write has lines of etcd be written as events. After one that is fatal etcd ends the process, so it is waited for.
 func (l *logger) Write(text []byte) (int, error) {
 	l.warn("%s", strings.TrimSpace(string(text)))
+	if bytes.Contains(text, []byte(`"level":"fatal"`)) {
+		l.flush(time.Second)
+	}
 	return len(text), nil
+}
+
+// flush waits for some time until all lines are written.
+func (l *logger) flush(most time.Duration) {
+	late, last := time.After(most), logLine{written: make(chan struct{})}
+	select {
+	case l.lines <- last:
+	case <-late:
+		return
+	}
+	select {
+	case <-last.written:
+	case <-late:
+	}
 }
 
 // say writes an event. It never waits.
@@ -45,7 +72,7 @@ func (l *logger) write(level, format string, values ...any) {
 		text = fmt.Sprintf("%s (%d lines before were lost)", text, l.lost)
 	}
 	select {
-	case l.lines <- time.Now().UTC().Format("2006-01-02T15:04:05.000Z") + " " + level + " " + text + "\n":
+	case l.lines <- logLine{text: time.Now().UTC().Format("2006-01-02T15:04:05.000Z") + " " + level + " " + text + "\n"}:
 		l.lost = 0
 	default:
 		l.lost++
