@@ -2,3 +2,12 @@ pub mod LogLemmas
 mod SettledLemmas
 mod RefusedLemmas
 mod OwnLemmas
+mod DecodingLemmas
+mod OutcomeLemmas
+mod OrderFitLemmas
+mod ProcedureLemmas
+mod SerialLemmas
+mod NothingLemmas
+mod NameLemmas
+mod GrowingLemmas
+mod FinalLemmas

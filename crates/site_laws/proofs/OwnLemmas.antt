@@ -76,7 +76,7 @@ ordered_by w entries asked p bytes =
 
 -- ---- behind entries that go on
 
-never_nothing : (entries : List Entry) (c : EntryOutcome) (cause : NothingCause) (v : Option Verdict) → (c ≡ outcome.Nothing cause → ⊥) → outcome_by entries c v ≡ outcome.Nothing cause → ⊥
+pub never_nothing : (entries : List Entry) (c : EntryOutcome) (cause : NothingCause) (v : Option Verdict) → (c ≡ outcome.Nothing cause → ⊥) → outcome_by entries c v ≡ outcome.Nothing cause → ⊥
 never_nothing entries c cause None isnt e = isnt e
 never_nothing entries c cause (Some verdict.Commit) isnt e = isnt e
 never_nothing entries c cause (Some (verdict.Conflict n)) isnt e = absurd cc
