@@ -1,24 +1,21 @@
 -- Bytes that decode to a program make one.
-use Rattle.std.proofs.Common.{◌≡◌, ℕ, zero, suc, ℤ, pos, ◌+◌, ◌-◌, ◌*◌, ◌/◌, ◌%◌, ◌^◌, ◌==◌, ◌≤◌, ◌<◌, Bool, true, false, not, cond, ◌&&◌, ◌||◌, nat_eq, nat_lt, List, [], ◌∷◌, ◌++◌, length, take, drop, Option, Some, None, Result, Ok, Err, refl, sym, ap, subst, ◌∙◌, arith}
+use Rattle.std.proofs.Common.{◌≡◌, ℕ, zero, suc, pos, ◌+◌, ◌*◌, ◌/◌, ◌%◌, ◌^◌, ◌==◌, ◌≤◌, ◌<◌, Bool, true, false, not, cond, ◌&&◌, ◌||◌, nat_lt, List, [], ◌∷◌, ◌++◌, length, take, drop, Option, Some, None, Result, Ok, Err, refl, sym, ap, subst, ◌∙◌, arith}
 use Rattle.std.specs.Prelude.{FitsSigned}
-use Rattle.std.specs.Int.{w16, w32, cast_signed, cast_unsigned}
+use Rattle.std.specs.Int.{w16, w32, cast_unsigned}
 use Rattle.std.specs.List.{AllByRecursion}
 use Rattle.std.specs.Option.{option_map}
 use Rattle.std.specs.Ordering.{int_eq}
 use Rattle.std.proofs.lemmas.Bool.Decides.{nat_tests}
 use Rattle.std.proofs.lemmas.List.{length-drop}
 use Rattle.byteorder.specs.Endian.{little_from}
-use Rattle.bpf_words.specs.declared.operation.BinaryOperation.{BinaryOperation}
 use Rattle.bpf_code.specs.declared.instruction.Instruction.{Instruction}
 use Rattle.bpf_code.specs.declared.instruction.Instruction.TheVariants as instruction
 use Rattle.bpf_code.specs.declared.instruction.Register.{Register}
-use Rattle.bpf_code.specs.declared.instruction.Width.{Width}
 use Rattle.bpf_code.specs.declared.instruction.Width.TheVariants.{Bits32, Bits64}
 use Rattle.bpf_code.specs.declared.instruction.Source.TheVariants as source
 use Rattle.bpf_code.specs.Program.{Program, max_slots, is_wide, IsInRange, AllInRange, IsProgram}
 use Rattle.bpf_code.specs.Register.{register_of}
 use Rattle.bpf_fields.specs.declared.fields.Fields.{Fields}
-use Rattle.bpf_fields.specs.declared.opcode.ArithmeticCode.{ArithmeticCode}
 use Rattle.bpf_fields.specs.declared.opcode.Opcode.{Opcode}
 use Rattle.bpf_fields.specs.declared.opcode.Opcode.TheVariants as opcode
 use Rattle.bpf_fields.specs.declared.opcode.SourceKind.TheVariants.{Immediate, Register as InRegister}
@@ -29,7 +26,7 @@ use Rattle.bpf_bytes.specs.declared.fault.DecodeCause.{DecodeCause}
 use Rattle.bpf_bytes.specs.declared.fault.DecodeCause.TheVariants as fault_cause
 use Rattle.bpf_bytes.specs.declared.fault.DecodeFault.{DecodeFault}
 use Rattle.bpf_bytes.specs.Decoding.{fault, at_slot, with_front, completed_load, reading_of_slots, or_else, jump_faults, exit_fault, program_unless, checked_program, program_of}
-use Rattle.bpf_bytes.specs.Reading.{reading_of, half_reading_of, unused_are_zero, instruction_of, on_register, operation_of, extension_of, end_width_of, is_move, with_src_0, or_fault}
+use Rattle.bpf_bytes.specs.Reading.{reading_of, half_reading_of, unused_are_zero, instruction_of, on_register, operation_of, extension_of, end_width_of, is_move, or_fault}
 use Rattle.bpf_bytes.specs.Steps.{IsFirstHalf, IsHalf, half_count}
 use Rattle.bpf_bytes.proofs.DecodeLemmas.{slots_of-cons}
 use Rattle.bpf_bytes.proofs.ProgramLemmas.{AreSlots-reading_of, all_land, ends_with_exit}

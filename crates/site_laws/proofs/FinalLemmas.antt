@@ -1,14 +1,13 @@
 -- Refusals that hold for good.
-use Rattle.std.proofs.Common.{◌≡◌, ◌≢◌, ℕ, ◌+◌, ◌==◌, ◌≤◌, Bool, true, false, not, cond, ◌&&◌, nat_le, List, [], ◌∷◌, ◌++◌, length, Option, Some, None, refl, sym, ap, subst, ◌∙◌, arith}
+use Rattle.std.proofs.Common.{◌≡◌, ◌≢◌, ℕ, ◌+◌, ◌==◌, Bool, true, false, not, cond, ◌&&◌, nat_le, List, [], ◌∷◌, length, Option, Some, None, refl, sym, ap, subst, ◌∙◌}
 use Rattle.std.specs.FinMap.{len}
-use Rattle.std.proofs.lemmas.List.{length-map}
 use Rattle.bpf_semantics.specs.Run.{Run}
-use Rattle.log_model.specs.Log.{StoredProcedure, Setting, Call, Log, by_name, by_number, first_repeated, history, procedure_of, procedures_after, run_in, verdict_of}
-use Rattle.log_model.specs.Entries.{Entry, CallEntry, item_of, items_of}
+use Rattle.log_model.specs.Log.{StoredProcedure, Setting, Call, Log, first_repeated, history, procedure_of, run_in}
+use Rattle.log_model.specs.Entries.{Entry, CallEntry, items_of}
 use Rattle.log_entry.specs.Bytes.{entry_bytes}
-use Rattle.entry_heads.specs.Head.{Head, AdditionHead, CallHead, NamedProcedure, addition_head, call_head, call_of, field, head_of, is_whole, procedure_of as named_procedure_of, request_of}
+use Rattle.entry_heads.specs.Head.{AdditionHead, CallHead, NamedProcedure, addition_head, call_head, call_of, field, head_of, is_whole, procedure_of as named_procedure_of, request_of}
 use Rattle.site_model.specs.declared.answer.CallAnswer.{CallAnswer}
-use Rattle.site_model.specs.declared.answer.CallAnswer.TheVariants.{Cancelled, Read, Refused, Repeated, Submitted}
+use Rattle.site_model.specs.declared.answer.CallAnswer.TheVariants.{Read, Refused, Submitted}
 use Rattle.site_model.specs.declared.answer.CallRefusal.{CallRefusal}
 use Rattle.site_model.specs.declared.answer.CallRefusal.TheVariants.{ArgumentsLength, HalfRequest, NoProcedure}
 use Rattle.site_model.specs.Standing.{executed, takes_arguments}

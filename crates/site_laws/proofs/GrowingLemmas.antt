@@ -1,5 +1,5 @@
 -- The procedures behind an order that goes on.
-use Rattle.std.proofs.Common.{◌≡◌, ◌≢◌, ◌↔◌, ℕ, List, [], ◌∷◌, ◌++◌, Option, Some, None, refl, sym, ap, subst, ◌∙◌, append_assoc, append-nil}
+use Rattle.std.proofs.Common.{◌≡◌, ◌≢◌, ◌↔◌, ℕ, List, [], ◌∷◌, ◌++◌, Some, None, refl, sym, ap, subst, ◌∙◌, append_assoc, append-nil}
 use Rattle.log_model.specs.Log.{StoredProcedure, Catalogue, by_name, by_number}
 use Rattle.site_model.specs.declared.outcome.EntryOutcome.{EntryOutcome}
 use Rattle.site_model.specs.declared.outcome.EntryOutcome.TheVariants as outcome
@@ -49,8 +49,7 @@ module _ (s : SiteSetting) (told : Told) (added : Added) (others : Others) where
   grow order [] = ([], ap (procedures_behind s) (append-nil order) ∙ sym (append-nil (procedures_behind s order)))
   grow order (bytes ∷ more) =
       let (one, first) = by_next (GoesOn (procedures_behind s order)) order bytes (λ p new. (p ∷ [], refl)) ([], sym (append-nil (procedures_behind s order))) in
-      let (later, rest) = grow (order ++ bytes ∷ []) more in
-      (
+      let (later, rest) = grow (order ++ bytes ∷ []) more in (
         one ++ later,
         ap (procedures_behind s) (sym (append_assoc order (bytes ∷ []) more)) ∙ rest ∙ ap (λ (ps : Catalogue). ps ++ later) first ∙ append_assoc (procedures_behind s order) one later,
       )

@@ -1,9 +1,9 @@
 -- What is found by its name among procedures that only grow.
-use Rattle.std.proofs.Common.{◌≡◌, ◌≢◌, ℕ, ◌+◌, ◌==◌, ◌≤◌, Bool, true, false, not, cond, nat_eq, List, [], ◌∷◌, ◌++◌, length, map, Option, Some, None, refl, sym, ap, subst, ◌∙◌, arith, append_assoc, append-nil}
+use Rattle.std.proofs.Common.{◌≡◌, ℕ, Bool, true, false, cond, nat_eq, List, [], ◌∷◌, ◌++◌, map, Option, Some, None, refl, sym, ap, subst, ◌∙◌, arith}
 use Rattle.std.specs.List.{AllByRecursion, IsDistinct}
 use Rattle.std.specs.Str.{bytes_eq}
 use Rattle.std.proofs.lemmas.Bool.Decides.{nat_tests}
-use Rattle.log_model.specs.Log.{StoredProcedure, Catalogue, Setting, by_name, by_number}
+use Rattle.log_model.specs.Log.{StoredProcedure, Catalogue, by_name, by_number}
 
 some_same : (p q : StoredProcedure) → Some p ≡ Some q → p ≡ q
 some_same p q e = cc

@@ -1,6 +1,6 @@
 -- What a byte string that is nothing leaves as it is.
-use Rattle.std.proofs.Common.{◌≡◌, ℕ, zero, suc, ◌+◌, ◌-◌, ◌==◌, ◌≤◌, ◌<◌, Bool, true, false, not, cond, ◌&&◌, is_some, List, [], ◌∷◌, ◌++◌, length, slice_get, Option, Some, None, option_map, refl, sym, ap, subst, ◌∙◌, arith, append_assoc}
-use Rattle.std.specs.Prelude.{◌↔◌, IsSome}
+use Rattle.std.proofs.Common.{◌≡◌, ℕ, zero, suc, ◌+◌, ◌-◌, ◌==◌, ◌≤◌, ◌<◌, Bool, true, false, not, cond, ◌&&◌, is_some, List, [], ◌∷◌, ◌++◌, length, slice_get, Option, Some, None, option_map, refl, sym, ap, ◌∙◌, arith, append_assoc}
+use Rattle.std.specs.Prelude.{IsSome}
 use Rattle.std.specs.FinMap.{empty, get, get-empty}
 use Rattle.std.proofs.lemmas.List.{length-append, length-map, map-append}
 use Rattle.schema.specs.Rows.{Key, Writes, key_cmp}
@@ -9,9 +9,8 @@ use Rattle.log_model.specs.declared.request.RequestId.{RequestId}
 use Rattle.log_model.specs.declared.verdict.Verdict.{Verdict}
 use Rattle.log_model.specs.declared.verdict.Verdict.TheVariants as verdict
 use Rattle.log_model.specs.declared.verdict.Identifier.TheVariants.{Name, Number}
-use Rattle.log_model.specs.Log.{StoredProcedure, Catalogue, CertifiedItem, Setting, Call, CallItem, AdditionItem, Log, IsLog, by_name, by_number, first_position, history, idle, is_commit, no_request, procedures_after, repeats, rows_after, run_in, same_request, verdict_of, verdict_on_addition}
+use Rattle.log_model.specs.Log.{StoredProcedure, Catalogue, CertifiedItem, Call, CallItem, Log, IsLog, by_name, by_number, first_position, history, is_commit, no_request, procedures_after, repeats, run_in, same_request, verdict_of, verdict_on_addition}
 use Rattle.log_model.specs.Entries.{Entry, CallEntry, AdditionEntry, item_of, items_of}
-use Rattle.log_model.specs.Verdicts.{IsConflict, IsLeastConflict, IsNew}
 use Rattle.log_model.proofs.CallLemmas.{addition_is, certified_is, count_history}
 use Rattle.log_model.proofs.GrowthLemmas.{get_before, grown, run_grown}
 use Rattle.site_model.specs.declared.cause.NothingCause.{NothingCause}

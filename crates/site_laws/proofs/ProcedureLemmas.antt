@@ -1,14 +1,13 @@
 -- The procedures behind one more byte string.
-use Rattle.std.proofs.Common.{◌≡◌, ◌≢◌, ◌↔◌, ℕ, suc, ◌+◌, ◌≤◌, List, [], ◌∷◌, ◌++◌, length, slice_get, Option, Some, None, refl, sym, ap, subst, ◌∙◌, arith}
+use Rattle.std.proofs.Common.{◌≡◌, ◌≢◌, ◌↔◌, ℕ, suc, List, [], ◌∷◌, ◌++◌, length, slice_get, Some, None, refl, ap, subst, ◌∙◌, arith}
 use Rattle.std.proofs.lemmas.List.{length-map}
-use Rattle.log_model.specs.declared.request.RequestId.{RequestId}
 use Rattle.log_model.specs.declared.verdict.Verdict.{Verdict}
 use Rattle.log_model.specs.declared.verdict.Verdict.TheVariants as verdict
 use Rattle.log_model.specs.Log.{StoredProcedure, Catalogue, Setting, Call, CallItem, AdditionItem, Log, IsLog, by_name, by_number, if_commits, procedures_after, verdict_of}
 use Rattle.log_model.specs.Entries.{Entry, CallEntry, AdditionEntry, item_of, items_of}
 use Rattle.site_model.specs.declared.outcome.EntryOutcome.TheVariants as outcome
 use Rattle.site_model.specs.Standing.{SiteSetting, Standing, StandsAs, IsDecided, IsNothing, standing}
-use Rattle.site_model.specs.Order.{entry_standing, next_entry, outcome_behind, outcome_by, with_bytes}
+use Rattle.site_model.specs.Order.{entry_standing, next_entry, outcome_behind, with_bytes}
 use Rattle.site_laws.proofs.LogLemmas.{HaveVerdicts, ProceduresGrow, at_last, entry_is, item_there, items_snoc, last_verdict}
 
 -- what lower laws say

@@ -1,10 +1,10 @@
 -- The calls of an order that commit, run one after another.
-use Rattle.std.proofs.Common.{◌≡◌, ◌≢◌, ℕ, suc, ◌+◌, ◌≤◌, List, [], ◌∷◌, ◌++◌, length, Option, Some, None, All, refl, sym, ap, subst, ◌∙◌, arith, append_assoc, append-nil}
+use Rattle.std.proofs.Common.{◌≡◌, ◌≢◌, ℕ, suc, ◌≤◌, List, [], ◌∷◌, ◌++◌, length, Option, Some, None, refl, sym, ap, subst, ◌∙◌, arith, append_assoc, append-nil}
 use Rattle.std.proofs.lemmas.List.{length-append, length-map, map-append}
 use Rattle.std.proofs.lemmas.List.Elements.{All-head, All-push, All-tail}
 use Rattle.schema.specs.Rows.{Rows}
 use Rattle.bpf_semantics.specs.Run.{Run}
-use Rattle.log_model.specs.Log.{Call, Catalogue, Log, IsPlaced, by_number, procedures_after, rows_after, run_of_call, run_on}
+use Rattle.log_model.specs.Log.{Call, Catalogue, Log, IsPlaced, rows_after, run_of_call, run_on}
 use Rattle.log_model.specs.Entries.{Entry, ExecutedCall, CallEntry, item_of, items_of}
 use Rattle.log_model.proofs.GrowthLemmas.{procedures_grown}
 use Rattle.entry_heads.specs.Head.{Head, CallHead, AdditionHead, head_of}
@@ -12,11 +12,11 @@ use Rattle.site_model.specs.declared.outcome.EntryOutcome.{EntryOutcome}
 use Rattle.site_model.specs.declared.outcome.EntryOutcome.TheVariants as outcome
 use Rattle.site_model.specs.Fit.{AreFitEntries}
 use Rattle.site_model.specs.Standing.{SiteSetting, StandsAs, executed, standing}
-use Rattle.site_model.specs.Order.{Order, next_entry, next_outcome, order_entries, order_log, with_bytes}
+use Rattle.site_model.specs.Order.{Order, next_outcome, order_entries, order_log}
 use Rattle.site_laws.specs.Orders.{IsBytes, IsOfBytes, rows_behind}
 use Rattle.site_laws.specs.Serial.{RunsNext, RunInTurn, ToldCall, committed_behind, told_where_committed}
 use Rattle.site_laws.proofs.LogLemmas.{ArePlaced, beginning, entry_is}
-use Rattle.site_laws.proofs.OutcomeLemmas.{CommitsAs, committed_from}
+use Rattle.site_laws.proofs.OutcomeLemmas.{committed_from}
 
 -- what the laws of one more byte string say
 abbrev pub Committed : Type 0
@@ -70,8 +70,7 @@ module _ (s : SiteSetting) (committed : Committed) (others : Others) (count : Co
         let turn = committed s order bytes (executed s.setting (order_log s order) call) reply (fit next are) stands commits in
         let (later, goes) = log_beginning s next more in
         let same : run_on s.setting whole call (rows_behind s order) ≡ run_on s.setting (order_log s next) call (rows_behind s order) =
-        ap (λ (l : Log). run_on s.setting l call (rows_behind s order)) goes ∙ run_on_grown s (order_log s next) later call (rows_behind s order) (recent call stands) in
-        (
+        ap (λ (l : Log). run_on s.setting l call (rows_behind s order)) goes ∙ run_on_grown s (order_log s next) later call (rows_behind s order) (recent call stands) in (
           ap (λ (n : ℕ). rows_after s.setting (order_log s next) n) one_longer ∙ turn.rows ∙ sym (ap (λ (r : Run). r.effect) same),
           turn.reply_is ∙ sym (ap (λ (r : Run). r.reply) same),
         )

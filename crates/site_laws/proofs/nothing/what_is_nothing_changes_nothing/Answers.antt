@@ -1,7 +1,6 @@
 use Rattle.std.proofs.Common.{◌≡◌, ◌≢◌, ℕ, suc, List, [], ◌∷◌, ◌++◌, length, sym, ap, subst, ◌∙◌, arith, append_assoc}
 use Rattle.std.specs.Option.{option_map}
 use Rattle.std.proofs.lemmas.List.{length-append}
-use Rattle.log_model.specs.declared.request.RequestId.{RequestId}
 use Rattle.log_model.specs.Log.{IsLog, first_position, history, repeats, rows_after}
 use Rattle.log_model.specs.Entries.{Entry, items_of}
 use Rattle.site_model.specs.declared.cause.NothingCause.{NothingCause}

@@ -1,6 +1,6 @@
-use Rattle.std.proofs.Common.{◌≡◌, ◌≢◌, ◌↔◌, ℕ, suc, List, [], ◌∷◌, ◌++◌, length, None, sym, ap, subst, ◌∙◌, arith}
+use Rattle.std.proofs.Common.{◌≡◌, ℕ, suc, List, [], ◌∷◌, ◌++◌, length, None, sym, ap, subst, ◌∙◌, arith}
 use Rattle.std.proofs.lemmas.List.{length-append}
-use Rattle.log_model.specs.Log.{StoredProcedure, Catalogue, IsLog, by_name, by_number, procedures_after}
+use Rattle.log_model.specs.Log.{Catalogue, IsLog, by_name, by_number, procedures_after}
 use Rattle.log_model.specs.Entries.{Entry, items_of}
 use Rattle.site_model.specs.declared.outcome.EntryOutcome.TheVariants as outcome
 use Rattle.site_model.specs.Standing.{SiteSetting}
@@ -32,12 +32,10 @@ pub returns-clause-told : goal.returns-clause-told
 returns-clause-told c s order bytes number =
     let es = order_entries s order in
     let log = subst (λ (xs : List Entry). IsLog (items_of xs)) (c.orders_grow.ensures.next s order bytes) (c.orders_have_logs.ensures s (order ++ bytes ∷ [])) in
-    let here = behind_is c.orders_grow.ensures.count s order in
-    (
+    let here = behind_is c.orders_grow.ensures.count s order in (
       λ told.
           let (p, stands, commit, same) = added_from s es bytes c.each_call_has_a_verdict.ensures.within number told in
-          let new = (is_new s es bytes c.a_log_only_grows.ensures.procedures c.verdicts_on_additions_in_words_of_the_log.ensures.commit log p stands).0 commit in
-          (
+          let new = (is_new s es bytes c.a_log_only_grows.ensures.procedures c.verdicts_on_additions_in_words_of_the_log.ensures.commit log p stands).0 commit in (
             p,
             record {
               names = names_by s (order_log s order) bytes p stands;

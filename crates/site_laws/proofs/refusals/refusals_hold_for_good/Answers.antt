@@ -1,19 +1,13 @@
-use Rattle.std.proofs.Common.{◌≡◌, ◌≢◌, ℕ, ◌+◌, ◌≤◌, true, false, List, [], ◌∷◌, ◌++◌, length, Option, Some, None, refl, sym, ap, subst, ◌∙◌, arith, append_assoc, append-nil}
+use Rattle.std.proofs.Common.{◌≡◌, ◌≢◌, ℕ, ◌+◌, ◌≤◌, true, false, List, [], ◌∷◌, ◌++◌, length, Some, sym, ap, subst, ◌∙◌, arith, append_assoc, append-nil}
 use Rattle.std.proofs.lemmas.List.{length-map}
-use Rattle.log_model.specs.declared.verdict.Identifier.{Identifier}
-use Rattle.log_model.specs.declared.request.RequestId.{RequestId}
-use Rattle.log_model.specs.Log.{StoredProcedure, Catalogue, Call, IsPlaced, by_name, by_number, procedure_of, procedures_after, verdict_of}
+use Rattle.log_model.specs.Log.{StoredProcedure, Catalogue, IsPlaced, by_name, by_number, procedure_of, procedures_after, verdict_of}
 use Rattle.log_model.specs.Entries.{Entry, CallEntry, item_of, items_of}
 use Rattle.entry_heads.specs.Head.{is_whole}
-use Rattle.site_model.specs.declared.answer.CallAnswer.{CallAnswer}
-use Rattle.site_model.specs.declared.answer.CallAnswer.TheVariants.{Refused}
-use Rattle.site_model.specs.declared.answer.CallRefusal.TheVariants.{NoProcedure}
 use Rattle.site_model.specs.declared.outcome.EntryOutcome.{EntryOutcome}
 use Rattle.site_model.specs.declared.outcome.EntryOutcome.TheVariants as outcome
 use Rattle.site_model.specs.Answer.{Asked, answer_for, call_answer}
 use Rattle.site_model.specs.Standing.{SiteSetting, Standing, StandsAs, executed, standing}
 use Rattle.site_model.specs.Order.{Order, next_outcome, order_entries, order_log, outcome_of, with_bytes}
-use Rattle.site_laws.specs.Added.{AddsProcedure}
 use Rattle.site_laws.specs.Orders.{procedures_behind}
 use Rattle.site_laws.proofs.LogLemmas.{entry_is}
 use Rattle.site_laws.proofs.SettledLemmas.{by_head, known_by, settled_answer, stands_by}
