@@ -11,3 +11,4 @@ mod NothingLemmas
 mod NameLemmas
 mod GrowingLemmas
 mod FinalLemmas
+mod FreeLemmas

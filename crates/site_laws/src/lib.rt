@@ -10,7 +10,10 @@ pub use laws::{
     rows_after_each_byte_string,
 };
 pub use nothing::what_is_nothing_changes_nothing;
-pub use own::{own_additions_are_not_nothing, own_calls_are_not_nothing};
+pub use own::{
+    own_additions_are_not_nothing, own_calls_are_not_nothing,
+    own_calls_commit_where_nothing_stands_in_their_way,
+};
 pub use procedures::{procedures_after_each_byte_string, procedures_only_grow};
 pub use refusals::refusals_hold_for_good;
 pub use settled::{what_was_answered_commits_no_more, what_was_refused_commits_no_more};

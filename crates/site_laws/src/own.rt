@@ -11,14 +11,16 @@ ghost use Rattle.entry_heads.specs.Head.{NamedProcedure};
 ghost use Rattle.site_model.specs.declared.answer.AdditionAnswer.TheVariants.{Submitted as AddSubmitted};
 ghost use Rattle.site_model.specs.declared.answer.CallAnswer.TheVariants.{Submitted};
 ghost use Rattle.site_model.specs.declared.cause.NothingCause.{NothingCause};
-ghost use Rattle.site_model.specs.declared.outcome.EntryOutcome.TheVariants.{Nothing};
-ghost use Rattle.site_model.specs.Answer.{Asked, addition_answer, call_answer, stored_as};
+ghost use Rattle.site_model.specs.declared.outcome.EntryOutcome.TheVariants.{Committed, Nothing};
+ghost use Rattle.site_model.specs.Answer.{Asked, addition_answer, asked_call, call_answer, stored_as};
+ghost use Rattle.log_model.specs.Log.{run_in};
 ghost use Rattle.site_model.specs.Standing.{SiteSetting};
-ghost use Rattle.site_model.specs.Order.{Order, next_outcome};
-ghost use Rattle.site_laws.specs.Own.{IsAskedOf};
+ghost use Rattle.site_model.specs.Order.{Order, next_outcome, order_log};
+ghost use Rattle.site_laws.specs.Own.{IsAskedOf, IsFree};
 
-use crate::laws::beginnings_have_the_same_entries;
+use crate::laws::{beginnings_have_the_same_entries, orders_have_logs};
 use entry_heads::entries_have_their_heads;
+use log_model::{each_call_has_a_verdict, verdicts_in_words_of_the_log};
 use site_model::orders_grow;
 
 /// The bytes that a call was answered behind an order, to be ordered, aren't nothing wherever that order goes on, where
@@ -31,6 +33,28 @@ pub fn own_calls_are_not_nothing()
     beginnings_have_the_same_entries();
     entries_have_their_heads();
     orders_grow();
+}
+
+/// The bytes that a call was answered behind an order, to be ordered, commit where that order goes on and nothing that
+/// came between stands in the call's way. Wherever they commit, the reply is that of the run that was answered.
+pub fn own_calls_commit_where_nothing_stands_in_their_way()
+    ensures free { (s : SiteSetting) (order between : Order) (asked : Asked) (bytes : List ℕ)
+        (is : IsAskedOf s order asked)
+        → call_answer s order asked ≡ Submitted bytes
+        → IsFree s order between (asked_call (order_log s order) is.procedure asked)
+        → next_outcome s (order ++ between) bytes
+        ≡ Committed (run_in s.setting (order_log s order) (asked_call (order_log s order) is.procedure asked)).reply }
+    ensures reply { (s : SiteSetting) (order between : Order) (asked : Asked) (bytes : List ℕ) (reply : ℕ)
+        (is : IsAskedOf s order asked)
+        → call_answer s order asked ≡ Submitted bytes → next_outcome s (order ++ between) bytes ≡ Committed reply
+        → reply ≡ (run_in s.setting (order_log s order) (asked_call (order_log s order) is.procedure asked)).reply }
+{
+    beginnings_have_the_same_entries();
+    each_call_has_a_verdict();
+    entries_have_their_heads();
+    orders_grow();
+    orders_have_logs();
+    verdicts_in_words_of_the_log();
 }
 
 /// The bytes that an addition was answered, to be ordered, aren't nothing behind any order, where its program is spelled
