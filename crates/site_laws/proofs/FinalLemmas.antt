@@ -2,7 +2,7 @@
 use Rattle.std.proofs.Common.{◌≡◌, ◌≢◌, ℕ, ◌+◌, ◌==◌, Bool, true, false, not, cond, ◌&&◌, nat_le, List, [], ◌∷◌, length, Option, Some, None, refl, sym, ap, subst, ◌∙◌}
 use Rattle.std.specs.FinMap.{len}
 use Rattle.bpf_semantics.specs.Run.{Run}
-use Rattle.log_model.specs.Log.{StoredProcedure, Setting, Call, Log, first_repeated, history, procedure_of, run_in}
+use Rattle.log_model.specs.Log.{Call, Log, Setting, StoredProcedure, by_name, first_repeated, history, procedure_of, procedures_after, run_in}
 use Rattle.log_model.specs.Entries.{Entry, CallEntry, items_of}
 use Rattle.log_entry.specs.Bytes.{entry_bytes}
 use Rattle.entry_heads.specs.Head.{AdditionHead, CallHead, NamedProcedure, addition_head, call_head, call_of, field, head_of, is_whole, procedure_of as named_procedure_of, request_of}
@@ -10,8 +10,20 @@ use Rattle.site_model.specs.declared.answer.CallAnswer.{CallAnswer}
 use Rattle.site_model.specs.declared.answer.CallAnswer.TheVariants.{Read, Refused, Submitted}
 use Rattle.site_model.specs.declared.answer.CallRefusal.{CallRefusal}
 use Rattle.site_model.specs.declared.answer.CallRefusal.TheVariants.{ArgumentsLength, HalfRequest, NoProcedure}
-use Rattle.site_model.specs.Standing.{executed, takes_arguments}
-use Rattle.site_model.specs.Answer.{Asked, answer_for, answer_of_run, asked_call, unless_cancelled, unless_repeated}
+use Rattle.site_model.specs.Standing.{SiteSetting, executed, takes_arguments}
+use Rattle.site_model.specs.Order.{Order, order_entries, order_log}
+use Rattle.site_model.specs.Answer.{Asked, answer_for, answer_of_run, asked_call, call_answer, unless_cancelled, unless_repeated}
+use Rattle.site_laws.specs.Orders.{procedures_behind}
+use Rattle.site_laws.proofs.SettledLemmas.{settled_answer}
+
+-- ---- answers by the procedure that is found
+
+abbrev pub Count : Type 0
+Count = (s : SiteSetting) (order : Order) → length (order_entries s order) ≡ length order
+
+pub answer_is : Count → (s : SiteSetting) (order : Order) (asked : Asked) → call_answer s order asked ≡ answer_for s.setting (order_entries s order) asked (by_name (procedures_behind s order) asked.name)
+answer_is count s order asked =
+    settled_answer s order asked ∙ ap (λ (n : ℕ). answer_for s.setting (order_entries s order) asked (by_name (procedures_after s.setting (order_log s order) n) asked.name)) (count s order)
 
 -- ---- refusals by their tests
 

@@ -23,8 +23,8 @@ abbrev pub Others : Type 0
 Others = (s : SiteSetting) (order : Order) (bytes : List ℕ) → ((number : ℕ) → next_outcome s order bytes ≢ outcome.Added number) → procedures_behind s (order ++ bytes ∷ []) ≡ procedures_behind s order
 
 module _ (s : SiteSetting) (told : Told) (added : Added) (others : Others) where
-  -- one more procedure of a new number, or none
-  by_next : (P : Catalogue → Type 0) (order : Order) (bytes : List ℕ) → ((p : StoredProcedure) → by_number (procedures_behind s order) p.number ≡ None → P (procedures_behind s order ++ p ∷ [])) → P (procedures_behind s order)
+  -- one more procedure that is added, or none
+  pub by_next : (P : Catalogue → Type 0) (order : Order) (bytes : List ℕ) → ((p : StoredProcedure) → AddsProcedure s order bytes p → P (procedures_behind s order ++ p ∷ [])) → P (procedures_behind s order)
       → P (procedures_behind s (order ++ bytes ∷ []))
   by_next P order bytes one none = by_outcome (next_outcome s order bytes) refl
     where
@@ -34,7 +34,7 @@ module _ (s : SiteSetting) (told : Told) (added : Added) (others : Others) where
       by_outcome : (o : EntryOutcome) → next_outcome s order bytes ≡ o → P (procedures_behind s (order ++ bytes ∷ []))
       by_outcome (outcome.Added n) is =
           let (p, adds, number) = (told s order bytes n).0 is in
-          subst P (sym (added s order bytes p adds)) (one p adds.new_number)
+          subst P (sym (added s order bytes p adds)) (one p adds)
       by_outcome (outcome.Committed reply) is = left (λ n e. absurd (let x = sym is ∙ e in cc))
       by_outcome (outcome.Conflict n) is = left (λ n e. absurd (let x = sym is ∙ e in cc))
       by_outcome outcome.Stale is = left (λ n e. absurd (let x = sym is ∙ e in cc))
@@ -48,7 +48,7 @@ module _ (s : SiteSetting) (told : Told) (added : Added) (others : Others) where
   pub grow : (order more : Order) → (later : Catalogue) × (procedures_behind s (order ++ more) ≡ procedures_behind s order ++ later)
   grow order [] = ([], ap (procedures_behind s) (append-nil order) ∙ sym (append-nil (procedures_behind s order)))
   grow order (bytes ∷ more) =
-      let (one, first) = by_next (GoesOn (procedures_behind s order)) order bytes (λ p new. (p ∷ [], refl)) ([], sym (append-nil (procedures_behind s order))) in
+      let (one, first) = by_next (GoesOn (procedures_behind s order)) order bytes (λ p adds. (p ∷ [], refl)) ([], sym (append-nil (procedures_behind s order))) in
       let (later, rest) = grow (order ++ bytes ∷ []) more in (
         one ++ later,
         ap (procedures_behind s) (sym (append_assoc order (bytes ∷ []) more)) ∙ rest ∙ ap (λ (ps : Catalogue). ps ++ later) first ∙ append_assoc (procedures_behind s order) one later,
@@ -58,7 +58,7 @@ module _ (s : SiteSetting) (told : Told) (added : Added) (others : Others) where
   own_from order [] own = subst (λ (o : Order). HaveOwnNumbers (procedures_behind s o)) (sym (append-nil order)) own
   own_from order (bytes ∷ more) own =
       subst (λ (o : Order). HaveOwnNumbers (procedures_behind s o)) (append_assoc order (bytes ∷ []) more)
-      (own_from (order ++ bytes ∷ []) more (by_next HaveOwnNumbers order bytes (λ p new. one_more_has_its_own (procedures_behind s order) p new own) own))
+      (own_from (order ++ bytes ∷ []) more (by_next HaveOwnNumbers order bytes (λ p adds. one_more_has_its_own (procedures_behind s order) p adds.new_number own) own))
 
   pub own_behind : First → HasDistinctNumbers s.setting → (order : Order) → HaveOwnNumbers (procedures_behind s order)
   own_behind first distinct order = own_from [] order (subst HaveOwnNumbers (sym (first s)) (own_numbers s.setting.catalogue distinct))

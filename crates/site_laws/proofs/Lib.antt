@@ -12,3 +12,4 @@ mod NameLemmas
 mod GrowingLemmas
 mod FinalLemmas
 mod FreeLemmas
+mod AskedLemmas

@@ -36,17 +36,18 @@ use Rattle.site_laws.proofs.SettledLemmas.{by_head}
 -- ---- what was submitted
 
 -- a run that is to be ordered wrote something, and these are its bytes
-record Ordered (w : Setting) (log : Log) (p : StoredProcedure) (asked : Asked) (bytes : List ℕ) : Type 0 where
-  takes : (p.args_len == length asked.args) ≡ true
-  writes : writes_something (run_in w log (asked_call log p asked)) ≡ true
-  are : entry_bytes (CallEntry (executed w log (asked_call log p asked))) ≡ bytes
+pub record Ordered (w : Setting) (log : Log) (p : StoredProcedure) (asked : Asked) (bytes : List ℕ) : Type 0 where
+  pub takes : (p.args_len == length asked.args) ≡ true
+  pub whole : is_whole asked.request ≡ true
+  pub writes : writes_something (run_in w log (asked_call log p asked)) ≡ true
+  pub are : entry_bytes (CallEntry (executed w log (asked_call log p asked))) ≡ bytes
 
 same_bytes : (a b : List ℕ) → call.Submitted a ≡ call.Submitted b → a ≡ b
 same_bytes a b e = cc
 
-ordered_by : (w : Setting) (entries : List Entry) (asked : Asked) (p : StoredProcedure) (bytes : List ℕ) → answer_for w entries asked (Some p) ≡ call.Submitted bytes → Ordered w (items_of entries) p asked bytes
+pub ordered_by : (w : Setting) (entries : List Entry) (asked : Asked) (p : StoredProcedure) (bytes : List ℕ) → answer_for w entries asked (Some p) ≡ call.Submitted bytes → Ordered w (items_of entries) p asked bytes
 ordered_by w entries asked p bytes =
-    by_tests (p.args_len == length asked.args) refl (is_whole asked.request) (first_repeated (history w (items_of entries)).certified (asked_call (items_of entries) p asked)) run.cancel_code refl (len run.writes == 0) refl
+    by_tests (p.args_len == length asked.args) refl (is_whole asked.request) refl (first_repeated (history w (items_of entries)).certified (asked_call (items_of entries) p asked)) run.cancel_code refl (len run.writes == 0) refl
   where
     log : Log
     log = items_of entries
@@ -57,19 +58,20 @@ ordered_by w entries asked p bytes =
     own : List ℕ
     own = entry_bytes (CallEntry (executed w log (asked_call log p asked)))
 
-    by_tests : (a : Bool) → (p.args_len == length asked.args) ≡ a → (b : Bool) (o code : Option ℕ) → run.cancel_code ≡ code → (none : Bool) → (len run.writes == 0) ≡ none
+    by_tests : (a : Bool) → (p.args_len == length asked.args) ≡ a → (b : Bool) → is_whole asked.request ≡ b → (o code : Option ℕ) → run.cancel_code ≡ code → (none : Bool) → (len run.writes == 0) ≡ none
         → cond (not a) (call.Refused ArgumentsLength) (cond (not b) (call.Refused HalfRequest) (unless_repeated entries (unless_cancelled (length log) run own code) o)) ≡ call.Submitted bytes → Ordered w log p asked bytes
-    by_tests false ea b o code ec none en e = absurd cc
-    by_tests true ea false o code ec none en e = absurd cc
-    by_tests true ea true (Some position) code ec none en e = absurd cc
-    by_tests true ea true None (Some code) ec none en e = absurd cc
-    by_tests true ea true None None ec true en e =
+    by_tests false ea b eb o code ec none en e = absurd cc
+    by_tests true ea false eb o code ec none en e = absurd cc
+    by_tests true ea true eb (Some position) code ec none en e = absurd cc
+    by_tests true ea true eb None (Some code) ec none en e = absurd cc
+    by_tests true ea true eb None None ec true en e =
         absurd (not_read (length log) run.reply bytes (sym (ap (λ (b : Bool). cond b (call.Read (length log) run.reply) (call.Submitted own)) en) ∙ e))
       where
         not_read : (position reply : ℕ) (xs : List ℕ) → call.Read position reply ≡ call.Submitted xs → ⊥
         not_read position reply xs f = absurd cc
-    by_tests true ea true None None ec false en e = record {
+    by_tests true ea true eb None None ec false en e = record {
       takes = ea;
+      whole = eb;
       writes = λ i. not (is_some (ec i)) && not (en i);
       are = same_bytes own bytes (sym (ap (λ (b : Bool). cond b (call.Read (length log) run.reply) (call.Submitted own)) en) ∙ e);
     }

@@ -8,8 +8,7 @@ use Rattle.site_model.specs.Order.{Order, order_log}
 use Rattle.site_model.specs.Answer.{Asked, asked_call}
 use Rattle.site_laws.specs.Requests.{committed_request}
 
--- the procedure that is asked for has a number of its own, and the numbers and lengths of the call fit their fields; what
--- a site keeps is of types that say so, but no clause does
+-- the procedure that is asked for has a number of its own, and the numbers and lengths of the call fit their fields
 pub record IsAskedOf (s : SiteSetting) (order : Order) (asked : Asked) : Type 0 where
   pub procedure : StoredProcedure
   pub named : by_name (procedures_after s.setting (order_log s order) (length order)) asked.name ≡ Some procedure

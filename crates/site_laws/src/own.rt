@@ -1,6 +1,6 @@
 //! What a site gave to be ordered, when it comes back.
 
-ghost use Rattle.std.specs.Prelude.{◌≡◌, ◌≢◌, ◌≤◌, ℕ, ◌++◌, List};
+ghost use Rattle.std.specs.Prelude.{◌≡◌, ◌≢◌, ◌<◌, ◌≤◌, ◌^◌, ℕ, ◌++◌, List, length};
 ghost use Rattle.bpf_code.specs.Program.{Program};
 ghost use Rattle.bpf_fields.specs.Spelling.{spelling};
 ghost use Rattle.schema.specs.declared.limits.TheConstants.{MAX_ARGUMENTS};
@@ -16,11 +16,16 @@ ghost use Rattle.site_model.specs.Answer.{Asked, addition_answer, asked_call, ca
 ghost use Rattle.log_model.specs.Log.{run_in};
 ghost use Rattle.site_model.specs.Standing.{SiteSetting};
 ghost use Rattle.site_model.specs.Order.{Order, next_outcome, order_log};
+ghost use Rattle.site_laws.specs.Orders.{IsBytes, IsOfBytes, IsSiteSetting};
 ghost use Rattle.site_laws.specs.Own.{IsAskedOf, IsFree};
 
+use crate::fitting::orders_of_bytes_fit;
 use crate::laws::{beginnings_have_the_same_entries, orders_have_logs};
+use crate::procedures::{procedures_after_each_byte_string, procedures_only_grow};
+use bpf_semantics::states_fit;
 use entry_heads::entries_have_their_heads;
-use log_model::{each_call_has_a_verdict, verdicts_in_words_of_the_log};
+use log_model::{each_call_has_a_verdict, logs_whose_calls_fit, verdicts_in_words_of_the_log};
+use program_checks::programs_pass_where_they_are_accepted;
 use site_model::orders_grow;
 
 /// The bytes that a call was answered behind an order, to be ordered, aren't nothing wherever that order goes on, where
@@ -33,6 +38,29 @@ pub fn own_calls_are_not_nothing()
     beginnings_have_the_same_entries();
     entries_have_their_heads();
     orders_grow();
+}
+
+/// Over the settings that sites have, a call that was answered by bytes behind an order of byte strings is asked of a
+/// procedure with a number of its own, and its numbers and lengths fit their fields. So its bytes aren't nothing wherever
+/// that order goes on.
+pub fn calls_of_sites_fit_their_fields()
+    ensures asked { (s : SiteSetting) (order : Order) (asked : Asked) (bytes : List ℕ)
+        → IsSiteSetting s.setting → IsOfBytes order → length order < 2 ^ 32 → IsBytes asked.args
+        → asked.request.session < 2 ^ 32 → asked.request.sequence < 2 ^ 32
+        → call_answer s order asked ≡ Submitted bytes → IsAskedOf s order asked }
+    ensures something { (s : SiteSetting) (order more : Order) (asked : Asked) (bytes : List ℕ) (cause : NothingCause)
+        → IsSiteSetting s.setting → IsOfBytes order → length order < 2 ^ 32 → IsBytes asked.args
+        → asked.request.session < 2 ^ 32 → asked.request.sequence < 2 ^ 32
+        → call_answer s order asked ≡ Submitted bytes → next_outcome s (order ++ more) bytes ≢ Nothing cause }
+{
+    logs_whose_calls_fit();
+    orders_grow();
+    orders_of_bytes_fit();
+    own_calls_are_not_nothing();
+    procedures_after_each_byte_string();
+    procedures_only_grow();
+    programs_pass_where_they_are_accepted();
+    states_fit();
 }
 
 /// The bytes that a call was answered behind an order, to be ordered, commit where that order goes on and nothing that

@@ -12,15 +12,8 @@ use Rattle.site_laws.specs.Orders.{procedures_behind}
 use Rattle.site_laws.proofs.LogLemmas.{entry_is}
 use Rattle.site_laws.proofs.SettledLemmas.{by_head, known_by, settled_answer, stands_by}
 use Rattle.site_laws.proofs.NameLemmas.{no_name_before, no_number_before}
-use Rattle.site_laws.proofs.FinalLemmas.{half_a_request, heads_are_whole, other_arguments, refused_again, some_procedure, unknown_by, wrong_length}
+use Rattle.site_laws.proofs.FinalLemmas.{answer_is, half_a_request, heads_are_whole, other_arguments, refused_again, some_procedure, unknown_by, wrong_length}
 use Rattle.site_laws.proofs.refusals.refusals_hold_for_good.Goals as goal
-
-abbrev Count : Type 0
-Count = (s : SiteSetting) (order : Order) → length (order_entries s order) ≡ length order
-
-answer_is : Count → (s : SiteSetting) (order : Order) (asked : Asked) → call_answer s order asked ≡ answer_for s.setting (order_entries s order) asked (by_name (procedures_behind s order) asked.name)
-answer_is count s order asked =
-    settled_answer s order asked ∙ ap (λ (n : ℕ). answer_for s.setting (order_entries s order) asked (by_name (procedures_after s.setting (order_log s order) n) asked.name)) (count s order)
 
 pub returns-clause-kept : goal.returns-clause-kept
 returns-clause-kept c s order more asked refusal other refused =
