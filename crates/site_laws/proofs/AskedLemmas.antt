@@ -1,9 +1,8 @@
 -- A call that was submitted fits its fields, over the settings that sites have.
-use Rattle.std.proofs.Common.{◌≡◌, ◌↔◌, ℕ, zero, suc, ◌+◌, ◌*◌, ◌^◌, ◌==◌, ◌≤◌, ◌<◌, Bool, true, false, ◌&&◌, cond, nat_le, List, [], ◌∷◌, ◌++◌, length, take, drop, All, Option, Some, None, Ok, refl, sym, ap, subst, ◌∙◌, arith, append_assoc, append-nil}
+use Rattle.std.proofs.Common.{◌≡◌, ℕ, zero, suc, ◌+◌, ◌^◌, ◌==◌, ◌<◌, Bool, true, false, ◌&&◌, cond, nat_le, List, [], ◌∷◌, ◌++◌, length, All, Option, Some, None, refl, sym, subst, arith, append_assoc, append-nil}
 use Rattle.std.specs.Prelude.{slice_index}
 use Rattle.std.specs.Str.{bytes_eq}
-use Rattle.std.proofs.lemmas.Bool.Decides.{nat_tests}
-use Rattle.std.proofs.lemmas.List.Elements.{All-drop, All-head, All-nil, All-push, All-tail, All-take}
+use Rattle.std.proofs.lemmas.List.Elements.{All-head, All-push, All-tail, All-take}
 use Rattle.byteorder.specs.Endian.{little_from}
 use Rattle.bpf_code.specs.Program.{Program, IsProgram}
 use Rattle.schema.specs.Schema.{Tables}
@@ -11,10 +10,10 @@ use Rattle.schema.specs.Rows.{Rows, AreRows}
 use Rattle.bpf_semantics.specs.Fit.{IsRunOf}
 use Rattle.bpf_semantics.specs.Run.{Run, run}
 use Rattle.log_model.specs.Log.{StoredProcedure, Catalogue, Call, by_name, by_number, or_idle, run_of_call, run_of_procedure}
-use Rattle.entry_heads.specs.Head.{Head, AdditionHead, CallHead, NamedProcedure, addition_head, call_head, call_of, field, head_of, is_whole, part, procedure_of, request_of}
+use Rattle.entry_heads.specs.Head.{AdditionHead, CallHead, NamedProcedure, addition_head, call_head, call_of, field, head_of, is_whole, part, procedure_of, request_of}
 use Rattle.site_model.specs.Standing.{SiteSetting}
 use Rattle.site_model.specs.Order.{Order}
-use Rattle.site_laws.specs.Added.{AddsProcedure, NamesProcedure}
+use Rattle.site_laws.specs.Added.{AddsProcedure}
 use Rattle.site_laws.specs.Orders.{FitsFields, IsBytes, IsOfBytes, procedures_behind}
 use Rattle.site_laws.proofs.DecodingLemmas.{decoded_is_program}
 use Rattle.site_laws.proofs.GrowingLemmas.{Added, Others, Told, by_next}

@@ -1,10 +1,8 @@
 -- A call that a site gave to be ordered commits where nothing since its snapshot stands in its way.
-use Rattle.std.proofs.Common.{◌≡◌, ℕ, suc, ◌+◌, ◌-◌, ◌≤◌, ◌<◌, Bool, true, false, not, cond, ◌&&◌, ◌||◌, nat_le, is_some, List, [], ◌∷◌, ◌++◌, length, take, drop, slice_get, Option, Some, None, option_map, refl, sym, ap, subst, ◌∙◌, arith, append-nil}
-use Rattle.std.proofs.lemmas.Bool.Decides.{nat_tests}
-use Rattle.std.proofs.lemmas.List.{length-append, length-map}
+use Rattle.std.proofs.Common.{◌≡◌, ℕ, suc, ◌+◌, ◌-◌, ◌≤◌, ◌<◌, Bool, true, false, not, cond, ◌||◌, nat_le, is_some, List, [], ◌∷◌, ◌++◌, length, take, drop, slice_get, Option, Some, None, option_map, refl, sym, ap, subst, ◌∙◌, arith, append-nil}
+use Rattle.std.proofs.lemmas.List.{length-map}
 use Rattle.schema.specs.declared.look.Look.{Look}
 use Rattle.bpf_semantics.specs.Run.{Run}
-use Rattle.log_model.specs.declared.verdict.Verdict.{Verdict}
 use Rattle.log_model.specs.declared.verdict.Verdict.TheVariants as verdict
 use Rattle.log_model.specs.Log.{Call, CallItem, CertifiedItem, Log, IsLog, conflicts, first_position, first_repeated, history, run_in, unless_conflict, unless_repeated, verdict_after, verdict_of}
 use Rattle.log_model.specs.Entries.{Entry, CallEntry, item_of, items_of}

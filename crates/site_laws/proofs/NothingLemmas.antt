@@ -63,6 +63,12 @@ at_end : {X : Type 0} (xs : List X) (x : X) → slice_get (xs ++ x ∷ []) (leng
 at_end [] x = refl
 at_end (y ∷ xs) x = at_end xs x
 
+last_is : (cs past : List CertifiedItem) (c found : CertifiedItem) (n : ℕ) → cs ≡ past ++ c ∷ [] → length past ≡ n → slice_get cs n ≡ Some found → c ≡ found
+last_is cs past c found n split count there = same (sym (at_end past c) ∙ ap (slice_get (past ++ c ∷ [])) count ∙ ap (λ (xs : List CertifiedItem). slice_get xs n) (sym split) ∙ there)
+  where
+    same : Some c ≡ Some found → c ≡ found
+    same e = cc
+
 get_first : {X : Type 0} (xs ys : List X) (k : ℕ) → k < length xs → slice_get (xs ++ ys) k ≡ slice_get xs k
 get_first [] ys k lt = absurd (omega (arith, lt))
 get_first (x ∷ xs) ys zero lt = refl
@@ -93,15 +99,13 @@ module _ (s : SiteSetting) (entries : List Entry) (bytes : List ℕ) (why : Noth
       let long = length-map entries item_of in
       let grows : (history s.setting whole).certified ≡ (history s.setting log).certified ++ g.certified =
       ap (λ (l : Log). (history s.setting l).certified) (items_snoc entries (next_entry s entries bytes)) ∙ g.certified_is in
-      let (c, only) = one_more g.certified (omega (arith, ap length grows, count_history s.setting log, count_history s.setting whole, ap length (items_snoc entries (next_entry s entries bytes)), length-append log (item_of (next_entry s entries bytes) ∷ []), length-append (history s.setting log).certified g.certified)) in
+      let behind : length whole ≡ length log + 1 = ap length (items_snoc entries (next_entry s entries bytes)) ∙ length-append log (item_of (next_entry s entries bytes) ∷ []) in
+      let sum : length (history s.setting whole).certified ≡ length (history s.setting log).certified + length g.certified = ap length grows ∙ length-append (history s.setting log).certified g.certified in
+      let (c, only) = one_more g.certified (omega (arith, behind, sum, count_history s.setting log, count_history s.setting whole)) in
       let split = grows ∙ ap (λ (cs : List CertifiedItem). (history s.setting log).certified ++ cs) only in
       let count : length (history s.setting log).certified ≡ length entries = count_history s.setting log ∙ long in
-      let found = sym (at_end (history s.setting log).certified c) ∙ ap (λ (cs : List CertifiedItem). slice_get cs (length (history s.setting log).certified)) (sym split)
-      ∙ ap (slice_get (history s.setting whole).certified) count ∙ certified_is s.setting whole (length entries) none is_log none_there in
-      (c, split, same_request_of c _ found)
-    where
-      same_request_of : (a b : CertifiedItem) → Some a ≡ Some b → a.request ≡ b.request
-      same_request_of a b e = ap (λ (x : CertifiedItem). x.request) (let same : a ≡ b = cc in same)
+      let same = last_is (history s.setting whole).certified (history s.setting log).certified c _ (length entries) split count (certified_is s.setting whole (length entries) none is_log none_there) in
+      (c, split, ap (λ (x : CertifiedItem). x.request) same)
 
   pub request_stays : IsLog whole → (r : RequestId) → option_map (with_reply (with_bytes s entries bytes)) (first_position (repeats r) 1 (history s.setting whole).certified)
       ≡ option_map (with_reply entries) (first_position (repeats r) 1 (history s.setting log).certified)

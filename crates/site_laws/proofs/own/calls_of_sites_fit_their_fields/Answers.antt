@@ -1,8 +1,7 @@
-use Rattle.std.proofs.Common.{◌≡◌, ℕ, ◌==◌, ◌≤◌, ◌<◌, ◌^◌, true, List, [], length, All, Option, Some, None, refl, sym, ap, subst, ◌∙◌, arith}
+use Rattle.std.proofs.Common.{◌≡◌, ℕ, [], length, All, Option, Some, None, refl, sym, ap, subst, ◌∙◌, arith}
 use Rattle.std.proofs.lemmas.Bool.Decides.{nat_tests}
 use Rattle.std.proofs.lemmas.List.{length-map}
-use Rattle.schema.specs.declared.limits.TheConstants.{MAX_ARGUMENTS}
-use Rattle.log_model.specs.Log.{StoredProcedure, Catalogue, by_name, by_number, procedures_after}
+use Rattle.log_model.specs.Log.{StoredProcedure, by_name, by_number, procedures_after}
 use Rattle.log_model.specs.Entries.{item_of}
 use Rattle.site_model.specs.declared.answer.CallAnswer.TheVariants.{Submitted}
 use Rattle.site_model.specs.Answer.{answer_for, asked_call}

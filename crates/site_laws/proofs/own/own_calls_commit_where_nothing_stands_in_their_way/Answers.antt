@@ -1,4 +1,4 @@
-use Rattle.std.proofs.Common.{◌≡◌, ℕ, suc, ◌+◌, ◌-◌, ◌≤◌, ◌<◌, true, nat_le, List, [], ◌∷◌, ◌++◌, length, Option, Some, None, option_map, refl, sym, ap, subst, ◌∙◌, arith}
+use Rattle.std.proofs.Common.{◌≡◌, ℕ, ◌+◌, ◌-◌, ◌≤◌, true, nat_le, List, [], ◌∷◌, ◌++◌, length, Option, Some, None, option_map, refl, sym, ap, subst, ◌∙◌, arith}
 use Rattle.std.proofs.lemmas.Bool.Decides.{nat_tests}
 use Rattle.std.proofs.lemmas.List.{length-append, length-map}
 use Rattle.bpf_semantics.specs.Run.{Run}
@@ -9,7 +9,6 @@ use Rattle.log_entry.specs.Bytes.{entry_bytes}
 use Rattle.entry_heads.specs.Fit.{CallFitsFields}
 use Rattle.entry_heads.specs.Head.{CallHead, head_of}
 use Rattle.site_model.specs.declared.answer.CallAnswer.TheVariants.{Submitted}
-use Rattle.site_model.specs.declared.outcome.EntryOutcome.{EntryOutcome}
 use Rattle.site_model.specs.declared.outcome.EntryOutcome.TheVariants as outcome
 use Rattle.site_model.specs.Standing.{SiteSetting, executed}
 use Rattle.site_model.specs.Order.{Order, order_entries, order_log, outcome_behind, with_bytes}

@@ -1,16 +1,16 @@
 use Rattle.std.proofs.Common.{◌≡◌, ◌≢◌, ℕ, ◌+◌, ◌≤◌, true, false, List, [], ◌∷◌, ◌++◌, length, Some, sym, ap, subst, ◌∙◌, arith, append_assoc, append-nil}
 use Rattle.std.proofs.lemmas.List.{length-map}
-use Rattle.log_model.specs.Log.{StoredProcedure, Catalogue, IsPlaced, by_name, by_number, procedure_of, procedures_after, verdict_of}
+use Rattle.log_model.specs.Log.{StoredProcedure, Catalogue, IsPlaced, by_name, by_number, procedure_of, verdict_of}
 use Rattle.log_model.specs.Entries.{Entry, CallEntry, item_of, items_of}
 use Rattle.entry_heads.specs.Head.{is_whole}
 use Rattle.site_model.specs.declared.outcome.EntryOutcome.{EntryOutcome}
 use Rattle.site_model.specs.declared.outcome.EntryOutcome.TheVariants as outcome
-use Rattle.site_model.specs.Answer.{Asked, answer_for, call_answer}
-use Rattle.site_model.specs.Standing.{SiteSetting, Standing, StandsAs, executed, standing}
+use Rattle.site_model.specs.Answer.{answer_for}
+use Rattle.site_model.specs.Standing.{Standing, StandsAs, executed, standing}
 use Rattle.site_model.specs.Order.{Order, next_outcome, order_entries, order_log, outcome_of, with_bytes}
 use Rattle.site_laws.specs.Orders.{procedures_behind}
 use Rattle.site_laws.proofs.LogLemmas.{entry_is}
-use Rattle.site_laws.proofs.SettledLemmas.{by_head, known_by, settled_answer, stands_by}
+use Rattle.site_laws.proofs.SettledLemmas.{by_head, known_by, stands_by}
 use Rattle.site_laws.proofs.NameLemmas.{no_name_before, no_number_before}
 use Rattle.site_laws.proofs.FinalLemmas.{answer_is, half_a_request, heads_are_whole, other_arguments, refused_again, some_procedure, unknown_by, wrong_length}
 use Rattle.site_laws.proofs.refusals.refusals_hold_for_good.Goals as goal
