@@ -63,11 +63,11 @@ at_end : {X : Type 0} (xs : List X) (x : X) → slice_get (xs ++ x ∷ []) (leng
 at_end [] x = refl
 at_end (y ∷ xs) x = at_end xs x
 
-last_is : (cs past : List CertifiedItem) (c found : CertifiedItem) (n : ℕ) → cs ≡ past ++ c ∷ [] → length past ≡ n → slice_get cs n ≡ Some found → c ≡ found
-last_is cs past c found n split count there = same (sym (at_end past c) ∙ ap (slice_get (past ++ c ∷ [])) count ∙ ap (λ (xs : List CertifiedItem). slice_get xs n) (sym split) ∙ there)
+last_carries : (cs past : List CertifiedItem) (c found : CertifiedItem) (n : ℕ) → cs ≡ past ++ c ∷ [] → length past ≡ n → slice_get cs n ≡ Some found → c.request ≡ found.request
+last_carries cs past c found n split count there = same (sym (at_end past c) ∙ ap (slice_get (past ++ c ∷ [])) count ∙ ap (λ (xs : List CertifiedItem). slice_get xs n) (sym split) ∙ there)
   where
-    same : Some c ≡ Some found → c ≡ found
-    same e = cc
+    same : Some c ≡ Some found → c.request ≡ found.request
+    same e = ap (λ (x : CertifiedItem). x.request) (let is : c ≡ found = cc in is)
 
 get_first : {X : Type 0} (xs ys : List X) (k : ℕ) → k < length xs → slice_get (xs ++ ys) k ≡ slice_get xs k
 get_first [] ys k lt = absurd (omega (arith, lt))
@@ -104,8 +104,8 @@ module _ (s : SiteSetting) (entries : List Entry) (bytes : List ℕ) (why : Noth
       let (c, only) = one_more g.certified (omega (arith, behind, sum, count_history s.setting log, count_history s.setting whole)) in
       let split = grows ∙ ap (λ (cs : List CertifiedItem). (history s.setting log).certified ++ cs) only in
       let count : length (history s.setting log).certified ≡ length entries = count_history s.setting log ∙ long in
-      let same = last_is (history s.setting whole).certified (history s.setting log).certified c _ (length entries) split count (certified_is s.setting whole (length entries) none is_log none_there) in
-      (c, split, ap (λ (x : CertifiedItem). x.request) same)
+      let same = last_carries (history s.setting whole).certified (history s.setting log).certified c _ (length entries) split count (certified_is s.setting whole (length entries) none is_log none_there) in
+      (c, split, same)
 
   pub request_stays : IsLog whole → (r : RequestId) → option_map (with_reply (with_bytes s entries bytes)) (first_position (repeats r) 1 (history s.setting whole).certified)
       ≡ option_map (with_reply entries) (first_position (repeats r) 1 (history s.setting log).certified)
