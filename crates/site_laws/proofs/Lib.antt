@@ -13,3 +13,4 @@ mod GrowingLemmas
 mod FinalLemmas
 mod FreeLemmas
 mod AskedLemmas
+mod AgreementLemmas

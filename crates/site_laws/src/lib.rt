@@ -1,6 +1,7 @@
 //! Laws of orders of byte strings: what their definitions come to. No site rests on them.
 #![tactic(auto)]
 
+pub use agreement::sites_of_one_order_agree;
 pub use fitting::{
     calls_run_one_at_a_time, catalogues_make_safe_settings, orders_of_bytes_fit,
     what_was_told_settles_every_order,
@@ -18,6 +19,7 @@ pub use procedures::{procedures_after_each_byte_string, procedures_only_grow};
 pub use refusals::refusals_hold_for_good;
 pub use settled::{what_was_answered_commits_no_more, what_was_refused_commits_no_more};
 
+mod agreement;
 mod fitting;
 mod laws;
 mod nothing;
