@@ -1,6 +1,5 @@
 -- A call that was submitted fits its fields, over the settings that sites have.
-use Rattle.std.proofs.Common.{◌≡◌, ℕ, zero, suc, ◌+◌, ◌^◌, ◌==◌, ◌<◌, Bool, true, false, ◌&&◌, cond, nat_le, List, [], ◌∷◌, ◌++◌, length, All, Option, Some, None, refl, sym, subst, arith, append_assoc, append-nil}
-use Rattle.std.specs.Prelude.{slice_index}
+use Rattle.std.proofs.Common.{◌≡◌, ℕ, ◌+◌, ◌^◌, ◌==◌, ◌<◌, Bool, true, false, ◌&&◌, cond, nat_le, List, [], ◌∷◌, ◌++◌, length, All, Option, Some, None, refl, sym, subst, arith, append_assoc, append-nil}
 use Rattle.std.specs.Str.{bytes_eq}
 use Rattle.std.proofs.lemmas.List.Elements.{All-head, All-push, All-tail, All-take}
 use Rattle.byteorder.specs.Endian.{little_from}
@@ -18,13 +17,9 @@ use Rattle.site_laws.specs.Orders.{FitsFields, IsBytes, IsOfBytes, procedures_be
 use Rattle.site_laws.proofs.DecodingLemmas.{decoded_is_program}
 use Rattle.site_laws.proofs.GrowingLemmas.{Added, Others, Told, by_next}
 use Rattle.site_laws.proofs.OrderFitLemmas.{ChecksPass}
+use Rattle.site_laws.proofs.SpelledLemmas.{index_byte}
 
 -- ---- numbers of bytes
-
-index_byte : (xs : List ℕ) (i : ℕ) → IsBytes xs → slice_index xs i < 256
-index_byte [] i are = omega arith
-index_byte (x ∷ xs) zero are = All-head (λ b. b < 256) x xs are
-index_byte (x ∷ xs) (suc i) are = index_byte xs i (All-tail (λ b. b < 256) x xs are)
 
 two_bytes : (xs : List ℕ) → IsBytes xs → little_from 0 2 xs < 2 ^ 16
 two_bytes xs are =

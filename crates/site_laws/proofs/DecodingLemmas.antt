@@ -36,18 +36,18 @@ use mir.ValLaws as laws
 -- ---- one slot
 
 -- its signed numbers fit
-record FieldsFit (f : Fields) : Type 0 where
-  offset : FitsSigned w16 f.offset
-  immediate : FitsSigned w32 f.immediate
+pub record FieldsFit (f : Fields) : Type 0 where
+  pub offset : FitsSigned w16 f.offset
+  pub immediate : FitsSigned w32 f.immediate
 
-fields_fit : (bytes : List ℕ) → FieldsFit (fields_of_bytes bytes)
+pub fields_fit : (bytes : List ℕ) → FieldsFit (fields_of_bytes bytes)
 fields_fit bytes = record { offset = read_sfits w16 (little_from 2 2 bytes); immediate = read_sfits w32 (little_from 4 4 bytes) }
 
-below_half : (f : Fields) → FieldsFit f → cast_unsigned w32 f.immediate < 2 ^ 32
+pub below_half : (f : Fields) → FieldsFit f → cast_unsigned w32 f.immediate < 2 ^ 32
 below_half f fit = (laws.of_z_fits w32 f.immediate fit.immediate).fits
 
 -- an instruction in range, which is the first half of a wide load where it is wide
-abbrev IsRead : Instruction → Type 0
+abbrev pub IsRead : Instruction → Type 0
 IsRead i = IsInRange i × (is_wide i ≡ true → IsFirstHalf i)
 
 module _ (i : Instruction) where
@@ -96,34 +96,34 @@ module _ (i : Instruction) where
   is_read opcode.Call dst src f fit e = of_src (f.src == 0) (instruction.Call f.immediate) (fit.immediate, λ w. absurd cc) e
   is_read opcode.Exit dst src f fit e = of_some instruction.Exit (tt, λ w. absurd cc) e
 
-of_or_fault : {A : Type 0} (cause : DecodeCause) (o : Option A) (next : A → Result Instruction DecodeCause) (i : Instruction) → or_fault cause o next ≡ Ok i → (x : A) × (o ≡ Some x) × (next x ≡ Ok i)
+pub of_or_fault : {A : Type 0} (cause : DecodeCause) (o : Option A) (next : A → Result Instruction DecodeCause) (i : Instruction) → or_fault cause o next ≡ Ok i → (x : A) × (o ≡ Some x) × (next x ≡ Ok i)
 of_or_fault cause None next i e = absurd cc
 of_or_fault cause (Some x) next i e = (x, refl, e)
 
-where_unused : (b : Bool) (r : Result Instruction DecodeCause) (i : Instruction) → cond b r (Err fault_cause.UnusedField) ≡ Ok i → r ≡ Ok i
-where_unused true r i e = e
+pub where_unused : (b : Bool) (r : Result Instruction DecodeCause) (i : Instruction) → cond b r (Err fault_cause.UnusedField) ≡ Ok i → (b ≡ true) × (r ≡ Ok i)
+where_unused true r i e = (refl, e)
 where_unused false r i e = absurd cc
 
-abbrev okay : Instruction → Result Instruction DecodeCause
+abbrev pub okay : Instruction → Result Instruction DecodeCause
 okay x = Ok x
 
-is_same : (made i : Instruction) → okay made ≡ okay i → made ≡ i
+pub is_same : (made i : Instruction) → okay made ≡ okay i → made ≡ i
 is_same made i e = cc
 
-reads : (f : Fields) (i : Instruction) → FieldsFit f → reading_of f ≡ Ok i → IsRead i
+pub reads : (f : Fields) (i : Instruction) → FieldsFit f → reading_of f ≡ Ok i → IsRead i
 unfolding reading_of
 reads f i fit e =
     let (o, known, e1) = of_or_fault fault_cause.UnknownOpcode (opcode_of f.opcode) _ i e in
     let (dst, known_dst, e2) = of_or_fault fault_cause.RegisterNumber (register_of f.dst) _ i e1 in
     let (src, known_src, e3) = of_or_fault fault_cause.RegisterNumber (register_of f.src) _ i e2 in
-    let e4 = where_unused (unused_are_zero (uses_of o) f) _ i e3 in
+    let (unused, e4) = where_unused (unused_are_zero (uses_of o) f) _ i e3 in
     let (made, is, e5) = of_or_fault fault_cause.UndefinedValue (instruction_of o dst src f) (λ x. Ok x) i e4 in
     is_read i o dst src f fit (is ∙ ap Some (is_same made i e5))
 
-abbrev high_half : ℕ → Result ℕ DecodeCause
+abbrev pub high_half : ℕ → Result ℕ DecodeCause
 high_half x = Ok x
 
-half_below : (f : Fields) (high : ℕ) → FieldsFit f → half_reading_of f ≡ Ok high → high < 2 ^ 32
+pub half_below : (f : Fields) (high : ℕ) → FieldsFit f → half_reading_of f ≡ Ok high → high < 2 ^ 32
 unfolding half_reading_of
 half_below f high fit = by_tests (unused_are_zero (fields_used false false false true) f && f.opcode == 0)
   where
@@ -151,11 +151,11 @@ completed_in_range (instruction.Branch _ _ _ _ _) high half below = absurd half
 completed_in_range (instruction.Call _) high half below = absurd half
 completed_in_range instruction.Exit high half below = absurd half
 
-with_front_ok : (front : Program) (r : Result Program DecodeFault) (p : Program) → with_front front r ≡ Ok p → (q : Program) × (r ≡ Ok q) × (p ≡ front ++ q)
+pub with_front_ok : (front : Program) (r : Result Program DecodeFault) (p : Program) → with_front front r ≡ Ok p → (q : Program) × (r ≡ Ok q) × (p ≡ front ++ q)
 with_front_ok front (Ok q) p e = (q, refl, cc)
 with_front_ok front (Err e) p h = absurd cc
 
-of_slot : {A : Type 0} (slot : ℕ) (r : Result A DecodeCause) (next : A → Result Program DecodeFault) (p : Program) → at_slot slot r next ≡ Ok p → (x : A) × (r ≡ Ok x) × (next x ≡ Ok p)
+pub of_slot : {A : Type 0} (slot : ℕ) (r : Result A DecodeCause) (next : A → Result Program DecodeFault) (p : Program) → at_slot slot r next ≡ Ok p → (x : A) × (r ≡ Ok x) × (next x ≡ Ok p)
 of_slot slot (Ok x) next p e = (x, refl, e)
 of_slot slot (Err cause) next p e = absurd cc
 
@@ -163,10 +163,10 @@ of_slot slot (Err cause) next p e = absurd cc
 abbrev AreRead : ℕ → Program → Type 0
 AreRead n p = AllInRange p × (length p ≡ n)
 
-abbrev read_okay : Program → Result Program DecodeFault
+abbrev pub read_okay : Program → Result Program DecodeFault
 read_okay p = Ok p
 
-program_is : (p q : Program) → read_okay p ≡ read_okay q → p ≡ q
+pub program_is : (p q : Program) → read_okay p ≡ read_okay q → p ≡ q
 program_is p q e = cc
 
 slots_read : (fs : List Fields) (half : Option Instruction) (slot : ℕ) (p : Program) → AllByRecursion FieldsFit fs → IsHalf half → reading_of_slots half slot fs ≡ Ok p → AreRead (length fs + half_count half) p
@@ -191,10 +191,10 @@ slots_read (f ∷ fs) (Some first) slot p fit waits e =
     let later = slots_read fs None (slot + 1) q fit.1 tt was in
     subst (AreRead (length (f ∷ fs) + 1)) (sym same) ((completed_in_range first high waits (half_below f high fit.0 is), later.0), omega (arith, later.1))
 
-abbrev AreFields : ℕ → List Fields → Type 0
+abbrev pub AreFields : ℕ → List Fields → Type 0
 AreFields n fs = AllByRecursion FieldsFit fs × (length fs ≡ n)
 
-fields_are : (n : ℕ) (bytes : List ℕ) → length bytes ≡ 8 * n → AreFields n (slots_of bytes)
+pub fields_are : (n : ℕ) (bytes : List ℕ) → length bytes ≡ 8 * n → AreFields n (slots_of bytes)
 unfolding slots_of
 fields_are zero [] e = (tt, refl)
 fields_are zero (b ∷ bytes) e = absurd (omega arith)
@@ -234,16 +234,22 @@ checked_is n bytes p long some few = by_reading (reading_of_slots None 0 (slots_
         let (jumps, exit, same) = no_fault (jump_faults q 0 q) (exit_fault q) q e in
         subst IsProgram same (whole q is jumps exit)
 
--- bytes that decode to a program make one
-pub decoded_is_program : (bytes : List ℕ) (p : Program) → program_of bytes ≡ Ok p → IsProgram p
+-- bytes that decode are whole slots, few but some, and what is read of them has no fault
+pub record AreWhole (bytes : List ℕ) (p : Program) (n : ℕ) : Type 0 where
+  pub long : length bytes ≡ 8 * n
+  pub some : 0 < n
+  pub few : n ≤ max_slots
+  pub checked : checked_program (reading_of_slots None 0 (slots_of bytes)) ≡ Ok p
+
+whole_from : (bytes : List ℕ) (p : Program) → program_of bytes ≡ Ok p → (n : ℕ) × AreWhole bytes p n
 unfolding program_of
-decoded_is_program bytes p = by_tests (length bytes == 0) refl (length bytes % 8 == 0) refl (nat_lt max_slots (length bytes / 8)) refl
+whole_from bytes p = by_tests (length bytes == 0) refl (length bytes % 8 == 0) refl (nat_lt max_slots (length bytes / 8)) refl
   where
     checked : Result Program DecodeFault
     checked = checked_program (reading_of_slots None 0 (slots_of bytes))
 
     by_tests : (a : Bool) → (length bytes == 0) ≡ a → (b : Bool) → (length bytes % 8 == 0) ≡ b → (c : Bool) → nat_lt max_slots (length bytes / 8) ≡ c
-        → cond (a || not b) (Err (fault fault_cause.Length 0)) (cond c (Err (fault fault_cause.TooManySlots 0)) checked) ≡ Ok p → IsProgram p
+        → cond (a || not b) (Err (fault fault_cause.Length 0)) (cond c (Err (fault fault_cause.TooManySlots 0)) checked) ≡ Ok p → (n : ℕ) × AreWhole bytes p n
     by_tests true ea b eb c ec e = absurd cc
     by_tests false ea false eb c ec e = absurd cc
     by_tests false ea true eb true ec e = absurd cc
@@ -253,4 +259,27 @@ decoded_is_program bytes p = by_tests (length bytes == 0) refl (length bytes % 8
         let some : 0 < length bytes = grind (arith, nat_tests) in
         let few : n ≤ max_slots = grind (arith, nat_tests) in
         let long : length bytes ≡ 8 * n = omega arith in
-        checked_is n bytes p long (omega arith) few e
+        (n, record { long = long; some = omega arith; few = few; checked = e })
+
+-- bytes that decode to a program make one
+pub decoded_is_program : (bytes : List ℕ) (p : Program) → program_of bytes ≡ Ok p → IsProgram p
+decoded_is_program bytes p e =
+    let (n, is) = whole_from bytes p e in
+    checked_is n bytes p is.long is.some is.few is.checked
+
+pub whole_length : (bytes : List ℕ) (p : Program) → program_of bytes ≡ Ok p → length bytes ≤ 8 * max_slots
+whole_length bytes p e = let (n, is) = whole_from bytes p e in omega (arith, is.long, is.few)
+
+-- and it is read of their slots
+pub whole_slots : (bytes : List ℕ) (p : Program) → program_of bytes ≡ Ok p → (n : ℕ) × (length bytes ≡ 8 * n) × (reading_of_slots None 0 (slots_of bytes) ≡ Ok p)
+whole_slots bytes p e =
+    let (n, is) = whole_from bytes p e in
+    (n, is.long, by_reading (reading_of_slots None 0 (slots_of bytes)) is.checked)
+  where
+    no_fault : (o : Option DecodeFault) (q : Program) → program_unless o q ≡ Ok p → read_okay q ≡ read_okay p
+    no_fault None q e = e
+    no_fault (Some f) q e = absurd cc
+
+    by_reading : (r : Result Program DecodeFault) → checked_program r ≡ Ok p → r ≡ Ok p
+    by_reading (Err f) e = absurd cc
+    by_reading (Ok q) e = no_fault (or_else (jump_faults q 0 q) (exit_fault q)) q e

@@ -14,3 +14,4 @@ mod FinalLemmas
 mod FreeLemmas
 mod AskedLemmas
 mod AgreementLemmas
+mod SpelledLemmas

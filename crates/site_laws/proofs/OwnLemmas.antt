@@ -152,15 +152,15 @@ own_stands s entries later bytes c why own nothing =
 -- ---- additions
 
 -- what was submitted of a procedure whose program passes its check
-record AddedAs (s : SiteSetting) (p : NamedProcedure) (program : Program) (bytes : List ℕ) : Type 0 where
-  named : is_name p.name ≡ true
-  takes : s.takes_additions ≡ true
-  are : entry_bytes (AdditionEntry (stored_as p program)) ≡ bytes
+pub record AddedAs (s : SiteSetting) (p : NamedProcedure) (program : Program) (bytes : List ℕ) : Type 0 where
+  pub named : is_name p.name ≡ true
+  pub takes : s.takes_additions ≡ true
+  pub are : entry_bytes (AdditionEntry (stored_as p program)) ≡ bytes
 
 same_added : (a b : List ℕ) → addition.Submitted a ≡ addition.Submitted b → a ≡ b
 same_added a b e = cc
 
-added_by : (s : SiteSetting) (p : NamedProcedure) (program : Program) (bytes : List ℕ) → answer_of_check s p (Passed program) ≡ addition.Submitted bytes → AddedAs s p program bytes
+pub added_by : (s : SiteSetting) (p : NamedProcedure) (program : Program) (bytes : List ℕ) → answer_of_check s p (Passed program) ≡ addition.Submitted bytes → AddedAs s p program bytes
 added_by s p program bytes = by_tests (is_name p.name) refl s.takes_additions refl
   where
     own : List ℕ

@@ -1,5 +1,5 @@
 -- What is answered to the byte strings of an order.
-use Rattle.std.specs.Prelude.{ℕ, List, [], ◌∷◌, ◌++◌}
+use Rattle.std.specs.Prelude.{List, [], ◌∷◌, ◌++◌}
 use Rattle.site_model.specs.declared.outcome.EntryOutcome.{EntryOutcome}
 use Rattle.site_model.specs.Standing.{SiteSetting}
 use Rattle.site_model.specs.Order.{Order, next_outcome}

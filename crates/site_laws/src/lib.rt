@@ -12,7 +12,8 @@ pub use laws::{
 };
 pub use nothing::what_is_nothing_changes_nothing;
 pub use own::{
-    calls_of_sites_fit_their_fields, own_additions_are_not_nothing, own_calls_are_not_nothing,
+    additions_of_sites_are_not_nothing, calls_of_sites_fit_their_fields,
+    own_additions_are_not_nothing, own_calls_are_not_nothing,
     own_calls_commit_where_nothing_stands_in_their_way,
 };
 pub use procedures::{procedures_after_each_byte_string, procedures_only_grow};

@@ -96,3 +96,14 @@ pub fn own_additions_are_not_nothing()
 {
     entries_have_their_heads();
 }
+
+/// The bytes that an addition was answered, to be ordered, aren't nothing behind any order, where its program is given as
+/// bytes, and its number and the length of its arguments fit their fields.
+pub fn additions_of_sites_are_not_nothing()
+    ensures { (s : SiteSetting) (order : Order) (p : NamedProcedure) (bytes : List ℕ) (cause : NothingCause)
+        → p.number < 2 ^ 16 → p.args_len ≤ MAX_ARGUMENTS → IsBytes p.bytes
+        → addition_answer s p ≡ AddSubmitted bytes → next_outcome s order bytes ≢ Nothing cause }
+{
+    own_additions_are_not_nothing();
+    programs_pass_where_they_are_accepted();
+}
