@@ -1,6 +1,7 @@
 //! Orders over the settings that sites have.
 
-ghost use Rattle.std.specs.Prelude.{◌≡◌, ◌≢◌, ℕ, ◌++◌, List, Some};
+ghost use Rattle.std.specs.Prelude.{◌≡◌, ◌≢◌, ℕ, ◌++◌, List, ◌∷◌, Some};
+ghost use Rattle.std.specs.FinMap.{empty};
 ghost use Rattle.log_model.specs.Log.{Call};
 ghost use Rattle.entry_heads.specs.Head.{CallHead, head_of};
 ghost use Rattle.site_model.specs.declared.outcome.EntryOutcome.TheVariants.{Committed, Conflict, Stale};
@@ -8,8 +9,6 @@ ghost use Rattle.site_model.specs.Answer.{Asked, call_answer};
 ghost use Rattle.site_model.specs.Fit.{AreFitEntries};
 ghost use Rattle.site_model.specs.Standing.{SiteSetting};
 ghost use Rattle.site_model.specs.Order.{Order, next_outcome, order_entries, order_log};
-ghost use Rattle.std.specs.Prelude.{◌∷◌};
-ghost use Rattle.std.specs.FinMap.{empty};
 ghost use Rattle.site_laws.specs.Orders.{HasDistinctNumbers, IsBytes, IsOfBytes, IsSafeSetting, rows_behind};
 ghost use Rattle.site_laws.specs.Serial.{RunInTurn, committed_calls};
 ghost use Rattle.site_laws.specs.Settled.{AsksAgain, AsksTheSame, IsSettled};

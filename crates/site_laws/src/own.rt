@@ -4,6 +4,7 @@ ghost use Rattle.std.specs.Prelude.{◌≡◌, ◌≢◌, ◌<◌, ◌≤◌, �
 ghost use Rattle.bpf_code.specs.Program.{Program};
 ghost use Rattle.bpf_fields.specs.Spelling.{spelling};
 ghost use Rattle.schema.specs.declared.limits.TheConstants.{MAX_ARGUMENTS};
+ghost use Rattle.log_model.specs.Log.{run_in};
 ghost use Rattle.call_model.specs.Check.{Passed};
 ghost use Rattle.program_checks.specs.Check.{check_of};
 ghost use Rattle.entry_heads.specs.Fit.{AdditionFitsFields};
@@ -13,7 +14,6 @@ ghost use Rattle.site_model.specs.declared.answer.CallAnswer.TheVariants.{Submit
 ghost use Rattle.site_model.specs.declared.cause.NothingCause.{NothingCause};
 ghost use Rattle.site_model.specs.declared.outcome.EntryOutcome.TheVariants.{Committed, Nothing};
 ghost use Rattle.site_model.specs.Answer.{Asked, addition_answer, asked_call, call_answer, stored_as};
-ghost use Rattle.log_model.specs.Log.{run_in};
 ghost use Rattle.site_model.specs.Standing.{SiteSetting};
 ghost use Rattle.site_model.specs.Order.{Order, next_outcome, order_log};
 ghost use Rattle.site_laws.specs.Orders.{IsBytes, IsOfBytes, IsSiteSetting};
