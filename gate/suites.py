@@ -4,6 +4,7 @@ import traceback
 
 import command_lines
 import examples
+import forms
 import launching
 import procedures
 import server
@@ -12,6 +13,7 @@ import servers
 SUITES = {
     "examples": examples.run,
     "commands": command_lines.run,
+    "forms": forms.run,
     "procedures": procedures.run,
     "layouts": procedures.run_layouts,
     "launcher": launching.run,

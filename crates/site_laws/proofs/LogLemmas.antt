@@ -38,7 +38,7 @@ beginning s order more =
 abbrev pub ArePlaced : Type 0
 ArePlaced = (s : SiteSetting) (entries : List Entry) (bytes : List ℕ) → IsPlaced (length entries) (item_of (next_entry s entries bytes))
 
-items_snoc : (entries : List Entry) (e : Entry) → items_of (entries ++ e ∷ []) ≡ items_of entries ++ item_of e ∷ []
+pub items_snoc : (entries : List Entry) (e : Entry) → items_of (entries ++ e ∷ []) ≡ items_of entries ++ item_of e ∷ []
 items_snoc entries e = map-append item_of entries (e ∷ [])
 
 pub log_next : (s : SiteSetting) (entries : List Entry) (bytes : List ℕ) → ArePlaced → IsLog (items_of entries) → IsLog (items_of (with_bytes s entries bytes))
@@ -80,11 +80,11 @@ RepliesCarried = (w : Setting) (entries : List Entry) (position : ℕ) (e : Exec
 
 -- ---- the last entry
 
-there : {X : Type 0} (xs : List X) (x : X) → slice_get (xs ++ x ∷ []) (length xs) ≡ Some x
+pub there : {X : Type 0} (xs : List X) (x : X) → slice_get (xs ++ x ∷ []) (length xs) ≡ Some x
 there [] x = refl
 there (y ∷ xs) x = there xs x
 
-item_there : (entries : List Entry) (e : Entry) → slice_get (items_of (entries ++ e ∷ [])) (length entries) ≡ Some (item_of e)
+pub item_there : (entries : List Entry) (e : Entry) → slice_get (items_of (entries ++ e ∷ [])) (length entries) ≡ Some (item_of e)
 item_there entries e =
     ap (λ (l : Log). slice_get l (length entries)) (items_snoc entries e)
     ∙ ap (λ (n : ℕ). slice_get (items_of entries ++ item_of e ∷ []) n) (sym (length-map entries item_of)) ∙ there (items_of entries) (item_of e)
@@ -110,7 +110,7 @@ module _ (s : SiteSetting) (entries : List Entry) (bytes : List ℕ) where
       let one : length (with_bytes s entries bytes) ≡ length entries + 1 = length-append entries (next_entry s entries bytes ∷ []) in
       some_verdict (verdict_of s.setting (items_of (with_bytes s entries bytes)) (suc (length entries))) (law s.setting (items_of (with_bytes s entries bytes)) (length entries) (omega arith))
 
-  at_last : (v : Verdict) → verdict_of s.setting (items_of (with_bytes s entries bytes)) (suc (length entries)) ≡ Some v → (st : Standing) → standing s (items_of entries) bytes ≡ st → outcome_behind s entries bytes ≡ outcome_of (with_bytes s entries bytes) st (Some v)
+  pub at_last : (v : Verdict) → verdict_of s.setting (items_of (with_bytes s entries bytes)) (suc (length entries)) ≡ Some v → (st : Standing) → standing s (items_of entries) bytes ≡ st → outcome_behind s entries bytes ≡ outcome_of (with_bytes s entries bytes) st (Some v)
   at_last v e st is =
       ap (λ (n : ℕ). outcome_of (with_bytes s entries bytes) (standing s (items_of entries) bytes) (verdict_of s.setting (items_of (with_bytes s entries bytes)) n)) (let n : length entries + 1 ≡ suc (length entries) = omega arith in n)
       ∙ (λ i. outcome_of (with_bytes s entries bytes) (is i) (e i))
@@ -122,13 +122,13 @@ module _ (s : SiteSetting) (entries : List Entry) (bytes : List ℕ) where
       let (commit, same) = commits (with_bytes s entries bytes) e.reply reply v (sym (at_last v at (StandsAs (CallEntry e)) is) ∙ told) in
       (at ∙ ap Some commit, same)
 
-  entry_is : (e : Entry) → standing s (items_of entries) bytes ≡ StandsAs e → next_entry s entries bytes ≡ e
+  pub entry_is : (e : Entry) → standing s (items_of entries) bytes ≡ StandsAs e → next_entry s entries bytes ≡ e
   entry_is e is = ap (entry_standing s.setting (items_of entries)) is
 
   pub call_there : (e : ExecutedCall) → standing s (items_of entries) bytes ≡ StandsAs (CallEntry e) → slice_get (items_of (with_bytes s entries bytes)) (length entries) ≡ Some (CallItem e.call)
   call_there e is = item_there entries (next_entry s entries bytes) ∙ ap (λ (x : Entry). Some (item_of x)) (entry_is (CallEntry e) is)
 
-  rows_before : RowsGrow → rows_after s.setting (items_of (with_bytes s entries bytes)) (length entries) ≡ rows_after s.setting (items_of entries) (length entries)
+  pub rows_before : RowsGrow → rows_after s.setting (items_of (with_bytes s entries bytes)) (length entries) ≡ rows_after s.setting (items_of entries) (length entries)
   rows_before grow = ap (λ (l : Log). rows_after s.setting l (length entries)) (items_snoc entries (next_entry s entries bytes)) ∙ grow s.setting (items_of entries) (item_of (next_entry s entries bytes) ∷ []) (length entries) (omega (arith, length-map entries item_of))
 
   pub rows_committed : HaveVerdicts → RowsGrow → RowsNext → (e : ExecutedCall) (reply : ℕ) → IsLog (items_of (with_bytes s entries bytes)) → standing s (items_of entries) bytes ≡ StandsAs (CallEntry e) → outcome_behind s entries bytes ≡ outcome.Committed reply
@@ -150,7 +150,7 @@ module _ (s : SiteSetting) (entries : List Entry) (bytes : List ℕ) where
 
   -- ---- one that doesn't commit
 
-  left_by : (v : Verdict) (effect rows : Rows) → (v ≡ verdict.Commit → effect ≡ rows) → if_commits v effect rows ≡ rows
+  pub left_by : (v : Verdict) (effect rows : Rows) → (v ≡ verdict.Commit → effect ≡ rows) → if_commits v effect rows ≡ rows
   left_by verdict.Commit effect rows same = same refl
   left_by (verdict.Conflict n) effect rows same = refl
   left_by verdict.Stale effect rows same = refl

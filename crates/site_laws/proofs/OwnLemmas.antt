@@ -36,17 +36,18 @@ use Rattle.site_laws.proofs.SettledLemmas.{by_head}
 -- ---- what was submitted
 
 -- a run that is to be ordered wrote something, and these are its bytes
-record Ordered (w : Setting) (log : Log) (p : StoredProcedure) (asked : Asked) (bytes : List ℕ) : Type 0 where
-  takes : (p.args_len == length asked.args) ≡ true
-  writes : writes_something (run_in w log (asked_call log p asked)) ≡ true
-  are : entry_bytes (CallEntry (executed w log (asked_call log p asked))) ≡ bytes
+pub record Ordered (w : Setting) (log : Log) (p : StoredProcedure) (asked : Asked) (bytes : List ℕ) : Type 0 where
+  pub takes : (p.args_len == length asked.args) ≡ true
+  pub whole : is_whole asked.request ≡ true
+  pub writes : writes_something (run_in w log (asked_call log p asked)) ≡ true
+  pub are : entry_bytes (CallEntry (executed w log (asked_call log p asked))) ≡ bytes
 
 same_bytes : (a b : List ℕ) → call.Submitted a ≡ call.Submitted b → a ≡ b
 same_bytes a b e = cc
 
-ordered_by : (w : Setting) (entries : List Entry) (asked : Asked) (p : StoredProcedure) (bytes : List ℕ) → answer_for w entries asked (Some p) ≡ call.Submitted bytes → Ordered w (items_of entries) p asked bytes
+pub ordered_by : (w : Setting) (entries : List Entry) (asked : Asked) (p : StoredProcedure) (bytes : List ℕ) → answer_for w entries asked (Some p) ≡ call.Submitted bytes → Ordered w (items_of entries) p asked bytes
 ordered_by w entries asked p bytes =
-    by_tests (p.args_len == length asked.args) refl (is_whole asked.request) (first_repeated (history w (items_of entries)).certified (asked_call (items_of entries) p asked)) run.cancel_code refl (len run.writes == 0) refl
+    by_tests (p.args_len == length asked.args) refl (is_whole asked.request) refl (first_repeated (history w (items_of entries)).certified (asked_call (items_of entries) p asked)) run.cancel_code refl (len run.writes == 0) refl
   where
     log : Log
     log = items_of entries
@@ -57,26 +58,27 @@ ordered_by w entries asked p bytes =
     own : List ℕ
     own = entry_bytes (CallEntry (executed w log (asked_call log p asked)))
 
-    by_tests : (a : Bool) → (p.args_len == length asked.args) ≡ a → (b : Bool) (o code : Option ℕ) → run.cancel_code ≡ code → (none : Bool) → (len run.writes == 0) ≡ none
+    by_tests : (a : Bool) → (p.args_len == length asked.args) ≡ a → (b : Bool) → is_whole asked.request ≡ b → (o code : Option ℕ) → run.cancel_code ≡ code → (none : Bool) → (len run.writes == 0) ≡ none
         → cond (not a) (call.Refused ArgumentsLength) (cond (not b) (call.Refused HalfRequest) (unless_repeated entries (unless_cancelled (length log) run own code) o)) ≡ call.Submitted bytes → Ordered w log p asked bytes
-    by_tests false ea b o code ec none en e = absurd cc
-    by_tests true ea false o code ec none en e = absurd cc
-    by_tests true ea true (Some position) code ec none en e = absurd cc
-    by_tests true ea true None (Some code) ec none en e = absurd cc
-    by_tests true ea true None None ec true en e =
+    by_tests false ea b eb o code ec none en e = absurd cc
+    by_tests true ea false eb o code ec none en e = absurd cc
+    by_tests true ea true eb (Some position) code ec none en e = absurd cc
+    by_tests true ea true eb None (Some code) ec none en e = absurd cc
+    by_tests true ea true eb None None ec true en e =
         absurd (not_read (length log) run.reply bytes (sym (ap (λ (b : Bool). cond b (call.Read (length log) run.reply) (call.Submitted own)) en) ∙ e))
       where
         not_read : (position reply : ℕ) (xs : List ℕ) → call.Read position reply ≡ call.Submitted xs → ⊥
         not_read position reply xs f = absurd cc
-    by_tests true ea true None None ec false en e = record {
+    by_tests true ea true eb None None ec false en e = record {
       takes = ea;
+      whole = eb;
       writes = λ i. not (is_some (ec i)) && not (en i);
       are = same_bytes own bytes (sym (ap (λ (b : Bool). cond b (call.Read (length log) run.reply) (call.Submitted own)) en) ∙ e);
     }
 
 -- ---- behind entries that go on
 
-never_nothing : (entries : List Entry) (c : EntryOutcome) (cause : NothingCause) (v : Option Verdict) → (c ≡ outcome.Nothing cause → ⊥) → outcome_by entries c v ≡ outcome.Nothing cause → ⊥
+pub never_nothing : (entries : List Entry) (c : EntryOutcome) (cause : NothingCause) (v : Option Verdict) → (c ≡ outcome.Nothing cause → ⊥) → outcome_by entries c v ≡ outcome.Nothing cause → ⊥
 never_nothing entries c cause None isnt e = isnt e
 never_nothing entries c cause (Some verdict.Commit) isnt e = isnt e
 never_nothing entries c cause (Some (verdict.Conflict n)) isnt e = absurd cc
@@ -103,45 +105,62 @@ not_nothing w log c bytes entries v why early takes is told =
     by_decided true e = never_nothing entries outcome.Stale why v (stale_is_something why) e
     by_decided false e = never_nothing entries (outcome.Committed (executed w log c).reply) why v (reply_is_something (executed w log c).reply why) e
 
-pub own_stands : (s : SiteSetting) (entries later : List Entry) (asked : Asked) (p : StoredProcedure) (bytes : List ℕ) (why : NothingCause)
+-- a call that was submitted behind some entries, where they go on: it passes the tests, and runs as it ran
+pub record IsOwn (s : SiteSetting) (entries later : List Entry) (bytes : List ℕ) (c : Call) : Type 0 where
+  pub head : head_of bytes ≡ Some (CallHead c (executed s.setting (items_of entries) c).reply)
+  pub early : nat_le c.snapshot (length (items_of (entries ++ later))) ≡ true
+  pub takes : takes_arguments (procedure_of s.setting (items_of (entries ++ later)) c) c.args ≡ true
+  pub is : is_true s.setting (items_of (entries ++ later)) c bytes ≡ true
+  pub run : run_in s.setting (items_of (entries ++ later)) c ≡ run_in s.setting (items_of entries) c
+
+pub own_is : (s : SiteSetting) (entries later : List Entry) (asked : Asked) (p : StoredProcedure) (bytes : List ℕ)
     → by_number (procedures_after s.setting (items_of entries) (length (items_of entries))) p.number ≡ Some p
     → head_of (entry_bytes (CallEntry (executed s.setting (items_of entries) (asked_call (items_of entries) p asked))))
     ≡ Some (CallHead (asked_call (items_of entries) p asked) (executed s.setting (items_of entries) (asked_call (items_of entries) p asked)).reply)
-    → answer_for s.setting entries asked (Some p) ≡ call.Submitted bytes → outcome_behind s (entries ++ later) bytes ≡ outcome.Nothing why → ⊥
-own_stands s entries later asked p bytes why numbered head answer nothing =
+    → answer_for s.setting entries asked (Some p) ≡ call.Submitted bytes → IsOwn s entries later bytes (asked_call (items_of entries) p asked)
+own_is s entries later asked p bytes numbered head answer =
     let w = s.setting in
     let log = items_of entries in
     let c = asked_call log p asked in
     let all = entries ++ later in
     let o = ordered_by w entries asked p bytes answer in
     let as_items : items_of all ≡ log ++ items_of later = map-append item_of entries later in
-    let same_head : head_of bytes ≡ Some (CallHead c (executed w log c).reply) = ap head_of (sym o.are) ∙ head in
     let run : run_in w (items_of all) c ≡ run_in w log c = ap (λ (l : Log). run_in w l c) as_items ∙ run_grown w log (items_of later) c (omega arith) in
-    let early : nat_le c.snapshot (length (items_of all)) ≡ true = let le : length log ≤ length (items_of all) = omega (arith, ap length as_items, length-append log (items_of later)) in grind (arith, nat_tests) in
+    let le : length log ≤ length (items_of all) = omega (arith, ap length as_items, length-append log (items_of later)) in
     let known : procedure_of w (items_of all) c ≡ Some p =
     ap (λ (l : Log). by_number (procedures_after w l (length log)) p.number) as_items
     ∙ ap (λ (ps : Catalogue). by_number ps p.number) (procedures_grown w log (items_of later) (length log) (omega arith)) ∙ numbered in
-    let takes : takes_arguments (procedure_of w (items_of all) c) c.args ≡ true = ap (λ (q : Option StoredProcedure). takes_arguments q c.args) known ∙ o.takes in
     let executed_is : executed w (items_of all) c ≡ executed w log c = ap (λ (r : Run). record { call = c; looks = r.looks; writes = r.writes; reply = r.reply }) run in
     let bytes_are : bytes_eq bytes (entry_bytes (CallEntry (executed w (items_of all) c))) ≡ true =
     (bytes_eq-Decides bytes (entry_bytes (CallEntry (executed w (items_of all) c)))).1 (sym o.are ∙ sym (ap (λ (e : ExecutedCall). entry_bytes (CallEntry e)) executed_is)) in
-    let is : is_true w (items_of all) c bytes ≡ true = λ i. (ap writes_something run ∙ o.writes) i && bytes_are i in
+    record {
+      head = ap head_of (sym o.are) ∙ head;
+      early = grind (arith, nat_tests);
+      takes = ap (λ (q : Option StoredProcedure). takes_arguments q c.args) known ∙ o.takes;
+      is = λ i. (ap writes_something run ∙ o.writes) i && bytes_are i;
+      run = run;
+    }
+
+pub own_stands : (s : SiteSetting) (entries later : List Entry) (bytes : List ℕ) (c : Call) (why : NothingCause) → IsOwn s entries later bytes c → outcome_behind s (entries ++ later) bytes ≡ outcome.Nothing why → ⊥
+own_stands s entries later bytes c why own nothing =
+    let w = s.setting in
+    let all = entries ++ later in
     let v = verdict_of w (items_of (with_bytes s all bytes)) (length all + 1) in
-    not_nothing w (items_of all) c bytes (with_bytes s all bytes) v why early takes is
-    (sym (ap (λ (st : Standing). outcome_of (with_bytes s all bytes) st v) (by_head s (items_of all) bytes c (executed w log c).reply same_head)) ∙ nothing)
+    not_nothing w (items_of all) c bytes (with_bytes s all bytes) v why own.early own.takes own.is
+    (sym (ap (λ (st : Standing). outcome_of (with_bytes s all bytes) st v) (by_head s (items_of all) bytes c (executed w (items_of entries) c).reply own.head)) ∙ nothing)
 
 -- ---- additions
 
 -- what was submitted of a procedure whose program passes its check
-record AddedAs (s : SiteSetting) (p : NamedProcedure) (program : Program) (bytes : List ℕ) : Type 0 where
-  named : is_name p.name ≡ true
-  takes : s.takes_additions ≡ true
-  are : entry_bytes (AdditionEntry (stored_as p program)) ≡ bytes
+pub record AddedAs (s : SiteSetting) (p : NamedProcedure) (program : Program) (bytes : List ℕ) : Type 0 where
+  pub named : is_name p.name ≡ true
+  pub takes : s.takes_additions ≡ true
+  pub are : entry_bytes (AdditionEntry (stored_as p program)) ≡ bytes
 
 same_added : (a b : List ℕ) → addition.Submitted a ≡ addition.Submitted b → a ≡ b
 same_added a b e = cc
 
-added_by : (s : SiteSetting) (p : NamedProcedure) (program : Program) (bytes : List ℕ) → answer_of_check s p (Passed program) ≡ addition.Submitted bytes → AddedAs s p program bytes
+pub added_by : (s : SiteSetting) (p : NamedProcedure) (program : Program) (bytes : List ℕ) → answer_of_check s p (Passed program) ≡ addition.Submitted bytes → AddedAs s p program bytes
 added_by s p program bytes = by_tests (is_name p.name) refl s.takes_additions refl
   where
     own : List ℕ

@@ -81,7 +81,7 @@ first_of [] ys (suc n) is = absurd (omega (arith, is))
 first_of (x ∷ xs) ys zero is = absurd (omega (arith, is))
 first_of (x ∷ xs) ys (suc n) is = ap (λ (t : List _). x ∷ t) (first_of xs ys n (omega (arith, is)))
 
-past_is : (w : Setting) (log more : Log) → take (length log) (history w (log ++ more)).certified ≡ (history w log).certified
+pub past_is : (w : Setting) (log more : Log) → take (length log) (history w (log ++ more)).certified ≡ (history w log).certified
 past_is w log more =
     let g = grown w log more in
     ap (take (length log)) g.certified_is ∙ first_of (history w log).certified g.certified (length log) (count_history w log)

@@ -1,9 +1,10 @@
 //! What a site gave to be ordered, when it comes back.
 
-ghost use Rattle.std.specs.Prelude.{◌≡◌, ◌≢◌, ◌≤◌, ℕ, ◌++◌, List};
+ghost use Rattle.std.specs.Prelude.{◌≡◌, ◌≢◌, ◌<◌, ◌≤◌, ◌^◌, ℕ, ◌++◌, List, length};
 ghost use Rattle.bpf_code.specs.Program.{Program};
 ghost use Rattle.bpf_fields.specs.Spelling.{spelling};
 ghost use Rattle.schema.specs.declared.limits.TheConstants.{MAX_ARGUMENTS};
+ghost use Rattle.log_model.specs.Log.{run_in};
 ghost use Rattle.call_model.specs.Check.{Passed};
 ghost use Rattle.program_checks.specs.Check.{check_of};
 ghost use Rattle.entry_heads.specs.Fit.{AdditionFitsFields};
@@ -11,14 +12,20 @@ ghost use Rattle.entry_heads.specs.Head.{NamedProcedure};
 ghost use Rattle.site_model.specs.declared.answer.AdditionAnswer.TheVariants.{Submitted as AddSubmitted};
 ghost use Rattle.site_model.specs.declared.answer.CallAnswer.TheVariants.{Submitted};
 ghost use Rattle.site_model.specs.declared.cause.NothingCause.{NothingCause};
-ghost use Rattle.site_model.specs.declared.outcome.EntryOutcome.TheVariants.{Nothing};
-ghost use Rattle.site_model.specs.Answer.{Asked, addition_answer, call_answer, stored_as};
+ghost use Rattle.site_model.specs.declared.outcome.EntryOutcome.TheVariants.{Committed, Nothing};
+ghost use Rattle.site_model.specs.Answer.{Asked, addition_answer, asked_call, call_answer, stored_as};
 ghost use Rattle.site_model.specs.Standing.{SiteSetting};
-ghost use Rattle.site_model.specs.Order.{Order, next_outcome};
-ghost use Rattle.site_laws.specs.Own.{IsAskedOf};
+ghost use Rattle.site_model.specs.Order.{Order, next_outcome, order_log};
+ghost use Rattle.site_laws.specs.Orders.{IsBytes, IsOfBytes, IsSiteSetting};
+ghost use Rattle.site_laws.specs.Own.{IsAskedOf, IsFree};
 
-use crate::laws::beginnings_have_the_same_entries;
+use crate::fitting::orders_of_bytes_fit;
+use crate::laws::{beginnings_have_the_same_entries, orders_have_logs};
+use crate::procedures::{procedures_after_each_byte_string, procedures_only_grow};
+use bpf_semantics::states_fit;
 use entry_heads::entries_have_their_heads;
+use log_model::{each_call_has_a_verdict, logs_whose_calls_fit, verdicts_in_words_of_the_log};
+use program_checks::programs_pass_where_they_are_accepted;
 use site_model::orders_grow;
 
 /// The bytes that a call was answered behind an order, to be ordered, aren't nothing wherever that order goes on, where
@@ -33,6 +40,51 @@ pub fn own_calls_are_not_nothing()
     orders_grow();
 }
 
+/// Over the settings that sites have, a call that was answered by bytes behind an order of byte strings is asked of a
+/// procedure with a number of its own, and its numbers and lengths fit their fields. So its bytes aren't nothing wherever
+/// that order goes on.
+pub fn calls_of_sites_fit_their_fields()
+    ensures asked { (s : SiteSetting) (order : Order) (asked : Asked) (bytes : List ℕ)
+        → IsSiteSetting s.setting → IsOfBytes order → length order < 2 ^ 32 → IsBytes asked.args
+        → asked.request.session < 2 ^ 32 → asked.request.sequence < 2 ^ 32
+        → call_answer s order asked ≡ Submitted bytes → IsAskedOf s order asked }
+    ensures something { (s : SiteSetting) (order more : Order) (asked : Asked) (bytes : List ℕ) (cause : NothingCause)
+        → IsSiteSetting s.setting → IsOfBytes order → length order < 2 ^ 32 → IsBytes asked.args
+        → asked.request.session < 2 ^ 32 → asked.request.sequence < 2 ^ 32
+        → call_answer s order asked ≡ Submitted bytes → next_outcome s (order ++ more) bytes ≢ Nothing cause }
+{
+    logs_whose_calls_fit();
+    orders_grow();
+    orders_of_bytes_fit();
+    own_calls_are_not_nothing();
+    procedures_after_each_byte_string();
+    procedures_only_grow();
+    programs_pass_where_they_are_accepted();
+    states_fit();
+}
+
+/// The bytes that a call was answered behind an order, to be ordered, commit where that order goes on and nothing that
+/// came between stands in the call's way. Wherever they commit, the reply is that of the run that was answered.
+pub fn own_calls_commit_where_nothing_stands_in_their_way()
+    ensures free { (s : SiteSetting) (order between : Order) (asked : Asked) (bytes : List ℕ)
+        (is : IsAskedOf s order asked)
+        → call_answer s order asked ≡ Submitted bytes
+        → IsFree s order between (asked_call (order_log s order) is.procedure asked)
+        → next_outcome s (order ++ between) bytes
+        ≡ Committed (run_in s.setting (order_log s order) (asked_call (order_log s order) is.procedure asked)).reply }
+    ensures reply { (s : SiteSetting) (order between : Order) (asked : Asked) (bytes : List ℕ) (reply : ℕ)
+        (is : IsAskedOf s order asked)
+        → call_answer s order asked ≡ Submitted bytes → next_outcome s (order ++ between) bytes ≡ Committed reply
+        → reply ≡ (run_in s.setting (order_log s order) (asked_call (order_log s order) is.procedure asked)).reply }
+{
+    beginnings_have_the_same_entries();
+    each_call_has_a_verdict();
+    entries_have_their_heads();
+    orders_grow();
+    orders_have_logs();
+    verdicts_in_words_of_the_log();
+}
+
 /// The bytes that an addition was answered, to be ordered, aren't nothing behind any order, where its program is spelled
 /// by the bytes that it was read from, as a program that is decoded is, and its numbers and lengths fit their fields.
 pub fn own_additions_are_not_nothing()
@@ -43,4 +95,15 @@ pub fn own_additions_are_not_nothing()
         → addition_answer s p ≡ AddSubmitted bytes → next_outcome s order bytes ≢ Nothing cause }
 {
     entries_have_their_heads();
+}
+
+/// The bytes that an addition was answered, to be ordered, aren't nothing behind any order, where its program is given as
+/// bytes, and its number and the length of its arguments fit their fields.
+pub fn additions_of_sites_are_not_nothing()
+    ensures { (s : SiteSetting) (order : Order) (p : NamedProcedure) (bytes : List ℕ) (cause : NothingCause)
+        → p.number < 2 ^ 16 → p.args_len ≤ MAX_ARGUMENTS → IsBytes p.bytes
+        → addition_answer s p ≡ AddSubmitted bytes → next_outcome s order bytes ≢ Nothing cause }
+{
+    own_additions_are_not_nothing();
+    programs_pass_where_they_are_accepted();
 }
