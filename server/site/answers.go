@@ -4,8 +4,6 @@ import (
 	"bytes"
 	"fmt"
 	"time"
-
-	"dsmdb/server/wire"
 )
 
 // takeAnswers takes in lines of the engine.
@@ -50,32 +48,14 @@ func (s *Site) rowsSaid(lines []byte) []byte {
 	r := s.pending.first().of
 	end := positionIn(lines)
 	if end < 0 {
-		s.keepRows(r, lines)
+		s.spool.write(lines)
 		return nil
 	}
-	s.keepRows(r, lines[:end])
+	s.spool.write(lines[:end])
 	last := lines[end : end+bytes.IndexByte(lines[end:], '\n')]
 	s.pending.pop()
 	s.rowsEnd(r, last)
 	return lines[end+len(last)+1:]
-}
-
-// keepRows puts rows into the spool. Of an engine that has no line scan all rows come, of which those are kept that were
-// asked for.
-func (s *Site) keepRows(r *Request, lines []byte) {
-	scan, is := r.Ask.(*wire.Scan)
-	if !is || !s.noScan {
-		s.spool.write(lines)
-		return
-	}
-	for len(lines) > 0 {
-		end := bytes.IndexByte(lines, '\n') + 1
-		if s.spool.rows < uint64(scan.Most) && scan.Has(lines[:end-1]) {
-			s.spool.write(lines[:end])
-			s.spool.rows++
-		}
-		lines = lines[end:]
-	}
 }
 
 // positionIn returns where the line begins that isn't of a row; below zero where all lines are.
@@ -93,18 +73,6 @@ func positionIn(lines []byte) int {
 func (s *Site) rowsEnd(r *Request, last []byte) {
 	lines := s.spool
 	s.spool, s.spooling = nil, nil
-	if scan, is := r.Ask.(*wire.Scan); is {
-		if string(last) == string(wire.NoWord) && !s.noScan {
-			s.noScan = true
-			s.rowsNext = append([]*Request{r}, s.rowsNext...)
-			return
-		}
-		if s.noScan && !s.tables[scan.Table] {
-			last = []byte("refused P16")
-		} else if s.noScan {
-			last = []byte(fmt.Sprintf("position %d rows %d", s.position, lines.rows))
-		}
-	}
 	switch _, err := fmt.Sscanf(string(last), "position %d rows %d", &lines.Position, &lines.Count); {
 	case lines.failed != nil:
 		s.warn("%v", lines.failed)
@@ -129,11 +97,7 @@ func (s *Site) askRows() {
 			continue
 		}
 		s.spooling, s.spool = r, &Spool{}
-		line := r.Ask.(fmt.Stringer).String()
-		if s.noScan {
-			line = wire.Rows{}.String()
-		}
-		s.out = append(append(s.out, line...), '\n')
+		s.out = append(append(s.out, r.Ask.(fmt.Stringer).String()...), '\n')
 		s.pending.push(pending{forRows, r})
 	}
 }

@@ -40,19 +40,6 @@ func proceduresOf(settings []byte) map[string]procedure {
 	return found
 }
 
-// tablesOf returns the numbers of the tables of settings.
-func tablesOf(settings []byte) map[uint8]bool {
-	found := map[uint8]bool{}
-	for _, line := range bytes.Split(settings, []byte{'\n'}) {
-		fields := bytes.Split(line, []byte{' '})
-		if string(fields[0]) == "table" && len(fields) == 3 {
-			number, _ := strconv.ParseUint(string(fields[1]), 10, 8)
-			found[uint8(number)] = true
-		}
-	}
-	return found
-}
-
 // ProceduresOf returns the procedures of settings that an engine has accepted.
 func ProceduresOf(settings []byte) []Procedure {
 	var all []Procedure

@@ -122,9 +122,7 @@ type Site struct {
 	filledTo   uint64   // the position up to which the order was filled up
 	spooling   *Request // whose rows the engine prints, into spool
 	spool      *Spool
-	rowsNext   []*Request     // who wait for their rows
-	noScan     bool           // whether the engine has no line scan
-	tables     map[uint8]bool // of the settings
+	rowsNext   []*Request // who wait for their rows
 	flushes    []Asker
 	counts     Counts
 	growth     growth
@@ -170,7 +168,7 @@ func New(o Options) *Site {
 	return &Site{
 		settings: o.Settings, order: o.Order, start: o.Start, patience: o.Patience, overrule: o.Overrule, say: o.Say, warn: o.Warn, maker: o.Maker,
 		wake: make(chan struct{}, 1), closed: make(chan struct{}),
-		votes: votes.New(o.Maker, o.Settings), procedures: proceduresOf(o.Settings), tables: tablesOf(o.Settings), turns: turns{},
+		votes: votes.New(o.Maker, o.Settings), procedures: proceduresOf(o.Settings), turns: turns{},
 		vote: batch.Vote{Answers: batch.OfSettings(o.Settings)},
 	}
 }

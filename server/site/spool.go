@@ -15,7 +15,6 @@ type Spool struct {
 	file   *os.File
 	size   int64
 	failed error
-	rows   uint64 // that were kept of those that came
 	// Position is the one after which the rows are, and Count how many there are.
 	Position, Count uint64
 }

@@ -364,17 +364,6 @@ func (c *Call) String() string {
 // String writes the line that asks for all rows.
 func (Rows) String() string { return "rows" }
 
-// Has returns whether a row, as an engine prints it, is one that is asked for.
-func (s *Scan) Has(row []byte) bool {
-	fields := strings.Fields(string(row))
-	if len(fields) != 3 {
-		return false
-	}
-	table, err := strconv.ParseUint(fields[0], 10, 8)
-	key, fault := strconv.ParseUint(fields[1], 10, 64)
-	return err == nil && fault == nil && uint8(table) == s.Table && key >= s.First && key <= s.Last
-}
-
 // String writes a scan as a line that Read reads so.
 func (s *Scan) String() string {
 	return fmt.Sprintf("scan %d %d %d %d", s.Table, s.First, s.Last, s.Most)

@@ -149,6 +149,9 @@ next is waited for; empty lines, and those that begin with #, are not answered.
                                     (P14), or no memory (P9)
   rows                     each row: table, key, bytes; and then
     position P rows N               how far it has come, and how many rows
+  scan T LO HI N           the first N rows of table T from key LO to key HI
+    position P rows M               behind them, likewise
+    refused P16                     no such table
   position                 how far it has come
     position P
 

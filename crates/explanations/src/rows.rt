@@ -210,7 +210,7 @@ pub const OF_PROCEDURES: [Explanation; 33] = [
 ];
 
 /// Of what is run, each refusal once.
-pub const OF_RUNS: [Explanation; 39] = [
+pub const OF_RUNS: [Explanation; 40] = [
     Explanation {
         number: "P1",
         cause: "there is no such replica; a `rows` line asks for one, too",
@@ -299,6 +299,12 @@ pub const OF_RUNS: [Explanation; 39] = [
         number: "P14",
         cause: "at a site, the settings lack the line `additions`",
         cure: "settings with that line, at all sites, and so a new order",
+        in_c: "",
+    },
+    Explanation {
+        number: "P16",
+        cause: "at a site, a scan of a table that the settings haven't",
+        cure: "scan a table of the settings",
         in_c: "",
     },
     Explanation {

@@ -48,6 +48,9 @@ u16_of field = number_of 0 65535 field
 abbrev pub u32_of : List ℕ → Option ℕ
 u32_of field = number_of 0 4294967295 field
 
+abbrev pub u64_of : List ℕ → Option ℕ
+u64_of field = number_of 0 18446744073709551615 field
+
 -- how many: at least one
 abbrev pub count_of : List ℕ → Option ℕ
 count_of field = number_of 1 4294967295 field

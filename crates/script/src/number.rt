@@ -2,7 +2,7 @@
 
 ghost use Rattle.std.specs.Prelude.{◌≡◌, ◌^◌, ◌<◌, ◌≤◌, IfOk, IfSome, ok_or};
 ghost use Rattle.schema.specs.declared.limits.TheConstants.{MAX_ARGUMENTS, MAX_REPLICAS, MAX_WINDOW};
-ghost use Rattle.script.specs.Text.{number_of, u8_of, u16_of, u32_of, count_of};
+ghost use Rattle.script.specs.Text.{number_of, u8_of, u16_of, u32_of, u64_of, count_of};
 ghost use Rattle.script.specs.declared.fault.LineFault.TheVariants.{Field};
 
 use crate::fault::LineFault;
@@ -23,7 +23,8 @@ fn read_number(field: &str, least: u64, most: u64) -> Option<u64>
     }
 }
 
-pub(crate) fn read_u8(field: &str) -> Result<u8, LineFault>
+/// A number of 8 bits.
+pub fn read_u8(field: &str) -> Result<u8, LineFault>
     ensures { result ≡ ok_or (u8_of field.now) Field }
 {
     let number = read_number(field, 0, u64::from(u8::MAX)).ok_or(LineFault::Field)?;
@@ -46,8 +47,15 @@ pub fn read_u32(field: &str) -> Result<u32, LineFault>
     Ok(number as u32)
 }
 
+/// A number of 64 bits.
+pub fn read_u64(field: &str) -> Result<u64, LineFault>
+    ensures { result ≡ ok_or (u64_of field.now) Field }
+{
+    read_number(field, 0, u64::MAX).ok_or(LineFault::Field)
+}
+
 /// A number of 32 bits that isn't 0.
-pub(crate) fn read_count(field: &str) -> Result<u32, LineFault>
+pub fn read_count(field: &str) -> Result<u32, LineFault>
     ensures count { result ≡ ok_or (count_of field.now) Field }
     ensures limits { IfOk result (λ count. 1 ≤ count) }
 {

@@ -1,6 +1,6 @@
 //! A site.
 
-ghost use Rattle.std.specs.Prelude.{◌≡◌, ◌+◌, ◌<◌, ◌≤◌, ◌^◌, ◌++◌, [], ◌∷◌, length, IfOk};
+ghost use Rattle.std.specs.Prelude.{◌≡◌, ◌+◌, ◌<◌, ◌≤◌, ◌^◌, ◌++◌, [], ◌∷◌, false, length, IfOk};
 ghost use Rattle.std.specs.FinMap as map;
 ghost use Rattle.log_model.specs.Log.{rows_after};
 ghost use Rattle.site_model.specs.Order.{Order, next_outcome, order_log};
@@ -12,12 +12,14 @@ ghost use Rattle.site_calls.specs.Answered.{added, answered, asked_of, named_of}
 use crate::take::take;
 use catalogue::Catalogue;
 use log_entry::Entry;
+use replica::At;
 use row_sets::Row;
 use site_calls::{Asked, NamedProgram, add, call};
-use site_model::{AdditionAnswer, CallAnswer, EntryOutcome, orders_grow};
+use site_model::{AdditionAnswer, CallAnswer, EntryOutcome, fit_entries_go_on, orders_grow};
 use site_replica::SiteReplica;
 use std::alloc::{AllocError, Allocator, Global};
 use std::marker::Model;
+use txn_view::Store;
 
 /// A site: it takes the byte strings of an order in, one after the other. Contracts see its replica.
 #[derive(Drop)]
@@ -92,6 +94,26 @@ impl<A: Allocator + Copy> Site<A> {
     {
         orders_grow();
         self.replica.rows(alloc)
+    }
+
+    /// Whether there is a table of this number.
+    pub fn has_table(&self, table: u8) -> bool
+        ensures { result ≡ map.contains_key (setting_of self.now).setting.tables table }
+    {
+        self.replica.catalogue().schema().width(table).is_some()
+    }
+
+    /// The rows at the last position, of which some are looked at.
+    pub fn last_rows<'a>(&'a self) -> At<'a, A>
+        ensures answers { (order : Order) → StandsForOrder self.now order
+            → ⟦<At<'a, A> as Store>⟧.answers_from result (rows_after (setting_of self.now).setting
+            (order_log (setting_of self.now) order) (length order)) }
+        ensures kept { ⟦<At<'a, A> as Store>⟧.is_gone result ≡ false }
+    {
+        orders_grow();
+        fit_entries_go_on();
+        let replica = self.replica.replica();
+        replica.at(replica.position())
     }
 
     /// Runs a call whole on the rows at the last position: what comes of it. Nothing changes.

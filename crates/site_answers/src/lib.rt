@@ -7,3 +7,4 @@ pub use line::answer;
 mod entry;
 mod line;
 mod rows;
+mod scan;

@@ -11,6 +11,7 @@ ghost use Rattle.site_answers.specs.Answers.{order_behind, order_with};
 
 use crate::entry::answer_entry;
 use crate::rows::answer_rows;
+use crate::scan::answer_scan;
 use byte_output::sink::ByteSink;
 use log_model::RequestId;
 use row_sets::Bytes;
@@ -103,6 +104,10 @@ fn answer_request<A: Allocator + Copy, S: ByteSink>(
         SiteLine::Entry { bytes } => answer_entry(site, sink, bytes.as_slice()),
         SiteLine::Rows => {
             answer_rows(alloc, &site, sink)?;
+            Ok(site)
+        }
+        SiteLine::Scan(scan) => {
+            answer_scan(&site, sink, *scan);
             Ok(site)
         }
         SiteLine::Position => {

@@ -4,7 +4,8 @@ ghost use Rattle.std.specs.Prelude.{◌≡◌, map, OnErr, OnOk};
 ghost use Rattle.std.specs.List.{concat};
 ghost use Rattle.site_model.specs.Order.{Order};
 ghost use Rattle.site_replica.specs.Replica.{StandsForOrder, setting_of};
-ghost use Rattle.site_answers.specs.Answers.{row_text, rows_answer};
+ghost use Rattle.site_lines.specs.Answers.{row_text};
+ghost use Rattle.site_answers.specs.Answers.{rows_answer};
 
 use byte_output::sink::ByteSink;
 use row_sets::Row;

@@ -2,6 +2,7 @@
 use Rattle.std.specs.Prelude.{ℕ, ◌==◌, ◌&&◌, if◌then◌else◌, List, [], ◌++◌, codes}
 use Rattle.std.specs.Fmt.{decimal}
 use Rattle.hex.specs.Hex.{encode_lower}
+use Rattle.schema.specs.Rows.{Key}
 use Rattle.log_model.specs.declared.request.RequestId.{RequestId}
 use Rattle.log_model.specs.declared.verdict.Identifier.TheVariants.{Name, Number}
 use Rattle.script.specs.declared.fault.LineFault.{LineFault}
@@ -113,6 +114,9 @@ position_line position = codes "position " ++ decimal position ++ codes "\n"
 abbrev pub row_line : ℕ → ℕ → List ℕ → List ℕ
 row_line table key bytes = row_words table key bytes ++ codes "\n"
 
+abbrev pub row_text : (Key × List ℕ) → List ℕ
+row_text row = row_line row.0.0 row.0.1 row.1
+
 -- behind the rows, how many they are
 abbrev pub row_count_line : ℕ → ℕ → List ℕ
 row_count_line position rows = codes "position " ++ decimal position ++ codes " rows " ++ decimal rows ++ codes "\n"
@@ -124,6 +128,10 @@ fault_line fault = codes "fault L" ++ decimal (number_of_line_fault fault) ++ co
 -- where the order has as many byte strings as one may have
 abbrev pub order_full_line : List ℕ
 order_full_line = codes "fault O1\n"
+
+-- of a scan of a table that there isn't
+abbrev pub no_table_line : List ℕ
+no_table_line = codes "refused P16\n"
 
 -- of a call or an addition that finds no memory
 abbrev pub no_memory_line : List ℕ

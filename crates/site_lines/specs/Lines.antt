@@ -6,9 +6,10 @@ use Rattle.schema.specs.declared.limits.TheConstants.{MAX_ARGUMENTS}
 use Rattle.script.specs.declared.fault.LineFault.{LineFault}
 use Rattle.script.specs.declared.fault.LineFault.TheVariants as fault
 use Rattle.script.specs.Script.{one, three, made_of}
-use Rattle.script.specs.Text.{is_printable, is_skipped, fields_of, number_of, u16_of, u32_of, bytes_of_hex}
+use Rattle.script.specs.Text.{is_printable, is_skipped, fields_of, number_of, u16_of, u32_of, u8_of, u64_of, count_of, bytes_of_hex}
+use Rattle.site_lines.specs.declared.line.Scan.{Scan}
 use Rattle.site_lines.specs.declared.line.SiteLine.{SiteLine}
-use Rattle.site_lines.specs.declared.line.SiteLine.TheVariants.{Call, Add, Entry, Rows, Position}
+use Rattle.site_lines.specs.declared.line.SiteLine.TheVariants.{Call, Add, Entry, Rows, Scan as ScanLine, Position}
 use Rattle.site_lines.specs.declared.word.Word.{Word}
 use Rattle.site_lines.specs.declared.word.Word.TheVariants as word
 
@@ -22,8 +23,17 @@ word_of text =
     else if bytes_eq text (codes "add") then Some word.Add
     else if bytes_eq text (codes "entry") then Some word.Entry
     else if bytes_eq text (codes "rows") then Some word.Rows
+    else if bytes_eq text (codes "scan") then Some word.Scan
     else if bytes_eq text (codes "position") then Some word.Position
     else None
+
+-- the rows that are asked for by the number of a table, the least and the greatest key, and how many they are at most
+abbrev pub scan_by : Option ℕ → Option ℕ → Option ℕ → Option ℕ → Result Scan LineFault
+scan_by (Some table) (Some lo) (Some hi) (Some most) = Ok (record { table = table; lo = lo; hi = hi; most = most })
+scan_by _ _ _ _ = Err fault.Field
+
+abbrev pub scan_of : List ℕ → List ℕ → List ℕ → List ℕ → Result Scan LineFault
+scan_of table lo hi most = scan_by (u8_of table) (u64_of lo) (u64_of hi) (count_of most)
 
 -- what a word asks for with the fields behind it. Session and sequence number may be 0
 unfoldable pub request_behind : Word → List (List ℕ) → Result SiteRequest LineFault
@@ -33,6 +43,7 @@ request_behind word.Add (name ∷ number ∷ args_len ∷ program ∷ []) =
     three (Add name) (u16_of number) (number_of 0 MAX_ARGUMENTS args_len) (bytes_of_hex program)
 request_behind word.Entry (bytes ∷ []) = one Entry (bytes_of_hex bytes)
 request_behind word.Rows [] = Ok Rows
+request_behind word.Scan (table ∷ lo ∷ hi ∷ most ∷ []) = made_of ScanLine (scan_of table lo hi most)
 request_behind word.Position [] = Ok Position
 request_behind _ _ = Err fault.FieldCount
 

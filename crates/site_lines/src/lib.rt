@@ -2,12 +2,12 @@
 #![tactic(auto)]
 
 pub use answers::{append_addition_line, append_call_line, append_entry_line};
-pub use line::SiteLine;
+pub use line::{Scan, SiteLine};
 pub use numbers::{call_refusal_number, nothing_number};
 pub use reading::site_line;
 pub use status::{
-    append_fault_line, append_no_memory_line, append_order_full_line, append_position_line,
-    append_row_count_line, append_row_line,
+    append_fault_line, append_no_memory_line, append_no_table_line, append_order_full_line,
+    append_position_line, append_row_count_line, append_row_line,
 };
 
 mod answers;

@@ -1,5 +1,17 @@
 //! What a line says.
 
+/// Which rows a scan asks for.
+#[derive(Clone, Copy)]
+pub struct Scan {
+    pub table: u8,
+    /// The least key.
+    pub lo: u64,
+    /// The greatest key.
+    pub hi: u64,
+    /// How many at most, at least one.
+    pub most: u32,
+}
+
 /// What a line asks of a site. Names, arguments, programs and entries are a `B`.
 #[derive(Drop)]
 pub enum SiteLine<B> {
@@ -23,6 +35,9 @@ pub enum SiteLine<B> {
     Entry {
         bytes: B,
     },
+    /// All rows.
     Rows,
+    /// The first rows of a table from a key to another.
+    Scan(Scan),
     Position,
 }

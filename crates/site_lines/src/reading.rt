@@ -1,16 +1,16 @@
 //! Reading what a line says.
 
 ghost use Rattle.std.specs.Prelude.{◌≡◌, ◌⊎◌, map, Ok, Err, IfOk, IfErr, IfSome};
-ghost use Rattle.site_lines.specs.Lines.{IsWithinLimits, line_says, request_behind, request_of};
+ghost use Rattle.site_lines.specs.Lines.{IsWithinLimits, line_says, request_behind, request_of, scan_of};
 ghost use Rattle.script.specs.declared.fault.LineFault.TheVariants.{NoMemory};
 
-use crate::line::SiteLine;
+use crate::line::{Scan, SiteLine};
 use crate::word::{Word, first_word};
 use row_sets::Bytes;
 use script::LineFault;
 use script::fields::{fields, is_skipped, printable_text};
 use script::hex_field::read_hex;
-use script::number::{read_args_len, read_u16, read_u32};
+use script::number::{read_args_len, read_count, read_u8, read_u16, read_u32, read_u64};
 use std::alloc::{AllocError, Allocator};
 
 /// What a line, given without its LF, says: a request, or nothing where it is empty or a comment. How long it may be is
@@ -84,9 +84,25 @@ fn request_behind<A: Allocator + Copy>(
             bytes: read_hex(alloc, bytes)?,
         }),
         (Word::Rows, []) => Ok(SiteLine::Rows),
+        (Word::Scan, [table, lo, hi, most]) => {
+            let scan = read_scan(table, lo, hi, most)?;
+            Ok(SiteLine::Scan(scan))
+        }
         (Word::Position, []) => Ok(SiteLine::Position),
         _ => Err(LineFault::FieldCount),
     }
+}
+
+/// Which rows the fields of a scan ask for.
+fn read_scan(table: &str, lo: &str, hi: &str, most: &str) -> Result<Scan, LineFault>
+    ensures { result ≡ scan_of table.now lo.now hi.now most.now }
+{
+    Ok(Scan {
+        table: read_u8(table)?,
+        lo: read_u64(lo)?,
+        hi: read_u64(hi)?,
+        most: read_count(most)?,
+    })
 }
 
 /// The bytes of a name.

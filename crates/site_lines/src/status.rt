@@ -1,6 +1,6 @@
 //! The lines of a site that tell neither of an entry nor of what is asked for.
 
-ghost use Rattle.site_lines.specs.Answers.{fault_line, no_memory_line, order_full_line, position_line};
+ghost use Rattle.site_lines.specs.Answers.{fault_line, no_memory_line, no_table_line, order_full_line, position_line};
 ghost use Rattle.site_lines.specs.Answers.{row_count_line, row_line};
 ghost use Rattle.report.specs.Lines.{row_label};
 
@@ -52,6 +52,13 @@ pub fn append_order_full_line<S: ByteSink>(sink: &mut S)
     ensures { S.appends sink.old sink.new order_full_line }
 {
     sink.append(b"fault O1\n");
+}
+
+/// Appends what is answered to a scan of a table that there isn't. It takes no memory.
+pub fn append_no_table_line<S: ByteSink>(sink: &mut S)
+    ensures { S.appends sink.old sink.new no_table_line }
+{
+    sink.append(b"refused P16\n");
 }
 
 /// Appends what is answered to a call or an addition that finds no memory. It takes no memory.

@@ -10,6 +10,7 @@ pub(crate) enum Word {
     Add,
     Entry,
     Rows,
+    Scan,
     Position,
 }
 
@@ -24,6 +25,8 @@ pub(crate) fn first_word(text: &str) -> Option<Word>
         Word::Entry
     } else if text == "rows" {
         Word::Rows
+    } else if text == "scan" {
+        Word::Scan
     } else if text == "position" {
         Word::Position
     } else {

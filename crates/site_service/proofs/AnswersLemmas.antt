@@ -6,7 +6,7 @@ use Rattle.script.specs.declared.fault.LineFault.{LineFault}
 use Rattle.site_model.specs.Standing.{SiteSetting}
 use Rattle.site_model.specs.Order.{Order}
 use Rattle.site_lines.specs.Lines.{SiteRequest}
-use Rattle.site_lines.specs.declared.line.SiteLine.TheVariants.{Call, Add, Entry, Rows, Position}
+use Rattle.site_lines.specs.declared.line.SiteLine.TheVariants.{Call, Add, Entry, Rows, Scan, Position}
 use Rattle.site_lines.specs.Answers.{fault_line}
 use Rattle.site_answers.specs.Answers.{IsAnswer, IsLineAnswer, order_behind}
 use Rattle.site_service.specs.Answering.{AreAnswers, order_after, says_within_limits}
@@ -53,6 +53,7 @@ can_answer s order (Call name args session sequence) = (_, inl refl)
 can_answer s order (Add name number args_len program) = (_, inl refl)
 can_answer s order (Entry bytes) = (_, refl)
 can_answer s order Rows = (_, refl)
+can_answer s order (Scan scan) = (_, refl)
 can_answer s order Position = (_, refl)
 
 can_answer_line : (s : SiteSetting) (order : Order) (says : Result (Option SiteRequest) LineFault) → (text : List ℕ) × IsLineAnswer s order says text

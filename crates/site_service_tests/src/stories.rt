@@ -188,6 +188,75 @@ const STALE: Story = Story {
     ],
 };
 
+/// A scan gives the rows from the least key to the greatest, both included, and no more than it asks for.
+const SCANNED: Story = Story {
+    settings: &FIXED,
+    lines: &[
+        "entry 010000000000000000000000000100100005000000000000000a0000000000000000000000\
+        0a00000000000000010001050000000000000005000000000000000100010500000000000000010a\
+        00000000000000",
+        "entry 01000000000000000000000000010010000700000000000000030000000000000000000000\
+        03000000000000000100010700000000000000070000000000000001000107000000000000000103\
+        00000000000000",
+        "entry 0100000000000000000000000001001000ffffffffffffffff020000000000000000000000\
+        0200000000000000010001ffffffffffffffffffffffffffffffff010001ffffffffffffffff0102\
+        00000000000000",
+        "scan 1 0 9 10",
+        "scan 1 0 9 1",
+        "scan 1 5 7 9",
+        "scan 1 6 6 9",
+        "scan 1 9 0 9",
+        "scan 1 7 18446744073709551615 4294967295",
+        "scan 1 18446744073709551615 18446744073709551615 1",
+        "scan 2 0 9 10",
+        "scan 0 0 9 10",
+        "scan 255 0 9 10",
+    ],
+    answers: &[
+        "entry 1 commit reply 10",
+        "entry 2 commit reply 3",
+        "entry 3 commit reply 2",
+        " 1                    5 0a00000000000000",
+        " 1                    7 0300000000000000",
+        "position 3 rows 2",
+        " 1                    5 0a00000000000000",
+        "position 3 rows 1",
+        " 1                    5 0a00000000000000",
+        " 1                    7 0300000000000000",
+        "position 3 rows 2",
+        "position 3 rows 0",
+        "position 3 rows 0",
+        " 1                    7 0300000000000000",
+        " 1 18446744073709551615 0200000000000000",
+        "position 3 rows 2",
+        " 1 18446744073709551615 0200000000000000",
+        "position 3 rows 1",
+        "refused P16",
+        "refused P16",
+        "refused P16",
+    ],
+};
+
+/// A row that two calls have added to.
+const SCANNED_AGAIN: Story = Story {
+    settings: &FIXED,
+    lines: &[
+        "entry 01010000000300000000000000010010000500000000000000140000000000000000000000\
+        14000000000000000100010500000000000000050000000000000001000105000000000000000114\
+        00000000000000",
+        "entry 01010000000400000000000000010010000500000000000000010000000000000001000000\
+        15000000000000000100010500000000000000050000000000000001000105000000000000000115\
+        00000000000000",
+        "scan 1 0 9 10",
+    ],
+    answers: &[
+        "entry 1 commit reply 20 session 1 seq 3",
+        "entry 2 commit reply 21 session 1 seq 4",
+        " 1                    5 1500000000000000",
+        "position 2 rows 1",
+    ],
+};
+
 /// Faulty lines are answered, and change nothing; those that say nothing aren't answered.
 const FAULTY: Story = Story {
     settings: &SETTINGS,
@@ -230,7 +299,7 @@ const FAULTY: Story = Story {
 };
 
 /// Stories of a site.
-pub(crate) fn all_stories() -> [Story; 8] {
+pub(crate) fn all_stories() -> [Story; 10] {
     [
         ONCE,
         CONFLICT,
@@ -239,12 +308,14 @@ pub(crate) fn all_stories() -> [Story; 8] {
         NOT_ADDED,
         CLAIMED,
         STALE,
+        SCANNED,
+        SCANNED_AGAIN,
         FAULTY,
     ]
 }
 
 /// A line that is the first that a site is asked, and its answer.
-pub(crate) const FIRST_LINES: [(&str, &str); 26] = [
+pub(crate) const FIRST_LINES: [(&str, &str); 28] = [
     (CALL, SUBMITTED),
     ("call two - 0 0", "read 0 reply 2"),
     ("call no - 0 0", "cancelled 0 code 9"),
@@ -296,6 +367,8 @@ pub(crate) const FIRST_LINES: [(&str, &str); 26] = [
         "entry 1 nothing E5",
     ),
     ("rows", "position 0 rows 0"),
+    ("scan 1 0 9 1", "position 0 rows 0"),
+    ("scan 9 0 9 1", "refused P16"),
     ("position", "position 0"),
     ("jump", "fault L2"),
 ];

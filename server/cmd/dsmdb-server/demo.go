@@ -339,9 +339,6 @@ func (d *demo) sum(ctx context.Context) (int64, string, error) {
 			return err
 		}
 		line, err := reached.Lines(ctx, "scan 1 0 18446744073709551615 1000", take)
-		if err == nil && strings.HasPrefix(line, "fault") { // an engine that has no scan
-			line, err = reached.Lines(ctx, "rows", take)
-		}
 		reached.Close()
 		if err == nil && strings.HasPrefix(line, "position ") {
 			return sum, it.name, nil

@@ -1,5 +1,5 @@
 use row_sets::Bytes;
-use site_lines::{SiteLine, site_line};
+use site_lines::{Scan, SiteLine, site_line};
 use std::alloc::Allocator;
 
 /// A line, and the number of its fault; 0 where it has none.
@@ -18,7 +18,7 @@ static BYTES_AND_WORDS: [Faulty; 10] = [
     (b"begin 1 add -", 2),
 ];
 
-static FIELD_COUNTS: [Faulty; 10] = [
+static FIELD_COUNTS: [Faulty; 12] = [
     (b"call add -", 3),
     (b"call add 0 7", 3),
     (b"call add - 7 1 ", 3),
@@ -28,10 +28,12 @@ static FIELD_COUNTS: [Faulty; 10] = [
     (b"entry 0 ", 3),
     (b"rows 1", 3),
     (b"rows ", 3),
+    (b"scan 1 0 9", 3),
+    (b"scan 1 0 9 10 1", 3),
     (b"position 1", 3),
 ];
 
-static FIELDS: [Faulty; 12] = [
+static FIELDS: [Faulty; 18] = [
     (b"call add 0 0 0", 4),
     (b"call add  0 0", 4),
     (b"call add 0g 0 0", 4),
@@ -44,9 +46,15 @@ static FIELDS: [Faulty; 12] = [
     (b"add one 9 0 b", 4),
     (b"entry ", 4),
     (b"entry 012", 4),
+    (b"scan 256 0 9 1", 4),
+    (b"scan 1 18446744073709551616 9 1", 4),
+    (b"scan 1 0 18446744073709551616 1", 4),
+    (b"scan 1 -1 9 1", 4),
+    (b"scan 1 0 9 0", 4),
+    (b"scan 1 0 9 4294967296", 4),
 ];
 
-static FAULTLESS: [Faulty; 10] = [
+static FAULTLESS: [Faulty; 12] = [
     (b"call add 05FF 7 1", 0),
     (b"call  - 0 0", 0),
     (b"call add - 0 1", 0),
@@ -54,6 +62,8 @@ static FAULTLESS: [Faulty; 10] = [
     (b"add a-b 65535 256 -", 0),
     (b"entry -", 0),
     (b"rows", 0),
+    (b"scan 0 9 0 1", 0),
+    (b"scan 255 0 18446744073709551615 4294967295", 0),
     (b"position", 0),
     (b"# jump", 0),
     (b"", 0),
@@ -106,7 +116,7 @@ fn given<A: Allocator>(line: &SiteLine<Bytes<A>>) -> Option<Given<'_>> {
             [u32::from(*number), u32::from(*args_len)],
         ),
         SiteLine::Entry { bytes } => (b"", bytes.as_slice(), [0, 0]),
-        SiteLine::Rows | SiteLine::Position => return None,
+        SiteLine::Rows | SiteLine::Scan(_) | SiteLine::Position => return None,
     })
 }
 
@@ -128,6 +138,17 @@ fn lines_give_their_fields(rt: HostRuntime) {
         matches!(
             site_line(rt.alloc(), b"position"),
             Ok(Some(SiteLine::Position))
+        )
+    );
+    assert!(rt;
+        matches!(
+            site_line(rt.alloc(), b"scan 64 5 18446744073709551615 7"),
+            Ok(Some(SiteLine::Scan(Scan {
+                table: 64,
+                lo: 5,
+                hi: u64::MAX,
+                most: 7
+            })))
         )
     );
     assert!(rt; matches!(site_line(rt.alloc(), b"# rows"), Ok(None)));

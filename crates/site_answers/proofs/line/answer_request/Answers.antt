@@ -1,7 +1,7 @@
 use Rattle.std.proofs.Common.{refl, sym, subst, ap}
 use Rattle.site_lines.specs.Answers.{position_line}
 use Rattle.site_replica.specs.Replica.{setting_of}
-use Rattle.site_answers.specs.Answers.{IsAnswer, entry_answer, rows_answer}
+use Rattle.site_answers.specs.Answers.{IsAnswer, entry_answer, rows_answer, scan_answer}
 use Rattle.site_answers.proofs.AnswerLemmas.{call_answered, ok_gives}
 use Rattle.site_answers.proofs.line.answer_request.Goals as goal
 
@@ -32,4 +32,11 @@ returns-in-Position-clause-answered g c = λ order stands. (
   position_line c.position.result,
   subst (λ r. IsAnswer (setting_of c.args.site) order r (position_line c.position.result)) (sym c.in-Position.is) (ap position_line (c.position.ensures.count order stands)),
   c.append_position_line.ensures,
+)
+
+pub returns-in-Scan-clause-answered : goal.returns-in-Scan-clause-answered
+returns-in-Scan-clause-answered g c = λ order stands. (
+  scan_answer (setting_of c.args.site) order c.in-Scan.scan,
+  subst (λ r. IsAnswer (setting_of c.args.site) order r (scan_answer (setting_of c.args.site) order c.in-Scan.scan)) (sym c.in-Scan.is) refl,
+  c.answer_scan.ensures order stands,
 )

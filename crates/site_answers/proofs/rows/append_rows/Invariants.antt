@@ -1,6 +1,6 @@
 use Rattle.std.proofs.Common.{◌≡◌, ℕ, List, ◌++◌, drop, map}
 use Rattle.std.specs.List.{concat}
-use Rattle.site_answers.specs.Answers.{row_text}
+use Rattle.site_lines.specs.Answers.{row_text}
 use Rattle.site_answers.proofs.rows.append_rows.Given as goal
 
 -- the lines of the rows that are left follow what was appended of all
