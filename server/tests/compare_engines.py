@@ -17,7 +17,7 @@ sys.dont_write_bytecode = True
 sys.path.insert(0, os.path.dirname(os.path.realpath(__file__)))
 import fixtures
 from fixtures import ADD, CLAIM, ONE, words
-from plain_engine import Site, answer_of
+from plain_engine import LAST, LAST_KEY, Site, answer_of
 
 PUT = "79120000000000007914080000000000" "7b4af8ff00000000bfa3000000000000" "07030000f8ffffffb701000001000000"
 PUT += "85000000020000009500000000000000"
@@ -41,7 +41,7 @@ NO_PROGRAMS = [
 FAULTS = [
     "jump", " position", "position ", "position 1", "call add 00 1", "call add 0 1 1", "call add 00 01 1", "entry",
     "entry 0", "entry zz", "entry 00 00", "add one 9 257 00", "add one 65536 0 00", "rows 1", "rows\t", "#\t",
-    "call add 00 4294967296 1",
+    "call add 00 4294967296 1", "scan 256 0 0 1", "scan 1 0 0 0", "scan 1 0 0", "scan 1 0 18446744073709551616 1", "scan 1 00 1 1",
 ]
 KINDS = ["add"] * 4 + ["claim", "claim", "put", "put", "count", "next", "delete", "nothing", "one", "none"]
 SITES = 3
@@ -114,7 +114,7 @@ class Drawn:
         elif chosen < 0.92:
             self.ask(at, self.addition())
         elif chosen < 0.96:
-            self.ask(at, self.random.choice(["rows", "position", "", "# a comment"]))
+            self.ask(at, self.random.choice(["rows", "position", "", "# a comment", self.scan()]))
         else:
             self.ask(at, self.random.choice(FAULTS))
 
@@ -134,6 +134,10 @@ class Drawn:
             args = "00"
         pair = self.random.choice([(0, 0), (7, 0), *[(self.random.randint(1, 3), self.random.randint(1, 30))] * 10])
         return f"call {name} {args} {pair[0]} {pair[1]}"
+
+    def scan(self):
+        table, most = self.random.choice([0, 1, 1, 1, 1, 2, 255]), self.random.choice([1, 2, 3, 100, LAST])
+        return f"scan {table} {self.random.randrange(4)} {self.random.choice([0, 1, 2, 3, LAST_KEY])} {most}"
 
     def addition(self):
         name, number, args_len, code = self.random.choice(ADDED)

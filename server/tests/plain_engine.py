@@ -14,7 +14,7 @@ sys.path.insert(0, f"{os.path.dirname(os.path.realpath(__file__))}/../../sdk/c/t
 from decoding import decode_fault
 from machine import Machine
 
-LONGEST_LINE, LAST = 1_048_576, 4_294_967_295
+LONGEST_LINE, LAST, LAST_KEY = 1_048_576, 4_294_967_295, 18_446_744_073_709_551_615
 NUMBER, HEX, NAME = (re.compile(it) for it in ("0|[1-9][0-9]*", "-|([0-9A-Fa-f]{2})+", "[0-9A-Za-z_]{1,32}"))
 
 
@@ -23,7 +23,7 @@ class Fault(Exception):
 
 
 def number(word, most):
-    if not NUMBER.fullmatch(word) or len(word) > 10 or int(word) > most:
+    if not NUMBER.fullmatch(word) or len(word) > 20 or int(word) > most:
         raise Fault("L4")
     return int(word)
 
@@ -210,14 +210,26 @@ class Site:
             return self.add(words[1], number(words[2], 65535), number(words[3], 256), hex_bytes(words[4]))
         if words[0] == "entry":
             return self.entry(hex_bytes(words[1]))
-        position = f"position {len(self.writes)}"
         if words[0] == "position":
-            return position
-        rows = [f"{table:2} {key:20} {row.hex()}\n" for (table, key), row in sorted(self.rows[-1].items())]
-        return "".join(rows) + f"{position} rows {len(rows)}"
+            return f"position {len(self.writes)}"
+        if words[0] == "scan":
+            return self.scan(number(words[1], 255), number(words[2], LAST_KEY), number(words[3], LAST_KEY), number(words[4], LAST))
+        return self.printed(sorted(self.rows[-1].items()))
+
+    def scan(self, table, least, greatest, most):
+        if most == 0:
+            raise Fault("L4")
+        if table not in self.widths:
+            return "refused P16"
+        found = [it for it in sorted(self.rows[-1].items()) if it[0][0] == table and least <= it[0][1] <= greatest]
+        return self.printed(found[:most])
+
+    def printed(self, rows):
+        said = [f"{table:2} {key:20} {row.hex()}\n" for (table, key), row in rows]
+        return "".join(said) + f"position {len(self.writes)} rows {len(said)}"
 
 
-LENGTHS = {"call": 5, "add": 5, "entry": 2, "rows": 1, "position": 1}
+LENGTHS = {"call": 5, "add": 5, "entry": 2, "rows": 1, "position": 1, "scan": 5}
 
 
 def answer_of(site, raw):
