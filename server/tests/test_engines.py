@@ -14,7 +14,7 @@ KINDS = {
 
 class Engines(unittest.TestCase):
     def test_drawn_orders(self):
-        count = 10 if fixtures.PLAIN in fixtures.ENGINE else 200
+        count = 14 if fixtures.PLAIN in fixtures.ENGINE else 200
         differences, kinds = compare_all(fixtures.ENGINE, 1, count)
         self.assertEqual(differences, [])
         self.assertEqual(set(kinds), KINDS)
