@@ -40,9 +40,9 @@ pub fn own_calls_are_not_nothing()
     orders_grow();
 }
 
-/// A call that was answered by bytes behind an order is asked of a procedure with a number of its own, and its numbers and
-/// lengths fit their fields. So its bytes aren't nothing wherever that order goes on. The setting is one that sites have.
-/// Order and arguments are of bytes, the order is shorter than 2^32, and session and sequence are below 2^32.
+/// Over the settings that sites have, a call that was answered by bytes behind an order of byte strings is asked of a
+/// procedure with a number of its own, and its numbers and lengths fit their fields. So its bytes aren't nothing wherever
+/// that order goes on.
 pub fn calls_of_sites_fit_their_fields()
     ensures asked { (s : SiteSetting) (order : Order) (asked : Asked) (bytes : List ℕ)
         → IsSiteSetting s.setting → IsOfBytes order → length order < 2 ^ 32 → IsBytes asked.args
@@ -63,8 +63,8 @@ pub fn calls_of_sites_fit_their_fields()
     states_fit();
 }
 
-/// The bytes of a call that was answered behind an order and that fits its fields (`IsAskedOf`) commit where the order goes
-/// on and nothing that came between stands in the call's way. Wherever they commit, the reply is that of the run.
+/// The bytes that a call was answered behind an order, to be ordered, commit where that order goes on and nothing that
+/// came between stands in the call's way. Wherever they commit, the reply is that of the run that was answered.
 pub fn own_calls_commit_where_nothing_stands_in_their_way()
     ensures free { (s : SiteSetting) (order between : Order) (asked : Asked) (bytes : List ℕ)
         (is : IsAskedOf s order asked)

@@ -21,10 +21,10 @@ use site_model::{orders_grow, what_stands_is_of_the_log};
 /// How long refusals hold, and that no copy of what was refused commits.
 ///
 /// Arguments of another length than the procedure takes, and half a request, are refused wherever the order goes on. No
-/// byte string that asks the same commits there, whatever its snapshot, where procedures have distinct numbers: no head
-/// has half a request. That there is no procedure of a name holds wherever the order goes on where the setting takes no
-/// additions. Where it does, an addition may end that; but the same was refused behind each beginning of the order. An
-/// addition whose name or number was taken adds nothing wherever the order goes on.
+/// byte string that asks the same commits there, whatever its snapshot: no head has half a request. That there is no
+/// procedure of a name holds wherever the order goes on where no procedures are added. Where they are, an addition may
+/// end that; but whoever asks it behind a beginning of the order is refused so too, so that no copy was submitted before.
+/// An addition whose name or number was taken adds nothing wherever the order goes on.
 pub fn refusals_hold_for_good()
     ensures kept { (s : SiteSetting) (order more : Order) (asked : Asked) (refusal : CallRefusal)
         → refusal ≢ NoProcedure → call_answer s order asked ≡ Refused refusal
