@@ -117,9 +117,9 @@ class Server:
         return self
 
     def engine(self):
-        """Returns the process that is the engine."""
-        found = subprocess.run(["ps", "-o", "pid=", "--ppid", str(self.process.pid)], capture_output=True, text=True)
-        return int(found.stdout.split()[0])
+        """Returns the process that is the engine, once there is one."""
+        asked = ["ps", "-o", "pid=", "--ppid", str(self.process.pid)]
+        return int(until(lambda: subprocess.run(asked, capture_output=True, text=True).stdout.split())[0])
 
     def ends(self):
         """Waits until it ends by itself, and returns what it said."""
