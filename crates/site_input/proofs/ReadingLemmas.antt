@@ -1,7 +1,9 @@
 -- The first line of some bytes, read by pieces.
-use Rattle.std.proofs.Common.{◌≡◌, ◌≢◌, ℕ, zero, suc, ◌+◌, ◌-◌, ◌<◌, ◌≤◌, min, Bool, List, [], ◌∷◌, ◌++◌, Option, Some, None, length, take, refl, sym, ap, ◌∙◌, arith, cond, ne_eqb, append_assoc}
+use Rattle.std.proofs.Common.{◌≡◌, ◌≢◌, ℕ, zero, suc, ◌+◌, ◌-◌, ◌<◌, ◌≤◌, min, Bool, List, [], ◌∷◌, ◌++◌, Option, Some, None, length, take, drop, get_or, refl, sym, ap, subst, ◌∙◌, arith, cond, ne_eqb, append_assoc}
 use Rattle.std.proofs.Math.Seq.{take-nil}
-use Rattle.std.proofs.lemmas.List.{append-nil}
+use Rattle.std.proofs.lemmas.List.{append-nil, drop-take, length-drop}
+use Rattle.std.specs.Io.{StartsWith}
+use Rattle.script.proofs.LineLemmas.{parted_at}
 use Rattle.std.specs.Io.KnownBytes.{Keeps}
 use Rattle.std.proofs.lemmas.List.Elements.{All-head, All-tail, All-append}
 use Rattle.script.specs.Reading.{HasNoLf}
@@ -60,6 +62,24 @@ nothing_kept line room = sym (take_whole (MAX_SITE_LINE + 1) (line ++ []) (omega
     take_whole zero (x ∷ xs) le = absurd (omega (arith, le))
     take_whole (suc n) (x ∷ xs) le = ap (λ (t : List ℕ). x ∷ t) (take_whole n xs (omega (arith, le)))
 
+-- ---- another line behind it
+
+-- what an input shows stands at the front of it, from each place on
+shown_behind : (bytes shown : List ℕ) (n : ℕ) → StartsWith bytes shown → n ≤ length shown → StartsWith (drop n bytes) (drop n shown)
+shown_behind bytes shown n front within =
+    let total : n + (length shown - n) ≡ length shown = omega (arith, within) in
+    ap (λ k. take k (drop n bytes)) (length-drop n shown) ∙ sym (drop-take n (length shown - n) bytes) ∙ ap (λ k. drop n (take k bytes)) total ∙ ap (drop n) front
+
+pub followed : (bytes shown behind : List ℕ) (n at : ℕ) → StartsWith bytes shown → n ≤ length shown → behind ≡ drop n shown → at < length behind → get_or behind at 0 ≡ 10
+    → HasNoLf (take at behind) → whole_lines (drop n bytes) ≢ []
+followed bytes shown behind n at front within same inside lf clean none =
+    let there = subst (StartsWith (drop n bytes)) (sym same) (shown_behind bytes shown n front within) in
+    let one = ap whole_lines (parted_at (drop n bytes) behind at 10 there inside lf) ∙ ended (take at behind) (drop (at + 1) (drop n bytes)) clean in
+    let no : take at behind ∷ whole_lines (drop (at + 1) (drop n bytes)) ≡ [] = sym one ∙ none in
+    absurd cc
+
+-- ---- looks at the input
+
 pub still_known : (a b : Option (List ℕ)) (bytes : List ℕ) → a ≡ Some bytes → Keeps a b → b ≡ Some bytes
 still_known None b bytes is kept = absurd cc
 still_known (Some x) None bytes is kept = absurd kept
@@ -111,8 +131,9 @@ goes_on bytes line after left new so_far (p, more, e, is, clean, kept) = record 
   kept = grown line after so_far.front p so_far.kept kept;
 }
 
-pub ends : (bytes line after : List ℕ) (left new : Option (List ℕ)) (so_far : Partly bytes left line) → IsPiece so_far.rest new line after piece.Ended → length after ≤ MAX_SITE_LINE → IsNextLine bytes new after next.Line
-ends bytes line after left new so_far (p, more, e, is, clean, kept) short =
+pub ends : (bytes line after : List ℕ) (left new : Option (List ℕ)) (so_far : Partly bytes left line) (is_followed : Bool) → IsPiece so_far.rest new line after (piece.Ended is_followed) → length after ≤ MAX_SITE_LINE
+    → IsNextLine bytes new after (next.Line is_followed)
+ends bytes line after left new so_far is_followed (p, more, e, is, clean, kept, behind) short =
     let whole = so_far.front ++ p in
     let now = grown line after so_far.front p so_far.kept kept in
     let less : length (kept_of whole) < MAX_SITE_LINE + 1 = omega (arith, ap length now, short) in
@@ -121,10 +142,12 @@ ends bytes line after left new so_far (p, more, e, is, clean, kept) short =
       is,
       ap whole_lines (moved bytes so_far.front so_far.rest p (10 ∷ more) so_far.split e) ∙ ended whole more (joined so_far.front p so_far.clean clean) ∙ ap (λ (t : List ℕ). t ∷ whole_lines more) (sym same),
       short,
+      behind,
     )
 
-pub ends_long : (bytes line after : List ℕ) (left new : Option (List ℕ)) (so_far : Partly bytes left line) → IsPiece so_far.rest new line after piece.Ended → MAX_SITE_LINE < length after → IsNextLine bytes new after next.TooLong
-ends_long bytes line after left new so_far (p, more, e, is, clean, kept) long =
+pub ends_long : (bytes line after : List ℕ) (left new : Option (List ℕ)) (so_far : Partly bytes left line) (is_followed : Bool) → IsPiece so_far.rest new line after (piece.Ended is_followed) → MAX_SITE_LINE < length after
+    → IsNextLine bytes new after next.TooLong
+ends_long bytes line after left new so_far is_followed (p, more, e, is, clean, kept, behind) long =
     let whole = so_far.front ++ p in
     let now = grown line after so_far.front p so_far.kept kept in
     let more_than : MAX_SITE_LINE + 1 ≤ length (kept_of whole) = omega (arith, ap length now, long) in

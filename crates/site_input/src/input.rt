@@ -17,8 +17,8 @@ pub const MAX_SITE_LINE: usize = 1_048_576;
 pub(crate) enum Piece {
     /// Some of its bytes.
     More,
-    /// The rest of it, up to an LF.
-    Ended,
+    /// The rest of it, up to an LF. Where `is_followed` is true, the look showed another LF behind.
+    Ended { is_followed: bool },
     /// Nothing: the input is at its end.
     AtEnd,
 }
@@ -26,8 +26,9 @@ pub(crate) enum Piece {
 /// What stands next on an input.
 #[derive(Clone, Copy)]
 pub enum NextLine {
-    /// A line.
-    Line,
+    /// A line. Where `is_followed` is true the input showed the next line too, whole, so that reading the next line
+    /// doesn't wait.
+    Line { is_followed: bool },
     /// A line that is too long. It was passed over.
     TooLong,
     /// No line: what is left, if anything, has no LF at its end.
@@ -59,8 +60,9 @@ fn take_piece<R: BufRead, A: Allocator>(input: &mut R, line: &mut Vec<u8, A>) ->
     let kept = count.min(MAX_SITE_LINE + 1 - line.len());
     line.extend_from_slice(&shown[..kept])?;
     if is_ended {
+        let (_, is_followed) = before_lf(&shown[count + 1..]);
         input.consume(count + 1);
-        Ok(Piece::Ended)
+        Ok(Piece::Ended { is_followed })
     } else {
         input.consume(count);
         Ok(Piece::More)
@@ -80,8 +82,8 @@ pub fn next_line<R: BufRead, A: Allocator>(
     for _ in 0..u64::MAX {
         match take_piece(input, line)? {
             Piece::More => {}
-            Piece::Ended if line.len() > MAX_SITE_LINE => return Ok(NextLine::TooLong),
-            Piece::Ended => return Ok(NextLine::Line),
+            Piece::Ended { .. } if line.len() > MAX_SITE_LINE => return Ok(NextLine::TooLong),
+            Piece::Ended { is_followed } => return Ok(NextLine::Line { is_followed }),
             Piece::AtEnd => return Ok(NextLine::AtEnd),
         }
     }

@@ -15,6 +15,9 @@ pub nothing_answered : (s : SiteSetting) (order : Order) → AreAnswers s order 
 unfolding AreAnswers
 nothing_answered s order = refl
 
+pub nothing_answered_of : (s : SiteSetting) (order : Order) (lines : List (List ℕ)) → lines ≡ [] → AreAnswers s order lines []
+nothing_answered_of s order lines none = subst (λ ls. AreAnswers s order ls []) (sym none) (nothing_answered s order)
+
 pub first_answered : (s : SiteSetting) (order : Order) (line : List ℕ) (lines : List (List ℕ)) (here rest : List ℕ)
     → IsLineAnswer s order (says_within_limits line) here
     → AreAnswers s (order_behind order (says_within_limits line)) lines rest → AreAnswers s order (line ∷ lines) (here ++ rest)
@@ -34,17 +37,8 @@ answered_behind s order (line ∷ lines) others text more (here, rest, answer, s
   answered_behind s (order_behind order (says_within_limits line)) lines others rest more then behind,
 )
 
-pub one_more : (s : SiteSetting) (order : Order) (lines : List (List ℕ)) (line : List ℕ) (text here : List ℕ)
-    → AreAnswers s order lines text → IsLineAnswer s (order_after order lines) (says_within_limits line) here
-    → AreAnswers s order (lines ++ line ∷ []) (text ++ here)
-one_more s order lines line text here so_far answer =
-    answered_behind s order lines (line ∷ []) text here so_far
-    (subst (AreAnswers s (order_after order lines) (line ∷ [])) (append-nil here)
-    (first_answered s (order_after order lines) line [] here [] answer (nothing_answered s _)))
-
-pub order_after_one_more : (order : Order) (lines : List (List ℕ)) (line : List ℕ)
-    → order_after order (lines ++ line ∷ []) ≡ order_behind (order_after order lines) (says_within_limits line)
-order_after_one_more order lines line = fold-append (λ so_far l. order_behind so_far (says_within_limits l)) order lines (line ∷ [])
+pub order_after_more : (order : Order) (lines more : List (List ℕ)) → order_after order (lines ++ more) ≡ order_after (order_after order lines) more
+order_after_more order lines more = fold-append (λ so_far l. order_behind so_far (says_within_limits l)) order lines more
 
 -- ---- whatever is asked there is an answer
 

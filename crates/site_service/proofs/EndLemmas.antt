@@ -25,21 +25,21 @@ none_of s bytes now = record {
   counted = refl;
   text = [];
   answers = nothing_answered s [];
-  written = Appends-nothing now;
+  put_out = Appends-nothing now;
 }
 
-pub wants_first : (s : SiteSetting) (bytes : List ℕ) (now : Option (List ℕ)) (number : ℕ) (stop : Stop) → stop ≡ Fault (record { line = number; cause = NoMemory }) → LeavesUpTo s bytes now now stop
-wants_first s bytes now number stop is = subst (LeavesUpTo s bytes now now) (sym is) (refl, (0, inl refl, none_of s bytes now))
+pub wants_first : (IsUntouched : Type 0) (s : SiteSetting) (bytes : List ℕ) (now : Option (List ℕ)) (number : ℕ) (stop : Stop) → IsUntouched → stop ≡ Fault (record { line = number; cause = NoMemory }) → LeavesUpTo IsUntouched s bytes now now stop
+wants_first IsUntouched s bytes now number stop untouched is = subst (LeavesUpTo IsUntouched s bytes now now) (sym is) (refl, inl (untouched, none_of s bytes now))
 
 -- ---- by the settings
 
 -- they couldn't be read, though they hold
-pub unread : {T : Type 0} (s : SiteSetting) (bytes : List ℕ) (now : Option (List ℕ)) (said : Result SiteSetting ScriptFault) (stop : Stop) (result : Result T Stop)
-    → said ≡ Ok s → IsStopOf said stop → result ≡ Err stop → LeavesEnd s bytes now now result
-unread {T = T} s bytes now said (Fault fault) result holds (inl memory) is = rw is (memory, (0, inl refl, none_of s bytes now))
-unread {T = T} s bytes now said (Fault fault) result holds (inr faulty) is = absurd cc
-unread {T = T} s bytes now said (Input error) result holds why is = rw is (0, none_of s bytes now)
-unread {T = T} s bytes now said (Output error) result holds why is = absurd why
+pub unread : {T : Type 0} (IsUntouched : Type 0) (s : SiteSetting) (bytes : List ℕ) (now : Option (List ℕ)) (said : Result SiteSetting ScriptFault) (stop : Stop) (result : Result T Stop)
+    → IsUntouched → said ≡ Ok s → IsStopOf said stop → result ≡ Err stop → LeavesEnd IsUntouched s bytes now now result
+unread {T = T} U s bytes now said (Fault fault) result untouched holds (inl memory) is = rw is (memory, inl (untouched, none_of s bytes now))
+unread {T = T} U s bytes now said (Fault fault) result untouched holds (inr faulty) is = absurd cc
+unread {T = T} U s bytes now said (Input error) result untouched holds why is = rw is (0, none_of s bytes now)
+unread {T = T} U s bytes now said (Output error) result untouched holds why is = absurd why
 
 -- they are at fault
 pub refused : {T : Type 0} (said : Result SiteSetting ScriptFault) (fault : ScriptFault) (stop : Stop) (result : Result T Stop)
@@ -51,12 +51,12 @@ refused {T = T} said fault (Output error) result faulty why is = absurd why
 
 -- ---- the lines
 
-pub by_lines : {T : Type 0} (s t : SiteSetting) (bytes : List ℕ) (old new : Option (List ℕ)) (result : Result T Stop) → s ≡ t → LeavesAnswers s bytes old new result → LeavesEnd t bytes old new result
-by_lines s t bytes old new (Ok x) same h = subst (λ u. LeavesEnd {T = ℕ} u bytes old new (Ok 0)) same h
-by_lines s t bytes old new (Err (Fault fault)) same (memory, before, count, first) =
-    subst (λ u. LeavesEnd {T = ℕ} u bytes old new (Err (Fault fault))) same (memory, (before, inr count, first))
-by_lines s t bytes old new (Err (Input error)) same h = subst (λ u. LeavesEnd {T = ℕ} u bytes old new (Err (Input error))) same h
-by_lines s t bytes old new (Err (Output error)) same h = subst (λ u. LeavesEnd {T = ℕ} u bytes old new (Err (Output error))) same h
+pub by_lines : {T : Type 0} (IsUntouched : Type 0) (s t : SiteSetting) (bytes : List ℕ) (old new : Option (List ℕ)) (result : Result T Stop) → s ≡ t → LeavesAnswers s bytes old new result → LeavesEnd IsUntouched t bytes old new result
+by_lines U s t bytes old new (Ok x) same h = subst (λ u. LeavesEnd {T = ℕ} U u bytes old new (Ok 0)) same h
+by_lines U s t bytes old new (Err (Fault fault)) same (memory, before, counted, first) =
+    subst (λ u. LeavesEnd {T = ℕ} U u bytes old new (Err (Fault fault))) same (memory, inr (before, counted, first))
+by_lines U s t bytes old new (Err (Input error)) same h = subst (λ u. LeavesEnd {T = ℕ} U u bytes old new (Err (Input error))) same h
+by_lines U s t bytes old new (Err (Output error)) same h = subst (λ u. LeavesEnd {T = ℕ} U u bytes old new (Err (Output error))) same h
 
 -- ---- what is told
 
@@ -92,8 +92,8 @@ tells_fault old_faults new_faults fault (Fault f) status (inr same) (e, said) = 
 tells_fault old_faults new_faults fault (Input error) status h (e, said) = inr e
 tells_fault old_faults new_faults fault (Output error) status h (e, said) = absurd h
 
-pub leaves_whole : (s : SiteSetting) (bytes : List ℕ) (old new : Option (List ℕ)) → LeavesEnd {T = ℕ} s bytes old new (Ok 0) → Leaves s bytes old new 0
-leaves_whole s bytes old new (text, answers, written) = (text, answers, inl (refl, written))
+pub leaves_whole : (IsUntouched : Type 0) (s : SiteSetting) (bytes : List ℕ) (old new : Option (List ℕ)) → LeavesEnd {T = ℕ} IsUntouched s bytes old new (Ok 0) → Leaves s bytes old new 0
+leaves_whole U s bytes old new (text, answers, written) = (text, answers, inl (refl, written))
 
 -- the answers to the first of the lines are a beginning of those to all
 first_begin : (s : SiteSetting) (bytes : List ℕ) (old new : Option (List ℕ)) (status count : ℕ) → status ≡ FAILED → AnswersFirst s bytes old new count → Leaves s bytes old new status
@@ -102,18 +102,19 @@ first_begin s bytes old new status count failed first =
       first.text ++ rest.0,
       subst (λ ls. AreAnswers s [] ls (first.text ++ rest.0)) (sym first.split)
           (answered_behind s [] first.lines first.others first.text rest.0 first.answers rest.1),
-      inr (failed, (first.text, rest.0, refl, first.written)),
+      inr (failed, (first.text, rest.0, refl, first.put_out)),
     )
 
-pub leaves_some : (s : SiteSetting) (bytes : List ℕ) (old new old_faults new_faults : Option (List ℕ)) (stop : Stop) (status : ℕ) → LeavesUpTo s bytes old new stop → SaysEnd old_faults new_faults stop status
+pub leaves_some : (IsUntouched : Type 0) (s : SiteSetting) (bytes : List ℕ) (old new old_faults new_faults : Option (List ℕ)) (stop : Stop) (status : ℕ) → LeavesUpTo IsUntouched s bytes old new stop → SaysEnd old_faults new_faults stop status
     → Leaves s bytes old new status
-leaves_some s bytes old new old_faults new_faults (Fault fault) status (memory, (count, which, first)) (e, said) = first_begin s bytes old new status count (e ∙ ap status_of_cause memory) first
-leaves_some s bytes old new old_faults new_faults (Input error) status (count, first) (e, said) = first_begin s bytes old new status count e first
-leaves_some s bytes old new old_faults new_faults (Output error) status (text, answers, wrote) (e, said) = (text, answers, inr (e, wrote))
+leaves_some U s bytes old new old_faults new_faults (Fault fault) status (memory, inl (untouched, first)) (e, said) = first_begin s bytes old new status 0 (e ∙ ap status_of_cause memory) first
+leaves_some U s bytes old new old_faults new_faults (Fault fault) status (memory, inr (before, counted, first)) (e, said) = first_begin s bytes old new status before (e ∙ ap status_of_cause memory) first
+leaves_some U s bytes old new old_faults new_faults (Input error) status (count, first) (e, said) = first_begin s bytes old new status count e first
+leaves_some U s bytes old new old_faults new_faults (Output error) status (text, answers, wrote) (e, said) = (text, answers, inr (e, wrote))
 
-pub tells_failure : (s : SiteSetting) (bytes : List ℕ) (old new old_faults new_faults : Option (List ℕ)) (stop : Stop) (status : ℕ) → LeavesUpTo s bytes old new stop → SaysEnd old_faults new_faults stop status
-    → TellsFailure s bytes old new old_faults new_faults
-tells_failure s bytes old new old_faults new_faults (Fault fault) status (memory, wants) (e, said) =
+pub tells_failure : (IsUntouched : Type 0) (s : SiteSetting) (bytes : List ℕ) (old new old_faults new_faults : Option (List ℕ)) (stop : Stop) (status : ℕ) → LeavesUpTo IsUntouched s bytes old new stop → SaysEnd old_faults new_faults stop status
+    → TellsFailure IsUntouched s bytes old new old_faults new_faults
+tells_failure U s bytes old new old_faults new_faults (Fault fault) status (memory, wants) (e, said) =
     inr (fault.line, wants, subst (λ (cause : FaultCause). AppendsBeginning old_faults new_faults (fault_line (record { line = fault.line; cause = cause }))) memory said)
-tells_failure s bytes old new old_faults new_faults (Input error) status h (e, said) = inl said
-tells_failure s bytes old new old_faults new_faults (Output error) status h (e, said) = inl said
+tells_failure U s bytes old new old_faults new_faults (Input error) status h (e, said) = inl said
+tells_failure U s bytes old new old_faults new_faults (Output error) status h (e, said) = inl said

@@ -1,197 +1,249 @@
--- A site that has answered the first of the lines of its input.
+-- A site that has answered some of the lines of its input.
 use Rattle.std.proofs.Common.{◌≡◌, ℕ, ◌+◌, ◌≤◌, ◌<◌, nat_le, Bool, true, false, cond, List, [], ◌∷◌, ◌++◌, length, Option, Some, None, Result, Ok, Err, refl, sym, ap, subst, ◌∙◌, append_assoc, arith, length-append}
 use Rattle.std.proofs.lemmas.List.{append-nil}
+use Rattle.std.proofs.lemmas.Bool.Decides.{nat_tests}
 use Rattle.std.specs.Io.KnownBytes.{Appends}
 use Rattle.byte_output.specs.Writes.{AppendsBeginning}
-use Rattle.byte_output.proofs.WritesLemmas.{Appends-then, AppendsBeginning-then}
-use Rattle.output_sink.proofs.TakenLemmas.{Appends-nothing}
-use Rattle.script.specs.declared.fault.LineFault.{LineFault}
+use Rattle.byte_output.proofs.WritesLemmas.{Appends-then, AppendsBeginning-then, AppendsBeginning-more}
+use Rattle.output_sink.specs.declared.sink.OutputSink.{OutputSink}
+use Rattle.output_sink.specs.Taken.{HasTakenMore, nothing_more, taken_together}
+use Rattle.script.specs.declared.fault.LineFault.TheVariants.{Bytes}
 use Rattle.script_settings.specs.declared.cause.FaultCause.TheVariants.{NoMemory}
 use Rattle.script_stops.specs.declared.stop.Stop.{Stop}
 use Rattle.script_stops.specs.declared.stop.Stop.TheVariants.{Fault, Input, Output}
 use Rattle.site_input.specs.declared.input.NextLine.TheVariants as next
+use Rattle.site_input.specs.declared.input.TheConstants.{MAX_SITE_LINE}
 use Rattle.site_input.specs.Lines.{IsNextLine, whole_lines}
+use Rattle.site_answers.specs.Answers.{IsLineAnswer, order_behind}
 use Rattle.site_lines.specs.Answers.{fault_line}
+use Rattle.site_lines.specs.Lines.{line_says}
 use Rattle.site_model.specs.Standing.{SiteSetting}
 use Rattle.site_model.specs.Order.{Order}
 use Rattle.site_replica.specs.Replica.{SiteReplica, StandsForOrder}
-use Rattle.script.specs.declared.fault.LineFault.TheVariants.{Bytes}
-use Rattle.site_input.specs.declared.input.TheConstants.{MAX_SITE_LINE}
-use Rattle.site_lines.specs.Lines.{SiteRequest, line_says}
-use Rattle.std.proofs.lemmas.Bool.Decides.{nat_tests}
-use Rattle.site_answers.specs.Answers.{IsLineAnswer, order_behind}
-use Rattle.site_service.specs.Answering.{AnswersFirst, AreAllAnswers, AreAnswers, GivesAnswer, GivesNext, LeavesAnswers, LeavesAnswersUpTo, IsOutputStop, order_after, says_within_limits}
-use Rattle.site_service.proofs.AnswersLemmas.{nothing_answered, answered_behind, first_answered, one_more, order_after_one_more, can_answer_lines}
+use Rattle.site_service.specs.declared.lines.Progress.{Progress}
+use Rattle.site_service.specs.Answering.{AnswersSome, AreAnswers, ComesTo, GivesLines, IsNoText, LeavesAnswers, LeavesLines, order_after, says_within_limits}
+use Rattle.site_service.proofs.AnswersLemmas.{nothing_answered, answered_behind, first_answered, order_after_more, can_answer_lines}
 
--- these lines were read and answered, and the site has come so far
-pub record SoFar (s : SiteSetting) (bytes : List ℕ) (left old new : Option (List ℕ)) (site : SiteReplica) (number : ℕ) : Type 0 where
-  pub before : List (List ℕ)
-  pub rest : List ℕ
-  pub known : left ≡ Some rest
-  pub split : whole_lines bytes ≡ before ++ whole_lines rest
-  pub count : length before + 1 ≡ number
-  pub text : List ℕ
-  pub answers : AreAnswers s [] before text
-  pub written : Appends old new text
-  pub stands : StandsForOrder site (order_after [] before)
-
-pub at_start : (s : SiteSetting) (bytes : List ℕ) (left now : Option (List ℕ)) (site : SiteReplica) → left ≡ Some bytes → StandsForOrder site [] → SoFar s bytes left now now site 1
-at_start s bytes left now site known stands = record {
-  before = [];
+pub at_start : (s : SiteSetting) (order : Order) (bytes : List ℕ) (left : Option (List ℕ)) (IsPutOut : List ℕ → Type 0) (site : SiteReplica) (number : ℕ)
+    → left ≡ Some bytes → IsPutOut [] → StandsForOrder site order → ComesTo s order bytes left number IsPutOut site number
+at_start s order bytes left IsPutOut site number known nothing stands = record {
+  lines = [];
   rest = bytes;
   known = known;
   split = refl;
-  count = refl;
+  counted = omega arith;
   text = [];
-  answers = nothing_answered s [];
-  written = Appends-nothing now;
+  answers = nothing_answered s order;
+  put_out = nothing;
   stands = stands;
 }
 
-module _ (s : SiteSetting) (bytes : List ℕ) (left old mid new : Option (List ℕ)) (site : SiteReplica) (number : ℕ) (so_far : SoFar s bytes left old mid site number) where
-  abbrev order : Order
-  order = order_after [] so_far.before
+-- some lines are answered, in one way, and then some more, in another
+module _ (s : SiteSetting) (order : Order) (bytes : List ℕ) (left : Option (List ℕ)) (first : ℕ) (IsPutOut IsPutOutBehind IsPutOutInAll IsBegun IsBegunInAll : List ℕ → Type 0)
+    (site : SiteReplica) (number : ℕ) (so_far : ComesTo s order bytes left first IsPutOut site number)
+    (together : (t u : List ℕ) → IsPutOut t → IsPutOutBehind u → IsPutOutInAll (t ++ u)) (begun : (t u : List ℕ) → IsPutOut t → IsBegun u → IsBegunInAll (t ++ u)) where
+  abbrev behind : Order
+  behind = order_after order so_far.lines
 
-  -- the lines with one more of those that are left
-  moved : (line : List ℕ) (more : List (List ℕ)) → whole_lines so_far.rest ≡ line ∷ more → whole_lines bytes ≡ so_far.before ++ line ∷ more
-  moved line more first = so_far.split ∙ ap (λ (t : List (List ℕ)). so_far.before ++ t) first
+  in_all : (lines others : List (List ℕ)) → whole_lines so_far.rest ≡ lines ++ others → whole_lines bytes ≡ (so_far.lines ++ lines) ++ others
+  in_all lines others split = so_far.split ∙ ap (λ (t : List (List ℕ)). so_far.lines ++ t) split ∙ sym (append_assoc so_far.lines lines others)
 
-  -- one more was answered
-  pub goes_on : (line rest : List ℕ) (now : Option (List ℕ)) (next : SiteReplica) → now ≡ Some rest → whole_lines so_far.rest ≡ line ∷ whole_lines rest
-      → (text : List ℕ) → IsLineAnswer s order (says_within_limits line) text → Appends mid new text
-      → StandsForOrder next (order_behind order (says_within_limits line)) → SoFar s bytes now old new next (number + 1)
-  goes_on line rest now next known first text answer wrote stands = record {
-    before = so_far.before ++ line ∷ [];
-    rest = rest;
-    known = known;
-    split = moved line (whole_lines rest) first ∙ sym (append_assoc so_far.before (line ∷ []) (whole_lines rest));
-    count = omega (arith, length-append so_far.before (line ∷ []), so_far.count);
-    text = so_far.text ++ text;
-    answers = one_more s [] so_far.before line so_far.text text so_far.answers answer;
-    written = Appends-then old mid new so_far.text text so_far.written wrote;
-    stands = subst (StandsForOrder next) (sym (order_after_one_more [] so_far.before line)) stands;
+  some_more : (count : ℕ) → AnswersSome s behind so_far.rest count IsPutOutBehind → AnswersSome s order bytes (length so_far.lines + count) IsPutOutInAll
+  some_more count more = record {
+    lines = so_far.lines ++ more.lines;
+    others = more.others;
+    split = in_all more.lines more.others more.split;
+    counted = length-append so_far.lines more.lines ∙ ap (λ n. length so_far.lines + n) more.counted;
+    text = so_far.text ++ more.text;
+    answers = answered_behind s order so_far.lines more.lines so_far.text more.text so_far.answers more.answers;
+    put_out = together so_far.text more.text so_far.put_out more.put_out;
   }
 
-  -- all were
-  pub ends : whole_lines so_far.rest ≡ [] → (text : List ℕ) × AreAllAnswers s bytes text × Appends old mid text
-  ends none = (so_far.text, subst (λ ls. AreAnswers s [] ls so_far.text) (sym (so_far.split ∙ ap (λ (t : List (List ℕ)). so_far.before ++ t) none ∙ append-nil so_far.before)) so_far.answers, so_far.written)
+  all_more : (text : List ℕ) → AreAnswers s behind (whole_lines so_far.rest) text → AreAnswers s order (whole_lines bytes) (so_far.text ++ text)
+  all_more text answers = subst (λ ls. AreAnswers s order ls (so_far.text ++ text)) (sym so_far.split)
+      (answered_behind s order so_far.lines (whole_lines so_far.rest) so_far.text text so_far.answers answers)
 
-  -- no more was written
-  pub first_ones : (now : Option (List ℕ)) → Appends mid now [] → (count : ℕ) → length so_far.before ≡ count → AnswersFirst s bytes old now count
-  first_ones now same count is = record {
-    lines = so_far.before;
-    others = whole_lines so_far.rest;
-    split = so_far.split;
-    counted = is;
-    text = so_far.text;
-    answers = so_far.answers;
-    written = subst (Appends old now) (append-nil so_far.text) (Appends-then old mid now so_far.text [] so_far.written same);
+  pub onward : (now : Option (List ℕ)) (next : SiteReplica) (count : ℕ) → ComesTo s behind so_far.rest now number IsPutOutBehind next count
+      → ComesTo s order bytes now first IsPutOutInAll next count
+  onward now next count more = record {
+    lines = so_far.lines ++ more.lines;
+    rest = more.rest;
+    known = more.known;
+    split = in_all more.lines (whole_lines more.rest) more.split;
+    counted = omega (arith, length-append so_far.lines more.lines, so_far.counted, more.counted);
+    text = so_far.text ++ more.text;
+    answers = answered_behind s order so_far.lines more.lines so_far.text more.text so_far.answers more.answers;
+    put_out = together so_far.text more.text so_far.put_out more.put_out;
+    stands = subst (StandsForOrder next) (sym (order_after_more order so_far.lines more.lines)) more.stands;
   }
 
-  pub nothing_more : AnswersFirst s bytes old mid (length so_far.before)
-  nothing_more = first_ones mid (Appends-nothing mid) (length so_far.before) refl
+  pub goes_by : {A : Type 0} (now : Option (List ℕ)) (result : Result (Option (Progress A)) Stop) → GivesLines s behind so_far.rest now number IsPutOutBehind IsBegun result
+      → GivesLines s order bytes now first IsPutOutInAll IsBegunInAll result
+  goes_by now (Ok (Some progress)) more = onward now progress.site progress.number more
+  goes_by now (Ok None) (text, answers, put_out) = (so_far.text ++ text, all_more text answers, together so_far.text text so_far.put_out put_out)
+  goes_by now (Err (Fault fault)) (memory, before, counted, more) =
+      (memory, length so_far.lines + before, omega (arith, counted, so_far.counted), some_more before more)
+  goes_by now (Err (Input error)) (count, more) = (length so_far.lines + count, some_more count more)
+  goes_by now (Err (Output error)) (text, answers, some) = (so_far.text ++ text, all_more text answers, begun so_far.text text so_far.put_out some)
 
-  -- the output failed at the next line
-  pub breaks : (line : List ℕ) (more : List (List ℕ)) → whole_lines so_far.rest ≡ line ∷ more
-      → (text : List ℕ) → IsLineAnswer s order (says_within_limits line) text → AppendsBeginning mid new text
-      → (all : List ℕ) × AreAllAnswers s bytes all × AppendsBeginning old new all
-  breaks line more first text answer wrote =
-      let rest = can_answer_lines s (order_behind order (says_within_limits line)) more in (
-        so_far.text ++ (text ++ rest.0),
-        subst (λ ls. AreAnswers s [] ls (so_far.text ++ (text ++ rest.0))) (sym (moved line more first))
-            (answered_behind s [] so_far.before (line ∷ more) so_far.text (text ++ rest.0) so_far.answers
-            (first_answered s order line more text rest.0 answer rest.1)),
-        AppendsBeginning-then old mid new so_far.text text rest.0 so_far.written wrote,
+-- it has come so far, and no further
+pub so_far_answered : (s : SiteSetting) (order : Order) (bytes : List ℕ) (left : Option (List ℕ)) (first : ℕ) (IsPutOut : List ℕ → Type 0) (site : SiteReplica) (number : ℕ)
+    → (so_far : ComesTo s order bytes left first IsPutOut site number) → AnswersSome s order bytes (length so_far.lines) IsPutOut
+so_far_answered s order bytes left first IsPutOut site number so_far = record {
+  lines = so_far.lines;
+  others = whole_lines so_far.rest;
+  split = so_far.split;
+  counted = refl;
+  text = so_far.text;
+  answers = so_far.answers;
+  put_out = so_far.put_out;
+}
+
+-- what was put out in one way was put out in another
+module _ (s : SiteSetting) (order : Order) (bytes : List ℕ) (left : Option (List ℕ)) (first : ℕ) (IsPutOut IsPutOutSo IsBegun : List ℕ → Type 0) (so : (t : List ℕ) → IsPutOut t → IsPutOutSo t) where
+  some_so : (count : ℕ) → AnswersSome s order bytes count IsPutOut → AnswersSome s order bytes count IsPutOutSo
+  some_so count some = record {
+    lines = some.lines;
+    others = some.others;
+    split = some.split;
+    counted = some.counted;
+    text = some.text;
+    answers = some.answers;
+    put_out = so some.text some.put_out;
+  }
+
+  pub gives_so : {A : Type 0} (result : Result (Option (Progress A)) Stop) → GivesLines s order bytes left first IsPutOut IsNoText result → GivesLines s order bytes left first IsPutOutSo IsBegun result
+  gives_so (Ok (Some progress)) comes = record {
+    lines = comes.lines;
+    rest = comes.rest;
+    known = comes.known;
+    split = comes.split;
+    counted = comes.counted;
+    text = comes.text;
+    answers = comes.answers;
+    put_out = so comes.text comes.put_out;
+    stands = comes.stands;
+  }
+  gives_so (Ok None) (text, answers, put_out) = (text, answers, so text put_out)
+  gives_so (Err (Fault fault)) (memory, before, counted, some) = (memory, before, counted, some_so before some)
+  gives_so (Err (Input error)) (count, some) = (count, some_so count some)
+  gives_so (Err (Output error)) (text, answers, none) = absurd none
+
+-- a beginning of it was, which is one of the answers to all lines
+module _ (s : SiteSetting) (order : Order) (bytes : List ℕ) (left : Option (List ℕ)) (first : ℕ) (IsPutOut IsBegun : List ℕ → Type 0) (begins : (t u : List ℕ) → IsPutOut t → IsBegun (t ++ u)) where
+  begun_of : (lines others : List (List ℕ)) (text : List ℕ) → whole_lines bytes ≡ lines ++ others → AreAnswers s order lines text → IsPutOut text
+      → (all : List ℕ) × AreAnswers s order (whole_lines bytes) all × IsBegun all
+  begun_of lines others text split answers put_out =
+      let rest = can_answer_lines s (order_after order lines) others in (
+        text ++ rest.0,
+        subst (λ ls. AreAnswers s order ls (text ++ rest.0)) (sym split) (answered_behind s order lines others text rest.0 answers rest.1),
+        begins text rest.0 put_out,
       )
 
-  -- by what the next line gave
-  pub goes_by : (t : SiteSetting) (now : Option (List ℕ)) (next : SiteReplica) (count : ℕ) → t ≡ s → count ≡ number + 1 → GivesNext t order so_far.rest now number mid new (Ok (Some next)) → SoFar s bytes now old new next count
-  goes_by t now next count same counted given =
-      let (line, rest, known, first, text, answer, wrote, stands) = subst (λ (u : SiteSetting). GivesNext u order so_far.rest now number mid new (Ok (Some next))) same given in
-      subst (SoFar s bytes now old new next) (sym counted) (goes_on line rest now next known first text answer wrote stands)
+  pub begun_by : {A : Type 0} (result : Result (Option (Progress A)) Stop) → GivesLines s order bytes left first IsPutOut IsNoText result
+      → (all : List ℕ) × AreAnswers s order (whole_lines bytes) all × IsBegun all
+  begun_by (Ok (Some progress)) comes = begun_of comes.lines (whole_lines comes.rest) comes.text comes.split comes.answers comes.put_out
+  begun_by (Ok None) (text, answers, put_out) = begun_of (whole_lines bytes) [] text (sym (append-nil (whole_lines bytes))) answers put_out
+  begun_by (Err (Fault fault)) (memory, before, counted, some) = begun_of some.lines some.others some.text some.split some.answers some.put_out
+  begun_by (Err (Input error)) (count, some) = begun_of some.lines some.others some.text some.split some.answers some.put_out
+  begun_by (Err (Output error)) (text, answers, none) = absurd none
 
-  pub ends_by : (t : SiteSetting) (now : Option (List ℕ)) → t ≡ s → GivesNext t order so_far.rest now number mid new (Ok None) → (text : List ℕ) × AreAllAnswers s bytes text × Appends old new text
-  ends_by t now same (none, nothing) =
-      let all = ends none in
-      (all.0, all.1, subst (Appends old new) (append-nil all.0) (Appends-then old mid new all.0 [] all.2 nothing))
+-- ---- what outputs and sinks take
 
-  stops_by : (now : Option (List ℕ)) (stop : Stop) → GivesNext s order so_far.rest now number mid new (Err stop) → LeavesAnswersUpTo s bytes old new stop
-  stops_by now (Fault fault) (same, memory, none) = (memory, length so_far.before, so_far.count ∙ sym same, first_ones new none (length so_far.before) refl)
-  stops_by now (Input error) none = (length so_far.before, first_ones new none (length so_far.before) refl)
-  stops_by now (Output error) (line, more, first, text, answer, wrote) = breaks line more first text answer wrote
+begins_behind : (old mid new : Option (List ℕ)) (text more : List ℕ) → Appends old mid text → AppendsBeginning mid new more → AppendsBeginning old new (text ++ more)
+begins_behind old mid new text more wrote begun =
+    subst (λ (t : List ℕ). AppendsBeginning old new (text ++ t)) (append-nil more) (AppendsBeginning-then old mid new text more [] wrote begun)
 
-  pub stops : (t : SiteSetting) (now : Option (List ℕ)) (stop passed : Stop) (result : Result (Unit {0}) Stop) → t ≡ s → GivesNext t order so_far.rest now number mid new (Err stop) → result ≡ Err passed → passed ≡ stop → LeavesAnswers s bytes old new result
-  stops t now stop passed result same given is told =
-      subst (LeavesAnswers s bytes old new) (sym (is ∙ ap (λ (x : Stop). Err x) told))
-      (stops_by now stop (subst (λ (u : SiteSetting). GivesNext u order so_far.rest now number mid new (Err stop)) same given))
+pub nothing_taken : {W : Type 0} (contents : W → Option (List ℕ)) (a b : OutputSink W) → b ≡ a → HasTakenMore contents a b []
+nothing_taken {W = W} contents a b same = subst (λ (t : OutputSink W). HasTakenMore contents a t []) (sym same) (nothing_more contents a)
+
+-- by what the output has at the end
+pub wrote : (start new left : Option (List ℕ)) (text : List ℕ) → new ≡ left → Appends start left text → Appends start new text
+wrote start new left text same given = subst (λ (t : Option (List ℕ)). Appends start t text) (sym same) given
+
+pub wrote_some : (start new left : Option (List ℕ)) (text more : List ℕ) → new ≡ left → AppendsBeginning start left text → AppendsBeginning start new (text ++ more)
+wrote_some start new left text more same given = subst (λ (t : Option (List ℕ)). AppendsBeginning start t (text ++ more)) (sym same) (AppendsBeginning-more start left text more given)
+
+-- more is appended to a sink
+pub appended_onto : {W A : Type 0} (contents : W → Option (List ℕ)) (a b c : OutputSink W) (s t : SiteSetting) (order : Order) (bytes : List ℕ) (left now : Option (List ℕ)) (first number : ℕ) (site : SiteReplica)
+    → (so_far : ComesTo s order bytes left first (HasTakenMore contents a b) site number) (result : Result (Option (Progress A)) Stop) → t ≡ s
+    → GivesLines t (order_after order so_far.lines) so_far.rest now number (HasTakenMore contents b c) IsNoText result → GivesLines s order bytes now first (HasTakenMore contents a c) IsNoText result
+appended_onto contents a b c s t order bytes left now first number site so_far result same given =
+    goes_by s order bytes left first (HasTakenMore contents a b) (HasTakenMore contents b c) (HasTakenMore contents a c) IsNoText IsNoText site number so_far (taken_together contents a b c) (λ t u put_out none. none)
+    now result (subst (λ (u : SiteSetting). GivesLines u (order_after order so_far.lines) so_far.rest now number (HasTakenMore contents b c) IsNoText result) same given)
+
+-- more is written
+pub written_onto : {A : Type 0} (old mid new : Option (List ℕ)) (s t : SiteSetting) (order : Order) (bytes : List ℕ) (left now : Option (List ℕ)) (first number : ℕ) (site : SiteReplica)
+    → (so_far : ComesTo s order bytes left first (Appends old mid) site number) (result : Result (Option (Progress A)) Stop) → t ≡ s
+    → LeavesLines t (order_after order so_far.lines) so_far.rest now number mid new result → LeavesLines s order bytes now first old new result
+written_onto old mid new s t order bytes left now first number site so_far result same given =
+    goes_by s order bytes left first (Appends old mid) (Appends mid new) (Appends old new) (AppendsBeginning mid new) (AppendsBeginning old new) site number so_far (λ t u wrote more. Appends-then old mid new t u wrote more)
+    (λ t u wrote more. begins_behind old mid new t u wrote more)
+    now result (subst (λ (u : SiteSetting). LeavesLines u (order_after order so_far.lines) so_far.rest now number mid new result) same given)
+
+pub leaves_err : (A : Type 0) (s : SiteSetting) (bytes : List ℕ) (left old new : Option (List ℕ)) (stop : Stop) → LeavesLines {A = A} s [] bytes left 1 old new (Err stop) → LeavesAnswers {T = Unit {0}} s bytes old new (Err stop)
+leaves_err A s bytes left old new (Fault fault) given = given
+leaves_err A s bytes left old new (Input error) given = given
+leaves_err A s bytes left old new (Output error) given = given
 
 -- ---- what a line says
 
-pub within : (line : List ℕ) → length line ≤ MAX_SITE_LINE → says_within_limits line ≡ line_says line
+within : (line : List ℕ) → length line ≤ MAX_SITE_LINE → says_within_limits line ≡ line_says line
 within line short = by_test (nat_le (length line) MAX_SITE_LINE) refl
   where
     by_test : (b : Bool) → nat_le (length line) MAX_SITE_LINE ≡ b → says_within_limits line ≡ line_says line
     by_test true is = ap (λ (b : Bool). cond b (line_says line) (Err Bytes)) is
     by_test false is = absurd (grind (arith, nat_tests))
 
-pub too_long : (line : List ℕ) → MAX_SITE_LINE < length line → says_within_limits line ≡ Err Bytes
+too_long : (line : List ℕ) → MAX_SITE_LINE < length line → says_within_limits line ≡ Err Bytes
 too_long line long = by_test (nat_le (length line) MAX_SITE_LINE) refl
   where
     by_test : (b : Bool) → nat_le (length line) MAX_SITE_LINE ≡ b → says_within_limits line ≡ Err Bytes
     by_test true is = absurd (grind (arith, nat_tests))
     by_test false is = ap (λ (b : Bool). cond b (line_says line) (Err Bytes)) is
 
--- ---- what is written, by what the output has at the end
-
-pub wrote : (start new left : Option (List ℕ)) (text : List ℕ) → new ≡ left → Appends start left text → Appends start new text
-wrote start new left text same given = subst (λ (t : Option (List ℕ)). Appends start t text) (sym same) given
-
-pub wrote_some : (start new left : Option (List ℕ)) (text : List ℕ) → new ≡ left → AppendsBeginning start left text → AppendsBeginning start new text
-wrote_some start new left text same given = subst (λ (t : Option (List ℕ)). AppendsBeginning start t text) (sym same) given
-
--- memory was wanting at a line
-pub wants : (s : SiteSetting) (order : Order) (says : Result (Option SiteRequest) LineFault) (number : ℕ) (old new : Option (List ℕ)) (stop : Stop) → stop ≡ Fault (record { line = number; cause = NoMemory }) → new ≡ old
-    → GivesAnswer s order says number old new (Err stop)
-wants s order says number old new stop is same =
-    subst (λ (t : Stop). GivesAnswer s order says number old new (Err t)) (sym is) (refl, refl, wrote old new old [] same (Appends-nothing old))
-
 -- ---- the next line, by what it is
 
-pub line_goes : (s : SiteSetting) (order : Order) (bytes : List ℕ) (left : Option (List ℕ)) (number : ℕ) (old new : Option (List ℕ)) (line shown : List ℕ) (next_site : SiteReplica) → IsNextLine bytes left line next.Line → shown ≡ line
-    → GivesAnswer s order (line_says shown) number old new (Ok next_site) → GivesNext s order bytes left number old new (Ok (Some next_site))
-line_goes s order bytes left number old new line shown next_site (rest, known, first, short) same given =
-    let says : line_says shown ≡ says_within_limits line = ap line_says same ∙ sym (within line short) in
-    let (text, answer, wrote, stands) = subst (λ t. GivesAnswer s order t number old new (Ok next_site)) says given in
-    (line, rest, known, first, text, answer, wrote, stands)
+module _ (s : SiteSetting) (order : Order) (bytes : List ℕ) (left : Option (List ℕ)) (number : ℕ) (IsPutOut : List ℕ → Type 0) where
+  one : (line rest text : List ℕ) (next_site : SiteReplica) → left ≡ Some rest → whole_lines bytes ≡ line ∷ whole_lines rest → IsLineAnswer s order (says_within_limits line) text
+      → IsPutOut text → StandsForOrder next_site (order_behind order (says_within_limits line)) → ComesTo s order bytes left number IsPutOut next_site (number + 1)
+  one line rest text next_site known split answer put_out stands = record {
+    lines = line ∷ [];
+    rest = rest;
+    known = known;
+    split = split;
+    counted = omega arith;
+    text = text;
+    answers = subst (AreAnswers s order (line ∷ [])) (append-nil text) (first_answered s order line [] text [] answer (nothing_answered s _));
+    put_out = put_out;
+    stands = stands;
+  }
 
-line_stops_by : (s : SiteSetting) (order : Order) (bytes : List ℕ) (left : Option (List ℕ)) (number : ℕ) (old new : Option (List ℕ)) (line : List ℕ) (stop : Stop) → IsNextLine bytes left line next.Line
-    → GivesAnswer s order (says_within_limits line) number old new (Err stop) → GivesNext s order bytes left number old new (Err stop)
-line_stops_by s _ bytes left number old new line (Fault fault) is given = given
-line_stops_by s _ bytes left number old new line (Input error) is given = absurd given
-line_stops_by s _ bytes left number old new line (Output error) (rest, known, first, short) (text, answer, wrote) = (line, whole_lines rest, first, text, answer, wrote)
+  pub line_goes : (line shown text : List ℕ) (next_site : SiteReplica) (is_followed : Bool) → IsNextLine bytes left line (next.Line is_followed) → shown ≡ line
+      → IsLineAnswer s order (line_says shown) text → IsPutOut text → StandsForOrder next_site (order_behind order (line_says shown)) → ComesTo s order bytes left number IsPutOut next_site (number + 1)
+  line_goes line shown text next_site is_followed (rest, known, split, short, more) same answer put_out stands =
+      let says : line_says shown ≡ says_within_limits line = ap line_says same ∙ sym (within line short) in
+      one line rest text next_site known split (subst (λ t. IsLineAnswer s order t text) says answer) put_out (subst (λ t. StandsForOrder next_site (order_behind order t)) says stands)
 
-pub line_stops : (s : SiteSetting) (order : Order) (bytes : List ℕ) (left : Option (List ℕ)) (number : ℕ) (old new : Option (List ℕ)) (line shown : List ℕ) (stop passed : Stop) (result : Result (Option SiteReplica) Stop) → IsNextLine bytes left line next.Line → shown ≡ line
-    → GivesAnswer s order (line_says shown) number old new (Err stop) → result ≡ Err passed → passed ≡ stop → GivesNext s order bytes left number old new result
-line_stops s order bytes left number old new line shown stop passed result is same given returned told =
-    let says : line_says shown ≡ says_within_limits line = ap line_says same ∙ sym (within line is.3) in
-    subst (GivesNext s order bytes left number old new) (sym (returned ∙ ap (λ (x : Stop). Err x) told))
-    (line_stops_by s order bytes left number old new line stop is (subst (λ t. GivesAnswer s order t number old new (Err stop)) says given))
+  pub long_goes : (line : List ℕ) (site : SiteReplica) → IsNextLine bytes left line next.TooLong → IsPutOut (fault_line Bytes) → StandsForOrder site order
+      → ComesTo s order bytes left number IsPutOut site (number + 1)
+  long_goes line site (long, rest, known, split, is) put_out stands =
+      one long rest (fault_line Bytes) site known split (subst (λ t. IsLineAnswer s order t (fault_line Bytes)) (sym (too_long long is)) refl) put_out
+      (subst (λ t. StandsForOrder site (order_behind order t)) (sym (too_long long is)) stands)
 
-long_answer : (s : SiteSetting) (order : Order) (long : List ℕ) → MAX_SITE_LINE < length long → IsLineAnswer s order (says_within_limits long) (fault_line Bytes)
-long_answer s order long is = subst (λ t. IsLineAnswer s order t (fault_line Bytes)) (sym (too_long long is)) refl
+  none_answered : IsPutOut [] → AnswersSome s order bytes 0 IsPutOut
+  none_answered nothing = record {
+    lines = [];
+    others = whole_lines bytes;
+    split = refl;
+    counted = refl;
+    text = [];
+    answers = nothing_answered s order;
+    put_out = nothing;
+  }
 
-pub long_goes : (s : SiteSetting) (order : Order) (bytes : List ℕ) (left : Option (List ℕ)) (number : ℕ) (old new : Option (List ℕ)) (line : List ℕ) (site : SiteReplica) → IsNextLine bytes left line next.TooLong → StandsForOrder site order
-    → Appends old new (fault_line Bytes) → GivesNext s order bytes left number old new (Ok (Some site))
-long_goes s order bytes left number old new line site (long, rest, known, first, is) stands wrote =
-    (long, rest, known, first, fault_line Bytes, long_answer s order long is, wrote, subst (λ t. StandsForOrder site (order_behind order t)) (sym (too_long long is)) stands)
+  pub input_fails : IsPutOut [] → (count : ℕ) × AnswersSome s order bytes count IsPutOut
+  input_fails nothing = (0, none_answered nothing)
 
-long_stops_by : (s : SiteSetting) (order : Order) (bytes : List ℕ) (left : Option (List ℕ)) (number : ℕ) (old new : Option (List ℕ)) (line : List ℕ) (stop : Stop) → IsNextLine bytes left line next.TooLong → IsOutputStop stop
-    → AppendsBeginning old new (fault_line Bytes) → GivesNext s order bytes left number old new (Err stop)
-long_stops_by s _ bytes left number old new line (Fault fault) is why wrote = absurd why
-long_stops_by s _ bytes left number old new line (Input error) is why wrote = absurd why
-long_stops_by s order bytes left number old new line (Output error) (long, rest, known, first, is) why wrote = (long, whole_lines rest, first, fault_line Bytes, long_answer s order long is, wrote)
-
-pub long_stops : (s : SiteSetting) (order : Order) (bytes : List ℕ) (left : Option (List ℕ)) (number : ℕ) (old new : Option (List ℕ)) (line : List ℕ) (stop passed : Stop) (result : Result (Option SiteReplica) Stop) → IsNextLine bytes left line next.TooLong
-    → IsOutputStop stop → AppendsBeginning old new (fault_line Bytes) → result ≡ Err passed → passed ≡ stop → GivesNext s order bytes left number old new result
-long_stops s order bytes left number old new line stop passed result is why wrote returned told =
-    subst (GivesNext s order bytes left number old new) (sym (returned ∙ ap (λ (x : Stop). Err x) told)) (long_stops_by s order bytes left number old new line stop is why wrote)
+  pub wants : (A : Type 0) (IsBegun : List ℕ → Type 0) (stop : Stop) → stop ≡ Fault (record { line = number; cause = NoMemory }) → IsPutOut [] → GivesLines {A = A} s order bytes left number IsPutOut IsBegun (Err stop)
+  wants A IsBegun stop is nothing = subst (λ (t : Stop). GivesLines {A = A} s order bytes left number IsPutOut IsBegun (Err t)) (sym is) (refl, 0, omega arith, none_answered nothing)

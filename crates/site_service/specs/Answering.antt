@@ -4,6 +4,7 @@ use Rattle.std.specs.List.{fold}
 use Rattle.std.specs.Io.KnownBytes.{Appends}
 use Rattle.byte_output.specs.Writes.{AppendsBeginning}
 use Rattle.byte_output.specs.declared.paged.PagedOutput.{PagedOutput}
+use Rattle.byte_output.specs.Pending.{output_of}
 use Rattle.output_sink.specs.Taken.{HasPassed, HasTaken}
 use Rattle.script.specs.declared.fault.LineFault.{LineFault}
 use Rattle.script.specs.declared.fault.LineFault.TheVariants.{Bytes}
@@ -16,6 +17,7 @@ use Rattle.site_model.specs.Standing.{SiteSetting}
 use Rattle.site_model.specs.Order.{Order}
 use Rattle.site_replica.specs.Replica.{SiteReplica, StandsForOrder}
 use Rattle.site_lines.specs.Lines.{SiteRequest, line_says}
+use Rattle.site_service.specs.declared.lines.Progress.{Progress}
 use Rattle.site_answers.specs.Answers.{IsLineAnswer, order_behind}
 
 -- what a line says; one that is too long is at fault for its bytes
@@ -37,17 +39,21 @@ AreAnswers s order (line ∷ lines) text =
 abbrev pub AreAllAnswers : SiteSetting → List ℕ → List ℕ → Type 0
 AreAllAnswers s bytes text = AreAnswers s [] (whole_lines bytes) text
 
--- ---- what is written
-
--- the answers to the first of the lines, so many, were written whole, and no more
-pub record AnswersFirst (s : SiteSetting) (bytes : List ℕ) (old new : Option (List ℕ)) (count : ℕ) : Type 0 where
+-- a text was put out: the answers, behind an order, to the first lines of these bytes, count in number
+pub record AnswersSome (s : SiteSetting) (order : Order) (bytes : List ℕ) (count : ℕ) (IsPutOut : List ℕ → Type 0) : Type 0 where
   pub lines : List (List ℕ)
   pub others : List (List ℕ)
   pub split : whole_lines bytes ≡ lines ++ others
   pub counted : length lines ≡ count
   pub text : List ℕ
-  pub answers : AreAnswers s [] lines text
-  pub written : Appends old new text
+  pub answers : AreAnswers s order lines text
+  pub put_out : IsPutOut text
+
+-- ---- what is written
+
+-- the answers to the first of the lines, so many, were written whole, and no more
+abbrev pub AnswersFirst : SiteSetting → List ℕ → Option (List ℕ) → Option (List ℕ) → ℕ → Type 0
+AnswersFirst s bytes old new count = AnswersSome s [] bytes count (Appends old new)
 
 -- where memory was wanting at a line, those before it were answered
 abbrev pub LeavesAnswersUpTo : SiteSetting → List ℕ → Option (List ℕ) → Option (List ℕ) → Stop → Type 0
@@ -61,43 +67,49 @@ abbrev pub LeavesAnswers : {T : Type 0} → SiteSetting → List ℕ → Option 
 LeavesAnswers s bytes old new (Ok _) = (text : List ℕ) × AreAllAnswers s bytes text × Appends old new text
 LeavesAnswers s bytes old new (Err stop) = LeavesAnswersUpTo s bytes old new stop
 
--- ---- one line
+-- ---- the next lines
 
--- a text was appended to an output, of which this is the first error
+-- lines from number first on, or none, were answered, and their answers put out. The site stands behind them; number is
+-- that of the next line, and left holds the rest
+pub record ComesTo (s : SiteSetting) (order : Order) (bytes : List ℕ) (left : Option (List ℕ)) (first : ℕ) (IsPutOut : List ℕ → Type 0)
+    (site : SiteReplica) (number : ℕ) : Type 0 where
+  pub lines : List (List ℕ)
+  pub rest : List ℕ
+  pub known : left ≡ Some rest
+  pub split : whole_lines bytes ≡ lines ++ whole_lines rest
+  pub counted : length lines + first ≡ number
+  pub text : List ℕ
+  pub answers : AreAnswers s order lines text
+  pub put_out : IsPutOut text
+  pub stands : StandsForOrder site (order_after order lines)
+
+-- what lines come to from number first on. By the cases: the site goes on; all lines were answered; memory was wanting at
+-- a line, and those before are answered; the input failed behind answered lines; the output failed, and a beginning of
+-- the answers was put out
+abbrev pub GivesLines : {A : Type 0} → SiteSetting → Order → List ℕ → Option (List ℕ) → ℕ → (List ℕ → Type 0) → (List ℕ → Type 0)
+    → Result (Option (Progress A)) Stop → Type 0
+GivesLines s order bytes left first IsPutOut IsBegun (Ok (Some progress)) =
+    ComesTo s order bytes left first IsPutOut progress.site progress.number
+GivesLines s order bytes left first IsPutOut IsBegun (Ok None) =
+    (text : List ℕ) × AreAnswers s order (whole_lines bytes) text × IsPutOut text
+GivesLines s order bytes left first IsPutOut IsBegun (Err (Fault fault)) =
+    (fault.cause ≡ NoMemory) × (before : ℕ) × (before + first ≡ fault.line) × AnswersSome s order bytes before IsPutOut
+GivesLines s order bytes left first IsPutOut IsBegun (Err (Input error)) =
+    (count : ℕ) × AnswersSome s order bytes count IsPutOut
+GivesLines s order bytes left first IsPutOut IsBegun (Err (Output error)) =
+    (text : List ℕ) × AreAnswers s order (whole_lines bytes) text × IsBegun text
+
+-- the answers to these lines have left
+abbrev pub LeavesLines : {A : Type 0} → SiteSetting → Order → List ℕ → Option (List ℕ) → ℕ → Option (List ℕ) → Option (List ℕ)
+    → Result (Option (Progress A)) Stop → Type 0
+LeavesLines s order bytes left first old new result =
+    GivesLines s order bytes left first (Appends old new) (AppendsBeginning old new) result
+
+-- a text was appended to pages in front of the same output; failed is that output's first error
 abbrev pub IsAppended : {W E : Type 0} → (W → Option (List ℕ)) → PagedOutput W → PagedOutput W → Option E → List ℕ → Type 0
-IsAppended contents old new failed text =
-    (start : Option (List ℕ)) (before : List ℕ) → HasPassed contents start before old → HasTaken contents start (before ++ text) new failed
+IsAppended contents old new failed text = ((output_of new).ghost_name ≡ (output_of old).ghost_name)
+    × ((start : Option (List ℕ)) (before : List ℕ) → HasPassed contents start before old → HasTaken contents start (before ++ text) new failed)
 
--- what a line left, by what it says: it was answered, and the site has come so far; or memory was wanting, and nothing was
--- written; or the output failed
-abbrev pub GivesAnswer : SiteSetting → Order → Result (Option SiteRequest) LineFault → ℕ
-    → Option (List ℕ) → Option (List ℕ) → Result SiteReplica Stop → Type 0
-GivesAnswer s order says number old new (Ok next) =
-    (text : List ℕ) × IsLineAnswer s order says text × Appends old new text × StandsForOrder next (order_behind order says)
-GivesAnswer s order says number old new (Err (Fault fault)) =
-    (fault.line ≡ number) × (fault.cause ≡ NoMemory) × Appends old new []
-GivesAnswer s order says number old new (Err (Input error)) = ⊥
-GivesAnswer s order says number old new (Err (Output error)) =
-    (text : List ℕ) × IsLineAnswer s order says text × AppendsBeginning old new text
-
-abbrev pub IsOutputStop : Stop → Type 0
-IsOutputStop (Output error) = Unit {0}
-IsOutputStop stop = ⊥
-
--- ---- the next line
-
--- the first of the lines of an input of these bytes is answered, and so much is left behind it; or there is none; or it
--- isn't answered, since memory was wanting or the input failed; or the output failed
-abbrev pub GivesNext : SiteSetting → Order → List ℕ → Option (List ℕ) → ℕ → Option (List ℕ) → Option (List ℕ)
-    → Result (Option SiteReplica) Stop → Type 0
-GivesNext s order bytes left number old new (Ok (Some next)) =
-    (line rest : List ℕ) × (left ≡ Some rest) × (whole_lines bytes ≡ line ∷ whole_lines rest)
-    × (text : List ℕ) × IsLineAnswer s order (says_within_limits line) text × Appends old new text
-    × StandsForOrder next (order_behind order (says_within_limits line))
-GivesNext s order bytes left number old new (Ok None) = (whole_lines bytes ≡ []) × Appends old new []
-GivesNext s order bytes left number old new (Err (Fault fault)) =
-    (fault.line ≡ number) × (fault.cause ≡ NoMemory) × Appends old new []
-GivesNext s order bytes left number old new (Err (Input error)) = Appends old new []
-GivesNext s order bytes left number old new (Err (Output error)) =
-    (line : List ℕ) × (more : List (List ℕ)) × (whole_lines bytes ≡ line ∷ more)
-    × (text : List ℕ) × IsLineAnswer s order (says_within_limits line) text × AppendsBeginning old new text
+-- no text: where answers are appended, nothing stops for the output
+abbrev pub IsNoText : List ℕ → Type 0
+IsNoText text = ⊥

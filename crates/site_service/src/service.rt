@@ -5,7 +5,7 @@ ghost use Rattle.script_settings.specs.declared.cause.ScriptFault.{ScriptFault};
 ghost use Rattle.script_stops.specs.Telling.{FAILED};
 ghost use Rattle.site_model.specs.Standing.{SiteSetting};
 ghost use Rattle.site_settings.specs.Settings.{settings_say};
-ghost use Rattle.site_service.specs.Leaving.{Leaves, LeavesEnd, StopsAtSettings, TellsFailure, TellsFault};
+ghost use Rattle.site_service.specs.Leaving.{AreUntouched, Leaves, LeavesEnd, StopsAtSettings, TellsFailure, TellsFault};
 
 use crate::lines::answer_lines;
 use script_stops::{Stop, out_of_memory, tell};
@@ -37,10 +37,11 @@ pub fn site_over<A: Allocator + Copy, S: BufRead, R: BufRead, W: Write, E: Write
     ensures answered { IfSome (S.remaining settings.old) (λ said. IfOk (settings_say said)
         (λ s. IfSome (R.remaining input.old)
         (λ bytes. Leaves s bytes (W.contents output.old) (W.contents output.new) result))) }
-    // Where memory was wanting at a line of the input, that line is told, and what was written are the answers to those
-    // before it; or it was wanting before, and nothing was written. Else a stream failed, and that is told.
+    // Where memory was wanting at a line of the input, its number is told, and the lines before are answered. Where memory
+    // was wanting earlier, input and output are untouched. Else a stream failed, and that is told.
     ensures failed { result ≡ FAILED → IfSome (S.remaining settings.old) (λ said. IfOk (settings_say said)
-        (λ s. IfSome (R.remaining input.old) (λ bytes. TellsFailure s bytes (W.contents output.old)
+        (λ s. IfSome (R.remaining input.old) (λ bytes. TellsFailure
+        (AreUntouched input.old input.new output.old output.new) s bytes (W.contents output.old)
         (W.contents output.new) (E.contents faults.old) (E.contents faults.new)))) }
     // Nothing is said where nothing failed and the settings hold.
     ensures silent { result ≡ 0 → faults.new ≡ faults.old }
@@ -66,7 +67,8 @@ fn serve<A: Allocator + Copy, S: BufRead, R: BufRead, W: Write>(
         → settings_say said ≡ Err fault → output.new ≡ output.old }
     ensures answered { (said bytes : List ℕ) (s : SiteSetting) → S.remaining settings.old ≡ Some said
         → settings_say said ≡ Ok s → R.remaining input.old ≡ Some bytes
-        → LeavesEnd s bytes (W.contents output.old) (W.contents output.new) result }
+        → LeavesEnd (AreUntouched input.old input.new output.old output.new) s bytes (W.contents output.old)
+        (W.contents output.new) result }
 {
     let settings = read_settings(alloc, settings)?;
     let Ok(mut line) = Vec::with_capacity(alloc, MAX_SITE_LINE + 1) else {

@@ -4,26 +4,39 @@ use std::io;
 use std::io::{BufRead, ErrorKind, Read, Write};
 use std::sync::atomic::{AtomicU64, Ordering};
 
-/// Gives a line only where as many answers have left as lines were given; else it fails. It is interrupted once between
-/// two looks.
+/// Gives `at_once` lines together. The next lines come only where all answers have left; else a look fails. Each look is
+/// interrupted once before.
 #[derive(Drop)]
 pub(crate) struct PacedInput<'a> {
     pub(crate) left: &'a [u8],
+    pub(crate) at_once: u64,
     pub(crate) given: u64,
     pub(crate) interrupts: bool,
+    /// Whether a look came before the answers had left.
+    pub(crate) asked_early: bool,
     pub(crate) answered: &'a AtomicU64,
 }
 
 impl PacedInput<'_> {
-    /// What is left of the line that is given.
+    /// What is left of the lines that are given at once.
     fn shown(&self) -> io::Result<&[u8]> {
-        if !self.left.is_empty() && self.answered.load(Ordering::SeqCst) < self.given {
+        let begun = self.given.checked_rem(self.at_once).unwrap_or(0);
+        if begun == 0
+            && !self.left.is_empty()
+            && self.answered.load(Ordering::SeqCst) < self.given
+        {
             return Err(io::Error::from(ErrorKind::Other));
         }
-        let end = self.left.iter().position(|byte| *byte == b'\n');
+        let mut lines = begun;
+        let end = self.left.iter().position(|byte| {
+            if *byte == b'\n' {
+                lines = lines.saturating_add(1);
+            }
+            lines == self.at_once
+        });
         let length = end.map_or(self.left.len(), |end| end.saturating_add(1));
-        let (line, _) = self.left.split_at(length.min(self.left.len()));
-        Ok(line)
+        let (shown, _) = self.left.split_at(length.min(self.left.len()));
+        Ok(shown)
     }
 }
 
@@ -40,6 +53,7 @@ impl BufRead for PacedInput<'_> {
     fn fill_buf(&mut self) -> io::Result<&[u8]> {
         self.interrupts = !self.interrupts;
         if self.interrupts {
+            self.asked_early = self.asked_early || self.shown().is_err();
             self.shown()
         } else {
             Err(io::Error::from(ErrorKind::Interrupted))
@@ -55,10 +69,11 @@ impl BufRead for PacedInput<'_> {
     }
 }
 
-/// Counts the lines that were flushed.
+/// Counts the lines that were written, the lines that were flushed, and the flushes.
 #[derive(Drop)]
 pub(crate) struct WatchedOutput<'a> {
     pub(crate) written: u64,
+    pub(crate) flushes: u64,
     pub(crate) answered: &'a AtomicU64,
 }
 
@@ -71,6 +86,7 @@ impl Write for WatchedOutput<'_> {
 
     fn flush(&mut self) -> io::Result<()> {
         self.answered.store(self.written, Ordering::SeqCst);
+        self.flushes = self.flushes.saturating_add(1);
         Ok(())
     }
 }

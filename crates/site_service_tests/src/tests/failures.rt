@@ -66,21 +66,30 @@ fn status_over<S: BufRead, I: BufRead, O: Write>(
 #[test]
 fn answers_leave_before_the_next_line_is_waited_for(rt: HostRuntime) {
     let texts = texts_of(&rt, rt.alloc());
-    let answered = AtomicU64::new(0);
-    let mut input = PacedInput {
-        left: &texts.input,
-        given: 0,
-        interrupts: true,
-        answered: &answered,
-    };
-    let mut output = WatchedOutput {
-        written: 0,
-        answered: &answered,
-    };
-    let mut settings = texts.settings.as_slice();
-    let ended = status_over(rt.alloc(), &mut settings, &mut input, &mut output);
-    assert_eq!(rt; ended, (0, true));
-    assert_eq!(rt; (output.written, input.left.len()), (8, 0));
+    // eight lines leave by one flush for each time that lines are given; the end makes one more
+    for (at_once, flushes) in [(1, 9), (2, 5), (3, 4), (100, 2)] {
+        let answered = AtomicU64::new(0);
+        let mut input = PacedInput {
+            left: &texts.input,
+            at_once,
+            given: 0,
+            interrupts: true,
+            asked_early: false,
+            answered: &answered,
+        };
+        let mut output = WatchedOutput {
+            written: 0,
+            flushes: 0,
+            answered: &answered,
+        };
+        let mut settings = texts.settings.as_slice();
+        let ended = status_over(rt.alloc(), &mut settings, &mut input, &mut output);
+        assert_eq!(rt; (ended, input.asked_early), ((0, true), false));
+        assert_eq!(rt;
+            (output.written, output.flushes, input.left.len()),
+            (8, flushes, 0)
+        );
+    }
 }
 
 /// The first lines of a text, so many.
@@ -175,12 +184,17 @@ fn outputs_may_fail(rt: HostRuntime) {
     }
 }
 
-/// Whether an output that takes a byte at a time, and whose flush may fail, has so many lines in the end.
-fn takes_lines(alloc: Global, texts: &Texts, flushes: bool, count: usize) -> bool {
+/// Whether an output that takes a byte at a time, and whose flush may fail, has so many lines in the end. The input shows
+/// so many bytes at once.
+fn takes_lines(alloc: Global, texts: &Texts, flushes: bool, at_once: usize, count: usize) -> bool {
     let mut output = Output::new(alloc, texts.answers.len(), 1, Full::Fails);
     output.flushes = flushes;
     let mut settings = texts.settings.as_slice();
-    let mut input = texts.input.as_slice();
+    let mut input = Input {
+        left: &texts.input,
+        at_once,
+        fails: false,
+    };
     let (status, silent) = status_over(alloc, &mut settings, &mut input, &mut output);
     let wanted = if flushes { 0 } else { 3 };
     status == wanted
@@ -188,13 +202,19 @@ fn takes_lines(alloc: Global, texts: &Texts, flushes: bool, count: usize) -> boo
         && output.held.as_slice() == first_lines(&texts.answers, count)
 }
 
-/// An output that takes a byte at a time has all in the end. Where its flush fails, the first answer is all that it has.
+/// An output that takes a byte at a time has all in the end. Where its flush fails, it has the answers that left together,
+/// and no more.
 #[test]
 fn outputs_may_take_little_at_once(rt: HostRuntime) {
     let texts = texts_of(&rt, rt.alloc());
-    for (flushes, count) in [(true, 8), (false, 1)] {
-        let met = takes_lines(rt.alloc(), &texts, flushes, count);
-        assert!(rt; met, "{flushes}");
+    for (flushes, at_once, count) in [
+        (true, 1, 8),
+        (true, 1_000, 8),
+        (false, 1, 1),
+        (false, 1_000, 8),
+    ] {
+        let met = takes_lines(rt.alloc(), &texts, flushes, at_once, count);
+        assert!(rt; met, "{flushes} {at_once}");
     }
 }
 
@@ -218,40 +238,51 @@ fn long_addition(rt: &impl Abort, alloc: Global, slots: usize) -> (Vec<u8>, Vec<
     (input, answer)
 }
 
-/// Whether a site answers this line to an output with room for so many bytes, which isn't asked again.
+/// A line with another before and behind.
+fn among(rt: &impl Abort, alloc: Global, line: &[u8], other: &[u8]) -> Vec<u8> {
+    let mut lines = Vec::new(alloc);
+    for some in [other, line, other] {
+        lines.extend_from_slice(some).expect(rt, "memory");
+    }
+    lines
+}
+
+/// Whether a site answers these lines to an output with room for so many bytes, which isn't asked again.
 fn answers_long(
     alloc: Global,
     settings: &[u8],
-    line: &[u8],
-    answer: &[u8],
+    lines: &[u8],
+    answers: &[u8],
     room: usize,
     wanted: u8,
 ) -> bool {
     let mut output = Output::new(alloc, room, 1_000, Full::Fails);
     let mut reader = settings;
-    let mut input = line;
+    let mut input = lines;
     let (status, _) = status_over(alloc, &mut reader, &mut input, &mut output);
     status == wanted
         && output.after_failure == 0
-        && Some(output.held.as_slice()) == answer.get(..room)
+        && Some(output.held.as_slice()) == answers.get(..room)
 }
 
-/// A long answer leaves whole, and where the output fails in its midst it is asked no more.
+/// A long answer leaves whole among others, and where the output fails in its midst it is asked no more.
 #[test]
 fn long_answers_leave(rt: HostRuntime) {
     let alloc = rt.alloc();
     let settings = joined(&rt, alloc, &SETTINGS);
     let (line, answer) = long_addition(&rt, alloc, 1_000);
+    let lines = among(&rt, alloc, &line, b"position\n");
+    let answers = among(&rt, alloc, &answer, b"position 0\n");
     for (room, status) in [
-        (answer.len(), 0),
-        (answer.len().saturating_sub(1), 3),
+        (answers.len(), 0),
+        (answers.len().saturating_sub(1), 3),
         (12_289, 3),
         (12_288, 3),
         (4_096, 3),
         (4_095, 3),
         (0, 3),
     ] {
-        let met = answers_long(alloc, &settings, &line, &answer, room, status);
+        let met = answers_long(alloc, &settings, &lines, &answers, room, status);
         assert!(rt; met, "{room}");
     }
 }

@@ -6,12 +6,12 @@ use Rattle.site_input.proofs.input.next_line.Goals as goal
 pub returns-in-Ended : goal.returns-in-Ended
 returns-in-Ended g c = λ bytes known.
     let so_far = c.loop.invariant.1 bytes known in
-    ends_long bytes _ _ _ _ so_far (subst (IsPiece so_far.rest (g.R.Read.remaining c.take_piece.new.input) c.loop.line.items c.take_piece.new.line.items) c.in-Ended.is (c.in_ok-take_piece.ensures.piece so_far.rest so_far.known)) (search rules)
+    ends_long bytes _ _ _ _ so_far _ (subst (IsPiece so_far.rest (g.R.Read.remaining c.take_piece.new.input) c.loop.line.items c.take_piece.new.line.items) c.in-Ended.is (c.in_ok-take_piece.ensures.piece so_far.rest so_far.known)) (search rules)
 
 pub returns-in-Ended-2 : goal.returns-in-Ended-2
 returns-in-Ended-2 g c = λ bytes known.
     let so_far = c.loop.invariant.1 bytes known in
-    ends bytes _ _ _ _ so_far (subst (IsPiece so_far.rest (g.R.Read.remaining c.take_piece.new.input) c.loop.line.items c.take_piece.new.line.items) c.in-Ended-2.is (c.in_ok-take_piece.ensures.piece so_far.rest so_far.known)) (search rules)
+    ends bytes _ _ _ _ so_far _ (subst (IsPiece so_far.rest (g.R.Read.remaining c.take_piece.new.input) c.loop.line.items c.take_piece.new.line.items) c.in-Ended.is (c.in_ok-take_piece.ensures.piece so_far.rest so_far.known)) (search rules)
 
 pub returns-in-AtEnd : goal.returns-in-AtEnd
 returns-in-AtEnd g c = λ bytes known.

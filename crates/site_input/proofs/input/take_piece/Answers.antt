@@ -1,7 +1,8 @@
 use Rattle.std.proofs.Common.{◌+◌, ◌≤◌, [], take, drop, length, refl, subst, arith}
+use Rattle.std.proofs.lemmas.List.{take_rest}
 use Rattle.std.specs.Io.BufRead.{FillKeeps}
 use Rattle.script.proofs.LineLemmas.{parted, parted_at, after_consume}
-use Rattle.site_input.proofs.ReadingLemmas.{none_before, nothing_kept, shown_kept, still_known}
+use Rattle.site_input.proofs.ReadingLemmas.{followed, none_before, nothing_kept, shown_kept, still_known}
 use Rattle.site_input.proofs.input.take_piece.Goals as goal
 
 pub returns-then-matches-clause-piece : goal.returns-then-matches-clause-piece
@@ -26,6 +27,7 @@ returns-then-is_ended-clause-piece g c = λ bytes known.
       after_consume (g.R.Read.remaining c.args.input.now) _ _ _ bytes (count + 1) (length shown) known within kept.0 kept.1 c.consume.ensures.bytes,
       clauses.front,
       shown_kept c.args.line.now.items c.extend_from_slice.new.self.items shown count c.min-kept.result (omega (arith, c.requires)) (omega (arith, c.min-kept.ensures, c.len.ensures)) c.in_ok-extend_from_slice.ensures.items,
+      λ is. followed bytes shown _ (count + 1) c.before_lf-is_followed.result.0 front within (take_rest shown (count + 1)) (c.before_lf-is_followed.ensures.lf is) (c.before_lf-is_followed.ensures.is is) c.before_lf-is_followed.ensures.front,
     )
 
 pub returns-else-is_ended-clause-piece : goal.returns-else-is_ended-clause-piece
