@@ -11,8 +11,8 @@ use crate::laws::beginnings_have_the_same_entries;
 use log_model::a_log_only_grows;
 use site_model::orders_grow;
 
-/// Of two sites of one setting, of which one was given a beginning of the other's order, what they answered to its strings
-/// is the same that far, and so are the rows and the procedures at its end.
+/// What becomes of each byte string of an order is the same where more byte strings are behind that order, and so are the
+/// rows and the procedures behind it. So two sites of one setting agree on what both were given.
 pub fn sites_of_one_order_agree()
     ensures answers { (s : SiteSetting) (order more : Order)
         → outcomes s (order ++ more) ≡ outcomes s order ++ outcomes_behind s order more }

@@ -40,9 +40,9 @@ pub fn own_calls_are_not_nothing()
     orders_grow();
 }
 
-/// Over the settings that sites have, a call that was answered by bytes behind an order of byte strings is asked of a
-/// procedure with a number of its own, and its numbers and lengths fit their fields. So its bytes aren't nothing wherever
-/// that order goes on.
+/// A call that was answered by bytes is as `IsAskedOf` says: its procedure has a number of its own, and its numbers and
+/// lengths fit their fields. So its bytes aren't nothing wherever the order goes on. The premises are a setting as sites
+/// have them, an order of fewer than 2^32 byte strings, arguments of bytes, and a request within its fields.
 pub fn calls_of_sites_fit_their_fields()
     ensures asked { (s : SiteSetting) (order : Order) (asked : Asked) (bytes : List ℕ)
         → IsSiteSetting s.setting → IsOfBytes order → length order < 2 ^ 32 → IsBytes asked.args
@@ -63,8 +63,8 @@ pub fn calls_of_sites_fit_their_fields()
     states_fit();
 }
 
-/// The bytes that a call was answered behind an order, to be ordered, commit where that order goes on and nothing that
-/// came between stands in the call's way. Wherever they commit, the reply is that of the run that was answered.
+/// The bytes that a call was answered, to be ordered, commit where nothing that came between stands in the call's way. The
+/// call is as `IsAskedOf` says. Wherever the bytes commit, the reply is that of the run that was answered.
 pub fn own_calls_commit_where_nothing_stands_in_their_way()
     ensures free { (s : SiteSetting) (order between : Order) (asked : Asked) (bytes : List ℕ)
         (is : IsAskedOf s order asked)

@@ -21,10 +21,11 @@ use site_model::{orders_grow, what_stands_is_of_the_log};
 /// How long refusals hold, and that no copy of what was refused commits.
 ///
 /// Arguments of another length than the procedure takes, and half a request, are refused wherever the order goes on. No
-/// byte string that asks the same commits there, whatever its snapshot: no head has half a request. That there is no
-/// procedure of a name holds wherever the order goes on where no procedures are added. Where they are, an addition may
-/// end that; but whoever asks it behind a beginning of the order is refused so too, so that no copy was submitted before.
-/// An addition whose name or number was taken adds nothing wherever the order goes on.
+/// byte string that asks the same of the same procedure commits there, where the first procedures have distinct numbers.
+/// No head of a byte string has half a request. A name without a procedure stays without, wherever the order goes on, where
+/// no procedures are added. Where procedures are added, an addition may end that. But whoever asks behind a beginning of
+/// the order is refused too, so no copy was submitted before. An addition whose name or number was taken adds nothing
+/// wherever the order goes on.
 pub fn refusals_hold_for_good()
     ensures kept { (s : SiteSetting) (order more : Order) (asked : Asked) (refusal : CallRefusal)
         → refusal ≢ NoProcedure → call_answer s order asked ≡ Refused refusal
