@@ -68,9 +68,12 @@ class Node:
             raise AssertionError(ran.stderr.decode())
         return ran.stdout
 
-    def put(self, key, value, *more):
-        """Puts a value of any bytes."""
-        self.ctl("put", key, *more, *([] if value else [""]), given=value)
+    def puts(self, key, value):
+        """Whether bytes could be put under a key. While nodes choose a leader they can't, or nobody knows."""
+        try:
+            return bool(self.ctl("put", key, given=value))
+        except AssertionError:
+            return False
 
     def revision(self):
         """Returns the revision that the node has come to."""

@@ -270,8 +270,8 @@ class TransfersOverEtcd(Transfers):
             node.process.send_signal(signal.SIGSTOP)
             time.sleep(2 * self.random.random())
             node.process.send_signal(signal.SIGCONT)
-        elif chosen < 0.5:  # a stranger's
-            node.put(f"p/1/{0:010d}-{self.random.randbytes(16).hex()}", self.random.randbytes(200))
+        elif chosen < 0.5:  # a stranger's, each try under a key of its own
+            until(lambda: node.puts(f"p/1/{0:010d}-{self.random.randbytes(16).hex()}", self.random.randbytes(200)))
         else:
             super().fault(servers)
 
