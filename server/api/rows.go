@@ -107,12 +107,10 @@ type row struct {
 }
 
 func (h *Handler) writeRows(w io.Writer, lines *site.Spool, one bool) {
-	reader, writer := io.Pipe()
-	go func() {
-		_, err := lines.WriteTo(writer)
-		writer.CloseWithError(err)
-	}()
-	defer reader.Close()
+	reader, err := lines.Reader()
+	if err != nil {
+		panic(http.ErrAbortHandler)
+	}
 	out := bufio.NewWriterSize(w, 1<<16)
 	defer out.Flush()
 	encoder := json.NewEncoder(out)

@@ -50,7 +50,10 @@ type Engine struct {
 
 	mutex   sync.Mutex
 	more    *sync.Cond
+	input   *os.File
+	direct  syscall.RawConn // of the input
 	unsent  []byte
+	sending bool // whether the sending goroutine has lines in its hands
 	closing bool
 }
 
@@ -68,18 +71,14 @@ func Start(ctx context.Context, program string, settings []byte) (*Engine, error
 	e.command.ExtraFiles = []*os.File{copied}
 	e.command.Stderr = e.faults
 	e.command.SysProcAttr = &syscall.SysProcAttr{Setpgid: true, Pdeathsig: syscall.SIGKILL}
-	input, err := e.command.StdinPipe()
-	if err != nil {
-		return nil, fmt.Errorf("starting the engine: %w", err)
-	}
 	output, err := e.command.StdoutPipe()
 	if err != nil {
 		return nil, fmt.Errorf("starting the engine: %w", err)
 	}
-	if err := e.start(); err != nil {
+	if err := e.startWithInput(); err != nil {
 		return nil, fmt.Errorf("starting the engine: %w", err)
 	}
-	go e.send(input)
+	go e.send()
 	go e.hear(output)
 	if err := e.accepted(ctx); err != nil {
 		e.Close()
@@ -127,6 +126,23 @@ func (e *Engine) accepted(ctx context.Context) error {
 	}
 }
 
+// startWithInput starts the process, which reads from a pipe of this one's.
+func (e *Engine) startWithInput() error {
+	theirs, ours, err := os.Pipe()
+	if err != nil {
+		return err
+	}
+	defer theirs.Close()
+	e.command.Stdin, e.input = theirs, ours
+	if e.direct, err = ours.SyscallConn(); err == nil {
+		err = e.start()
+	}
+	if err != nil {
+		ours.Close()
+	}
+	return err
+}
+
 // start runs the process from a thread that stays: the process is killed when the thread that made it ends.
 func (e *Engine) start() error {
 	started := make(chan error)
@@ -134,12 +150,37 @@ func (e *Engine) start() error {
 	return <-started
 }
 
-// Ask hands lines to the engine, each with its LF, in the order of the calls. It never waits.
+// Ask hands lines to the engine, each with its LF, in the order of the calls. It never waits: what the pipe doesn't take
+// at once is sent later.
 func (e *Engine) Ask(lines []byte) {
 	e.mutex.Lock()
-	e.unsent = append(e.unsent, lines...)
-	e.mutex.Unlock()
-	e.more.Signal()
+	defer e.mutex.Unlock()
+	if len(e.unsent) == 0 && !e.sending && !e.closing {
+		lines = lines[e.sendAtOnce(lines):]
+	}
+	if len(lines) > 0 {
+		e.unsent = append(e.unsent, lines...)
+		e.more.Signal()
+	}
+}
+
+// sendAtOnce returns how many of some bytes the pipe takes without waiting. Why it takes no more is seen by send.
+func (e *Engine) sendAtOnce(lines []byte) int {
+	taken := 0
+	e.direct.Write(func(fd uintptr) bool {
+		for taken < len(lines) {
+			count, err := syscall.Write(int(fd), lines[taken:])
+			if err == syscall.EINTR {
+				continue
+			}
+			if err != nil || count <= 0 {
+				break
+			}
+			taken += count
+		}
+		return true
+	})
+	return taken
 }
 
 // Unsent returns how many bytes wait for the engine to take them.
@@ -213,12 +254,13 @@ func (e *Engine) Close() {
 // Kill ends the process at once.
 func (e *Engine) Kill() { e.command.Process.Kill() }
 
-// send writes what is asked, all that waits at a time.
-func (e *Engine) send(input io.WriteCloser) {
-	defer input.Close()
+// send writes what the pipe didn't take at once, all that waits at a time.
+func (e *Engine) send() {
+	defer e.input.Close()
 	var sent []byte
 	for {
 		e.mutex.Lock()
+		e.sending = false
 		for len(e.unsent) == 0 && !e.closing {
 			e.more.Wait()
 		}
@@ -226,9 +268,9 @@ func (e *Engine) send(input io.WriteCloser) {
 			e.mutex.Unlock()
 			return
 		}
-		sent, e.unsent = e.unsent, sent[:0]
+		sent, e.unsent, e.sending = e.unsent, sent[:0], true
 		e.mutex.Unlock()
-		if _, err := input.Write(sent); err != nil {
+		if _, err := e.input.Write(sent); err != nil {
 			return // the process has ended, which hear tells of
 		}
 	}

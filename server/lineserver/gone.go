@@ -27,17 +27,19 @@ func GoneOf(connection net.Conn) func() bool {
 	}
 	return func() bool {
 		closed := true
-		raw.Control(func(fd uintptr) {
-			asked := [1]unix.PollFd{{Fd: int32(fd), Events: unix.POLLRDHUP}}
-			for {
-				_, err := unix.Poll(asked[:], 0)
-				if err == unix.EINTR {
-					continue
-				}
-				closed = err != nil || asked[0].Revents&(unix.POLLRDHUP|unix.POLLHUP|unix.POLLERR|unix.POLLNVAL) != 0
-				return
-			}
-		})
+		raw.Control(func(fd uintptr) { closed = hasLeft(int(fd)) })
 		return closed
+	}
+}
+
+// hasLeft asks the kernel whether the other end of a descriptor is closed, wholly or for writing.
+func hasLeft(fd int) bool {
+	asked := [1]unix.PollFd{{Fd: int32(fd), Events: unix.POLLRDHUP}}
+	for {
+		_, err := unix.Poll(asked[:], 0)
+		if err == unix.EINTR {
+			continue
+		}
+		return err != nil || asked[0].Revents&(unix.POLLRDHUP|unix.POLLHUP|unix.POLLERR|unix.POLLNVAL) != 0
 	}
 }

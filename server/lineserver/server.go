@@ -8,11 +8,13 @@ import (
 	"net"
 	"sync"
 	"sync/atomic"
+	"syscall"
 	"time"
 
 	"dsmdb/server/access"
 	"dsmdb/server/layout"
 	"dsmdb/server/site"
+	"golang.org/x/sys/unix"
 )
 
 // Limits are of the connections of a server.
@@ -44,7 +46,8 @@ type Server struct {
 	open    atomic.Int64
 	refused atomic.Uint64
 	mutex   sync.Mutex
-	conns   map[*conn]struct{}
+	conns   map[*streamed]struct{}
+	poller  *poller // of connections without TLS; nil before the first
 	closed  bool
 	all     sync.WaitGroup
 }
@@ -74,16 +77,21 @@ func (s *Server) Serve(ctx context.Context, listener net.Listener) error {
 			time.Sleep(100 * time.Millisecond)
 			continue
 		}
-		if !s.enter() {
+		if !s.enter() || !s.begin() {
 			accepted.Close()
 			continue
 		}
-		s.all.Add(1)
-		go func() {
-			defer s.all.Done()
-			defer s.leave()
-			s.serve(accepted)
-		}()
+		if secured, is := accepted.(*tls.Conn); is {
+			go s.stream(secured)
+			continue
+		}
+		if err := s.poll(accepted); err != nil {
+			if !errors.Is(err, net.ErrClosed) {
+				s.Warn("taking a connection: %v", err)
+			}
+			s.leave()
+			s.all.Done()
+		}
 	}
 }
 
@@ -99,6 +107,18 @@ func (s *Server) enter() bool {
 
 func (s *Server) leave() { s.open.Add(-1) }
 
+// begin counts a connection among those that Close waits for; false where the server ends.
+func (s *Server) begin() bool {
+	s.mutex.Lock()
+	defer s.mutex.Unlock()
+	if s.closed {
+		s.leave()
+		return false
+	}
+	s.all.Add(1)
+	return true
+}
+
 // Drain has requests that need rows or the order be answered by "unknown stopping" from now on.
 func (s *Server) Drain() { s.draining.Store(true) }
 
@@ -109,26 +129,85 @@ func (s *Server) Close() {
 	for it := range s.conns {
 		it.finish()
 	}
+	if s.poller != nil {
+		s.poller.finish()
+	}
 	s.mutex.Unlock()
 	s.all.Wait()
 }
 
-func (s *Server) serve(accepted net.Conn) {
+func (s *Server) isClosed() bool {
+	s.mutex.Lock()
+	defer s.mutex.Unlock()
+	return s.closed
+}
+
+// poll hands a connection without TLS to the poller.
+func (s *Server) poll(accepted net.Conn) error {
 	who := s.Policy.Local()
 	if _, isUnix := accepted.(*net.UnixConn); !isUnix {
 		who = s.Policy.Remote(nil)
 	}
-	if secured, is := accepted.(*tls.Conn); is {
-		accepted.SetDeadline(time.Now().Add(10 * time.Second))
-		if err := secured.Handshake(); err != nil {
-			accepted.Close()
-			return
-		}
-		accepted.SetDeadline(time.Time{})
-		state := secured.ConnectionState()
-		who = s.Policy.Remote(&state)
+	fd, err := takeOver(accepted)
+	if err != nil {
+		return err
 	}
-	c := newConn(s, accepted, who)
+	p, err := s.startPoller()
+	if err == nil {
+		err = p.add(newPolled(s, p, fd, who))
+	}
+	if err != nil {
+		unix.Close(fd)
+	}
+	return err
+}
+
+// startPoller returns the poller, which is started by the first connection.
+func (s *Server) startPoller() (*poller, error) {
+	s.mutex.Lock()
+	defer s.mutex.Unlock()
+	if s.closed {
+		return nil, net.ErrClosed
+	}
+	if s.poller != nil {
+		return s.poller, nil
+	}
+	p, err := newPoller(s)
+	if err != nil {
+		return nil, err
+	}
+	s.poller = p
+	go p.run()
+	return p, nil
+}
+
+// takeOver returns a connection's descriptor as one that Go's own poller doesn't know, and closes the connection.
+func takeOver(accepted net.Conn) (int, error) {
+	defer accepted.Close()
+	raw, err := accepted.(syscall.Conn).SyscallConn()
+	if err != nil {
+		return 0, err
+	}
+	own, fault := -1, error(nil)
+	err = raw.Control(func(fd uintptr) { own, fault = unix.FcntlInt(fd, unix.F_DUPFD_CLOEXEC, 0) })
+	if err == nil {
+		err = fault
+	}
+	return own, err
+}
+
+// stream answers a connection over TLS.
+func (s *Server) stream(accepted *tls.Conn) {
+	defer s.all.Done()
+	defer s.leave()
+	accepted.SetDeadline(time.Now().Add(10 * time.Second))
+	if err := accepted.Handshake(); err != nil {
+		accepted.Close()
+		return
+	}
+	accepted.SetDeadline(time.Time{})
+	state := accepted.ConnectionState()
+	c := newStreamed(s, accepted, s.Policy.Remote(&state))
 	s.mutex.Lock()
 	if s.closed {
 		s.mutex.Unlock()
@@ -136,7 +215,7 @@ func (s *Server) serve(accepted net.Conn) {
 		return
 	}
 	if s.conns == nil {
-		s.conns = map[*conn]struct{}{}
+		s.conns = map[*streamed]struct{}{}
 	}
 	s.conns[c] = struct{}{}
 	s.mutex.Unlock()

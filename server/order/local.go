@@ -13,6 +13,7 @@ import (
 )
 
 const (
+	eventsAhead  = 8           // that were handed on together and aren't taken, before more is appended
 	eventsAtOnce = 256         // that are handed on together at most
 	bytesAtOnce  = 4 << 20     // of their strings, or little more
 	roomPause    = time.Second // before a full disk is tried again
@@ -44,7 +45,7 @@ var _ Order = (*Local)(nil)
 // OpenLocal opens the order in a folder, which has to be there and to hold nothing else. What is wrong with the folder
 // is told by Err.
 func OpenLocal(path string, maker Maker) *Local {
-	l := &Local{path: path, maker: maker, events: make(chan []Event), closed: make(chan struct{}), done: make(chan struct{})}
+	l := &Local{path: path, maker: maker, events: make(chan []Event, eventsAhead), closed: make(chan struct{}), done: make(chan struct{})}
 	l.more.L = &l.mutex
 	go l.run()
 	return l

@@ -12,6 +12,7 @@ func (s *Site) takeAnswers(lines []byte, is bool) error {
 		return s.restart(s.engine.Err())
 	}
 	s.heardAt = s.now
+	defer s.publishVote()
 	for len(lines) > 0 {
 		if s.pending.len() == 0 {
 			return &Stopped{"the engine answers what it wasn't asked"}
@@ -28,6 +29,16 @@ func (s *Site) takeAnswers(lines []byte, is bool) error {
 		}
 	}
 	return nil
+}
+
+// publishVote has batches carry the vote of what the engine has come to.
+func (s *Site) publishVote() {
+	if s.vote.Position == s.position {
+		return // which this goroutine alone writes
+	}
+	s.mutex.Lock()
+	defer s.mutex.Unlock()
+	s.vote = s.votes.Own()
 }
 
 func (s *Site) answered(it pending, line []byte) error {

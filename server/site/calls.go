@@ -139,7 +139,8 @@ func (s *Site) tooLate(r *Request) {
 
 func (s *Site) submit(r *Request, text []byte) {
 	r.out, r.handed = true, s.now
-	s.submitted = append(s.submitted, &order.String{Text: text, For: r})
+	r.text = order.String{Text: text, For: r}
+	s.submitted = append(s.submitted, &r.text)
 }
 
 // ran takes in what the engine answers to a call's run.
@@ -256,7 +257,7 @@ func (s *Site) tell(r *Request, answer Answer) {
 	s.asking.remove(r)
 	s.stats.answered(answer.Kind, s.now.Sub(r.began), r.call() != nil)
 	r.Asker.Answer(r, answer)
-	s.flushes = append(s.flushes, r.Asker)
+	s.flushLater(r.Asker)
 	if call := r.call(); call != nil && call.Session != 0 {
 		if next := s.turns.end(call.Session, r); next != nil {
 			s.admitCall(next, next.call())

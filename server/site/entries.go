@@ -94,9 +94,6 @@ func (s *Site) entered(line []byte) error {
 	s.backlog -= len(text)
 	s.position = it.Position
 	s.votes.Answered(text, line)
-	s.mutex.Lock()
-	s.vote = s.votes.Own()
-	s.mutex.Unlock()
 	s.noteAsked(it, text)
 	if err := s.becameOwn(it, line); err != nil {
 		return err

@@ -4,6 +4,7 @@ import (
 	"sync/atomic"
 	"time"
 
+	"dsmdb/server/order"
 	"dsmdb/server/wire"
 )
 
@@ -29,11 +30,12 @@ type Request struct {
 	after    uint64 // the call begins where the engine has this many strings
 	question uint64 // of the order's end, which is waited for; 0 for none
 	tries    int
-	last     Answer    // of a try after which the call is tried again
-	held     Answer    // which isn't told while votes disagree
-	handed   time.Time // when a string of the request's was last handed to the order
-	out      bool      // whether a string of its may be in the order, or come to be, whose outcome isn't known
-	padding  time.Time // when the order is filled up to after; zero for never
+	last     Answer       // of a try after which the call is tried again
+	held     Answer       // which isn't told while votes disagree
+	text     order.String // that was last handed to the order
+	handed   time.Time    // when
+	out      bool         // whether a string of its may be in the order, or come to be, whose outcome isn't known
+	padding  time.Time    // when the order is filled up to after; zero for never
 
 	before, behind *Request // among those that aren't answered
 }

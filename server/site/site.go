@@ -122,8 +122,9 @@ type Site struct {
 	filledTo   uint64   // the position up to which the order was filled up
 	spooling   *Request // whose rows the engine prints, into spool
 	spool      *Spool
-	rowsNext   []*Request // who wait for their rows
-	flushes    []Asker
+	rowsNext   []*Request   // who wait for their rows
+	flushes    []Asker      // who were answered in this turn
+	flusher    chan []Asker // to the goroutine that flushes where many are
 	counts     Counts
 	growth     growth
 	stats      stats
@@ -167,7 +168,7 @@ type Counts struct{ Committed, Refused, Nothing, Untrue uint64 }
 func New(o Options) *Site {
 	return &Site{
 		settings: o.Settings, order: o.Order, start: o.Start, patience: o.Patience, overrule: o.Overrule, say: o.Say, warn: o.Warn, maker: o.Maker,
-		wake: make(chan struct{}, 1), closed: make(chan struct{}),
+		wake: make(chan struct{}, 1), closed: make(chan struct{}), flusher: make(chan []Asker, flushersWait),
 		votes: votes.New(o.Maker, o.Settings), procedures: proceduresOf(o.Settings), turns: turns{},
 		vote: batch.Vote{Answers: batch.OfSettings(o.Settings)},
 	}
@@ -219,6 +220,7 @@ func (s *Site) ring() {
 
 // Run goes on until the context ends, where it returns nil, or an error says why it can't. All requests are answered.
 func (s *Site) Run(ctx context.Context) error {
+	go flushAll(s.flusher)
 	err := s.run(ctx)
 	s.mutex.Lock()
 	s.ended = true
@@ -235,6 +237,7 @@ func (s *Site) Run(ctx context.Context) error {
 	for _, task := range tasks {
 		task()
 	}
+	close(s.flusher)
 	close(s.closed)
 	if s.engine != nil {
 		s.engine.Close()
@@ -310,14 +313,6 @@ func (s *Site) goOn() {
 		s.submitted = nil
 	}
 	s.flush()
-}
-
-func (s *Site) flush() {
-	for at, it := range s.flushes {
-		it.Flush()
-		s.flushes[at] = nil
-	}
-	s.flushes = s.flushes[:0]
 }
 
 func (s *Site) takeInbox() {

@@ -5,6 +5,7 @@ import (
 	"encoding/binary"
 	"encoding/hex"
 	"fmt"
+	"io"
 	"os"
 	"strings"
 	"sync"
@@ -133,10 +134,16 @@ func (r *rig) answer(a *asker) string {
 	select {
 	case answer := <-a.found:
 		if answer.Kind == Rows {
-			var text strings.Builder
-			answer.Lines.WriteTo(&text)
+			lines, err := answer.Lines.Reader()
+			if err != nil {
+				r.t.Fatal(err)
+			}
+			text, err := io.ReadAll(lines)
+			if err != nil {
+				r.t.Fatal(err)
+			}
 			answer.Lines.Close()
-			return text.String()
+			return string(text)
 		}
 		return string(answer.AppendLine(nil))
 	case <-time.After(limit):

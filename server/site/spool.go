@@ -1,6 +1,7 @@
 package site
 
 import (
+	"bytes"
 	"fmt"
 	"io"
 	"os"
@@ -53,22 +54,21 @@ func (s *Spool) spill() error {
 // Size returns how many bytes the lines have.
 func (s *Spool) Size() int64 { return s.size }
 
-// WriteTo writes all lines.
-func (s *Spool) WriteTo(to io.Writer) (int64, error) {
+// Reader returns what reads all lines, from the first one on. Of one spool there is one reader at a time.
+func (s *Spool) Reader() (io.Reader, error) {
 	if s.failed != nil {
-		return 0, s.failed
+		return nil, s.failed
 	}
 	if s.file == nil {
-		count, err := to.Write(s.few)
-		return int64(count), err
+		return bytes.NewReader(s.few), nil
 	}
 	if err := s.spill(); err != nil {
-		return 0, err
+		return nil, err
 	}
 	if _, err := s.file.Seek(0, io.SeekStart); err != nil {
-		return 0, fmt.Errorf("reading kept rows: %w", err)
+		return nil, fmt.Errorf("reading kept rows: %w", err)
 	}
-	return io.Copy(to, s.file)
+	return s.file, nil
 }
 
 // Close gives the lines up.

@@ -101,13 +101,13 @@ func Read(text string) (Line, error) {
 	if text == "" || line.Tag == "" && text[0] == '#' {
 		return line, nil
 	}
-	var room [12]string
-	words := splitText(text, room[:0])
-	if words[0] == "call" { // the one that matters for speed
-		ask, err := readCall(words[1:])
-		line.Ask = ask
+	if text == "call" || strings.HasPrefix(text, "call ") { // the one that matters for speed
+		var room [12]string
+		var err error
+		line.Ask, err = readCall(splitText(text, room[:0])[1:])
 		return line, err
 	}
+	words := splitText(text, nil)
 	read, is := readers[words[0]]
 	if !is {
 		return line, NoWord

@@ -51,14 +51,33 @@ func main() {
 	flag.Parse()
 	found := &counted{others: map[string]int{}}
 	places := strings.Split(*at, ",")
-	begun := time.Now()
-	until := begun.Add(time.Duration(*seconds * float64(time.Second)))
-	var all sync.WaitGroup
 	share := *connections
 	if share == 0 {
 		share = *clients
 	}
-	faults := make(chan error, share)
+	var callers []*caller
+	if share == *clients && arePlain(places) {
+		var err error
+		if callers, err = newCallers(places, share); err != nil {
+			fmt.Fprintln(os.Stderr, "load:", err)
+			os.Exit(1)
+		}
+		share = 0
+	}
+	begun := time.Now()
+	until := begun.Add(time.Duration(*seconds * float64(time.Second)))
+	var all sync.WaitGroup
+	faults := make(chan error, share+threads)
+	for first := 0; first < len(callers) && first < threads; first++ {
+		first := first
+		all.Add(1)
+		go func() {
+			defer all.Done()
+			if err := overPlain(callers, first, until, found); err != nil {
+				faults <- err
+			}
+		}()
+	}
 	for one := 0; one < share; one++ {
 		count := *clients / share
 		if one < *clients%share {
@@ -114,9 +133,6 @@ func run(place string, first, count int, until time.Time, found *counted) error 
 	if err != nil {
 		return err
 	}
-	if count == 1 {
-		return alone(reached, lines, first, sessions[0], until, found)
-	}
 	return together(reached, lines, first, sessions, until, found)
 }
 
@@ -150,20 +166,6 @@ func begin(to net.Conn, lines *bufio.Reader, count int) ([]string, error) {
 func args(key int) string {
 	raw := binary.LittleEndian.AppendUint64(nil, uint64(key))
 	return hex.EncodeToString(binary.LittleEndian.AppendUint64(raw, 1))
-}
-
-func alone(to net.Conn, lines *bufio.Reader, key int, session string, until time.Time, found *counted) error {
-	for sequence := 1; time.Now().Before(until); sequence++ {
-		asked := time.Now()
-		fmt.Fprintf(to, "call %s %s %s %d\n", *procedure, args(key), session, sequence)
-		answer, err := lines.ReadString('\n')
-		if err != nil {
-			return err
-		}
-		word, _, _ := strings.Cut(strings.TrimSpace(answer), " ")
-		found.add(word, time.Since(asked))
-	}
-	return nil
 }
 
 // together has several calls under way on one connection, one for each session.
