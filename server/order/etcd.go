@@ -129,9 +129,7 @@ func (e *Etcd) run() {
 	}
 	go func() { // wakes all that wait
 		<-e.ctx.Done()
-		e.mutex.Lock()
-		e.making.more.Broadcast()
-		e.mutex.Unlock()
+		e.wakeMaking()
 		e.journal.wake()
 		e.out.wake()
 	}()

@@ -6,15 +6,14 @@ import (
 	"crypto/rand"
 	"fmt"
 	"sync"
+	"time"
 
 	"dsmdb/server/batch"
 	pb "go.etcd.io/etcd/etcdserver/etcdserverpb"
 )
 
-const (
-	mostPuts = 3  // batches that are on their way to etcd at once
-	mostOwn  = 64 // batches that the watch hasn't shown yet
-)
+// mostOwn is how many batches the watch may not have shown yet.
+const mostOwn = 64
 
 // making is what this server appends. The order's mutex guards it.
 type making struct {
@@ -22,7 +21,7 @@ type making struct {
 	database batch.ID // drawn for an order without batches
 	waiting  []*String
 	wantVote bool
-	puts     int               // batches on their way to etcd
+	gather   gathering
 	own      map[name]*ownMade // batches made since the start that the watch hasn't shown
 	unknown  map[name]bool     // those whose strings were refused, though they may stand yet
 	underWay sync.WaitGroup
@@ -74,7 +73,7 @@ func (e *Etcd) make(ctx context.Context) error {
 		if len(wanted) == 0 && !vote {
 			e.mutex.Lock()
 			e.making.gone(own.name)
-			e.making.puts--
+			e.making.gather.end(len(e.making.waiting), time.Now())
 			e.mutex.Unlock()
 			continue
 		}
@@ -101,8 +100,12 @@ func (e *Etcd) nextOwn(ctx context.Context) (own *ownMade, strings []*String, vo
 			}
 			m.waiting, m.wantVote, idle = nil, false, true
 		}
-		if !idle && e.caughtUp && m.puts < mostPuts && len(m.own) < mostOwn {
-			break
+		if !idle && e.caughtUp && m.gather.puts < mostPuts && len(m.own) < mostOwn {
+			wait := m.gather.wait(len(m.waiting), time.Now())
+			if wait == 0 {
+				break
+			}
+			time.AfterFunc(wait, e.wakeMaking)
 		}
 		m.more.Wait()
 	}
@@ -115,10 +118,16 @@ func (e *Etcd) nextOwn(ctx context.Context) (own *ownMade, strings []*String, vo
 	}
 	own = &ownMade{name: drawn, key: e.keys.of(drawn), cancel: func() {}}
 	m.own[drawn] = own
-	m.puts++
 	strings, m.waiting = cutToRoom(m.waiting, batch.Longest-batch.HeaderSize(e.maker.Version))
+	m.gather.begin(len(strings), time.Now())
 	vote, m.wantVote = m.wantVote, false
 	return own, strings, vote, nil
+}
+
+func (e *Etcd) wakeMaking() {
+	e.mutex.Lock()
+	defer e.mutex.Unlock()
+	e.making.more.Broadcast()
 }
 
 // valueOf returns what etcd keeps of a batch.
@@ -151,7 +160,7 @@ func (e *Etcd) bring(ctx context.Context, own *ownMade) {
 	defer e.making.underWay.Done()
 	defer func() {
 		e.mutex.Lock()
-		e.making.puts--
+		e.making.gather.end(len(e.making.waiting), time.Now())
 		e.making.more.Broadcast()
 		e.mutex.Unlock()
 	}()
