@@ -141,6 +141,25 @@ func TestWhereNobodyAnswersInTime(t *testing.T) {
 }
 
 // Who dies with an answer in hand, or goes on, is told as the store says.
+func TestAContextThatEndsBehindAnAnswer(t *testing.T) {
+	answers := make([]string, 2000)
+	for at := range answers {
+		answers[at] = "position 0"
+	}
+	reached, err := (&Dialer{}).Dial(context.Background(), serve(t, answers...).path)
+	if err != nil {
+		t.Fatal(err)
+	}
+	defer reached.Close()
+	for turn := range answers {
+		ctx, cancel := context.WithTimeout(context.Background(), time.Minute)
+		if _, err := reached.Ask(ctx, "position"); err != nil {
+			t.Fatalf("turn %d: %v", turn, err)
+		}
+		cancel() // which is nothing to the next one
+	}
+}
+
 func TestAnAnswerIsKeptUntilItIsHandedOn(t *testing.T) {
 	store := &Memory{State{Next: 1}}
 	s := serve(t, greeting, "session 7", "committed 8 reply 1", "committed 9 reply 2", greeting, "committed 9 reply 2")

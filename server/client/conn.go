@@ -99,22 +99,26 @@ func (c *Conn) next(ctx context.Context) (string, error) {
 	return answer[:len(answer)-1], nil
 }
 
-// until has the connection's calls end with a context.
+// until has the connection's calls end with a context, until it is released: a context that ends later ends no other call.
 func (c *Conn) until(ctx context.Context) (release func()) {
 	deadline, _ := ctx.Deadline()
 	c.net.SetDeadline(deadline)
 	if ctx.Done() == nil {
 		return func() {}
 	}
-	over := make(chan struct{})
+	over, left := make(chan struct{}), make(chan struct{})
 	go func() {
+		defer close(left)
 		select {
 		case <-ctx.Done():
 			c.net.SetDeadline(time.Unix(1, 0))
 		case <-over:
 		}
 	}()
-	return func() { close(over) }
+	return func() {
+		close(over)
+		<-left
+	}
 }
 
 func (c *Conn) why(ctx context.Context, err error) error {
