@@ -14,8 +14,9 @@ import (
 
 const (
 	finishIn  = 3 * time.Second
-	firstRoom = 1 << 12 // bytes of a connection's buffer
-	keptRoom  = 1 << 16 // bytes of a buffer that is kept
+	firstRoom = 1 << 12                // bytes of a connection's buffer
+	keptRoom  = 1 << 16                // bytes of a buffer that is kept
+	alike     = 100 * time.Microsecond // for which a client who was there counts as being there
 
 	longestOfStrangers = 1 << 13 // bytes of a line of somebody who may not call
 )
@@ -24,7 +25,7 @@ const (
 type carrier interface {
 	// flush says that there is something to write, or the end. It never waits.
 	flush()
-	// resume says that a connection that had no room has some. It never waits.
+	// resume says that there is room for the line that waits. It never waits.
 	resume()
 	// gone returns whether the client has left, as the kernel knows.
 	gone() bool
@@ -34,37 +35,49 @@ type carrier interface {
 
 // conn is what is asked and answered on one connection, however its bytes come and go.
 type conn struct {
-	server *Server
-	way    carrier
-	input  input
-	who    *access.Who // of who reads
+	server  *Server
+	carrier carrier
+	input   input
+	who     *access.Who // of who reads
+	answers bool        // whether lines were answered that the site isn't asked; of who reads
 
 	mutex   sync.Mutex
 	out     output
-	waiting int  // requests that weren't answered
-	plain   bool // whether one without a tag is among them
-	busy    bool // whether a line is carried out that the others wait for
-	paused  bool // whether the next line waits for room
-	ended   bool // nothing more is read
-	broken  bool // nothing more can be written
+	waiting int    // requests that weren't answered
+	plain   bool   // whether one without a tag is among them
+	busy    bool   // whether a line is carried out that the others wait for
+	paused  bool   // whether a line waits for room
+	tag     string // of that line
+	ended   bool   // nothing more is read
+	broken  bool   // nothing more can be written
 }
 
-func (c *conn) init(s *Server, way carrier, who *access.Who) {
-	c.server, c.way, c.who = s, way, who
-	c.input.buffer = make([]byte, firstRoom)
+func (c *conn) init(s *Server, by carrier, who *access.Who) {
+	c.server, c.carrier, c.who = s, by, who
+	c.input.buffer, c.input.heardAt = make([]byte, firstRoom), time.Now()
 }
 
 // input is what was read and isn't taken yet.
 type input struct {
 	buffer  []byte
 	held    int       // bytes of the buffer
+	whole   int       // bytes of whole lines among them, which are taken before more is read
 	passing bool      // whether a line that is too long is passed over, up to its end
-	begun   time.Time // when a line was half sent; zero where none is
-	heardAt time.Time // when something was last read
+	begun   time.Time // when a line was half there; zero where none is
+	heardAt time.Time // when something was last read, or a line didn't wait for room any more
 }
 
 // room is where the next bytes are read into.
 func (i *input) room() []byte { return i.buffer[i.held:] }
+
+// heard takes in that more bytes were read.
+func (i *input) heard(count int, now time.Time) {
+	if end := bytes.LastIndexByte(i.buffer[i.held:i.held+count], '\n'); end >= 0 {
+		i.whole = i.held + end + 1
+	}
+	i.held += count
+	i.heardAt = now
+}
 
 // until returns until when a client may stay silent.
 func (i *input) until(limits *Limits) time.Time {
@@ -74,30 +87,49 @@ func (i *input) until(limits *Limits) time.Time {
 	return i.begun.Add(limits.Line)
 }
 
-// heard takes in that more bytes were read.
-func (i *input) heard(count int, now time.Time) {
-	i.held += count
-	i.heardAt = now
+// took drops lines that were taken.
+func (i *input) took(count int) {
+	if count > 0 {
+		i.held = copy(i.buffer, i.buffer[count:i.held])
+		i.whole -= count
+		i.begun = time.Time{}
+	}
 }
 
 // ---- what is asked
 
-// takeLines adds to some what whole lines ask, up to one that has to wait for room: then the connection is paused. It
-// returns false where the connection is over.
-func (c *conn) takeLines(some *[]*site.Request) bool {
+// taken is how far the lines that were read are taken.
+type taken uint8
+
+const (
+	allTaken  taken = iota // more may be read
+	lineWaits              // for room: the carrier is told to resume
+	noMore                 // the connection is over
+)
+
+// takeLines adds to some what whole lines ask, up to one that has to wait for room.
+func (c *conn) takeLines(some *[]*site.Request) taken {
 	in := &c.input
-	whole := bytes.LastIndexByte(in.buffer[:in.held], '\n') + 1
-	lines := in.buffer[:whole]
-	for len(lines) > 0 {
-		end := bytes.IndexByte(lines, '\n')
-		if !c.takeLine(lines[:end], some) {
-			in.held = copy(in.buffer, in.buffer[whole-len(lines):in.held])
-			return true
+	at := 0
+	for at < in.whole {
+		end := at + bytes.IndexByte(in.buffer[at:in.whole], '\n')
+		if !c.takeLine(in.buffer[at:end], some) {
+			break
 		}
-		lines = lines[end+1:]
+		at = end + 1
 	}
-	in.held = copy(in.buffer, in.buffer[whole:in.held])
-	return c.keepBeginning()
+	in.took(at)
+	if c.answers {
+		c.answers = false
+		c.carrier.flush()
+	}
+	switch {
+	case in.whole > 0:
+		return lineWaits
+	case c.keepBeginning():
+		return allTaken
+	}
+	return noMore
 }
 
 // keepBeginning makes room for the rest of a line; false where who asks may not have a line so long.
@@ -117,7 +149,7 @@ func (c *conn) keepBeginning() bool {
 	if in.held == 0 && !in.passing {
 		in.begun = time.Time{}
 	} else if in.begun.IsZero() {
-		in.begun = in.heardAt
+		in.begun = time.Now()
 	}
 	return true
 }
@@ -196,8 +228,9 @@ func (c *conn) invite(tag string, ask *wire.Join) {
 		}
 		c.mutex.Lock()
 		c.busy = false
-		c.mutex.Unlock()
-		c.answerAtOnce(tag, text)
+		c.out.putText(tag, text)
+		c.leave(tag)
+		c.carrier.flush()
 	}()
 }
 
@@ -211,13 +244,13 @@ func (c *conn) showToken(ask wire.Token) string {
 	return "token accepted"
 }
 
-// enter counts a request as under way; where there is no room for one more, or nothing can be answered any more, the
-// connection is paused. Lines without a tag are under way one by one.
+// enter counts a request as under way. Where there is no room for one more, or nothing can be answered any more, its line
+// waits. Lines without a tag are under way one by one.
 func (c *conn) enter(tag string) bool {
 	c.mutex.Lock()
 	defer c.mutex.Unlock()
 	if c.busy || c.broken || !c.hasRoom(tag) {
-		c.paused = true
+		c.paused, c.tag = true, tag
 		return false
 	}
 	c.waiting++
@@ -245,10 +278,10 @@ func (c *conn) Answer(of *site.Request, answer site.Answer) {
 
 // answerAtOnce answers a line that the site isn't asked.
 func (c *conn) answerAtOnce(tag, text string) {
+	c.answers = true
 	c.mutex.Lock()
 	c.out.putText(tag, text)
 	c.leave(tag)
-	c.way.flush()
 }
 
 // leave says that a request was answered, and unlocks the connection.
@@ -260,31 +293,31 @@ func (c *conn) leave(tag string) {
 	resumes := c.mayResume()
 	c.mutex.Unlock()
 	if resumes {
-		c.way.resume()
+		c.carrier.resume()
 	}
 }
 
-// mayResume returns whether lines that wait may be looked at again. Its caller has the lock.
+// mayResume returns whether a line waits that has room now. Its caller has the lock.
 func (c *conn) mayResume() bool {
-	if !c.paused || c.busy || c.broken || c.out.size > c.server.Limits.Bytes {
+	if !c.paused || c.busy || c.broken || !c.hasRoom(c.tag) {
 		return false
 	}
 	c.paused = false
 	return true
 }
 
-// wrote takes in that bytes of the output were written. Its caller has the lock; it returns whether lines that wait may
-// be looked at again.
+// wrote takes in that bytes of the output were written. Its caller has the lock; it returns whether a line waits that has
+// room now.
 func (c *conn) wrote(count int) bool {
 	c.out.size -= count
 	return c.mayResume()
 }
 
 // Flush implements site.Asker.
-func (c *conn) Flush() { c.way.flush() }
+func (c *conn) Flush() { c.carrier.flush() }
 
 // Gone implements site.Asker.
-func (c *conn) Gone() bool { return c.way.gone() }
+func (c *conn) Gone() bool { return c.carrier.gone() }
 
 // isOver returns whether all is read and answered. Its caller has the lock.
 func (c *conn) isOver() bool { return c.ended && c.waiting == 0 && (c.broken || c.out.isEmpty()) }

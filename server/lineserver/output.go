@@ -24,12 +24,15 @@ type piece struct {
 
 func (o *output) isEmpty() bool { return len(o.pieces) == 0 }
 
-// lastBytes returns the piece to which lines are added.
+// lastBytes returns the piece to which lines are added. A long one gets no more: what was sent of it is kept up to its end.
 func (o *output) lastBytes() *piece {
-	if len(o.pieces) == 0 || o.pieces[len(o.pieces)-1].lines != nil {
-		o.pieces = append(o.pieces, piece{bytes: o.spare})
-		o.spare = nil
+	if count := len(o.pieces); count > 0 {
+		if last := &o.pieces[count-1]; last.lines == nil && len(last.bytes) < keptRoom {
+			return last
+		}
 	}
+	o.pieces = append(o.pieces, piece{bytes: o.spare})
+	o.spare = nil
 	return &o.pieces[len(o.pieces)-1]
 }
 
@@ -60,12 +63,12 @@ func (o *output) takeAll(spare []piece) []piece {
 
 // shift drops the first piece, which is written.
 func (o *output) shift() {
-	if room := o.pieces[0].bytes; cap(room) <= keptRoom {
-		o.spare = room[:0]
+	if first := &o.pieces[0]; first.lines == nil && cap(first.bytes) <= firstRoom {
+		o.spare = first.bytes[:0]
 	}
-	left := copy(o.pieces, o.pieces[1:])
-	o.pieces[left] = piece{}
-	o.pieces = o.pieces[:left]
+	count := copy(o.pieces, o.pieces[1:])
+	o.pieces[count] = piece{}
+	o.pieces = o.pieces[:count]
 }
 
 // drop gives up what isn't written.
@@ -100,29 +103,45 @@ func (p *piece) reader() (io.Reader, error) {
 	return &tagged{lines: bufio.NewReader(lines), tag: p.tag}, nil
 }
 
-// tagged reads lines with a tag before each, a part of a line at a time.
+// tagged reads lines with a tag before each.
 type tagged struct {
 	lines  *bufio.Reader
 	tag    string
-	inside bool // whether the next bytes go on a line
-	left   []byte
+	inside bool   // whether the next bytes go on a line
+	part   []byte // of a line, with its tag
+	given  int    // of the part
 }
 
 // Read implements io.Reader.
 func (t *tagged) Read(into []byte) (int, error) {
-	if len(t.left) == 0 {
-		part, err := t.lines.ReadSlice('\n')
-		if err != nil && err != bufio.ErrBufferFull {
-			return 0, err
+	count := 0
+	for count < len(into) {
+		if t.given == len(t.part) {
+			if err := t.next(); err != nil {
+				if count > 0 {
+					return count, nil
+				}
+				return 0, err
+			}
 		}
-		t.left = t.left[:0]
-		if !t.inside {
-			t.left = append(t.left, t.tag...)
-		}
-		t.left = append(t.left, part...)
-		t.inside = err == bufio.ErrBufferFull
+		copied := copy(into[count:], t.part[t.given:])
+		t.given += copied
+		count += copied
 	}
-	count := copy(into, t.left)
-	t.left = t.left[count:]
 	return count, nil
+}
+
+// next reads the next line, or a part of a long one.
+func (t *tagged) next() error {
+	read, err := t.lines.ReadSlice('\n')
+	if err != nil && err != bufio.ErrBufferFull {
+		return err
+	}
+	t.part, t.given = t.part[:0], 0
+	if !t.inside {
+		t.part = append(t.part, t.tag...)
+	}
+	t.part = append(t.part, read...)
+	t.inside = err == bufio.ErrBufferFull
+	return nil
 }

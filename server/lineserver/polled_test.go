@@ -18,43 +18,69 @@ import (
 	"dsmdb/server/site"
 )
 
-// still is an engine that answers nothing: a site says its position all the same.
-type still struct{ answers chan []byte }
+// engineOf answers each string of the order, and rows.
+type engineOf struct {
+	answers  chan []byte
+	position int
+	rows     string
+}
 
-func (s still) Ask([]byte)                        {}
-func (s still) Unsent() int                       { return 0 }
-func (s still) Answers() <-chan []byte            { return s.answers }
-func (s still) Err() error                        { return nil }
-func (s still) Processor() (time.Duration, error) { return time.Since(time.Time{}), nil }
-func (s still) Memory() (uint64, error)           { return 0, nil }
-func (s still) Kill()                             {}
-func (s still) Close()                            {}
+func (e *engineOf) Ask(lines []byte) {
+	var text strings.Builder
+	for _, line := range strings.Split(strings.TrimSuffix(string(lines), "\n"), "\n") {
+		if line == "rows" {
+			fmt.Fprintf(&text, "%sposition %d rows %d\n", e.rows, e.position, strings.Count(e.rows, "\n"))
+		} else {
+			e.position++
+			fmt.Fprintf(&text, "entry %d nothing E1\n", e.position)
+		}
+	}
+	e.answers <- []byte(text.String())
+}
 
-// serving has a server of these limits answer at a Unix socket and over TCP, and calls try with how to reach each.
-func serving(t *testing.T, limits Limits, try func(t *testing.T, s *Server, dial func() net.Conn)) {
-	for _, kind := range []string{"unix", "tcp"} {
+func (*engineOf) Unsent() int                       { return 0 }
+func (e *engineOf) Answers() <-chan []byte          { return e.answers }
+func (*engineOf) Err() error                        { return nil }
+func (*engineOf) Processor() (time.Duration, error) { return 0, nil }
+func (*engineOf) Memory() (uint64, error)           { return 0, nil }
+func (*engineOf) Kill()                             {}
+func (*engineOf) Close()                            {}
+
+// serving has a server of these limits, whose rows are given, answer in each way, and calls try with how to reach the
+// server.
+func serving(t *testing.T, limits Limits, rows string, try func(t *testing.T, s *Server, dial func() net.Conn)) {
+	for _, kind := range []string{"unix", "tcp", "streamed"} {
 		t.Run(kind, func(t *testing.T) {
 			over := order.OpenLocal(t.TempDir(), order.Maker{ID: batch.ID{1}})
 			quiet := func(string, ...any) {}
 			running := site.New(site.Options{
-				Order: over, Patience: time.Minute, Say: quiet, Warn: quiet,
-				Start: func(context.Context) (site.Engine, error) { return still{make(chan []byte)}, nil },
+				Order: over, Maker: batch.ID{1}, Patience: time.Minute, Say: quiet, Warn: quiet,
+				Start: func(context.Context) (site.Engine, error) {
+					return &engineOf{answers: make(chan []byte, 100), rows: rows}, nil
+				},
 			})
 			ctx, stop := context.WithCancel(context.Background())
 			ended := make(chan error, 2)
 			go func() { ended <- running.Run(ctx) }()
-			address := "127.0.0.1:0"
-			if kind == "unix" {
-				address = filepath.Join(t.TempDir(), "socket")
+			network, address := kind, "127.0.0.1:0"
+			if kind != "tcp" {
+				network, address = "unix", filepath.Join(t.TempDir(), "socket")
 			}
-			listener, err := net.Listen(kind, address)
+			listener, err := net.Listen(network, address)
 			if err != nil {
 				t.Fatal(err)
 			}
 			s := &Server{Site: running, Policy: access.Without(true), Limits: limits, Warn: t.Logf}
-			go func() { ended <- s.Serve(ctx, listener) }()
+			serve := func() error { return s.Serve(ctx, listener) }
+			if kind == "streamed" {
+				serve = func() error { return serveStreamed(s, listener) }
+			}
+			go func() { ended <- serve() }()
+			for running.Vote().Position == 0 { // up to the order's first string
+				time.Sleep(time.Millisecond)
+			}
 			try(t, s, func() net.Conn {
-				reached, err := net.Dial(kind, listener.Addr().String())
+				reached, err := net.Dial(network, listener.Addr().String())
 				if err != nil {
 					t.Fatal(err)
 				}
@@ -64,6 +90,7 @@ func serving(t *testing.T, limits Limits, try func(t *testing.T, s *Server, dial
 			})
 			s.Close()
 			stop()
+			listener.Close()
 			for range [2]int{} {
 				if err := <-ended; err != nil {
 					t.Error(err)
@@ -74,10 +101,29 @@ func serving(t *testing.T, limits Limits, try func(t *testing.T, s *Server, dial
 	}
 }
 
+// serveStreamed takes connections as those over TLS are.
+func serveStreamed(s *Server, listener net.Listener) error {
+	for {
+		accepted, err := listener.Accept()
+		if err != nil {
+			return nil
+		}
+		if !s.enter() || !s.begin() {
+			accepted.Close()
+			continue
+		}
+		go func() {
+			defer s.all.Done()
+			defer s.leave()
+			s.runStreamed(newStreamed(s, accepted, s.Policy.Local()))
+		}()
+	}
+}
+
 func TestLinesOfOneConnection(t *testing.T) {
 	limits := DefaultLimits
 	limits.Requests, limits.Bytes = 10, 100 // so that lines wait for room again and again
-	serving(t, limits, func(t *testing.T, _ *Server, dial func() net.Conn) {
+	serving(t, limits, "", func(t *testing.T, _ *Server, dial func() net.Conn) {
 		for _, tagged := range []bool{false, true} {
 			client := dial()
 			var text strings.Builder
@@ -94,9 +140,9 @@ func TestLinesOfOneConnection(t *testing.T) {
 			}()
 			answers, count := bufio.NewScanner(client), 0
 			for ; answers.Scan(); count++ {
-				wanted := [2]string{"position 0", "fault L2"}[count%2]
+				wanted := [2]string{"position 1", "fault L2"}[count%2]
 				if tagged {
-					wanted = fmt.Sprintf("#%d position 0", count)
+					wanted = fmt.Sprintf("#%d position 1", count)
 				}
 				if answers.Text() != wanted {
 					t.Fatalf("answer %d is %q, not %q", count, answers.Text(), wanted)
@@ -117,7 +163,7 @@ func TestWhoIsSilentLosesTheConnection(t *testing.T) {
 		} else {
 			limits.Line = 10 * time.Millisecond
 		}
-		serving(t, limits, func(t *testing.T, s *Server, dial func() net.Conn) {
+		serving(t, limits, "", func(t *testing.T, s *Server, dial func() net.Conn) {
 			client := dial()
 			io.WriteString(client, sent)
 			if count, err := client.Read(make([]byte, 1)); count != 0 || err != io.EOF {
@@ -130,7 +176,7 @@ func TestWhoIsSilentLosesTheConnection(t *testing.T) {
 func TestWhoDoesNotReadLosesTheConnection(t *testing.T) {
 	limits := DefaultLimits
 	limits.Send, limits.Bytes = 10*time.Millisecond, 1000
-	serving(t, limits, func(t *testing.T, s *Server, dial func() net.Conn) {
+	serving(t, limits, "", func(t *testing.T, s *Server, dial func() net.Conn) {
 		silent, other := dial(), dial()
 		lines := strings.Repeat("#1 position\n", 1000)
 		written := 0
@@ -147,18 +193,18 @@ func TestWhoDoesNotReadLosesTheConnection(t *testing.T) {
 		}
 		// others were answered meanwhile, and are
 		io.WriteString(other, "position\n")
-		if answer, err := bufio.NewReader(other).ReadString('\n'); answer != "position 0\n" || err != nil {
+		if answer, err := bufio.NewReader(other).ReadString('\n'); answer != "position 1\n" || err != nil {
 			t.Errorf("%q, %v", answer, err)
 		}
 	})
 }
 
 func TestAServerThatEnds(t *testing.T) {
-	serving(t, DefaultLimits, func(t *testing.T, s *Server, dial func() net.Conn) {
+	serving(t, DefaultLimits, "", func(t *testing.T, s *Server, dial func() net.Conn) {
 		client := dial()
 		io.WriteString(client, "position\nposi")
 		lines := bufio.NewReader(client)
-		if answer, err := lines.ReadString('\n'); answer != "position 0\n" || err != nil {
+		if answer, err := lines.ReadString('\n'); answer != "position 1\n" || err != nil {
 			t.Errorf("%q, %v", answer, err)
 		}
 		s.Close()
@@ -171,6 +217,82 @@ func TestAServerThatEnds(t *testing.T) {
 		late := dial() // taken by nobody, or closed at once
 		if count, err := late.Read(make([]byte, 1)); count != 0 || err == nil {
 			t.Errorf("%d bytes, %v", count, err)
+		}
+	})
+}
+
+func TestRows(t *testing.T) {
+	var rows strings.Builder
+	for key := 0; key < 100_000; key++ {
+		fmt.Fprintf(&rows, " 1 %d 0102030405060708\n", key)
+	}
+	serving(t, DefaultLimits, rows.String(), func(t *testing.T, s *Server, dial func() net.Conn) {
+		if strings.HasSuffix(t.Name(), "/tcp") {
+			return // by which nobody may read rows
+		}
+		for turn := 0; turn < 5; turn++ { // who leaves in the middle
+			client := dial()
+			io.WriteString(client, "rows\nposition\n#1 rows\n")
+			io.ReadFull(client, make([]byte, 100_000))
+			client.Close()
+		}
+		other := dial()
+		for _, tag := range []string{"", "#7 "} {
+			client := dial()
+			io.WriteString(client, tag+"rows\n"+tag+"position\n")
+			io.WriteString(other, "position\n") // which nobody holds up
+			if answer, err := bufio.NewReader(other).ReadString('\n'); answer != "position 1\n" || err != nil {
+				t.Errorf("%q, %v", answer, err)
+			}
+			lines, at := bufio.NewReader(client), 0
+			for _, wanted := range strings.SplitAfter(rows.String()+"position 1 rows 100000\n", "\n") {
+				if wanted == "" {
+					continue
+				}
+				found, err := lines.ReadString('\n')
+				if tag != "" && found == tag+"position 1\n" { // which may come first
+					found, err = lines.ReadString('\n')
+				}
+				if at++; found != tag+wanted || err != nil {
+					t.Fatalf("line %d is %q, not %q: %v", at, found, tag+wanted, err)
+				}
+			}
+			client.Close()
+		}
+		for end := time.Now().Add(10 * time.Second); ; time.Sleep(10 * time.Millisecond) {
+			if open, _ := s.Open(); open == 1 {
+				break
+			} else if time.Now().After(end) {
+				t.Fatalf("%d connections are open", open)
+			}
+		}
+	})
+}
+
+func TestABusyServerExpires(t *testing.T) {
+	limits := DefaultLimits
+	limits.Line = 10 * time.Millisecond
+	serving(t, limits, "", func(t *testing.T, s *Server, dial func() net.Conn) {
+		busy, over := dial(), make(chan struct{})
+		defer func() { <-over }()
+		stop := make(chan struct{})
+		defer close(stop)
+		go func() {
+			defer close(over)
+			for {
+				select {
+				case <-stop:
+					return
+				default:
+					busy.Write([]byte("\n\n\n\n"))
+				}
+			}
+		}()
+		client := dial()
+		io.WriteString(client, "posi")
+		begun := time.Now()
+		if count, err := client.Read(make([]byte, 1)); count != 0 || err != io.EOF || time.Since(begun) > 10*time.Second {
+			t.Errorf("%d bytes, %v, after %v", count, err, time.Since(begun))
 		}
 	})
 }

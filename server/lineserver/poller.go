@@ -16,68 +16,74 @@ import (
 
 const (
 	eventsAtOnce = 256
-	askedAtOnce  = 8                      // at least, where many ask: the site begins with them while others are read
-	lookEvery    = time.Second            // for clients who are silent or don't read
-	alike        = 100 * time.Microsecond // for which a client who was there counts as being there
+	askedAtOnce  = 8           // requests at least, where many ask: the site begins with them while others are read
+	expireEvery  = time.Second // who is silent, or doesn't read
 )
 
-// began is what poller.looked is counted from.
+// began is what times are counted from that several goroutines compare.
 var began = time.Now().Add(-time.Hour)
 
 // poller waits for the kernel's word on many connections (epoll(7)) in one goroutine, so that what comes together is
 // asked together.
 type poller struct {
-	server *Server
-	fd     int
-	bell   int // an eventfd(2), by which it is told of something
-	ready  syscall.RawConn
-	file   *os.File     // of fd
-	looked atomic.Int64 // when it was last looked who has left, since began
-	named  []*polled    // room of connsOf
+	server   *Server
+	fd       int
+	bell     int // an eventfd(2), by which the poller is told of something
+	ready    syscall.RawConn
+	file     *os.File     // of fd
+	lookedAt atomic.Int64 // when it was last looked who has left, since began
+	turning  []*polled    // room for the connections of a turn's events
 
-	mutex  sync.Mutex
-	conns  map[int32]*polled // by descriptor
-	count  int32             // of connections so far
-	told   []*polled
-	found  []unix.EpollEvent
-	closed bool // it takes no more connections
-	ended  bool // and has none
+	mutex    sync.Mutex
+	conns    map[int32]*polled // by descriptor
+	made     int32             // connections so far
+	told     []*polled         // that the goroutine looks after in its next turn
+	looking  []unix.EpollEvent // room for who has left
+	closing  bool              // no more connections are taken
+	released bool              // none is left
 }
 
 func newPoller(s *Server) (*poller, error) {
-	fd, err := unix.EpollCreate1(unix.EPOLL_CLOEXEC)
-	if err != nil {
+	p := &poller{server: s, fd: -1, bell: -1, conns: map[int32]*polled{}, turning: make([]*polled, eventsAtOnce)}
+	if err := p.open(); err != nil {
+		unix.Close(p.bell)
+		unix.Close(p.fd)
 		return nil, fmt.Errorf("waiting for connections: %w", err)
 	}
-	bell, err := unix.Eventfd(0, unix.EFD_CLOEXEC|unix.EFD_NONBLOCK)
-	if err == nil {
-		err = unix.EpollCtl(fd, unix.EPOLL_CTL_ADD, bell, &unix.EpollEvent{Events: unix.EPOLLIN, Fd: int32(bell)})
-	}
-	if err == nil {
-		err = unix.SetNonblock(fd, true) // so that Go's own poller takes it
-	}
-	if err != nil {
-		unix.Close(fd)
-		return nil, fmt.Errorf("waiting for connections: %w", err)
-	}
-	p := &poller{server: s, fd: fd, bell: bell, conns: map[int32]*polled{}, found: make([]unix.EpollEvent, eventsAtOnce), named: make([]*polled, eventsAtOnce)}
-	p.file = os.NewFile(uintptr(fd), "epoll")
+	p.file = os.NewFile(uintptr(p.fd), "epoll")
+	var err error
 	if p.ready, err = p.file.SyscallConn(); err != nil {
+		p.release()
 		return nil, fmt.Errorf("waiting for connections: %w", err)
 	}
 	return p, nil
 }
 
+func (p *poller) open() (err error) {
+	if p.fd, err = unix.EpollCreate1(unix.EPOLL_CLOEXEC); err != nil {
+		return err
+	}
+	if err = unix.SetNonblock(p.fd, true); err != nil { // so that Go's own poller takes it
+		return err
+	}
+	if p.bell, err = unix.Eventfd(0, unix.EFD_CLOEXEC|unix.EFD_NONBLOCK); err != nil {
+		return err
+	}
+	return unix.EpollCtl(p.fd, unix.EPOLL_CTL_ADD, p.bell, &unix.EpollEvent{Events: unix.EPOLLIN, Fd: int32(p.bell)})
+}
+
+// ---- connections
+
 // add takes a connection over, of which the poller has a descriptor of its own.
 func (p *poller) add(c *polled) error {
 	p.mutex.Lock()
 	defer p.mutex.Unlock()
-	if p.closed {
+	if p.closing {
 		return net.ErrClosed
 	}
-	p.count++
-	c.number, c.asked = p.count, unix.EPOLLIN|unix.EPOLLRDHUP
-	event := unix.EpollEvent{Events: c.asked, Fd: int32(c.fd), Pad: c.number}
+	p.made++
+	c.number = p.made
+	event := unix.EpollEvent{Events: firstAsks, Fd: int32(c.fd), Pad: c.number}
 	if err := unix.EpollCtl(p.fd, unix.EPOLL_CTL_ADD, c.fd, &event); err != nil {
 		return fmt.Errorf("waiting for a connection: %w", err)
 	}
@@ -85,13 +91,14 @@ func (p *poller) add(c *polled) error {
 	return nil
 }
 
-// watch has the kernel tell of a connection's events; of one that is broken of none. Its caller has the connection's lock.
-func (p *poller) watch(c *polled) {
+// watch has the kernel tell of a connection's events, and of one that is broken of none; false where that fails. Its
+// caller has the connection's lock.
+func (p *poller) watch(c *polled) bool {
 	if c.broken {
 		unix.EpollCtl(p.fd, unix.EPOLL_CTL_DEL, c.fd, nil)
-		return
+		return true
 	}
-	unix.EpollCtl(p.fd, unix.EPOLL_CTL_MOD, c.fd, &unix.EpollEvent{Events: c.asked, Fd: int32(c.fd), Pad: c.number})
+	return unix.EpollCtl(p.fd, unix.EPOLL_CTL_MOD, c.fd, &unix.EpollEvent{Events: c.interest, Fd: int32(c.fd), Pad: c.number}) == nil
 }
 
 // close closes a connection. Its caller has the connection's lock.
@@ -113,7 +120,7 @@ func (p *poller) close(c *polled) {
 // finish has each connection end, and takes no more.
 func (p *poller) finish() {
 	p.mutex.Lock()
-	p.closed = true
+	p.closing = true
 	p.ring()
 	p.mutex.Unlock()
 	for _, it := range p.all() {
@@ -125,6 +132,9 @@ func (p *poller) finish() {
 func (p *poller) tell(c *polled) {
 	p.mutex.Lock()
 	defer p.mutex.Unlock()
+	if p.released {
+		return
+	}
 	p.told = append(p.told, c)
 	if len(p.told) == 1 {
 		p.ring()
@@ -133,18 +143,18 @@ func (p *poller) tell(c *polled) {
 
 // ring wakes the poller's goroutine. Its caller has the lock.
 func (p *poller) ring() {
-	if !p.ended {
+	if !p.released {
 		unix.Write(p.bell, []byte{1, 0, 0, 0, 0, 0, 0, 0})
 	}
 }
 
 // hasLeft returns whether a connection's client has left. The kernel is asked for all connections at once.
 func (p *poller) hasLeft(c *polled) bool {
-	if time.Since(began)-time.Duration(p.looked.Load()) < alike {
+	if time.Since(began)-time.Duration(p.lookedAt.Load()) < alike {
 		return c.left.Load()
 	}
 	p.mutex.Lock()
-	all := p.ended || time.Since(began)-time.Duration(p.looked.Load()) < alike || p.look()
+	all := p.released || time.Since(began)-time.Duration(p.lookedAt.Load()) < alike || p.look()
 	p.mutex.Unlock()
 	if !all && !c.left.Load() && c.asksWhetherLeft() {
 		c.left.Store(true)
@@ -155,42 +165,46 @@ func (p *poller) hasLeft(c *polled) bool {
 // look notes who has left; false where there may be others. Its caller has the lock.
 func (p *poller) look() bool {
 	now := time.Since(began)
-	count, err := unix.EpollWait(p.fd, p.found, 0)
-	if err != nil || count == len(p.found) {
+	if most := len(p.conns) + 2; len(p.looking) < most { // the bell is one, and one is never there
+		p.looking = make([]unix.EpollEvent, 2*most)
+	}
+	count, err := unix.EpollWait(p.fd, p.looking, 0)
+	if err != nil || count == len(p.looking) {
 		return false
 	}
-	for _, it := range p.found[:count] {
+	for _, it := range p.looking[:count] {
 		if of := p.conns[it.Fd]; of != nil && of.number == it.Pad && it.Events&leaving != 0 {
 			of.left.Store(true)
 		}
 	}
-	p.looked.Store(int64(now))
+	p.lookedAt.Store(int64(now))
 	return true
 }
 
+// ---- the goroutine
+
 // run goes on until the poller takes no more connections and all have ended.
 func (p *poller) run() {
-	defer p.end()
+	defer p.release()
 	events := make([]unix.EpollEvent, eventsAtOnce)
 	var some []*site.Request
-	looked := time.Now()
-	p.file.SetReadDeadline(looked.Add(lookEvery))
-	for !p.isOver() {
+	expired := time.Now()
+	p.file.SetReadDeadline(expired.Add(expireEvery))
+	for !p.isDone() {
 		count, err := p.wait(events)
 		if err != nil && !errors.Is(err, os.ErrDeadlineExceeded) {
 			p.server.Warn("waiting for connections: %v", err)
-			time.Sleep(lookEvery)
+			time.Sleep(expireEvery)
 		}
-		for ; count > 0; count, _ = unix.EpollWait(p.fd, events, 0) {
-			some = p.turn(events[:count], some)
+		now := time.Now()
+		some = p.turn(events[:count], some, now)
+		if now.Sub(expired) < expireEvery {
+			continue
 		}
-		if now := time.Now(); now.Sub(looked) >= lookEvery {
-			looked = now
-			p.file.SetReadDeadline(looked.Add(lookEvery))
-			for _, it := range p.all() {
-				it.expire(now, &some)
-			}
-			some = p.ask(some)
+		expired = now
+		p.file.SetReadDeadline(expired.Add(expireEvery))
+		for _, it := range p.all() {
+			it.expire(now)
 		}
 	}
 }
@@ -198,8 +212,10 @@ func (p *poller) run() {
 // wait waits for events.
 func (p *poller) wait(events []unix.EpollEvent) (count int, err error) {
 	fault := p.ready.Read(func(fd uintptr) bool {
-		count, err = unix.EpollWait(int(fd), events, 0)
-		return count > 0 || err != nil && err != unix.EINTR
+		if count, err = unix.EpollWait(int(fd), events, 0); err == unix.EINTR {
+			count, err = 0, nil
+		}
+		return count > 0 || err != nil
 	})
 	if err == nil {
 		err = fault
@@ -211,11 +227,10 @@ func (p *poller) wait(events []unix.EpollEvent) (count int, err error) {
 }
 
 // turn takes in events, and asks what comes of them together. It returns some, which is empty, for the next turn.
-func (p *poller) turn(events []unix.EpollEvent, some []*site.Request) []*site.Request {
-	now := time.Now()
-	for at, of := range p.connsOf(events) {
-		if of != nil {
-			of.happened(events[at].Events, &some, now)
+func (p *poller) turn(events []unix.EpollEvent, some []*site.Request, now time.Time) []*site.Request {
+	for at, it := range p.connsOf(events) {
+		if it != nil {
+			it.happened(events[at].Events, &some, now)
 		}
 		if len(some) >= askedAtOnce {
 			some = p.ask(some)
@@ -241,16 +256,16 @@ func (p *poller) ask(some []*site.Request) []*site.Request {
 func (p *poller) connsOf(events []unix.EpollEvent) []*polled {
 	p.mutex.Lock()
 	defer p.mutex.Unlock()
-	found := p.named[:len(events)]
+	conns := p.turning[:len(events)]
 	for at, it := range events {
-		if found[at] = p.conns[it.Fd]; found[at] != nil && found[at].number != it.Pad {
-			found[at] = nil
+		if conns[at] = p.conns[it.Fd]; conns[at] != nil && conns[at].number != it.Pad {
+			conns[at] = nil
 		}
 		if int(it.Fd) == p.bell {
 			unix.Read(p.bell, make([]byte, 8))
 		}
 	}
-	return found
+	return conns
 }
 
 func (p *poller) takeTold() []*polled {
@@ -271,17 +286,17 @@ func (p *poller) all() []*polled {
 	return all
 }
 
-func (p *poller) isOver() bool {
+func (p *poller) isDone() bool {
 	p.mutex.Lock()
 	defer p.mutex.Unlock()
-	return p.closed && len(p.conns) == 0
+	return p.closing && len(p.conns) == 0
 }
 
-// end gives up what the poller has of the kernel.
-func (p *poller) end() {
+// release gives up what the poller has of the kernel.
+func (p *poller) release() {
 	p.mutex.Lock()
 	defer p.mutex.Unlock()
-	p.ended = true
+	p.released, p.told = true, nil
 	p.file.Close()
 	unix.Close(p.bell)
 }

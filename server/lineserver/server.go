@@ -24,7 +24,7 @@ type Limits struct {
 	Bytes       int           // of answers that a client hasn't read, before more of its requests are read
 	Idle        time.Duration // of a connection on which nothing is asked
 	Line        time.Duration // in which a line has to come whole
-	Send        time.Duration // for which a client may not read an answer
+	Send        time.Duration // for which a client may read nothing of what is sent
 }
 
 // DefaultLimits are those of a server that isn't told others.
@@ -72,9 +72,8 @@ func (s *Server) Serve(ctx context.Context, listener net.Listener) error {
 		case err == nil:
 		case ctx.Err() != nil || errors.Is(err, net.ErrClosed):
 			return nil
-		default: // as where there are too many files
-			s.Warn("taking a connection: %v", err)
-			time.Sleep(100 * time.Millisecond)
+		default:
+			s.pause(err)
 			continue
 		}
 		if !s.enter() || !s.begin() {
@@ -86,13 +85,19 @@ func (s *Server) Serve(ctx context.Context, listener net.Listener) error {
 			continue
 		}
 		if err := s.poll(accepted); err != nil {
-			if !errors.Is(err, net.ErrClosed) {
-				s.Warn("taking a connection: %v", err)
-			}
 			s.leave()
 			s.all.Done()
+			if !errors.Is(err, net.ErrClosed) {
+				s.pause(err)
+			}
 		}
 	}
+}
+
+// pause waits before another connection is taken, as where there are too many files.
+func (s *Server) pause(why error) {
+	s.Warn("taking a connection: %v", why)
+	time.Sleep(100 * time.Millisecond)
 }
 
 // enter counts a connection; false where there are too many.
@@ -207,11 +212,14 @@ func (s *Server) stream(accepted *tls.Conn) {
 	}
 	accepted.SetDeadline(time.Time{})
 	state := accepted.ConnectionState()
-	c := newStreamed(s, accepted, s.Policy.Remote(&state))
+	s.runStreamed(newStreamed(s, accepted, s.Policy.Remote(&state)))
+}
+
+func (s *Server) runStreamed(c *streamed) {
 	s.mutex.Lock()
 	if s.closed {
 		s.mutex.Unlock()
-		accepted.Close()
+		c.net.Close()
 		return
 	}
 	if s.conns == nil {

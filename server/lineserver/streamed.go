@@ -4,6 +4,7 @@ import (
 	"io"
 	"net"
 	"sync"
+	"sync/atomic"
 	"time"
 
 	"dsmdb/server/access"
@@ -15,8 +16,9 @@ type streamed struct {
 	conn
 	net    net.Conn
 	isGone func() bool
-	more   sync.Cond // there is something to write, or the end
-	less   sync.Cond // lines that wait may be looked at again, or nothing can be written any more
+	there  atomic.Int64 // when the kernel last said that the client is there, since began
+	more   sync.Cond    // there is something to write, or the end
+	less   sync.Cond    // a line that waits has room, or nothing can be written any more
 }
 
 func newStreamed(s *Server, accepted net.Conn, who *access.Who) *streamed {
@@ -43,9 +45,21 @@ func (c *streamed) run() {
 	c.net.Close()
 }
 
-func (c *streamed) flush()     { c.more.Signal() }
-func (c *streamed) resume()    { c.less.Signal() }
-func (c *streamed) gone() bool { return c.isGone() }
+func (c *streamed) flush()  { c.more.Signal() }
+func (c *streamed) resume() { c.less.Signal() }
+
+// gone implements carrier. Calls that are asked for together share an answer of the kernel's.
+func (c *streamed) gone() bool {
+	now := time.Since(began)
+	if now-time.Duration(c.there.Load()) < alike {
+		return false
+	}
+	if c.isGone() {
+		return true
+	}
+	c.there.Store(int64(now))
+	return false
+}
 
 func (c *streamed) finish() {
 	c.net.SetReadDeadline(time.Unix(1, 0))
@@ -55,7 +69,6 @@ func (c *streamed) finish() {
 // read reads lines until the client's end.
 func (c *streamed) read() {
 	in := &c.input
-	in.heardAt = time.Now()
 	for {
 		c.net.SetReadDeadline(in.until(&c.server.Limits))
 		if c.server.isClosed() {
@@ -73,23 +86,23 @@ func (c *streamed) read() {
 func (c *streamed) take() bool {
 	for {
 		var some []*site.Request
-		goesOn := c.takeLines(&some)
+		how := c.takeLines(&some)
 		if len(some) > 0 {
 			c.server.Site.Ask(some...)
 		}
-		if !goesOn {
-			return false
+		if how != lineWaits {
+			return how == allTaken
 		}
 		c.mutex.Lock()
-		waited := c.paused
 		for c.paused && !c.broken {
 			c.less.Wait()
 		}
 		broken := c.broken
 		c.mutex.Unlock()
-		if broken || !waited {
-			return !broken
+		if broken {
+			return false
 		}
+		c.input.heardAt = time.Now()
 	}
 }
 

@@ -111,6 +111,7 @@ func openEtcd(options EtcdOptions, all *nodes) (*Etcd, error) {
 	}
 	e.ends.wake, e.ends.cut = make(chan struct{}, 1), func() {}
 	e.making.more.L = &e.mutex
+	e.making.timer = time.AfterFunc(time.Hour, e.wakeMaking)
 	go e.run()
 	return e, nil
 }
@@ -135,6 +136,7 @@ func (e *Etcd) run() {
 	}()
 	all.Wait()
 	e.cancel()
+	e.making.timer.Stop()
 	e.making.underWay.Wait()
 	e.nodes.close()
 	e.journal.close()

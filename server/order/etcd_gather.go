@@ -6,7 +6,7 @@ const (
 	mostPuts  = 3                    // batches that are on their way to etcd at once
 	fewAtOnce = 4                    // strings, below which a batch is put at once
 	longPut   = 5 * time.Millisecond // after which a batch on its way holds up no other
-	gatherFor = time.Millisecond     // at most
+	gatherFor = time.Millisecond     // for which strings wait behind a batch, at most
 )
 
 // gathering says when strings are put into etcd. A batch costs etcd about the same with one string as with a hundred. So
@@ -25,10 +25,10 @@ func (g *gathering) begin(strings int, now time.Time) {
 	g.last, g.begun = strings, now
 }
 
-// end notes that a batch was answered, while so many strings wait.
-func (g *gathering) end(waiting int, now time.Time) {
+// end notes that a batch of so many strings was answered, while others wait.
+func (g *gathering) end(strings, waiting int, now time.Time) {
 	g.puts--
-	g.ended, g.enough = now, waiting+g.last
+	g.ended, g.enough = now, waiting+strings
 }
 
 // wait returns for how long so many strings wait for others; 0 where they are put now.

@@ -22,6 +22,7 @@ type making struct {
 	waiting  []*String
 	wantVote bool
 	gather   gathering
+	timer    *time.Timer       // that wakes who makes batches
 	own      map[name]*ownMade // batches made since the start that the watch hasn't shown
 	unknown  map[name]bool     // those whose strings were refused, though they may stand yet
 	underWay sync.WaitGroup
@@ -73,7 +74,7 @@ func (e *Etcd) make(ctx context.Context) error {
 		if len(wanted) == 0 && !vote {
 			e.mutex.Lock()
 			e.making.gone(own.name)
-			e.making.gather.end(len(e.making.waiting), time.Now())
+			e.making.gather.end(0, len(e.making.waiting), time.Now())
 			e.mutex.Unlock()
 			continue
 		}
@@ -83,7 +84,7 @@ func (e *Etcd) make(ctx context.Context) error {
 		own.cancel, own.tries = cancel, []try{first}
 		e.mutex.Unlock()
 		e.making.underWay.Add(1)
-		go e.bring(within, own)
+		go e.bring(within, own, len(wanted))
 	}
 }
 
@@ -102,10 +103,10 @@ func (e *Etcd) nextOwn(ctx context.Context) (own *ownMade, strings []*String, vo
 		}
 		if !idle && e.caughtUp && m.gather.puts < mostPuts && len(m.own) < mostOwn {
 			wait := m.gather.wait(len(m.waiting), time.Now())
-			if wait == 0 {
+			if wait == 0 || e.fillBatch(m.waiting) {
 				break
 			}
-			time.AfterFunc(wait, e.wakeMaking)
+			m.timer.Reset(wait)
 		}
 		m.more.Wait()
 	}
@@ -118,10 +119,19 @@ func (e *Etcd) nextOwn(ctx context.Context) (own *ownMade, strings []*String, vo
 	}
 	own = &ownMade{name: drawn, key: e.keys.of(drawn), cancel: func() {}}
 	m.own[drawn] = own
-	strings, m.waiting = cutToRoom(m.waiting, batch.Longest-batch.HeaderSize(e.maker.Version))
+	strings, m.waiting = cutToRoom(m.waiting, e.roomOfBatch())
 	m.gather.begin(len(strings), time.Now())
 	vote, m.wantVote = m.wantVote, false
 	return own, strings, vote, nil
+}
+
+// roomOfBatch returns how many bytes the strings of a batch may take.
+func (e *Etcd) roomOfBatch() int { return batch.Longest - batch.HeaderSize(e.maker.Version) }
+
+// fillBatch returns whether strings fill a batch, so that no others could join them.
+func (e *Etcd) fillBatch(strings []*String) bool {
+	_, rest := cutToRoom(strings, e.roomOfBatch())
+	return len(rest) > 0
 }
 
 func (e *Etcd) wakeMaking() {
@@ -155,12 +165,13 @@ func (e *Etcd) database() batch.ID {
 	return e.making.database
 }
 
-// bring puts a batch, again and again until an answer says that it is there, or the watch shows what became of it.
-func (e *Etcd) bring(ctx context.Context, own *ownMade) {
+// bring puts a batch of so many strings, again and again until an answer says that the batch is there, or the watch shows
+// what became of it.
+func (e *Etcd) bring(ctx context.Context, own *ownMade, count int) {
 	defer e.making.underWay.Done()
 	defer func() {
 		e.mutex.Lock()
-		e.making.gather.end(len(e.making.waiting), time.Now())
+		e.making.gather.end(count, len(e.making.waiting), time.Now())
 		e.making.more.Broadcast()
 		e.mutex.Unlock()
 	}()

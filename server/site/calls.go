@@ -139,8 +139,12 @@ func (s *Site) tooLate(r *Request) {
 
 func (s *Site) submit(r *Request, text []byte) {
 	r.out, r.handed = true, s.now
-	r.text = order.String{Text: text, For: r}
-	s.submitted = append(s.submitted, &r.text)
+	handed := &r.first
+	if handed.Text != nil { // the order may still look at it
+		handed = &order.String{}
+	}
+	handed.Text, handed.For = text, r
+	s.submitted = append(s.submitted, handed)
 }
 
 // ran takes in what the engine answers to a call's run.

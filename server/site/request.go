@@ -32,8 +32,8 @@ type Request struct {
 	tries    int
 	last     Answer       // of a try after which the call is tried again
 	held     Answer       // which isn't told while votes disagree
-	text     order.String // that was last handed to the order
-	handed   time.Time    // when
+	first    order.String // that was handed to the order
+	handed   time.Time    // when a string of the request's was last handed to the order
 	out      bool         // whether a string of its may be in the order, or come to be, whose outcome isn't known
 	padding  time.Time    // when the order is filled up to after; zero for never
 
