@@ -2,7 +2,8 @@
 """join.py TREE PLAN: joins crates: moves the files of some into another, and names them so wherever they are named.
 
 Each line of PLAN is `INTO: CRATE ..`, with `CRATE/PART/OLD=NEW` for a file or module that is renamed; PART is src, specs or
-proofs. Behind it come `rt fmt`, a look at what root files hand on, and a proof of the crates.
+proofs. A crate that then uses one of a higher block goes up into that block. Root files hand on no more what only crates
+named that are one with it now, and all files are laid out. Behind it come the heads of the crates, pages, and a proof.
 """
 import os, re, shutil, subprocess, sys
 
@@ -154,6 +155,8 @@ def join(tree, into, crate, renames):
     antt = re.compile(rf"\bRattle\.{crate}\.(specs|proofs)\.((?:declared|contracts|proofs)\.)?(\w+)")
     for f in tree.files():
         text = was = read(f)
+        if crate not in text and not (into in text and f.startswith(f"{b}/")):
+            continue
         text = antt.sub(path, text)
         text = re.sub(rf"\bRattle\.{crate}\b", f"Rattle.{into}", text)
         if f.endswith((".rt", ".edit")):
@@ -234,9 +237,23 @@ def merged_uses(text, into):
             text = text.replace(r, "", 1)
     return text
 
+def lifted(blocks):
+    """Puts a crate that uses one of a higher block into that block, since a joined crate uses what each of its parts used."""
+    line = re.compile(r"^(\w+)[^#:\n]*:(.*)\n", re.M)
+    while True:
+        place = {m.group(1): at for at, block in enumerate(blocks) for m in line.finditer(block)}
+        up = [(m, at, max(place.get(d, 0) for d in m.group(2).split()))
+              for at, block in enumerate(blocks) for m in line.finditer(block) if m.group(2).split()]
+        up = [(m, at, to) for m, at, to in up if to > at]
+        if not up:
+            return blocks
+        m, at, to = up[0]
+        blocks[at] = blocks[at].replace(m.group(0), "", 1)
+        blocks[to] = blocks[to].rstrip("\n") + "\n" + m.group(0) + "\n"
+
 def ordered(root):
     """Puts the crates of each block in an order in which each stands behind what it uses."""
-    blocks, out = re.split(r"(?m)^(?=## )", read(f"{root}/crates.txt")), []
+    blocks, out = lifted(re.split(r"(?m)^(?=## )", read(f"{root}/crates.txt"))), []
     for block in blocks:
         lines = block.rstrip("\n").split("\n")
         mine = {l.split(":")[0].split()[0]: l for l in lines if ":" in l and not l.startswith("#")}
@@ -268,8 +285,82 @@ def ordered(root):
                     print(f"{name.split()[0]} uses {d}, which is below")
             seen.add(name.split()[0])
 
+def flat(prefix, text):
+    """Yields each name of a use, with its path and the name that it has here."""
+    text = text.strip()
+    if text.startswith("{"):
+        depth, word = 0, ""
+        for letter in text[1:-1] + ",":
+            depth += (letter == "{") - (letter == "}")
+            if letter == "," and not depth:
+                if word.strip():
+                    yield from flat(prefix, word)
+                word = ""
+            else:
+                word += letter
+    elif m := re.match(r"(\w+)::(.*)", text, re.S):
+        yield from flat([*prefix, m.group(1)], m.group(2))
+    elif m := re.match(r"(\w+)(?: as (\w+))?$", text):
+        yield [*prefix, m.group(1)], m.group(2) or m.group(1)
+
+def code_of(tree, crate):
+    """Returns the code of a crate by file, without comments."""
+    return {f: re.sub(r"//[^\n]*", "", read(f)) for f in tree.files() if f.startswith(f"{tree.crates}/{crate}/src/")}
+
+def named_from(tree):
+    """Returns the pairs of a crate and a name of it that another crate's code names."""
+    crates, found = sorted(os.listdir(tree.crates)), set()
+    for crate in crates:
+        for text in code_of(tree, crate).values():
+            uses = [way for m in re.finditer(r"(?<!ghost )\buse (?:::)?(\w+::[^;]*);", text) for way, _ in flat([], m.group(1))]
+            for first, name, *_ in [*[it for it in uses if len(it) > 1], *re.findall(r"(?<![\w:.])(\w+)::(\w+)", text)]:
+                if first in crates and first != crate:
+                    found.add((first, name))
+    return found
+
+def faces(text):
+    """Yields, of each public item, its name (a method has its type's) and what others see of it."""
+    here = None
+    for block in re.split(r"(?m)^(?=\S)", text):
+        if m := re.match(r"impl\b[^{]*", block):
+            here = re.sub(r"<[^<>]*>", "", re.sub(r"<[^<>]*>", "", re.sub(r"<[^<>]*>", "", m.group(0)))).split()
+            here = re.match(r"\w+", here[here.index("for") + 1] if "for" in here else here[1]).group(0)
+            yield here, m.group(0)
+            for it in re.findall(r"(?ms)^    (?:pub )?(?:const )?fn \w+.*?(?=^    \{)", block):
+                yield here, it
+        elif m := re.match(r"pub (?:const )?fn (\w+)", block):
+            yield m.group(1), re.match(r"(?s).*?(?=^\{|\Z)", block, re.M).group(0)
+        elif m := re.match(r"pub (?:struct|enum|trait|const|static|type) (\w+)", block):
+            private = r"(?m)^    (?!pub |ghost )\w+: .*$" if block.startswith("pub struct") else r"(?!)"
+            yield m.group(1), re.sub(private, "", block)
+
+def narrowed(tree, into, lost):
+    """A root file hands on no more what only crates that are one with it now named, but for types that others still see."""
+    root = f"{tree.crates}/{into}/src/lib.rt"
+    text = read(root)
+    handed = {name: "::".join(way) for m in re.finditer(r"pub use ([^;]*);", text) for way, name in flat([], m.group(1))}
+    # two modules may each have an item of a name: then both are looked at
+    seen = [it for code in code_of(tree, into).values() for it in faces(code)]
+    while True:
+        shown = {word for name, face in seen if name in handed and name not in lost for word in re.findall(r"\w+", face) if word != name}
+        kept = {it for it in lost if it in shown and not it.islower()}
+        if not kept:
+            break
+        lost = lost - kept
+    if not lost:
+        return
+    def without(match):
+        left = [(way, name) for way, name in flat([], match.group(1)) if name not in lost]
+        by = {}
+        for way, name in left:
+            by.setdefault("::".join(way[:-1]), []).append(way[-1] if way[-1] == name else f"{way[-1]} as {name}")
+        return "".join(f"pub use {front}::{{{', '.join(names)}}};\n" if len(names) > 1 else f"pub use {front}::{names[0]};\n" for front, names in by.items())
+    write(root, re.sub(r"pub use ([^;]*);\n", without, text))
+    print(f"{into} hands on no more: {', '.join(sorted(lost))}")
+
 def main(root, plan):
     tree = Tree(root)
+    named, parts = named_from(tree), {}
     for l in read(plan).splitlines():
         if not l.strip() or l.startswith("#"):
             continue
@@ -278,6 +369,12 @@ def main(root, plan):
         renames = dict(w.split("=") for w in words if "=" in w)
         for crate in [w for w in words if "=" not in w]:
             join(tree, into, crate, renames)
+            parts.setdefault(into, [into]).extend(parts.pop(crate, [crate]))
     ordered(root)
+    still = named_from(tree)
+    for into, crates in parts.items():
+        narrowed(tree, into, {name for crate, name in named if crate in crates and (into, name) not in still})
+    for crate in sorted(os.listdir(tree.crates)):
+        subprocess.run(["rt", "fmt"], cwd=f"{tree.crates}/{crate}", check=True, stdout=subprocess.DEVNULL)
 
 main(*sys.argv[1:])
