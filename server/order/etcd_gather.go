@@ -9,7 +9,7 @@ const (
 	gatherFor = time.Millisecond     // for which strings wait behind a batch, at most
 )
 
-// gathering says when strings are put into etcd. A batch costs etcd about the same with one string as with a hundred. So
+// gathering says when strings are put into etcd. A batch costs etcd nearly the same, whatever stands in it. So
 // behind a batch of many, who was answered has a moment to ask again, and goes into the next one with those who wait.
 type gathering struct {
 	puts   int       // batches on their way
