@@ -1,6 +1,6 @@
 """The rows that `dsmdb explain` prints: those of the tables in docs/REFUSALS.md.
 
-`python3 gate/explanations.py` writes them into the crate `explanations`.
+`python3 gate/explanations.py` writes them into the crate `command_line`.
 """
 import re
 import sys
@@ -9,7 +9,7 @@ import textwrap
 import workspace
 
 PAGE = "docs/REFUSALS.md"
-MADE = "crates/explanations/src/rows.rt"
+MADE = "crates/command_line/src/rows.rt"
 ROW = re.compile(r"\| [A-Z]\d+ \|")
 HEAD = """\
 //! The rows of docs/REFUSALS.md, as gate/explanations.py copies them.

@@ -1,3 +1,5 @@
 pub mod Bits
 pub mod State
 pub mod Words
+pub mod Access
+pub mod Kind

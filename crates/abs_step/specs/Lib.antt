@@ -1,1 +1,3 @@
 pub mod Result
+pub mod Cause
+pub mod Number

@@ -34,10 +34,10 @@ use Rattle.abs_state.specs.declared.kind.Kind.{Kind}
 use Rattle.abs_state.specs.declared.kind.Kind.TheVariants.{Nothing, Number, Stack}
 use Rattle.abs_state.specs.declared.state.AbsState.{AbsState}
 use Rattle.abs_state.specs.State.{kind_of, with_known_answer, with_kind, with_initialised}
-use Rattle.abs_value.specs.Kind.{operand_kind, operation_kind, number_kind, table_width}
-use Rattle.abs_value.specs.declared.access.ByteSpan.{ByteSpan}
-use Rattle.abs_value.specs.Access.{stack_span, buffer_span}
-use Rattle.abs_cause.specs.Cause.{call_arguments}
+use Rattle.abs_state.specs.Kind.{operand_kind, operation_kind, number_kind, table_width}
+use Rattle.abs_state.specs.declared.access.ByteSpan.{ByteSpan}
+use Rattle.abs_state.specs.Access.{stack_span, buffer_span}
+use Rattle.abs_step.specs.Cause.{call_arguments}
 
 -- ---- loads and stores
 

@@ -2,9 +2,8 @@
 ghost use Rattle.std.specs.Prelude.{◌≡◌, ◌+◌, ◌≤◌, Some, IfSome};
 ghost use Rattle.abs_step.specs.Result.{answer_range, with_buffer, with_buffers, with_span, written_length, after_call};
 
-use abs_cause::ARGUMENT_REGISTERS;
-use abs_state::{AbsState, Kind};
-use abs_value::{ByteSpan, buffer_span, table_width};
+use crate::arguments::ARGUMENT_REGISTERS;
+use abs_state::{AbsState, ByteSpan, Kind, buffer_span, table_width};
 use bpf_code::Register;
 use interval::Range;
 use schema::{AnswerKind, ArgumentKind, Helper, Schema};

@@ -10,8 +10,7 @@ ghost use Rattle.abs_step.specs.Result.{jump_state};
 ghost use Rattle.schema.specs.Helper.{helper_of};
 
 use crate::calls::{call, set_bytes};
-use abs_state::{AbsState, Kind};
-use abs_value::{number_kind, operand_kind, operation_kind, stack_span};
+use abs_state::{AbsState, Kind, number_kind, operand_kind, operation_kind, stack_span};
 use bpf_code::{Instruction, LoadKind, Register, SignExtendingMove, Source, Width};
 use bpf_words::{ByteOrder, Condition, EndWidth, Operation, SignExtension};
 use interval::{Range, end_range};

@@ -15,7 +15,7 @@ use Rattle.abs_state.specs.declared.kind.Kind.{Kind}
 use Rattle.abs_state.specs.declared.kind.Kind.TheVariants.{Nothing, Number, Stack, Args}
 use Rattle.abs_state.specs.declared.state.AbsState.{AbsState}
 use Rattle.abs_state.specs.State.{with_kind}
-use Rattle.abs_value.specs.Kind.{is_nothing, is_pointer}
+use Rattle.abs_state.specs.Kind.{is_nothing, is_pointer}
 use Rattle.abs_step.specs.Result.{next_state}
 use Rattle.acceptance.specs.Description.{Describes, IsOf, IsAbsState, IsKind, IsEdgeTo, IsStepAlongEdge}
 use Rattle.acceptance.proofs.Put.{put_described}

@@ -24,10 +24,10 @@ use Rattle.abs_state.specs.declared.kind.Kind.{Kind}
 use Rattle.abs_state.specs.declared.kind.Kind.TheVariants.{Nothing, Number, Stack, Args}
 use Rattle.abs_state.specs.declared.state.AbsState.{AbsState}
 use Rattle.abs_state.specs.State.{kind_of}
-use Rattle.abs_value.specs.declared.access.ByteSpan.{ByteSpan}
-use Rattle.abs_value.specs.Kind.{is_nothing, is_number, table_width}
-use Rattle.abs_value.specs.Access.{span_from, buffer_span, are_initialised}
-use Rattle.abs_cause.specs.Cause.{call_arguments, holds_nothing, is_unknown_table, is_no_number, is_no_buffer, row_is_uninitialised, reads_uninitialised, some_uninitialised}
+use Rattle.abs_state.specs.declared.access.ByteSpan.{ByteSpan}
+use Rattle.abs_state.specs.Kind.{is_nothing, is_number, table_width}
+use Rattle.abs_state.specs.Access.{span_from, buffer_span, are_initialised}
+use Rattle.abs_step.specs.Cause.{call_arguments, holds_nothing, is_unknown_table, is_no_number, is_no_buffer, row_is_uninitialised, reads_uninitialised, some_uninitialised}
 use Rattle.abs_step.specs.Result.{with_span, with_buffer}
 use Rattle.acceptance.specs.Description.{IsOf}
 use Rattle.acceptance.proofs.Bytes.{access_known, index_is}

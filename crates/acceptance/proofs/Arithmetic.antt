@@ -27,8 +27,8 @@ use Rattle.abs_state.specs.declared.kind.Kind.{Kind}
 use Rattle.abs_state.specs.declared.kind.Kind.TheVariants.{Nothing, Number, Stack, Args}
 use Rattle.abs_state.specs.declared.state.AbsState.{AbsState}
 use Rattle.abs_state.specs.State.{kind_of}
-use Rattle.abs_value.specs.Kind.{is_nothing, operand_kind, moved_places, stack_of, args_of, move_kind, binary_kind, operation_kind}
-use Rattle.abs_cause.specs.Cause.{source_registers, move_uses_pointer, binary_uses_pointer, operands_use_pointer, holds_nothing, uses_pointer}
+use Rattle.abs_state.specs.Kind.{is_nothing, operand_kind, moved_places, stack_of, args_of, move_kind, binary_kind, operation_kind}
+use Rattle.abs_step.specs.Cause.{source_registers, move_uses_pointer, binary_uses_pointer, operands_use_pointer, holds_nothing, uses_pointer}
 use Rattle.abs_step.specs.Result.{next_state}
 use Rattle.acceptance.specs.Description.{IsOf, IsKind, IsStepAlongEdge, IsOfProgram, StepsAlong}
 use Rattle.acceptance.proofs.Causes.{no_cause, neither}

@@ -27,8 +27,8 @@ use Rattle.range_refine.proofs.Kept.{all_kept}
 use Rattle.abs_state.specs.declared.kind.Kind.TheVariants.{Number}
 use Rattle.abs_state.specs.declared.state.AbsState.{AbsState}
 use Rattle.abs_state.specs.State.{kind_of, with_kind}
-use Rattle.abs_value.specs.Kind.{is_nothing, is_pointer, operand_kind}
-use Rattle.abs_cause.specs.Cause.{holds_nothing, uses_pointer}
+use Rattle.abs_state.specs.Kind.{is_nothing, is_pointer, operand_kind}
+use Rattle.abs_step.specs.Cause.{holds_nothing, uses_pointer}
 use Rattle.abs_step.specs.Result.{compared_kind, is_same_register, with_source, with_sides, refined_state, edge_state, next_state, jump_state}
 use Rattle.acceptance.specs.Description.{Describes, IsOf, IsStepAlongEdge, IsOfProgram, StepsAlong}
 use Rattle.acceptance.proofs.Causes.{no_cause, neither}

@@ -26,8 +26,8 @@ use Rattle.interval.specs.Table.{any_word}
 use Rattle.abs_state.specs.declared.kind.Kind.{Kind}
 use Rattle.abs_state.specs.declared.state.AbsState.{AbsState}
 use Rattle.abs_state.specs.State.{kind_of}
-use Rattle.abs_value.specs.Kind.{table_width}
-use Rattle.abs_cause.specs.Cause.{call_arguments, lacks_room, row_is_uninitialised}
+use Rattle.abs_state.specs.Kind.{table_width}
+use Rattle.abs_step.specs.Cause.{call_arguments, lacks_room, row_is_uninitialised}
 use Rattle.abs_step.specs.Result.{next_state, after_call, with_buffer}
 use Rattle.acceptance.specs.Description.{Describes, IsAbsState, IsStepAlongEdge, StepsAlong}
 use Rattle.acceptance.proofs.Causes.{no_cause, neither}

@@ -5,9 +5,9 @@ use Rattle.bpf_code.specs.declared.instruction.Register.TheVariants.{R1}
 use Rattle.schema.specs.Schema.{Tables}
 use Rattle.abs_state.specs.declared.state.AbsState.{AbsState}
 use Rattle.abs_state.specs.State.{kind_of}
-use Rattle.abs_value.specs.Kind.{table_width}
-use Rattle.abs_cause.specs.declared.cause.Cause.{Cause}
-use Rattle.abs_cause.specs.Cause.{holds_nothing, writes_frame_pointer, uses_pointer, is_outside, stores_to_arguments, is_unknown_helper, has_argument, is_unknown_table, is_no_number, is_no_buffer, reads_uninitialised, replies_pointer, causes, cause_of}
+use Rattle.abs_state.specs.Kind.{table_width}
+use Rattle.abs_step.specs.declared.cause.Cause.{Cause}
+use Rattle.abs_step.specs.Cause.{holds_nothing, writes_frame_pointer, uses_pointer, is_outside, stores_to_arguments, is_unknown_helper, has_argument, is_unknown_table, is_no_number, is_no_buffer, reads_uninitialised, replies_pointer, causes, cause_of}
 
 abbrev AreFalse : List (Cause × Bool) → Type 0
 AreFalse [] = Unit {0}

@@ -41,9 +41,9 @@ use Rattle.abs_state.specs.declared.kind.Kind.{Kind}
 use Rattle.abs_state.specs.declared.kind.Kind.TheVariants.{Nothing, Number, Stack, Args}
 use Rattle.abs_state.specs.declared.state.AbsState.{AbsState}
 use Rattle.abs_state.specs.State.{kind_of, with_kind, with_known_answer}
-use Rattle.abs_value.specs.declared.access.ByteSpan.{ByteSpan}
-use Rattle.abs_value.specs.Access.{span_from, span_length, stack_span, buffer_span}
-use Rattle.abs_value.specs.Kind.{operand_kind, moved_places, stack_of, args_of, move_kind, binary_kind, operation_kind, number_kind, table_width}
+use Rattle.abs_state.specs.declared.access.ByteSpan.{ByteSpan}
+use Rattle.abs_state.specs.Access.{span_from, span_length, stack_span, buffer_span}
+use Rattle.abs_state.specs.Kind.{operand_kind, moved_places, stack_of, args_of, move_kind, binary_kind, operation_kind, number_kind, table_width}
 use Rattle.abs_step.specs.Result.{loaded_range, with_span, with_known_store, answer_range, with_buffer, with_buffers, after_call, compared_kind, is_same_register, with_source, with_sides, refined_state, edge_state, end_kind, next_state, jump_state}
 use Rattle.acceptance.specs.Description.{IsKind, IsAbsState, IsOfProgram, SendsKnown}
 use Rattle.acceptance.proofs.Operands.{IsOperand, single_range, operand_known, operand_fits, branch_operand_fits}

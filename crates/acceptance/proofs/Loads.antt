@@ -25,9 +25,9 @@ use Rattle.abs_state.specs.declared.kind.Kind.{Kind}
 use Rattle.abs_state.specs.declared.kind.Kind.TheVariants.{Nothing, Number, Stack, Args}
 use Rattle.abs_state.specs.declared.state.AbsState.{AbsState}
 use Rattle.abs_state.specs.State.{kind_of}
-use Rattle.abs_value.specs.Kind.{is_nothing}
-use Rattle.abs_value.specs.Access.{span_from, span_length, stack_span, args_span, are_initialised}
-use Rattle.abs_cause.specs.Cause.{holds_nothing, is_outside, reads_uninitialised, load_is_outside, some_uninitialised, bytes_loaded}
+use Rattle.abs_state.specs.Kind.{is_nothing}
+use Rattle.abs_state.specs.Access.{span_from, span_length, stack_span, args_span, are_initialised}
+use Rattle.abs_step.specs.Cause.{holds_nothing, is_outside, reads_uninitialised, load_is_outside, some_uninitialised, bytes_loaded}
 use Rattle.abs_step.specs.Result.{loaded_range, next_state}
 use Rattle.acceptance.specs.Description.{IsOf, IsStepAlongEdge, StepsAlong}
 use Rattle.acceptance.proofs.Bytes.{AreKnown, access_known, args_access, stack_access, index_is}

@@ -10,7 +10,7 @@ use Rattle.bpf_words.specs.declared.operation.BinaryOperation.TheVariants.{Add, 
 use Rattle.bpf_semantics.specs.Step.{near_place}
 use Rattle.bpf_semantics.proofs.StepLemmas.{just}
 use Rattle.interval.specs.Range.{Bounds, IsRange, IsWithin}
-use Rattle.abs_value.specs.Kind.{has_both_signs, is_near, near_places, moved_by, moved_places}
+use Rattle.abs_state.specs.Kind.{has_both_signs, is_near, near_places, moved_by, moved_places}
 
 -- ---- numbers read as signed
 

@@ -17,7 +17,7 @@ use Rattle.bpf_semantics.specs.Step.{operand}
 use Rattle.interval.specs.Range.{Bounds, IsRange, IsWithin, single}
 use Rattle.abs_state.specs.declared.kind.Kind.TheVariants.{Number, Stack, Args}
 use Rattle.abs_state.specs.declared.state.AbsState.{AbsState}
-use Rattle.abs_value.specs.Kind.{operand_kind}
+use Rattle.abs_state.specs.Kind.{operand_kind}
 use Rattle.acceptance.specs.Description.{Describes, IsOf, IsAbsState, IsKind}
 
 -- ---- a value of a kind is of its shape

@@ -24,8 +24,8 @@ use Rattle.interval.proofs.Sound.{alu_sound, end_sound}
 use Rattle.abs_state.specs.declared.kind.Kind.{Kind}
 use Rattle.abs_state.specs.declared.kind.Kind.TheVariants.{Number}
 use Rattle.abs_state.specs.State.{kind_of}
-use Rattle.abs_value.specs.Kind.{is_nothing, number_kind}
-use Rattle.abs_cause.specs.Cause.{holds_nothing, uses_pointer}
+use Rattle.abs_state.specs.Kind.{is_nothing, number_kind}
+use Rattle.abs_step.specs.Cause.{holds_nothing, uses_pointer}
 use Rattle.abs_step.specs.Result.{end_kind, next_state, jump_state}
 use Rattle.acceptance.specs.Description.{IsOf, IsStepAlongEdge, IsOfProgram, StepsAlong}
 use Rattle.acceptance.proofs.Causes.{no_cause, neither}

@@ -23,7 +23,7 @@ use Rattle.bpf_semantics.proofs.StateLemmas.{MomentFits, moment_fits}
 use Rattle.bpf_semantics.proofs.FitRunLemmas.{run_fits}
 use Rattle.abs_state.specs.declared.state.AbsState.{AbsState}
 use Rattle.abs_state.specs.State.{abs_entry}
-use Rattle.abs_cause.specs.Cause.{cause_of}
+use Rattle.abs_step.specs.Cause.{cause_of}
 use Rattle.abs_step.specs.Result.{next_state, jump_state}
 use Rattle.bpf_verify.specs.Flow.{Procedure, edge_states, state_at, IsAccepted}
 use Rattle.acceptance.specs.Description.{Describes, Suits, IsAbsState, IsEdgeTo, IsStepAlongEdge, IsOfProgram, StepsAlong}

@@ -26,9 +26,9 @@ use Rattle.abs_state.specs.declared.kind.Kind.{Kind}
 use Rattle.abs_state.specs.declared.kind.Kind.TheVariants.{Nothing, Number, Stack, Args}
 use Rattle.abs_state.specs.declared.state.AbsState.{AbsState}
 use Rattle.abs_state.specs.State.{kind_of}
-use Rattle.abs_value.specs.Kind.{is_nothing, is_pointer}
-use Rattle.abs_value.specs.Access.{span_from, span_length, stack_span}
-use Rattle.abs_cause.specs.Cause.{holds_nothing, is_outside, uses_pointer, store_is_outside, is_args}
+use Rattle.abs_state.specs.Kind.{is_nothing, is_pointer}
+use Rattle.abs_state.specs.Access.{span_from, span_length, stack_span}
+use Rattle.abs_step.specs.Cause.{holds_nothing, is_outside, uses_pointer, store_is_outside, is_args}
 use Rattle.abs_step.specs.Result.{next_state, with_span, with_known_store}
 use Rattle.acceptance.specs.Description.{Describes, IsOf, IsStepAlongEdge, StepsAlong}
 use Rattle.acceptance.proofs.Bytes.{AreKnown, stack_access}

@@ -16,7 +16,7 @@ use Rattle.abs_state.specs.declared.kind.Kind.{Kind}
 use Rattle.abs_state.specs.declared.kind.Kind.TheVariants.{Nothing, Number, Stack, Args}
 use Rattle.abs_state.specs.declared.state.AbsState.{AbsState}
 use Rattle.abs_state.specs.State.{kind_of}
-use Rattle.abs_cause.specs.Cause.{cause_of}
+use Rattle.abs_step.specs.Cause.{cause_of}
 use Rattle.abs_step.specs.Result.{next_state, jump_state}
 use Rattle.bpf_verify.specs.Flow.{Procedure}
 

@@ -9,7 +9,7 @@ use Rattle.bpf_words.specs.declared.operation.ByteOrder.TheVariants as order
 use Rattle.bpf_words.specs.declared.operation.EndWidth.{EndWidth}
 use Rattle.bpf_words.specs.declared.operation.EndWidth.TheVariants.{Low16, Low32, Low64}
 use Rattle.bpf_words.specs.declared.condition.Condition.TheVariants as condition
-use Rattle.bpf_fields.specs.declared.fields.Fields.{Fields}
+use Rattle.bpf_bytes.specs.declared.fields.Fields.{Fields}
 use Rattle.bpf_code.specs.declared.instruction.Register.{Register}
 use Rattle.bpf_code.specs.declared.instruction.Register.TheVariants.{R0, R1, R2, R3, R4, R5, R6, R7, R8, R9, R10}
 use Rattle.bpf_code.specs.declared.instruction.Width.{Width}
@@ -21,15 +21,15 @@ use Rattle.bpf_code.specs.declared.instruction.SignExtendingMove.TheVariants.{Fr
 use Rattle.bpf_code.specs.declared.instruction.Source.TheVariants as source
 use Rattle.bpf_code.specs.declared.instruction.Instruction.{Instruction}
 use Rattle.bpf_code.specs.declared.instruction.Instruction.TheVariants.{LoadWide, Load, StoreImmediate, StoreRegister, Arithmetic, Negate, MoveSignExtended, End, Jump, LongJump, Branch, Call, Exit}
-use Rattle.bpf_fields.specs.declared.opcode.ArithmeticCode.TheVariants as code
-use Rattle.bpf_fields.specs.declared.opcode.SourceKind.TheVariants.{Immediate, Register as InRegister}
-use Rattle.bpf_fields.specs.declared.opcode.Opcode.{Opcode}
-use Rattle.bpf_fields.specs.declared.opcode.Opcode.TheVariants as opcode
+use Rattle.bpf_bytes.specs.declared.opcode.ArithmeticCode.TheVariants as code
+use Rattle.bpf_bytes.specs.declared.opcode.SourceKind.TheVariants.{Immediate, Register as InRegister}
+use Rattle.bpf_bytes.specs.declared.opcode.Opcode.{Opcode}
+use Rattle.bpf_bytes.specs.declared.opcode.Opcode.TheVariants as opcode
 use Rattle.bpf_code.specs.Register.{number_of, register_of}
-use Rattle.bpf_fields.specs.Opcode.{byte_of, opcode_of, binary_of, branch_of, memory_of}
-use Rattle.bpf_fields.specs.Uses.{uses_of}
+use Rattle.bpf_bytes.specs.Opcode.{byte_of, opcode_of, binary_of, branch_of, memory_of}
+use Rattle.bpf_bytes.specs.Uses.{uses_of}
 use Rattle.bpf_bytes.specs.Reading.{reading_of, half_reading_of, unused_are_zero, instruction_of, on_register, operation_of, extension_of, end_width_of}
-use Rattle.bpf_fields.specs.Spelling.{slot, fields_of, second_half, code_of, operation_offset, extension_offset, end_immediate}
+use Rattle.bpf_bytes.specs.Spelling.{slot, fields_of, second_half, code_of, operation_offset, extension_offset, end_immediate}
 use Rattle.bpf_code.specs.Sizes.{extension_width}
 
 register_again : (r : Register) → register_of (number_of r) ≡ Some r

@@ -5,11 +5,11 @@ use Rattle.std.proofs.Math.Seq.{take-add}
 use Rattle.std.specs.Prelude.{IsSome}
 use Rattle.bpf_bytes.specs.declared.fault.DecodeCause.TheVariants.{CutShort}
 use Rattle.bpf_bytes.specs.declared.fault.DecodeFault.{DecodeFault}
-use Rattle.bpf_fields.specs.declared.fields.Fields.{Fields}
+use Rattle.bpf_bytes.specs.declared.fields.Fields.{Fields}
 use Rattle.bpf_code.specs.declared.instruction.Instruction.{Instruction}
-use Rattle.bpf_fields.specs.Fields.{fields_of_bytes, bytes_of, slots_of}
+use Rattle.bpf_bytes.specs.Fields.{fields_of_bytes, bytes_of, slots_of}
 use Rattle.bpf_code.specs.Program.{Program}
-use Rattle.bpf_fields.specs.Spelling.{spelling}
+use Rattle.bpf_bytes.specs.Spelling.{spelling}
 use Rattle.bpf_bytes.specs.Decoding.{fault, with_front, reading_of_slots}
 use Rattle.bpf_bytes.specs.Steps.{IsHalf, half_count, half_bytes}
 use Rattle.bpf_bytes.proofs.FieldsLemmas.{IsBytes, bytes_of-fields_of_bytes}

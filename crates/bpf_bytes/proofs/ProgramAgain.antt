@@ -4,7 +4,7 @@ use Rattle.std.specs.Prelude.{FitsSigned}
 use Rattle.std.specs.Int.{w16, w32, cast_signed, cast_unsigned}
 use Rattle.std.proofs.lemmas.Int.{to_z-of_z}
 use Rattle.std.proofs.lemmas.List.Concat.{flat_map-cons}
-use Rattle.bpf_fields.specs.declared.fields.Fields.{Fields}
+use Rattle.bpf_bytes.specs.declared.fields.Fields.{Fields}
 use Rattle.bpf_words.specs.declared.operation.BinaryOperation.{BinaryOperation}
 use Rattle.bpf_words.specs.declared.operation.BinaryOperation.TheVariants as operation
 use Rattle.bpf_words.specs.declared.operation.EndWidth.{EndWidth}
@@ -17,9 +17,9 @@ use Rattle.bpf_code.specs.Register.{number_of}
 use Rattle.bpf_code.specs.declared.instruction.Instruction.{Instruction}
 use Rattle.bpf_code.specs.declared.instruction.Instruction.TheVariants.{LoadWide, Load, StoreImmediate, StoreRegister, Arithmetic, Negate, MoveSignExtended, End, Jump, LongJump, Branch, Call, Exit}
 use Rattle.bpf_code.specs.declared.instruction.Source.TheVariants as source
-use Rattle.bpf_fields.specs.Fields.{bytes_of, fields_of_bytes, slots_of}
+use Rattle.bpf_bytes.specs.Fields.{bytes_of, fields_of_bytes, slots_of}
 use Rattle.bpf_bytes.specs.Reading.{reading_of}
-use Rattle.bpf_fields.specs.Spelling.{fields_of, second_half, instruction_bytes, operation_offset, extension_offset, end_immediate, spelling, spelling_at}
+use Rattle.bpf_bytes.specs.Spelling.{fields_of, second_half, instruction_bytes, operation_offset, extension_offset, end_immediate, spelling, spelling_at}
 use Rattle.bpf_code.specs.Program.{Program, is_wide, AreSlots, IsInRange, AllInRange}
 use Rattle.bpf_bytes.specs.Decoding.{reading_of_slots}
 use Rattle.bpf_bytes.proofs.SpellingLemmas.{instruction_bytes-short}

@@ -8,8 +8,8 @@ use Rattle.bpf_code.specs.Program.{max_slots, Program, is_wide, AreSlots, IsProg
 use Rattle.bpf_bytes.specs.declared.fault.DecodeFault.{DecodeFault}
 use Rattle.bpf_code.specs.declared.instruction.Instruction.{Instruction}
 use Rattle.bpf_code.specs.declared.instruction.Instruction.TheVariants.{LoadWide, Exit}
-use Rattle.bpf_fields.specs.Fields.{bytes_of}
-use Rattle.bpf_fields.specs.Spelling.{fields_of, instruction_bytes, spelling, spelling_at}
+use Rattle.bpf_bytes.specs.Fields.{bytes_of}
+use Rattle.bpf_bytes.specs.Spelling.{fields_of, instruction_bytes, spelling, spelling_at}
 use Rattle.bpf_bytes.specs.Decoding.{or_else, landing_fault, distance_fault, jump_fault, jump_faults, last_fault, exit_fault, program_of}
 use Rattle.bpf_bytes.proofs.SpellingLemmas.{instruction_bytes-short, instruction_at-index}
 use Rattle.bpf_bytes.proofs.ProgramAgain.{slots_read_again}

@@ -3,11 +3,11 @@ use Rattle.std.proofs.Common.{◌≡◌, ℕ, zero, suc, ◌+◌, ◌<◌, take,
 use Rattle.std.proofs.lemmas.Grind.{flat_map-append}
 use Rattle.std.proofs.lemmas.List.{append-nil, take_more}
 use Rattle.std.proofs.lemmas.List.Concat.{flat_map-cons}
-use Rattle.bpf_fields.specs.declared.fields.Fields.{Fields}
+use Rattle.bpf_bytes.specs.declared.fields.Fields.{Fields}
 use Rattle.bpf_code.specs.declared.instruction.Instruction.{Instruction}
 use Rattle.bpf_code.specs.declared.instruction.Instruction.TheVariants.{LoadWide}
-use Rattle.bpf_fields.specs.Fields.{bytes_of}
-use Rattle.bpf_fields.specs.Spelling.{fields_of, second_slot, slot_bytes, instruction_bytes, spelling, spelling_at}
+use Rattle.bpf_bytes.specs.Fields.{bytes_of}
+use Rattle.bpf_bytes.specs.Spelling.{fields_of, second_slot, slot_bytes, instruction_bytes, spelling, spelling_at}
 use Rattle.bpf_code.specs.Program.{Program, instruction_at, is_wide}
 
 no_second : (i : Instruction) → is_wide i ≡ false → second_slot i ≡ None

@@ -4,10 +4,10 @@ use Rattle.std.specs.Option.{option_and_then}
 use Rattle.bpf_bytes.specs.declared.fault.DecodeCause.{DecodeCause}
 use Rattle.bpf_bytes.specs.declared.fault.DecodeCause.TheVariants.{Length, TooManySlots, CutShort, JumpBackwards, JumpPastEnd, JumpIntoWideLoad, NoExit}
 use Rattle.bpf_bytes.specs.declared.fault.DecodeFault.{DecodeFault}
-use Rattle.bpf_fields.specs.declared.fields.Fields.{Fields}
+use Rattle.bpf_bytes.specs.declared.fields.Fields.{Fields}
 use Rattle.bpf_code.specs.declared.instruction.Instruction.{Instruction}
 use Rattle.bpf_code.specs.declared.instruction.Instruction.TheVariants.{LoadWide, Exit}
-use Rattle.bpf_fields.specs.Fields.{slots_of}
+use Rattle.bpf_bytes.specs.Fields.{slots_of}
 use Rattle.bpf_bytes.specs.Reading.{reading_of, half_reading_of}
 use Rattle.bpf_code.specs.Program.{Program, max_slots, is_wide, distance_of}
 

@@ -10,7 +10,7 @@ use Rattle.bpf_words.specs.declared.operation.EndWidth.{EndWidth}
 use Rattle.bpf_words.specs.declared.operation.EndWidth.TheVariants.{Low16, Low32, Low64}
 use Rattle.bpf_bytes.specs.declared.fault.DecodeCause.{DecodeCause}
 use Rattle.bpf_bytes.specs.declared.fault.DecodeCause.TheVariants.{UnknownOpcode, RegisterNumber, UnusedField, UndefinedValue}
-use Rattle.bpf_fields.specs.declared.fields.Fields.{Fields}
+use Rattle.bpf_bytes.specs.declared.fields.Fields.{Fields}
 use Rattle.bpf_code.specs.declared.instruction.Register.{Register}
 use Rattle.bpf_code.specs.declared.instruction.Width.{Width}
 use Rattle.bpf_code.specs.declared.instruction.Width.TheVariants.{Bits32, Bits64}
@@ -19,15 +19,15 @@ use Rattle.bpf_code.specs.declared.instruction.SignExtendingMove.TheVariants.{Fr
 use Rattle.bpf_code.specs.declared.instruction.Source.TheVariants as source
 use Rattle.bpf_code.specs.declared.instruction.Instruction.{Instruction}
 use Rattle.bpf_code.specs.declared.instruction.Instruction.TheVariants as instruction
-use Rattle.bpf_fields.specs.declared.opcode.ArithmeticCode.{ArithmeticCode}
-use Rattle.bpf_fields.specs.declared.opcode.ArithmeticCode.TheVariants.{Add, Sub, Mul, Div, Or, And, Lsh, Rsh, Mod, Xor, Mov, Arsh}
-use Rattle.bpf_fields.specs.declared.opcode.SourceKind.TheVariants.{Immediate, Register as InRegister}
-use Rattle.bpf_fields.specs.declared.opcode.Uses.{Uses}
-use Rattle.bpf_fields.specs.declared.opcode.Opcode.{Opcode}
-use Rattle.bpf_fields.specs.declared.opcode.Opcode.TheVariants.{LoadWide, Load, StoreImmediate, StoreRegister, Arithmetic, Negate, End, Jump, Branch, Call, Exit}
+use Rattle.bpf_bytes.specs.declared.opcode.ArithmeticCode.{ArithmeticCode}
+use Rattle.bpf_bytes.specs.declared.opcode.ArithmeticCode.TheVariants.{Add, Sub, Mul, Div, Or, And, Lsh, Rsh, Mod, Xor, Mov, Arsh}
+use Rattle.bpf_bytes.specs.declared.opcode.SourceKind.TheVariants.{Immediate, Register as InRegister}
+use Rattle.bpf_bytes.specs.declared.opcode.Uses.{Uses}
+use Rattle.bpf_bytes.specs.declared.opcode.Opcode.{Opcode}
+use Rattle.bpf_bytes.specs.declared.opcode.Opcode.TheVariants.{LoadWide, Load, StoreImmediate, StoreRegister, Arithmetic, Negate, End, Jump, Branch, Call, Exit}
 use Rattle.bpf_code.specs.Register.{register_of}
-use Rattle.bpf_fields.specs.Opcode.{opcode_of}
-use Rattle.bpf_fields.specs.Uses.{fields_used, uses_of}
+use Rattle.bpf_bytes.specs.Opcode.{opcode_of}
+use Rattle.bpf_bytes.specs.Uses.{fields_used, uses_of}
 
 -- ---- the fields that an opcode doesn't use
 

@@ -2,8 +2,8 @@
 use Rattle.std.specs.Prelude.{ℕ, ◌^◌, ◌<◌, List, [], Option, Some, None}
 use Rattle.bpf_code.specs.declared.instruction.Instruction.{Instruction}
 use Rattle.bpf_code.specs.declared.instruction.Instruction.TheVariants.{LoadWide}
-use Rattle.bpf_fields.specs.Fields.{bytes_of}
-use Rattle.bpf_fields.specs.Spelling.{fields_of}
+use Rattle.bpf_bytes.specs.Fields.{bytes_of}
+use Rattle.bpf_bytes.specs.Spelling.{fields_of}
 
 -- the first half of a wide load has the lower half of its value
 abbrev pub IsFirstHalf : Instruction → Type 0

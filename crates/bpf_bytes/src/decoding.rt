@@ -3,22 +3,22 @@ ghost use Rattle.std.specs.Prelude.{Some, None, length, vec_len, vec_capacity, I
 ghost use Rattle.std.specs.Prelude.{true, false};
 ghost use Rattle.bpf_code.specs.Program.{max_slots};
 ghost use Rattle.bpf_bytes.specs.declared.fault.DecodeCause.TheVariants.{NoMemory};
-ghost use Rattle.bpf_fields.specs.Fields.{bytes_of, slots_of};
-ghost use Rattle.bpf_fields.specs.declared.fields.Fields.{Fields};
+ghost use Rattle.bpf_bytes.specs.Fields.{bytes_of, slots_of};
+ghost use Rattle.bpf_bytes.specs.declared.fields.Fields.{Fields};
 ghost use Rattle.bpf_code.specs.Program.{Program, IsInRange, AllInRange, is_wide as wide, distance_of};
-ghost use Rattle.bpf_fields.specs.Spelling.{spelling};
+ghost use Rattle.bpf_bytes.specs.Spelling.{spelling};
 ghost use Rattle.bpf_code.specs.Program.{instruction_at, IsProgram};
 ghost use Rattle.bpf_bytes.specs.Decoding.{fault as fault_at, with_front, completed_load as completed_by};
 ghost use Rattle.bpf_bytes.specs.Decoding.{reading_of_slots as slots_read, jump_fault as fault_of_jump, jump_faults};
 ghost use Rattle.bpf_bytes.specs.Decoding.{exit_fault, program_of};
-ghost use Rattle.bpf_fields.specs.Spelling.{fields_of, second_half, instruction_bytes};
+ghost use Rattle.bpf_bytes.specs.Spelling.{fields_of, second_half, instruction_bytes};
 ghost use Rattle.bpf_bytes.specs.Steps.{half_bytes, half_count, IsFirstHalf, IsHalf};
 
 use crate::fault::{DecodeCause, DecodeFault};
+use crate::fields::Fields;
 use crate::jumps::{check_exit, check_jumps};
 use crate::reading::{read, read_half};
 use bpf_code::{Code, Instruction, MAX_SLOTS};
-use bpf_fields::Fields;
 use std::alloc::Allocator;
 
 fn is_wide(instruction: Instruction) -> bool
@@ -28,7 +28,7 @@ fn is_wide(instruction: Instruction) -> bool
 }
 
 /// The wide load of its first half and the upper half of its value.
-#[tactic(auto, unfolding(bpf_fields::specs::Spelling::instruction_bytes, bpf_fields::specs::Spelling::fields_of))]
+#[tactic(auto, unfolding(crate::specs::Spelling::instruction_bytes, crate::specs::Spelling::fields_of))]
 fn completed_load(first: Instruction, high: u32) -> Instruction
     requires { IsFirstHalf first }
     ensures value { result ≡ completed_by first high }

@@ -1,9 +1,9 @@
 ghost use Rattle.std.specs.Prelude.{◌≡◌, ◌≤◌, ◌*◌, length, IfOk};
 ghost use Rattle.bpf_code.specs.Program.{max_slots};
-ghost use Rattle.bpf_fields.specs.Spelling.{spelling, spelling_at};
+ghost use Rattle.bpf_bytes.specs.Spelling.{spelling, spelling_at};
 
+use crate::fields::Fields;
 use bpf_code::{Code, Instruction};
-use bpf_fields::Fields;
 use byte_output::sink::{ByteSink, GrowingBytes};
 use std::alloc::{AllocError, Allocator};
 
@@ -39,7 +39,7 @@ pub fn append_program<A: Allocator, S: ByteSink>(sink: &mut S, code: &Code<A>)
 }
 
 /// Appends the bytes of the instruction that begins at a slot, where one does.
-#[tactic(auto, unfolding(bpf_fields::specs::Spelling::instruction_bytes))]
+#[tactic(auto, unfolding(crate::specs::Spelling::instruction_bytes))]
 fn append_at<S: ByteSink>(sink: &mut S, begins: Option<Instruction>)
     ensures { S.appends sink.old sink.new (spelling_at begins) }
 {

@@ -2,22 +2,23 @@ ghost use Rattle.std.specs.Prelude.{◌≡◌, IsTrue, IfOk, IfSome, true, false
 ghost use Rattle.std.specs.Int.{w32};
 ghost use Rattle.bpf_bytes.specs.Reading.{reading_of as read_of, half_reading_of as half_of};
 ghost use Rattle.bpf_bytes.specs.Reading.{unused_are_zero as unused_of};
-ghost use Rattle.bpf_fields.specs.Uses.{uses_of, offset_chooses};
+ghost use Rattle.bpf_bytes.specs.Uses.{uses_of, offset_chooses};
 ghost use Rattle.bpf_bytes.specs.Reading.{operation_of, extension_of, end_width_of};
 ghost use Rattle.bpf_bytes.specs.Reading.{on_register as register_form, instruction_of};
 ghost use Rattle.bpf_code.specs.Register.{number_of};
-ghost use Rattle.bpf_fields.specs.Opcode.{byte_of};
-ghost use Rattle.bpf_fields.specs.declared.opcode.SourceKind.TheVariants.{Immediate, Register as InRegister};
-ghost use Rattle.bpf_fields.specs.declared.opcode.Opcode.TheVariants.{Arithmetic};
-ghost use Rattle.bpf_fields.specs.Spelling.{fields_of, code_of, operation_offset};
+ghost use Rattle.bpf_bytes.specs.Opcode.{byte_of};
+ghost use Rattle.bpf_bytes.specs.declared.opcode.SourceKind.TheVariants.{Immediate, Register as InRegister};
+ghost use Rattle.bpf_bytes.specs.declared.opcode.Opcode.TheVariants.{Arithmetic};
+ghost use Rattle.bpf_bytes.specs.Spelling.{fields_of, code_of, operation_offset};
 ghost use Rattle.bpf_code.specs.Sizes.{extension_width};
-ghost use Rattle.bpf_fields.specs.Spelling.{extension_offset, end_immediate, second_half};
+ghost use Rattle.bpf_bytes.specs.Spelling.{extension_offset, end_immediate, second_half};
 ghost use Rattle.bpf_code.specs.Program.{is_wide, IsInRange};
 ghost use Rattle.bpf_bytes.specs.Steps.{IsFirstHalf};
 
 use crate::fault::DecodeCause;
+use crate::fields::Fields;
+use crate::opcode::{ArithmeticCode, Opcode, SourceKind, Uses};
 use bpf_code::{Instruction, Register, SignExtendingMove, Source, Width};
-use bpf_fields::{ArithmeticCode, Fields, Opcode, SourceKind, Uses};
 use bpf_words::{BinaryOperation, EndWidth};
 
 /// The instruction of a slot; of a wide load its first half.
@@ -66,7 +67,7 @@ fn unused_are_zero(used: Uses, fields: &Fields) -> bool
         && (used.immediate || fields.immediate == 0)
 }
 
-#[tactic(auto, unfolding(crate::specs::Reading::instruction_of, bpf_fields::specs::Spelling::fields_of, crate::specs::Reading::unused_are_zero))]
+#[tactic(auto, unfolding(crate::specs::Reading::instruction_of, crate::specs::Spelling::fields_of, crate::specs::Reading::unused_are_zero))]
 fn instruction(opcode: Opcode, dst: Register, src: Register, fields: &Fields) -> Option<Instruction>
     requires opcode { byte_of opcode ≡ fields.now.opcode }
     requires dst { number_of dst ≡ fields.now.dst }
@@ -138,7 +139,7 @@ fn instruction(opcode: Opcode, dst: Register, src: Register, fields: &Fields) ->
     })
 }
 
-#[tactic(auto, unfolding(crate::specs::Reading::on_register, bpf_fields::specs::Spelling::fields_of))]
+#[tactic(auto, unfolding(crate::specs::Reading::on_register, crate::specs::Spelling::fields_of))]
 fn on_register(
     width: Width,
     code: ArithmeticCode,

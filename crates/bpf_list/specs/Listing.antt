@@ -8,13 +8,13 @@ use Rattle.bpf_words.specs.declared.operation.BinaryOperation.TheVariants as ope
 use Rattle.bpf_words.specs.declared.operation.ByteOrder.TheVariants.{Little, Big, Swap}
 use Rattle.bpf_words.specs.declared.condition.Condition.{Condition}
 use Rattle.bpf_words.specs.declared.condition.Condition.TheVariants as condition
-use Rattle.bpf_fields.specs.declared.fields.Fields.{Fields}
+use Rattle.bpf_bytes.specs.declared.fields.Fields.{Fields}
 use Rattle.bpf_code.specs.declared.instruction.LoadKind.{LoadKind}
 use Rattle.bpf_code.specs.declared.instruction.LoadKind.TheVariants.{I8, I16, I32}
 use Rattle.bpf_code.specs.declared.instruction.Instruction.{Instruction}
 use Rattle.bpf_code.specs.declared.instruction.Instruction.TheVariants.{LoadWide, Load, StoreImmediate, StoreRegister, Arithmetic, Negate, MoveSignExtended, End, Jump, LongJump, Branch, Call, Exit}
-use Rattle.bpf_fields.specs.Fields.{bytes_of}
-use Rattle.bpf_fields.specs.Spelling.{fields_of, second_slot}
+use Rattle.bpf_bytes.specs.Fields.{bytes_of}
+use Rattle.bpf_bytes.specs.Spelling.{fields_of, second_slot}
 use Rattle.bpf_code.specs.Sizes.{width_bits, size_bytes, load_bytes, extension_width}
 use Rattle.bpf_code.specs.Program.{Program}
 

@@ -4,11 +4,11 @@ ghost use Rattle.hex.specs.Hex.{encode_lower};
 ghost use Rattle.arrayvec.specs.ArrayVec.{array_vec_len};
 ghost use Rattle.byte_output.specs.declared.line.TheConstants.{LINE_BYTES};
 ghost use Rattle.bpf_list.specs.Listing.{name_parts, name_text, slot_hex, immediate_text, line as line_of};
-ghost use Rattle.bpf_fields.specs.Spelling.{fields_of, second_slot};
+ghost use Rattle.bpf_bytes.specs.Spelling.{fields_of, second_slot};
 
 use crate::name::name;
+use bpf_bytes::Fields;
 use bpf_code::Instruction;
-use bpf_fields::Fields;
 use byte_output::line::{LineBuffer, push, push_column, push_signed, push_unsigned};
 use itoa::Buffer;
 

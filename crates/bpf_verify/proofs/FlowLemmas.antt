@@ -10,7 +10,7 @@ use Rattle.bpf_code.specs.declared.instruction.Instruction.{Instruction}
 use Rattle.bpf_semantics.specs.Path.{fall_through, jump_of}
 use Rattle.abs_step.specs.Result.{next_state, jump_state}
 use Rattle.abs_state.specs.declared.state.AbsState.{AbsState}
-use Rattle.abs_cause.specs.declared.cause.Cause.{Cause}
+use Rattle.abs_step.specs.declared.cause.Cause.{Cause}
 use Rattle.abs_state.specs.State.{abs_entry}
 use Rattle.schema.specs.Schema.{Tables}
 use Rattle.bpf_verify.specs.Flow.{Procedure, edge_states, states_from, states_from_before, join_with, join_of, join_one, at_entry, states_before, state_at, cause_at, cause_if, IsAccepted}

@@ -6,8 +6,8 @@ use Rattle.schema.specs.Schema.{Tables}
 use Rattle.bpf_semantics.specs.Path.{fall_through, jump_of}
 use Rattle.abs_state.specs.declared.state.AbsState.{AbsState}
 use Rattle.abs_state.specs.State.{state_join, abs_entry}
-use Rattle.abs_cause.specs.declared.cause.Cause.{Cause}
-use Rattle.abs_cause.specs.Cause.{cause_of}
+use Rattle.abs_step.specs.declared.cause.Cause.{Cause}
+use Rattle.abs_step.specs.Cause.{cause_of}
 use Rattle.abs_step.specs.Result.{next_state, jump_state}
 
 -- a program to be verified, with the tables that its calls may name and how many bytes its arguments have

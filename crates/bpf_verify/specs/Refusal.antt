@@ -1,8 +1,8 @@
 -- Why a procedure isn't accepted, and how that is printed: `V4 slot 1`.
 use Rattle.std.specs.Prelude.{ℕ, List, ◌++◌, codes}
 use Rattle.std.specs.Fmt.{decimal}
-pub use Rattle.abs_cause.specs.declared.cause.Cause.{Cause}
-use Rattle.abs_cause.specs.Number.{cause_number}
+pub use Rattle.abs_step.specs.declared.cause.Cause.{Cause}
+use Rattle.abs_step.specs.Number.{cause_number}
 use Rattle.bpf_verify.specs.declared.refusal.Refusal.{Refusal}
 use Rattle.bpf_verify.specs.declared.refusal.Refusal.TheVariants.{At, NoMemory}
 use Rattle.bpf_verify.specs.Flow.{Procedure, IsRefused}

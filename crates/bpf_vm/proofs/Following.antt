@@ -17,7 +17,7 @@ use Rattle.txn_view.specs.View.{IsViewOf}
 use Rattle.bpf_vm.specs.declared.turn.Turn.{Turn}
 use Rattle.bpf_vm.specs.declared.turn.Turn.TheVariants.{More, Exit, Stale, NoMemory}
 use Rattle.bpf_vm.specs.Turns.{MachineState, CanStep, FollowsMoment, FollowsStep, MayWantMemory, DoesNothing}
-use Rattle.vm_helpers.specs.Calls.{LooksMore}
+use Rattle.bpf_vm.specs.Calls.{LooksMore}
 use Rattle.bpf_vm.specs.Run.{Effects, effects_of, own_effects, IsAfter, HasRun, HasEnded, IsStaleAt, AfterTurn, IsNotStale}
 
 pub next_is : (p : Program) (tables : Tables) (k : ℕ) (s t : State) → moment p tables k s ≡ Going t → moment p tables (k + 1) s ≡ step p tables t

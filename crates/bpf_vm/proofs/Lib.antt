@@ -1,3 +1,5 @@
 mod Stepping
 mod Following
 mod Advancing
+pub mod CallLemmas
+pub mod PartLemmas

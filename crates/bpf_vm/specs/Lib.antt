@@ -1,2 +1,4 @@
 pub mod Run
 pub mod Turns
+pub mod Calls
+pub mod Held

@@ -13,7 +13,7 @@ use Rattle.bpf_verify.specs.Flow.{Procedure, IsAccepted}
 use Rattle.acceptance.specs.Description.{Suits}
 use Rattle.vm_state.specs.Words.{Words, Holds}
 use Rattle.txn_view.specs.declared.view.Own.{Own}
-use Rattle.vm_helpers.specs.Calls.{LooksMore}
+use Rattle.bpf_vm.specs.Calls.{LooksMore}
 use Rattle.bpf_vm.specs.declared.turn.Turn.{Turn}
 use Rattle.bpf_vm.specs.declared.turn.Turn.TheVariants.{More, Exit, Stale, NoMemory}
 use Rattle.bpf_vm.specs.Turns.{MachineState, MayWantMemory}

@@ -7,13 +7,13 @@ ghost use Rattle.vm_state.specs.Words.{Holds};
 ghost use Rattle.txn_view.specs.View.{IsViewOf};
 ghost use Rattle.bpf_vm.specs.Turns.{CanStep, CanExecute, FollowsStep, FollowsInstruction, DoesNothing};
 
+use crate::calls::CallAnswer;
 use crate::turn::Turn;
 use bpf_code::{Instruction, Register};
 use bpf_verify::Accepted;
 use schema::{Helper, Schema};
 use std::alloc::Allocator;
 use txn_view::{Store, View};
-use vm_helpers::CallAnswer;
 use vm_state::{WordState, registers_are_held};
 
 /// The instruction at the slot.
@@ -81,7 +81,7 @@ fn call<B: Allocator, S: Store, C: Allocator + Copy>(
     let Some(helper) = Helper::from_number(number) else {
         unreachable!();
     };
-    match vm_helpers::call(words, view, schema, helper) {
+    match crate::calls::call(words, view, schema, helper) {
         CallAnswer::Done => Turn::More,
         CallAnswer::Stale => Turn::Stale,
         CallAnswer::NoMemory => Turn::NoMemory,

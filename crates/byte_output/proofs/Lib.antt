@@ -1,2 +1,4 @@
 pub mod WritesLemmas
 pub mod PendingLemmas
+mod BehindLemmas
+pub mod TakenLemmas

@@ -5,12 +5,18 @@ ghost use Rattle.std.specs.Prelude.{◌≤◌, length, IfOk};
 ghost use Rattle.std.specs.Io.KnownBytes.{WriteAppends};
 ghost use Rattle.byte_output.specs.Writes.{WritesText};
 
+pub use failure::put_error;
+pub use output_sink::{OutputSink, finish};
+pub use status::FAILED;
 use std::io;
 use std::io::{ErrorKind, Write};
 
+mod failure;
 pub mod line;
+mod output_sink;
 pub mod paged;
 pub mod sink;
+mod status;
 
 /// One write. How many bytes it took from the front: none where it was interrupted, an error where
 /// it took none by itself.

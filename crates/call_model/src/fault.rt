@@ -1,5 +1,5 @@
 //! Why a program isn't added.
-use abs_cause::Cause;
+use abs_step::Cause;
 use bpf_bytes::DecodeFault;
 
 /// What is wrong with a program that was to be added.

@@ -7,9 +7,9 @@ use Rattle.schema.specs.Schema.{Tables, AreTables}
 use Rattle.bpf_verify.specs.Flow.{Procedure, IsAccepted}
 use Rattle.log_model.specs.Log.{StoredProcedure, Catalogue}
 use Rattle.log_model.specs.Name.{is_name}
-use Rattle.stored_procedures.specs.Held.{ListedProcedure}
+use Rattle.catalogue.specs.Stored.{ListedProcedure}
 pub use Rattle.log_model.specs.Log.{by_name}
-pub use Rattle.stored_procedures.specs.Held.{stored_of}
+pub use Rattle.catalogue.specs.Stored.{stored_of}
 
 pub record SystemCatalogue : Type 0 where
   pub tables : Tables

@@ -3,9 +3,9 @@
 ghost use Rattle.std.specs.Prelude.{◌≡◌};
 ghost use Rattle.command_line.specs.Fault.{fault_status, kind_status};
 
+use crate::explanation::Explanation;
+use byte_output::FAILED;
 use clap::error::ErrorKind;
-use exit_status::FAILED;
-use explanations::Explanation;
 use std::alloc::{AllocError, AllocFailed};
 use thiserror::Error;
 

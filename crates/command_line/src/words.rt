@@ -11,10 +11,10 @@ ghost use Rattle.command_line.specs.Plan.{settings_rule, site_line, table_rule, 
 ghost use Rattle.command_line.specs.Plan.{IsRunOf, IsSiteOf, IsExplainOf};
 ghost use Rattle.command_line.specs.Plan.{IsWithinLimits, number_of};
 
+use crate::explanation::explain;
 use crate::help::{RUN_HELP, SCRIPT_HELP, SITE_HELP};
 use crate::request::{Plan, PlanFault};
 use clap::{Arg, ArgAction, ArgMatches, Command};
-use explanations::explain;
 use program_commands::{number_in, table};
 use schema::{MAX_ARGUMENTS, MAX_EXECUTORS, MAX_LOG};
 use std::alloc::{AllocError, Global};

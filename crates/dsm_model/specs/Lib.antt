@@ -1,2 +1,4 @@
 pub mod World
 pub mod Sound
+pub mod Contents
+pub mod Worlds

@@ -1,2 +1,8 @@
 mod RunLemmas
 pub mod RowLemmas
+pub mod Numbered
+mod StepLemmas
+mod EntryLemmas
+pub mod ReplicaLemmas
+pub mod CallLemmas
+mod AddLemmas

@@ -10,8 +10,8 @@ use Rattle.log_model.proofs.GrowthLemmas.{rows_grown}
 use Rattle.dsm_model.specs.World.{Replica as ModelReplica, numbered}
 use Rattle.replica.specs.Replica.{Replica, StandsFor, rows_kept}
 use Rattle.replica.proofs.EntryLemmas.{take_drop, items_append, items_count, take_count, entries_taken}
-use Rattle.world_steps.specs.System.{SystemWorld, setting_of, world_of, progress_of, KeepsDelivered}
-use Rattle.world_steps.proofs.Numbered.{numbered_map}
+use Rattle.dsm_world.specs.System.{SystemWorld, setting_of, world_of, progress_of, KeepsDelivered}
+use Rattle.dsm_world.proofs.Numbered.{numbered_map}
 
 -- the log is what was delivered, and the rest
 pub log_is : (s : SystemWorld) (n : ℕ) → items_of s.entries ≡ items_of (take n s.entries) ++ items_of (drop n s.entries)

@@ -2,7 +2,7 @@
 use Rattle.std.proofs.Common.{◌≡◌, ◌≤◌, ◌+◌, ◌-◌, ℕ, zero, suc, false, List, [], ◌∷◌, ◌++◌, length, replicate, map, take, drop, slice_get, Some, Option, refl, sym, ap, subst, ◌∙◌, arith, inl, inr}
 use Rattle.std.proofs.lemmas.List.{length-append}
 use Rattle.rows_mv.specs.Versions.{AnswersFrom, HaveTables}
-use Rattle.stored_procedures.specs.Held.{AreForTables}
+use Rattle.catalogue.specs.Stored.{AreForTables}
 use Rattle.log_model.proofs.GrowthLemmas.{rows_grown}
 use Rattle.replica.specs.Replica.{Replica, StandsFor, AreEntriesOf}
 use Rattle.dsm_model.specs.declared.outcome.Outcome.{Outcome}
@@ -13,13 +13,13 @@ use Rattle.log_model.specs.Fit.{HasSafeProcedures}
 use Rattle.dsm_model.specs.World.{World, Replica as ModelReplica, Step, first_world, numbered, IsStep, AreSteps}
 use Rattle.world_calls.specs.declared.open_call.OpenCall.{OpenCall as OpenCallState}
 use Rattle.dsm_model.specs.Sound.{IsGiven, AreGiven, IsWorld}
-use Rattle.world_steps.specs.declared.step.Step.{Step as GivenStep}
-use Rattle.world_steps.specs.System.{SystemWorld, setting_of, world_of, step_of, progress_of, KeepsDelivered}
-use Rattle.world_steps.specs.Holdings.{IsReplicaOf, IsTogether}
-use Rattle.world_steps.proofs.Numbered.{get_snoc}
+use Rattle.dsm_world.specs.declared.step.Step.{Step as GivenStep}
+use Rattle.dsm_world.specs.System.{SystemWorld, setting_of, world_of, step_of, progress_of, KeepsDelivered}
+use Rattle.dsm_world.specs.Holdings.{IsReplicaOf, IsTogether}
+use Rattle.dsm_world.proofs.Numbered.{get_snoc}
 use Rattle.replica.proofs.EntryLemmas.{take_drop, take_count, items_append, items_count, entries_taken}
-use Rattle.world_steps.proofs.CallLemmas.{append_map}
-use Rattle.world_steps.proofs.ReplicaLemmas.{has_reached, ProceduresFollow, procedures_held}
+use Rattle.dsm_world.proofs.CallLemmas.{append_map}
+use Rattle.dsm_world.proofs.ReplicaLemmas.{has_reached, ProceduresFollow, procedures_held}
 
 pub steps_snoc : (w : Setting) (before : World) (steps : List Step) (outcomes : List Outcome) (between : World) (step : Step) (outcome : Outcome) (after : World) → AreSteps w before steps outcomes between → IsStep w between step outcome after → AreSteps w before (steps ++ step ∷ []) (outcomes ++ outcome ∷ []) after
 unfolding AreSteps

@@ -12,7 +12,7 @@ use Rattle.replica.specs.Replica.{Replica}
 use Rattle.log_model.specs.Log.{StoredProcedure, Call}
 use Rattle.log_model.specs.Entries.{ExecutedCall, Entry, CallEntry, AdditionEntry}
 use Rattle.call_model.specs.OpenCall.{OpenCall}
-use Rattle.world_steps.specs.System.{SystemWorld}
+use Rattle.dsm_world.specs.System.{SystemWorld}
 
 abbrev open_call_code : Coded OpenCall
 open_call_code = code_by (ℕ × (Call × ℕ)) (coded× coded_ℕ (coded× call_code coded_ℕ))

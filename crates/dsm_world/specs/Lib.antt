@@ -1,1 +1,5 @@
 pub mod Codes
+pub mod System
+pub mod Execution
+pub mod Turned
+pub mod Holdings

@@ -1,10 +1,22 @@
-//! A world of replicas in one thread: it begins calls, runs them an instruction at a time, orders, adds procedures,
-//! delivers and rebuilds, and is proved to go on as the definitions of the world say.
+//! A world of replicas in one thread, whose every step is proved to be that step of the definitions of the world: a
+//! call begins, runs on, is ordered; a procedure is added; an entry is delivered; a replica is made anew.
 #![tactic(auto)]
 
+pub use calls::{Calls, Spare};
 pub use rows::ListedRows;
+pub use step::Step;
 pub use world::World;
-pub use world_steps::Step;
 
+mod add;
+mod begin;
+mod calls;
+mod deliver;
+mod holdings;
+mod numbers;
+mod order;
+mod rebuild;
 mod rows;
+mod step;
+mod take;
+mod turn;
 mod world;

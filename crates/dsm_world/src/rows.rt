@@ -4,7 +4,7 @@ ghost use Rattle.std.specs.Prelude.{◌≡◌, ◌↔◌, ◌-◌, ◌≤◌, na
 ghost use Rattle.std.specs.FinMap.{entries};
 ghost use Rattle.log_model.specs.Log.{rows_after};
 ghost use Rattle.dsm_model.specs.World.{Replica as ModelReplica, numbered};
-ghost use Rattle.world_steps.specs.System.{setting_of, world_of};
+ghost use Rattle.dsm_world.specs.System.{setting_of, world_of};
 
 use crate::world::World;
 use log_model::entries_suffice;

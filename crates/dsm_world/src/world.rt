@@ -17,27 +17,29 @@ ghost use Rattle.dsm_model.specs.World.{Turn as TurnStep, Order as OrderStep, Is
 ghost use Rattle.dsm_model.specs.World.{open_call};
 ghost use Rattle.call_model.specs.OpenCall.{OpenCall as ModelCall};
 ghost use Rattle.dsm_model.specs.Sound.{IsGiven, IsSound, IsSerialReply, IsWorld};
-ghost use Rattle.model_laws.specs.Worlds.{HasExited, IsCallNumbered, turns_of};
+ghost use Rattle.dsm_model.specs.Worlds.{HasExited, IsCallNumbered, turns_of};
 ghost use Rattle.replica.specs.Replica.{Replica as ReplicaState, AreEntriesOf};
 ghost use Rattle.catalogue.specs.Catalogue.{IsCatalogue};
-ghost use Rattle.world_steps.specs.System.{setting_of, world_of, step_of, progress_of, KeepsDelivered};
-ghost use Rattle.world_steps.specs.Execution.{IsExecution};
-ghost use Rattle.world_steps.specs.Holdings.{system_of, AreConsistentHoldings, IsReplicaOf};
+ghost use Rattle.dsm_world.specs.System.{setting_of, world_of, step_of, progress_of, KeepsDelivered};
+ghost use Rattle.dsm_world.specs.Execution.{IsExecution};
+ghost use Rattle.dsm_world.specs.Holdings.{system_of, AreConsistentHoldings, IsReplicaOf};
 
+use crate::holdings::Holdings;
+use crate::numbers::index_of;
+use crate::step::Step;
+use crate::take::take_step;
+use crate::turn::exec;
 use catalogue::{Catalogue, catalogues_are_safe, each_catalogue_is_consistent};
 use dsm_model::{
-    Outcome, delivered_verdicts_are_the_logs, open_calls_are_sound, replies_are_serial,
-    steps_keep_a_world,
+    Outcome, delivered_verdicts_are_the_logs, enough_turns_reach_exit,
+    entries_carry_serial_replies, open_calls_are_sound, open_calls_keep_their_replies,
+    replies_are_serial, steps_keep_a_world,
 };
 use log_entry::Entry;
 use log_model::a_log_only_grows;
-use model_laws::{
-    enough_turns_reach_exit, entries_carry_serial_replies, open_calls_keep_their_replies,
-};
 use replica::{Replica, replicas_follow_the_log};
 use std::alloc::{AllocError, Allocator, Global};
 use std::marker::Model;
-use world_steps::{Holdings, Step, exec, index_of, take_step};
 
 /// A world of replicas of one database, which share one log. Contracts see what it holds, and by that the world of the
 /// definitions.
@@ -55,8 +57,8 @@ pub struct World<A: Allocator + Copy = Global> {
 }
 
 impl<A: Allocator + Copy> Model for World<A> {
-    ghost use Rattle.world_steps.specs.System.{SystemWorld};
-    ghost use Rattle.world_steps.specs.Holdings.{system_of, AreConsistentHoldings};
+    ghost use Rattle.dsm_world.specs.System.{SystemWorld};
+    ghost use Rattle.dsm_world.specs.Holdings.{system_of, AreConsistentHoldings};
     ghost use Rattle.dsm_world.specs.Codes.{world_code};
 
     ghost Value = { SystemWorld };

@@ -4,9 +4,8 @@
 ghost use Rattle.std.specs.Prelude.{◌≤◌};
 ghost use Rattle.schema.specs.declared.limits.TheConstants.{MAX_ARGUMENTS};
 
-use command_line::{Plan, PlanFault, plan};
-use exit_status::FAILED;
-use explanations::Explanation;
+use byte_output::FAILED;
+use command_line::{Explanation, Plan, PlanFault, plan};
 use program_commands::{check_over, list_over};
 use script_replay::replay_over;
 use script_run::{RunOptions, run_over};

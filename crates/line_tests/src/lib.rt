@@ -1,5 +1,7 @@
-//! Tests of lines: those of scripts, and those that are printed.
+//! Tests of lines: those of scripts, those of scripts of calls, those that are printed.
 #![tactic(auto)]
 
+#[cfg(test)]
+mod call_scripts;
 #[cfg(test)]
 mod tests;

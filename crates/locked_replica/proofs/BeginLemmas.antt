@@ -2,7 +2,7 @@
 use Rattle.std.proofs.Common.{◌≡◌, ◌≢◌, ℕ, List, length, Option, Some, None, option_map, refl, sym, ap, subst, ◌∙◌}
 use Rattle.schema.specs.Schema.{AreTables}
 use Rattle.bpf_verify.specs.Flow.{Procedure}
-use Rattle.stored_procedures.specs.Held.{ListedProcedure, AreForTables, listed_by_number, stored_procedures}
+use Rattle.catalogue.specs.Stored.{ListedProcedure, AreForTables, listed_by_number, stored_procedures}
 use Rattle.log_model.specs.Log.{Catalogue, Setting, StoredProcedure, by_number, procedures_after}
 use Rattle.log_model.specs.Entries.{items_of}
 use Rattle.log_entry.specs.declared.entry.Entry.{Entry as LogEntry}

@@ -1,3 +1,4 @@
 mod BeginLemmas
 mod CommitLemmas
 pub mod LockedLemmas
+pub mod EntryLemmas

@@ -4,7 +4,7 @@ use mathlib.Core.List.{IsPrefix}
 use Rattle.schema.specs.Schema.{AreTables}
 use Rattle.rows_mv.specs.Versions.{HaveTables}
 use Rattle.row_model.specs.InstalledWrites.{map_after}
-use Rattle.stored_procedures.specs.Held.{AreForTables}
+use Rattle.catalogue.specs.Stored.{AreForTables}
 use Rattle.log_model.specs.declared.verdict.Verdict.{Verdict}
 use Rattle.log_model.specs.Log.{Setting, IsLog, rows_after, verdict_of}
 use Rattle.log_model.specs.Fit.{HasSafeProcedures, AreItems}
@@ -14,8 +14,8 @@ use Rattle.log_entry.specs.Kind.{entry_of}
 use Rattle.order_log.specs.Facts.{HasFactAfter}
 use Rattle.replica.specs.Replica.{Replica, StandsFor, AreEntriesOf, entries_of, rows_kept}
 use Rattle.replica.proofs.EntryLemmas.{entries_first}
-use Rattle.ordered_entries.specs.Ordered.{IsOrdered}
-use Rattle.ordered_entries.proofs.EntryLemmas.{entries_append, entries_count}
+use Rattle.locked_replica.specs.Ordered.{IsOrdered}
+use Rattle.locked_replica.proofs.EntryLemmas.{entries_append, entries_count}
 use Rattle.locked_replica.specs.Locked.{LockedState, Keeps}
 
 -- what a replica says of the verdict at a position

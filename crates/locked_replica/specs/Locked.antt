@@ -3,7 +3,7 @@ use Rattle.std.specs.Prelude.{◌≡◌, ◌<◌, ◌≤◌, true, false, List, 
 use Rattle.std.specs.Coded.{Coded, code_by, coded×, coded_list}
 use Rattle.schema.specs.Schema.{AreTables}
 use Rattle.rows_mv.specs.Versions.{HaveTables}
-use Rattle.stored_procedures.specs.Held.{AreForTables}
+use Rattle.catalogue.specs.Stored.{AreForTables}
 use Rattle.log_model.specs.Log.{Setting, verdict_of}
 use Rattle.log_model.specs.Entries.{items_of}
 use Rattle.log_entry.specs.declared.entry.Entry.{Entry as LogEntry}

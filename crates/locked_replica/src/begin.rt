@@ -1,6 +1,6 @@
 use crate::begun::BegunCall;
+use crate::fact::LogSetting;
 use order_log::Seen;
-use ordered_entries::LogSetting;
 use std::alloc::{Allocator, Global};
 
 /// How a call begins.

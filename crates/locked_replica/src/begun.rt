@@ -4,9 +4,9 @@ ghost use Rattle.std.specs.Prelude.{◌≡◌};
 ghost use Rattle.std.specs.Arc.{arc_value};
 ghost use Rattle.locked_replica.specs.Begun.{IsBegun};
 
+use crate::fact::LogSetting;
 use bpf_verify::Accepted;
 use order_log::Seen;
-use ordered_entries::LogSetting;
 use std::alloc::{Allocator, Global};
 use std::marker::Model;
 use std::sync::Arc;

@@ -6,7 +6,7 @@ use Rattle.std.specs.FinMap.{entries, len}
 use Rattle.byteorder.specs.Endian.{little_bytes}
 use Rattle.schema.specs.declared.look.Look.{Look}
 use Rattle.schema.specs.Rows.{Key, Writes}
-use Rattle.bpf_fields.specs.Spelling.{spelling}
+use Rattle.bpf_bytes.specs.Spelling.{spelling}
 use Rattle.log_model.specs.declared.request.RequestId.{RequestId}
 use Rattle.log_model.specs.Log.{StoredProcedure}
 use Rattle.log_model.specs.Entries.{ExecutedCall, Entry, CallEntry, AdditionEntry}

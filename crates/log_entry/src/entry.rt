@@ -58,7 +58,7 @@ pub struct AddedProcedure<A: Allocator + Copy = Global> {
 
 impl<A: Allocator + Copy> Model for AddedProcedure<A> {
     ghost use Rattle.std.specs.Arc.{arc_value};
-    ghost use Rattle.stored_procedures.specs.Held.{ListedProcedure, listed_one_code};
+    ghost use Rattle.catalogue.specs.Stored.{ListedProcedure, listed_one_code};
 
     ghost Value = { ListedProcedure };
 

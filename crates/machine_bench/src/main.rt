@@ -6,7 +6,7 @@
 use anyhow::Context;
 use bpf_bytes::decode;
 use bpf_verify::{Accepted, verify};
-use plain_rows::Row;
+use plain_runner::Row;
 use plain_site::{complete_call, run_call};
 use schema::Schema;
 use std::alloc::Global;

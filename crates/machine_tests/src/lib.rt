@@ -1,5 +1,8 @@
-//! Tests of the machine: whole calls over a plain map, turn by turn and to their end, and against the plain runner.
+//! Tests of the machine: whole calls over a plain map, turn by turn or to their end, against the plain runner. Views of
+//! a store are tested beside it.
 #![tactic(auto)]
 
 #[cfg(test)]
 mod tests;
+#[cfg(test)]
+mod view;

@@ -1,10 +1,8 @@
 use bpf_bytes::decode;
 use bpf_verify::{Accepted, verify};
 use bpf_vm::Turn;
-use plain_rows::{KeyMap, Row};
-use plain_runner::{CompletedRun, Write};
-use plain_site::{CompletedCall, SiteRun};
-use plain_store::PlainStore;
+use plain_runner::{CompletedRun, KeyMap, Row, Write};
+use plain_site::{CompletedCall, PlainStore, SiteRun};
 use row_sets::{ReadSet, WriteSet};
 use schema::{Look, Schema};
 use std::alloc::{Allocator, Global};

@@ -1,3 +1,5 @@
 pub mod Agreement
 pub mod Nodes
 pub mod Requests
+pub mod Crew
+pub mod Size

@@ -5,10 +5,10 @@ ghost use Rattle.node_calls.specs.Answer.{IsAnswer};
 ghost use Rattle.node.specs.Requests.{IsHeard, IsVerdictAt};
 
 use crossbeam_channel::{Sender, bounded};
+use locked_replica::{LogSetting, OrderedEntries};
 use log_model::{RequestId, Verdict};
 use node_calls::{Answer, Asked, CallRefusal, Gate};
 use order_log::{Fact, Seen};
-use ordered_entries::{LogSetting, OrderedEntries};
 use row_sets::Bytes;
 use served_replicas::{Reply, Request, Shared};
 use std::alloc::Global;

@@ -6,9 +6,8 @@ ghost use Rattle.replica.specs.Replica.{AreEntriesOf, entries_of};
 ghost use Rattle.locked_replica.specs.Commits.{commits_of};
 ghost use Rattle.node.specs.Agreement.{OneBegins, AgreeBy};
 
-use locked_replica::LockedReplica;
+use locked_replica::{LockedReplica, LogSetting};
 use order_log::{LogIdentity, Seen};
-use ordered_entries::LogSetting;
 use std::alloc::{Allocator, Global};
 
 /// How a replica has ended, beside what was delivered to it.

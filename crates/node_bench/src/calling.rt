@@ -4,10 +4,10 @@ use crate::procedures::{
     ACCOUNTS, ADD_NUMBER, BALANCE_NUMBER, COUNT_NUMBER, MONEY, NEXT_NUMBER, ONE_NUMBER, PUT_NUMBER,
     TRANSFER_NUMBER,
 };
+use locked_replica::LogSetting;
 use log_model::RequestId;
 use node::Desk;
 use node_calls::{Answer, OpenGate};
-use ordered_entries::LogSetting;
 use rand_core::utils::NextWord;
 use rand_pcg::Pcg32;
 use session::Session;

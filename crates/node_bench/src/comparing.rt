@@ -3,11 +3,10 @@
 ghost use Rattle.std.specs.Prelude.{◌<◌, ◌^◌, length};
 
 use crate::procedures::ACCOUNTS;
-use locked_replica::LockedReplica;
+use locked_replica::{LockedReplica, LogSetting};
 use log_entry::Entry;
 use node::Finish;
 use node_calls::OpenGate;
-use ordered_entries::LogSetting;
 use plain_replayer::{
     CompletedReplay, PlainCall, PlainItem, PlainItemKind, PlainSetting, Row, replay_log,
 };

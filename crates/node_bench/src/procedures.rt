@@ -5,9 +5,9 @@ use catalogue::Catalogue;
 use plain_replayer::PlainSetting;
 use schema::Schema;
 use std::alloc::Global;
-use test_entries::catalogue_of;
-use test_procedures::{TABLES, digit_of, procedure_of};
-use test_programs::{ADD, COUNT, NEXT, ONE, PUT, READ, TRANSFER};
+use test_programs::{
+    ADD, COUNT, NEXT, ONE, PUT, READ, TABLES, TRANSFER, catalogue_of, digit_of, procedure_of,
+};
 
 /// How many accounts there are.
 pub(crate) const ACCOUNTS: u32 = 64;

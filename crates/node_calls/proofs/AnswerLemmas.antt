@@ -12,8 +12,8 @@ use Rattle.log_entry.specs.declared.entry.Entry.{Entry as LogEntry}
 use Rattle.log_entry.specs.declared.entry.Entry.TheVariants as entry
 use Rattle.log_entry.specs.Kind.{entry_of}
 use Rattle.replica.specs.Replica.{AreEntriesOf, entries_of}
-use Rattle.ordered_entries.proofs.EntryLemmas.{entries_append, entries_count}
-use Rattle.running_calls.specs.Running.{log_seen}
+use Rattle.locked_replica.proofs.EntryLemmas.{entries_append, entries_count}
+use Rattle.node_calls.specs.Running.{log_seen}
 use Rattle.node_calls.specs.Asked.{AskedCall}
 use Rattle.node_calls.specs.Answer.{IsAppended, IsOrderedAt, IsVerdict, asked_call}
 

@@ -10,9 +10,9 @@ use Rattle.log_entry.specs.declared.entry.Entry.{Entry as LogEntry}
 use Rattle.log_entry.specs.declared.entry.Entry.TheVariants as entry
 use Rattle.call_model.specs.Request.{or_none, has_zero}
 use Rattle.replica.specs.Replica.{AreEntriesOf, entries_of}
-use Rattle.ordered_entries.specs.Ordered.{IsOrderedCall}
+use Rattle.locked_replica.specs.Ordered.{IsOrderedCall}
 use Rattle.locked_replica.specs.Begun.{procedure_now}
-use Rattle.running_calls.specs.Running.{node_call, log_seen}
+use Rattle.node_calls.specs.Running.{node_call, log_seen}
 use Rattle.locked_replica.specs.declared.answers.Found.{Found}
 use Rattle.locked_replica.specs.declared.answers.Found.TheVariants as found
 use Rattle.node_calls.specs.Asked.{AskedCall}

@@ -1,3 +1,4 @@
 pub mod Answer
 pub mod Asked
 pub mod Ran
+pub mod Running

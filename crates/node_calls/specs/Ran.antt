@@ -6,7 +6,7 @@ use Rattle.log_model.specs.Fit.{IsCall}
 use Rattle.log_entry.specs.declared.entry.Entry.{Entry as LogEntry}
 use Rattle.call_model.specs.OpenCall.{OpenCall, makes_look}
 use Rattle.world_calls.specs.OpenCall.{IsCompletion, stays_open}
-use Rattle.running_calls.specs.Running.{RunningState, log_seen}
+use Rattle.node_calls.specs.Running.{RunningState, log_seen}
 use Rattle.node_calls.specs.declared.run.Ran.{Ran as RanCall}
 use Rattle.node_calls.specs.declared.run.Ran.TheVariants.{Ended, Stale, NoMemory}
 use Rattle.node_calls.specs.declared.run.Advance.{Advance}

@@ -2,18 +2,17 @@
 
 ghost use Rattle.std.specs.Prelude.{◌≡◌, ◌≢◌, ◌≤◌, length};
 ghost use Rattle.bpf_vm.specs.declared.turn.Turn.TheVariants.{More};
-ghost use Rattle.running_calls.specs.Running.{node_call};
+ghost use Rattle.node_calls.specs.Running.{node_call};
 ghost use Rattle.node_calls.specs.Ran.{IsAdvance, IsRan};
 ghost use Rattle.node_calls.specs.declared.run.Advance.TheVariants.{Open};
 
 use crate::bells::Waiter;
 use crate::gate::Gate;
+use crate::running::RunningCall;
 use bpf_vm::Turn;
-use locked_replica::{BegunCall, LockedReplica};
+use locked_replica::{BegunCall, LockedReplica, LogSetting};
 use log_model::RequestId;
 use order_log::Seen;
-use ordered_entries::LogSetting;
-use running_calls::RunningCall;
 use std::alloc::{Allocator, Global};
 use std::sync::{RwLock, Wait};
 use world_calls::Completion;

@@ -6,9 +6,8 @@ use std::process::Abort;
 use std::sync::Wait;
 use std::thread::Threads;
 use tallies::Counts;
-use test_callers::{Addition, Asked, Asking, Told};
-use test_nodes::{Ending, run_at_a_node};
-use test_procedures::{ADD, ONE, PUT, bytes_of};
+use test_nodes::{Addition, Asked, Asking, Ending, Told, run_at_a_node};
+use test_programs::{ADD, ONE, PUT, bytes_of};
 
 mod calls;
 

@@ -3,7 +3,7 @@ use Rattle.std.proofs.Common.{inl, inr}
 use Rattle.std.specs.Prelude.{◌≡◌, ◌⊎◌, refl}
 use Rattle.std.specs.Coded.{Coded, code_by, coded⊎}
 use Rattle.log_model.specs.Entries.{ExecutedCall}
-use Rattle.stored_procedures.specs.Held.{ListedProcedure, listed_one_code}
+use Rattle.catalogue.specs.Stored.{ListedProcedure, listed_one_code}
 use Rattle.log_entry.specs.Codes.{executed_code}
 use Rattle.log_entry.specs.declared.entry.Entry.{Entry as LogEntry}
 use Rattle.log_entry.specs.declared.entry.Entry.TheVariants.{Call, Addition}

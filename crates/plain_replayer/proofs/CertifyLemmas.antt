@@ -8,7 +8,7 @@ use Rattle.schema.specs.declared.look.Look.{Look}
 use Rattle.log_model.specs.declared.verdict.Verdict.TheVariants.{Stale}
 use Rattle.log_model.specs.Log.{CertifiedItem, Call, conflicts, first_position, first_repeated, unless_conflict}
 use Rattle.log_model.specs.Comparisons.{comparisons_from, comparisons_after}
-use Rattle.plain_log.specs.Report.{Report}
+use Rattle.plain_replayer.specs.Report.{Report}
 use Rattle.plain_replayer.specs.Replay.{certified_of, comparison_at, comparisons_on_new, verdict_on_new}
 
 pub drop_min : {A : Type 0} (n : ℕ) (xs : List A) → drop (min n (length xs)) xs ≡ drop n xs

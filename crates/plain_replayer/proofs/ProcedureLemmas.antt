@@ -12,7 +12,7 @@ use Rattle.std.proofs.Math.Seq.{drop-cons}
 use Rattle.log_model.specs.declared.verdict.Verdict.{Verdict}
 use Rattle.log_model.specs.declared.verdict.Verdict.TheVariants.{Commit, Conflict, Stale, Repeated, Taken}
 use Rattle.log_model.specs.Log.{StoredProcedure, Catalogue, by_number, Setting, Call, Item, CallItem, AdditionItem, Log, History, Database, first_database, database_now, database_after_item}
-use Rattle.plain_log.specs.Report.{Report}
+use Rattle.plain_replayer.specs.Report.{Report}
 use Rattle.plain_replayer.specs.Replay.{added_by, added_from, passes, procedures_of, procedures_at}
 
 -- ---- the search

@@ -2,8 +2,8 @@
 use Rattle.std.specs.Prelude.{List, refl}
 use Rattle.std.specs.Coded.{Coded, code_by, coded×, coded_list}
 use Rattle.schema.specs.Rows.{Rows}
-use Rattle.plain_log.specs.Report.{Report}
-use Rattle.plain_log.specs.Codes.{rows_code, report_code}
+use Rattle.plain_replayer.specs.Report.{Report}
+use Rattle.plain_replayer.specs.LogCodes.{rows_code, report_code}
 use Rattle.plain_replayer.specs.Replay.{Replay}
 
 abbrev pub replay_code : Coded Replay

@@ -1,2 +1,5 @@
 pub mod Replay
 pub mod Codes
+pub mod Report
+pub mod LogCodes
+pub mod Kind

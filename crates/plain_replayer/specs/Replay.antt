@@ -8,7 +8,7 @@ use Rattle.bpf_semantics.specs.Run.{Run}
 use Rattle.row_model.specs.Signature.{shares_bit}
 use Rattle.log_model.specs.declared.verdict.Verdict.{Verdict}
 use Rattle.log_model.specs.declared.verdict.Verdict.TheVariants.{Commit, Conflict, Stale, Repeated, Taken}
-use Rattle.plain_log.specs.Report.{Report, report_of_addition}
+use Rattle.plain_replayer.specs.Report.{Report, report_of_addition}
 use Rattle.log_model.specs.Log.{StoredProcedure, Catalogue, Setting, Call, Item, CallItem, AdditionItem, Log, run_of_call, CertifiedItem, is_commit, conflicts, first_position, unless_conflict, verdict_after, verdict_on_addition, if_commits, verdict_of, run_in}
 use Rattle.log_model.specs.Comparisons.{comparisons_from, comparisons_after, comparisons_of}
 

@@ -5,7 +5,7 @@ ghost use Rattle.std.specs.List.{list_any};
 ghost use Rattle.schema.specs.Rows.{any_covers};
 ghost use Rattle.row_model.specs.Signature.{bit_of, look_sets_bit, looks_set_bit};
 
-use plain_rows::Write;
+use plain_runner::Write;
 use schema::Look;
 use std::alloc::Allocator;
 

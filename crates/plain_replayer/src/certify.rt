@@ -7,8 +7,9 @@ ghost use Rattle.log_model.specs.Comparisons.{comparisons_from, comparisons_afte
 ghost use Rattle.plain_replayer.specs.Replay.{certified_of, comparison_at, comparisons_on_new, verdict_on_new};
 
 use crate::bits::{shares_bit, shares_key};
+use crate::item::PlainCall;
+use crate::report::ItemReport;
 use log_model::{RequestId, Verdict};
-use plain_log::{ItemReport, PlainCall};
 use schema::Look;
 use std::alloc::{AllocError, Allocator};
 

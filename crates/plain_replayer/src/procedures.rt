@@ -6,8 +6,10 @@ ghost use Rattle.log_model.specs.Log.{by_name, by_number, is_commit, verdict_on_
 ghost use Rattle.plain_replayer.specs.Replay.{added_by, added_from, passes, procedures_at, procedures_of};
 
 use crate::certify::is_commit;
+use crate::item::{PlainCall, PlainItem, PlainItemKind};
+use crate::report::ItemReport;
+use crate::setting::{PlainProcedure, PlainSetting};
 use log_model::{Identifier, Verdict};
-use plain_log::{ItemReport, PlainCall, PlainItem, PlainItemKind, PlainProcedure, PlainSetting};
 use std::alloc::Allocator;
 
 /// The procedure of a number after the items of which this is said, the first of the log.

@@ -3,22 +3,21 @@
 ghost use Rattle.std.specs.Prelude.{◌≡◌, ◌<◌, ◌≤◌, ◌^◌, ℕ, length, map, take, slice_get, slice_index_or, option_map};
 ghost use Rattle.std.specs.Prelude.{Some, [], ◌∷◌, ◌++◌, IfOk, OnOk};
 ghost use Rattle.std.specs.FinMap.{empty, entries};
-ghost use Rattle.plain_rows.specs.Listed.{rows_of};
+ghost use Rattle.plain_runner.specs.Listed.{rows_of};
 ghost use Rattle.log_model.specs.Log.{Item, CallItem, IsLog, by_number, or_idle, run_of_procedure, procedures_after};
 ghost use Rattle.log_model.specs.Log.{if_commits, history};
-ghost use Rattle.plain_log.specs.Report.{Report};
+ghost use Rattle.plain_replayer.specs.Report.{Report};
 ghost use Rattle.plain_replayer.specs.Replay.{IsReportOf, procedures_at, procedures_of, report_after, rows_after_next};
 ghost use Rattle.plain_replayer.specs.Replay.{run_by, told_by};
 
 use crate::certify::{comparisons_after, is_commit, verdict_after};
+use crate::item::{PlainCall, PlainItem, PlainItemKind};
 use crate::procedures::{procedure_of_call, verdict_on_addition};
+use crate::report::{ItemReport, looks_of, reply_of};
+use crate::rows::{RowList, rows_at};
+use crate::setting::PlainSetting;
 use log_model::{Verdict, verdicts_in_words_of_the_log};
-use plain_log::{
-    ItemReport, PlainCall, PlainItem, PlainItemKind, PlainSetting, RowList, looks_of, reply_of,
-    rows_at,
-};
-use plain_rows::Row;
-use plain_runner::{CompletedRun, run_program};
+use plain_runner::{CompletedRun, Row, run_program};
 use std::alloc::{AllocError, Allocator, Global};
 use std::marker::Model;
 

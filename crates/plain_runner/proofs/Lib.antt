@@ -1,1 +1,4 @@
 pub mod RunnerLemmas
+pub mod MemoryLemmas
+pub mod ListedLemmas
+pub mod CallLemmas

@@ -1,1 +1,3 @@
 pub mod Runner
+pub mod Listed
+pub mod State

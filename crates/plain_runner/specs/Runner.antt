@@ -5,7 +5,7 @@ use Rattle.std.specs.FinMap.{code}
 use Rattle.schema.specs.Rows.{Rows, Writes, Key}
 use Rattle.schema.specs.declared.look.Look.{Look}
 use Rattle.bpf_semantics.specs.Run.{Run}
-use Rattle.plain_helpers.specs.State.{state_of}
+use Rattle.plain_runner.specs.State.{state_of}
 use Rattle.plain_runner.specs.declared.step.Moment as rust_moment
 use Rattle.plain_runner.specs.declared.step.Moment.TheVariants as rust_moment_variants
 use Rattle.bpf_semantics.specs.Step.{Moment, Going, Ended, Stuck}

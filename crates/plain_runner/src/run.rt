@@ -4,15 +4,16 @@ ghost use Rattle.std.specs.Prelude.{◌≡◌, IfOk, replicate, None};
 ghost use Rattle.std.specs.FinMap.{entries};
 ghost use Rattle.bpf_semantics.specs.State.{entry_state};
 ghost use Rattle.bpf_semantics.specs.Run.{run, run_at, run_of};
-ghost use Rattle.plain_rows.specs.Listed.{rows_of};
-ghost use Rattle.plain_helpers.specs.State.{state_of};
+ghost use Rattle.plain_runner.specs.Listed.{rows_of};
+ghost use Rattle.plain_runner.specs.State.{state_of};
 ghost use Rattle.plain_runner.specs.Runner.{moment_of};
 
+use crate::key_map::KeyMap;
+use crate::state::State;
 use crate::step::Moment;
 use bpf_code::Code;
 use bpf_semantics::Value;
-use plain_helpers::State;
-use plain_rows::{KeyMap, Row, Write};
+use row_sets::{Row, Write};
 use schema::{Look, Schema};
 use std::alloc::{AllocError, Allocator, Global};
 use std::marker::Model;
@@ -31,7 +32,7 @@ pub struct CompletedRun<A: Allocator = Global> {
 impl<A: Allocator> Model for CompletedRun<A> {
     ghost use Rattle.std.specs.FinMap.{from_entries};
     ghost use Rattle.bpf_semantics.specs.Run.{Run};
-    ghost use Rattle.plain_rows.specs.Listed.{AreInOrder};
+    ghost use Rattle.plain_runner.specs.Listed.{AreInOrder};
     ghost use Rattle.plain_runner.specs.Runner.{run_code};
 
     ghost Value = { Run };

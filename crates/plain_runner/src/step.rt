@@ -12,17 +12,15 @@ ghost use Rattle.bpf_code.specs.declared.instruction.Instruction.TheVariants.{Ex
 ghost use Rattle.schema.specs.Schema.{Tables};
 ghost use Rattle.bpf_semantics.specs.Step.{after_jump, is_read_only, with_result, with_store, execute, step};
 ghost use Rattle.bpf_semantics.specs.Run.{next_moment};
-ghost use Rattle.plain_helpers.specs.State.{state_of};
+ghost use Rattle.plain_runner.specs.State.{state_of};
 ghost use Rattle.plain_runner.specs.Runner.{moment_of, steps_before};
 
+use crate::memory::{little_number, load_value, memory_bytes, memory_with_store};
+use crate::state::State;
+use crate::value::{arithmetic, holds, number, operation_result};
 use bpf_code::{Code, Instruction, LoadKind, Register, SignExtendingMove, Size, Source, Width};
 use bpf_semantics::Value;
 use bpf_words::{BinaryOperation, ByteOrder, Condition, EndWidth, Operation, SignExtension, end};
-use plain_helpers::State;
-use plain_memory::{
-    arithmetic, holds, little_number, load_value, memory_bytes, memory_with_store, number,
-    operation_result,
-};
 use schema::Schema;
 use std::alloc::{AllocError, Allocator};
 

@@ -3,7 +3,7 @@ use Rattle.std.proofs.Common.{◌≡◌, ◌≢◌, ℕ, zero, suc, ◌+◌, ◌
 use Rattle.std.specs.FinMap.{empty, insert}
 use Rattle.std.proofs.lemmas.Bool.Decides.{nat_tests}
 use Rattle.schema.specs.Rows.{Rows, Key}
-use Rattle.plain_rows.specs.Listed.{rows_of}
+use Rattle.plain_runner.specs.Listed.{rows_of}
 
 -- each of them, whatever stands beyond the end
 pub each_byte : (xs : List ℕ) → ((i : ℕ) → get_or xs i 0 < 256) → (k d : ℕ) → k < length xs → get_or xs k d < 256

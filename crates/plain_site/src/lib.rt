@@ -3,5 +3,7 @@
 #![tactic(auto)]
 
 pub use run::{CompletedCall, SiteFault, SiteRun, complete_call, run_call};
+pub use store::PlainStore;
 
 mod run;
+mod store;

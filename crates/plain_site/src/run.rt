@@ -3,17 +3,17 @@
 ghost use Rattle.std.specs.Prelude.{◌≡◌, ◌≢◌, ◌≤◌, ℕ, length, IfOk, IfErr, IfSome};
 ghost use Rattle.acceptance.specs.Description.{Suits};
 ghost use Rattle.schema.specs.Rows.{AreRows};
-ghost use Rattle.plain_rows.specs.Listed.{rows_of};
+ghost use Rattle.plain_runner.specs.Listed.{rows_of};
 ghost use Rattle.bpf_semantics.specs.Path.{longest_path};
 ghost use Rattle.bpf_vm.specs.declared.turn.Turn.TheVariants.{More, Exit};
 ghost use Rattle.bpf_vm.specs.Run.{HasRun, HasEnded, no_effects, own_effects};
 ghost use Rattle.plain_site.specs.Completed.{CompletesIn};
 ghost use Rattle.plain_site.specs.declared.run.SiteFault.TheVariants.{ArgsLength};
 
+use crate::store::PlainStore;
 use bpf_verify::Accepted;
 use bpf_vm::{Machine, Turn, open_calls_can_turn, runs_go_on_or_end};
-use plain_rows::{Bytes, KeyMap, Row};
-use plain_store::PlainStore;
+use plain_runner::{Bytes, KeyMap, Row};
 use row_sets::{ReadSet, WriteSet};
 use schema::{Schema, rows_stay_the_schemas};
 use std::alloc::{AllocError, Allocator, Global};

@@ -4,8 +4,8 @@ use Rattle.bpf_verify.specs.Flow.{Procedure, IsRefused}
 use Rattle.call_model.specs.declared.fault.ProgramFault.TheVariants.{Bytes, Instruction}
 use Rattle.call_model.specs.Check.{ProgramCheck, Failed}
 use Rattle.call_model.specs.declared.fault.ProgramFault.{ProgramFault}
-use Rattle.or_no_memory.specs.declared.OrNoMemory.{OrNoMemory}
-use Rattle.or_no_memory.specs.declared.OrNoMemory.TheVariants.{NoMemory, Fault}
+use Rattle.schema.specs.declared.or_no_memory.OrNoMemory.{OrNoMemory}
+use Rattle.schema.specs.declared.or_no_memory.OrNoMemory.TheVariants.{NoMemory, Fault}
 
 -- there is no memory, or the check comes to this very fault
 abbrev pub IsFaultOf : ProgramCheck → OrNoMemory ProgramFault → Type 0

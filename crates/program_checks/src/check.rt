@@ -13,8 +13,7 @@ use bpf_bytes::{DecodeCause, decode};
 use bpf_code::Code;
 use bpf_verify::{Accepted, Refusal, verify};
 use call_model::ProgramFault;
-use or_no_memory::OrNoMemory;
-use schema::Schema;
+use schema::{OrNoMemory, Schema};
 use std::alloc::Allocator;
 
 /// The program of some bytes, where the verifier accepts it for these tables and arguments of so many bytes.

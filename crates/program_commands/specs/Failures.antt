@@ -1,9 +1,9 @@
 -- What a command that fails leaves, and what is said of it.
 use Rattle.std.specs.Prelude.{◌≡◌, ℕ, List, codes, Option}
 use Rattle.byte_output.specs.Writes.{AppendsBeginning}
-use Rattle.exit_status.specs.Failure.{SaysStream}
-use Rattle.or_no_memory.specs.declared.OrNoMemory.{OrNoMemory}
-use Rattle.or_no_memory.specs.declared.OrNoMemory.TheVariants.{NoMemory, Fault}
+use Rattle.byte_output.specs.Failure.{SaysStream}
+use Rattle.schema.specs.declared.or_no_memory.OrNoMemory.{OrNoMemory}
+use Rattle.schema.specs.declared.or_no_memory.OrNoMemory.TheVariants.{NoMemory, Fault}
 use Rattle.program_commands.specs.declared.failure.StreamFault.{StreamFault}
 use Rattle.program_commands.specs.declared.failure.StreamFault.TheVariants.{Input, Output}
 

@@ -2,9 +2,8 @@
 
 ghost use Rattle.program_commands.specs.Failures.{IsSaid};
 
-use byte_output::put;
-use exit_status::put_error;
-use or_no_memory::OrNoMemory;
+use byte_output::{put, put_error};
+use schema::OrNoMemory;
 use std::io;
 use std::io::Write;
 

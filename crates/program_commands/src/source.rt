@@ -9,7 +9,7 @@ ghost use Rattle.program_commands.specs.Source.{IsSourceOf};
 use crate::failure::StreamFault;
 use bpf_bytes::{DecodeCause, DecodeFault, decode};
 use bpf_code::{Code, MAX_SLOTS};
-use or_no_memory::OrNoMemory;
+use schema::OrNoMemory;
 use std::alloc::{AllocError, Allocator};
 use std::io;
 use std::io::{ErrorKind, Read};

@@ -10,7 +10,7 @@ use schema::Look;
 use std::alloc::Global;
 use std::fmt::Write as _;
 use std::process::Abort;
-use test_procedures::{ONE, PUT, args_of, procedure_of, setting_of};
+use test_programs::{ONE, PUT, args_of, procedure_of, setting_of};
 
 mod drawn;
 

@@ -11,9 +11,9 @@ use Rattle.std.specs.FinMap.{empty, get-empty}
 use Rattle.schema.specs.Rows.{key_cmp}
 use Rattle.key_table.specs.Table.{Table, versions_at}
 use Rattle.rows_mv.specs.Versions.{IsInstalled, slots_of, with_version}
-use Rattle.stored_procedures.specs.Held.{ListedProcedure, AreForTables, stored, stored_procedures}
+use Rattle.catalogue.specs.Stored.{ListedProcedure, AreForTables, stored, stored_procedures}
 use Rattle.certify.specs.Kept as certifier
-use Rattle.certifications.specs.declared.certification.Certification.{Certification}
+use Rattle.certify.specs.declared.certification.Certification.{Certification}
 use Rattle.replica.specs.Replica.{certification_next, writes_in}
 use Rattle.replica.specs.Delivery.{KeepsCertified, HasSameVersions, Holdings, IsTakenIn}
 

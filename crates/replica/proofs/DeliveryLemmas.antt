@@ -13,9 +13,9 @@ use Rattle.log_model.specs.declared.verdict.Verdict.{Verdict}
 use Rattle.log_model.specs.declared.verdict.Verdict.TheVariants.{Commit, Conflict, Stale, Repeated, Taken}
 use Rattle.log_model.specs.Log.{Catalogue, is_commit, if_commits}
 use Rattle.log_model.specs.Entries.{Entry, CallEntry, AdditionEntry, CertifiedEntries, certified_entry, with_entry, certified_entries_of}
-use Rattle.stored_procedures.specs.Held.{stored_procedures}
+use Rattle.catalogue.specs.Stored.{stored_procedures}
 use Rattle.certify.specs.Kept as certifier
-use Rattle.certifications.specs.declared.certification.Certification.{Certification}
+use Rattle.certify.specs.declared.certification.Certification.{Certification}
 use Rattle.replica.specs.Replica.{rows_kept, KeepsRows, certification_next, AreCertificationsOf, Replica, StandsFor, writes_in}
 use Rattle.replica.specs.Delivery.{HasSameVersions, KeepsCertified, IsDelivered, IsRefusedDelivery}
 use Rattle.replica.proofs.KeepsLemmas.{LaysOn, certified_more, next_item, rows_later, rows_before}

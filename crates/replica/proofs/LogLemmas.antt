@@ -11,9 +11,9 @@ use Rattle.log_model.specs.Log.{Catalogue, Setting, CertifiedItem, IsLog, verdic
 use Rattle.log_model.specs.Fit.{HasSafeProcedures, AreItems}
 use Rattle.log_model.specs.Entries.{Entry, CallEntry, AdditionEntry, items_of, CarryRuns, CertifiedEntries, certified_entry, with_entry, certified_entries_of, installed_from}
 use Rattle.rows_mv.specs.Versions.{AnswersFrom}
-use Rattle.stored_procedures.specs.Held.{stored_procedures}
+use Rattle.catalogue.specs.Stored.{stored_procedures}
 use Rattle.replica.specs.Delivery.{KeepsCertified}
-use Rattle.certifications.specs.declared.certification.Certification.{Certification}
+use Rattle.certify.specs.declared.certification.Certification.{Certification}
 use Rattle.replica.specs.Replica.{rows_kept, certification_next, certification_of, Replica, StandsFor, AreEntriesOf}
 use Rattle.replica.proofs.DeliveryLemmas.{get_left, get_end, same_some}
 

@@ -6,8 +6,8 @@ use Rattle.log_model.specs.Entries.{Entry, CertifiedEntries, with_entry}
 use Rattle.key_table.specs.Table.{Table, versions_at}
 use Rattle.rows_mv.specs.Versions.{slots_of, AnswersFrom, IsInstalled}
 use Rattle.certify.specs.Kept as certifier
-use Rattle.certifications.specs.declared.certification.Certification.{Certification}
-use Rattle.stored_procedures.specs.Held.{ListedProcedure, stored_procedures}
+use Rattle.certify.specs.declared.certification.Certification.{Certification}
+use Rattle.catalogue.specs.Stored.{ListedProcedure, stored_procedures}
 use Rattle.replica.specs.Replica.{Replica, certification_next, writes_in}
 
 -- each key has the versions that it had

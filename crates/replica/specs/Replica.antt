@@ -11,13 +11,13 @@ use Rattle.log_model.specs.Comparisons.{comparisons_after}
 use Rattle.log_model.specs.Entries.{Entry, CallEntry, AdditionEntry, items_of, CarryRuns, CertifiedEntries, certified_entry, certified_entries_of, installed_from}
 use Rattle.log_model.specs.Fit.{HasSafeProcedures, AreItems}
 use Rattle.rows_mv.specs.Versions.{Versions, AnswersFrom, AreOfTables, HaveWidths, width_of}
-use Rattle.stored_procedures.specs.Held.{ListedProcedure, stored_procedures}
+use Rattle.catalogue.specs.Stored.{ListedProcedure, stored_procedures}
 use Rattle.log_model.specs.Name.{is_name}
 use Rattle.log_entry.specs.declared.entry.Entry.{Entry as LogEntry}
 use Rattle.log_entry.specs.declared.entry.Entry.TheVariants.{Call, Addition}
 use Rattle.log_entry.specs.Kind.{entry_of}
 use Rattle.certify.specs.Kept as certifier
-use Rattle.certifications.specs.declared.certification.Certification.{Certification}
+use Rattle.certify.specs.declared.certification.Certification.{Certification}
 
 -- the rows after a position, by the delivered entries alone, and the procedures at first
 abbrev pub rows_kept : ℕ → Catalogue → List Entry → ℕ → Rows

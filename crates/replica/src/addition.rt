@@ -5,16 +5,15 @@ ghost use Rattle.log_model.specs.declared.verdict.Verdict.TheVariants.{Commit as
 ghost use Rattle.log_model.specs.Log.{CertifiedItem, by_name, by_number, certified_addition, if_commits};
 ghost use Rattle.log_model.specs.Log.{verdict_on_addition};
 ghost use Rattle.log_model.specs.Name.{is_name};
-ghost use Rattle.stored_procedures.specs.Held.{stored, stored_procedures};
+ghost use Rattle.catalogue.specs.Stored.{stored, stored_procedures};
 ghost use Rattle.certify.specs.Kept.{IsMemoryOf};
 
-use certifications::{Certification, Certifications};
-use certify::Certifier;
+use catalogue::StoredProcedures;
+use certify::{Certification, Certifications, Certifier};
 use log_entry::AddedProcedure;
 use log_model::Verdict;
 use std::alloc::{AllocError, Allocator};
 use std::sync::Arc;
-use stored_procedures::StoredProcedures;
 
 /// The verdict on an addition to these procedures.
 fn verdict_on<A: Allocator + Copy, P: Allocator + Copy>(

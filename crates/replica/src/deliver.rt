@@ -8,21 +8,20 @@ ghost use Rattle.schema.specs.Schema.{Tables};
 ghost use Rattle.log_model.specs.Log.{CertifiedItem, IsPlaced, certified_call_after, is_commit};
 ghost use Rattle.log_model.specs.Entries.{item_of};
 ghost use Rattle.log_entry.specs.Kind.{entry_of};
-ghost use Rattle.stored_procedures.specs.Held.{AreForTables};
+ghost use Rattle.catalogue.specs.Stored.{AreForTables};
 ghost use Rattle.certify.specs.Kept.{IsMemoryOf};
 ghost use Rattle.replica.specs.Replica.{FitTables, IsForTables, IsNamed, certification_after, writes_in};
 ghost use Rattle.replica.specs.Delivery.{HasSameVersions, IsLeft, IsTakenIn};
 
 use crate::addition::take_addition;
 use crate::laws::additions_are_taken_in;
-use certifications::{Certification, Certifications};
-use certify::Certifier;
+use catalogue::StoredProcedures;
+use certify::{Certification, Certifications, Certifier};
 use log_entry::{Entry, ExecutedCall};
 use log_model::Verdict;
 use row_sets::WriteSet;
 use rows_mv::{Versions, answers_after_pruning_in_part};
 use std::alloc::{AllocError, Allocator};
-use stored_procedures::StoredProcedures;
 
 /// Installs the writes of a call that commits and enters its certification. Where memory is refused each key has the
 /// versions that it had.

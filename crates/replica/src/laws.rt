@@ -11,11 +11,11 @@ ghost use Rattle.log_model.specs.Log.{procedures_after, IsPlaced, certified_addi
 ghost use Rattle.log_model.specs.Fit.{IsItem};
 ghost use Rattle.certify.specs.Kept as certifier;
 ghost use Rattle.certify.specs.Kept.{Memory};
-ghost use Rattle.stored_procedures.specs.Held.{ListedProcedure, AreForTables, stored, stored_procedures};
+ghost use Rattle.catalogue.specs.Stored.{ListedProcedure, AreForTables, stored, stored_procedures};
 ghost use Rattle.log_model.specs.Entries.{Entry, AdditionEntry, CertifiedEntries, item_of, items_of, IsCarried};
 ghost use Rattle.log_model.specs.Entries.{certified_entry, certified_entries_of, with_entry};
 ghost use Rattle.key_table.specs.Table.{Table};
-ghost use Rattle.certifications.specs.declared.certification.Certification.{Certification};
+ghost use Rattle.certify.specs.declared.certification.Certification.{Certification};
 ghost use Rattle.replica.specs.Replica.{AreEntriesOf, FitTables, Replica, StandsFor, rows_kept};
 ghost use Rattle.replica.specs.Delivery.{IsDelivered, IsRefusedDelivery, KeepsCertified};
 

@@ -6,7 +6,7 @@ ghost use Rattle.rows_mv.specs.Versions.{HaveTables};
 ghost use Rattle.log_model.specs.Log.{IsLog};
 ghost use Rattle.log_model.specs.Entries.{items_of};
 ghost use Rattle.log_entry.specs.Kind.{entry_of};
-ghost use Rattle.stored_procedures.specs.Held.{AreForTables};
+ghost use Rattle.catalogue.specs.Stored.{AreForTables};
 ghost use Rattle.replica.specs.Replica.{IsForTables, IsNamed, StandsFor, entries_of, writes_in};
 
 use crate::laws::tables_take_the_schemas_writes;

@@ -9,7 +9,7 @@ ghost use Rattle.log_model.specs.Log.{Catalogue as Procedures, IsLog, IsPlaced, 
 ghost use Rattle.log_model.specs.Log.{verdict_of, first_position, repeats};
 ghost use Rattle.log_model.specs.Entries.{Entry as Delivered, item_of, items_of, certified_entry, certified_entries_of};
 ghost use Rattle.log_entry.specs.Kind.{entry_of};
-ghost use Rattle.stored_procedures.specs.Held.{AreForTables, stored_procedures};
+ghost use Rattle.catalogue.specs.Stored.{AreForTables, stored_procedures};
 ghost use Rattle.rows_mv.specs.Versions.{AnswersFrom, HaveTables, slots_of, width_of};
 ghost use Rattle.replica.specs.Replica.{AreEntriesOf, FitTables, IsForTables, IsNamed, StandsFor, certification_of};
 ghost use Rattle.replica.specs.Replica.{entries_of, rows_kept, writes_in, HasDelivered, HasStopped, HasSameTables};
@@ -19,16 +19,14 @@ use crate::deliver::{Pruning, drop_unseen, take_entry, written_by};
 use crate::laws::{deliveries_are_kept, no_rows_at_first, replicas_follow_the_log};
 use crate::rebuild::replica_of;
 use crate::stopped::Stopped;
-use catalogue::Catalogue;
-use certifications::{Certification, Certifications};
-use certify::Certifier;
+use catalogue::{Catalogue, StoredProcedures};
+use certify::{Certification, Certifications, Certifier};
 use log_entry::Entry;
 use log_model::{RequestId, Verdict};
 use row_sets::Row;
 use rows_mv::{Versions, empty_versions_answer_from_no_rows};
 use std::alloc::{AllocError, Allocator, Global};
 use std::marker::Model;
-use stored_procedures::StoredProcedures;
 use txn_view::Store;
 
 /// A replica of the database. Contracts see what it keeps of the entries that were delivered to it. Programs, in the

@@ -1,5 +1,10 @@
-//! Tests of replicas: logs that are written down, and rows at a position while later calls are delivered.
+//! Tests of replicas: written logs, drawn ones that the plain replayer replays too, rows at a position while later
+//! calls are delivered, pages of versions.
 #![tactic(auto)]
 
 #[cfg(test)]
+mod drawn_logs;
+#[cfg(test)]
 mod tests;
+#[cfg(test)]
+mod versions;

@@ -1,6 +1,8 @@
-//! The tables of a database and its limits, the helpers that its programs call, and the words for its rows.
+//! What a database is to its programs: tables within limits, helpers, the words for rows. Faults of calls that may find
+//! no memory stand beside them.
 #![tactic(auto)]
 
+pub use crate::schema::Schema;
 pub use fault::SchemaFault;
 pub use helper::{AnswerKind, ArgumentKind, Helper};
 pub use laws::{
@@ -15,11 +17,12 @@ pub use limits::{
     MAX_ARGUMENTS, MAX_EXECUTORS, MAX_LOG, MAX_REPLICAS, MAX_TABLE, MAX_WIDTH, MAX_WINDOW,
 };
 pub use look::Look;
-pub use schema::Schema;
+pub use or_no_memory::OrNoMemory;
 
 mod fault;
 mod helper;
 mod laws;
 mod limits;
 mod look;
+mod or_no_memory;
 mod schema;

@@ -2,3 +2,6 @@ mod FieldLemmas
 pub mod LineLemmas
 mod NumberLemmas
 mod SayingLemmas
+mod AcceptanceLemmas
+mod TableLemmas
+pub mod SaidLemmas

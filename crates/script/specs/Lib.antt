@@ -2,3 +2,8 @@ pub mod Text
 pub mod Reading
 pub mod Fault
 pub mod Script
+pub mod SettingsFault
+pub mod Acceptance
+pub mod Settings
+pub mod Telling
+pub mod Said

@@ -1,18 +1,29 @@
-//! The lines of a script: reading them from an input, and what each of them says.
+//! The language of scripts: how lines are read from an input, what each of them says, what they set, where a script
+//! stops.
 #![tactic(auto)]
 
+pub use cause::{FaultCause, ScriptFault};
 pub use fault::LineFault;
 pub use input::{MAX_LINE, Next, before_lf, next_line};
 pub use laws::lines_that_are_too_long_are_at_fault;
 pub use saying::statement;
+pub use settings::Settings;
 pub use statements::{Action, Setting, Statement};
+pub use stop::{Stop, fault_at, out_of_memory};
+pub use told::tell;
 
+mod cause;
 mod fault;
 pub mod fields;
 pub mod hex_field;
 mod input;
 mod laws;
 pub mod number;
+mod procedure;
 mod saying;
+mod settings;
 mod statements;
+mod stop;
+mod table;
+mod told;
 mod word;

@@ -2,22 +2,22 @@
 use Rattle.std.proofs.Common.{◌≡◌, ◌⊎◌, inl, inr, ℕ, ◌+◌, List, [], ◌++◌, Option, Some, Result, Ok, Err, IfOk, IfErr, refl, sym, ap, subst, ◌∙◌}
 use Rattle.byte_output.specs.declared.paged.PagedOutput.{PagedOutput}
 use Rattle.byte_output.specs.Pending.{Passes}
-use Rattle.script_settings.specs.Settings.{SystemCatalogue}
+use Rattle.script.specs.Settings.{SystemCatalogue}
 use Rattle.log_model.specs.Log.{Setting}
 use Rattle.dsm_model.specs.World.{World, first_world}
-use Rattle.script_actions.specs.Actions.{SystemWorld, setting_of, world_of}
+use Rattle.script_replay.specs.Actions.{SystemWorld, setting_of, world_of}
 use Rattle.script.specs.declared.fault.LineFault.{LineFault}
 use Rattle.script.specs.declared.fault.LineFault.TheVariants as line
 use Rattle.script.specs.declared.statements.Statement.TheVariants as statement
 use Rattle.script.specs.Script.{ScriptStatement, ScriptAction, line_says}
-use Rattle.script_settings.specs.declared.cause.FaultCause.{FaultCause}
-use Rattle.script_settings.specs.declared.cause.FaultCause.TheVariants.{NoMemory}
-use Rattle.script_settings.specs.Fault.{cause_of_line_fault}
-use Rattle.script_settings.specs.Settings.{ScriptSettings}
-use Rattle.script_actions.specs.Doing.{HasDone}
+use Rattle.script.specs.declared.cause.FaultCause.{FaultCause}
+use Rattle.script.specs.declared.cause.FaultCause.TheVariants.{NoMemory}
+use Rattle.script.specs.SettingsFault.{cause_of_line_fault}
+use Rattle.script.specs.Settings.{ScriptSettings}
+use Rattle.script_replay.specs.Acting.{HasDone}
 use Rattle.script_replay.specs.declared.stage.Stage as code
-use Rattle.script_stops.specs.declared.stop.Stop.{Stop}
-use Rattle.script_stops.specs.declared.stop.Stop.TheVariants.{Fault, Input, Output}
+use Rattle.script.specs.declared.stop.Stop.{Stop}
+use Rattle.script.specs.declared.stop.Stop.TheVariants.{Fault, Input, Output}
 use Rattle.script_replay.specs.declared.stage.Stage.TheVariants.{SettingUp as SettingUpCode, Acting as ActingCode}
 use Rattle.script_replay.specs.Stage.{Stage, Acting, Effect, Fails, Goes, Acts, first_effect, effect_of}
 use Rattle.script_replay.specs.Replay.{Ending, Faulty, Prints}

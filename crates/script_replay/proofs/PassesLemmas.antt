@@ -6,7 +6,7 @@ use Rattle.byte_output.specs.declared.paged.PagedOutput.{PagedOutput}
 use Rattle.byte_output.specs.Pending.{output_of, pending_of, Passes}
 use Rattle.byte_output.specs.Writes.{AppendsBeginning}
 use Rattle.byte_output.proofs.WritesLemmas.{Appends-then, AppendsBeginning-then}
-use Rattle.script_actions.specs.Doing.{PassesBeginning}
+use Rattle.script_replay.specs.Acting.{PassesBeginning}
 
 pub Appends-nothing : (a : Option (List ℕ)) → Appends a a []
 Appends-nothing None = tt

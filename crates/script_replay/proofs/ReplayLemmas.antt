@@ -7,9 +7,9 @@ use Rattle.dsm_model.specs.World.{World, Step, Begin, Turn, Order, Deliver, Rebu
 use Rattle.script.specs.declared.fault.LineFault.{LineFault}
 use Rattle.script.specs.declared.statements.Action.TheVariants as action
 use Rattle.script.specs.Script.{ScriptStatement, ScriptAction, line_says}
-use Rattle.script_actions.specs.Printed.{step_text, rows_text, log_text, entry_text}
-use Rattle.script_actions.specs.Actions.{is_more, is_delivery, last_line, longest_run, number_of_name, Turns, Deliveries, OneStep, Begins, Does}
-use Rattle.script_actions.proofs.RepeatLemmas.{repeats_can}
+use Rattle.script_replay.specs.Printed.{step_text, rows_text, log_text, entry_text}
+use Rattle.script_replay.specs.Actions.{is_more, is_delivery, last_line, longest_run, number_of_name, Turns, Deliveries, OneStep, Begins, Does}
+use Rattle.script_replay.proofs.RepeatLemmas.{repeats_can}
 use Rattle.script_replay.specs.Stage.{Stage, Acting, Effect, Fails, Goes, Acts, effect_of}
 use Rattle.script_replay.specs.Replay.{Ending, Finished, Faulty, Prints}
 use Rattle.script_replay.specs.Doing.{PrintsFrom}

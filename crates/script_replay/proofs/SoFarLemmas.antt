@@ -7,15 +7,15 @@ use Rattle.byte_output.proofs.PendingLemmas.{Passes-then}
 use Rattle.script.specs.declared.fault.LineFault.TheVariants.{Bytes}
 use Rattle.script.specs.Text.{lines_of}
 use Rattle.script.specs.Script.{line_says}
-use Rattle.script_settings.specs.declared.cause.FaultCause.TheVariants.{Line, NoMemory}
-use Rattle.script_settings.specs.declared.cause.ScriptFault.{ScriptFault}
+use Rattle.script.specs.declared.cause.FaultCause.TheVariants.{Line, NoMemory}
+use Rattle.script.specs.declared.cause.ScriptFault.{ScriptFault}
 use Rattle.script_replay.specs.declared.stage.Stage as code
-use Rattle.script_stops.specs.declared.stop.Stop.{Stop}
-use Rattle.script_stops.specs.declared.stop.Stop.TheVariants.{Fault, Input, Output}
+use Rattle.script.specs.declared.stop.Stop.{Stop}
+use Rattle.script.specs.declared.stop.Stop.TheVariants.{Fault, Input, Output}
 use Rattle.script_replay.specs.Stage.{Stage, first_stage, effect_of}
 use Rattle.script_replay.specs.Replay.{Ending, Finished, Faulty, Prints}
 use Rattle.script_replay.specs.Doing.{stage_of, PrintsFrom, GivesBeginning, GivesUpTo, GivesEffect, StopsBy, GivesUpToWant, GivesReplay}
-use Rattle.script_actions.specs.Doing.{PassesBeginning}
+use Rattle.script_replay.specs.Acting.{PassesBeginning}
 use Rattle.script_replay.proofs.PassesLemmas.{Passes-nothing, PassesBeginning-front, PassesBeginning-then}
 use Rattle.script_replay.proofs.ReplayLemmas.{can_print, nothing_left, prints_line}
 

@@ -6,12 +6,12 @@ use Rattle.byte_output.specs.declared.paged.PagedOutput.{PagedOutput}
 use Rattle.byte_output.specs.Pending.{output_of, pending_of, Passes}
 use Rattle.byte_output.specs.Writes.{AppendsBeginning}
 use Rattle.byte_output.proofs.PendingLemmas.{Writes-finished}
-use Rattle.script_stops.specs.Telling.{FAILED, SaysEnd, SaysStream, fault_line, status_of_cause}
-use Rattle.script_settings.specs.declared.cause.FaultCause.{FaultCause}
-use Rattle.script_settings.specs.declared.cause.FaultCause.TheVariants.{Line, Place, Table, Program, Refused, Procedure, NoMemory}
-use Rattle.script_actions.specs.Doing.{PassesBeginning}
-use Rattle.script_stops.specs.declared.stop.Stop.{Stop}
-use Rattle.script_stops.specs.declared.stop.Stop.TheVariants.{Fault, Input, Output}
+use Rattle.script.specs.Telling.{FAILED, SaysEnd, SaysStream, fault_line, status_of_cause}
+use Rattle.script.specs.declared.cause.FaultCause.{FaultCause}
+use Rattle.script.specs.declared.cause.FaultCause.TheVariants.{Line, Place, Table, Program, Refused, Procedure, NoMemory}
+use Rattle.script_replay.specs.Acting.{PassesBeginning}
+use Rattle.script.specs.declared.stop.Stop.{Stop}
+use Rattle.script.specs.declared.stop.Stop.TheVariants.{Fault, Input, Output}
 use Rattle.script_replay.specs.Replay.{Ending, Finished, Faulty}
 use Rattle.script_replay.specs.Leaving.{Leaves, StopsAt, StopsAtLine, StopsBeforeLines, memory_line}
 use Rattle.script_replay.specs.Doing.{GivesBeginning, GivesReplay, GivesNoLines, GivesUpToLine, GivesUpToWant, WritesUpToWant, has_output_failed, WritesBeginning, WritesReplay}

@@ -6,13 +6,13 @@ use Rattle.byte_output.specs.declared.paged.PagedOutput.{PagedOutput}
 use Rattle.byte_output.specs.Pending.{Passes}
 use Rattle.byte_output.specs.Writes.{AppendsBeginning}
 use Rattle.script.specs.Text.{lines_of}
-use Rattle.script_actions.specs.Actions.{setting_of, world_of}
-use Rattle.script_settings.specs.declared.cause.FaultCause.TheVariants.{NoMemory}
-use Rattle.script_actions.specs.Doing.{PassesBeginning}
+use Rattle.script_replay.specs.Actions.{setting_of, world_of}
+use Rattle.script.specs.declared.cause.FaultCause.TheVariants.{NoMemory}
+use Rattle.script_replay.specs.Acting.{PassesBeginning}
 use Rattle.script_replay.specs.declared.stage.Stage as code
 use Rattle.script_replay.specs.declared.stage.Stage.TheVariants.{SettingUp as SettingUpCode, Acting as ActingCode}
-use Rattle.script_stops.specs.declared.stop.Stop.{Stop}
-use Rattle.script_stops.specs.declared.stop.Stop.TheVariants.{Fault, Output}
+use Rattle.script.specs.declared.stop.Stop.{Stop}
+use Rattle.script.specs.declared.stop.Stop.TheVariants.{Fault, Output}
 use Rattle.script_replay.specs.Stage.{Stage, Setup, Acting, Effect, Fails, first_stage}
 use Rattle.script_replay.specs.Replay.{Ending, Finished, Faulty, Prints, PrintsEffect}
 use Rattle.script_replay.specs.Leaving.{StopsAt}

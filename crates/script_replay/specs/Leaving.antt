@@ -3,8 +3,8 @@ use Rattle.std.specs.Prelude.{◌≡◌, ◌⊎◌, ℕ, ◌+◌, List, [], ◌�
 use Rattle.std.specs.Io.KnownBytes.{Appends}
 use Rattle.byte_output.specs.Writes.{AppendsBeginning}
 use Rattle.script.specs.Text.{lines_of}
-use Rattle.script_settings.specs.declared.cause.FaultCause.TheVariants.{NoMemory}
-use Rattle.script_stops.specs.Telling.{FAILED, fault_line}
+use Rattle.script.specs.declared.cause.FaultCause.TheVariants.{NoMemory}
+use Rattle.script.specs.Telling.{FAILED, fault_line}
 use Rattle.script_replay.specs.Stage.{first_stage}
 use Rattle.script_replay.specs.Replay.{Ending, Finished, Faulty, Prints}
 

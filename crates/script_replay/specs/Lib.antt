@@ -2,3 +2,8 @@ pub mod Stage
 pub mod Replay
 pub mod Leaving
 pub mod Doing
+pub mod Printed
+pub mod Actions
+pub mod Acting
+pub mod Listing
+pub mod Excerpt

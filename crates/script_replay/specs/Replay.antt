@@ -3,8 +3,8 @@ use Rattle.std.specs.Prelude.{◌≡◌, ℕ, ◌+◌, List, [], ◌∷◌, ◌+
 use Rattle.dsm_model.specs.World.{World}
 use Rattle.script.specs.Text.{lines_of}
 use Rattle.script.specs.Script.{line_says}
-use Rattle.script_settings.specs.declared.cause.ScriptFault.{ScriptFault}
-use Rattle.script_actions.specs.Actions.{Does}
+use Rattle.script.specs.declared.cause.ScriptFault.{ScriptFault}
+use Rattle.script_replay.specs.Actions.{Does}
 use Rattle.script_replay.specs.Stage.{Stage, Acting, first_stage, Effect, Fails, Goes, Acts, effect_of}
 
 pub data Ending : Type 0 where

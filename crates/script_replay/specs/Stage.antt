@@ -5,10 +5,10 @@ use Rattle.dsm_model.specs.World.{World, first_world}
 use Rattle.script.specs.declared.fault.LineFault.{LineFault}
 use Rattle.script.specs.declared.statements.Statement.TheVariants as statement
 use Rattle.script.specs.Script.{ScriptStatement, ScriptAction}
-use Rattle.script_settings.specs.declared.cause.FaultCause.{FaultCause}
-use Rattle.script_settings.specs.declared.cause.FaultCause.TheVariants as cause
-use Rattle.script_settings.specs.Fault.{cause_of_line_fault}
-use Rattle.script_settings.specs.Settings.{ScriptSettings, no_settings, setting_after}
+use Rattle.script.specs.declared.cause.FaultCause.{FaultCause}
+use Rattle.script.specs.declared.cause.FaultCause.TheVariants as cause
+use Rattle.script.specs.SettingsFault.{cause_of_line_fault}
+use Rattle.script.specs.Settings.{ScriptSettings, no_settings, setting_after}
 
 pub data Stage : Type 0 where
   Setup : ScriptSettings → Stage

@@ -2,20 +2,21 @@
 
 ghost use Rattle.std.specs.Prelude.{◌≡◌, Some, Ok, IfOk, IfErr};
 ghost use Rattle.byte_output.specs.Pending.{output_of};
-ghost use Rattle.script_actions.specs.Actions.{setting_of, world_of};
+ghost use Rattle.script_replay.specs.Actions.{setting_of, world_of};
 ghost use Rattle.script.specs.declared.statements.Statement.TheVariants as statement;
 ghost use Rattle.script.specs.Script.{IsSettingWithinLimits, IsActionWithinLimits, IsWithinLimits};
 ghost use Rattle.script.specs.Script.{ScriptAction, line_says};
 ghost use Rattle.script_replay.specs.Stage.{Goes, Acts, first_effect, effect_of};
 ghost use Rattle.script_replay.specs.Doing.{stage_of, IsFaultOf, GivesEffect, StopsBy};
 
+use crate::actions::act;
 use crate::stage::Stage;
 use byte_output::paged::PagedOutput;
+use dsm_world::World;
 use row_sets::Bytes;
-use script::{Action, Setting, Statement, statement};
-use script_actions::{World, act};
-use script_settings::{FaultCause, Settings};
-use script_stops::{Stop, fault_at, out_of_memory};
+use script::{
+    Action, FaultCause, Setting, Settings, Statement, Stop, fault_at, out_of_memory, statement,
+};
 use std::alloc::Allocator;
 use std::io::Write;
 

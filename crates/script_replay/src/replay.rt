@@ -2,7 +2,7 @@
 
 ghost use Rattle.std.specs.Prelude.{◌≡◌, ◌⊎◌, ℕ, List, Some, IfErr, IfSome};
 ghost use Rattle.byte_output.specs.Pending.{output_of};
-ghost use Rattle.script_stops.specs.Telling.{FAILED, SaysStream};
+ghost use Rattle.script.specs.Telling.{FAILED, SaysStream};
 ghost use Rattle.script.specs.Text.{lines_of};
 ghost use Rattle.script_replay.specs.Stage.{first_stage};
 ghost use Rattle.script_replay.specs.Replay.{Ending, Prints, ScriptPrints};
@@ -14,9 +14,10 @@ ghost use Rattle.byte_output.specs.Writes.{AppendsBeginning};
 use crate::line::do_line;
 use crate::stage::Stage;
 use byte_output::paged::PagedOutput;
-use script::{LineFault, MAX_LINE, Next, lines_that_are_too_long_are_at_fault, next_line};
-use script_settings::{FaultCause, Settings};
-use script_stops::{Stop, fault_at, out_of_memory, tell};
+use script::{
+    FaultCause, LineFault, MAX_LINE, Next, Settings, Stop, fault_at,
+    lines_that_are_too_long_are_at_fault, next_line, out_of_memory, tell,
+};
 use std::alloc::Allocator;
 use std::io;
 use std::io::{BufRead, ErrorKind, Write};

@@ -1,7 +1,7 @@
 //! How far a script has come.
 
-use script_actions::World;
-use script_settings::Settings;
+use dsm_world::World;
+use script::Settings;
 use std::alloc::Allocator;
 
 /// How far a script has come.

@@ -6,7 +6,7 @@ use Rattle.std.proofs.lemmas.Option.{get_or_from_slice_get, slice_get_within}
 use mathlib.Core.List.{IsPrefix}
 use Rattle.log_model.specs.Log.{Setting}
 use Rattle.report.specs.declared.printed.CallAnswer.{CallAnswer}
-use Rattle.script_calls.specs.declared.call.ScriptCall.{ScriptCall}
+use Rattle.script_run.specs.declared.call.ScriptCall.{ScriptCall}
 use Rattle.script_run.specs.declared.text.ReplicaEnd.{ReplicaEnd}
 use Rattle.node.specs.Requests.{Entries}
 use Rattle.script_run.specs.Answered.{AreFoundOf, AreToldOf, IsEndOf, IsMade, IsToldOf}

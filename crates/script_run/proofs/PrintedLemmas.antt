@@ -2,9 +2,9 @@
 use Rattle.std.proofs.Common.{◌≡◌, ℕ, inr, List, Option, Some, None, IfSome, Ok, Err, refl}
 use Rattle.std.specs.Io.KnownBytes.{Appends}
 use Rattle.byte_output.specs.Writes.{AppendsBeginning}
-use Rattle.script_calls.specs.Calls.{Said, script_says}
-use Rattle.script_stops.specs.declared.stop.Stop.{Stop}
-use Rattle.script_stops.specs.declared.stop.Stop.TheVariants.{Fault, Input, Output}
+use Rattle.script_run.specs.Calls.{Said, script_says}
+use Rattle.script.specs.declared.stop.Stop.{Stop}
+use Rattle.script.specs.declared.stop.Stop.TheVariants.{Fault, Input, Output}
 use Rattle.script_run.specs.Printed.{IsReportOf, PrintsNoMore, PrintsReport, PrintsRun, RunReport, run_text}
 
 begun : (old new : Option (List ℕ)) (r : RunReport) (stop : Stop) → PrintsReport old new (run_text r) (Err stop) → AppendsBeginning old new (run_text r)

@@ -13,7 +13,7 @@ use Rattle.node_calls.specs.declared.answer.CallRefusal.TheVariants.{NoReplica, 
 use Rattle.node.specs.Requests.{Entries, IsEndAt, IsHeard, IsNoReplica}
 use Rattle.report.specs.declared.printed.CallAnswer.{CallAnswer}
 use Rattle.report.specs.declared.printed.CallAnswer.TheVariants as said
-use Rattle.script_calls.specs.declared.call.ScriptCall.{ScriptCall}
+use Rattle.script_run.specs.declared.call.ScriptCall.{ScriptCall}
 use Rattle.script_run.specs.declared.asking.MadeCall.{MadeCall}
 use Rattle.script_run.specs.declared.text.ReplicaEnd.{ReplicaEnd}
 

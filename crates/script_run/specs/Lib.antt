@@ -1,3 +1,5 @@
 pub mod Answered
 pub mod Planned
 pub mod Printed
+pub mod Calls
+pub mod Reading

@@ -1,8 +1,8 @@
 -- The calls of a script, as they are planned.
 use Rattle.std.specs.Prelude.{ℕ, List, map}
 use Rattle.order_log.specs.declared.seen.LogIdentity.{Ghosts as IdentityOf}
-use Rattle.ordered_entries.specs.declared.fact.LogSetting.{Ghosts as SettingOf}
-use Rattle.script_calls.specs.declared.call.ScriptCall.{ScriptCall}
+use Rattle.locked_replica.specs.declared.fact.LogSetting.{Ghosts as SettingOf}
+use Rattle.script_run.specs.declared.call.ScriptCall.{ScriptCall}
 use Rattle.script_run.specs.declared.planned.PlannedCall.{PlannedCall}
 
 -- the calls themselves

@@ -8,14 +8,14 @@ use Rattle.report.specs.declared.printed.CallAnswer.{CallAnswer}
 use Rattle.report.specs.declared.printed.ReplicaReport.TheVariants as replica
 use Rattle.report.specs.declared.printed.Line.TheVariants.{Answered, Totals, Replica, Agreement}
 use Rattle.log_model.specs.Log.{Setting}
-use Rattle.script_calls.specs.Calls.{Said, script_says}
-use Rattle.script_calls.specs.declared.call.ScriptCall.{ScriptCall}
-use Rattle.script_settings.specs.declared.cause.FaultCause.TheVariants.{NoMemory}
-use Rattle.script_settings.specs.declared.cause.ScriptFault.{ScriptFault}
-use Rattle.script_settings.specs.Settings.{ScriptSettings}
-use Rattle.script_stops.specs.Telling.{fault_line}
-use Rattle.script_stops.specs.declared.stop.Stop.{Stop}
-use Rattle.script_stops.specs.declared.stop.Stop.TheVariants as stop
+use Rattle.script_run.specs.Calls.{Said, script_says}
+use Rattle.script_run.specs.declared.call.ScriptCall.{ScriptCall}
+use Rattle.script.specs.declared.cause.FaultCause.TheVariants.{NoMemory}
+use Rattle.script.specs.declared.cause.ScriptFault.{ScriptFault}
+use Rattle.script.specs.Settings.{ScriptSettings}
+use Rattle.script.specs.Telling.{fault_line}
+use Rattle.script.specs.declared.stop.Stop.{Stop}
+use Rattle.script.specs.declared.stop.Stop.TheVariants as stop
 use Rattle.script_run.specs.declared.run.Report.{Report}
 use Rattle.script_run.specs.declared.text.ReplicaEnd.{ReplicaEnd}
 use Rattle.node.specs.Requests.{Entries}

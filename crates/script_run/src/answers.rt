@@ -4,17 +4,17 @@ ghost use Rattle.std.specs.Prelude.{◌≡◌, ℕ, ◌<◌, List, All, IfOk, If
 ghost use mathlib.Core.List.{IsPrefix};
 ghost use Rattle.log_model.specs.Log.{Setting};
 ghost use Rattle.node.specs.Requests.{AreEntriesOf, entries_of};
-ghost use Rattle.script_calls.specs.declared.call.ScriptCall.{ScriptCall};
+ghost use Rattle.script_run.specs.declared.call.ScriptCall.{ScriptCall};
 ghost use Rattle.script_run.specs.Answered.{AreFoundOf, AreToldOf, IsEndOf, IsMadeCall, IsToldOf};
 ghost use Rattle.script_run.specs.Planned.{planned_calls};
 
 use crate::asking::{Asking, MadeCall};
 use crate::text::ReplicaEnd;
 use crate::told::answer_to;
+use locked_replica::{LogSetting, OrderedEntries};
 use node::{Desk, EndedReplica};
 use node_calls::OpenGate;
 use order_log::{Fact, Seen};
-use ordered_entries::{LogSetting, OrderedEntries};
 use report::CallAnswer;
 use std::alloc::{AllocError, Global};
 use std::sync::Wait;

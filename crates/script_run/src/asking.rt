@@ -4,16 +4,16 @@ ghost use Rattle.std.specs.Prelude.{◌≡◌, All, IfOk, [], false};
 ghost use Rattle.script_run.specs.Answered.{IsMadeCall};
 ghost use Rattle.script_run.specs.Planned.{planned_calls};
 
+use crate::call::ScriptCall;
 use crate::planned::PlannedCall;
 use crate::told::answer_to;
 use catalogue::Catalogue;
+use locked_replica::{LogSetting, OrderedEntries};
 use node::Desk;
 use node_calls::OpenGate;
 use order_log::{Fact, Seen};
-use ordered_entries::{LogSetting, OrderedEntries};
 use report::CallAnswer;
 use row_sets::Bytes;
-use script_calls::ScriptCall;
 use std::alloc::{AllocError, Global};
 use std::io::Write;
 use std::marker::PhantomData;

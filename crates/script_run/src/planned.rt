@@ -3,9 +3,9 @@
 ghost use Rattle.std.specs.Prelude.{◌≡◌};
 ghost use Rattle.script_run.specs.Answered.{number_named};
 
-use ordered_entries::LogSetting;
+use crate::call::ScriptCall;
+use locked_replica::LogSetting;
 use row_sets::Bytes;
-use script_calls::ScriptCall;
 use std::alloc::Global;
 use std::marker::PhantomData;
 

@@ -2,9 +2,9 @@
 
 ghost use Rattle.std.specs.Prelude.{◌≡◌, ◌⊎◌, ◌<◌, ◌^◌, IfOk, IfSome, false, vec_len};
 ghost use Rattle.byte_output.specs.Writes.{WritesText};
-ghost use Rattle.exit_status.specs.declared.status.TheConstants.{FAILED};
+ghost use Rattle.byte_output.specs.declared.status.TheConstants.{FAILED};
 ghost use Rattle.tallies.specs.Shared.{names_by_place};
-ghost use Rattle.script_calls.specs.Reading.{said_by};
+ghost use Rattle.script_run.specs.Reading.{said_by};
 ghost use Rattle.script_run.specs.Answered.{AreToldOf};
 ghost use Rattle.script_run.specs.Planned.{planned_calls};
 ghost use Rattle.script_run.specs.Printed.{IsReportOf, IsRun, PrintsNoMore, PrintsReport, PrintsRun, SaysFault};
@@ -12,18 +12,18 @@ ghost use Rattle.script_run.specs.Printed.{report_of, run_text};
 
 use crate::answers::{answers_of, ends_of};
 use crate::asking::Asking;
+use crate::call::ScriptCall;
+use crate::call_script::{CallScript, read_script};
 use crate::text::{ReplicaEnd, text_of};
-use byte_output::put;
+use byte_output::{FAILED, put};
 use catalogue::Catalogue;
-use exit_status::FAILED;
+use locked_replica::{LogSetting, OrderedEntries};
 use node::{Desk, Node, Size, StartFault};
 use node_calls::OpenGate;
 use order_log::{Fact, GroupCells, Seen};
-use ordered_entries::{LogSetting, OrderedEntries};
 use report::CallAnswer;
 use row_sets::Bytes;
-use script_calls::{CallScript, ScriptCall, read_script};
-use script_stops::{Stop, out_of_memory, tell};
+use script::{Stop, out_of_memory, tell};
 use std::alloc::{AllocError, Global};
 use std::io;
 use std::io::{BufRead, Write};

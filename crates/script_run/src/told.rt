@@ -6,10 +6,10 @@ ghost use Rattle.script_run.specs.Answered.{IsTold, IsUnnamed, refusal_told, tol
 
 use crate::planned::PlannedCall;
 use dsm_model::StepRefusal;
+use locked_replica::{LogSetting, OrderedEntries};
 use node::Desk;
 use node_calls::{Answer, CallRefusal, OpenGate};
 use order_log::{Fact, Seen};
-use ordered_entries::{LogSetting, OrderedEntries};
 use report::CallAnswer;
 use std::sync::Wait;
 use tallies::Ledgers;

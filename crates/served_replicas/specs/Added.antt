@@ -5,12 +5,12 @@ use Rattle.bpf_code.specs.Program.{Program as Code}
 use Rattle.schema.specs.Schema.{Tables}
 use Rattle.log_model.specs.Log.{Setting}
 use Rattle.log_model.specs.Name.{is_name}
-use Rattle.stored_procedures.specs.Held.{ListedProcedure}
+use Rattle.catalogue.specs.Stored.{ListedProcedure}
 use Rattle.log_entry.specs.declared.entry.Entry.{Entry as LogEntry}
 use Rattle.log_entry.specs.declared.entry.Entry.TheVariants as entry
 use Rattle.call_model.specs.Check.{Passed, Failed}
 use Rattle.program_checks.specs.Check.{check_of}
-use Rattle.ordered_entries.specs.Ordered.{IsOrderedAddition}
+use Rattle.locked_replica.specs.Ordered.{IsOrderedAddition}
 use Rattle.served_replicas.specs.declared.add.ProgramRefusal.TheVariants.{ArgumentsLimit, Fault}
 use Rattle.served_replicas.specs.declared.add.Added.{Added}
 use Rattle.served_replicas.specs.declared.add.Added.TheVariants.{Ordered, Full, NoMemory, Program, Name}

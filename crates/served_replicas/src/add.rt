@@ -6,17 +6,16 @@ ghost use Rattle.served_replicas.specs.Added.{IsAskedFor, IsNotAdded, IsAddedAns
 use crate::shared::Shared;
 use bpf_verify::Accepted;
 use call_model::ProgramFault;
+use catalogue::is_name;
+use locked_replica::{LogSetting, OrderedEntries};
 use log_entry::{AddedProcedure, Entry};
 use node_calls::Gate;
-use or_no_memory::OrNoMemory;
 use order_log::{AppendFault, Fact, OrderLog, Seen};
-use ordered_entries::{LogSetting, OrderedEntries};
 use program_checks::check_program;
 use row_sets::Bytes;
-use schema::MAX_ARGUMENTS;
+use schema::{MAX_ARGUMENTS, OrNoMemory};
 use std::alloc::{AllocError, Allocator};
 use std::sync::{Arc, Wait};
-use stored_procedures::is_name;
 use tallies::Ledgers;
 
 /// Why a program isn't added.

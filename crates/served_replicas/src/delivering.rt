@@ -1,10 +1,9 @@
 //! A delivering thread.
 
 use crate::shared::{ServedReplica, Shared};
-use locked_replica::{Delivery, LockedReplica};
+use locked_replica::{Delivery, LockedReplica, LogSetting, OrderedEntries};
 use node_calls::Gate;
 use order_log::{Fact, OrderLog, Seen};
-use ordered_entries::{LogSetting, OrderedEntries};
 use std::alloc::Allocator;
 use std::sync::atomic::Ordering::SeqCst;
 use std::sync::{RwLock, Wait};

@@ -3,7 +3,7 @@
 ghost use Rattle.std.specs.Prelude.{◌≡◌};
 
 use catalogue::Catalogue;
-use ordered_entries::LogSetting;
+use locked_replica::LogSetting;
 use schema::Schema;
 use std::alloc::{Allocator, Global};
 use std::marker::{Model, PhantomData};

@@ -5,10 +5,9 @@ ghost use Rattle.served_replicas.specs.Replicas.{IsNoReplica};
 ghost use Rattle.served_replicas.specs.declared.rebuild.RebuildFault.TheVariants.{NoReplica};
 
 use crate::shared::{ServedReplica, Shared};
-use locked_replica::{Delivery, LockedReplica};
+use locked_replica::{Delivery, LockedReplica, LogSetting, OrderedEntries};
 use node_calls::Gate;
 use order_log::{Fact, OrderLog};
-use ordered_entries::{LogSetting, OrderedEntries};
 use std::alloc::{AllocError, Allocator};
 use std::fmt;
 use std::sync::{RwLock, Wait};

@@ -4,10 +4,10 @@ ghost use Rattle.std.specs.Prelude.{◌≡◌, IfSome, IsTrue};
 ghost use Rattle.node_calls.specs.Answer.{IsAnswer};
 
 use crossbeam_channel::Sender;
+use locked_replica::LogSetting;
 use log_model::RequestId;
 use node_calls::{Answer, Asked};
 use order_log::Seen;
-use ordered_entries::LogSetting;
 use std::alloc::{Allocator, Global};
 use std::marker::Model;
 

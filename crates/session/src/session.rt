@@ -4,11 +4,11 @@ ghost use Rattle.std.specs.Prelude.{◌≡◌, max, Some, None};
 ghost use Rattle.node.specs.Requests.{IsHeard};
 ghost use Rattle.session.specs.Session.{position_told};
 
+use locked_replica::{LogSetting, OrderedEntries};
 use log_model::RequestId;
 use node::Desk;
 use node_calls::{Answer, Gate};
 use order_log::{Fact, Seen};
-use ordered_entries::{LogSetting, OrderedEntries};
 use std::marker::Model;
 use std::sync::Wait;
 use tallies::Ledgers;

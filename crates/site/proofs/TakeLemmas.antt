@@ -16,11 +16,11 @@ use Rattle.site_model.specs.Standing.{SiteSetting, Standing, StandsAs, IsDecided
 use Rattle.site_model.specs.declared.outcome.EntryOutcome.{EntryOutcome}
 use Rattle.site_model.specs.declared.outcome.EntryOutcome.TheVariants as outcome
 use Rattle.site_model.specs.Order.{committed_outcome, next_entry, entry_standing, outcome_behind, outcome_by, outcome_of, Order, order_entries, with_bytes}
-use Rattle.site_replica.specs.Replica.{SiteReplica, StandsForLog, StandsForOrder, setting_of}
-use Rattle.site_replica.specs.declared.standing.Standing.TheVariants as Code
-use Rattle.site_replica.specs.Standing.{CanBeTaken, IsStanding}
-use Rattle.site_replica.specs.Taking.{AreAlike, Follows}
-use Rattle.site_replica.proofs.SiteLemmas.{log_long}
+use Rattle.site.specs.Replica.{SiteReplica, StandsForLog, StandsForOrder, setting_of}
+use Rattle.site.specs.declared.standing.Standing.TheVariants as Code
+use Rattle.site.specs.Standing.{CanBeTaken, IsStanding}
+use Rattle.site.specs.Taking.{AreAlike, Follows}
+use Rattle.site.proofs.SiteLemmas.{log_long}
 
 -- what the law of orders says
 abbrev pub ArePlaced : Type 0

@@ -1,8 +1,19 @@
-//! A site: it takes the byte strings of an order that somebody else made, and tells what became of each.
+//! A site: it runs calls, takes the byte strings of an order that somebody else made, tells what became of each.
 #![tactic(auto)]
 
-pub use site::Site;
+pub use crate::site::Site;
+pub use addition::NamedProgram;
+pub use asked::Asked;
 
+mod addition;
+mod additions;
+mod asked;
 mod outcome;
+mod replies;
+mod run;
+mod same_bytes;
 mod site;
+mod standing;
+mod state;
 mod take;
+mod taking;

@@ -4,12 +4,12 @@ ghost use Rattle.std.specs.Prelude.{◌≡◌, List, map, Some};
 ghost use Rattle.log_model.specs.Entries.{Entry as ModelEntry};
 ghost use Rattle.log_entry.specs.Kind.{entry_of};
 ghost use Rattle.site_model.specs.Order.{committed_outcome, outcome_by};
-ghost use Rattle.site_replica.specs.Replica.{reply_of};
+ghost use Rattle.site.specs.Replica.{reply_of};
 
+use crate::replies::reply_at;
 use log_entry::Entry;
 use log_model::Verdict;
 use site_model::EntryOutcome;
-use site_replica::reply_at;
 use std::alloc::Allocator;
 
 /// What became of an entry that has a verdict, by the replies of all positions: this, where it commits.

@@ -6,17 +6,18 @@ ghost use Rattle.log_model.specs.Log.{rows_after};
 ghost use Rattle.site_model.specs.Order.{Order, next_outcome, order_log};
 ghost use Rattle.schema.specs.declared.limits.TheConstants.{MAX_ARGUMENTS};
 ghost use Rattle.site_model.specs.Answer.{addition_answer, call_answer};
-ghost use Rattle.site_replica.specs.Replica.{StandsForOrder, setting_of};
-ghost use Rattle.site_calls.specs.Answered.{added, answered, asked_of, named_of};
+ghost use Rattle.site.specs.Replica.{StandsForOrder, setting_of};
+ghost use Rattle.site.specs.Answered.{added, answered, asked_of, named_of};
 
+use crate::addition::{NamedProgram, add};
+use crate::asked::{Asked, call};
+use crate::state::SiteReplica;
 use crate::take::take;
 use catalogue::Catalogue;
 use log_entry::Entry;
 use replica::At;
 use row_sets::Row;
-use site_calls::{Asked, NamedProgram, add, call};
 use site_model::{AdditionAnswer, CallAnswer, EntryOutcome, fit_entries_go_on, orders_grow};
-use site_replica::SiteReplica;
 use std::alloc::{AllocError, Allocator, Global};
 use std::marker::Model;
 use txn_view::Store;
@@ -29,7 +30,7 @@ pub struct Site<A: Allocator + Copy = Global> {
 
 impl<A: Allocator + Copy> Model for Site<A> {
     ghost use Rattle.site_model.specs.Order.{Order};
-    ghost use Rattle.site_replica.specs.Replica.{SiteReplica, StandsForOrder, site_code};
+    ghost use Rattle.site.specs.Replica.{SiteReplica, StandsForOrder, site_code};
 
     ghost Value = { SiteReplica };
 

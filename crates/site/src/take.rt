@@ -6,15 +6,16 @@ ghost use Rattle.log_model.specs.Log.{verdict_of};
 ghost use Rattle.log_model.specs.Entries.{CallEntry, Entry as ModelEntry, items_of};
 ghost use Rattle.log_entry.specs.Kind.{entry_of};
 ghost use Rattle.site_model.specs.Order.{outcome_behind, outcome_by, with_bytes};
-ghost use Rattle.site_replica.specs.Replica.{StandsForLog, setting_of};
-ghost use Rattle.site_replica.specs.Taking.{Follows};
+ghost use Rattle.site.specs.Replica.{StandsForLog, setting_of};
+ghost use Rattle.site.specs.Taking.{Follows};
 
 use crate::outcome::{committed_outcome, outcome_by};
+use crate::standing::Standing;
+use crate::state::SiteReplica;
 use log_entry::{Entry, ExecutedCall};
 use log_model::RequestId;
 use row_sets::{Bytes, ReadSet, WriteSet};
 use site_model::{EntryOutcome, what_stands_is_of_the_log};
-use site_replica::{SiteReplica, Standing};
 use std::alloc::{AllocError, Allocator};
 
 /// A call that did nothing, of this snapshot and with this request. Takes no memory.

@@ -9,7 +9,7 @@ use Rattle.schema.specs.Rows.{Rows, AreRows}
 use Rattle.bpf_semantics.specs.Fit.{IsRunOf}
 use Rattle.bpf_semantics.specs.Run.{Run, run}
 use Rattle.log_model.specs.Log.{StoredProcedure, Catalogue, Call, by_name, by_number, or_idle, run_of_call, run_of_procedure}
-use Rattle.entry_heads.specs.Head.{AdditionHead, CallHead, NamedProcedure, addition_head, call_head, call_of, field, head_of, is_whole, part, procedure_of, request_of}
+use Rattle.log_entry.specs.Head.{AdditionHead, CallHead, NamedProcedure, addition_head, call_head, call_of, field, head_of, is_whole, part, procedure_of, request_of}
 use Rattle.site_model.specs.Standing.{SiteSetting}
 use Rattle.site_model.specs.Order.{Order}
 use Rattle.site_laws.specs.Added.{AddsProcedure}

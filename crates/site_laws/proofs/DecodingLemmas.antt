@@ -15,13 +15,13 @@ use Rattle.bpf_code.specs.declared.instruction.Width.TheVariants.{Bits32, Bits64
 use Rattle.bpf_code.specs.declared.instruction.Source.TheVariants as source
 use Rattle.bpf_code.specs.Program.{Program, max_slots, is_wide, IsInRange, AllInRange, IsProgram}
 use Rattle.bpf_code.specs.Register.{register_of}
-use Rattle.bpf_fields.specs.declared.fields.Fields.{Fields}
-use Rattle.bpf_fields.specs.declared.opcode.Opcode.{Opcode}
-use Rattle.bpf_fields.specs.declared.opcode.Opcode.TheVariants as opcode
-use Rattle.bpf_fields.specs.declared.opcode.SourceKind.TheVariants.{Immediate, Register as InRegister}
-use Rattle.bpf_fields.specs.Fields.{fields_of_bytes, slots_of}
-use Rattle.bpf_fields.specs.Opcode.{opcode_of}
-use Rattle.bpf_fields.specs.Uses.{fields_used, uses_of}
+use Rattle.bpf_bytes.specs.declared.fields.Fields.{Fields}
+use Rattle.bpf_bytes.specs.declared.opcode.Opcode.{Opcode}
+use Rattle.bpf_bytes.specs.declared.opcode.Opcode.TheVariants as opcode
+use Rattle.bpf_bytes.specs.declared.opcode.SourceKind.TheVariants.{Immediate, Register as InRegister}
+use Rattle.bpf_bytes.specs.Fields.{fields_of_bytes, slots_of}
+use Rattle.bpf_bytes.specs.Opcode.{opcode_of}
+use Rattle.bpf_bytes.specs.Uses.{fields_used, uses_of}
 use Rattle.bpf_bytes.specs.declared.fault.DecodeCause.{DecodeCause}
 use Rattle.bpf_bytes.specs.declared.fault.DecodeCause.TheVariants as fault_cause
 use Rattle.bpf_bytes.specs.declared.fault.DecodeFault.{DecodeFault}

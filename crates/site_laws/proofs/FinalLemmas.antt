@@ -5,7 +5,7 @@ use Rattle.bpf_semantics.specs.Run.{Run}
 use Rattle.log_model.specs.Log.{Call, Log, Setting, StoredProcedure, by_name, first_repeated, history, procedure_of, procedures_after, run_in}
 use Rattle.log_model.specs.Entries.{Entry, CallEntry, items_of}
 use Rattle.log_entry.specs.Bytes.{entry_bytes}
-use Rattle.entry_heads.specs.Head.{AdditionHead, CallHead, NamedProcedure, addition_head, call_head, call_of, field, head_of, is_whole, procedure_of as named_procedure_of, request_of}
+use Rattle.log_entry.specs.Head.{AdditionHead, CallHead, NamedProcedure, addition_head, call_head, call_of, field, head_of, is_whole, procedure_of as named_procedure_of, request_of}
 use Rattle.site_model.specs.declared.answer.CallAnswer.{CallAnswer}
 use Rattle.site_model.specs.declared.answer.CallAnswer.TheVariants.{Read, Refused, Submitted}
 use Rattle.site_model.specs.declared.answer.CallRefusal.{CallRefusal}

@@ -13,13 +13,13 @@ use Rattle.log_model.specs.Entries.{Entry, ExecutedCall, CallEntry, AdditionEntr
 use Rattle.log_model.proofs.GrowthLemmas.{procedures_grown, run_grown}
 use Rattle.log_entry.specs.Bytes.{entry_bytes}
 use Rattle.bpf_code.specs.Program.{Program}
-use Rattle.bpf_fields.specs.Spelling.{spelling}
+use Rattle.bpf_bytes.specs.Spelling.{spelling}
 use Rattle.schema.specs.declared.limits.TheConstants.{MAX_ARGUMENTS}
 use Rattle.log_model.specs.Name.{is_name}
 use Rattle.call_model.specs.Check.{Passed}
 use Rattle.program_checks.specs.Check.{check_of}
-use Rattle.entry_heads.specs.Fit.{named_procedure}
-use Rattle.entry_heads.specs.Head.{NamedProcedure, AdditionHead, CallHead, head_of, is_whole}
+use Rattle.log_entry.specs.Fit.{named_procedure}
+use Rattle.log_entry.specs.Head.{NamedProcedure, AdditionHead, CallHead, head_of, is_whole}
 use Rattle.site_model.specs.declared.answer.AdditionAnswer.TheVariants as addition
 use Rattle.site_model.specs.declared.answer.AdditionRefusal.TheVariants as refusal
 use Rattle.site_model.specs.declared.cause.NothingCause.{NothingCause}

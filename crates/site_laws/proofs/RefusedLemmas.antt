@@ -16,7 +16,7 @@ use Rattle.log_model.specs.Fit.{AllFitLog, FitsLog, FitsProcedures}
 use Rattle.log_model.specs.Verdicts.{IsConflict, IsLeastConflict, IsNew, WroteWhatWasRead}
 use Rattle.log_model.proofs.CallLemmas.{certified_is, count_history}
 use Rattle.log_model.proofs.GrowthLemmas.{grown, is_log_snoc, procedures_grown, rows_grown, run_grown}
-use Rattle.entry_heads.specs.Head.{CallHead, head_of}
+use Rattle.log_entry.specs.Head.{CallHead, head_of}
 use Rattle.site_model.specs.declared.outcome.EntryOutcome.TheVariants as outcome
 use Rattle.site_model.specs.Fit.{AreFitEntries}
 use Rattle.site_model.specs.Standing.{SiteSetting, Standing, StandsAs, IsDecided, call_standing, executed, is_decided, standing}

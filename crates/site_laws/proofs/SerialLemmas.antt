@@ -7,7 +7,7 @@ use Rattle.bpf_semantics.specs.Run.{Run}
 use Rattle.log_model.specs.Log.{Call, Catalogue, Log, IsPlaced, rows_after, run_of_call, run_on}
 use Rattle.log_model.specs.Entries.{Entry, ExecutedCall, CallEntry, item_of, items_of}
 use Rattle.log_model.proofs.GrowthLemmas.{procedures_grown}
-use Rattle.entry_heads.specs.Head.{Head, CallHead, AdditionHead, head_of}
+use Rattle.log_entry.specs.Head.{Head, CallHead, AdditionHead, head_of}
 use Rattle.site_model.specs.declared.outcome.EntryOutcome.{EntryOutcome}
 use Rattle.site_model.specs.declared.outcome.EntryOutcome.TheVariants as outcome
 use Rattle.site_model.specs.Fit.{AreFitEntries}

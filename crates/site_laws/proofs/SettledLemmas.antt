@@ -14,7 +14,7 @@ use Rattle.log_model.specs.declared.verdict.Verdict.TheVariants.{Commit}
 use Rattle.log_model.specs.Log.{StoredProcedure, Catalogue, Setting, Call, Item, CallItem, Log, IsLog, IsLogFrom, IsPlaced, by_name, by_number, first_repeated, history, or_idle, procedure_of, procedures_after, rows_after, run_in, run_of_call, run_of_procedure, run_on, verdict_of}
 use Rattle.log_model.specs.Entries.{Entry, ExecutedCall, CallEntry, AdditionEntry, item_of, items_of}
 use Rattle.log_entry.specs.Bytes.{entry_bytes}
-use Rattle.entry_heads.specs.Head.{CallHead, head_of, is_whole}
+use Rattle.log_entry.specs.Head.{CallHead, head_of, is_whole}
 use Rattle.log_model.specs.Fit.{AllFitLog, FitsLog, FitsProcedures, HasSafeProcedures, IsSafe}
 use Rattle.log_model.specs.Verdicts.{IsConflict, IsNew, WroteWhatWasRead}
 use Rattle.log_model.proofs.GrowthLemmas.{get_before, is_log_snoc, procedures_grown, rows_grown, run_grown, verdict_grown}

@@ -27,17 +27,17 @@ use Rattle.bpf_code.specs.declared.instruction.Source.TheVariants as source
 use Rattle.bpf_code.specs.Program.{Program, is_wide}
 use Rattle.bpf_code.specs.Register.{number_of, register_of}
 use Rattle.bpf_code.specs.Sizes.{extension_width}
-use Rattle.bpf_fields.specs.declared.fields.Fields.{Fields}
-use Rattle.bpf_fields.specs.declared.opcode.ArithmeticCode.{ArithmeticCode}
-use Rattle.bpf_fields.specs.declared.opcode.ArithmeticCode.TheVariants as code
-use Rattle.bpf_fields.specs.declared.opcode.Opcode.{Opcode}
-use Rattle.bpf_fields.specs.declared.opcode.Opcode.TheVariants as opcode
-use Rattle.bpf_fields.specs.declared.opcode.SourceKind.TheVariants.{Immediate, Register as InRegister}
-use Rattle.bpf_fields.specs.declared.opcode.Uses.{Uses}
-use Rattle.bpf_fields.specs.Opcode.{arithmetic_class, arithmetic_codes, arithmetic_number, arithmetic_of, binary_of, branch_of, byte_of, condition_number, condition_of, conditions, jump_class, memory_of, memory_opcodes, opcode_of, source_bit, source_of}
-use Rattle.bpf_fields.specs.Fields.{bytes_of, slots_of}
-use Rattle.bpf_fields.specs.Spelling.{code_of, end_immediate, extension_offset, fields_of, instruction_bytes, operation_offset, second_half, slot, spelling}
-use Rattle.bpf_fields.specs.Uses.{fields_used, offset_chooses, uses_of}
+use Rattle.bpf_bytes.specs.declared.fields.Fields.{Fields}
+use Rattle.bpf_bytes.specs.declared.opcode.ArithmeticCode.{ArithmeticCode}
+use Rattle.bpf_bytes.specs.declared.opcode.ArithmeticCode.TheVariants as code
+use Rattle.bpf_bytes.specs.declared.opcode.Opcode.{Opcode}
+use Rattle.bpf_bytes.specs.declared.opcode.Opcode.TheVariants as opcode
+use Rattle.bpf_bytes.specs.declared.opcode.SourceKind.TheVariants.{Immediate, Register as InRegister}
+use Rattle.bpf_bytes.specs.declared.opcode.Uses.{Uses}
+use Rattle.bpf_bytes.specs.Opcode.{arithmetic_class, arithmetic_codes, arithmetic_number, arithmetic_of, binary_of, branch_of, byte_of, condition_number, condition_of, conditions, jump_class, memory_of, memory_opcodes, opcode_of, source_bit, source_of}
+use Rattle.bpf_bytes.specs.Fields.{bytes_of, slots_of}
+use Rattle.bpf_bytes.specs.Spelling.{code_of, end_immediate, extension_offset, fields_of, instruction_bytes, operation_offset, second_half, slot, spelling}
+use Rattle.bpf_bytes.specs.Uses.{fields_used, offset_chooses, uses_of}
 use Rattle.bpf_bytes.specs.Reading.{end_width_of, extension_of, half_reading_of, instruction_of, is_move, on_register, operation_of, reading_of, unused_are_zero}
 use Rattle.bpf_bytes.specs.declared.fault.DecodeCause.TheVariants as fault_cause
 use Rattle.bpf_bytes.specs.Decoding.{completed_load, program_of, reading_of_slots, with_front}

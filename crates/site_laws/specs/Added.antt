@@ -6,7 +6,7 @@ use Rattle.log_model.specs.Log.{StoredProcedure, by_name, by_number}
 use Rattle.log_model.specs.Name.{is_name}
 use Rattle.call_model.specs.Check.{Passed}
 use Rattle.program_checks.specs.Check.{check_of}
-use Rattle.entry_heads.specs.Head.{NamedProcedure, AdditionHead, head_of}
+use Rattle.log_entry.specs.Head.{NamedProcedure, AdditionHead, head_of}
 use Rattle.site_model.specs.Standing.{SiteSetting}
 use Rattle.site_model.specs.Order.{Order}
 use Rattle.site_model.specs.Answer.{stored_as}

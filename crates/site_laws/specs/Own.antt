@@ -2,7 +2,7 @@
 use Rattle.std.specs.Prelude.{◌≡◌, ℕ, ◌<◌, ◌≤◌, ◌++◌, length, Some, None}
 use Rattle.log_model.specs.Log.{Call, StoredProcedure, by_name, by_number, procedures_after, run_in}
 use Rattle.log_model.specs.Verdicts.{WroteWhatWasRead}
-use Rattle.entry_heads.specs.Fit.{CallFitsFields}
+use Rattle.log_entry.specs.Fit.{CallFitsFields}
 use Rattle.site_model.specs.Standing.{SiteSetting, executed}
 use Rattle.site_model.specs.Order.{Order, order_log}
 use Rattle.site_model.specs.Answer.{Asked, asked_call}

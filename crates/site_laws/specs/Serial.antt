@@ -3,7 +3,7 @@ use Rattle.std.specs.Prelude.{◌≡◌, ℕ, suc, ◌++◌, List, [], ◌∷◌
 use Rattle.schema.specs.Rows.{Rows}
 use Rattle.bpf_semantics.specs.Run.{Run}
 use Rattle.log_model.specs.Log.{Call, Log, Setting, rows_after, run_on}
-use Rattle.entry_heads.specs.Head.{Head, CallHead, head_of}
+use Rattle.log_entry.specs.Head.{Head, CallHead, head_of}
 use Rattle.site_model.specs.declared.outcome.EntryOutcome.{EntryOutcome}
 use Rattle.site_model.specs.declared.outcome.EntryOutcome.TheVariants.{Committed}
 use Rattle.site_model.specs.Standing.{SiteSetting}

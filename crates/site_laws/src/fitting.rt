@@ -3,7 +3,7 @@
 ghost use Rattle.std.specs.Prelude.{◌≡◌, ◌≢◌, ℕ, ◌++◌, List, ◌∷◌, Some};
 ghost use Rattle.std.specs.FinMap.{empty};
 ghost use Rattle.log_model.specs.Log.{Call};
-ghost use Rattle.entry_heads.specs.Head.{CallHead, head_of};
+ghost use Rattle.log_entry.specs.Head.{CallHead, head_of};
 ghost use Rattle.site_model.specs.declared.outcome.EntryOutcome.TheVariants.{Committed, Conflict, Stale};
 ghost use Rattle.site_model.specs.Answer.{Asked, call_answer};
 ghost use Rattle.site_model.specs.Fit.{AreFitEntries};
@@ -18,7 +18,7 @@ use crate::settled::{what_was_answered_commits_no_more, what_was_refused_commits
 use catalogue::{
     Catalogue, accepted_procedures_are_safe, catalogues_are_safe, each_catalogue_is_consistent,
 };
-use model_laws::rows_after_each_call;
+use dsm_model::rows_after_each_call;
 use program_checks::programs_pass_where_they_are_accepted;
 use site_model::{fit_entries_go_on, orders_grow, what_stands_is_of_the_log};
 use std::alloc::Allocator;

@@ -9,10 +9,10 @@ ghost use Rattle.site_model.specs.Standing.{SiteSetting, StandsAs, standing};
 ghost use Rattle.site_model.specs.Order.{Order, next_outcome, order_entries, order_log};
 ghost use Rattle.site_laws.specs.Serial.{RunsNext};
 
+use dsm_model::{entries_carry_serial_replies, rows_after_each_call};
 use log_model::{
     a_log_only_grows, each_call_has_a_verdict, each_request_commits_once, logs_whose_calls_fit,
 };
-use model_laws::{entries_carry_serial_replies, rows_after_each_call};
 use site_model::{orders_grow, what_stands_is_of_the_log};
 
 /// An order that goes on keeps the entries that it had: two sites of one setting, of which one was given a beginning of

@@ -2,13 +2,13 @@
 
 ghost use Rattle.std.specs.Prelude.{◌≡◌, ◌≢◌, ◌<◌, ◌≤◌, ◌^◌, ℕ, ◌++◌, List, length};
 ghost use Rattle.bpf_code.specs.Program.{Program};
-ghost use Rattle.bpf_fields.specs.Spelling.{spelling};
+ghost use Rattle.bpf_bytes.specs.Spelling.{spelling};
 ghost use Rattle.schema.specs.declared.limits.TheConstants.{MAX_ARGUMENTS};
 ghost use Rattle.log_model.specs.Log.{run_in};
 ghost use Rattle.call_model.specs.Check.{Passed};
 ghost use Rattle.program_checks.specs.Check.{check_of};
-ghost use Rattle.entry_heads.specs.Fit.{AdditionFitsFields};
-ghost use Rattle.entry_heads.specs.Head.{NamedProcedure};
+ghost use Rattle.log_entry.specs.Fit.{AdditionFitsFields};
+ghost use Rattle.log_entry.specs.Head.{NamedProcedure};
 ghost use Rattle.site_model.specs.declared.answer.AdditionAnswer.TheVariants.{Submitted as AddSubmitted};
 ghost use Rattle.site_model.specs.declared.answer.CallAnswer.TheVariants.{Submitted};
 ghost use Rattle.site_model.specs.declared.cause.NothingCause.{NothingCause};
@@ -23,7 +23,7 @@ use crate::fitting::orders_of_bytes_fit;
 use crate::laws::{beginnings_have_the_same_entries, orders_have_logs};
 use crate::procedures::{procedures_after_each_byte_string, procedures_only_grow};
 use bpf_semantics::states_fit;
-use entry_heads::entries_have_their_heads;
+use log_entry::entries_have_their_heads;
 use log_model::{each_call_has_a_verdict, logs_whose_calls_fit, verdicts_in_words_of_the_log};
 use program_checks::programs_pass_where_they_are_accepted;
 use site_model::orders_grow;

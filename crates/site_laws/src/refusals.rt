@@ -3,7 +3,7 @@
 ghost use Rattle.std.specs.Prelude.{◌≡◌, ◌≢◌, ℕ, ◌++◌, List, Some, false};
 ghost use Rattle.log_model.specs.declared.verdict.Identifier.{Identifier};
 ghost use Rattle.log_model.specs.Log.{Call, StoredProcedure, by_name};
-ghost use Rattle.entry_heads.specs.Head.{CallHead, head_of};
+ghost use Rattle.log_entry.specs.Head.{CallHead, head_of};
 ghost use Rattle.site_model.specs.declared.answer.CallAnswer.TheVariants.{Refused};
 ghost use Rattle.site_model.specs.declared.answer.CallRefusal.{CallRefusal};
 ghost use Rattle.site_model.specs.declared.answer.CallRefusal.TheVariants.{ArgumentsLength, HalfRequest, NoProcedure};

@@ -2,7 +2,7 @@
 
 ghost use Rattle.std.specs.Prelude.{◌≡◌, ◌≢◌, ◌<◌, ℕ, ◌∷◌, ◌++◌, List, All, Some};
 ghost use Rattle.log_model.specs.Log.{Call};
-ghost use Rattle.entry_heads.specs.Head.{CallHead, head_of};
+ghost use Rattle.log_entry.specs.Head.{CallHead, head_of};
 ghost use Rattle.site_model.specs.declared.outcome.EntryOutcome.TheVariants.{Committed, Conflict, Stale};
 ghost use Rattle.site_model.specs.Answer.{Asked, call_answer};
 ghost use Rattle.site_model.specs.Fit.{AreFitEntries};

@@ -12,7 +12,7 @@ use Rattle.log_model.specs.Entries.{CallEntry, AdditionEntry, item_of, IsCarried
 use Rattle.log_model.specs.Name.{is_name}
 use Rattle.call_model.specs.Check.{Passed, Failed}
 use Rattle.program_checks.specs.Check.{check_of}
-use Rattle.entry_heads.specs.Head.{CallHead, AdditionHead, NamedProcedure, part, field, is_whole, request_of, call_of, call_head, procedure_of as named_procedure_of, addition_head, head_of}
+use Rattle.log_entry.specs.Head.{CallHead, AdditionHead, NamedProcedure, part, field, is_whole, request_of, call_of, call_head, procedure_of as named_procedure_of, addition_head, head_of}
 use Rattle.site_model.specs.declared.cause.NothingCause.{NothingCause}
 use Rattle.site_model.specs.declared.cause.NothingCause.TheVariants as cause
 use Rattle.site_model.specs.Standing.{SiteSetting, Standing, StandsAs, IsDecided, IsNothing, executed, is_decided, takes_arguments, is_true, call_standing, checked_standing, addition_standing, standing_of_head, standing}

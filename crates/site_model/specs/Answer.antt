@@ -8,7 +8,7 @@ use Rattle.log_model.specs.Log.{StoredProcedure, Setting, Call, Log, by_name, fi
 use Rattle.log_model.specs.Entries.{Entry, CallEntry, AdditionEntry, items_of}
 use Rattle.log_model.specs.Name.{is_name}
 use Rattle.log_entry.specs.Bytes.{entry_bytes}
-use Rattle.entry_heads.specs.Head.{NamedProcedure, is_whole}
+use Rattle.log_entry.specs.Head.{NamedProcedure, is_whole}
 use Rattle.call_model.specs.Check.{ProgramCheck, Passed, Failed}
 use Rattle.program_checks.specs.Check.{check_of}
 use Rattle.site_model.specs.declared.answer.CallAnswer.{CallAnswer}

@@ -7,7 +7,7 @@ use Rattle.log_model.specs.declared.verdict.Verdict.{Verdict}
 use Rattle.log_model.specs.declared.verdict.Verdict.TheVariants as verdict
 use Rattle.log_model.specs.Log.{Catalogue, Setting, Call, Log, procedures_after, verdict_of, no_request}
 use Rattle.log_model.specs.Entries.{Entry, CallEntry, AdditionEntry, items_of}
-use Rattle.entry_heads.specs.Head.{Head, CallHead}
+use Rattle.log_entry.specs.Head.{Head, CallHead}
 use Rattle.site_model.specs.declared.outcome.EntryOutcome.{EntryOutcome}
 use Rattle.site_model.specs.declared.outcome.EntryOutcome.TheVariants as outcome
 use Rattle.site_model.specs.Standing.{SiteSetting, Standing, StandsAs, IsDecided, IsNothing, standing}

@@ -9,7 +9,7 @@ use Rattle.log_model.specs.Log.{StoredProcedure, Setting, Call, Log, first_repea
 use Rattle.log_model.specs.Entries.{ExecutedCall, Entry, CallEntry, AdditionEntry}
 use Rattle.log_model.specs.Name.{is_name}
 use Rattle.log_entry.specs.Bytes.{entry_bytes}
-use Rattle.entry_heads.specs.Head.{NamedProcedure, Head, CallHead, AdditionHead, head_of}
+use Rattle.log_entry.specs.Head.{NamedProcedure, Head, CallHead, AdditionHead, head_of}
 use Rattle.call_model.specs.Check.{ProgramCheck, Passed, Failed}
 use Rattle.program_checks.specs.Check.{check_of}
 use Rattle.site_model.specs.declared.cause.NothingCause.{NothingCause}

@@ -5,10 +5,10 @@ use Rattle.std.proofs.lemmas.List.Sums.{fold-append}
 use Rattle.script.specs.declared.fault.LineFault.{LineFault}
 use Rattle.site_model.specs.Standing.{SiteSetting}
 use Rattle.site_model.specs.Order.{Order}
-use Rattle.site_lines.specs.Lines.{SiteRequest}
-use Rattle.site_lines.specs.declared.line.SiteLine.TheVariants.{Call, Add, Entry, Rows, Scan, Position}
-use Rattle.site_lines.specs.Answers.{fault_line}
-use Rattle.site_answers.specs.Answers.{IsAnswer, IsLineAnswer, order_behind}
+use Rattle.site_service.specs.Lines.{SiteRequest}
+use Rattle.site_service.specs.declared.line.SiteLine.TheVariants.{Call, Add, Entry, Rows, Scan, Position}
+use Rattle.site_service.specs.Answers.{fault_line}
+use Rattle.site_service.specs.LineAnswers.{IsAnswer, IsLineAnswer, order_behind}
 use Rattle.site_service.specs.Answering.{AreAnswers, order_after, says_within_limits}
 
 pub nothing_answered : (s : SiteSetting) (order : Order) → AreAnswers s order [] []

@@ -1,15 +1,15 @@
 -- How a site ends.
 use Rattle.std.proofs.Common.{◌≡◌, ◌⊎◌, inl, inr, ℕ, ◌+◌, List, [], ◌++◌, Option, Some, None, Result, Ok, Err, IfOk, IfErr, IfSome, refl, sym, ap, subst, ◌∙◌}
 use Rattle.byte_output.specs.Writes.{AppendsBeginning}
-use Rattle.output_sink.proofs.TakenLemmas.{Appends-nothing}
-use Rattle.script_settings.specs.declared.cause.FaultCause.{FaultCause}
-use Rattle.script_settings.specs.declared.cause.FaultCause.TheVariants.{Line, Place, Table, Program, Refused, Procedure, NoMemory}
-use Rattle.script_settings.specs.declared.cause.ScriptFault.{ScriptFault}
-use Rattle.script_stops.specs.declared.stop.Stop.{Stop}
-use Rattle.script_stops.specs.declared.stop.Stop.TheVariants.{Fault, Input, Output}
-use Rattle.script_stops.specs.Said.{IsStopOf}
-use Rattle.script_stops.specs.Telling.{FAILED, SaysEnd, fault_line, status_of_cause}
-use Rattle.site_input.specs.Lines.{whole_lines}
+use Rattle.byte_output.proofs.TakenLemmas.{Appends-nothing}
+use Rattle.script.specs.declared.cause.FaultCause.{FaultCause}
+use Rattle.script.specs.declared.cause.FaultCause.TheVariants.{Line, Place, Table, Program, Refused, Procedure, NoMemory}
+use Rattle.script.specs.declared.cause.ScriptFault.{ScriptFault}
+use Rattle.script.specs.declared.stop.Stop.{Stop}
+use Rattle.script.specs.declared.stop.Stop.TheVariants.{Fault, Input, Output}
+use Rattle.script.specs.Said.{IsStopOf}
+use Rattle.script.specs.Telling.{FAILED, SaysEnd, fault_line, status_of_cause}
+use Rattle.site_service.specs.InputLines.{whole_lines}
 use Rattle.site_model.specs.Standing.{SiteSetting}
 use Rattle.site_service.specs.Answering.{AnswersFirst, AreAnswers, LeavesAnswers, order_after}
 use Rattle.site_service.specs.Leaving.{Leaves, LeavesEnd, LeavesUpTo, StopsAtSettings, TellsFailure, TellsFault}

@@ -5,21 +5,21 @@ use Rattle.std.proofs.lemmas.Bool.Decides.{nat_tests}
 use Rattle.std.specs.Io.KnownBytes.{Appends}
 use Rattle.byte_output.specs.Writes.{AppendsBeginning}
 use Rattle.byte_output.proofs.WritesLemmas.{Appends-then, AppendsBeginning-then, AppendsBeginning-more}
-use Rattle.output_sink.specs.declared.sink.OutputSink.{OutputSink}
-use Rattle.output_sink.specs.Taken.{HasTakenMore, nothing_more, taken_together}
+use Rattle.byte_output.specs.declared.output_sink.OutputSink.{OutputSink}
+use Rattle.byte_output.specs.Taken.{HasTakenMore, nothing_more, taken_together}
 use Rattle.script.specs.declared.fault.LineFault.TheVariants.{Bytes}
-use Rattle.script_settings.specs.declared.cause.FaultCause.TheVariants.{NoMemory}
-use Rattle.script_stops.specs.declared.stop.Stop.{Stop}
-use Rattle.script_stops.specs.declared.stop.Stop.TheVariants.{Fault, Input, Output}
-use Rattle.site_input.specs.declared.input.NextLine.TheVariants as next
-use Rattle.site_input.specs.declared.input.TheConstants.{MAX_SITE_LINE}
-use Rattle.site_input.specs.Lines.{IsNextLine, whole_lines}
-use Rattle.site_answers.specs.Answers.{IsLineAnswer, order_behind}
-use Rattle.site_lines.specs.Answers.{fault_line}
-use Rattle.site_lines.specs.Lines.{line_says}
+use Rattle.script.specs.declared.cause.FaultCause.TheVariants.{NoMemory}
+use Rattle.script.specs.declared.stop.Stop.{Stop}
+use Rattle.script.specs.declared.stop.Stop.TheVariants.{Fault, Input, Output}
+use Rattle.site_service.specs.declared.input.NextLine.TheVariants as next
+use Rattle.site_service.specs.declared.input.TheConstants.{MAX_SITE_LINE}
+use Rattle.site_service.specs.InputLines.{IsNextLine, whole_lines}
+use Rattle.site_service.specs.LineAnswers.{IsLineAnswer, order_behind}
+use Rattle.site_service.specs.Answers.{fault_line}
+use Rattle.site_service.specs.Lines.{line_says}
 use Rattle.site_model.specs.Standing.{SiteSetting}
 use Rattle.site_model.specs.Order.{Order}
-use Rattle.site_replica.specs.Replica.{SiteReplica, StandsForOrder}
+use Rattle.site.specs.Replica.{SiteReplica, StandsForOrder}
 use Rattle.site_service.specs.declared.lines.Progress.{Progress}
 use Rattle.site_service.specs.Answering.{AnswersSome, AreAnswers, ComesTo, GivesLines, IsNoText, LeavesAnswers, LeavesLines, order_after, says_within_limits}
 use Rattle.site_service.proofs.AnswersLemmas.{nothing_answered, answered_behind, first_answered, order_after_more, can_answer_lines}

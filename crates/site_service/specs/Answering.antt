@@ -5,20 +5,20 @@ use Rattle.std.specs.Io.KnownBytes.{Appends}
 use Rattle.byte_output.specs.Writes.{AppendsBeginning}
 use Rattle.byte_output.specs.declared.paged.PagedOutput.{PagedOutput}
 use Rattle.byte_output.specs.Pending.{output_of}
-use Rattle.output_sink.specs.Taken.{HasPassed, HasTaken}
+use Rattle.byte_output.specs.Taken.{HasPassed, HasTaken}
 use Rattle.script.specs.declared.fault.LineFault.{LineFault}
 use Rattle.script.specs.declared.fault.LineFault.TheVariants.{Bytes}
-use Rattle.script_settings.specs.declared.cause.FaultCause.TheVariants.{NoMemory}
-use Rattle.script_stops.specs.declared.stop.Stop.{Stop}
-use Rattle.script_stops.specs.declared.stop.Stop.TheVariants.{Fault, Input, Output}
-use Rattle.site_input.specs.declared.input.TheConstants.{MAX_SITE_LINE}
-use Rattle.site_input.specs.Lines.{whole_lines}
+use Rattle.script.specs.declared.cause.FaultCause.TheVariants.{NoMemory}
+use Rattle.script.specs.declared.stop.Stop.{Stop}
+use Rattle.script.specs.declared.stop.Stop.TheVariants.{Fault, Input, Output}
+use Rattle.site_service.specs.declared.input.TheConstants.{MAX_SITE_LINE}
+use Rattle.site_service.specs.InputLines.{whole_lines}
 use Rattle.site_model.specs.Standing.{SiteSetting}
 use Rattle.site_model.specs.Order.{Order}
-use Rattle.site_replica.specs.Replica.{SiteReplica, StandsForOrder}
-use Rattle.site_lines.specs.Lines.{SiteRequest, line_says}
+use Rattle.site.specs.Replica.{SiteReplica, StandsForOrder}
+use Rattle.site_service.specs.Lines.{SiteRequest, line_says}
 use Rattle.site_service.specs.declared.lines.Progress.{Progress}
-use Rattle.site_answers.specs.Answers.{IsLineAnswer, order_behind}
+use Rattle.site_service.specs.LineAnswers.{IsLineAnswer, order_behind}
 
 -- what a line says; one that is too long is at fault for its bytes
 abbrev pub says_within_limits : List ℕ → Result (Option SiteRequest) LineFault

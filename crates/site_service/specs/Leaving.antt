@@ -2,12 +2,12 @@
 use Rattle.std.specs.Prelude.{◌≡◌, ◌⊎◌, ℕ, ◌+◌, List, Option, Result, Ok, Err}
 use Rattle.std.specs.Io.KnownBytes.{Appends}
 use Rattle.byte_output.specs.Writes.{AppendsBeginning}
-use Rattle.script_settings.specs.declared.cause.FaultCause.TheVariants.{NoMemory}
-use Rattle.script_settings.specs.declared.cause.ScriptFault.{ScriptFault}
-use Rattle.script_stops.specs.declared.stop.Stop.{Stop}
-use Rattle.script_stops.specs.declared.stop.Stop.TheVariants.{Fault, Input, Output}
-use Rattle.script_stops.specs.Said.{fault_at}
-use Rattle.script_stops.specs.Telling.{FAILED, SaysStream, fault_line}
+use Rattle.script.specs.declared.cause.FaultCause.TheVariants.{NoMemory}
+use Rattle.script.specs.declared.cause.ScriptFault.{ScriptFault}
+use Rattle.script.specs.declared.stop.Stop.{Stop}
+use Rattle.script.specs.declared.stop.Stop.TheVariants.{Fault, Input, Output}
+use Rattle.script.specs.Said.{fault_at}
+use Rattle.script.specs.Telling.{FAILED, SaysStream, fault_line}
 use Rattle.site_model.specs.Standing.{SiteSetting}
 use Rattle.site_service.specs.Answering.{AnswersFirst, AreAllAnswers}
 

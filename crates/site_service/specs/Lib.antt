@@ -1,2 +1,10 @@
 pub mod Answering
 pub mod Leaving
+pub mod Lines
+pub mod Answers
+pub mod Digits
+pub mod Scanned
+pub mod InputLines
+pub mod Settings
+pub mod Reading
+pub mod LineAnswers

@@ -1,19 +1,18 @@
 //! Answering line after line. A line is at hand where the input showed it whole with the line before.
 
 ghost use Rattle.std.specs.Prelude.{◌≡◌, ◌+◌, ◌<◌, ◌^◌, ℕ, [], List, Some, IfOk, IfSome};
-ghost use Rattle.output_sink.specs.Taken.{HasTakenMore};
+ghost use Rattle.byte_output.specs.Taken.{HasTakenMore};
 ghost use Rattle.site_model.specs.Order.{Order};
-ghost use Rattle.site_replica.specs.Replica.{StandsForOrder, setting_of};
+ghost use Rattle.site.specs.Replica.{StandsForOrder, setting_of};
 ghost use Rattle.site_service.specs.Answering.{GivesLines, IsAppended, IsNoText, LeavesAnswers, LeavesLines};
 
+use crate::answer_line::answer;
+use crate::input::{NextLine, next_line};
+use crate::status::append_fault_line;
 use byte_output::paged::PagedOutput;
-use output_sink::{OutputSink, finish};
-use script::LineFault;
-use script_stops::{Stop, out_of_memory};
+use byte_output::{OutputSink, finish};
+use script::{LineFault, Stop, out_of_memory};
 use site::Site;
-use site_answers::answer;
-use site_input::{NextLine, next_line};
-use site_lines::append_fault_line;
 use std::alloc::Allocator;
 use std::io;
 use std::io::{BufRead, ErrorKind, Write};

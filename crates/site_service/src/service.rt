@@ -1,17 +1,17 @@
 //! A site over any streams.
 
 ghost use Rattle.std.specs.Prelude.{◌≡◌, ◌⊎◌, ℕ, List, Some, Ok, Err, IfOk, IfErr, IfSome};
-ghost use Rattle.script_settings.specs.declared.cause.ScriptFault.{ScriptFault};
-ghost use Rattle.script_stops.specs.Telling.{FAILED};
+ghost use Rattle.script.specs.declared.cause.ScriptFault.{ScriptFault};
+ghost use Rattle.script.specs.Telling.{FAILED};
 ghost use Rattle.site_model.specs.Standing.{SiteSetting};
-ghost use Rattle.site_settings.specs.Settings.{settings_say};
+ghost use Rattle.site_service.specs.Settings.{settings_say};
 ghost use Rattle.site_service.specs.Leaving.{AreUntouched, Leaves, LeavesEnd, StopsAtSettings, TellsFailure, TellsFault};
 
+use crate::input::MAX_SITE_LINE;
 use crate::lines::answer_lines;
-use script_stops::{Stop, out_of_memory, tell};
+use crate::read::read_settings;
+use script::{Stop, out_of_memory, tell};
 use site::Site;
-use site_input::MAX_SITE_LINE;
-use site_settings::read_settings;
 use std::alloc::Allocator;
 use std::io::{BufRead, Write};
 

@@ -1,11 +1,12 @@
 //! How a node has ended, as plain data.
 
+use crate::asked::Stray;
+use crate::gate::HoldingGate;
+use locked_replica::LogSetting;
 use node::{EndedReplica, Finish};
-use ordered_entries::LogSetting;
 use std::alloc::Global;
 use std::sync::Wait;
 use tallies::{Counts, Ledgers};
-use test_callers::{HoldingGate, Stray};
 use txn_view::Store;
 
 /// How a node has ended.

@@ -3,19 +3,20 @@
 ghost use Rattle.std.specs.Prelude.{◌≡◌};
 ghost use Rattle.tallies.specs.Shared.{names_by_place};
 
+use crate::asked::Asked;
+use crate::callers::ask_all;
 use crate::ending::{Ending, ending_of};
+use crate::gate::{Hold, HoldingGate, gate_of};
 use catalogue::Catalogue;
+use locked_replica::LogSetting;
 use node::{Node, Size};
 use order_log::GroupCells;
-use ordered_entries::LogSetting;
 use std::alloc::Global;
 use std::marker::Brand;
 use std::sync::Wait;
 use std::thread::Threads;
 use tallies::{Blanks, Ledgers};
-use test_callers::{Asked, Hold, HoldingGate, ask_all, gate_of};
-use test_entries::catalogue_of;
-use test_procedures::TABLES;
+use test_programs::{TABLES, catalogue_of};
 
 /// Has a node asked, and finishes it.
 fn finish_asked<

@@ -7,11 +7,11 @@ ghost use Rattle.log_model.specs.Entries.{item_of, items_of};
 ghost use Rattle.log_entry.specs.Kind.{entry_of};
 ghost use Rattle.replica.specs.Replica.{IsForTables, IsNamed, entries_of, writes_in};
 
+use catalogue::is_name;
 use log_entry::Entry;
 use row_sets::{Bytes, WriteSet};
 use schema::{Schema, rows_are_of_bytes_and_words};
 use std::alloc::Allocator;
-use stored_procedures::is_name;
 
 fn write_fits<A: Allocator, B: Allocator>(
     schema: &Schema<A>,

@@ -3,19 +3,20 @@
 ghost use Rattle.std.specs.Prelude.{◌≡◌};
 ghost use Rattle.tallies.specs.Shared.{names_by_place};
 
+use crate::asked::Mismatch;
+use crate::cases::Case;
+use crate::requests::{Memories, ask_all};
 use catalogue::Catalogue;
 use crossbeam_channel::{Receiver, Sender, bounded};
+use locked_replica::LogSetting;
 use node_calls::OpenGate;
 use order_log::{GroupCells, OrderLog};
-use ordered_entries::LogSetting;
 use served_replicas::{Request, Shared, deliver_all, serve};
 use std::alloc::{AllocError, Allocator, Global};
 use std::sync::Wait;
 use std::thread;
 use std::thread::Threads;
 use tallies::{Blanks, Ledgers, Shares, Totals};
-use test_questions::{Case, Mismatch};
-use test_requests::{Memories, ask_all};
 
 /// What two replicas share, each in memory of its own of the first kind; calls and entries take memory of the second.
 type TwoReplicas<J, A, P> = Shared<J, A, P, OpenGate>;

@@ -8,8 +8,7 @@ use log_model::{RequestId, Verdict};
 use rand_pcg::Pcg32;
 use scarce::Scarce;
 use std::alloc::Global;
-use test_entries::catalogue_of;
-use test_procedures::{TABLES, bytes_of};
+use test_programs::{TABLES, bytes_of, catalogue_of};
 
 /// A world of a seed, with what was done to it.
 #[derive(Drop)]

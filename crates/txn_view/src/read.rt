@@ -12,9 +12,8 @@ ghost use Rattle.txn_view.specs.View.{IsReadOf};
 
 use crate::seen::{count_seen, first_seen, row_seen};
 use crate::store::{Gone, Store};
-use or_no_memory::OrNoMemory;
 use row_sets::{ReadSet, WriteSet};
-use schema::Look;
+use schema::{Look, OrNoMemory};
 use std::alloc::Allocator;
 
 /// The row of a table at a key. A write of the call's own answers without a look.

@@ -11,7 +11,7 @@ use dsm_world::{Step, World};
 use log_model::Verdict;
 use schema::Schema;
 use std::alloc::Global;
-use test_procedures::{ADD, TABLES, bytes_of};
+use test_programs::{ADD, TABLES, bytes_of};
 
 fn catalogue_of(alloc: Global) -> Option<Catalogue> {
     let code = decode(alloc, &bytes_of(alloc, ADD)?).ok()?;

@@ -7,8 +7,9 @@ use replica::Replica;
 use scarce::Scarce;
 use std::alloc::Global;
 use std::process::Abort;
-use test_histories::{Events, has_reads, has_verdicts, replay_of};
-use test_worlds::{DrawnWorld, History, KINDS, Ordered, new_world};
+use test_worlds::{
+    DrawnWorld, Events, History, KINDS, Ordered, has_reads, has_verdicts, new_world, replay_of,
+};
 use txn_view::{Gone, Store};
 
 /// How many worlds are drawn.

@@ -1,8 +1,7 @@
 // What no clause says: that the definitions are the format's, what is printed, and that each call succeeds.
 use super::same;
-use bpf_bytes::{DecodeCause, DecodeFault, decode, encode};
+use bpf_bytes::{DecodeCause, DecodeFault, Opcode, Uses, decode, encode};
 use bpf_code::{Code, Instruction, Register, SignExtendingMove, Size, Source, Width};
-use bpf_fields::{Opcode, Uses};
 use bpf_words::{BinaryOperation, ByteOrder, Condition, EndWidth};
 use scarce::Scarce;
 use std::alloc::Global;

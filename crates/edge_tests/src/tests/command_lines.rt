@@ -1,5 +1,4 @@
-use command_line::{Plan, PlanFault, plan};
-use explanations::explain;
+use command_line::{Plan, PlanFault, explain, plan};
 use std::alloc::Global;
 use std::process::Abort;
 

@@ -1,4 +1,4 @@
-use explanations::explain;
+use command_line::explain;
 use std::alloc::Global;
 use std::process::Abort;
 

@@ -2,7 +2,7 @@
 
 use super::generator::{Program, random_program};
 use super::random::Random;
-use plain_rows::Row;
+use plain_runner::Row;
 use std::alloc::{AllocError, Global};
 
 /// A call: a program, its arguments and the rows before it.

@@ -1,10 +1,8 @@
 //! What a call came to, in a line: its reply and in how many turns, cancel code, looks and writes.
 
 use bpf_vm::Turn;
-use plain_rows::KeyMap;
-use plain_runner::CompletedRun;
-use plain_site::{CompletedCall, SiteRun};
-use plain_store::PlainStore;
+use plain_runner::{CompletedRun, KeyMap};
+use plain_site::{CompletedCall, PlainStore, SiteRun};
 use row_sets::WriteSet;
 use schema::Look;
 use std::alloc::{AllocError, Global};

@@ -4,8 +4,7 @@ use super::{
     NEVER, args_of, described, described_call, described_run, procedure_of, rows_of, same,
 };
 use bpf_verify::Accepted;
-use plain_rows::Row;
-use plain_runner::{CompletedRun, run_program};
+use plain_runner::{CompletedRun, Row, run_program};
 use plain_site::{SiteFault, complete_call, run_call};
 use std::alloc::Global;
 use std::process::Abort;

@@ -3,7 +3,7 @@
 use super::{NEVER, described, procedure_of, rows_of, same};
 use bpf_verify::Accepted;
 use bpf_vm::Turn;
-use plain_rows::Row;
+use plain_runner::Row;
 use plain_site::{SiteFault, run_call};
 use scarce::Scarce;
 use std::alloc::Global;

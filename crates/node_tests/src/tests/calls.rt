@@ -3,7 +3,7 @@
 use log_model::{RequestId, Verdict};
 use node::{Added, ProgramRefusal};
 use node_calls::{Answer, CallRefusal};
-use test_callers::{Addition, Asking, Told, Words};
+use test_nodes::{Addition, Asking, Told, Words};
 
 const ADD: u16 = 1;
 

@@ -11,7 +11,7 @@ use rand_core::utils::NextWord;
 use rand_pcg::Pcg32;
 use std::alloc::Global;
 use std::process::Abort;
-use test_procedures::{PROCEDURES, PUT, setting_of};
+use test_programs::{PROCEDURES, PUT, setting_of};
 
 /// How many items there are.
 const ITEMS: u32 = 200;

@@ -4,7 +4,7 @@ use log_model::Verdict;
 use schema::Schema;
 use std::alloc::Global;
 use std::process::Abort;
-use test_entries::{EntryCase, entry_of, small_catalogue};
+use test_programs::{EntryCase, entry_of, small_catalogue};
 use test_replicas::CheckedReplica;
 
 /// How many rows stand in the queue.

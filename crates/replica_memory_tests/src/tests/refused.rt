@@ -8,7 +8,7 @@ use replica::Replica;
 use scarce::Scarce;
 use std::alloc::{Allocator, Global};
 use std::process::Abort;
-use test_entries::{EntryCase, entries_of, small_catalogue};
+use test_programs::{EntryCase, entries_of, small_catalogue};
 use test_replicas::CheckedReplica;
 
 /// More growths than any call of these tests makes: none of them is refused that often.

@@ -9,8 +9,7 @@ use scarce::Scarce;
 use schema::Schema;
 use std::alloc::{Allocator, Global};
 use std::process::Abort;
-use test_entries::{EntryCase, addition_of, entries_of, entry_of, small_catalogue};
-use test_procedures::ONE;
+use test_programs::{EntryCase, ONE, addition_of, entries_of, entry_of, small_catalogue};
 use test_replicas::CheckedReplica;
 
 /// Entries, of which the last is delivered with a growth refused, and how many growths that has: seven make room for

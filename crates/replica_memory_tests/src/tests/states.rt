@@ -4,7 +4,7 @@ use log_model::Verdict;
 use replica::Replica;
 use row_sets::Row;
 use std::alloc::{Allocator, Global};
-use test_entries::{byte_at, certification_at};
+use test_programs::{byte_at, certification_at};
 
 /// What a replica is to say of itself: what became of each entry that it has; the bytes at keys 1 and 2; how many rows
 /// there are and the sum of keys times bytes; how many procedures it has, and the number of `one`.

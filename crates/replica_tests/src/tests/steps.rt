@@ -6,7 +6,7 @@ use log_model::{Identifier, Verdict};
 use replica::Replica;
 use std::alloc::Global;
 use std::process::Abort;
-use test_entries::{EntryCase, byte_at, certification_at, entry_of, small_catalogue};
+use test_programs::{EntryCase, byte_at, certification_at, entry_of, small_catalogue};
 use test_replicas::CheckedReplica;
 
 /// A log under a window: of each entry the verdict on it and how many comparisons that takes; positions and keys with

@@ -4,7 +4,7 @@ use catalogue::Catalogue;
 use replica::Replica;
 use std::alloc::Global;
 use std::process::Abort;
-use test_entries::{EntryCase, entry_of, small_catalogue};
+use test_programs::{EntryCase, entry_of, small_catalogue};
 use test_replicas::CheckedReplica;
 use txn_view::{Gone, Store};
 

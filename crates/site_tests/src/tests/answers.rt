@@ -3,8 +3,7 @@
 use super::heads::{ADDITION, CALL, HEAD};
 use super::sites::{GivenSite, answer, answer_to_addition};
 use log_model::RequestId;
-use site::Site;
-use site_calls::{Asked, NamedProgram};
+use site::{Asked, NamedProgram, Site};
 use site_model::{
     AdditionAnswer, AdditionRefusal, CallAnswer, CallRefusal, EntryOutcome, NothingCause,
 };

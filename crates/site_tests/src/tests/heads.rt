@@ -1,6 +1,6 @@
 //! The heads of entries: a call of 84 bytes, an addition of 29, and what is neither.
 
-use entry_heads::{AdditionHead, CallHead, EntryHead, head_of};
+use log_entry::{AdditionHead, CallHead, EntryHead, head_of};
 use log_model::RequestId;
 use std::process::Abort;
 

@@ -1,6 +1,6 @@
 use Rattle.std.proofs.Common.{◌≡◌, ◌<◌, ◌≤◌, length, None, Ok, arith, rules}
 use Rattle.bpf_code.specs.Program.{max_slots}
-use Rattle.bpf_fields.specs.Fields.{slots_of}
+use Rattle.bpf_bytes.specs.Fields.{slots_of}
 use Rattle.bpf_bytes.specs.Decoding.{reading_of_slots, jump_faults, exit_fault}
 use Rattle.bpf_bytes.proofs.ProgramLemmas.{AreSlots-reading_of, all_land, ends_with_exit}
 use Rattle.bpf_bytes.proofs.decoding.program.Goals as goal

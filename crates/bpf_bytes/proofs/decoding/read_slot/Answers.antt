@@ -1,7 +1,7 @@
 use Rattle.std.proofs.Common.{◌≡◌, sym, subst, [], false, rules}
 use Rattle.bpf_code.specs.Program.{is_wide, IsInRange, AllInRange}
-use Rattle.bpf_fields.specs.Fields.{bytes_of}
-use Rattle.bpf_fields.specs.Spelling.{fields_of, second_half}
+use Rattle.bpf_bytes.specs.Fields.{bytes_of}
+use Rattle.bpf_bytes.specs.Spelling.{fields_of, second_half}
 use Rattle.bpf_bytes.specs.Steps.{half_bytes}
 use Rattle.bpf_bytes.proofs.ProgramLemmas.{AllInRange-push, AllInRange-second}
 use Rattle.bpf_bytes.proofs.SpellingLemmas.{pushes_short, pushes_wide}

@@ -1,5 +1,5 @@
 use Rattle.std.proofs.Common.{rules, ◌≡◌, ℕ, List, ◌++◌, subst}
-use Rattle.bpf_fields.specs.Spelling.{instruction_bytes, spelling_at}
+use Rattle.bpf_bytes.specs.Spelling.{instruction_bytes, spelling_at}
 use Rattle.bpf_bytes.proofs.encoding.append_at.Goals as goal
 
 pub returns-in-Some-of_second_slot : goal.returns-in-Some-of_second_slot

@@ -1,6 +1,6 @@
 use Rattle.std.proofs.Common.{◌≡◌, ℕ, List, ◌+◌, ◌++◌, ◌∙◌, Option, arith, ap, sym, subst, take}
 use Rattle.bpf_code.specs.declared.instruction.Instruction.{Instruction}
-use Rattle.bpf_fields.specs.Spelling.{spelling, spelling_at}
+use Rattle.bpf_bytes.specs.Spelling.{spelling, spelling_at}
 use Rattle.bpf_bytes.proofs.SpellingLemmas.{spelling-take}
 use Rattle.bpf_bytes.proofs.encoding.append_program.Goals as goal
 

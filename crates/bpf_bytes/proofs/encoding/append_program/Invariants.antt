@@ -1,5 +1,5 @@
 use Rattle.std.proofs.Common.{take}
-use Rattle.bpf_fields.specs.Spelling.{spelling}
+use Rattle.bpf_bytes.specs.Spelling.{spelling}
 use Rattle.bpf_bytes.proofs.encoding.append_program.Given as goal
 
 abbrev pub invariant-loop-slot : goal.invariant-loop-slot

@@ -1,7 +1,7 @@
 use Rattle.std.proofs.Common.{rules, ◌≡◌, ℕ, List, [], ◌∷◌, ◌++◌, ◌%◌, length, subst}
 use Rattle.byteorder.specs.Endian.{little_bytes}
-use Rattle.bpf_fields.specs.Spelling.{spelling}
-use Rattle.stored_procedures.specs.Held.{stored}
+use Rattle.bpf_bytes.specs.Spelling.{spelling}
+use Rattle.catalogue.specs.Stored.{stored}
 use Rattle.log_entry.specs.Bytes.{addition_bytes}
 use Rattle.log_entry.proofs.bytes.append_addition.Goals as goal
 

@@ -1,6 +1,6 @@
 use Rattle.std.proofs.Common.{◌∙◌, ◌≡◌, ℕ, ap, map, get_or}
 use Rattle.std.specs.FinMap.{empty}
-use Rattle.plain_rows.specs.Listed.{rows_of}
+use Rattle.plain_runner.specs.Listed.{rows_of}
 use Rattle.log_model.specs.Log.{by_number, run_of_procedure, verdict_after}
 use Rattle.log_model.specs.Comparisons.{comparisons_after}
 use Rattle.plain_replayer.specs.Replay.{certified_of, procedures_at}

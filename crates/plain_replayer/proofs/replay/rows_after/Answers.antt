@@ -1,7 +1,7 @@
 use Rattle.std.proofs.Common.{◌∙◌, ap}
 use Rattle.std.proofs.lemmas.Result.{IfOk-weaker}
 use Rattle.log_model.specs.Log.{Item}
-use Rattle.plain_rows.specs.Listed.{rows_of}
+use Rattle.plain_runner.specs.Listed.{rows_of}
 use Rattle.plain_replayer.specs.Replay.{rows_after_next}
 use Rattle.plain_replayer.proofs.LogLemmas.{item_is}
 use Rattle.plain_replayer.proofs.replay.rows_after.Goals as goal

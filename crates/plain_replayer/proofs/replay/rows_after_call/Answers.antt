@@ -1,6 +1,6 @@
 use Rattle.std.proofs.Common.{◌∙◌, sym}
 use Rattle.std.proofs.lemmas.Result.{IfOk-weaker}
-use Rattle.plain_rows.specs.Listed.{rows_of}
+use Rattle.plain_runner.specs.Listed.{rows_of}
 use Rattle.plain_replayer.proofs.LogLemmas.{rows_committed, rows_refused}
 use Rattle.plain_replayer.proofs.replay.rows_after_call.Goals as goal
 

@@ -3,7 +3,7 @@ use Rattle.std.specs.Prelude.{Option}
 use Rattle.std.proofs.lemmas.Result.{IfOk-weaker}
 use Rattle.bpf_semantics.specs.Run.{run}
 use Rattle.log_model.specs.Log.{StoredProcedure, run_of_procedure}
-use Rattle.plain_rows.specs.Listed.{rows_of}
+use Rattle.plain_runner.specs.Listed.{rows_of}
 use Rattle.plain_replayer.proofs.replay.run_of_call.Goals as goal
 
 pub returns-in-Some : goal.returns-in-Some

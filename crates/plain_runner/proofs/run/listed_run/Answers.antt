@@ -1,4 +1,4 @@
-use Rattle.plain_rows.proofs.ListedLemmas.{listed_map, listed_order}
+use Rattle.plain_runner.proofs.ListedLemmas.{listed_map, listed_order}
 use Rattle.plain_runner.proofs.run.listed_run.Goals as goal
 
 pub invariant_of-result : goal.invariant_of-result

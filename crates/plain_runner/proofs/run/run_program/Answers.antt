@@ -2,7 +2,7 @@ use Rattle.std.proofs.Common.{◌≡◌, ◌∙◌, ◌≤◌, ℕ, length, sym,
 use Rattle.std.proofs.lemmas.Result.{IfOk-weaker}
 use Rattle.bpf_semantics.specs.State.{entry_state}
 use Rattle.bpf_semantics.specs.Run.{moment, run_at}
-use Rattle.plain_rows.specs.Listed.{rows_of}
+use Rattle.plain_runner.specs.Listed.{rows_of}
 use Rattle.plain_runner.specs.Runner.{moment_of, steps_before}
 use Rattle.plain_runner.proofs.RunnerLemmas.{few_steps, first_moment, one_later, read_off}
 use Rattle.plain_runner.proofs.run.run_program.Goals as goal

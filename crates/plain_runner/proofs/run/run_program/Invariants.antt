@@ -1,7 +1,7 @@
 use Rattle.std.proofs.Common.{◌≡◌}
 use Rattle.bpf_semantics.specs.State.{entry_state}
 use Rattle.bpf_semantics.specs.Run.{moment}
-use Rattle.plain_rows.specs.Listed.{rows_of}
+use Rattle.plain_runner.specs.Listed.{rows_of}
 use Rattle.plain_runner.specs.Runner.{moment_of}
 use Rattle.plain_runner.proofs.run.run_program.Given as goal
 

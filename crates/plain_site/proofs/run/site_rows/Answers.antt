@@ -1,7 +1,7 @@
 use Rattle.std.proofs.Common.{◌≡◌, ◌∙◌, ◌+◌, ℕ, List, take, sym, ap, subst, arith}
 use Rattle.std.specs.FinMap.{insert}
 use Rattle.schema.specs.Rows.{Rows, AreRows, IsRow}
-use Rattle.plain_rows.specs.Listed.{rows_of}
+use Rattle.plain_runner.specs.Listed.{rows_of}
 use Rattle.plain_site.proofs.SiteLemmas.{next_row}
 use Rattle.plain_site.proofs.run.site_rows.Goals as goal
 

@@ -1,6 +1,6 @@
 use Rattle.std.proofs.Common.{◌≡◌, take}
 use Rattle.schema.specs.Rows.{AreRows}
-use Rattle.plain_rows.specs.Listed.{rows_of}
+use Rattle.plain_runner.specs.Listed.{rows_of}
 use Rattle.plain_site.proofs.run.site_rows.Given as goal
 
 -- the rows so far are in the map, and are the schema's

@@ -2,7 +2,7 @@ use Rattle.std.proofs.Common.{◌≡◌}
 use Rattle.bpf_verify.specs.Flow.{Procedure, IsAccepted}
 use Rattle.call_model.specs.Check.{Passed}
 use Rattle.call_model.specs.declared.fault.ProgramFault.{ProgramFault}
-use Rattle.or_no_memory.specs.declared.OrNoMemory.{OrNoMemory}
+use Rattle.schema.specs.declared.or_no_memory.OrNoMemory.{OrNoMemory}
 use Rattle.program_checks.specs.Check.{check_of}
 use Rattle.program_checks.specs.Fault.{IsFaultOf, IsRefusedFor}
 use Rattle.program_checks.proofs.CheckLemmas.{verified, ok_then, err_then, passed_for, fault_of}

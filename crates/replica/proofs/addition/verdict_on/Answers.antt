@@ -1,6 +1,6 @@
 use Rattle.std.proofs.Common.{ℕ, List, ap, sym, ◌∙◌}
 use Rattle.log_model.specs.Log.{verdict_on_addition}
-use Rattle.stored_procedures.specs.Held.{ListedProcedure, stored, stored_procedures}
+use Rattle.catalogue.specs.Stored.{ListedProcedure, stored, stored_procedures}
 use Rattle.replica.proofs.AdditionLemmas.{commits_new}
 use Rattle.replica.proofs.addition.verdict_on.Goals as goal
 

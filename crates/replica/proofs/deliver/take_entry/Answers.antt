@@ -5,7 +5,7 @@ use Rattle.replica.specs.Replica.{writes_in}
 use Rattle.std.specs.Prelude.{OnOk, IfOk}
 use Rattle.log_model.specs.Entries.{Entry, CertifiedEntries, with_entry}
 use Rattle.log_entry.specs.Kind.{entry_of}
-use Rattle.certifications.specs.declared.certification.Certification.{Certification}
+use Rattle.certify.specs.declared.certification.Certification.{Certification}
 use Rattle.replica.specs.Delivery.{Holdings, KeepsCertified}
 use Rattle.replica.proofs.AdditionLemmas.{where_done, taken_in, call_kept}
 use Rattle.replica.proofs.deliver.take_entry.Goals as goal

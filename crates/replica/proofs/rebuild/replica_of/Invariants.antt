@@ -1,6 +1,6 @@
 use Rattle.std.proofs.Common.{◌≡◌, false, take}
 use Rattle.rows_mv.specs.Versions.{HaveTables}
-use Rattle.stored_procedures.specs.Held.{AreForTables}
+use Rattle.catalogue.specs.Stored.{AreForTables}
 use Rattle.replica.specs.Replica.{StandsFor, entries_of}
 use Rattle.replica.proofs.rebuild.replica_of.Given as goal
 

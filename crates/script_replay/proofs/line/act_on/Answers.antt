@@ -1,4 +1,4 @@
-use Rattle.script_actions.specs.Actions.{setting_of, world_of}
+use Rattle.script_replay.specs.Actions.{setting_of, world_of}
 use Rattle.script_replay.proofs.DoneLemmas.{acted, broke}
 use Rattle.script_replay.proofs.line.act_on.Goals as goal
 

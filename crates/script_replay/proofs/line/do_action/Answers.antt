@@ -1,7 +1,7 @@
 use Rattle.std.proofs.Common.{Some, Ok}
 use Rattle.std.proofs.lemmas.Result.{err_from_is_err_and}
 use Rattle.script.specs.declared.statements.Statement.TheVariants as statement
-use Rattle.script_actions.specs.Actions.{setting_of, world_of}
+use Rattle.script_replay.specs.Actions.{setting_of, world_of}
 use Rattle.script_replay.specs.Stage.{Acts, effect_of}
 use Rattle.script_replay.specs.Doing.{stage_of}
 use Rattle.script_replay.proofs.DoneLemmas.{by_effect, stops_by, faults_stop_by}

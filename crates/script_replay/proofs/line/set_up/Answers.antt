@@ -1,5 +1,5 @@
 use Rattle.std.proofs.Common.{sym, ◌∙◌}
-use Rattle.script_actions.specs.Actions.{setting_of, world_of}
+use Rattle.script_replay.specs.Actions.{setting_of, world_of}
 use Rattle.script_replay.proofs.DoneLemmas.{set_up_acts}
 use Rattle.script_replay.proofs.line.set_up.Goals as goal
 

@@ -2,7 +2,7 @@ use Rattle.std.proofs.Common.{refl, sym, ◌∙◌, subst}
 use Rattle.std.proofs.lemmas.Result.{err_from_is_err_and}
 use Rattle.script.specs.Text.{lines_of}
 use Rattle.script.specs.Reading.{IsNext}
-use Rattle.script_settings.specs.Settings.{ScriptSettings}
+use Rattle.script.specs.Settings.{ScriptSettings}
 use Rattle.script_replay.specs.Stage.{Setup, first_stage}
 use Rattle.script_replay.specs.Replay.{ScriptPrints}
 use Rattle.script_replay.specs.Doing.{stage_of}

@@ -1,4 +1,4 @@
-use Rattle.script_calls.specs.Reading.{said_by}
+use Rattle.script_run.specs.Reading.{said_by}
 use Rattle.script_run.specs.Printed.{report_of}
 use Rattle.std.proofs.Common.{inl, refl}
 use Rattle.script_run.proofs.PrintedLemmas.{all_printed, some_printed}

@@ -3,9 +3,9 @@ use Rattle.log_model.specs.Entries.{Entry, items_of}
 use Rattle.site_model.specs.Standing.{standing}
 use Rattle.site_model.specs.declared.outcome.EntryOutcome.TheVariants as outcome
 use Rattle.site_model.specs.Order.{next_entry, outcome_behind, with_bytes}
-use Rattle.site_replica.specs.Replica.{StandsForLog, setting_of}
-use Rattle.site_replica.specs.Standing.{IsStanding, IsReady}
-use Rattle.site_replica.specs.Taking.{Follows}
+use Rattle.site.specs.Replica.{StandsForLog, setting_of}
+use Rattle.site.specs.Standing.{IsStanding, IsReady}
+use Rattle.site.specs.Taking.{Follows}
 use Rattle.site.proofs.TakeLemmas.{TakesFor, true_follows, true_outcome, decided_follows, decided_outcome, nothing_follows, if_ok, on_ok}
 use Rattle.site.proofs.take.take.Goals as goal
 

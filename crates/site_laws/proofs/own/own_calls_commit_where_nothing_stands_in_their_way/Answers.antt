@@ -6,8 +6,8 @@ use Rattle.log_model.specs.Log.{Call, IsLog, by_name, by_number, first_repeated,
 use Rattle.log_model.specs.Entries.{Entry, ExecutedCall, CallEntry, item_of, items_of}
 use Rattle.log_model.specs.Verdicts.{WroteWhatWasRead}
 use Rattle.log_entry.specs.Bytes.{entry_bytes}
-use Rattle.entry_heads.specs.Fit.{CallFitsFields}
-use Rattle.entry_heads.specs.Head.{CallHead, head_of}
+use Rattle.log_entry.specs.Fit.{CallFitsFields}
+use Rattle.log_entry.specs.Head.{CallHead, head_of}
 use Rattle.site_model.specs.declared.answer.CallAnswer.TheVariants.{Submitted}
 use Rattle.site_model.specs.declared.outcome.EntryOutcome.TheVariants as outcome
 use Rattle.site_model.specs.Standing.{SiteSetting, executed}

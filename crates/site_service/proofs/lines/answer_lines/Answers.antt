@@ -1,9 +1,9 @@
 use Rattle.std.proofs.Common.{Some, None, Ok, Err, IfSome, [], length, refl, sym, ap, subst, ◌≡◌, ◌∙◌}
 use Rattle.std.proofs.lemmas.Result.{err_from_is_err_and}
 use Rattle.std.specs.Io.KnownBytes.{Appends}
-use Rattle.output_sink.proofs.TakenLemmas.{Appends-nothing}
-use Rattle.script_stops.specs.declared.stop.Stop.{Stop}
-use Rattle.site_replica.specs.Replica.{setting_of}
+use Rattle.byte_output.proofs.TakenLemmas.{Appends-nothing}
+use Rattle.script.specs.declared.stop.Stop.{Stop}
+use Rattle.site.specs.Replica.{setting_of}
 use Rattle.site_service.specs.Answering.{LeavesAnswers, LeavesLines, order_after}
 use Rattle.site_service.proofs.LinesLemmas.{at_start, leaves_err, so_far_answered, written_onto}
 use Rattle.site_service.proofs.lines.answer_lines.Goals as goal

@@ -1,6 +1,6 @@
 use Rattle.std.proofs.Common.{◌≡◌, [], ℕ, List, Some}
 use Rattle.std.specs.Io.KnownBytes.{Appends}
-use Rattle.site_replica.specs.Replica.{setting_of}
+use Rattle.site.specs.Replica.{setting_of}
 use Rattle.site_service.specs.Answering.{ComesTo}
 use Rattle.site_service.proofs.lines.answer_lines.Given as goal
 

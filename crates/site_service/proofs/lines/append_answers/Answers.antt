@@ -1,8 +1,8 @@
 use Rattle.std.proofs.Common.{Some, None, Ok, Err, IfSome, length, refl, sym, ap, subst, ◌≡◌, ◌∙◌, ◌+◌}
 use Rattle.std.proofs.lemmas.Result.{err_from_is_err_and}
-use Rattle.script_stops.specs.declared.stop.Stop.{Stop}
-use Rattle.output_sink.specs.Taken.{HasTakenMore, nothing_more}
-use Rattle.site_replica.specs.Replica.{setting_of}
+use Rattle.script.specs.declared.stop.Stop.{Stop}
+use Rattle.byte_output.specs.Taken.{HasTakenMore, nothing_more}
+use Rattle.site.specs.Replica.{setting_of}
 use Rattle.site_service.specs.Answering.{ComesTo, GivesLines, IsNoText, order_after}
 use Rattle.site_service.proofs.LinesLemmas.{appended_onto, at_start, so_far_answered}
 use Rattle.site_service.proofs.lines.append_answers.Goals as goal

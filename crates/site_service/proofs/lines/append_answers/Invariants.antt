@@ -1,7 +1,7 @@
 use Rattle.std.proofs.Common.{◌≡◌, ℕ, List, Some}
-use Rattle.output_sink.specs.Taken.{HasTakenMore}
+use Rattle.byte_output.specs.Taken.{HasTakenMore}
 use Rattle.site_model.specs.Order.{Order}
-use Rattle.site_replica.specs.Replica.{StandsForOrder, setting_of}
+use Rattle.site.specs.Replica.{StandsForOrder, setting_of}
 use Rattle.site_service.specs.Answering.{ComesTo}
 use Rattle.site_service.proofs.lines.append_answers.Given as goal
 

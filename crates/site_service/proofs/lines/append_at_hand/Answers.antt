@@ -1,8 +1,8 @@
 use Rattle.std.proofs.Common.{◌≡◌, ◌++◌, ◌∙◌, ap, rules}
 use Rattle.byte_output.specs.Pending.{output_of}
-use Rattle.output_sink.specs.Taken.{HasTakenMore}
-use Rattle.output_sink.proofs.TakenLemmas.{taken_by}
-use Rattle.site_replica.specs.Replica.{setting_of}
+use Rattle.byte_output.specs.Taken.{HasTakenMore}
+use Rattle.byte_output.proofs.TakenLemmas.{taken_by}
+use Rattle.site.specs.Replica.{setting_of}
 use Rattle.site_service.specs.Answering.{IsAppended, IsNoText}
 use Rattle.site_service.proofs.LinesLemmas.{gives_so}
 use Rattle.site_service.proofs.lines.append_at_hand.Goals as goal

@@ -1,7 +1,7 @@
 use Rattle.std.proofs.Common.{[], subst}
-use Rattle.output_sink.specs.Taken.{HasTakenMore, nothing_more}
-use Rattle.site_input.specs.Lines.{IsNextLine}
-use Rattle.site_replica.specs.Replica.{setting_of}
+use Rattle.byte_output.specs.Taken.{HasTakenMore, nothing_more}
+use Rattle.site_service.specs.InputLines.{IsNextLine}
+use Rattle.site.specs.Replica.{setting_of}
 use Rattle.site_service.specs.Answering.{IsNoText}
 use Rattle.site_service.proofs.AnswersLemmas.{nothing_answered_of}
 use Rattle.site_service.proofs.LinesLemmas.{input_fails, line_goes, long_goes, nothing_taken, wants}

@@ -1,6 +1,6 @@
 use Rattle.std.proofs.Common.{◌∙◌, Err, ap, rules}
 use Rattle.std.proofs.lemmas.Result.{err_from_is_err_and}
-use Rattle.site_settings.specs.Settings.{settings_say}
+use Rattle.site_service.specs.Settings.{settings_say}
 use Rattle.site_service.proofs.EndLemmas.{unread, wants_first}
 use Rattle.site_service.proofs.service.serve.Goals as goal
 

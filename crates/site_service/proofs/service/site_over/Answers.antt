@@ -1,4 +1,4 @@
-use Rattle.site_settings.specs.Settings.{settings_say}
+use Rattle.site_service.specs.Settings.{settings_say}
 use Rattle.site_service.specs.Leaving.{AreUntouched}
 use Rattle.site_service.proofs.EndLemmas.{if_known, if_ok, leaves_some, leaves_whole, tells_failure}
 use Rattle.site_service.proofs.service.site_over.Goals as goal

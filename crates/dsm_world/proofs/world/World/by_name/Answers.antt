@@ -1,8 +1,8 @@
 use Rattle.std.proofs.Common.{◌≡◌, List, option_map, ap, ◌∙◌}
 use Rattle.log_model.specs.Log.{Catalogue, by_name}
 use Rattle.replica.specs.Replica.{Replica}
-use Rattle.stored_procedures.specs.Held.{ListedProcedure, stored_procedures}
-use Rattle.world_steps.proofs.CallLemmas.{some_is}
+use Rattle.catalogue.specs.Stored.{ListedProcedure, stored_procedures}
+use Rattle.dsm_world.proofs.CallLemmas.{some_is}
 use Rattle.dsm_world.proofs.world.World.by_name.Goals as goal
 
 pub returns-clause-there : goal.returns-clause-there

@@ -1,9 +1,9 @@
 use Rattle.std.proofs.Common.{sym, ap, ◌∙◌, arith}
 use Rattle.dsm_model.specs.World.{numbered}
 use Rattle.replica.specs.Replica.{entries_of}
-use Rattle.world_steps.specs.System.{SystemWorld}
-use Rattle.world_steps.proofs.Numbered.{numbered_at}
-use Rattle.world_steps.proofs.ReplicaLemmas.{get_is, get_in_code}
+use Rattle.dsm_world.specs.System.{SystemWorld}
+use Rattle.dsm_world.proofs.Numbered.{numbered_at}
+use Rattle.dsm_world.proofs.ReplicaLemmas.{get_is, get_in_code}
 use Rattle.dsm_world.proofs.world.World.entry.Goals as goal
 
 pub returns : goal.returns

@@ -7,8 +7,8 @@ use Rattle.dsm_model.specs.Sound.{IsSerialReply, IsSound, IsWorld}
 use Rattle.dsm_model.specs.World.{numbered, open_call}
 use Rattle.replica.specs.Replica.{AreEntriesOf}
 use Rattle.catalogue.specs.Catalogue.{IsCatalogue}
-use Rattle.world_steps.specs.System.{SystemWorld, setting_of, world_of, KeepsDelivered}
-use Rattle.world_steps.specs.Holdings.{system_of, call_slots}
+use Rattle.dsm_world.specs.System.{SystemWorld, setting_of, world_of, KeepsDelivered}
+use Rattle.dsm_world.specs.Holdings.{system_of, call_slots}
 use Rattle.dsm_world.proofs.RunLemmas.{keeps_delivered}
 use Rattle.dsm_world.proofs.world.World.keeps_what_was_delivered.Goals as goal
 

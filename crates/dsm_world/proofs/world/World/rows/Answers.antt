@@ -3,7 +3,7 @@ use Rattle.std.specs.FinMap.{entries}
 use Rattle.log_model.specs.Log.{rows_after}
 use Rattle.log_model.specs.Entries.{items_of}
 use Rattle.dsm_model.specs.World.{numbered}
-use Rattle.world_steps.specs.System.{setting_of}
+use Rattle.dsm_world.specs.System.{setting_of}
 use Rattle.dsm_world.proofs.RowLemmas.{rows_listed}
 use Rattle.dsm_world.proofs.world.World.rows.Goals as goal
 

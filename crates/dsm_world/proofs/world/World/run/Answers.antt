@@ -5,13 +5,13 @@ use Rattle.log_model.specs.declared.verdict.Verdict.TheVariants.{Commit}
 use Rattle.dsm_model.specs.declared.outcome.Outcome.TheVariants.{Exit, Ordered}
 use Rattle.bpf_semantics.specs.Path.{longest_path}
 use Rattle.log_model.specs.Log.{Setting, procedure_of, run_in, verdict_of}
-use Rattle.model_laws.specs.Worlds.{HasExited, IsCallNumbered, turns_of}
+use Rattle.dsm_model.specs.Worlds.{HasExited, IsCallNumbered, turns_of}
 use Rattle.dsm_model.specs.World.{Turn as TurnStep, Order as OrderStep, IsStep, AreSteps}
 use Rattle.dsm_model.specs.Sound.{IsGiven, AreGiven, IsSerialReply}
-use Rattle.world_steps.specs.System.{setting_of, world_of, step_of}
+use Rattle.dsm_world.specs.System.{setting_of, world_of, step_of}
 use Rattle.std.specs.Prelude.{slice_index_or}
-use Rattle.world_steps.specs.declared.step.Step.{Step}
-use Rattle.world_steps.specs.declared.step.Step.TheVariants.{Begin}
+use Rattle.dsm_world.specs.declared.step.Step.{Step}
+use Rattle.dsm_world.specs.declared.step.Step.TheVariants.{Begin}
 use Rattle.replica.proofs.EntryLemmas.{take_all}
 use Rattle.dsm_world.proofs.RunLemmas.{no_steps, one_more_step, one_more_given, one_more_answer}
 use Rattle.dsm_world.proofs.world.World.run.Goals as goal

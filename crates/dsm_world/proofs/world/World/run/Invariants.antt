@@ -1,7 +1,7 @@
 use Rattle.std.proofs.Common.{◌≡◌, ◌≤◌, length, map, take, vec_len, vec_capacity}
 use Rattle.dsm_model.specs.World.{AreSteps}
 use Rattle.dsm_model.specs.Sound.{AreGiven}
-use Rattle.world_steps.specs.System.{setting_of, world_of, step_of}
+use Rattle.dsm_world.specs.System.{setting_of, world_of, step_of}
 use Rattle.dsm_world.proofs.world.World.run.Given as goal
 
 abbrev pub invariant-loop-step : goal.invariant-loop-step

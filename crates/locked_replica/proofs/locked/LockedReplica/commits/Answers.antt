@@ -2,7 +2,7 @@ use Rattle.std.proofs.Common.{◌∙◌, ◌≤◌, length, arith}
 use Rattle.log_model.specs.Entries.{items_of}
 use Rattle.replica.specs.Replica.{entries_of}
 use Rattle.replica.proofs.EntryLemmas.{items_count}
-use Rattle.ordered_entries.proofs.EntryLemmas.{entries_count}
+use Rattle.locked_replica.proofs.EntryLemmas.{entries_count}
 use Rattle.locked_replica.proofs.CommitLemmas.{counted, all_counted}
 use Rattle.locked_replica.proofs.locked.LockedReplica.commits.Goals as goal
 

@@ -3,7 +3,7 @@ use Rattle.log_entry.specs.declared.entry.Entry.{Entry as LogEntry}
 use Rattle.log_entry.specs.Kind.{entry_of}
 use Rattle.order_log.specs.Facts.{HasFactAfter}
 use Rattle.replica.specs.Replica.{entries_of, writes_in}
-use Rattle.ordered_entries.specs.Ordered.{IsOrdered}
+use Rattle.locked_replica.specs.Ordered.{IsOrdered}
 use Rattle.locked_replica.specs.Locked.{LockedState}
 use Rattle.locked_replica.proofs.LockedLemmas.{keeps_more, verdict_more}
 use Rattle.locked_replica.proofs.locked.LockedReplica.deliver.Goals as goal

@@ -1,6 +1,6 @@
 use Rattle.std.proofs.Common.{◌∙◌, sym, ap, option_map, arith}
 use Rattle.bpf_semantics.proofs.StepLemmas.{bound, called_place}
-use Rattle.plain_helpers.specs.State.{state_of}
+use Rattle.plain_runner.specs.State.{state_of}
 use Rattle.plain_runner.proofs.step.Moment.call.Goals as goal
 
 -- a helper leaves slot and count

@@ -1,7 +1,7 @@
 use Rattle.std.proofs.Common.{◌∙◌, sym, ap, arith}
 use Rattle.std.proofs.lemmas.Int.{ints, to_z-of_z}
 use Rattle.bpf_semantics.specs.Step.{execute}
-use Rattle.plain_helpers.specs.State.{state_of}
+use Rattle.plain_runner.specs.State.{state_of}
 use Rattle.plain_runner.proofs.step.Moment.execute.Goals as goal
 
 pub returns-in-Load : goal.returns-in-Load

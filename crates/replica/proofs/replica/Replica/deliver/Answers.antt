@@ -3,7 +3,7 @@ use Rattle.std.specs.Prelude.{Some}
 use Rattle.log_model.specs.Log.{Catalogue, verdict_of}
 use Rattle.log_entry.specs.Kind.{entry_of}
 use Rattle.log_model.specs.Entries.{Entry, items_of}
-use Rattle.stored_procedures.specs.Held.{AreForTables}
+use Rattle.catalogue.specs.Stored.{AreForTables}
 use Rattle.replica.specs.Replica.{Replica, StandsFor, AreEntriesOf}
 use Rattle.replica.proofs.LogLemmas.{delivered_verdict}
 use Rattle.replica.proofs.replica.Replica.deliver.Goals as goal

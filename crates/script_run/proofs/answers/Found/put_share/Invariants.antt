@@ -1,5 +1,5 @@
 use Rattle.std.proofs.Common.{◌≡◌, ℕ, List, All, vec_len}
-use Rattle.script_calls.specs.declared.call.ScriptCall.{ScriptCall}
+use Rattle.script_run.specs.declared.call.ScriptCall.{ScriptCall}
 use Rattle.script_run.specs.Answered.{AreFoundOf, IsMadeCall}
 use Rattle.script_run.proofs.answers.Found.put_share.Given as goal
 

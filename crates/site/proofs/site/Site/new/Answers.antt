@@ -1,5 +1,5 @@
 use Rattle.std.proofs.Common.{[], sym, subst}
-use Rattle.site_replica.specs.Replica.{StandsForLog, setting_of}
+use Rattle.site.specs.Replica.{StandsForLog, setting_of}
 use Rattle.site.proofs.site.Site.new.Goals as goal
 
 pub invariant_of-result : goal.invariant_of-result

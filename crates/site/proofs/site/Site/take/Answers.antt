@@ -1,6 +1,6 @@
 use Rattle.std.proofs.Common.{◌≡◌, [], ◌∷◌, ◌++◌, subst}
 use Rattle.site_model.specs.Order.{next_outcome, order_entries}
-use Rattle.site_replica.specs.Replica.{SiteReplica, StandsForOrder, setting_of}
+use Rattle.site.specs.Replica.{SiteReplica, StandsForOrder, setting_of}
 use Rattle.site.proofs.TakeLemmas.{order_taken}
 use Rattle.site.proofs.site.Site.take.Goals as goal
 

@@ -1,4 +1,0 @@
-pub mod Opcode
-pub mod Uses
-pub mod Fields
-pub mod Spelling

@@ -1,0 +1,57 @@
+-- What a world holds, and how its parts fit together. No clause of a `World` speaks of it.
+use Rattle.std.specs.Prelude.{◌≡◌, ℕ, List, map, take, slice_get, Option, Some, option_map}
+use Rattle.std.specs.List.{AllByRecursion}
+use Rattle.schema.specs.Rows.{AreWrites}
+use Rattle.rows_mv.specs.Versions.{HaveTables}
+use Rattle.catalogue.specs.Stored.{AreForTables}
+use Rattle.catalogue.specs.Catalogue.{SystemCatalogue}
+use Rattle.replica.specs.Replica.{Replica, StandsFor, AreEntriesOf, IsForTables, IsNamed, entries_of, writes_in}
+use Rattle.log_model.specs.Entries.{Entry, items_of}
+use Rattle.dsm_model.specs.World.{addition_count}
+use Rattle.call_model.specs.OpenCall.{OpenCall}
+use Rattle.dsm_model.specs.Sound.{IsWorld}
+use Rattle.world_calls.specs.OpenCall.{open_call_of, Follows}
+use Rattle.world_calls.specs.declared.open_call.OpenCall.{OpenCall as OpenCallState}
+use Rattle.dsm_world.specs.declared.holdings.Holdings.{Holdings}
+use Rattle.dsm_world.specs.System.{SystemWorld, setting_of, world_of}
+
+-- a replica of this catalogue has delivered a beginning of the entries
+pub record IsReplicaOf (catalogue : SystemCatalogue) (window : ℕ) (entries : List Entry) (r : Replica) : Type 0 where
+  pub stands : StandsFor catalogue.procedures r (take r.position entries)
+  pub same_window : r.window ≡ window
+  pub have : HaveTables catalogue.tables r.versions.tables
+  pub for_tables : AreForTables catalogue.tables r.procedures
+
+abbrev pub open_calls_of : {A : Type 0} → List (Option (OpenCallState A)) → List (Option OpenCall)
+open_calls_of slots = map (λ slot. option_map open_call_of slot) slots
+
+-- the entries carry their runs, each replica has delivered a beginning of them, and each open call follows its run
+pub record IsTogether {A : Type 0} (s : SystemWorld) (slots : List (Option (OpenCallState A))) : Type 0 where
+  pub entries : AreEntriesOf (setting_of s) s.entries
+  pub writes : AllByRecursion (λ e. AreWrites s.catalogue.tables (writes_in e)) s.entries
+  pub named : AllByRecursion IsNamed s.entries
+  pub world : IsWorld (setting_of s) (world_of s)
+  pub replicas : (k : ℕ) (r : Replica) → slice_get s.replicas k ≡ Some r → IsReplicaOf s.catalogue s.window s.entries r
+  pub calls : s.calls ≡ open_calls_of slots
+  pub open_calls : (k : ℕ) (c : OpenCallState A) → slice_get slots k ≡ Some (Some c) → Follows (setting_of s) (items_of s.entries) c
+
+-- ---- in code
+
+-- the open calls, out of their boxes
+abbrev pub call_slots : {A : Type 0} → Holdings A → List (Option (OpenCallState A))
+call_slots h = map (λ slot. option_map (λ b. b.value) slot) h.calls.items
+
+abbrev pub system_of : {A : Type 0} → Holdings A → SystemWorld
+system_of h = record {
+  catalogue = h.catalogue;
+  window = h.window;
+  entries = entries_of h.entries.items;
+  replicas = h.replicas.items;
+  calls = open_calls_of (call_slots h);
+}
+
+-- they fit together, the programs of additions were accepted for the catalogue's tables, and additions are counted
+pub record AreConsistentHoldings {A : Type 0} (h : Holdings A) : Type 0 where
+  pub together : IsTogether (system_of h) (call_slots h)
+  pub for_tables : AllByRecursion (IsForTables h.catalogue.tables) h.entries.items
+  pub additions : h.additions ≡ addition_count (items_of (entries_of h.entries.items))

@@ -1,0 +1,61 @@
+//! A call is ordered.
+
+ghost use Rattle.std.specs.Prelude.{◌≡◌, ◌⊎◌, ◌++◌, [], ◌∷◌};
+ghost use Rattle.dsm_model.specs.World.{Order, IsStep};
+ghost use Rattle.dsm_world.specs.System.{setting_of, world_of};
+ghost use Rattle.dsm_world.specs.Holdings.{system_of, AreConsistentHoldings};
+ghost use Rattle.log_model.specs.Entries.{CallEntry};
+ghost use Rattle.log_entry.specs.declared.entry.Entry.TheVariants.{Call as LogCall};
+ghost use Rattle.replica.specs.Replica.{entries_of};
+ghost use Rattle.dsm_world.specs.Turned.{IsAppended};
+
+use crate::begin::MAX_CALLS;
+use crate::calls::{end_call, put_call, take_call};
+use crate::holdings::Holdings;
+use dsm_model::{Outcome, StepRefusal, steps_keep_a_world};
+use log_entry::{Entry, ExecutedCall};
+use log_model::{a_log_only_grows, one_more_entry_carries_its_run};
+use std::alloc::Allocator;
+use world_calls::Completion;
+
+/// Orders a call that is at its end.
+pub(crate) fn order<A: Allocator + Copy>(world: &mut Holdings<A>, call: u32) -> Outcome
+    requires { AreConsistentHoldings world.old }
+    ensures step { IsStep (setting_of (system_of world.old)) (world_of (system_of world.old)) (Order call)
+        result (world_of (system_of world.new)) }
+    ensures setting { setting_of (system_of world.new) ≡ setting_of (system_of world.old) }
+    ensures consistent { AreConsistentHoldings world.new }
+{
+    a_log_only_grows();
+    one_more_entry_carries_its_run();
+    steps_keep_a_world();
+    let Some((at, open_call)) = take_call(&mut world.calls, call) else {
+        return Outcome::Refused(StepRefusal::NoCall);
+    };
+    let Some(_reply) = open_call.reply() else {
+        put_call(&mut world.calls, at, open_call);
+        return Outcome::Refused(StepRefusal::NotAtExit);
+    };
+    match end_call(&mut world.spare, world.alloc, open_call) {
+        Completion::Cancelled { snapshot, code } => Outcome::Cancelled { snapshot, code },
+        Completion::Read { snapshot, reply } => Outcome::Read { snapshot, reply },
+        Completion::Wrote(call) => append(&mut world.entries, call),
+    }
+}
+
+/// Puts a call behind the other entries.
+fn append<A: Allocator + Copy>(entries: &mut Vec<Entry<A>, A>, call: ExecutedCall<A>) -> Outcome
+    ensures appended { IsAppended (entries_of entries.old.items) (CallEntry call) result
+        (entries_of entries.new.items) }
+    ensures left { (entries.new.items ≡ entries.old.items)
+        ⊎ (entries.new.items ≡ entries.old.items ++ LogCall call ∷ []) }
+{
+    if entries.len() >= MAX_CALLS {
+        return Outcome::Refused(StepRefusal::LogFull);
+    }
+    let position = entries.len() as u32 + 1;
+    if entries.push(Entry::Call(call)).is_err() {
+        return Outcome::Refused(StepRefusal::NoMemory);
+    }
+    Outcome::Ordered { position }
+}

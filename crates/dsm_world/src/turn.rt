@@ -1,0 +1,122 @@
+//! A call runs on: one instruction further, or to its end.
+
+ghost use Rattle.std.specs.Prelude.{◌≡◌, ◌≢◌, ◌<◌, ℕ, true};
+ghost use Rattle.bpf_code.specs.Program.{max_slots};
+ghost use Rattle.bpf_vm.specs.declared.turn.Turn.TheVariants as answer;
+ghost use Rattle.log_model.specs.Log.{Setting, Log};
+ghost use Rattle.world_calls.specs.OpenCall.{CanGoOn, AreTurns, open_call_of, stays_open};
+ghost use Rattle.dsm_model.specs.declared.outcome.Outcome.TheVariants.{More};
+ghost use Rattle.dsm_model.specs.World.{Turn as TurnStep, IsStep};
+ghost use Rattle.dsm_world.specs.declared.turn.TurnCount.TheVariants.{One, ToTheEnd};
+ghost use Rattle.dsm_world.specs.System.{setting_of, world_of};
+ghost use Rattle.dsm_world.specs.Execution.{IsExecution};
+ghost use Rattle.dsm_world.specs.Holdings.{system_of, AreConsistentHoldings};
+ghost use Rattle.dsm_world.specs.Turned.{outcome_of};
+
+use crate::calls::{put_call, take_call};
+use crate::holdings::Holdings;
+use bpf_verify::Accepted;
+use bpf_vm::Turn;
+use dsm_model::{Outcome, StepRefusal, steps_keep_a_world};
+use log_model::{a_log_only_grows, entries_suffice, procedures_are_never_lost};
+use replica::replicas_follow_the_log;
+use std::alloc::Allocator;
+use txn_view::Store;
+use world_calls::{OpenCall, stays_open};
+
+/// How many turns a call has in one go.
+#[derive(Clone, Copy)]
+pub(crate) enum TurnCount {
+    One,
+    /// Up to the first that doesn't answer that there is more.
+    ToTheEnd,
+}
+
+/// Runs a call one instruction further.
+pub(crate) fn turn<A: Allocator + Copy>(world: &mut Holdings<A>, call: u32) -> Outcome
+    requires { AreConsistentHoldings world.old }
+    ensures step { IsStep (setting_of (system_of world.old)) (world_of (system_of world.old)) (TurnStep call)
+        result (world_of (system_of world.new)) }
+    ensures setting { setting_of (system_of world.new) ≡ setting_of (system_of world.old) }
+    ensures consistent { AreConsistentHoldings world.new }
+{
+    run_on(world, call, TurnCount::One)
+}
+
+/// Runs a call to its end.
+pub fn exec<A: Allocator + Copy>(world: &mut Holdings<A>, call: u32) -> Outcome
+    requires { AreConsistentHoldings world.old }
+    ensures turns { (before : ℕ) × (before < max_slots)
+        × IsExecution (setting_of (system_of world.old)) (world_of (system_of world.old)) call before
+        result (world_of (system_of world.new)) }
+    ensures ends { result ≢ More }
+    ensures setting { setting_of (system_of world.new) ≡ setting_of (system_of world.old) }
+    ensures consistent { AreConsistentHoldings world.new }
+{
+    run_on(world, call, TurnCount::ToTheEnd)
+}
+
+/// So many turns of a call: what the last of them answers.
+fn run_on<A: Allocator + Copy>(world: &mut Holdings<A>, call: u32, count: TurnCount) -> Outcome
+    requires { AreConsistentHoldings world.old }
+    ensures turns { (before : ℕ) × (before < max_slots) × (count ≡ One → before ≡ 0)
+        × IsExecution (setting_of (system_of world.old)) (world_of (system_of world.old)) call before
+        result (world_of (system_of world.new)) }
+    ensures ends { count ≡ ToTheEnd → result ≢ More }
+    ensures setting { setting_of (system_of world.new) ≡ setting_of (system_of world.old) }
+    ensures consistent { AreConsistentHoldings world.new }
+{
+    a_log_only_grows();
+    entries_suffice();
+    procedures_are_never_lost();
+    replicas_follow_the_log();
+    steps_keep_a_world();
+    let Some((at, mut open_call)) = take_call(&mut world.calls, call) else {
+        return Outcome::Refused(StepRefusal::NoCall);
+    };
+    let replica = &world.replicas[open_call.replica as usize - 1];
+    let Some(accepted) = replica.procedures().by_number(open_call.procedure) else {
+        unreachable!()
+    };
+    let store = replica.at(open_call.snapshot);
+    let answer = take_turns(&mut *open_call, world.alloc, accepted, store, count);
+    if !stays_open(answer) {
+        return outcome_of(answer);
+    }
+    put_call(&mut world.calls, at, open_call);
+    outcome_of(answer)
+}
+
+/// So many turns of an open call: what the last of them answers.
+fn take_turns<A: Allocator + Copy, P: Allocator, Q: Allocator, S: Store + Drop>(
+    open_call: &mut OpenCall<A>,
+    alloc: A,
+    accepted: &Accepted<P, Q>,
+    store: S,
+    count: TurnCount,
+) -> Turn
+    requires { (w : Setting) × (log : Log) × CanGoOn w log accepted.now (S.answers_from store) open_call.old }
+    ensures turns { (w : Setting) (log : Log) → CanGoOn w log accepted.now (S.answers_from store) open_call.old
+        → (before : ℕ) × (before < max_slots) × (count ≡ One → before ≡ 0)
+        × AreTurns w log (S.is_gone store) before (open_call_of open_call.old) result (open_call_of open_call.new) }
+    ensures ends { count ≡ ToTheEnd → result ≢ answer.More }
+    ensures goes_on { (w : Setting) (log : Log) → CanGoOn w log accepted.now (S.answers_from store) open_call.old
+        → stays_open result ≡ true → CanGoOn w log accepted.now (S.answers_from store) open_call.new }
+{
+    match count {
+        TurnCount::One => open_call.turn(alloc, accepted, store),
+        TurnCount::ToTheEnd => open_call.run(alloc, accepted, store),
+    }
+}
+
+/// What the world answers.
+fn outcome_of(answer: Turn) -> Outcome
+    ensures { result ≡ outcome_of answer }
+{
+    match answer {
+        Turn::More => Outcome::More,
+        Turn::Exit(reply) => Outcome::Exit { reply },
+        Turn::Stale => Outcome::Stale,
+        Turn::NoMemory => Outcome::NoMemory,
+    }
+}

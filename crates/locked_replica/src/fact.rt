@@ -1,0 +1,30 @@
+use order_log::{Fact, LogIdentity};
+use std::marker::{Brand, PhantomData};
+
+/// The log of one database: its setting goes with its identity.
+pub trait LogSetting: LogIdentity {
+    ghost use Rattle.log_model.specs.Log.{Setting};
+
+    /// Tables, procedures at first, and the window.
+    ghost setting: { Setting };
+}
+
+impl LogSetting for Brand {
+    ghost use Rattle.std.specs.Prelude.{[]};
+    ghost use Rattle.std.specs.FinMap.{empty};
+
+    ghost setting = { record { tables = empty; catalogue = []; window = 0 } };
+}
+
+/// The fact of the entries of a database's log: a call is one, carries its run, and writes what is the schema's; an
+/// addition has a name and a program that was accepted for the schema.
+#[derive(Drop)]
+pub struct OrderedEntries<J: LogSetting> {
+    of: PhantomData<J>,
+}
+
+impl<J: LogSetting> Fact for OrderedEntries<J> {
+    ghost use Rattle.locked_replica.specs.Ordered.{IsOrdered};
+
+    ghost shows = { λ before e. IsOrdered J.setting before e };
+}

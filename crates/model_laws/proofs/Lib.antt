@@ -1,7 +1,0 @@
-mod SerialLemmas
-mod ContentsLemmas
-mod PartLemmas
-mod TurnLemmas
-mod RefusalLemmas
-mod AgreeLemmas
-mod ToldLemmas

@@ -1,8 +1,0 @@
-use Rattle.model_laws.proofs.ToldLemmas.{entry_carries, entry_reply}
-use Rattle.model_laws.proofs.log.entries_carry_serial_replies.Goals as goal
-
-pub returns-clause-carried : goal.returns-clause-carried
-returns-clause-carried c = entry_carries
-
-pub returns-clause-serial : goal.returns-clause-serial
-returns-clause-serial c = entry_reply

@@ -1,2 +1,0 @@
-pub mod Crew
-pub mod Size

@@ -1,5 +1,0 @@
-use Rattle.order_tests.proofs.tests.threads.four_threads_append_while_two_read.Given as goal
-
--- the log whose cells were just made
-abbrev pub ghosts-try_crowd : goal.ghosts-try_crowd
-ghosts-try_crowd g a = record { groups = a.cells }

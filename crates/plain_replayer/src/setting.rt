@@ -1,0 +1,154 @@
+//! What all replicas have in common, as the definitions have it.
+
+ghost use Rattle.std.specs.Prelude.{◌≡◌, option_map};
+ghost use Rattle.log_model.specs.Log.{by_name, by_number};
+
+use bpf_code::Code;
+use schema::Schema;
+use std::alloc::{Allocator, Global};
+use std::marker::Model;
+
+/// A stored procedure. Contracts see the definition's record.
+#[derive(Drop)]
+pub struct PlainProcedure<A: Allocator = Global> {
+    name: Vec<u8, A>,
+    number: u16,
+    code: Code<A>,
+    args_len: u16,
+}
+
+impl<A: Allocator> Model for PlainProcedure<A> {
+    ghost use Rattle.log_model.specs.Log.{StoredProcedure};
+
+    ghost Value = { StoredProcedure };
+
+    ghost view = { λ p. record {
+      name = p.name.items;
+      number = p.number;
+      program = p.code;
+      args_len = p.args_len;
+    } };
+}
+
+impl<A: Allocator> PlainProcedure<A> {
+    /// A program under a name and a number, that takes arguments of so many bytes.
+    pub fn new(name: Vec<u8, A>, number: u16, code: Code<A>, args_len: u16) -> PlainProcedure<A>
+        ensures { result ≡ record {
+          name = name.items;
+          number = number;
+          program = code;
+          args_len = args_len;
+        } }
+    {
+        PlainProcedure {
+            name,
+            number,
+            code,
+            args_len,
+        }
+    }
+
+    /// The bytes of its name.
+    pub fn name(&self) -> &[u8]
+        ensures { result.now ≡ self.now.name }
+    {
+        &self.name
+    }
+
+    /// Its number.
+    pub fn number(&self) -> u16
+        ensures { result ≡ self.now.number }
+    {
+        self.number
+    }
+
+    /// Its program.
+    pub fn code(&self) -> &Code<A>
+        ensures { result.now ≡ self.now.program }
+    {
+        &self.code
+    }
+
+    /// How many bytes its arguments have.
+    pub fn args_len(&self) -> u16
+        ensures { result ≡ self.now.args_len }
+    {
+        self.args_len
+    }
+}
+
+/// What all replicas have in common. Contracts see the definition's record.
+#[derive(Drop)]
+pub struct PlainSetting<A: Allocator = Global> {
+    schema: Schema<A>,
+    catalogue: Vec<PlainProcedure<A>, A>,
+    window: u32,
+}
+
+impl<A: Allocator> Model for PlainSetting<A> {
+    ghost use Rattle.log_model.specs.Log.{Setting};
+    ghost use Rattle.plain_replayer.specs.LogCodes.{setting_code};
+
+    ghost Value = { Setting };
+
+    ghost coded = { setting_code };
+
+    ghost view = { λ w. record {
+      tables = w.schema;
+      catalogue = w.catalogue.items;
+      window = w.window;
+    } };
+}
+
+impl<A: Allocator> PlainSetting<A> {
+    /// The tables, the procedures in order of entry, and how many items a verdict goes back.
+    pub fn new(
+        schema: Schema<A>,
+        catalogue: Vec<PlainProcedure<A>, A>,
+        window: u32,
+    ) -> PlainSetting<A>
+        ensures { result ≡ record {
+          tables = schema;
+          catalogue = catalogue.items;
+          window = window;
+        } }
+    {
+        PlainSetting {
+            schema,
+            catalogue,
+            window,
+        }
+    }
+
+    /// The tables.
+    pub fn schema(&self) -> &Schema<A>
+        ensures { result.now ≡ self.now.tables }
+    {
+        &self.schema
+    }
+
+    /// How many items a verdict goes back.
+    pub fn window(&self) -> u32
+        ensures { result ≡ self.now.window }
+    {
+        self.window
+    }
+
+    /// The procedure of a number, the first that was entered.
+    pub fn procedure(&self, number: u16) -> Option<&PlainProcedure<A>>
+        ensures { option_map (λ p. p.now) result ≡ by_number self.now.catalogue number }
+    {
+        self.catalogue
+            .iter()
+            .find(|procedure| procedure.number == number)
+    }
+
+    /// The procedure of a name, the first that was entered.
+    pub fn procedure_named(&self, name: &[u8]) -> Option<&PlainProcedure<A>>
+        ensures { option_map (λ p. p.now) result ≡ by_name self.now.catalogue name.now }
+    {
+        self.catalogue
+            .iter()
+            .find(|procedure| procedure.name.as_slice() == name)
+    }
+}

@@ -1,6 +1,0 @@
-//! A store that answers from a map of rows, for tests and benchmarks.
-#![tactic(auto)]
-
-pub use store::PlainStore;
-
-mod store;

@@ -1,0 +1,98 @@
+//! What ends a script.
+
+ghost use Rattle.std.specs.Prelude.{◌≡◌};
+ghost use Rattle.script.specs.SettingsFault.{cause_of_line_fault};
+ghost use Rattle.script.specs.declared.cause.FaultCause.TheVariants.{NoMemory};
+
+use crate::fault::LineFault;
+use bpf_bytes::DecodeFault;
+use bpf_verify::Refusal;
+use catalogue::CatalogueFault;
+use schema::SchemaFault;
+use std::alloc::AllocError;
+use std::error::Error;
+use std::fmt;
+
+/// Why a script ends, in the order of the printed numbers.
+#[derive(Clone, Copy, Debug)]
+pub enum FaultCause {
+    /// The line says nothing.
+    Line(LineFault),
+    /// The line doesn't stand where it may.
+    Place,
+    /// The table is none of a schema's.
+    Table(SchemaFault),
+    /// The bytes of a procedure are no program.
+    Program(DecodeFault),
+    /// The program isn't accepted.
+    Refused(Refusal),
+    /// The procedure can't be stored.
+    Procedure(CatalogueFault),
+    NoMemory,
+}
+
+impl fmt::Display for FaultCause {
+    ghost use Rattle.script.specs.SettingsFault.{cause_text};
+    ghost use Rattle.std.specs.Prelude.{Some};
+
+    ghost output = { λ cause. Some (cause_text cause) };
+
+    fn fmt<W: fmt::Write>(&self, f: &mut fmt::Formatter<W>) -> fmt::Result {
+        match self {
+            FaultCause::Line(fault) => {
+                let number = fault.number();
+                write!(f, "L{number}")
+            }
+            FaultCause::Place => write!(f, "L5"),
+            FaultCause::Table(fault) => write!(f, "L6 {fault}"),
+            FaultCause::Program(fault) => write!(f, "L7 {fault}"),
+            FaultCause::Refused(refusal) => write!(f, "L7 {refusal}"),
+            FaultCause::Procedure(fault) => write!(f, "L8 {fault}"),
+            FaultCause::NoMemory => write!(f, "L9"),
+        }
+    }
+}
+
+impl Error for FaultCause {}
+
+impl From<LineFault> for FaultCause {
+    ghost from_gives = { λ fault cause. cause ≡ cause_of_line_fault fault };
+
+    fn from(fault: LineFault) -> FaultCause {
+        match fault {
+            LineFault::NoMemory => FaultCause::NoMemory,
+            fault => FaultCause::Line(fault),
+        }
+    }
+}
+
+impl From<AllocError> for FaultCause {
+    ghost from_gives = { λ _ cause. cause ≡ NoMemory };
+
+    fn from(_error: AllocError) -> FaultCause {
+        FaultCause::NoMemory
+    }
+}
+
+/// Why a script ends, and at which of its lines.
+#[derive(Clone, Copy, Debug)]
+pub struct ScriptFault {
+    /// Counted from 1; 0 stands for the script as a whole.
+    pub line: u64,
+    pub cause: FaultCause,
+}
+
+impl fmt::Display for ScriptFault {
+    ghost use Rattle.script.specs.SettingsFault.{script_fault_text};
+    ghost use Rattle.std.specs.Prelude.{Some};
+
+    ghost output = { λ fault. Some (script_fault_text fault) };
+
+    fn fmt<W: fmt::Write>(&self, f: &mut fmt::Formatter<W>) -> fmt::Result {
+        let line = self.line;
+        let cause = self.cause;
+        write!(f, "line {line}: {cause}")
+    }
+}
+
+impl Error for ScriptFault {}

@@ -1,0 +1,86 @@
+//! Reading a whole script.
+
+ghost use Rattle.std.specs.Prelude.{◌≡◌, ◌≤◌, ℕ, List, Some, Ok, IfOk, IfErr};
+ghost use Rattle.schema.specs.declared.limits.TheConstants.{MAX_REPLICAS, MAX_WINDOW};
+ghost use Rattle.script_run.specs.Calls.{at_end, script_says};
+ghost use Rattle.script.specs.Said.{IsStopOf};
+ghost use Rattle.script_run.specs.Reading.{so_far, said_by};
+
+use crate::call::ScriptCall;
+use crate::reading::Reading;
+use catalogue::Catalogue;
+use row_sets::Bytes;
+use script::{
+    FaultCause, LineFault, MAX_LINE, Next, Stop, fault_at, lines_that_are_too_long_are_at_fault,
+    next_line, out_of_memory,
+};
+use std::alloc::{Allocator, Global};
+use std::io;
+use std::io::{BufRead, ErrorKind};
+
+/// A script of settings and calls.
+#[derive(Drop)]
+pub struct CallScript<A: Allocator + Copy = Global> {
+    /// 1 to 4,096.
+    pub window: u32,
+    /// 1 to 8.
+    pub replicas: u32,
+    pub catalogue: Catalogue<A>,
+    /// In the order of their lines.
+    pub calls: Vec<ScriptCall<Bytes<A>>, A>,
+}
+
+/// Reads the script in the input to its end, or to its first fault: settings, and behind them calls.
+pub fn read_script<A: Allocator + Copy, R: BufRead>(
+    alloc: A,
+    input: &mut R,
+) -> Result<CallScript<A>, Stop>
+    ensures exact { IfOk result (λ s. (bytes : List ℕ) → R.remaining input.old ≡ Some bytes
+        → script_says bytes ≡ Ok (said_by s)) }
+    // The first fault; or memory is wanting, or the input failed.
+    ensures stop { IfErr result (λ stop. (bytes : List ℕ) → R.remaining input.old ≡ Some bytes
+        → IsStopOf (script_says bytes) stop) }
+    ensures window { IfOk result (λ script. (1 ≤ script.window) × (script.window ≤ MAX_WINDOW)) }
+    ensures replicas { IfOk result (λ script. (1 ≤ script.replicas) × (script.replicas ≤ MAX_REPLICAS)) }
+{
+    lines_that_are_too_long_are_at_fault();
+    let Ok(mut line) = Vec::with_capacity(alloc, MAX_LINE) else {
+        return Err(out_of_memory(0));
+    };
+    let Ok(mut reading) = Reading::new(alloc) else {
+        return Err(out_of_memory(0));
+    };
+    for number in 1..u64::MAX {
+        match next_line(input, &mut line) {
+            Ok(Next::Line) => {}
+            Ok(Next::AtEnd) => return whole(reading),
+            Ok(Next::TooLong) => {
+                return Err(fault_at(number, FaultCause::Line(LineFault::Bytes)));
+            }
+            Err(error) => return Err(Stop::Input(error)),
+        }
+        if let Err(cause) = reading.take_line(alloc, &line) {
+            return Err(fault_at(number, cause));
+        }
+    }
+    Err(Stop::Input(io::Error::from(ErrorKind::Interrupted)))
+}
+
+/// The script that was read to its end: its window and its replicas have to be set.
+fn whole<A: Allocator + Copy>(reading: Reading<A>) -> Result<CallScript<A>, Stop>
+    ensures exact { IfOk result (λ script. at_end (so_far reading) ≡ Ok (said_by script)) }
+    ensures stop { IfErr result (IsStopOf (at_end (so_far reading))) }
+    ensures window { IfOk result (λ script. (1 ≤ script.window) × (script.window ≤ MAX_WINDOW)) }
+    ensures replicas { IfOk result (λ script. (1 ≤ script.replicas) × (script.replicas ≤ MAX_REPLICAS)) }
+{
+    let Reading { settings, calls } = reading;
+    let (Some(window), Some(replicas)) = (settings.window(), settings.replicas()) else {
+        return Err(fault_at(0, FaultCause::Place));
+    };
+    Ok(CallScript {
+        window,
+        replicas,
+        catalogue: settings.into_catalogue(),
+        calls,
+    })
+}

@@ -1,0 +1,84 @@
+//! What the lines of a script have said so far.
+
+ghost use Rattle.std.specs.Prelude.{◌≡◌, ◌⊎◌, ◌≤◌, Some, Ok, Err, IfOk, IfErr, OnOk, OnErr};
+ghost use Rattle.script.specs.Script.{IsSettingWithinLimits, line_says};
+ghost use Rattle.script.specs.declared.cause.FaultCause.TheVariants.{NoMemory};
+ghost use Rattle.script_run.specs.Calls.{after_line, call_of, nothing_said, with_call, with_setting};
+ghost use Rattle.script_run.specs.Reading.{so_far};
+
+use crate::call::{ScriptCall, call_of};
+use row_sets::Bytes;
+use script::{Action, FaultCause, Setting, Settings, Statement, statement};
+use std::alloc::{AllocError, Allocator};
+
+/// What the lines of a script have said so far.
+#[derive(Drop)]
+pub(crate) struct Reading<A: Allocator + Copy> {
+    pub(crate) settings: Settings<A>,
+    pub(crate) calls: Vec<ScriptCall<Bytes<A>>, A>,
+}
+
+impl<A: Allocator + Copy> Reading<A> {
+    /// Nothing is said.
+    pub(crate) fn new(alloc: A) -> Result<Reading<A>, AllocError>
+        ensures { IfOk result (λ reading. so_far reading ≡ nothing_said) }
+    {
+        Ok(Reading {
+            settings: Settings::new(alloc)?,
+            calls: Vec::new(alloc),
+        })
+    }
+
+    /// Takes one more line.
+    pub(crate) fn take_line(&mut self, alloc: A, line: &[u8]) -> Result<(), FaultCause>
+        ensures ok { OnOk result (after_line (so_far self.old) (line_says line.now) ≡ Ok (so_far self.new)) }
+        ensures fault { IfErr result (λ cause. (cause ≡ NoMemory)
+            ⊎ (after_line (so_far self.old) (line_says line.now) ≡ Err cause)) }
+    {
+        match statement(alloc, line)? {
+            None => Ok(()),
+            Some(Statement::Setting(setting)) => self.set(setting),
+            Some(Statement::Action(action)) => self.begin(action),
+        }
+    }
+
+    /// Takes a setting.
+    fn set(&mut self, setting: Setting<Bytes<A>>) -> Result<(), FaultCause>
+        requires { IsSettingWithinLimits setting }
+        ensures ok { OnOk result (with_setting (so_far self.old) setting ≡ Ok (so_far self.new)) }
+        ensures fault { IfErr result (λ cause. (cause ≡ NoMemory)
+            ⊎ (with_setting (so_far self.old) setting ≡ Err cause)) }
+    {
+        if !self.calls.is_empty() {
+            return Err(FaultCause::Place);
+        }
+        self.settings.set(setting)
+    }
+
+    /// Takes an action: only one that begins a call may stand.
+    fn begin(&mut self, action: Action<Bytes<A>>) -> Result<(), FaultCause>
+        ensures ok { OnOk result (with_call (so_far self.old) (call_of action) ≡ Ok (so_far self.new)) }
+        ensures fault { IfErr result (λ cause. (cause ≡ NoMemory)
+            ⊎ (with_call (so_far self.old) (call_of action) ≡ Err cause)) }
+    {
+        match call_of(action) {
+            Some(call) => self.add(call),
+            None => Err(FaultCause::Place),
+        }
+    }
+
+    /// Takes a call.
+    fn add(&mut self, call: ScriptCall<Bytes<A>>) -> Result<(), FaultCause>
+        ensures ok { OnOk result (with_call (so_far self.old) (Some call) ≡ Ok (so_far self.new)) }
+        ensures fault { IfErr result (λ cause. (cause ≡ NoMemory)
+            ⊎ (with_call (so_far self.old) (Some call) ≡ Err cause)) }
+    {
+        if self.settings.window().is_none() || self.settings.replicas().is_none() {
+            return Err(FaultCause::Place);
+        }
+        match self.calls.push(call) {
+            Ok(()) => Ok(()),
+            Err(_) => Err(FaultCause::NoMemory),
+        }
+    }
+}

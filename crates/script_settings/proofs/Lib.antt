@@ -1,2 +1,0 @@
-mod AcceptanceLemmas
-mod TableLemmas

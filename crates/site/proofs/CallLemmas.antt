@@ -1,0 +1,98 @@
+-- What a call that is asked for comes to, test by test.
+use Rattle.std.proofs.Common.{◌≡◌, ℕ, nat_eq, Bool, true, false, not, cond, List, length, Option, Some, None, option_map, refl, sym, ap, subst, ◌∙◌}
+use Rattle.std.proofs.lemmas.List.{length-map}
+use Rattle.bpf_verify.specs.Flow.{Procedure}
+use Rattle.catalogue.specs.Catalogue.{accepted_of}
+use Rattle.catalogue.specs.Stored.{ListedProcedure, AreForTables, AreStored, listed_by_number, stored_procedures}
+use Rattle.log_model.specs.declared.request.RequestId.{RequestId}
+use Rattle.log_model.specs.Log.{StoredProcedure, Catalogue, Setting, Log, by_name, by_number, first_repeated, history, procedures_after}
+use Rattle.log_model.specs.Entries.{Entry, item_of, items_of}
+use Rattle.log_entry.specs.Head.{is_whole}
+use Rattle.site_model.specs.declared.answer.CallAnswer.TheVariants.{Refused, Repeated}
+use Rattle.site_model.specs.declared.answer.CallRefusal.TheVariants.{NoProcedure, ArgumentsLength, HalfRequest}
+use Rattle.site_model.specs.Order.{reply_at}
+use Rattle.site_model.specs.Answer.{Asked, answer_for, answer_of_run, asked_call, call_answer_behind, unless_repeated}
+use Rattle.site.specs.Replica.{SiteReplica, StandsForLog, setting_of}
+use Rattle.site.proofs.SiteLemmas.{ProceduresSuffice, held_procedures, listed_stored}
+
+module _ (w : Setting) (entries : List Entry) (asked : Asked) where
+  by_found : (o : Option StoredProcedure) → by_name (procedures_after w (items_of entries) (length entries)) asked.name ≡ o → call_answer_behind w entries asked ≡ answer_for w entries asked o
+  unfolding call_answer_behind
+  by_found o e = ap (answer_for w entries asked) e
+
+  pub no_procedure : by_name (procedures_after w (items_of entries) (length entries)) asked.name ≡ None → Refused NoProcedure ≡ call_answer_behind w entries asked
+  no_procedure none = sym (by_found None none)
+
+  module _ (p : StoredProcedure) (some : by_name (procedures_after w (items_of entries) (length entries)) asked.name ≡ Some p) where
+    by_tests : (a b : Bool) → nat_eq p.args_len (length asked.args) ≡ a → is_whole asked.request ≡ b
+        → call_answer_behind w entries asked ≡ cond (not a) (Refused ArgumentsLength) (cond (not b) (Refused HalfRequest) (unless_repeated entries (answer_of_run w (items_of entries) (asked_call (items_of entries) p asked)) (first_repeated (history w (items_of entries)).certified (asked_call (items_of entries) p asked))))
+    by_tests a b as_many whole =
+        by_found (Some p) some
+        ∙ (λ i. cond (not (as_many i)) (Refused ArgumentsLength) (cond (not (whole i)) (Refused HalfRequest) (unless_repeated entries (answer_of_run w (items_of entries) (asked_call (items_of entries) p asked)) (first_repeated (history w (items_of entries)).certified (asked_call (items_of entries) p asked)))))
+
+    pub other_length : nat_eq p.args_len (length asked.args) ≡ false → Refused ArgumentsLength ≡ call_answer_behind w entries asked
+    other_length a = sym (by_tests false (is_whole asked.request) a refl)
+
+    pub half_request : nat_eq p.args_len (length asked.args) ≡ true → is_whole asked.request ≡ false → Refused HalfRequest ≡ call_answer_behind w entries asked
+    half_request a b = sym (by_tests true false a b)
+
+    pub repeated_call : (position : ℕ) → nat_eq p.args_len (length asked.args) ≡ true → is_whole asked.request ≡ true → first_repeated (history w (items_of entries)).certified (asked_call (items_of entries) p asked) ≡ Some position → Repeated position (reply_at entries position) ≡ call_answer_behind w entries asked
+    repeated_call position a b first = sym (by_tests true true a b ∙ ap (unless_repeated entries (answer_of_run w (items_of entries) (asked_call (items_of entries) p asked))) first)
+
+    pub run_call : nat_eq p.args_len (length asked.args) ≡ true → is_whole asked.request ≡ true → first_repeated (history w (items_of entries)).certified (asked_call (items_of entries) p asked) ≡ None → answer_of_run w (items_of entries) (asked_call (items_of entries) p asked) ≡ call_answer_behind w entries asked
+    run_call a b first = sym (by_tests true true a b ∙ ap (unless_repeated entries (answer_of_run w (items_of entries) (asked_call (items_of entries) p asked))) first)
+
+-- ---- the procedure of a name
+
+abbrev pub FoundByNumber : Type 0
+FoundByNumber = (procedures : List ListedProcedure) (name : List ℕ) (p : StoredProcedure) → AreStored procedures → by_name (stored_procedures procedures) name ≡ Some p → by_number (stored_procedures procedures) p.number ≡ Some p
+
+pub record IsFound (s : SiteReplica) (entries : List Entry) (name : List ℕ) (number : ℕ) (found : Option Procedure) : Type 0 where
+  pub p : StoredProcedure
+  pub named : by_name (procedures_after (setting_of s).setting (items_of entries) (length entries)) name ≡ Some p
+  pub number_is : p.number ≡ number
+  pub numbered : by_number (procedures_after (setting_of s).setting (items_of entries) (length entries)) number ≡ Some p
+  pub program : found ≡ Some (accepted_of s.catalogue.tables p)
+
+some_named : (o : Option StoredProcedure) (number : ℕ) → Some number ≡ option_map (λ p. p.number) o → (p : StoredProcedure) × (o ≡ Some p) × (p.number ≡ number)
+some_named None number e = absurd cc
+some_named (Some p) number e = (p, refl, sym (one number p.number e))
+  where
+    one : (a b : ℕ) → Some a ≡ Some b → a ≡ b
+    one a b e = cc
+
+none_named : (o : Option StoredProcedure) → None ≡ option_map (λ p. p.number) o → o ≡ None
+none_named None e = refl
+none_named (Some p) e = absurd cc
+
+module _ (s : SiteReplica) (entries : List Entry) (held : List ListedProcedure) (suffice : ProceduresSuffice) (stands : StandsForLog s entries) (same : held ≡ s.replica.procedures) where
+  of_log : stored_procedures held ≡ procedures_after (setting_of s).setting (items_of entries) (length entries)
+  of_log =
+      ap stored_procedures same ∙ held_procedures s entries suffice stands
+      ∙ ap (procedures_after (setting_of s).setting (items_of entries)) (length-map entries item_of)
+
+  pub none_found_in : (name : List ℕ) → None ≡ option_map (λ p. p.number) (by_name (stored_procedures held) name) → by_name (procedures_after (setting_of s).setting (items_of entries) (length entries)) name ≡ None
+  none_found_in name none = ap (λ (ps : Catalogue). by_name ps name) (sym of_log) ∙ none_named (by_name (stored_procedures held) name) none
+
+  pub found_in : (name : List ℕ) (number : ℕ) (found : Option Procedure) → FoundByNumber → AreStored held → Some number ≡ option_map (λ p. p.number) (by_name (stored_procedures held) name) → found ≡ option_map (λ (l : ListedProcedure). l.accepted) (listed_by_number held number) → IsFound s entries name number found
+  found_in name number found law are named is =
+      let (p, there, of) = some_named (by_name (stored_procedures held) name) number named in
+      let numbered : by_number (stored_procedures held) number ≡ Some p = ap (by_number (stored_procedures held)) (sym of) ∙ law held name p are there in
+      record {
+        p = p;
+        named = ap (λ (ps : Catalogue). by_name ps name) (sym of_log) ∙ there;
+        number_is = of;
+        numbered = ap (λ (ps : Catalogue). by_number ps number) (sym of_log) ∙ numbered;
+        program =
+            is ∙ listed_stored s.catalogue.tables held number (subst (AreForTables s.catalogue.tables) (sym same) stands.for_tables) ∙ ap (option_map (accepted_of s.catalogue.tables)) numbered;
+      }
+
+-- ---- what tests say
+
+pub one_program : (a b : Procedure) → Some a ≡ Some b → a ≡ b
+one_program a b e = cc
+
+pub same_call : (w : Setting) (log : Log) (procedure number : ℕ) (args : List ℕ) (snapshot position : ℕ) (request : RequestId) → procedure ≡ number → snapshot ≡ position
+    → answer_of_run w log (record { number = 0; procedure = procedure; args = args; snapshot = snapshot; request = request }) ≡ answer_of_run w log (record { number = 0; procedure = number; args = args; snapshot = position; request = request })
+same_call w log procedure number args snapshot position request same here =
+    (λ i. answer_of_run w log (record { number = 0; procedure = same i; args = args; snapshot = here i; request = request }))

@@ -1,0 +1,127 @@
+use Rattle.std.proofs.Common.{◌≡◌, ◌∙◌, ℕ, true, false, nat_eq, List, length, Some, None, option_map, sym, ap, subst, arith}
+use Rattle.std.specs.Option.{option_copied}
+use Rattle.std.proofs.lemmas.Bool.Decides.{nat_tests}
+use Rattle.bpf_verify.specs.Flow.{Procedure}
+use Rattle.catalogue.specs.Catalogue.{accepted_of}
+use Rattle.log_model.specs.Log.{Setting, by_number, first_repeated, history, procedures_after}
+use Rattle.log_model.specs.Entries.{Entry, item_of, items_of}
+use Rattle.log_entry.specs.Head.{is_whole}
+use Rattle.replica.specs.Replica.{Replica}
+use Rattle.site_model.specs.declared.answer.CallAnswer.TheVariants.{Repeated}
+use Rattle.site_model.specs.Answer.{asked_call}
+use Rattle.site.specs.Run.{CanRun}
+use Rattle.site.specs.Replica.{setting_of}
+use Rattle.site.proofs.SiteLemmas.{can_run}
+use Rattle.site.specs.Answered.{asked_of}
+use Rattle.site.proofs.CallLemmas.{no_procedure, other_length, half_request, repeated_call, run_call, none_found_in, found_in, one_program, same_call}
+use Rattle.std.proofs.lemmas.List.{length-map}
+use Rattle.site.proofs.asked.call.Goals as goal
+
+pub returns-in_default : goal.returns-in_default
+returns-in_default g c entries stands =
+    let s = c.args.site.now in
+    no_procedure (setting_of s).setting entries (asked_of c.args.asked)
+    (none_found_in s entries c.procedures-procedures.result.now c.entries_suffice.ensures.procedures stands (c.procedures-procedures.ensures ∙ ap (λ (r : Replica). r.procedures) c.replica.ensures) c.args.asked.name.now (sym c.in_default.is ∙ c.by_name.ensures))
+
+pub unreachable-requires : goal.unreachable-requires
+unreachable-requires g c =
+    let (entries, stands) = c.requires.stands in
+    let s = c.args.site.now in
+    let w = (setting_of s).setting in
+    let asked = asked_of c.args.asked in
+    let held : c.procedures-procedures.result.now ≡ s.replica.procedures = c.procedures-procedures.ensures ∙ ap (λ (r : Replica). r.procedures) c.replica.ensures in
+    let f = found_in s entries c.procedures-procedures.result.now c.entries_suffice.ensures.procedures stands held asked.name c.in-Some.procedure (option_copied c.by_number.result) c.found_by_name_is_found_by_number.ensures c.stored_procedures_are_consistent.ensures
+    (sym c.in-Some.is ∙ c.by_name.ensures) c.by_number.ensures in
+    let none = ap option_copied (sym c.in_default-by_number.is) ∙ f.program in
+    cc
+
+pub returns-then-from-asked : goal.returns-then-from-asked
+returns-then-from-asked g c entries stands =
+    let s = c.args.site.now in
+    let w = (setting_of s).setting in
+    let asked = asked_of c.args.asked in
+    let held : c.procedures-procedures.result.now ≡ s.replica.procedures = c.procedures-procedures.ensures ∙ ap (λ (r : Replica). r.procedures) c.replica.ensures in
+    let f = found_in s entries c.procedures-procedures.result.now c.entries_suffice.ensures.procedures stands held asked.name c.in-Some.procedure (option_copied c.by_number.result) c.found_by_name_is_found_by_number.ensures c.stored_procedures_are_consistent.ensures
+    (sym c.in-Some.is ∙ c.by_name.ensures) c.by_number.ensures in
+    let program : Some c.in-Some-by_number.accepted.now ≡ Some (accepted_of s.catalogue.tables f.p) = ap option_copied (sym c.in-Some-by_number.is) ∙ f.program in
+    let count : f.p.args_len ≡ c.in-Some-by_number.accepted.now.args_len = ap (λ (q : Procedure). q.args_len) (sym (one_program c.in-Some-by_number.accepted.now (accepted_of s.catalogue.tables f.p) program)) in
+    let long = c.args_len.ensures.length in
+    let wide = c.from.ensures in
+    let test = c.if-from-asked.true in
+    let other : nat_eq f.p.args_len (length asked.args) ≡ false = grind (arith, nat_tests) in
+    other_length w entries asked f.p f.named other
+
+pub returns-then-not-is_whole : goal.returns-then-not-is_whole
+returns-then-not-is_whole g c entries stands =
+    let s = c.args.site.now in
+    let w = (setting_of s).setting in
+    let asked = asked_of c.args.asked in
+    let held : c.procedures-procedures.result.now ≡ s.replica.procedures = c.procedures-procedures.ensures ∙ ap (λ (r : Replica). r.procedures) c.replica.ensures in
+    let f = found_in s entries c.procedures-procedures.result.now c.entries_suffice.ensures.procedures stands held asked.name c.in-Some.procedure (option_copied c.by_number.result) c.found_by_name_is_found_by_number.ensures c.stored_procedures_are_consistent.ensures
+    (sym c.in-Some.is ∙ c.by_name.ensures) c.by_number.ensures in
+    let program : Some c.in-Some-by_number.accepted.now ≡ Some (accepted_of s.catalogue.tables f.p) = ap option_copied (sym c.in-Some-by_number.is) ∙ f.program in
+    let count : f.p.args_len ≡ c.in-Some-by_number.accepted.now.args_len = ap (λ (q : Procedure). q.args_len) (sym (one_program c.in-Some-by_number.accepted.now (accepted_of s.catalogue.tables f.p) program)) in
+    let long = c.args_len.ensures.length in
+    let wide = c.from.ensures in
+    let test = c.if-from-asked.false in
+    let as_many : nat_eq f.p.args_len (length asked.args) ≡ true = grind (arith, nat_tests) in
+    half_request w entries asked f.p f.named as_many (sym c.is_whole.ensures ∙ c.if-not-is_whole.true)
+
+pub returns-in-Some-repeated : goal.returns-in-Some-repeated
+returns-in-Some-repeated g c entries stands =
+    let s = c.args.site.now in
+    let w = (setting_of s).setting in
+    let asked = asked_of c.args.asked in
+    let held : c.procedures-procedures.result.now ≡ s.replica.procedures = c.procedures-procedures.ensures ∙ ap (λ (r : Replica). r.procedures) c.replica.ensures in
+    let f = found_in s entries c.procedures-procedures.result.now c.entries_suffice.ensures.procedures stands held asked.name c.in-Some.procedure (option_copied c.by_number.result) c.found_by_name_is_found_by_number.ensures c.stored_procedures_are_consistent.ensures
+    (sym c.in-Some.is ∙ c.by_name.ensures) c.by_number.ensures in
+    let program : Some c.in-Some-by_number.accepted.now ≡ Some (accepted_of s.catalogue.tables f.p) = ap option_copied (sym c.in-Some-by_number.is) ∙ f.program in
+    let count : f.p.args_len ≡ c.in-Some-by_number.accepted.now.args_len = ap (λ (q : Procedure). q.args_len) (sym (one_program c.in-Some-by_number.accepted.now (accepted_of s.catalogue.tables f.p) program)) in
+    let long = c.args_len.ensures.length in
+    let wide = c.from.ensures in
+    let test = c.if-from-asked.false in
+    let as_many : nat_eq f.p.args_len (length asked.args) ≡ true = grind (arith, nat_tests) in
+    let whole : is_whole asked.request ≡ true = sym c.is_whole.ensures ∙ c.if-not-is_whole.false in
+    let first : first_repeated (history w (items_of entries)).certified (asked_call (items_of entries) f.p asked) ≡ Some c.in-Some-repeated.position = sym (c.repeated.ensures entries stands) ∙ c.in-Some-repeated.is in
+    ap (Repeated c.in-Some-repeated.position) (c.reply_at-reply.ensures entries (c.replies.ensures ∙ stands.replies))
+    ∙ repeated_call w entries asked f.p f.named c.in-Some-repeated.position as_many whole first
+
+pub complete-requires-clause-can : goal.complete-requires-clause-can
+complete-requires-clause-can g c =
+    let (entries, stands) = c.requires.stands in
+    let s = c.args.site.now in
+    let w = (setting_of s).setting in
+    let asked = asked_of c.args.asked in
+    let held : c.procedures-procedures.result.now ≡ s.replica.procedures = c.procedures-procedures.ensures ∙ ap (λ (r : Replica). r.procedures) c.replica.ensures in
+    let f = found_in s entries c.procedures-procedures.result.now c.entries_suffice.ensures.procedures stands held asked.name c.in-Some.procedure (option_copied c.by_number.result) c.found_by_name_is_found_by_number.ensures c.stored_procedures_are_consistent.ensures
+    (sym c.in-Some.is ∙ c.by_name.ensures) c.by_number.ensures in
+    let here : c.position.result ≡ length entries = c.position.ensures.count entries stands in
+    let program : Some c.in-Some-by_number.accepted.now ≡ option_map (accepted_of s.catalogue.tables) (by_number (procedures_after w (items_of entries) c.position.result) c.in-Some.procedure) =
+    ap option_copied (sym c.in-Some-by_number.is) ∙ f.program ∙ ap (option_map (accepted_of s.catalogue.tables)) (sym (ap (λ (n : ℕ). by_number (procedures_after w (items_of entries) n) c.in-Some.procedure) here ∙ f.numbered)) in
+    subst (λ (r : Replica). (x : Setting) × (es : List Entry) × CanRun x es r c.in-Some-by_number.accepted.now (record { number = 0; procedure = c.in-Some.procedure; args = c.args.asked.args.now; snapshot = c.position.result; request = c.args.asked.request }))
+    (sym c.replica-2.ensures) (w, entries, can_run s entries c.in-Some-by_number.accepted.now (record { number = 0; procedure = c.in-Some.procedure; args = c.args.asked.args.now; snapshot = c.position.result; request = c.args.asked.request }) stands program)
+
+pub returns : goal.returns
+returns g c entries stands =
+    let s = c.args.site.now in
+    let w = (setting_of s).setting in
+    let asked = asked_of c.args.asked in
+    let held : c.procedures-procedures.result.now ≡ s.replica.procedures = c.procedures-procedures.ensures ∙ ap (λ (r : Replica). r.procedures) c.replica.ensures in
+    let f = found_in s entries c.procedures-procedures.result.now c.entries_suffice.ensures.procedures stands held asked.name c.in-Some.procedure (option_copied c.by_number.result) c.found_by_name_is_found_by_number.ensures c.stored_procedures_are_consistent.ensures
+    (sym c.in-Some.is ∙ c.by_name.ensures) c.by_number.ensures in
+    let program : Some c.in-Some-by_number.accepted.now ≡ Some (accepted_of s.catalogue.tables f.p) = ap option_copied (sym c.in-Some-by_number.is) ∙ f.program in
+    let count : f.p.args_len ≡ c.in-Some-by_number.accepted.now.args_len = ap (λ (q : Procedure). q.args_len) (sym (one_program c.in-Some-by_number.accepted.now (accepted_of s.catalogue.tables f.p) program)) in
+    let long = c.args_len.ensures.length in
+    let wide = c.from.ensures in
+    let test = c.if-from-asked.false in
+    let as_many : nat_eq f.p.args_len (length asked.args) ≡ true = grind (arith, nat_tests) in
+    let whole : is_whole asked.request ≡ true = sym c.is_whole.ensures ∙ c.if-not-is_whole.false in
+    let here : c.position.result ≡ length entries = c.position.ensures.count entries stands in
+    let first : first_repeated (history w (items_of entries)).certified (asked_call (items_of entries) f.p asked) ≡ None = sym (c.repeated.ensures entries stands) ∙ c.in_default-repeated.is in
+    let program : Some c.in-Some-by_number.accepted.now ≡ option_map (accepted_of s.catalogue.tables) (by_number (procedures_after w (items_of entries) c.position.result) c.in-Some.procedure) =
+    ap option_copied (sym c.in-Some-by_number.is) ∙ f.program ∙ ap (option_map (accepted_of s.catalogue.tables)) (sym (ap (λ (n : ℕ). by_number (procedures_after w (items_of entries) n) c.in-Some.procedure) here ∙ f.numbered)) in
+    let can = subst (λ (r : Replica). CanRun w entries r c.in-Some-by_number.accepted.now (record { number = 0; procedure = c.in-Some.procedure; args = c.args.asked.args.now; snapshot = c.position.result; request = c.args.asked.request }))
+    (sym c.replica-2.ensures) (can_run s entries c.in-Some-by_number.accepted.now (record { number = 0; procedure = c.in-Some.procedure; args = c.args.asked.args.now; snapshot = c.position.result; request = c.args.asked.request }) stands program) in
+    c.answer_of.ensures w entries (record { number = 0; procedure = c.in-Some.procedure; args = c.args.asked.args.now; snapshot = c.position.result; request = c.args.asked.request }) (c.in_ok-completion.ensures w entries can)
+    ∙ same_call w (items_of entries) c.in-Some.procedure f.p.number c.args.asked.args.now c.position.result (length (items_of entries)) c.args.asked.request (sym f.number_is) (here ∙ sym (length-map entries item_of))
+    ∙ run_call w entries asked f.p f.named as_many whole first

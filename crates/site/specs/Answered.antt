@@ -1,0 +1,33 @@
+-- What is asked and answered in code, and the model's.
+use Rattle.std.specs.Prelude.{ℕ, List}
+pub use Rattle.log_entry.specs.Head.{is_whole}
+use Rattle.log_entry.specs.Head.{NamedProcedure}
+use Rattle.log_entry.specs.Bytes.{entry_bytes}
+use Rattle.log_entry.specs.declared.entry.Entry.{Entry as LogEntry}
+use Rattle.log_entry.specs.Kind.{entry_of}
+use Rattle.site_model.specs.declared.answer.CallAnswer.{CallAnswer}
+use Rattle.site_model.specs.declared.answer.CallAnswer.TheVariants.{Refused, Repeated, Cancelled, Read, Submitted}
+use Rattle.site_model.specs.declared.answer.AdditionAnswer.{AdditionAnswer}
+use Rattle.site_model.specs.declared.answer.AdditionAnswer.TheVariants as addition
+use Rattle.site_model.specs.Answer.{Asked}
+use Rattle.site.specs.declared.asked.Asked.{Asked as AskedCall}
+use Rattle.site.specs.declared.addition.NamedProgram.{NamedProgram}
+
+abbrev pub asked_of : AskedCall → Asked
+asked_of asked = record { name = asked.name.now; args = asked.args.now; request = asked.request }
+
+-- what is to be ordered, by its bytes
+abbrev pub answered : {A : Type 0} → CallAnswer (LogEntry A) → CallAnswer (List ℕ)
+answered (Refused refusal) = Refused refusal
+answered (Repeated position reply) = Repeated position reply
+answered (Cancelled position code) = Cancelled position code
+answered (Read position reply) = Read position reply
+answered (Submitted entry) = Submitted (entry_bytes (entry_of entry))
+
+abbrev pub named_of : NamedProgram → NamedProcedure
+named_of named =
+    record { number = named.number; args_len = named.args_len; name = named.name.now; bytes = named.program.now }
+
+abbrev pub added : {A : Type 0} → AdditionAnswer (LogEntry A) → AdditionAnswer (List ℕ)
+added (addition.Refused refusal) = addition.Refused refusal
+added (addition.Submitted entry) = addition.Submitted (entry_bytes (entry_of entry))

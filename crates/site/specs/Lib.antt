@@ -1,0 +1,6 @@
+pub mod Run
+pub mod SameBytes
+pub mod Replica
+pub mod Standing
+pub mod Taking
+pub mod Answered

@@ -1,0 +1,81 @@
+-- A site, and the order for which it stands.
+use Rattle.std.specs.Prelude.{◌≡◌, ℕ, ◌<◌, ◌≤◌, ◌==◌, find, Bool, false, List, map, length, reverse, Option, Some, None, refl}
+use Rattle.std.specs.Coded.{Coded, code_by, coded×, coded_ℕ, coded_bool, coded_list}
+use Rattle.catalogue.specs.Catalogue.{SystemCatalogue}
+use Rattle.catalogue.specs.Held.{catalogue_code}
+use Rattle.rows_mv.specs.Versions.{HaveTables}
+use Rattle.catalogue.specs.Stored.{AreForTables}
+use Rattle.log_model.specs.Log.{Setting, Log, by_number, procedures_after}
+use Rattle.log_model.specs.Entries.{Entry, items_of}
+use Rattle.replica.specs.Replica.{Replica, StandsFor}
+use Rattle.replica.specs.Codes.{replica_code}
+use Rattle.site_model.specs.Fit.{AreFitEntries}
+use Rattle.site_model.specs.Standing.{SiteSetting}
+use Rattle.site_model.specs.Order.{Order, order_entries, reply_in}
+
+-- the tables and the first procedures, whether procedures may be added, what its replica keeps, the reply at each
+-- position, and the positions of the procedures that were added, by number
+pub record SiteReplica : Type 0 where
+  pub catalogue : SystemCatalogue
+  pub takes_additions : Bool
+  pub replica : Replica
+  pub replies : List ℕ
+  pub additions : List (ℕ × ℕ)
+
+abbrev pub setting_of : SiteReplica → SiteSetting
+setting_of s = record {
+  setting = record { tables = s.catalogue.tables; catalogue = s.catalogue.procedures; window = s.replica.window };
+  takes_additions = s.takes_additions;
+}
+
+-- ---- since when a number is a procedure's
+
+abbrev pub position_of : Option (ℕ × ℕ) → ℕ
+position_of None = 0
+position_of (Some addition) = addition.1
+
+-- the position at which the procedure of a number was added, the last of these; 0 where none was
+abbrev pub since_of : List (ℕ × ℕ) → ℕ → ℕ
+since_of additions number = position_of (find (λ a. a.0 == number) (reverse additions))
+
+-- from its position on a number is that of the same procedure, and before it of none
+pub record KnowsSince (w : Setting) (log : Log) (additions : List (ℕ × ℕ)) : Type 0 where
+  pub reached : (number : ℕ) → since_of additions number ≤ length log
+  pub from : (number position : ℕ) → since_of additions number ≤ position → position ≤ length log
+      → by_number (procedures_after w log position) number ≡ by_number (procedures_after w log (length log)) number
+  pub before : (number position : ℕ) → position < since_of additions number
+      → by_number (procedures_after w log position) number ≡ None
+
+-- ---- the order
+
+abbrev pub reply_of : Entry → ℕ
+reply_of e = reply_in (Some e)
+
+-- what it keeps is of the log of this order
+pub record StandsForLog (s : SiteReplica) (entries : List Entry) : Type 0 where
+  pub running : s.replica.stopped ≡ false
+  pub stands : StandsFor s.catalogue.procedures s.replica entries
+  pub of_log : AreFitEntries (setting_of s).setting entries
+  pub tables : HaveTables s.catalogue.tables s.replica.versions.tables
+  pub for_tables : AreForTables s.catalogue.tables s.replica.procedures
+  pub replies : s.replies ≡ map reply_of entries
+  pub since : KnowsSince (setting_of s).setting (items_of entries) s.additions
+
+abbrev pub StandsForOrder : SiteReplica → Order → Type 0
+StandsForOrder s order = StandsForLog s (order_entries (setting_of s) order)
+
+-- ---- how sites are told from others, as the checker needs it
+
+abbrev pub site_code : Coded SiteReplica
+site_code = code_by (SystemCatalogue × (Bool × (Replica × (List ℕ × List (ℕ × ℕ)))))
+    (coded× catalogue_code (coded× coded_bool (coded× replica_code
+    (coded× (coded_list coded_ℕ) (coded_list (coded× coded_ℕ coded_ℕ))))))
+    (λ s. (s.catalogue, (s.takes_additions, (s.replica, (s.replies, s.additions)))))
+    (λ c. record {
+      catalogue = c.0;
+      takes_additions = c.1.0;
+      replica = c.1.1.0;
+      replies = c.1.1.1.0;
+      additions = c.1.1.1.1;
+    })
+    (λ _. refl)

@@ -1,0 +1,177 @@
+//! What stands at the next position.
+
+ghost use Rattle.std.specs.Prelude.{◌≡◌, ◌-◌, ◌≤◌, false, List, Option, option_map, IfOk};
+ghost use Rattle.std.specs.Option.{option_copied};
+ghost use Rattle.log_model.specs.Log.{Call, Setting, by_number, procedures_after};
+ghost use Rattle.log_model.specs.Entries.{Entry as ModelEntry, items_of};
+ghost use Rattle.catalogue.specs.Catalogue.{accepted_of};
+ghost use Rattle.world_calls.specs.OpenCall.{IsCompletion};
+ghost use Rattle.site_model.specs.Standing.{addition_standing, call_standing, is_decided, run_standing, standing};
+ghost use Rattle.log_entry.specs.declared.entry.Entry.TheVariants.{Addition};
+ghost use Rattle.site.specs.Replica.{StandsForLog, setting_of};
+ghost use Rattle.site.specs.Standing.{IsReady, IsStanding, head_call, head_procedure};
+
+use crate::additions::since;
+use crate::run::{NamedCall, complete};
+use crate::same_bytes::has_bytes;
+use crate::state::SiteReplica;
+use bpf_verify::Accepted;
+use catalogue::{accepted_procedures_are_safe, each_catalogue_is_consistent, is_name};
+use log_entry::{AddedProcedure, AdditionHead, CallHead, Entry, EntryHead, head_of};
+use log_model::{RequestId, entries_suffice};
+use program_checks::check_program;
+use row_sets::Bytes;
+use schema::{MAX_ARGUMENTS, OrNoMemory};
+use site_model::NothingCause;
+use std::alloc::{AllocError, Allocator};
+use std::sync::Arc;
+use world_calls::Completion;
+
+/// What stands at the next position.
+#[derive(Drop)]
+pub enum Standing<A: Allocator + Copy> {
+    StandsAs(Entry<A>),
+    /// A call that is repeated or stale, whatever is told of its run.
+    Decided { snapshot: u32, request: RequestId },
+    Nothing(NothingCause),
+}
+
+impl<A: Allocator + Copy> SiteReplica<A> {
+    /// Whether a call is repeated or stale.
+    pub(crate) fn is_decided(&self, request: RequestId, snapshot: u32) -> bool
+        requires { snapshot ≤ self.now.replica.position }
+        ensures decided { (entries : List ModelEntry) (call : Call) → StandsForLog self.now entries
+            → call.request ≡ request → call.snapshot ≡ snapshot
+            → result ≡ is_decided (setting_of self.now).setting (items_of entries) call }
+        ensures kept { result ≡ false → self.now.replica.position - snapshot ≤ self.now.replica.window }
+    {
+        entries_suffice();
+        self.replica.repeated(request).is_some()
+            || self.replica.position() - snapshot > self.replica.window()
+    }
+
+    /// The program of a procedure at a position that was reached.
+    pub(crate) fn program_at(&self, number: u16, position: u32) -> Option<&Accepted<A, A>>
+        requires { position ≤ self.now.replica.position }
+        ensures { (entries : List ModelEntry) → StandsForLog self.now entries
+            → option_copied result ≡ option_map (accepted_of self.now.catalogue.tables)
+            (by_number (procedures_after (setting_of self.now).setting (items_of entries) position) number) }
+    {
+        entries_suffice();
+        if since(&self.additions, number) > position {
+            return None;
+        }
+        self.replica.procedures().by_number(number)
+    }
+}
+
+impl<A: Allocator + Copy> SiteReplica<A> {
+    /// What the bytes of a call are.
+    fn call_standing(&self, head: CallHead<'_>, bytes: &[u8]) -> Result<Standing<A>, AllocError>
+        requires stands { (entries : List ModelEntry) × StandsForLog self.now entries }
+        ensures is { IfOk result (λ st. (entries : List ModelEntry) → StandsForLog self.now entries
+            → IsStanding (call_standing (setting_of self.now).setting (items_of entries) (head_call head.entry)
+            bytes.now) st) }
+        ensures ready { IfOk result (IsReady self.now.catalogue.tables) }
+    {
+        if head.snapshot > self.replica.position() {
+            return Ok(Standing::Nothing(NothingCause::Snapshot));
+        }
+        if self.is_decided(head.request, head.snapshot) {
+            return Ok(Standing::Decided {
+                snapshot: head.snapshot,
+                request: head.request,
+            });
+        }
+        let Some(accepted) = self.program_at(head.procedure, head.snapshot) else {
+            return Ok(Standing::Nothing(NothingCause::Procedure));
+        };
+        if usize::from(accepted.args_len()) != head.args.len() {
+            return Ok(Standing::Nothing(NothingCause::Procedure));
+        }
+        let call = NamedCall {
+            number: head.number,
+            procedure: head.procedure,
+            args: head.args,
+            snapshot: head.snapshot,
+            request: head.request,
+        };
+        let completion = complete(self.alloc, &self.replica, accepted, call)?;
+        Ok(standing_of_run(completion, bytes))
+    }
+}
+
+impl<A: Allocator + Copy> SiteReplica<A> {
+    /// What the bytes of an addition are.
+    fn addition_standing(&self, head: AdditionHead<'_>) -> Result<Standing<A>, AllocError>
+        ensures is { IfOk result (IsStanding (addition_standing (setting_of self.now) (head_procedure head.entry))) }
+        ensures ready { IfOk result (IsReady self.now.catalogue.tables) }
+    {
+        accepted_procedures_are_safe();
+        each_catalogue_is_consistent(&self.catalogue);
+        if !self.takes_additions || !is_name(head.name) || head.args_len > MAX_ARGUMENTS {
+            return Ok(Standing::Nothing(NothingCause::Addition));
+        }
+        let schema = self.catalogue.schema();
+        match check_program(self.alloc, head.program, schema, head.args_len) {
+            Ok(accepted) => Ok(Standing::StandsAs(addition_of(
+                self.alloc,
+                head.name,
+                head.number,
+                accepted,
+            )?)),
+            Err(OrNoMemory::NoMemory) => Err(AllocError),
+            Err(OrNoMemory::Fault(_)) => Ok(Standing::Nothing(NothingCause::Addition)),
+        }
+    }
+
+    /// What bytes are at the next position. Nothing changes.
+    pub fn standing(&self, bytes: &[u8]) -> Result<Standing<A>, AllocError>
+        requires stands { (entries : List ModelEntry) × StandsForLog self.now entries }
+        ensures is { IfOk result (λ st. (entries : List ModelEntry) → StandsForLog self.now entries
+            → IsStanding (standing (setting_of self.now) (items_of entries) bytes.now) st) }
+        ensures ready { IfOk result (IsReady self.now.catalogue.tables) }
+    {
+        match head_of(bytes) {
+            None => Ok(Standing::Nothing(NothingCause::Unreadable)),
+            Some(EntryHead::Call(head)) => self.call_standing(head, bytes),
+            Some(EntryHead::Addition(head)) => self.addition_standing(head),
+        }
+    }
+}
+
+/// The entry that adds a procedure.
+fn addition_of<A: Allocator + Copy>(
+    alloc: A,
+    name: &[u8],
+    number: u16,
+    accepted: Accepted<A, A>,
+) -> Result<Entry<A>, AllocError>
+    ensures { IfOk result (λ entry. entry
+        ≡ Addition (record { name = name.now; number = number; accepted = accepted })) }
+{
+    Ok(Entry::Addition(AddedProcedure {
+        name: Bytes::new(Vec::from_slice(alloc, name)?),
+        number,
+        accepted: Arc::new(alloc, accepted)?,
+    }))
+}
+
+/// What a call that isn't decided is, by what comes of it and the bytes that tell of it.
+fn standing_of_run<A: Allocator + Copy>(completion: Completion<A>, bytes: &[u8]) -> Standing<A>
+    ensures is { (w : Setting) (entries : List ModelEntry) (call : Call)
+        → IsCompletion w (items_of entries) call completion
+        → IsStanding (run_standing w (items_of entries) call bytes.now) result }
+    ensures ready { (w : Setting) (entries : List ModelEntry) (call : Call)
+        → IsCompletion w (items_of entries) call completion → IsReady w.tables result }
+{
+    let Completion::Wrote(executed) = completion else {
+        return Standing::Nothing(NothingCause::Untrue);
+    };
+    let entry = Entry::Call(executed);
+    if has_bytes(&entry, bytes) {
+        Standing::StandsAs(entry)
+    } else {
+        Standing::Nothing(NothingCause::Untrue)
+    }
+}

@@ -1,0 +1,131 @@
+//! The replica of a site.
+
+ghost use Rattle.std.specs.Prelude.{◌≡◌, List, [], length, IfOk};
+ghost use Rattle.std.specs.FinMap as map;
+ghost use Rattle.log_model.specs.Log.{first_position, history, repeats, rows_after};
+ghost use Rattle.log_model.specs.Entries.{Entry as ModelEntry, items_of};
+ghost use Rattle.site.specs.Replica.{StandsForLog, setting_of};
+
+use catalogue::{Catalogue, catalogues_are_safe};
+use log_model::{RequestId, entries_suffice};
+use replica::Replica;
+use row_sets::Row;
+use site_model::fit_entries_go_on;
+use std::alloc::{AllocError, Allocator, Global};
+use std::marker::Model;
+
+/// The replica of a site, with what else it has to know of an order. Contracts see all of it.
+#[derive(Drop)]
+pub struct SiteReplica<A: Allocator + Copy = Global> {
+    pub(crate) alloc: A,
+    pub(crate) catalogue: Catalogue<A>,
+    pub(crate) takes_additions: bool,
+    pub(crate) replica: Replica<A>,
+    /// The reply at each position.
+    pub(crate) replies: Vec<u64, A>,
+    /// The number of each procedure that was added, and its position.
+    pub(crate) additions: Vec<(u16, u32), A>,
+}
+
+impl<A: Allocator + Copy> Model for SiteReplica<A> {
+    ghost use Rattle.site.specs.Replica.{SiteReplica, site_code};
+
+    ghost Value = { SiteReplica };
+
+    ghost coded = { site_code };
+
+    ghost view = { λ s. record {
+      catalogue = s.catalogue;
+      takes_additions = s.takes_additions;
+      replica = s.replica;
+      replies = s.replies.items;
+      additions = s.additions.items;
+    } };
+}
+
+impl<A: Allocator + Copy> SiteReplica<A> {
+    /// One that was given nothing, with the tables and the first procedures of a catalogue. A call is stale where more
+    /// byte strings than the window came since its snapshot.
+    pub fn new(
+        alloc: A,
+        window: u32,
+        catalogue: Catalogue<A>,
+        takes_additions: bool,
+    ) -> Result<SiteReplica<A>, AllocError>
+        ensures stands { IfOk result (λ s. StandsForLog s []) }
+        ensures setting { IfOk result (λ s. setting_of s ≡ record {
+          setting = record { tables = catalogue.tables; catalogue = catalogue.procedures; window = window };
+          takes_additions = takes_additions;
+        }) }
+    {
+        catalogues_are_safe(&catalogue);
+        let replica = Replica::new(alloc, window, &catalogue)?;
+        Ok(SiteReplica {
+            alloc,
+            catalogue,
+            takes_additions,
+            replica,
+            replies: Vec::new(alloc),
+            additions: Vec::new(alloc),
+        })
+    }
+
+    /// How many byte strings were taken in.
+    pub fn position(&self) -> u32
+        ensures position { result ≡ self.now.replica.position }
+        ensures count { (entries : List ModelEntry) → StandsForLog self.now entries → result ≡ length entries }
+    {
+        self.replica.position()
+    }
+
+    /// The reply at each position, from 1 on.
+    pub fn replies(&self) -> &[u64]
+        ensures { result.now ≡ self.now.replies }
+    {
+        &self.replies
+    }
+
+    /// What it keeps of the log of the order.
+    pub fn replica(&self) -> &Replica<A>
+        ensures { result.now ≡ self.now.replica }
+    {
+        &self.replica
+    }
+
+    /// Its tables, and the procedures at first.
+    pub fn catalogue(&self) -> &Catalogue<A>
+        ensures { result.now ≡ self.now.catalogue }
+    {
+        &self.catalogue
+    }
+
+    /// Whether procedures may be added.
+    pub fn takes_additions(&self) -> bool
+        ensures { result ≡ self.now.takes_additions }
+    {
+        self.takes_additions
+    }
+
+    /// Where its memory comes from.
+    pub fn allocator(&self) -> A {
+        self.alloc
+    }
+
+    /// The position of the committed call that carries a request.
+    pub fn repeated(&self, request: RequestId) -> Option<u32>
+        ensures { (entries : List ModelEntry) → StandsForLog self.now entries → result
+            ≡ first_position (repeats request) 1 (history (setting_of self.now).setting (items_of entries)).certified }
+    {
+        entries_suffice();
+        self.replica.repeated(request)
+    }
+
+    /// The rows at the last position, in the order of tables and keys.
+    pub fn rows<B: Allocator + Copy>(&self, alloc: B) -> Result<Vec<Row<B>, B>, AllocError>
+        ensures { IfOk result (λ list. (entries : List ModelEntry) → StandsForLog self.now entries → list.items
+            ≡ map.entries (rows_after (setting_of self.now).setting (items_of entries) (length entries))) }
+    {
+        fit_entries_go_on();
+        self.replica.rows(alloc)
+    }
+}

@@ -1,4 +1,0 @@
-pub mod SiteLemmas
-pub mod AlikeLemmas
-pub mod SinceLemmas
-pub mod DeliveryLemmas

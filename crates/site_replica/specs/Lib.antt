@@ -1,3 +1,0 @@
-pub mod Replica
-pub mod Standing
-pub mod Taking

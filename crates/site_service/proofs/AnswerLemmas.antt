@@ -1,0 +1,49 @@
+-- Answers, by what the code's values stand for.
+use Rattle.std.proofs.Common.{◌≡◌, ◌⊎◌, inl, inr, ◌≢◌, ne_eqb, ℕ, ◌+◌, ◌==◌, Bool, false, cond, List, [], ◌∷◌, ◌++◌, length, Option, Result, Ok, Err, IfOk, sym, ap, subst, ◌∙◌}
+use Rattle.log_model.specs.declared.request.RequestId.{RequestId}
+use Rattle.log_entry.specs.Head.{head_of}
+use Rattle.script.specs.declared.fault.LineFault.{LineFault}
+use Rattle.site_model.specs.declared.outcome.EntryOutcome.{EntryOutcome}
+use Rattle.site_model.specs.Standing.{SiteSetting}
+use Rattle.site_model.specs.Order.{Order, next_outcome, request_in}
+use Rattle.site_service.specs.declared.line.SiteLine.TheVariants.{Call}
+use Rattle.site_service.specs.Lines.{SiteRequest}
+use Rattle.site_service.specs.Answers.{entry_line, order_full_line}
+use Rattle.site_service.specs.declared.entry.TheConstants.{MAX_POSITION}
+use Rattle.site_service.specs.LineAnswers.{IsAnswer, IsCallAnswer, entry_answer, order_with_bytes}
+
+pub ok_gives : {X E : Type 0} (r : Result X E) (P Q : X → Type 0) → IfOk r P → ((x : X) → P x → Q x) → IfOk r Q
+ok_gives (Ok x) P Q p f = f x p
+ok_gives (Err e) P Q p f = tt
+
+-- ---- a byte string
+
+pub entry_answered : (A : List ℕ → Type 0) (s : SiteSetting) (order : Order) (bytes : List ℕ) (position : ℕ) (o : EntryOutcome) (r : RequestId) → position ≡ length order → position ≢ MAX_POSITION
+    → o ≡ next_outcome s order bytes → r ≡ request_in (head_of bytes) → A (entry_line (position + 1) o r) → A (entry_answer s order bytes)
+entry_answered A s order bytes position o r count room told request given =
+    let tested : (length order == MAX_POSITION) ≡ false = sym (ap (λ (n : ℕ). n == MAX_POSITION) count) ∙ ne_eqb position MAX_POSITION room in
+    subst A (ap (λ (n : ℕ). entry_line (n + 1) o r) count ∙ (λ i. entry_line (length order + 1) (told i) (request i))
+    ∙ sym (ap (λ (b : Bool). cond b order_full_line (entry_line (length order + 1) (next_outcome s order bytes) (request_in (head_of bytes)))) tested)) given
+
+pub stands_with : (P : Order → Type 0) (order : Order) (bytes : List ℕ) (position : ℕ) → position ≡ length order → position ≢ MAX_POSITION → P (order ++ bytes ∷ []) → P (order_with_bytes order bytes)
+stands_with P order bytes position count room stands =
+    let tested : (length order == MAX_POSITION) ≡ false = sym (ap (λ (n : ℕ). n == MAX_POSITION) count) ∙ ne_eqb position MAX_POSITION room in
+    subst P (sym (ap (λ (b : Bool). cond b order (order ++ bytes ∷ [])) tested)) stands
+
+-- ---- what a line asks for
+
+pub call_answered : (s : SiteSetting) (order : Order) (r : SiteRequest) (name args given_name given_args : List ℕ) (session sequence : ℕ) (text : List ℕ) → r ≡ Call name args session sequence → given_name ≡ name → given_args ≡ args
+    → IsCallAnswer s order (record { name = given_name; args = given_args; request = record { session = session; sequence = sequence } }) text → IsAnswer s order r text
+call_answered s order r name args given_name given_args session sequence text is same_name same_args answer =
+    subst (λ (q : SiteRequest). IsAnswer s order q text) (sym is)
+    (subst (λ (n : List ℕ). IsCallAnswer s order (record { name = n; args = args; request = record { session = session; sequence = sequence } }) text) same_name
+    (subst (λ (a : List ℕ). IsCallAnswer s order (record { name = given_name; args = a; request = record { session = session; sequence = sequence } }) text) same_args answer))
+
+-- ---- what it says
+
+pub says_fault : (says : Result (Option SiteRequest) LineFault) (fault none : LineFault) → (fault ≡ none) ⊎ (says ≡ Err fault) → (fault ≡ none → ⊥) → says ≡ Err fault
+says_fault says fault none (inl e) isnt = absurd (isnt e)
+says_fault says fault none (inr e) isnt = e
+
+pub says_this : (says : Result (Option SiteRequest) LineFault) (o p : Option SiteRequest) → says ≡ Ok o → o ≡ p → says ≡ Ok p
+says_this says o p e f = e ∙ ap Ok f

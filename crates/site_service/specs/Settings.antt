@@ -1,0 +1,91 @@
+-- What the settings of sites say: lines that set something in scripts, but for the number of replicas, and once the line
+-- `additions`.
+use Rattle.std.specs.Prelude.{ℕ, ◌==◌, Bool, true, false, not, if◌then◌else◌, List, [], ◌∷◌, length, codes, Option, Some, None, Result, Ok, Err}
+use Rattle.std.specs.Option.{option_map}
+use Rattle.std.specs.Str.{bytes_eq}
+use Rattle.script.specs.declared.fault.LineFault.{LineFault}
+use Rattle.script.specs.declared.fault.LineFault.TheVariants as fault
+use Rattle.script.specs.declared.statements.Statement.TheVariants as statement
+use Rattle.script.specs.declared.statements.Setting.TheVariants.{Replicas}
+use Rattle.script.specs.Text.{lines_of, is_readable, fields_of}
+use Rattle.script.specs.Script as script
+use Rattle.script.specs.Script.{ScriptSetting, made_of}
+use Rattle.script.specs.declared.cause.FaultCause.{FaultCause}
+use Rattle.script.specs.declared.cause.FaultCause.TheVariants.{Place}
+use Rattle.script.specs.declared.cause.ScriptFault.{ScriptFault}
+use Rattle.script.specs.SettingsFault.{cause_of_line_fault}
+use Rattle.script.specs.Settings.{ScriptSettings, no_settings, setting_after, then_with}
+use Rattle.script.specs.Said.{fault_at, said_from}
+use Rattle.site_model.specs.Standing.{SiteSetting}
+use Rattle.site_service.specs.declared.settings_line.SettingsLine.{SettingsLine}
+use Rattle.site_service.specs.declared.settings_line.SettingsLine.TheVariants.{Additions, Statement}
+
+-- ---- a line
+
+-- the bytes of its names and programs are lists
+abbrev pub SettingsRequest : Type 0
+SettingsRequest = SettingsLine (List ℕ)
+
+-- `additions` has no fields; a line with another word says what it says in a script
+abbrev pub said_by : List (List ℕ) → List ℕ → Result (Option SettingsRequest) LineFault
+said_by [] line = made_of (option_map Statement) (script.line_says line)
+said_by (first ∷ fields) line =
+    if bytes_eq first (codes "additions") then (if length fields == 0 then Ok (Some Additions) else Err fault.FieldCount)
+    else made_of (option_map Statement) (script.line_says line)
+
+-- what a line says, or the first of its faults
+unfoldable pub line_says : List ℕ → Result (Option SettingsRequest) LineFault
+line_says line = if not (is_readable line) then Err fault.Bytes else said_by (fields_of line) line
+
+-- what is known of its numbers
+abbrev pub IsWithinLimits : SettingsRequest → Type 0
+IsWithinLimits Additions = Unit {0}
+IsWithinLimits (Statement s) = script.IsWithinLimits s
+
+-- ---- what is set so far
+
+pub record SettingsSoFar : Type 0 where
+  pub settings : ScriptSettings
+  pub takes_additions : Bool
+
+abbrev pub nothing_set : SettingsSoFar
+nothing_set = record { settings = no_settings; takes_additions = false }
+
+-- `additions` stands once
+abbrev pub with_additions : SettingsSoFar → Result SettingsSoFar FaultCause
+with_additions s = if s.takes_additions then Err Place else Ok (record s { takes_additions = true })
+
+-- a site has one replica
+abbrev pub with_setting : SettingsSoFar → ScriptSetting → Result SettingsSoFar FaultCause
+with_setting s (Replicas replicas) = Err Place
+with_setting s setting = then_with (setting_after s.settings setting) (λ settings. Ok (record s { settings = settings }))
+
+-- with one more line, none of which acts
+abbrev pub after_line : SettingsSoFar → Result (Option SettingsRequest) LineFault → Result SettingsSoFar FaultCause
+after_line s (Err fault) = Err (cause_of_line_fault fault)
+after_line s (Ok None) = Ok s
+after_line s (Ok (Some Additions)) = with_additions s
+after_line s (Ok (Some (Statement (statement.Setting setting)))) = with_setting s setting
+after_line s (Ok (Some (Statement (statement.Action action)))) = Err Place
+
+-- ---- whole settings
+
+abbrev pub with_window : SettingsSoFar → Option ℕ → Result SiteSetting ScriptFault
+with_window s None = Err (fault_at 0 Place)
+with_window s (Some window) = Ok (record {
+  setting =
+      record { tables = s.settings.catalogue.tables; catalogue = s.settings.catalogue.procedures; window = window };
+  takes_additions = s.takes_additions;
+})
+
+-- settings that end without a window are at fault as a whole
+abbrev pub whole : SettingsSoFar → Result SiteSetting ScriptFault
+whole s = with_window s s.settings.window
+
+-- with one more line of these bytes
+abbrev pub with_line : SettingsSoFar → List ℕ → Result SettingsSoFar FaultCause
+with_line s line = after_line s (line_says line)
+
+-- what settings of these bytes say, or their first fault
+abbrev pub settings_say : List ℕ → Result SiteSetting ScriptFault
+settings_say bytes = said_from with_line whole nothing_set 1 (lines_of bytes)

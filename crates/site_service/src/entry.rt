@@ -1,0 +1,55 @@
+//! Answering a byte string of the order.
+
+ghost use Rattle.std.specs.Prelude.{◌≡◌, IfOk, OnErr};
+ghost use Rattle.log_entry.specs.Head.{head_of};
+ghost use Rattle.site_model.specs.Order.{Order, request_in};
+ghost use Rattle.site.specs.Replica.{StandsForOrder, setting_of};
+ghost use Rattle.site_service.specs.LineAnswers.{entry_answer, order_with_bytes};
+
+use crate::answers::append_entry_line;
+use crate::status::append_order_full_line;
+use byte_output::sink::ByteSink;
+use log_entry::{EntryHead, head_of};
+use log_model::RequestId;
+use site::Site;
+use std::alloc::{AllocError, Allocator};
+
+/// How many byte strings an order has at most.
+pub const MAX_POSITION: u32 = u32::MAX;
+
+/// Takes the byte string at the next position in, and appends what became of it. Where the order has all that one may
+/// have nothing is taken.
+pub(crate) fn answer_entry<A: Allocator + Copy, S: ByteSink>(
+    site: Site<A>,
+    sink: &mut S,
+    bytes: &[u8],
+) -> Result<Site<A>, AllocError>
+    ensures answered { IfOk result (λ _. (order : Order) → StandsForOrder site order
+        → S.appends sink.old sink.new (entry_answer (setting_of site) order bytes.now)) }
+    ensures stands { IfOk result (λ next. (order : Order) → StandsForOrder site order
+        → StandsForOrder next (order_with_bytes order bytes.now)) }
+    ensures setting { IfOk result (λ next. setting_of next ≡ setting_of site) }
+    ensures nothing { OnErr result (sink.new ≡ sink.old) }
+{
+    let position = site.position();
+    if position == MAX_POSITION {
+        append_order_full_line(sink);
+        return Ok(site);
+    }
+    let (site, outcome) = site.take(bytes)?;
+    append_entry_line(sink, position + 1, outcome, request_in(bytes));
+    Ok(site)
+}
+
+/// The request that bytes carry, where they are a call; 0 and 0 is none.
+fn request_in(bytes: &[u8]) -> RequestId
+    ensures { result ≡ request_in (head_of bytes.now) }
+{
+    match head_of(bytes) {
+        Some(EntryHead::Call(head)) => head.request,
+        _ => RequestId {
+            session: 0,
+            sequence: 0,
+        },
+    }
+}

@@ -1,0 +1,30 @@
+//! The numbers of causes and refusals.
+
+ghost use Rattle.std.specs.Prelude.{◌≡◌};
+ghost use Rattle.site_service.specs.Answers.{number_of_call_refusal, number_of_nothing};
+
+use site_model::{CallRefusal, NothingCause};
+
+/// The number after the letter E in printed answers, 1 to 5.
+pub fn nothing_number(cause: NothingCause) -> u8
+    ensures { result ≡ number_of_nothing cause }
+{
+    match cause {
+        NothingCause::Unreadable => 1,
+        NothingCause::Addition => 2,
+        NothingCause::Snapshot => 3,
+        NothingCause::Procedure => 4,
+        NothingCause::Untrue => 5,
+    }
+}
+
+/// The number after the letter P in printed refusals of calls: 2, 3 or 13.
+pub fn call_refusal_number(refusal: CallRefusal) -> u8
+    ensures { result ≡ number_of_call_refusal refusal }
+{
+    match refusal {
+        CallRefusal::NoProcedure => 2,
+        CallRefusal::ArgumentsLength => 3,
+        CallRefusal::HalfRequest => 13,
+    }
+}

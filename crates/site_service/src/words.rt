@@ -1,0 +1,110 @@
+//! Lines that are built in place, without memory.
+
+ghost use Rattle.std.specs.Prelude.{◌≡◌, ◌≤◌, ◌+◌, ◌++◌, codes, length};
+ghost use Rattle.std.specs.Fmt.{decimal};
+ghost use Rattle.arrayvec.specs.ArrayVec.{array_vec_len};
+ghost use Rattle.site_service.specs.Answers.{addition_refusal_words, entry_line, outcome_words, request_words};
+
+use crate::numbers::nothing_number;
+use byte_output::line::{LineBuffer, push, push_unsigned};
+use log_model::{Identifier, RequestId};
+use report::push_program_fault;
+use site_model::{AdditionRefusal, EntryOutcome};
+
+/// The line of what became of the byte string at a position.
+pub(crate) fn entry_words(position: u32, outcome: EntryOutcome, request: RequestId) -> LineBuffer
+    ensures { result.items ≡ entry_line position outcome request }
+{
+    let mut words = LineBuffer::new();
+    push_unsigned(&mut words, "entry ", u64::from(position));
+    push(&mut words, b" ");
+    push_outcome(&mut words, outcome);
+    push_request(&mut words, request);
+    push(&mut words, b"\n");
+    words
+}
+
+fn push_outcome(words: &mut LineBuffer, outcome: EntryOutcome)
+    requires { array_vec_len words.old ≤ 30 }
+    ensures items { words.new.items ≡ words.old.items ++ outcome_words outcome }
+    ensures len { array_vec_len words.new ≤ array_vec_len words.old + 60 }
+{
+    match outcome {
+        EntryOutcome::Committed(reply) => push_unsigned(words, "commit reply ", reply),
+        EntryOutcome::Conflict(position) => push_unsigned(words, "conflict ", u64::from(position)),
+        EntryOutcome::Stale => push(words, b"stale"),
+        EntryOutcome::Repeated { position, reply } => {
+            push_unsigned(words, "repeat ", u64::from(position));
+            push_unsigned(words, " reply ", reply);
+        }
+        EntryOutcome::Added(number) => push_unsigned(words, "added ", u64::from(number)),
+        EntryOutcome::Taken(Identifier::Name) => push(words, b"taken C1"),
+        EntryOutcome::Taken(Identifier::Number) => push(words, b"taken C2"),
+        EntryOutcome::Nothing(cause) => {
+            push_unsigned(words, "nothing E", u64::from(nothing_number(cause)));
+        }
+    }
+}
+
+/// The request, where there is one.
+fn push_request(words: &mut LineBuffer, request: RequestId)
+    requires { array_vec_len words.old ≤ 90 }
+    ensures items { words.new.items ≡ words.old.items ++ request_words request }
+    ensures len { array_vec_len words.new ≤ array_vec_len words.old + 60 }
+{
+    if request.session == 0 && request.sequence == 0 {
+        return;
+    }
+    push_unsigned(words, " session ", u64::from(request.session));
+    push_unsigned(words, " seq ", u64::from(request.sequence));
+}
+
+/// The line of why a procedure can't be added.
+pub(crate) fn addition_refusal_line(refusal: AdditionRefusal) -> LineBuffer
+    ensures { result.items ≡ addition_refusal_words refusal ++ codes "\n" }
+{
+    let mut words = LineBuffer::new();
+    push_addition_refusal(&mut words, refusal);
+    push(&mut words, b"\n");
+    words
+}
+
+fn push_addition_refusal(words: &mut LineBuffer, refusal: AdditionRefusal)
+    requires { array_vec_len words.old ≤ 30 }
+    ensures items { words.new.items ≡ words.old.items ++ addition_refusal_words refusal }
+    ensures len { array_vec_len words.new ≤ array_vec_len words.old + 61 }
+{
+    match refusal {
+        AdditionRefusal::Program(fault) => {
+            push(words, b"refused P11 ");
+            push_program_fault(words, fault);
+        }
+        AdditionRefusal::Name => push(words, b"refused P12"),
+        AdditionRefusal::NoAdditions => push(words, b"refused P14"),
+    }
+}
+
+/// The line of a number behind its label.
+pub(crate) fn number_line(label: &str, number: u64) -> LineBuffer
+    requires { length label.now ≤ 20 }
+    ensures { result.items ≡ label.now ++ decimal number ++ codes "\n" }
+{
+    let mut words = LineBuffer::new();
+    push_unsigned(&mut words, label, number);
+    push(&mut words, b"\n");
+    words
+}
+
+/// The line of a position and another number, each behind its label.
+pub(crate) fn two_number_line(label: &str, position: u32, other: &str, number: u64) -> LineBuffer
+    requires label { length label.now ≤ 20 }
+    requires other { length other.now ≤ 20 }
+    ensures { result.items
+        ≡ (label.now ++ decimal position ++ other.now ++ decimal number) ++ codes "\n" }
+{
+    let mut words = LineBuffer::new();
+    push_unsigned(&mut words, label, u64::from(position));
+    push_unsigned(&mut words, other, number);
+    push(&mut words, b"\n");
+    words
+}

@@ -1,0 +1,86 @@
+//! Sites for which there is no memory: each growth of an answer is refused in turn.
+
+use log_model::RequestId;
+use scarce::Scarce;
+use site::{Asked, Site};
+use site_model::EntryOutcome;
+use std::alloc::Allocator;
+use std::process::Abort;
+use test_programs::{PROCEDURES, TABLES, catalogue_of};
+
+/// A call that adds 10 to row 5.
+const ASKED: Asked<'static> = Asked {
+    name: b"1",
+    args: &[5, 0, 0, 0, 0, 0, 0, 0, 10, 0, 0, 0, 0, 0, 0, 0],
+    request: RequestId {
+        session: 7,
+        sequence: 1,
+    },
+};
+
+/// The same as it stands in an order, where it finds no row.
+static CALL: [u8; 84] = [
+    1, 7, 0, 0, 0, 1, 0, 0, 0, 0, 0, 0, 0, 1, 0, 16, 0, 5, 0, 0, 0, 0, 0, 0, 0, 10, 0, 0, 0, 0, 0,
+    0, 0, 0, 0, 0, 0, 10, 0, 0, 0, 0, 0, 0, 0, 1, 0, 1, 5, 0, 0, 0, 0, 0, 0, 0, 5, 0, 0, 0, 0, 0,
+    0, 0, 1, 0, 1, 5, 0, 0, 0, 0, 0, 0, 0, 1, 10, 0, 0, 0, 0, 0, 0, 0,
+];
+
+/// A site of the sample procedures with a window of 4 that was given nothing; none where memory is wanting.
+fn site_of<A: Allocator + Copy>(alloc: A) -> Option<Site<A>> {
+    Site::new(alloc, 4, catalogue_of(alloc, &TABLES, &PROCEDURES)?, true).ok()
+}
+
+/// How often the call finds no memory at a site, each growth refused in turn, until it is answered; and the site's
+/// position then.
+fn refusals<A: Allocator + Copy>(scarce: &Scarce, site: &Site<A>) -> (Option<u64>, u32) {
+    let failed = scarce.refuse_each(|| site.call(ASKED).is_ok());
+    (failed, site.position())
+}
+
+/// The same at a site that takes memory from here.
+fn refusals_over<A: Allocator + Copy>(
+    rt: &impl Abort,
+    scarce: &Scarce,
+    taken_from: A,
+) -> (Option<u64>, u32) {
+    let site = site_of(taken_from).expect(rt, "a site");
+    refusals(scarce, &site)
+}
+
+#[test]
+fn a_call_that_finds_no_memory_changes_nothing(rt: HostRuntime) {
+    let scarce = Scarce::new(rt.alloc());
+    let (failed, position) = refusals_over(&rt, &scarce, &scarce);
+    assert!(rt; failed.is_some_and(|failed| failed > 0));
+    assert_eq!(rt; position, 0);
+}
+
+/// A site behind the call, and what becomes of this; none where memory is wanting.
+fn taken<A: Allocator + Copy>(site: Site<A>) -> Option<(Site<A>, EntryOutcome)> {
+    if site.position() == u32::MAX {
+        None
+    } else {
+        site.take(&CALL).ok()
+    }
+}
+
+/// What becomes of the call at a site that is given nothing else, and the position it comes to; none where memory is
+/// wanting.
+fn outcome_and_position<A: Allocator + Copy>(alloc: A) -> Option<(EntryOutcome, u32)> {
+    match site_of(alloc).and_then(taken) {
+        Some((site, outcome)) => Some((outcome, site.position())),
+        None => None,
+    }
+}
+
+#[test]
+fn a_site_that_finds_no_memory_answers_nothing(rt: HostRuntime) {
+    let scarce = Scarce::new(rt.alloc());
+    let failed = scarce.refuse_each(|| {
+        let found = outcome_and_position(&scarce);
+        let is_taken = found == Some((EntryOutcome::Committed(10), 1));
+        assert!(rt; found.is_none() || is_taken, "{found:?}");
+        found.is_some()
+    });
+    assert!(rt; failed.is_some_and(|failed| failed > 0));
+}

@@ -1,0 +1,208 @@
+//! Those who ask.
+
+use crate::asked::{Addition, Asked, Asking, Stray, Told, Words};
+use crate::gate::{Hold, HoldingGate};
+use locked_replica::LogSetting;
+use log_model::{RequestId, Verdict};
+use node::{Added, Desk, Node};
+use node_calls::Answer;
+use session::Session;
+use std::alloc::Global;
+use std::sync::Wait;
+use std::thread;
+use std::thread::Threads;
+use tallies::Ledgers;
+
+/// The most that a caller asks.
+const MOST: usize = 10_000;
+
+/// Two words as an argument block, each least byte first.
+fn args_of(words: Words) -> [u8; 16] {
+    let Words { first, second, .. } = words;
+    [first, 0, 0, 0, 0, 0, 0, 0, second, 0, 0, 0, 0, 0, 0, 0]
+}
+
+/// As many of them as there are.
+fn given(args: &[u8; 16], count: usize) -> &[u8] {
+    args.get(..count.wrapping_mul(8)).unwrap_or(args)
+}
+
+fn answer_of<J: LogSetting + Ledgers + Send + Sync + 'static, R: Wait>(
+    rt: &R,
+    desk: &Desk<J, HoldingGate>,
+    replica: u32,
+    least: u32,
+    procedure: u16,
+    words: Words,
+    request: Option<RequestId>,
+) -> Answer {
+    let args = args_of(words);
+    let args = given(&args, words.count);
+    let (answer, _) = match request {
+        None => desk.execute(rt, replica, least, procedure, args),
+        Some(it) => desk.execute_numbered(rt, replica, least, procedure, args, it),
+    };
+    answer
+}
+
+fn answer_in<J: LogSetting + Ledgers + Send + Sync + 'static, R: Wait>(
+    rt: &R,
+    session: &mut Session<'_, J, HoldingGate>,
+    replica: u32,
+    procedure: u16,
+    words: Words,
+    request: Option<RequestId>,
+) -> Answer {
+    let args = args_of(words);
+    let args = given(&args, words.count);
+    let (answer, _) = match request {
+        None => session.call(rt, replica, procedure, args),
+        Some(it) => session.call_numbered(rt, replica, procedure, args, it),
+    };
+    answer
+}
+
+fn verdict_of<J: LogSetting + Ledgers + Send + Sync + 'static, R: Wait>(
+    rt: &R,
+    desk: &Desk<J, HoldingGate>,
+    replica: u32,
+    position: u32,
+) -> Option<(Verdict, u32)> {
+    let (verdict, seen) = desk.verdict(rt, replica, position)?;
+    Some((verdict, seen.len()))
+}
+
+/// What a caller is told that asks this.
+fn told<J: LogSetting + Ledgers + Send + Sync + 'static, R: Wait>(
+    rt: &R,
+    desk: &Desk<J, HoldingGate>,
+    session: &mut Session<'_, J, HoldingGate>,
+    hold: &Hold,
+    asking: Asking,
+) -> Told {
+    match asking {
+        Asking::Call {
+            replica,
+            least,
+            procedure,
+            words,
+            request,
+        } => Told::Answer(answer_of(rt, desk, replica, least, procedure, words, request)),
+        Asking::InSession {
+            replica,
+            procedure,
+            words,
+            request,
+        } => Told::Answer(answer_in(rt, session, replica, procedure, words, request)),
+        Asking::Position => Told::Position(session.position()),
+        Asking::Verdict { replica, position } => {
+            Told::Verdict(verdict_of(rt, desk, replica, position))
+        }
+        Asking::AwaitHeld => {
+            hold.await_held();
+            Told::Nothing
+        }
+        Asking::Release => {
+            hold.release();
+            Told::Nothing
+        }
+    }
+}
+
+/// Has the caller of a place ask to the end, so that whoever waits for it is let go. After how many it was first told what
+/// may not be so; none where all may.
+fn ask_as<J: LogSetting + Ledgers + Send + Sync + 'static, R: Wait, A: Asked>(
+    rt: &R,
+    desk: &Desk<J, HoldingGate>,
+    hold: &Hold,
+    asked: &A,
+    place: usize,
+) -> Option<usize> {
+    let mut session = Session::new(desk);
+    let mut stray = None;
+    for index in 0..MOST {
+        let Some(asking) = asked.asking(place, index) else {
+            return stray;
+        };
+        let told = told(rt, desk, &mut session, hold, asking);
+        if stray.is_none() && !asked.is_told(place, index, &told) {
+            stray = Some(index);
+        }
+    }
+    Some(MOST)
+}
+
+/// The first of all callers' strays.
+fn first_of(strays: &[Option<usize>]) -> Option<Stray> {
+    for (place, stray) in strays.iter().enumerate() {
+        if let Some(index) = stray {
+            return Some(Stray::Told {
+                place,
+                index: *index,
+            });
+        }
+    }
+    None
+}
+
+/// Has all callers ask at once.
+fn call_all<
+    J: LogSetting + Ledgers + Send + Sync + 'static,
+    R: Threads + Wait + Sync,
+    A: Asked + Sync,
+>(rt: &R, alloc: Global, desk: &Desk<J, HoldingGate>, hold: &Hold, asked: &A) -> Option<Stray> {
+    let strays = thread::map_indices(
+        rt,
+        alloc,
+        asked.callers(),
+        &|place: usize| ask_as(rt, desk, hold, asked, place),
+    );
+    match strays {
+        Ok(strays) => first_of(&strays),
+        Err(_) => Some(Stray::NoMemory),
+    }
+}
+
+fn added<J: LogSetting + Ledgers + Send + Sync + 'static, R: Wait>(
+    rt: &R,
+    node: &Node<J, HoldingGate>,
+    addition: Addition<'_>,
+) -> (Added, bool) {
+    let Addition {
+        name,
+        number,
+        args_len,
+        bytes,
+    } = addition;
+    let (added, seen) = node.add(rt, name, number, args_len, bytes);
+    (added, seen.is_some())
+}
+
+/// Makes all additions. The first that isn't answered as it should be.
+fn add_all<J: LogSetting + Ledgers + Send + Sync + 'static, R: Wait, A: Asked>(
+    rt: &R,
+    node: &Node<J, HoldingGate>,
+    asked: &A,
+) -> Option<Stray> {
+    for index in 0..MOST {
+        let addition = asked.addition(index)?;
+        let (added, seen) = added(rt, node, addition);
+        if !asked.is_added(index, &added, seen) {
+            return Some(Stray::Addition(index));
+        }
+    }
+    Some(Stray::Addition(MOST))
+}
+
+/// Makes all additions at a node, and then has all callers ask, who hear of held calls and let them go here. What wasn't
+/// as it should have been; none where all was.
+pub fn ask_all<
+    J: LogSetting + Ledgers + Send + Sync + 'static,
+    R: Threads + Wait + Sync,
+    A: Asked + Sync,
+>(rt: &R, alloc: Global, node: &Node<J, HoldingGate>, hold: &Hold, asked: &A) -> Option<Stray> {
+    match add_all(rt, node, asked) {
+        None => call_all(rt, alloc, node.desk(), hold, asked),
+        stray => stray,
+    }
+}

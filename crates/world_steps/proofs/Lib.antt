@@ -1,6 +1,0 @@
-pub mod Numbered
-mod StepLemmas
-mod EntryLemmas
-pub mod ReplicaLemmas
-pub mod CallLemmas
-mod AddLemmas

@@ -1,4 +1,0 @@
-pub mod System
-pub mod Execution
-pub mod Turned
-pub mod Holdings

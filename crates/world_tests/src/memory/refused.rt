@@ -1,0 +1,508 @@
+//! Memory that is refused to a world.
+
+use super::{
+    ADD_TEN, BEGIN_SEVEN, BEGIN_TEN, Script, described, run_script, same, steps_of, two_replicas,
+};
+use bpf_verify::Cause;
+use call_model::ProgramFault;
+use catalogue::Catalogue;
+use dsm_model::{Outcome, StepRefusal};
+use dsm_world::{Step, World};
+use log_model::Verdict;
+use scarce::Scarce;
+use std::alloc::{Allocator, Global};
+use std::process::Abort;
+use test_programs::{PROCEDURES, TABLES, catalogue_of};
+
+/// More growths than any call of these tests makes.
+const MOST: u64 = 200;
+
+/// Arguments by which 1 is put at key 6.
+const PUT_ONE: [u8; 16] = [6, 0, 0, 0, 0, 0, 0, 0, 1, 0, 0, 0, 0, 0, 0, 0];
+
+/// Two calls are ordered, and the first is delivered to replica 2.
+static BEFORE: [(Step<'static>, usize); 7] = [
+    (BEGIN_TEN, 1),
+    (
+        Step::Begin {
+            replica: 2,
+            procedure: 3,
+            args: &PUT_ONE,
+        },
+        1,
+    ),
+    (Step::Turn { call: 1 }, 17),
+    (Step::Turn { call: 2 }, 8),
+    (Step::Order { call: 1 }, 1),
+    (Step::Order { call: 2 }, 1),
+    (Step::Deliver { replica: 2 }, 1),
+];
+
+/// Replica 2 is stopped until it is made anew, replica 1 goes on meanwhile; then a further call is delivered to replica
+/// 2.
+static AFTER: [(Step<'static>, usize); 7] = [
+    (Step::Deliver { replica: 2 }, 1),
+    (Step::Deliver { replica: 1 }, 2),
+    (Step::Rebuild { replica: 2 }, 1),
+    (BEGIN_SEVEN, 1),
+    (Step::Turn { call: 3 }, 17),
+    (Step::Order { call: 3 }, 1),
+    (Step::Deliver { replica: 2 }, 1),
+];
+
+/// What is answered to them, with a delivery between them for which there is no memory.
+static TOLD: [Outcome; 16] = [
+    Outcome::Begun {
+        call: 1,
+        snapshot: 0,
+    },
+    Outcome::Begun {
+        call: 2,
+        snapshot: 0,
+    },
+    Outcome::Exit { reply: 10 },
+    Outcome::Exit { reply: 0 },
+    Outcome::Ordered { position: 1 },
+    Outcome::Ordered { position: 2 },
+    Outcome::Delivered {
+        position: 1,
+        verdict: Verdict::Commit,
+    },
+    Outcome::Refused(StepRefusal::NoMemory),
+    Outcome::Refused(StepRefusal::ReplicaStopped),
+    Outcome::Delivered {
+        position: 1,
+        verdict: Verdict::Commit,
+    },
+    Outcome::Delivered {
+        position: 2,
+        verdict: Verdict::Commit,
+    },
+    Outcome::Rebuilt { position: 2 },
+    Outcome::Begun {
+        call: 3,
+        snapshot: 2,
+    },
+    Outcome::Exit { reply: 17 },
+    Outcome::Ordered { position: 3 },
+    Outcome::Delivered {
+        position: 3,
+        verdict: Verdict::Commit,
+    },
+];
+
+/// Delivers to replica 2 without memory: what is answered.
+fn deliver_refused<A: Allocator + Copy>(scarce: &Scarce, world: &mut World<A>) -> Outcome {
+    scarce.refuse_all(true);
+    let outcome = world.step(Step::Deliver { replica: 2 });
+    scarce.refuse_all(false);
+    outcome
+}
+
+/// Lets replica 2 stop and be made anew: what it is while it is stopped, and at the end. What is answered is added.
+fn stop_and_rebuild<A: Allocator + Copy>(
+    rt: &impl Abort,
+    alloc: Global,
+    scarce: &Scarce,
+    world: &mut World<A>,
+    told: &mut Vec<Outcome>,
+) -> (String, String) {
+    run_script(rt, alloc, world, &BEFORE, told);
+    told.push(deliver_refused(scarce, world))
+        .expect(rt, "memory");
+    let stopped = described(rt, alloc, world, 2);
+    run_script(rt, alloc, world, &AFTER, told);
+    (stopped, described(rt, alloc, world, 2))
+}
+
+/// The same in a world that takes memory from here.
+fn stopped_and_rebuilt<A: Allocator + Copy>(
+    rt: &impl Abort,
+    alloc: Global,
+    scarce: &Scarce,
+    taken_from: A,
+    told: &mut Vec<Outcome>,
+) -> (String, String) {
+    let mut world = two_replicas(rt, taken_from);
+    stop_and_rebuild(rt, alloc, scarce, &mut world, told)
+}
+
+#[test]
+fn a_stopped_replica_is_made_anew(rt: HostRuntime) {
+    let scarce = Scarce::new(rt.alloc());
+    let mut told = Vec::new(rt.alloc());
+    let (stopped, anew) = stopped_and_rebuilt(&rt, rt.alloc(), &scarce, &scarce, &mut told);
+    same(&rt, "told", told.as_slice(), TOLD.as_slice());
+    same(
+        &rt,
+        "stopped",
+        stopped.as_str(),
+        "1 stopped 1:5=0a00000000000000",
+    );
+    let rows = "3 running 1:5=1100000000000000 1:6=0100000000000000";
+    same(&rt, "anew", anew.as_str(), rows);
+}
+
+/// Whether a world is made of a catalogue where the growth of this number is refused.
+fn is_made<A: Allocator + Copy>(
+    scarce: &Scarce,
+    growth: u64,
+    taken_from: A,
+    catalogue: Catalogue<A>,
+) -> bool {
+    scarce.refuse_nth(growth);
+    let made = World::new(taken_from, 2, 4, catalogue).is_ok();
+    scarce.refuse_nth(0);
+    made
+}
+
+#[test]
+fn each_refused_growth_is_want_of_memory(rt: HostRuntime) {
+    let scarce = Scarce::new(rt.alloc());
+    let mut refused = 0;
+    for growth in 1..MOST {
+        let catalogue = catalogue_of(&scarce, &TABLES, &PROCEDURES).expect(&rt, "memory");
+        if is_made(&scarce, growth, &scarce, catalogue) {
+            break;
+        }
+        refused = growth;
+    }
+    assert!(rt; refused > 4 && refused < 100, "{refused}");
+}
+
+/// A step that takes memory, in a world in which these were taken before: what it answers, and what it does where a
+/// growth is refused; and a step by which is seen what that left, with its answer.
+struct Case {
+    before: Script,
+    step: Step<'static>,
+    answer: Outcome,
+    refused: Outcome,
+    next: Step<'static>,
+    left: Outcome,
+}
+
+const NO_MEMORY: Outcome = Outcome::Refused(StepRefusal::NoMemory);
+
+const NOTHING_LEFT: Outcome = Outcome::Refused(StepRefusal::NothingToDeliver);
+
+const NO_CALL: Outcome = Outcome::Refused(StepRefusal::NoCall);
+
+/// Replies 1: a mov of 1, and EXIT.
+const ONE: [u8; 16] = [0xb7, 0, 0, 0, 1, 0, 0, 0, 0x95, 0, 0, 0, 0, 0, 0, 0];
+
+/// EXIT alone, whose reply is nothing.
+const NOTHING: [u8; 8] = [0x95, 0, 0, 0, 0, 0, 0, 0];
+
+/// A procedure under a number that the catalogue doesn't have.
+const ADD_ONE: Step<'static> = Step::Add {
+    name: b"one",
+    number: 7,
+    args_len: 0,
+    bytes: &ONE,
+};
+
+const ADD_NOTHING: Step<'static> = Step::Add {
+    name: b"one",
+    number: 7,
+    args_len: 0,
+    bytes: &NOTHING,
+};
+
+const ADD_UNNAMED: Step<'static> = Step::Add {
+    name: b"a-b",
+    number: 7,
+    args_len: 256,
+    bytes: &ONE,
+};
+
+static CASES: [Case; 11] = [
+    Case {
+        before: &[],
+        step: Step::BeginNumbered {
+            replica: 1,
+            procedure: 1,
+            args: &ADD_TEN,
+            session: 7,
+            sequence: 1,
+        },
+        answer: Outcome::Begun {
+            call: 1,
+            snapshot: 0,
+        },
+        refused: NO_MEMORY,
+        next: Step::Turn { call: 1 },
+        left: NO_CALL,
+    },
+    Case {
+        before: &[],
+        step: ADD_ONE,
+        answer: Outcome::Added { position: 1 },
+        refused: NO_MEMORY,
+        next: Step::Deliver { replica: 1 },
+        left: NOTHING_LEFT,
+    },
+    // A program can't be checked without memory.
+    Case {
+        before: &[],
+        step: ADD_NOTHING,
+        answer: Outcome::Refused(StepRefusal::ProgramRefused(ProgramFault::Instruction {
+            slot: 0,
+            cause: Cause::HoldsNothing,
+        })),
+        refused: NO_MEMORY,
+        next: Step::Deliver { replica: 1 },
+        left: NOTHING_LEFT,
+    },
+    Case {
+        before: &[],
+        step: ADD_UNNAMED,
+        answer: Outcome::Refused(StepRefusal::NameShape),
+        refused: NO_MEMORY,
+        next: Step::Deliver { replica: 1 },
+        left: NOTHING_LEFT,
+    },
+    // Its procedure isn't there where it found no memory.
+    Case {
+        before: &[(ADD_ONE, 1)],
+        step: Step::Deliver { replica: 1 },
+        answer: Outcome::Delivered {
+            position: 1,
+            verdict: Verdict::Commit,
+        },
+        refused: NO_MEMORY,
+        next: Step::Begin {
+            replica: 1,
+            procedure: 7,
+            args: &[],
+        },
+        left: Outcome::Refused(StepRefusal::NoProcedure),
+    },
+    Case {
+        before: &[],
+        step: BEGIN_TEN,
+        answer: Outcome::Begun {
+            call: 1,
+            snapshot: 0,
+        },
+        refused: NO_MEMORY,
+        next: Step::Turn { call: 1 },
+        left: NO_CALL,
+    },
+    // It begins in the memory of one that is over.
+    Case {
+        before: &[
+            (BEGIN_TEN, 1),
+            (Step::Turn { call: 1 }, 17),
+            (Step::Order { call: 1 }, 1),
+        ],
+        step: BEGIN_TEN,
+        answer: Outcome::Begun {
+            call: 2,
+            snapshot: 0,
+        },
+        refused: NO_MEMORY,
+        next: Step::Turn { call: 2 },
+        left: NO_CALL,
+    },
+    // Its seventh instruction gets a row.
+    Case {
+        before: &[(BEGIN_TEN, 1), (Step::Turn { call: 1 }, 6)],
+        step: Step::Turn { call: 1 },
+        answer: Outcome::More,
+        refused: Outcome::NoMemory,
+        next: Step::Turn { call: 1 },
+        left: NO_CALL,
+    },
+    Case {
+        before: &[(BEGIN_TEN, 1), (Step::Turn { call: 1 }, 17)],
+        step: Step::Order { call: 1 },
+        answer: Outcome::Ordered { position: 1 },
+        refused: NO_MEMORY,
+        next: Step::Order { call: 1 },
+        left: NO_CALL,
+    },
+    Case {
+        before: &[
+            (BEGIN_TEN, 1),
+            (Step::Turn { call: 1 }, 17),
+            (Step::Order { call: 1 }, 1),
+        ],
+        step: Step::Deliver { replica: 2 },
+        answer: Outcome::Delivered {
+            position: 1,
+            verdict: Verdict::Commit,
+        },
+        refused: NO_MEMORY,
+        next: Step::Deliver { replica: 2 },
+        left: Outcome::Refused(StepRefusal::ReplicaStopped),
+    },
+    Case {
+        before: &[
+            (BEGIN_TEN, 1),
+            (Step::Turn { call: 1 }, 17),
+            (Step::Order { call: 1 }, 1),
+        ],
+        step: Step::Rebuild { replica: 2 },
+        answer: Outcome::Rebuilt { position: 1 },
+        refused: NO_MEMORY,
+        next: Step::Deliver { replica: 2 },
+        left: Outcome::Delivered {
+            position: 1,
+            verdict: Verdict::Commit,
+        },
+    },
+];
+
+/// What the step of a case answers where the growth of this number is refused, and what is answered then.
+fn answers_in<A: Allocator + Copy>(
+    rt: &impl Abort,
+    alloc: Global,
+    scarce: &Scarce,
+    world: &mut World<A>,
+    case: &Case,
+    growth: u64,
+) -> (Outcome, Outcome) {
+    for step in &steps_of(rt, alloc, case.before) {
+        let _ = world.step(*step);
+    }
+    scarce.refuse_nth(growth);
+    let answer = world.step(case.step);
+    scarce.refuse_nth(0);
+    (answer, world.step(case.next))
+}
+
+/// The same in a world that takes memory from here.
+fn answers_over<A: Allocator + Copy>(
+    rt: &impl Abort,
+    alloc: Global,
+    scarce: &Scarce,
+    taken_from: A,
+    case: &Case,
+    growth: u64,
+) -> (Outcome, Outcome) {
+    let mut world = two_replicas(rt, taken_from);
+    answers_in(rt, alloc, scarce, &mut world, case, growth)
+}
+
+/// The same with a `Scarce` of its own.
+fn answers(rt: &impl Abort, alloc: Global, case: &Case, growth: u64) -> (Outcome, Outcome) {
+    let scarce = Scarce::new(alloc);
+    answers_over(rt, alloc, &scarce, &scarce, case, growth)
+}
+
+#[test]
+fn each_step_may_find_no_memory(rt: HostRuntime) {
+    for (at, case) in CASES.iter().enumerate() {
+        let mut refused = 0;
+        for growth in 1..MOST {
+            let (answer, left) = answers(&rt, rt.alloc(), case, growth);
+            if answer == case.answer {
+                break;
+            }
+            let found = (at, growth, answer, left);
+            same(
+                &rt,
+                "case, growth",
+                found,
+                (at, growth, case.refused, case.left),
+            );
+            refused = growth;
+        }
+        assert!(rt; refused > 0 && refused < MOST - 1, "{at} {refused}");
+    }
+}
+
+/// The first call runs to its end, and is ordered.
+static FIRST_ENDS: [(Step<'static>, usize); 2] = [
+    (Step::Turn { call: 1 }, 17),
+    (Step::Order { call: 1 }, 1),
+];
+
+/// How many growths the first call makes as it begins, and the second, which begins when that is over.
+fn growths_of_two<A: Allocator + Copy>(
+    rt: &impl Abort,
+    alloc: Global,
+    scarce: &Scarce,
+    world: &mut World<A>,
+) -> (u64, u64) {
+    let none = scarce.growths();
+    let _begun = world.step(BEGIN_TEN);
+    let first = scarce.growths().wrapping_sub(none);
+    for step in &steps_of(rt, alloc, &FIRST_ENDS) {
+        let _ = world.step(*step);
+    }
+    let before = scarce.growths();
+    let _begun = world.step(BEGIN_TEN);
+    (first, scarce.growths().wrapping_sub(before))
+}
+
+/// The same in a world that takes memory from here.
+fn growths_over<A: Allocator + Copy>(
+    rt: &impl Abort,
+    alloc: Global,
+    scarce: &Scarce,
+    taken_from: A,
+) -> (u64, u64) {
+    let mut world = two_replicas(rt, taken_from);
+    growths_of_two(rt, alloc, scarce, &mut world)
+}
+
+/// A first call takes memory for its arguments, itself and a list of calls; the next begins in the memory of that one,
+/// and takes some for its arguments alone.
+#[test]
+fn calls_begin_in_the_memory_of_one_that_is_over(rt: HostRuntime) {
+    let scarce = Scarce::new(rt.alloc());
+    let growths = growths_over(&rt, rt.alloc(), &scarce, &scarce);
+    assert_eq!(rt; growths, (3, 1));
+}
+
+/// Beginnings of calls of which more than one refusal holds: replica, procedure, arguments, session and sequence
+/// number, and the refusal that is given.
+static BEGINNINGS: [(u32, u16, &[u8], u32, u32, StepRefusal); 5] = [
+    (3, 7, &ONE, 0, 0, StepRefusal::NoReplica),
+    (1, 7, &ONE, 0, 0, StepRefusal::NoProcedure),
+    (1, 1, &[], 0, 1, StepRefusal::ArgumentsLength),
+    (1, 1, &ADD_TEN, 0, 1, StepRefusal::ZeroInRequest),
+    (1, 1, &ADD_TEN, 1, 0, StepRefusal::ZeroInRequest),
+];
+
+fn refuse_beginnings<A: Allocator + Copy>(rt: &impl Abort, world: &mut World<A>) {
+    for (replica, procedure, args, session, sequence, refusal) in &BEGINNINGS {
+        let told = world.step(Step::BeginNumbered {
+            replica: *replica,
+            procedure: *procedure,
+            args,
+            session: *session,
+            sequence: *sequence,
+        });
+        same(rt, "beginning", told, Outcome::Refused(*refusal));
+    }
+}
+
+/// Neither its program nor its name would do.
+fn refuse_an_addition<A: Allocator + Copy>(rt: &impl Abort, world: &mut World<A>) {
+    let long = world.step(Step::Add {
+        name: b"a-b",
+        number: 7,
+        args_len: 257,
+        bytes: &NOTHING,
+    });
+    same(
+        rt,
+        "addition",
+        long,
+        Outcome::Refused(StepRefusal::ArgumentsLimit),
+    );
+}
+
+/// Both in a world that takes memory from here. (Who calls this has no world to let go.)
+fn refuse_over<A: Allocator + Copy>(rt: &impl Abort, alloc: A) {
+    let mut world = two_replicas(rt, alloc);
+    refuse_beginnings(rt, &mut world);
+    refuse_an_addition(rt, &mut world);
+}
+
+#[test]
+fn the_lowest_refusal_is_given(rt: HostRuntime) {
+    refuse_over(&rt, rt.alloc());
+}
