@@ -7,10 +7,10 @@ use Rattle.std.proofs.lemmas.List.{length-drop}
 use Rattle.std.proofs.lemmas.Bool.Decides.{nat_tests}
 use Rattle.schema.specs.declared.look.Look.{Look}
 use Rattle.schema.specs.Rows.{Key, Writes, shares_key}
-use Rattle.row_model.specs.Signature.{bit_of, looks_set_bit, writes_set_bit, shares_bit}
+use Rattle.sig_lanes.specs.Signature.{bit_of, looks_set_bit, writes_set_bit, shares_bit}
 use Rattle.log_model.specs.declared.verdict.Verdict.TheVariants.{Stale, Repeated}
 use Rattle.log_model.specs.Log.{Call, CertifiedItem, is_commit, conflicts, first_position, first_repeated, unless_repeated, unless_conflict, verdict_after}
-use Rattle.log_model.specs.Comparisons.{comparisons_from, comparisons_after}
+use Rattle.certify.specs.Comparisons.{comparisons_from, comparisons_after}
 use Rattle.certify.proofs.ListLemmas.{get_drop}
 use Rattle.certify.specs.declared.search.SearchResult.{SearchResult}
 use Rattle.certify.specs.Kept.{Ring, IsKept, Keeps, Latest, IsMemoryOfLatest}

@@ -4,7 +4,7 @@ use Rattle.std.specs.Map.{lookup}
 use Rattle.std.specs.FinMap.{empty}
 use Rattle.schema.specs.declared.look.Look.{Look}
 use Rattle.schema.specs.Rows.{Writes, shares_key}
-use Rattle.row_model.specs.Signature.{writes_set_bit}
+use Rattle.sig_lanes.specs.Signature.{writes_set_bit}
 use Rattle.sig_lanes.specs.Bits.{has_bit, signature_at}
 use Rattle.log_model.specs.declared.request.RequestId.{RequestId}
 use Rattle.log_model.specs.Log.{CertifiedItem, is_commit, repeats, first_position}

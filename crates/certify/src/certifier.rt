@@ -2,7 +2,7 @@
 
 ghost use Rattle.std.specs.Prelude.{◌≡◌, ◌+◌, ◌<◌, ◌≤◌, ◌^◌, ◌++◌, [], ◌∷◌, List, length, IfOk, OnOk};
 ghost use Rattle.log_model.specs.Log.{CertifiedItem, verdict_after, no_request, first_position, repeats};
-ghost use Rattle.log_model.specs.Comparisons.{comparisons_after};
+ghost use Rattle.certify.specs.Comparisons.{comparisons_after};
 ghost use Rattle.std.specs.FinMap.{empty};
 ghost use Rattle.certify.specs.Kept.{IsGivenRequest, IsPreparedOf, IsMemoryOf};
 

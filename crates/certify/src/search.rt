@@ -3,15 +3,14 @@
 ghost use Rattle.std.specs.Prelude.{◌≡◌, ◌==◌, ◌↔◌, Bool, List, IsTrue, ◌-◌, ◌+◌, ◌/◌, ◌*◌, ◌%◌, ◌<◌, ◌≤◌, ◌^◌, ℕ};
 ghost use Rattle.std.specs.Prelude.{length, None};
 ghost use Rattle.std.specs.Int.{bit_at};
-ghost use Rattle.row_model.specs.Signature.{looks_set_bit};
+ghost use Rattle.sig_lanes.specs.Signature.{looks_set_bit};
 ghost use Rattle.sig_lanes.specs.Bits.{has_bit};
 ghost use Rattle.log_model.specs.Log.{Call, CertifiedItem, first_repeated, verdict_after};
-ghost use Rattle.log_model.specs.Comparisons.{comparisons_after};
+ghost use Rattle.certify.specs.Comparisons.{comparisons_after};
 ghost use Rattle.certify.specs.Kept.{HasPlaces, IsMemoryOfLatest};
 ghost use Rattle.certify.specs.Search.{search, lane_met, kept_shares, Meets};
 
 use log_model::Verdict;
-use row_model::{sets_that_share_a_key_share_a_bit, shared_bits_are_of_both};
 use row_sets::{ReadSet, WriteSet, shares_key};
 use sig_lanes::{Block, Sig};
 use std::alloc::Allocator;

@@ -11,9 +11,9 @@ use Rattle.dsm_model.specs.declared.outcome.Outcome.TheVariants.{Begun, More, Ex
 use Rattle.log_model.specs.Log.{StoredProcedure, Setting, Call, by_number, procedures_after, run_in, verdict_of}
 use Rattle.log_model.specs.Name.{is_name}
 use Rattle.dsm_model.specs.World.{World, Replica, Step, Begin, Turn, Order, Deliver, Rebuild, Add, max_calls, call_count, position_of, numbered, open_call, without_call, with_replica, with_begun, new_call, after_begin, is_stale, with_turns, after_turn, with_ordered, after_order_by_run, after_order, after_deliver_next, after_deliver, after_rebuild, with_added, after_add_checked, after_add, after_step, with_stopped, after_refused_memory, after_step_without_memory, IsStep, is_answer}
-use Rattle.call_model.specs.OpenCall.{OpenCall}
-use Rattle.call_model.specs.Request.{has_zero}
-use Rattle.call_model.specs.Check.{ProgramCheck, Passed, Failed}
+use Rattle.log_model.specs.OpenCall.{OpenCall}
+use Rattle.log_model.specs.OpenRequest.{has_zero}
+use Rattle.program_checks.specs.ProgramCheck.{ProgramCheck, Passed, Failed}
 use Rattle.log_model.proofs.RunLemmas.{just}
 use Rattle.dsm_model.proofs.Cases.{Done, done, fst, either_if, begin_refused, order_refused, deliver_refused, rebuild_refused, add_refused}
 use Rattle.dsm_model.proofs.StepLemmas.{turn_without, wants_by, add_way}

@@ -13,9 +13,9 @@ use Rattle.dsm_model.specs.declared.outcome.Outcome.{Outcome}
 use Rattle.dsm_model.specs.declared.outcome.Outcome.TheVariants.{Begun, More, Exit, Stale, NoMemory, Ordered, Read, Cancelled, Delivered, Rebuilt, Refused, Added}
 use Rattle.log_model.specs.Log.{StoredProcedure, Setting, by_number, run_in, verdict_of, moment_at, procedures_after, procedure_of}
 use Rattle.dsm_model.specs.World.{World, Replica, Step, Begin, Turn, Order, Deliver, Rebuild, max_calls, numbered, open_call, without_call, with_replica, with_begun, new_call, after_begin, is_stale, with_turns, after_turn, with_ordered, after_order_by_run, after_order, after_deliver_next, after_deliver, after_rebuild, after_refused, after_step, with_stopped, after_turn_without_memory, after_refused_memory, after_step_without_memory, IsStep, Add, call_count, position_of, with_added, after_add_checked, after_add}
-use Rattle.call_model.specs.OpenCall.{OpenCall, at_row_helper}
-use Rattle.call_model.specs.Request.{has_zero}
-use Rattle.call_model.specs.Check.{ProgramCheck, Passed, Failed}
+use Rattle.log_model.specs.OpenCall.{OpenCall, at_row_helper}
+use Rattle.log_model.specs.OpenRequest.{has_zero}
+use Rattle.program_checks.specs.ProgramCheck.{ProgramCheck, Passed, Failed}
 use Rattle.log_model.specs.Name.{is_name}
 use Rattle.log_model.proofs.RunLemmas.{just}
 

@@ -5,7 +5,7 @@ use Rattle.dsm_model.specs.declared.outcome.Outcome.{Outcome}
 use Rattle.dsm_model.specs.declared.outcome.Outcome.TheVariants.{Delivered}
 use Rattle.log_model.specs.Log.{StoredProcedure, Setting, Call, CallItem, AdditionItem, Log, verdict_of}
 use Rattle.dsm_model.specs.World.{World, Replica, Step, numbered, open_call, without_call, with_replica, with_begun, with_turns, with_ordered, with_added, IsStep, AreSteps}
-use Rattle.call_model.specs.OpenCall.{OpenCall}
+use Rattle.log_model.specs.OpenCall.{OpenCall}
 use Rattle.log_model.proofs.RunLemmas.{just}
 use Rattle.log_model.proofs.GrowthLemmas.{verdict_grown, verdict_within}
 use Rattle.dsm_model.proofs.Numbered.{some_is, numbered_there, numbered_first, flat_is}

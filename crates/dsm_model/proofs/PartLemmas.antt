@@ -5,8 +5,8 @@ use Rattle.dsm_model.specs.declared.outcome.Outcome.{Outcome}
 use Rattle.dsm_model.specs.declared.outcome.Outcome.TheVariants.{Begun}
 use Rattle.log_model.specs.Log.{Setting}
 use Rattle.dsm_model.specs.World.{World, Replica, Step, Begin, numbered, with_numbered, flatten, open_call, with_open_call, with_replica, first_world, after_step, IsStep, AreSteps}
-use Rattle.call_model.specs.OpenCall.{OpenCall}
-use Rattle.call_model.specs.Request.{or_none}
+use Rattle.log_model.specs.OpenCall.{OpenCall}
+use Rattle.log_model.specs.OpenRequest.{or_none}
 use Rattle.log_model.proofs.RunLemmas.{just}
 use Rattle.dsm_model.proofs.Numbered.{get_last}
 use Rattle.dsm_model.proofs.StepLemmas.{begins}

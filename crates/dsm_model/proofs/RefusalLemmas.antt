@@ -8,8 +8,8 @@ use Rattle.dsm_model.specs.declared.outcome.Outcome.{Outcome}
 use Rattle.dsm_model.specs.declared.outcome.Outcome.TheVariants.{Stale, NoMemory, Refused}
 use Rattle.log_model.specs.Log.{Setting}
 use Rattle.dsm_model.specs.World.{World, Replica, Step, Begin, Turn, Order, Deliver, Rebuild, Add, max_calls, numbered, open_call, with_open_call, without_call, with_replica, with_stopped, after_refused, IsStep}
-use Rattle.call_model.specs.OpenCall.{OpenCall}
-use Rattle.call_model.specs.Check.{ProgramCheck}
+use Rattle.log_model.specs.OpenCall.{OpenCall}
+use Rattle.program_checks.specs.ProgramCheck.{ProgramCheck}
 use Rattle.dsm_model.specs.Sound.{IsWorld}
 use Rattle.log_model.proofs.RunLemmas.{just}
 use Rattle.dsm_model.proofs.Numbered.{numbered_gone, numbered_count}

@@ -7,7 +7,7 @@ use Rattle.dsm_model.specs.declared.outcome.Outcome.TheVariants.{Exit, Ordered}
 use Rattle.log_model.specs.Log.{Setting, Call, Item, CallItem, Log, run_in, verdict_of}
 use Rattle.log_model.specs.Fit.{HasSafeProcedures}
 use Rattle.dsm_model.specs.World.{World, Step, Turn, Order, numbered, flatten, open_call, IsStep, AreSteps}
-use Rattle.call_model.specs.OpenCall.{OpenCall}
+use Rattle.log_model.specs.OpenCall.{OpenCall}
 use Rattle.dsm_model.specs.Sound.{IsWorld, IsSerialReply, AreGiven}
 use Rattle.log_model.proofs.GrowthLemmas.{run_grown, get_before}
 use Rattle.log_model.proofs.RunLemmas.{just}

@@ -9,11 +9,11 @@ use Rattle.bpf_semantics.proofs.MomentLemmas.{before_its_length, from_its_length
 use Rattle.log_model.specs.Log.{StoredProcedure, Setting, Call, Log, rows_after, run_in, moment_of, moment_at, procedures_after, procedure_of}
 use Rattle.log_model.specs.Fit.{HasSafeProcedures, IsCall}
 use Rattle.dsm_model.specs.World.{World, open_call}
-use Rattle.call_model.specs.OpenCall.{OpenCall}
+use Rattle.log_model.specs.OpenCall.{OpenCall}
 use Rattle.dsm_model.specs.Sound.{IsOpenCall, IsWorld, IsSound}
 use Rattle.log_model.proofs.RunLemmas.{just, HasRun, has_run}
 use Rattle.log_model.proofs.GrowthLemmas.{rows_fit, procedures_safe}
-use Rattle.call_model.proofs.NextLemmas.{at_procedure}
+use Rattle.log_model.proofs.NextLemmas.{at_procedure}
 use Rattle.dsm_model.proofs.WorldLemmas.{begun_within}
 
 -- what is known of the run of an open call

@@ -13,8 +13,8 @@ use Rattle.log_model.specs.declared.request.RequestId.{RequestId}
 use Rattle.log_model.specs.Log.{StoredProcedure, Catalogue, Setting, Call, Log, by_number, procedures_after, procedure_of, moment_at, run_in}
 use Rattle.log_model.specs.Fit.{HasSafeProcedures}
 use Rattle.dsm_model.specs.World.{World, Step, Begin, Turn, Order, Deliver, Rebuild, numbered, with_numbered, flatten, open_call, without_call, with_turns, IsStep, AreSteps, is_answer, Add}
-use Rattle.call_model.specs.OpenCall.{OpenCall}
-use Rattle.call_model.specs.Request.{or_none}
+use Rattle.log_model.specs.OpenCall.{OpenCall}
+use Rattle.log_model.specs.OpenRequest.{or_none}
 use Rattle.dsm_model.specs.Sound.{IsWorld, IsSound, AreGiven}
 use Rattle.dsm_model.specs.Worlds.{HasExited, IsBegun, IsCallNumbered, is_turn_of, runs_further, turns_of}
 use Rattle.log_model.proofs.GrowthLemmas.{procedures_grown, run_grown}
@@ -22,7 +22,7 @@ use Rattle.log_model.proofs.RunLemmas.{just}
 use Rattle.dsm_model.proofs.Numbered.{some_is, numbered_there, numbered_gone, numbered_first, flat_is}
 use Rattle.dsm_model.proofs.Cases.{Case, Same, New, Over, Turned, Appended, Verdicted, Stop, Anew, step_case, Put}
 use Rattle.dsm_model.proofs.WorldLemmas.{begun_within, step_keeps, steps_keep}
-use Rattle.call_model.proofs.NextLemmas.{at_procedure}
+use Rattle.log_model.proofs.NextLemmas.{at_procedure}
 use Rattle.dsm_model.proofs.SoundLemmas.{open_run, sound}
 use Rattle.dsm_model.proofs.PartLemmas.{begun_is_open, here}
 use Rattle.dsm_model.proofs.LeadLemmas.{Follows, step_leads, log_grows, over_stays}

@@ -7,8 +7,8 @@ use Rattle.log_model.specs.declared.request.RequestId.{RequestId}
 use Rattle.dsm_model.specs.declared.outcome.Outcome.{Outcome}
 use Rattle.log_model.specs.Log.{Setting, Call, run_in, verdict_of, StoredProcedure, CallItem, AdditionItem, Log}
 use Rattle.dsm_model.specs.World.{World, Replica, Step, Begin, max_calls, numbered, with_numbered, flatten, open_call, without_call, with_replica, with_begun, new_call, with_turns, with_ordered, first_world, IsStep, AreSteps, Add, addition_count, call_count, with_added}
-use Rattle.call_model.specs.OpenCall.{OpenCall}
-use Rattle.call_model.specs.Check.{Passed}
+use Rattle.log_model.specs.OpenCall.{OpenCall}
+use Rattle.program_checks.specs.ProgramCheck.{Passed}
 use Rattle.dsm_model.specs.Sound.{IsOpenCall, open_count, IsWorld, IsGiven, AreGiven}
 use Rattle.log_model.proofs.GrowthLemmas.{run_grown, is_log_snoc, verdict_within}
 use Rattle.dsm_model.specs.declared.outcome.Outcome.TheVariants.{Added}

@@ -8,8 +8,8 @@ use Rattle.log_model.specs.declared.verdict.Verdict.TheVariants.{Commit, Repeate
 use Rattle.log_model.specs.Log.{Setting, Call, Item, CallItem, Log, IsLog, rows_after, verdict_of, run_on, run_in, moment_at}
 use Rattle.log_model.specs.Fit.{IsCall, IsSafe, AreItems}
 use Rattle.dsm_model.specs.World.{World, Replica, Step, Begin, max_calls, numbered, open_call, Add, call_count}
-use Rattle.call_model.specs.OpenCall.{OpenCall}
-use Rattle.call_model.specs.Check.{Passed}
+use Rattle.log_model.specs.OpenCall.{OpenCall}
+use Rattle.program_checks.specs.ProgramCheck.{Passed}
 use Rattle.dsm_model.specs.declared.outcome.Outcome.{Outcome}
 use Rattle.dsm_model.specs.declared.outcome.Outcome.TheVariants.{Added}
 

@@ -5,9 +5,9 @@ use Rattle.schema.specs.declared.limits.TheConstants.{MAX_ARGUMENTS, MAX_LOG}
 use Rattle.bpf_semantics.specs.Run.{Run}
 use Rattle.log_model.specs.declared.verdict.Verdict.{Verdict}
 use Rattle.log_model.specs.declared.request.RequestId.{RequestId}
-use Rattle.call_model.specs.OpenCall.{OpenCall, makes_look, at_row_helper}
-use Rattle.call_model.specs.Request.{or_none, has_zero}
-use Rattle.call_model.specs.Check.{ProgramCheck, Passed, Failed}
+use Rattle.log_model.specs.OpenCall.{OpenCall, makes_look, at_row_helper}
+use Rattle.log_model.specs.OpenRequest.{or_none, has_zero}
+use Rattle.program_checks.specs.ProgramCheck.{ProgramCheck, Passed, Failed}
 use Rattle.dsm_model.specs.declared.outcome.StepRefusal.TheVariants.{NoReplica, NoProcedure, ArgumentsLength, NoCall, NotAtExit, NothingToDeliver, ReplicaStopped, LogFull, TooManyCalls, ArgumentsLimit, ProgramRefused, NameShape, ZeroInRequest}
 use Rattle.dsm_model.specs.declared.outcome.StepRefusal.TheVariants as step_refusal
 use Rattle.dsm_model.specs.declared.outcome.Outcome.{Outcome}

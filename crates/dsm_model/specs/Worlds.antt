@@ -5,8 +5,8 @@ use Rattle.log_model.specs.Log.{Call, Log}
 use Rattle.dsm_model.specs.declared.outcome.Outcome.{Outcome}
 use Rattle.dsm_model.specs.declared.outcome.Outcome.TheVariants.{Begun, More, Exit}
 use Rattle.dsm_model.specs.World.{World, Replica, Step, Begin, Turn, open_call}
-use Rattle.call_model.specs.OpenCall.{OpenCall}
-use Rattle.call_model.specs.Request.{or_none}
+use Rattle.log_model.specs.OpenCall.{OpenCall}
+use Rattle.log_model.specs.OpenRequest.{or_none}
 
 -- whether a turn with this answer ran an instruction
 abbrev pub runs_further : Outcome → Bool

@@ -1,6 +1,6 @@
 //! What a step of the world answers.
-use call_model::ProgramFault;
 use log_model::Verdict;
+use program_checks::ProgramFault;
 
 /// Why a step was refused, in the order of their printed numbers.
 #[derive(Clone, Copy, Debug, PartialEq, Eq)]

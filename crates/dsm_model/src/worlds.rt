@@ -10,9 +10,9 @@ ghost use Rattle.log_model.specs.Log.{Call, Setting, StoredProcedure, Log, proce
 ghost use Rattle.dsm_model.specs.World.{World, Replica, Step, Begin, Turn, Order, Deliver, Rebuild, Add, max_calls};
 ghost use Rattle.dsm_model.specs.World.{first_world, numbered, open_call, with_open_call, with_replica, IsStep};
 ghost use Rattle.dsm_model.specs.World.{AreSteps};
-ghost use Rattle.call_model.specs.OpenCall.{OpenCall};
-ghost use Rattle.call_model.specs.Request.{or_none};
-ghost use Rattle.call_model.specs.Check.{ProgramCheck};
+ghost use Rattle.log_model.specs.OpenCall.{OpenCall};
+ghost use Rattle.log_model.specs.OpenRequest.{or_none};
+ghost use Rattle.program_checks.specs.ProgramCheck.{ProgramCheck};
 ghost use Rattle.dsm_model.specs.declared.outcome.StepRefusal.{StepRefusal};
 ghost use Rattle.dsm_model.specs.declared.outcome.StepRefusal.TheVariants.{NotAtExit, LogFull};
 ghost use Rattle.dsm_model.specs.declared.outcome.StepRefusal.TheVariants as step_refusal;

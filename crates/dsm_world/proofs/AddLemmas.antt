@@ -14,11 +14,11 @@ use Rattle.log_model.specs.Entries.{AdditionEntry, items_of}
 use Rattle.log_entry.specs.declared.entry.Entry.{Entry as LogEntry}
 use Rattle.log_entry.specs.declared.entry.Entry.TheVariants.{Call as LogCall, Addition as LogAddition}
 use Rattle.log_entry.specs.Kind.{entry_of}
-use Rattle.call_model.specs.declared.fault.ProgramFault.{ProgramFault}
+use Rattle.program_checks.specs.declared.fault.ProgramFault.{ProgramFault}
 use Rattle.dsm_model.specs.declared.outcome.StepRefusal.TheVariants.{NoMemory, TooManyCalls, ArgumentsLimit, ProgramRefused, NameShape}
 use Rattle.dsm_model.specs.declared.outcome.Outcome.TheVariants.{Added, Refused}
 use Rattle.dsm_model.specs.World.{World, Add, max_calls, call_count, addition_count, with_added, after_add_checked, after_step, after_refused_memory, after_step_without_memory, IsStep}
-use Rattle.call_model.specs.Check.{ProgramCheck, Passed, Failed}
+use Rattle.program_checks.specs.ProgramCheck.{ProgramCheck, Passed, Failed}
 use Rattle.dsm_model.specs.Sound.{IsWorld}
 use Rattle.replica.specs.Replica.{IsForTables, IsNamed, entries_of, writes_in}
 use Rattle.world_calls.specs.OpenCall.{Follows}

@@ -2,7 +2,7 @@
 use Rattle.std.proofs.Common.{◌≡◌, ◌≢◌, ◌⊎◌, get_or, ℕ, zero, suc, ◌+◌, ◌-◌, ◌<◌, ◌≤◌, Bool, false, cond, List, [], ◌∷◌, ◌++◌, length, map, take, drop, slice_get, slice_set, nat_lt, Option, Some, None, option_map, refl, sym, ap, subst, ◌∙◌, arith, inl, inr}
 use Rattle.std.specs.FinMap.{len}
 use Rattle.schema.specs.Rows.{Rows, AreWrites}
-use Rattle.row_model.specs.InstalledWrites.{map_after}
+use Rattle.log_model.specs.InstalledWrites.{map_after}
 use Rattle.replica.specs.Replica.{Replica, StandsFor, IsForTables, IsNamed, entries_of, rows_kept, writes_in}
 use Rattle.bpf_vm.specs.declared.turn.Turn.{Turn as TurnAnswer}
 use Rattle.bpf_vm.specs.declared.turn.Turn.TheVariants as answer
@@ -22,8 +22,8 @@ use Rattle.log_entry.specs.declared.entry.Entry.{Entry as LogEntry}
 use Rattle.log_entry.specs.declared.entry.Entry.TheVariants.{Call as LogCall, Addition as LogAddition}
 use Rattle.dsm_model.specs.World as model
 use Rattle.dsm_model.specs.World.{World, Begin, Order, numbered, with_numbered, flatten, open_call, with_open_call, without_call, with_ordered, with_begun, new_call, position_of, max_calls, addition_count, call_count, IsStep}
-use Rattle.call_model.specs.OpenCall.{OpenCall}
-use Rattle.call_model.specs.Request.{has_zero, or_none}
+use Rattle.log_model.specs.OpenCall.{OpenCall}
+use Rattle.log_model.specs.OpenRequest.{has_zero, or_none}
 use Rattle.dsm_model.specs.Sound.{IsWorld}
 use Rattle.bpf_verify.specs.Flow.{Procedure}
 use Rattle.catalogue.specs.Catalogue.{accepted_of}

@@ -2,7 +2,7 @@
 use Rattle.std.proofs.Common.{◌≡◌, ℕ, zero, suc, ◌≤◌, List, [], ◌∷◌, ◌++◌, length, take, drop, option_map, Option, Some, sym, ap, ◌∙◌, arith}
 use Rattle.std.specs.FinMap.{entries}
 use Rattle.schema.specs.Rows.{Key}
-use Rattle.row_model.specs.InstalledWrites.{map_after}
+use Rattle.log_model.specs.InstalledWrites.{map_after}
 use Rattle.log_model.specs.Log.{Catalogue, Setting, Log, IsLog, rows_after}
 use Rattle.log_model.specs.Entries.{Entry, items_of, CarryRuns, certified_entries_of, installed_from}
 use Rattle.log_model.specs.Fit.{HasSafeProcedures, AreItems}

@@ -11,8 +11,8 @@ use Rattle.dsm_model.specs.declared.outcome.Outcome.TheVariants.{Begun, More, Ex
 use Rattle.log_model.specs.declared.request.RequestId.{RequestId}
 use Rattle.log_model.specs.Log.{StoredProcedure, Setting, by_number, procedures_after, procedure_of, run_in, verdict_of, moment_at}
 use Rattle.dsm_model.specs.World.{World, Replica, Step, Begin, Turn, Order, Deliver, Rebuild, max_calls, call_count, numbered, position_of, open_call, without_call, with_open_call, with_replica, with_begun, new_call, after_begin, is_stale, after_turn_by_run, after_turn, with_ordered, after_order_by_run, after_order, after_deliver_next, after_deliver, after_rebuild, after_step, after_turn_without_memory, after_refused_memory, after_step_without_memory, with_stopped, IsStep}
-use Rattle.call_model.specs.OpenCall.{OpenCall, at_row_helper}
-use Rattle.call_model.specs.Request.{has_zero}
+use Rattle.log_model.specs.OpenCall.{OpenCall, at_row_helper}
+use Rattle.log_model.specs.OpenRequest.{has_zero}
 use Rattle.dsm_model.specs.Sound.{IsGiven, IsWorld}
 use Rattle.world_calls.specs.OpenCall.{IsTurn, AreTurns, further, stays_open}
 use Rattle.dsm_world.specs.Execution.{IsExecution}

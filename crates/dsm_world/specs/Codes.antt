@@ -11,7 +11,7 @@ use Rattle.replica.specs.Codes.{replica_code}
 use Rattle.replica.specs.Replica.{Replica}
 use Rattle.log_model.specs.Log.{StoredProcedure, Call}
 use Rattle.log_model.specs.Entries.{ExecutedCall, Entry, CallEntry, AdditionEntry}
-use Rattle.call_model.specs.OpenCall.{OpenCall}
+use Rattle.log_model.specs.OpenCall.{OpenCall}
 use Rattle.dsm_world.specs.System.{SystemWorld}
 
 abbrev open_call_code : Coded OpenCall

@@ -8,7 +8,7 @@ use Rattle.catalogue.specs.Catalogue.{SystemCatalogue}
 use Rattle.replica.specs.Replica.{Replica, StandsFor, AreEntriesOf, IsForTables, IsNamed, entries_of, writes_in}
 use Rattle.log_model.specs.Entries.{Entry, items_of}
 use Rattle.dsm_model.specs.World.{addition_count}
-use Rattle.call_model.specs.OpenCall.{OpenCall}
+use Rattle.log_model.specs.OpenCall.{OpenCall}
 use Rattle.dsm_model.specs.Sound.{IsWorld}
 use Rattle.world_calls.specs.OpenCall.{open_call_of, Follows}
 use Rattle.world_calls.specs.declared.open_call.OpenCall.{OpenCall as OpenCallState}

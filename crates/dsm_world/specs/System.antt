@@ -8,7 +8,7 @@ use Rattle.catalogue.specs.Stored.{stored_procedures}
 use Rattle.log_model.specs.Entries.{Entry, items_of}
 use Rattle.dsm_model.specs.World as model
 use Rattle.dsm_model.specs.World.{World}
-use Rattle.call_model.specs.OpenCall.{OpenCall}
+use Rattle.log_model.specs.OpenCall.{OpenCall}
 -- what the check of a program that is added comes to
 pub use Rattle.program_checks.specs.Check.{check_of}
 use Rattle.dsm_world.specs.declared.step.Step.{Step}

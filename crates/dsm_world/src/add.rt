@@ -4,11 +4,11 @@ ghost use Rattle.std.specs.Prelude.{◌≡◌, ◌⊎◌, ◌≤◌, ◌++◌, [
 ghost use Rattle.schema.specs.declared.limits.TheConstants.{MAX_ARGUMENTS};
 ghost use Rattle.bpf_code.specs.Program.{IsProgram};
 ghost use Rattle.bpf_verify.specs.Flow.{IsAccepted};
-ghost use Rattle.call_model.specs.declared.fault.ProgramFault.{ProgramFault};
+ghost use Rattle.program_checks.specs.declared.fault.ProgramFault.{ProgramFault};
 ghost use Rattle.dsm_model.specs.declared.outcome.StepRefusal.TheVariants.{NoMemory, ProgramRefused};
 ghost use Rattle.dsm_model.specs.Sound.{IsGiven};
 ghost use Rattle.dsm_model.specs.World.{Add, IsStep};
-ghost use Rattle.call_model.specs.Check.{Passed, Failed};
+ghost use Rattle.program_checks.specs.ProgramCheck.{Passed, Failed};
 ghost use Rattle.log_entry.specs.declared.entry.Entry.TheVariants.{Addition};
 ghost use Rattle.program_checks.specs.Check.{check_of};
 ghost use Rattle.dsm_world.specs.System.{setting_of, world_of};

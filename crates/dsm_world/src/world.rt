@@ -15,7 +15,7 @@ ghost use Rattle.log_entry.specs.Kind.{entry_of};
 ghost use Rattle.log_model.specs.Fit.{HasSafeProcedures};
 ghost use Rattle.dsm_model.specs.World.{Turn as TurnStep, Order as OrderStep, IsStep, AreSteps, first_world, numbered};
 ghost use Rattle.dsm_model.specs.World.{open_call};
-ghost use Rattle.call_model.specs.OpenCall.{OpenCall as ModelCall};
+ghost use Rattle.log_model.specs.OpenCall.{OpenCall as ModelCall};
 ghost use Rattle.dsm_model.specs.Sound.{IsGiven, IsSound, IsSerialReply, IsWorld};
 ghost use Rattle.dsm_model.specs.Worlds.{HasExited, IsCallNumbered, turns_of};
 ghost use Rattle.replica.specs.Replica.{Replica as ReplicaState, AreEntriesOf};

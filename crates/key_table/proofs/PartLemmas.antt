@@ -2,12 +2,12 @@
 use Rattle.std.proofs.Common.{◌≡◌, ℕ, ◌<◌, Bool, true, false, List, [], ◌∷◌, length, get_or, set, filter, cond, refl, sym, ap, subst, ◌∙◌, arith}
 use Rattle.std.proofs.Math.ListN.{get_or-map}
 use Rattle.std.proofs.lemmas.List.{length-map, map-set, get_or_default}
-use Rattle.key_page.proofs.TableLemmas.{test_false}
+use Rattle.row_chain.proofs.TableLemmas.{test_false}
 use Rattle.key_table.specs.Table.{Slot, AreRising, chain_at}
-use Rattle.key_group.specs.Pages.{all_slots, begins_by, least_key, has_slots, page_place, AreFilled}
-use Rattle.key_group.proofs.LeastLemmas.{begins_first}
-use Rattle.key_group.proofs.ChangeLemmas.{chain_part}
-use Rattle.key_group.proofs.PlaceLemmas.{filled_page}
+use Rattle.key_table.specs.Pages.{all_slots, begins_by, least_key, has_slots, page_place, AreFilled}
+use Rattle.key_table.proofs.LeastLemmas.{begins_first}
+use Rattle.key_table.proofs.ChangeLemmas.{chain_part}
+use Rattle.key_table.proofs.PlaceLemmas.{filled_page}
 use Rattle.key_table.specs.Groups.{group_slots, has_any}
 
 pub length-group_slots : (gs : List (List (List Slot))) → length (group_slots gs) ≡ length gs

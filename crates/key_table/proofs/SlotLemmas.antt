@@ -5,8 +5,8 @@ use Rattle.std.specs.List.{insert}
 use Rattle.std.proofs.lemmas.List.{length-set}
 use Rattle.std.proofs.lemmas.Option.{slice_get_within, get_or_from_slice_get}
 use Rattle.key_table.specs.Table.{Slot, AreRising, AreSlotsOf, below, chain_at, versions_in, versions_at, HasRoomAt, IsReserved, IsPushed}
-use Rattle.key_group.specs.Changes.{IsChangedAt, IsAdded}
-use Rattle.key_page.proofs.EditLemmas.{nil, StandsAt, IsChanged, is_changed, is_inserted, wide_changed, wide_inserted, versions_same, versions_pushed, room_here, room_kept, room_other, room_at}
+use Rattle.key_table.specs.Changes.{IsChangedAt, IsAdded}
+use Rattle.row_chain.proofs.EditLemmas.{nil, StandsAt, IsChanged, is_changed, is_inserted, wide_changed, wide_inserted, versions_same, versions_pushed, room_here, room_kept, room_other, room_at}
 
 here : (R : Slot → Slot → Type 0) (k : ℕ) (es new : List Slot) (change : IsChangedAt R k es new) → get_or es change.at nil ≡ change.before
 here R k es new change = get_or_from_slice_get es change.at change.before nil change.stood

@@ -4,14 +4,14 @@ use Rattle.std.specs.List.{insert}
 use Rattle.std.proofs.lemmas.Bool.{eqb-true, eqb-false}
 use Rattle.std.proofs.lemmas.List.{append-nil, map-append, take-map, drop-map, length-take-le, length-drop, take-append-drop}
 use Rattle.key_table.specs.Table.{Slot, AreRising}
-use Rattle.key_group.specs.Pages.{all_slots, with_slot, begins_by, begun, page_place, least_key, least_keys, AreFilled, IsGroupSized}
-use Rattle.key_group.proofs.PagesLemmas.{all-append, begins, with_slot_left, with_slot_right, rising_back}
-use Rattle.key_group.proofs.PlaceLemmas.{filled_page}
-use Rattle.key_group.proofs.PageEditLemmas.{filled-set, halved, all_halved, filled_halved, length_halved, lower_half, upper_half}
-use Rattle.key_group.specs.Changes.{IsChangedAt, IsAdded}
-use Rattle.key_group.proofs.ChangeLemmas.{changed_part}
-use Rattle.key_group.proofs.LeastLemmas.{least_halves}
-use Rattle.key_group.proofs.GroupLemmas.{least_append}
+use Rattle.key_table.specs.Pages.{all_slots, with_slot, begins_by, begun, page_place, least_key, least_keys, AreFilled, IsGroupSized}
+use Rattle.key_table.proofs.PagesLemmas.{all-append, begins, with_slot_left, with_slot_right, rising_back}
+use Rattle.key_table.proofs.PlaceLemmas.{filled_page}
+use Rattle.key_table.proofs.PageEditLemmas.{filled-set, halved, all_halved, filled_halved, length_halved, lower_half, upper_half}
+use Rattle.key_table.specs.Changes.{IsChangedAt, IsAdded}
+use Rattle.key_table.proofs.ChangeLemmas.{changed_part}
+use Rattle.key_table.proofs.LeastLemmas.{least_halves}
+use Rattle.key_table.proofs.GroupLemmas.{least_append}
 use Rattle.key_table.specs.Groups.{group_slots}
 use Rattle.key_table.proofs.PartLemmas.{length-group_slots, within, part_at, part_set}
 

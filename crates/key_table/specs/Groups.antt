@@ -1,8 +1,8 @@
 -- A table's keys in groups of pages, and the one list that they are.
 use Rattle.std.specs.Prelude.{ℕ, ◌≤◌, List, map, Bool, length}
 use Rattle.key_table.specs.declared.edits.TheConstants.{TABLE_GROUPS}
-use Rattle.key_group.specs.declared.edits.TheConstants.{GROUP_KEYS}
-use Rattle.key_group.specs.Pages.{all_slots, has_slots, AreFilled}
+use Rattle.key_table.specs.declared.group_edits.TheConstants.{GROUP_KEYS}
+use Rattle.key_table.specs.Pages.{all_slots, has_slots, AreFilled}
 use Rattle.key_table.specs.Table.{Slot, AreRising, AreSlotsOf}
 
 -- the slots of each group

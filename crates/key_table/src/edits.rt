@@ -5,14 +5,16 @@ ghost use Rattle.std.specs.Prelude.{filter, vec_len, vec_capacity, is_ok, slice_
 ghost use Rattle.std.specs.Prelude.{OnErr, IfOk, IfSome, IsSome, if◌then◌else◌};
 ghost use Rattle.std.specs.Option.{option_copied, IsSomeAnd};
 ghost use Rattle.row_chain.specs.Version.{HasRoom};
-ghost use Rattle.key_group.specs.declared.edits.TheConstants.{GROUP_PAGES, GROUP_KEYS};
-ghost use Rattle.key_group.specs.Pages.{all_slots, least_key, least_keys, page_place, AreFilled, IsPrunedTo};
-ghost use Rattle.key_group.specs.Pages.{ArePagesPruned, IsPrunedWithin, IsGroupSized};
-ghost use Rattle.key_group.specs.Changes.{IsChangedAt, IsAdded};
+ghost use Rattle.key_table.specs.declared.group_edits.TheConstants.{GROUP_PAGES, GROUP_KEYS};
+ghost use Rattle.key_table.specs.Pages.{all_slots, least_key, least_keys, page_place, AreFilled, IsPrunedTo};
+ghost use Rattle.key_table.specs.Pages.{ArePagesPruned, IsPrunedWithin, IsGroupSized};
+ghost use Rattle.key_table.specs.Changes.{IsChangedAt, IsAdded};
 ghost use Rattle.key_table.specs.Table.{Slot, IsReserved, IsPushed, AreRising, chain_at, versions_at, HasRoomAt};
 ghost use Rattle.key_table.specs.Groups.{group_slots, has_any, AreGroups};
 
-use key_group::{GROUP_PAGES, Group, key_behind, place_of};
+use crate::group_edits::GROUP_PAGES;
+use crate::group::Group;
+use crate::pages::{key_behind, place_of};
 use std::alloc::{AllocError, Allocator};
 
 /// The most groups of a table, more than memory holds, so that its keys can be counted.

@@ -3,13 +3,14 @@
 ghost use Rattle.std.specs.Prelude.{◌≡◌, ◌≤◌, ◌*◌, ℕ, length, slice_get, option_map};
 ghost use Rattle.std.specs.Option.{option_copied};
 ghost use Rattle.row_chain.specs.Version.{row_up_to};
-ghost use Rattle.key_group.specs.declared.edits.TheConstants.{PAGE_KEYS, GROUP_KEYS};
-ghost use Rattle.key_group.specs.Pages.{all_slots, least_keys, AreFilled};
+ghost use Rattle.key_table.specs.declared.group_edits.TheConstants.{PAGE_KEYS, GROUP_KEYS};
+ghost use Rattle.key_table.specs.Pages.{all_slots, least_keys, AreFilled};
 ghost use Rattle.key_table.specs.declared.edits.TheConstants.{TABLE_GROUPS};
 ghost use Rattle.key_table.specs.Table.{AreRising, versions_at, rows_between};
 ghost use Rattle.key_table.specs.Groups.{group_slots};
 
-use key_group::{Group, place_of};
+use crate::group::Group;
+use crate::pages::place_of;
 use std::alloc::Allocator;
 
 /// The row of a key at a position.

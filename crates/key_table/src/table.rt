@@ -3,13 +3,13 @@
 ghost use Rattle.std.specs.Prelude.{◌≡◌, ◌≢◌, ◌==◌, ◌≤◌, ◌*◌, ◌^◌, ◌++◌, [], ◌∷◌, ℕ, length, slice_get, if◌then◌else◌};
 ghost use Rattle.std.specs.Prelude.{OnOk, IfSome, IsSome, option_map};
 ghost use Rattle.std.specs.Option.{option_copied};
-ghost use Rattle.key_group.specs.declared.edits.TheConstants.{PAGE_KEYS};
+ghost use Rattle.key_table.specs.declared.group_edits.TheConstants.{PAGE_KEYS};
 ghost use Rattle.row_chain.specs.Version.{row_up_to, needed_versions};
-ghost use Rattle.key_group.specs.Pages.{has_slots};
+ghost use Rattle.key_table.specs.Pages.{has_slots};
 ghost use Rattle.key_table.specs.Table.{AreRising, ArePrunedOrSame, chain_at, versions_at, HasRoomAt, rows_between};
 
 use crate::{edits, groups};
-use key_group::Group;
+use crate::group::Group;
 use std::alloc::{AllocError, Allocator, Global};
 use std::marker::Model;
 
@@ -26,7 +26,7 @@ impl<A: Allocator> Model for KeyTable<A> {
     ghost use Rattle.std.specs.Prelude.{◌≡◌};
     ghost use Rattle.key_table.specs.Table.{Table};
     ghost use Rattle.key_table.specs.Groups.{group_slots, AreGroups};
-    ghost use Rattle.key_group.specs.Pages.{all_slots, least_keys};
+    ghost use Rattle.key_table.specs.Pages.{all_slots, least_keys};
 
     ghost Value = { Table };
 

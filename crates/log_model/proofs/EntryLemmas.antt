@@ -1,6 +1,6 @@
 -- The rows by what entries carry.
 use Rattle.std.proofs.Common.{◌≡◌, ℕ, zero, suc, ◌≤◌, ◌<◌, List, [], ◌∷◌, length, slice_get, option_map, None, IsSome, refl, sym, ◌∙◌, arith}
-use Rattle.row_model.specs.InstalledWrites.{map_after}
+use Rattle.log_model.specs.InstalledWrites.{map_after}
 use Rattle.log_model.specs.Log.{Setting, Log, IsLog, CertifiedItem, history, rows_after, verdict_of}
 use Rattle.log_model.specs.Fit.{HasSafeProcedures, AllFitLog}
 use Rattle.log_model.specs.Entries.{Entry, items_of, CarryRuns, certified_entries_of, installed_from}

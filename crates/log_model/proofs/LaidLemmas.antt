@@ -4,7 +4,7 @@ use Rattle.std.specs.FinMap.{empty}
 use Rattle.std.proofs.lemmas.Bool.Decides.{nat_tests}
 use Rattle.schema.specs.Rows.{Rows, after_writes}
 use Rattle.bpf_semantics.specs.Agree.{after_each}
-use Rattle.row_model.specs.InstalledWrites.{with_installed, map_after}
+use Rattle.log_model.specs.InstalledWrites.{with_installed, map_after}
 use Rattle.log_model.specs.Log.{CertifiedItem, is_commit}
 use Rattle.log_model.specs.Entries.{installed_from}
 use Rattle.log_model.proofs.Laid.{installed_writes, rows_laid_on}

@@ -8,6 +8,8 @@ pub mod GrowthLemmas
 mod MeaningLemmas
 pub mod RepetitionLemmas
 mod AdditionLemmas
-mod ComparisonLemmas
 pub mod EntryLemmas
 pub mod CarryLemmas
+mod InstalledLemmas
+pub mod NextLemmas
+mod OpenRequestLemmas

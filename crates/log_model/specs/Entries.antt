@@ -3,7 +3,7 @@ use Rattle.std.specs.Prelude.{◌≡◌, ℕ, ◌+◌, List, [], ◌∷◌, ◌+
 use Rattle.std.specs.List.{fold, AllByRecursion}
 use Rattle.schema.specs.declared.look.Look.{Look}
 use Rattle.schema.specs.Rows.{Writes}
-use Rattle.row_model.specs.InstalledWrites.{InstalledWrites}
+use Rattle.log_model.specs.InstalledWrites.{InstalledWrites}
 use Rattle.log_model.specs.Log.{StoredProcedure, Catalogue, Setting, Call, Item, CallItem, AdditionItem, Log, CertifiedItem, is_commit, if_commits, certified_call_after, certified_addition, run_in}
 
 -- a call with looks, writes and a reply

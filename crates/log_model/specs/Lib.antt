@@ -1,6 +1,8 @@
 pub mod Name
 pub mod Log
 pub mod Verdicts
-pub mod Comparisons
 pub mod Fit
 pub mod Entries
+pub mod InstalledWrites
+pub mod OpenCall
+pub mod OpenRequest

@@ -3,7 +3,7 @@
 ghost use Rattle.std.specs.Prelude.{◌≡◌, ◌≤◌, ◌++◌, [], ◌∷◌, ℕ, suc, length, slice_get, Some};
 ghost use Rattle.schema.specs.Rows.{AreRows};
 ghost use Rattle.bpf_semantics.specs.Agree.{same_on};
-ghost use Rattle.row_model.specs.InstalledWrites.{map_after};
+ghost use Rattle.log_model.specs.InstalledWrites.{map_after};
 ghost use Rattle.log_model.specs.declared.verdict.Verdict.TheVariants.{Commit};
 ghost use Rattle.log_model.specs.Log.{Setting, Call, CallItem, Item, Log, IsLog, IsPlaced, history, rows_after};
 ghost use Rattle.log_model.specs.Log.{run_in, run_on, verdict_of};

@@ -4,12 +4,12 @@ ghost use Rattle.std.specs.Prelude.{◌≡◌, ◌≢◌, ◌↔◌, ◌+◌, �
 ghost use Rattle.std.specs.Prelude.{None, IsSome, ◌==◌, IsTrue, [], ◌∷◌};
 ghost use Rattle.std.specs.List.{list_any};
 ghost use Rattle.schema.specs.declared.look.Look.{Look};
-ghost use Rattle.schema.specs.Rows.{AreRows};
-ghost use Rattle.row_model.specs.InstalledWrites.{map_after};
+ghost use Rattle.std.specs.FinMap.{empty};
+ghost use Rattle.schema.specs.Rows.{AreRows, after_writes};
+ghost use Rattle.log_model.specs.InstalledWrites.{InstalledWrites, map_after};
 ghost use Rattle.log_model.specs.declared.verdict.Verdict.TheVariants.{Commit, Conflict, Stale, Repeated, Taken};
 ghost use Rattle.log_model.specs.declared.verdict.Identifier.TheVariants.{Name, Number};
 ghost use Rattle.log_model.specs.declared.verdict.Verdict.{Verdict};
-ghost use Rattle.log_model.specs.Comparisons.{comparisons_after, AreRising, IsCompared};
 ghost use Rattle.log_model.specs.Log.{StoredProcedure, CertifiedItem, Setting, Call, CallItem, AdditionItem, Log};
 ghost use Rattle.log_model.specs.Log.{IsPlaced, IsLog, no_request, same_request, by_number, by_name, if_commits};
 ghost use Rattle.log_model.specs.Log.{history, rows_after, procedures_after, verdict_of, moment_at};
@@ -82,16 +82,6 @@ pub fn verdicts_on_additions_in_words_of_the_log()
         → (verdict_of w log (suc d) ≡ Some Commit)
         ↔ ((by_name (procedures_after w log d) p.name ≡ None)
         × (by_number (procedures_after w log d) p.number ≡ None)) }
-{}
-
-/// An exact comparison is made exactly with those that committed since the snapshot and share a bit with the looks, up
-/// to the first that conflicts, once with each, in rising order; where the call is repeated or stale, with none.
-pub fn comparisons_in_words_of_the_log()
-    ensures rising { (window : ℕ) (past : List CertifiedItem) (call : Call) (looks : List Look)
-        → AreRising (comparisons_after window past call looks) }
-    ensures compared { (window : ℕ) (past : List CertifiedItem) (call : Call) (looks : List Look) (position : ℕ)
-        → IsTrue (list_any (λ x. x == position) (comparisons_after window past call looks))
-        ↔ IsCompared window past call looks position }
 {}
 
 /// Each position of the log has a verdict, and none beyond its end has.
@@ -172,4 +162,17 @@ pub fn one_more_entry_carries_its_run()
     ensures { (w : Setting) (entries : List Entry) (e : Entry)
         → IsLog (items_of entries) → CarryRuns w entries → IsPlaced (length entries) (item_of e)
         → IsCarried w (items_of entries) e → CarryRuns w (entries ++ e ∷ []) }
+{}
+
+/// At each position the map has the write sets that were installed up to it: one more changes it from its own
+/// position on, and not below.
+pub fn map_after_each_write_set()
+    ensures none { (position : ℕ) → map_after [] position ≡ empty }
+    ensures later { (installed : List InstalledWrites) (next : InstalledWrites) (position : ℕ)
+        → next.position ≤ position
+        → map_after (installed ++ next ∷ []) position
+        ≡ after_writes next.writes (map_after installed position) }
+    ensures before { (installed : List InstalledWrites) (next : InstalledWrites) (position : ℕ)
+        → position < next.position
+        → map_after (installed ++ next ∷ []) position ≡ map_after installed position }
 {}

@@ -19,7 +19,7 @@ use Rattle.bpf_vm.specs.declared.turn.Turn.TheVariants.{More, Exit, Stale, NoMem
 use Rattle.log_model.specs.Log.{Setting, Call, Log, IsLog, StoredProcedure, by_number, procedures_after, procedure_of, rows_after, moment_at}
 use Rattle.log_model.specs.Fit.{HasSafeProcedures, AreItems}
 use Rattle.log_entry.specs.declared.entry.Entry.{Entry as LogEntry}
-use Rattle.call_model.specs.OpenCall.{OpenCall, is_row_helper, calls_row_helper, at_row_helper}
+use Rattle.log_model.specs.OpenCall.{OpenCall, is_row_helper, calls_row_helper, at_row_helper}
 use Rattle.catalogue.specs.Catalogue.{accepted_of}
 use Rattle.replica.specs.Replica.{entries_of}
 use Rattle.replica.proofs.EntryLemmas.{items_count}

@@ -8,7 +8,7 @@ use Rattle.log_model.specs.Fit.{IsCall}
 use Rattle.log_model.specs.Entries.{ExecutedCall}
 use Rattle.log_entry.specs.declared.entry.Entry.{Entry as LogEntry}
 use Rattle.log_entry.specs.declared.entry.Entry.TheVariants as entry
-use Rattle.call_model.specs.Request.{or_none, has_zero}
+use Rattle.log_model.specs.OpenRequest.{or_none, has_zero}
 use Rattle.replica.specs.Replica.{AreEntriesOf, entries_of}
 use Rattle.locked_replica.specs.Ordered.{IsOrderedCall}
 use Rattle.locked_replica.specs.Begun.{procedure_now}

@@ -4,7 +4,7 @@ use mathlib.Core.List.{IsPrefix}
 use Rattle.log_model.specs.Log.{Setting, Call}
 use Rattle.log_model.specs.Fit.{IsCall}
 use Rattle.log_entry.specs.declared.entry.Entry.{Entry as LogEntry}
-use Rattle.call_model.specs.OpenCall.{OpenCall, makes_look}
+use Rattle.log_model.specs.OpenCall.{OpenCall, makes_look}
 use Rattle.world_calls.specs.OpenCall.{IsCompletion, stays_open}
 use Rattle.node_calls.specs.Running.{RunningState, log_seen}
 use Rattle.node_calls.specs.declared.run.Ran.{Ran as RanCall}

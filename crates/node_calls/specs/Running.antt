@@ -9,7 +9,7 @@ use Rattle.log_model.specs.Entries.{items_of}
 use Rattle.log_entry.specs.Codes.{call_code}
 use Rattle.log_entry.specs.declared.entry.Entry.{Entry as LogEntry}
 use Rattle.order_log.specs.Codes.{entry_code}
-use Rattle.call_model.specs.OpenCall.{OpenCall, at_row_helper}
+use Rattle.log_model.specs.OpenCall.{OpenCall, at_row_helper}
 use Rattle.replica.specs.Replica.{entries_of}
 use Rattle.locked_replica.specs.Begun.{BegunState}
 use Rattle.world_calls.specs.OpenCall.{Follows}

@@ -3,7 +3,7 @@
 ghost use Rattle.std.specs.Prelude.{◌≡◌, ◌≤◌, length};
 ghost use Rattle.log_model.specs.Fit.{IsCall};
 ghost use Rattle.replica.specs.Replica.{entries_of};
-ghost use Rattle.call_model.specs.Request.{has_zero};
+ghost use Rattle.log_model.specs.OpenRequest.{has_zero};
 ghost use Rattle.locked_replica.specs.Ordered.{IsOrderedCall};
 ghost use Rattle.node_calls.specs.Running.{log_seen};
 ghost use Rattle.world_calls.specs.OpenCall.{IsCompletion};
@@ -16,7 +16,7 @@ use crate::bells::{Bells, Waiter};
 use crate::gate::Gate;
 use crate::order::{answer_by, await_verdict, order};
 use crate::run::{Ran, run};
-use call_model::{has_zero, or_none};
+use log_model::{has_zero, or_none};
 use locked_replica::{Begin, BegunCall, LockedReplica, LogSetting, OrderedEntries};
 use log_entry::ExecutedCall;
 use order_log::{AppendFault, Fact, OrderLog, Seen};

@@ -1,7 +1,7 @@
 //! Instructions that read or write rows.
 
 ghost use Rattle.std.specs.Prelude.{◌≡◌};
-ghost use Rattle.call_model.specs.OpenCall.{calls_row_helper, is_row_helper};
+ghost use Rattle.log_model.specs.OpenCall.{calls_row_helper, is_row_helper};
 
 use bpf_code::Instruction;
 use schema::Helper;

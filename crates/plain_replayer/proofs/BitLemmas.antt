@@ -3,7 +3,7 @@ use Rattle.std.proofs.Common.{◌≡◌, ℕ, suc, ◌+◌, ◌-◌, ◌*◌, �
 use Rattle.std.specs.List.{list_any, range_with_len}
 use Rattle.schema.specs.declared.look.Look.{Look}
 use Rattle.schema.specs.Rows.{Key, covers, any_covers}
-use Rattle.row_model.specs.Signature.{bit_of}
+use Rattle.sig_lanes.specs.Signature.{bit_of}
 
 pub bit_by_words : (table key : ℕ) → (key * 0x9E3779B97F4A7C15 % 2 ^ 64 + table * 0xC2B2AE3D27D4EB4F % 2 ^ 64) % 2 ^ 64 / 2 ^ 54 ≡ bit_of (table, key)
 unfolding bit_of

@@ -7,7 +7,7 @@ use Rattle.std.proofs.lemmas.Bool.{cases_lt}
 use Rattle.schema.specs.declared.look.Look.{Look}
 use Rattle.log_model.specs.declared.verdict.Verdict.TheVariants.{Stale}
 use Rattle.log_model.specs.Log.{CertifiedItem, Call, conflicts, first_position, first_repeated, unless_conflict}
-use Rattle.log_model.specs.Comparisons.{comparisons_from, comparisons_after}
+use Rattle.certify.specs.Comparisons.{comparisons_from, comparisons_after}
 use Rattle.plain_replayer.specs.Report.{Report}
 use Rattle.plain_replayer.specs.Replay.{certified_of, comparison_at, comparisons_on_new, verdict_on_new}
 

@@ -16,7 +16,7 @@ use Rattle.log_model.specs.declared.verdict.Verdict.{Verdict}
 use Rattle.log_model.specs.declared.verdict.Verdict.TheVariants.{Commit, Conflict, Stale, Repeated, Taken}
 use Rattle.log_model.specs.Log.{Setting, is_commit, Call, Item, CallItem, AdditionItem, Log, IsPlaced, IsLogFrom, IsLog, by_number, or_idle, run_of_procedure, run_of_call, CertifiedItem, verdict_after, verdict_on_addition, certified_call_after, certified_addition, certified_item, Database, first_database, database_at, database_now, database_after_item, History, start, with_item, if_commits, history, procedures_after, run_in, verdict_of}
 use Rattle.log_model.specs.Verdicts.{IsRepetition}
-use Rattle.log_model.specs.Comparisons.{comparisons_after}
+use Rattle.certify.specs.Comparisons.{comparisons_after}
 use Rattle.plain_replayer.specs.declared.item.PlainItemKind.{PlainItemKind}
 use Rattle.plain_replayer.specs.Kind.{item_of}
 use Rattle.plain_replayer.specs.Report.{Report, report_by_run, report_of_addition}

@@ -5,12 +5,12 @@ use Rattle.std.specs.FinMap.{empty}
 use Rattle.schema.specs.declared.look.Look.{Look}
 use Rattle.schema.specs.Rows.{Rows}
 use Rattle.bpf_semantics.specs.Run.{Run}
-use Rattle.row_model.specs.Signature.{shares_bit}
+use Rattle.sig_lanes.specs.Signature.{shares_bit}
 use Rattle.log_model.specs.declared.verdict.Verdict.{Verdict}
 use Rattle.log_model.specs.declared.verdict.Verdict.TheVariants.{Commit, Conflict, Stale, Repeated, Taken}
 use Rattle.plain_replayer.specs.Report.{Report, report_of_addition}
 use Rattle.log_model.specs.Log.{StoredProcedure, Catalogue, Setting, Call, Item, CallItem, AdditionItem, Log, run_of_call, CertifiedItem, is_commit, conflicts, first_position, unless_conflict, verdict_after, verdict_on_addition, if_commits, verdict_of, run_in}
-use Rattle.log_model.specs.Comparisons.{comparisons_from, comparisons_after, comparisons_of}
+use Rattle.certify.specs.Comparisons.{comparisons_from, comparisons_after, comparisons_of}
 
 -- of each item, and the rows before the first and after each
 pub record Replay : Type 0 where

@@ -3,7 +3,7 @@
 ghost use Rattle.std.specs.Prelude.{◌≡◌, map};
 ghost use Rattle.std.specs.List.{list_any};
 ghost use Rattle.schema.specs.Rows.{any_covers};
-ghost use Rattle.row_model.specs.Signature.{bit_of, look_sets_bit, looks_set_bit};
+ghost use Rattle.sig_lanes.specs.Signature.{bit_of, look_sets_bit, looks_set_bit};
 
 use plain_runner::Write;
 use schema::Look;

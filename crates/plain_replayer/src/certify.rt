@@ -3,7 +3,7 @@
 ghost use Rattle.std.specs.Prelude.{◌≡◌, ◌+◌, ◌-◌, ◌<◌, ◌≤◌, ◌^◌, length, map, drop, nat_le, ◌++◌, IfOk, OnOk};
 ghost use Rattle.log_model.specs.Log.{is_commit, same_request, conflicts, repeats, first_position, unless_repeated};
 ghost use Rattle.log_model.specs.Log.{unless_conflict, verdict_after};
-ghost use Rattle.log_model.specs.Comparisons.{comparisons_from, comparisons_after};
+ghost use Rattle.certify.specs.Comparisons.{comparisons_from, comparisons_after};
 ghost use Rattle.plain_replayer.specs.Replay.{certified_of, comparison_at, comparisons_on_new, verdict_on_new};
 
 use crate::bits::{shares_bit, shares_key};

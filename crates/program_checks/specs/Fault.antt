@@ -1,9 +1,9 @@
 -- Why a program is not accepted.
 use Rattle.std.specs.Prelude.{◌≡◌}
 use Rattle.bpf_verify.specs.Flow.{Procedure, IsRefused}
-use Rattle.call_model.specs.declared.fault.ProgramFault.TheVariants.{Bytes, Instruction}
-use Rattle.call_model.specs.Check.{ProgramCheck, Failed}
-use Rattle.call_model.specs.declared.fault.ProgramFault.{ProgramFault}
+use Rattle.program_checks.specs.declared.fault.ProgramFault.TheVariants.{Bytes, Instruction}
+use Rattle.program_checks.specs.ProgramCheck.{ProgramCheck, Failed}
+use Rattle.program_checks.specs.declared.fault.ProgramFault.{ProgramFault}
 use Rattle.schema.specs.declared.or_no_memory.OrNoMemory.{OrNoMemory}
 use Rattle.schema.specs.declared.or_no_memory.OrNoMemory.TheVariants.{NoMemory, Fault}
 

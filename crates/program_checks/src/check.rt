@@ -4,15 +4,15 @@ ghost use Rattle.std.specs.Prelude.{◌≡◌, ◌≤◌, IfOk, IfErr};
 ghost use Rattle.schema.specs.declared.limits.TheConstants.{MAX_ARGUMENTS};
 ghost use Rattle.bpf_code.specs.Program.{IsProgram};
 ghost use Rattle.bpf_verify.specs.Flow.{IsAccepted};
-ghost use Rattle.call_model.specs.Check.{Passed};
+ghost use Rattle.program_checks.specs.ProgramCheck.{Passed};
 ghost use Rattle.program_checks.specs.Check.{check_of};
 ghost use Rattle.program_checks.specs.Fault.{IsFaultOf, IsRefusedFor};
 
+use crate::fault::ProgramFault;
 use crate::laws::programs_pass_where_they_are_accepted;
 use bpf_bytes::{DecodeCause, decode};
 use bpf_code::Code;
 use bpf_verify::{Accepted, Refusal, verify};
-use call_model::ProgramFault;
 use schema::{OrNoMemory, Schema};
 use std::alloc::Allocator;
 

@@ -7,8 +7,8 @@ ghost use Rattle.bpf_bytes.specs.Decoding.{program_of};
 ghost use Rattle.schema.specs.Schema.{Tables};
 ghost use Rattle.bpf_verify.specs.Refusal.{Cause};
 ghost use Rattle.bpf_verify.specs.Flow.{IsAccepted, IsRefused};
-ghost use Rattle.call_model.specs.declared.fault.ProgramFault.TheVariants.{Bytes, Instruction};
-ghost use Rattle.call_model.specs.Check.{Passed, Failed};
+ghost use Rattle.program_checks.specs.declared.fault.ProgramFault.TheVariants.{Bytes, Instruction};
+ghost use Rattle.program_checks.specs.ProgramCheck.{Passed, Failed};
 ghost use Rattle.program_checks.specs.Check.{check_of};
 
 /// The check of a program comes to what decoding and the verifier answer: it passes exactly where the bytes are that

@@ -6,7 +6,7 @@ use Rattle.std.proofs.lemmas.List.{length-append, append-nil}
 use Rattle.std.proofs.lemmas.List.Sums.{fold-append}
 use Rattle.std.specs.FinMap.{empty}
 use Rattle.schema.specs.Rows.{Rows, Writes, after_writes}
-use Rattle.row_model.specs.InstalledWrites.{InstalledWrites, map_after}
+use Rattle.log_model.specs.InstalledWrites.{InstalledWrites, map_after}
 use Rattle.log_model.specs.declared.request.RequestId.{RequestId}
 use Rattle.log_model.specs.declared.verdict.Verdict.{Verdict}
 use Rattle.log_model.specs.declared.verdict.Verdict.TheVariants.{Commit, Conflict, Stale, Repeated, Taken}

@@ -5,7 +5,7 @@ use Rattle.std.specs.Option.{option_map}
 use Rattle.std.specs.List.{fold}
 use Rattle.std.proofs.lemmas.List.{take-append-le, take_all, length-append}
 use Rattle.std.proofs.lemmas.Option.{slice_get_within}
-use Rattle.row_model.specs.InstalledWrites.{map_after}
+use Rattle.log_model.specs.InstalledWrites.{map_after}
 use Rattle.log_model.specs.declared.verdict.Verdict.{Verdict}
 use Rattle.log_model.specs.Log.{Catalogue, Setting, CertifiedItem, IsLog, verdict_of, history, rows_after, procedures_after}
 use Rattle.log_model.specs.Fit.{HasSafeProcedures, AreItems}

@@ -4,10 +4,10 @@ use Rattle.std.specs.FinMap.{empty}
 use Rattle.schema.specs.Schema.{Tables}
 use Rattle.schema.specs.Rows.{Rows, Writes}
 use Rattle.schema.specs.declared.look.Look.{Look}
-use Rattle.row_model.specs.InstalledWrites.{map_after}
+use Rattle.log_model.specs.InstalledWrites.{map_after}
 use Rattle.log_model.specs.declared.verdict.Verdict.{Verdict}
 use Rattle.log_model.specs.Log.{Catalogue, Setting, Call as OrderedCall, CertifiedItem, IsLog, verdict_after, verdict_of, rows_after, procedures_after}
-use Rattle.log_model.specs.Comparisons.{comparisons_after}
+use Rattle.certify.specs.Comparisons.{comparisons_after}
 use Rattle.log_model.specs.Entries.{Entry, CallEntry, AdditionEntry, items_of, CarryRuns, CertifiedEntries, certified_entry, certified_entries_of, installed_from}
 use Rattle.log_model.specs.Fit.{HasSafeProcedures, AreItems}
 use Rattle.rows_mv.specs.Versions.{Versions, AnswersFrom, AreOfTables, HaveWidths, width_of}

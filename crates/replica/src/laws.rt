@@ -19,8 +19,7 @@ ghost use Rattle.certify.specs.declared.certification.Certification.{Certificati
 ghost use Rattle.replica.specs.Replica.{AreEntriesOf, FitTables, Replica, StandsFor, rows_kept};
 ghost use Rattle.replica.specs.Delivery.{IsDelivered, IsRefusedDelivery, KeepsCertified};
 
-use log_model::{entries_suffice, one_more_entry_carries_its_run};
-use row_model::map_after_each_write_set;
+use log_model::{entries_suffice, map_after_each_write_set, one_more_entry_carries_its_run};
 use rows_mv::answers_after_an_install;
 
 /// Tables that have the schema's widths take the schema's writes, and so do others of the same widths.

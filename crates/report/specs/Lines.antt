@@ -10,8 +10,8 @@ use Rattle.bpf_verify.specs.declared.refusal.Refusal.TheVariants.{At}
 use Rattle.log_model.specs.declared.verdict.Identifier.TheVariants.{Name, Number}
 use Rattle.log_model.specs.declared.verdict.Verdict.{Verdict}
 use Rattle.log_model.specs.declared.verdict.Verdict.TheVariants as verdict
-use Rattle.call_model.specs.declared.fault.ProgramFault.{ProgramFault}
-use Rattle.call_model.specs.declared.fault.ProgramFault.TheVariants.{Bytes, Instruction}
+use Rattle.program_checks.specs.declared.fault.ProgramFault.{ProgramFault}
+use Rattle.program_checks.specs.declared.fault.ProgramFault.TheVariants.{Bytes, Instruction}
 use Rattle.dsm_model.specs.declared.outcome.StepRefusal.{StepRefusal}
 use Rattle.dsm_model.specs.declared.outcome.StepRefusal.TheVariants.{NoReplica, NoProcedure, ArgumentsLength, NoCall, NotAtExit, NothingToDeliver, ReplicaStopped, LogFull, NoMemory, TooManyCalls, ArgumentsLimit, ProgramRefused, NameShape, ZeroInRequest}
 use Rattle.tallies.specs.declared.counts.Counts.{Counts}

@@ -3,7 +3,7 @@
 ghost use Rattle.std.specs.Prelude.{◌≡◌, ℕ, List, Option};
 ghost use Rattle.log_model.specs.declared.request.RequestId.{RequestId};
 ghost use Rattle.dsm_model.specs.World.{Begin, Turn, Order, Deliver, Rebuild, Add};
-ghost use Rattle.call_model.specs.Check.{ProgramCheck};
+ghost use Rattle.program_checks.specs.ProgramCheck.{ProgramCheck};
 ghost use Rattle.report.specs.declared.printed.DeliveredEntry.{DeliveredEntry};
 ghost use Rattle.report.specs.Answers.{answer_line, call_report, replica_report};
 

@@ -13,10 +13,10 @@ ghost use Rattle.report.specs.declared.printed.Line.TheVariants as line;
 use crate::printed::{CallAnswer, CallReport, DeliveredEntry, LoggedEntry, ReplicaReport};
 use crate::refusal::step_refusal_number;
 use byte_output::line::{LineBuffer, push, push_column, push_right, push_unsigned};
-use call_model::ProgramFault;
+use log_model::{Identifier, Verdict};
+use program_checks::ProgramFault;
 use dsm_model::StepRefusal;
 use itoa::Buffer;
-use log_model::{Identifier, Verdict};
 use tallies::Counts;
 
 pub(crate) fn push_refused(words: &mut LineBuffer, refusal: StepRefusal)

@@ -10,7 +10,7 @@ use Rattle.dsm_model.specs.declared.outcome.Outcome.TheVariants.{More}
 use Rattle.log_model.specs.Log.{StoredProcedure, Catalogue, Setting, Log, IsLog, by_number, procedures_after, run_in, moment_at}
 use Rattle.log_model.specs.Entries.{items_of}
 use Rattle.dsm_model.specs.World.{World, Replica as Progress, Step, Turn, IsStep, numbered, open_call, with_open_call}
-use Rattle.call_model.specs.OpenCall.{OpenCall}
+use Rattle.log_model.specs.OpenCall.{OpenCall}
 use Rattle.dsm_model.specs.Sound.{IsGiven, IsSound, IsWorld}
 use Rattle.catalogue.specs.Stored.{ListedProcedure, stored, stored_procedures, WasAccepted, AreStored}
 use Rattle.replica.specs.Replica.{Replica}

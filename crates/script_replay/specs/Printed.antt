@@ -9,7 +9,7 @@ use Rattle.dsm_model.specs.declared.outcome.Outcome.TheVariants.{Delivered}
 use Rattle.dsm_model.specs.declared.outcome.StepRefusal.TheVariants.{NoReplica}
 use Rattle.log_model.specs.declared.verdict.Verdict.{Verdict}
 use Rattle.log_model.specs.Log.{Setting, Item, CallItem, AdditionItem, Log, rows_after, run_in, verdict_of}
-use Rattle.log_model.specs.Comparisons.{comparisons_of}
+use Rattle.certify.specs.Comparisons.{comparisons_of}
 use Rattle.log_model.specs.Entries.{Entry, CallEntry, AdditionEntry}
 use Rattle.dsm_model.specs.World.{World, Replica, Step, numbered}
 use Rattle.dsm_model.specs.Sound.{told_by}

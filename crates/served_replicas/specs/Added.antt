@@ -8,7 +8,7 @@ use Rattle.log_model.specs.Name.{is_name}
 use Rattle.catalogue.specs.Stored.{ListedProcedure}
 use Rattle.log_entry.specs.declared.entry.Entry.{Entry as LogEntry}
 use Rattle.log_entry.specs.declared.entry.Entry.TheVariants as entry
-use Rattle.call_model.specs.Check.{Passed, Failed}
+use Rattle.program_checks.specs.ProgramCheck.{Passed, Failed}
 use Rattle.program_checks.specs.Check.{check_of}
 use Rattle.locked_replica.specs.Ordered.{IsOrderedAddition}
 use Rattle.served_replicas.specs.declared.add.ProgramRefusal.TheVariants.{ArgumentsLimit, Fault}

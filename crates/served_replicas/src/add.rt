@@ -5,7 +5,7 @@ ghost use Rattle.served_replicas.specs.Added.{IsAskedFor, IsNotAdded, IsAddedAns
 
 use crate::shared::Shared;
 use bpf_verify::Accepted;
-use call_model::ProgramFault;
+use program_checks::ProgramFault;
 use catalogue::is_name;
 use locked_replica::{LogSetting, OrderedEntries};
 use log_entry::{AddedProcedure, Entry};

@@ -5,7 +5,7 @@ use Rattle.std.specs.List.{list_any}
 use Rattle.std.specs.FinMap.{keys}
 use Rattle.schema.specs.declared.look.Look.{Look}
 use Rattle.schema.specs.Rows.{Key, Writes}
-use Rattle.row_model.specs.Signature.{bit_of, looks_set_bit, writes_set_bit, shares_bit}
+use Rattle.sig_lanes.specs.Signature.{bit_of, looks_set_bit, writes_set_bit, shares_bit}
 use Rattle.sig_lanes.specs.Bits.{has_bit, Meet}
 
 either : (a b : Bool) → (a || b) ≡ true → (a ≡ true) ⊎ (b ≡ true)

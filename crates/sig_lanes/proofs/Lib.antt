@@ -1,3 +1,4 @@
 mod BitLemmas
 mod LaneLemmas
 pub mod LawLemmas
+mod SignatureLemmas

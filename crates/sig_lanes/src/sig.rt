@@ -2,7 +2,7 @@
 
 ghost use Rattle.std.specs.Prelude.{◌≡◌, ◌<◌, ◌||◌, ◌++◌, ◌==◌, ◌↔◌, ℕ, List, [], IsTrue, false, length};
 ghost use Rattle.std.specs.Prelude.{slice_index_or, IfSome, IfNone};
-ghost use Rattle.row_model.specs.Signature.{bit_of, look_sets_bit, looks_set_bit, writes_set_bit};
+ghost use Rattle.sig_lanes.specs.Signature.{bit_of, look_sets_bit, looks_set_bit, writes_set_bit};
 ghost use Rattle.sig_lanes.specs.Bits.{has_bit, Meet};
 
 use crate::lanes::lanes_with_bits;

@@ -5,10 +5,10 @@ use Rattle.std.proofs.lemmas.List.{length-append}
 use Rattle.std.proofs.lemmas.List.Sums.{fold-append}
 use Rattle.schema.specs.declared.look.Look.{Look}
 use Rattle.schema.specs.Rows.{Rows}
-use Rattle.row_model.specs.InstalledWrites.{map_after}
+use Rattle.log_model.specs.InstalledWrites.{map_after}
 use Rattle.log_model.specs.Log.{Catalogue, Call, CertifiedItem, verdict_after, first_position, repeats, conflicts, unless_repeated, unless_conflict}
 use Rattle.log_model.specs.declared.verdict.Verdict.TheVariants.{Stale}
-use Rattle.log_model.specs.Comparisons.{comparisons_after, comparisons_from}
+use Rattle.certify.specs.Comparisons.{comparisons_after, comparisons_from}
 use Rattle.log_model.specs.Entries.{Entry, CallEntry, AdditionEntry, CertifiedEntries, certified_entry, with_entry, certified_entries_of, installed_from}
 use Rattle.certify.specs.declared.certification.Certification.{Certification}
 use Rattle.certify.specs.Kept.{IsMemoryOf}

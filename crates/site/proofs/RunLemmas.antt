@@ -3,14 +3,14 @@ use Rattle.std.proofs.Common.{◌≡◌, ℕ, ◌-◌, ◌≤◌, nat_lt, Bool, 
 use Rattle.std.proofs.lemmas.Bool.Decides.{nat_tests}
 use Rattle.std.proofs.lemmas.List.{length-map}
 use Rattle.schema.specs.Rows.{Rows, AreRows}
-use Rattle.row_model.specs.InstalledWrites.{map_after}
+use Rattle.log_model.specs.InstalledWrites.{map_after}
 use Rattle.bpf_verify.specs.Flow.{Procedure}
 use Rattle.bpf_vm.specs.declared.turn.Turn.{Turn}
 use Rattle.bpf_vm.specs.declared.turn.Turn.TheVariants.{Exit, Stale}
 use Rattle.log_model.specs.Log.{StoredProcedure, Setting, Call, Log, IsLog, by_number, procedures_after, rows_after}
 use Rattle.log_model.specs.Entries.{Entry, item_of, items_of, CarryRuns, certified_entries_of, installed_from}
 use Rattle.log_model.specs.Fit.{HasSafeProcedures, AllFitLog}
-use Rattle.call_model.specs.OpenCall.{OpenCall, makes_look}
+use Rattle.log_model.specs.OpenCall.{OpenCall, makes_look}
 use Rattle.catalogue.specs.Catalogue.{accepted_of}
 use Rattle.replica.specs.Replica.{Replica, StandsFor, rows_kept}
 use Rattle.world_calls.specs.OpenCall.{call_of, Follows, CanGoOn, IsTurn, AreTurns, further}

@@ -7,7 +7,7 @@ use Rattle.std.specs.Str.{bytes_eq}
 use Rattle.std.specs.Prelude.{Result, Ok, Err, IfOk}
 use Rattle.schema.specs.Schema.{Tables, AreTables}
 use Rattle.schema.specs.Rows.{AreWrites, Key, key_cmp}
-use Rattle.row_model.specs.InstalledWrites.{map_after}
+use Rattle.log_model.specs.InstalledWrites.{map_after}
 use Rattle.rows_mv.specs.Versions.{HaveTables}
 use Rattle.bpf_code.specs.Program.{IsProgram}
 use Rattle.bpf_semantics.specs.Run.{Run}

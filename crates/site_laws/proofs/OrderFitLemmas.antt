@@ -9,7 +9,7 @@ use Rattle.schema.specs.Schema.{Tables, AreTables}
 use Rattle.log_model.specs.Log.{StoredProcedure, Setting, IsPlaced}
 use Rattle.log_model.specs.Fit.{FitsLog, IsSafe}
 use Rattle.log_model.specs.Entries.{Entry, AdditionEntry, item_of, items_of, IsCarried}
-use Rattle.call_model.specs.Check.{Passed}
+use Rattle.program_checks.specs.ProgramCheck.{Passed}
 use Rattle.program_checks.specs.Check.{check_of}
 use Rattle.site_model.specs.Fit.{AreFitEntries}
 use Rattle.site_model.specs.Standing.{SiteSetting, StandsAs, standing}

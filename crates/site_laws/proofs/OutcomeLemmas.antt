@@ -7,7 +7,7 @@ use Rattle.log_model.specs.declared.verdict.Verdict.TheVariants as verdict
 use Rattle.log_model.specs.Log.{StoredProcedure, Call, Log, verdict_of}
 use Rattle.log_model.specs.Entries.{Entry, CallEntry, AdditionEntry, items_of}
 use Rattle.log_model.specs.Name.{is_name}
-use Rattle.call_model.specs.Check.{ProgramCheck, Passed, Failed}
+use Rattle.program_checks.specs.ProgramCheck.{ProgramCheck, Passed, Failed}
 use Rattle.program_checks.specs.Check.{check_of}
 use Rattle.log_entry.specs.Head.{NamedProcedure, AdditionHead, CallHead, head_of}
 use Rattle.site_model.specs.declared.cause.NothingCause.{NothingCause}

@@ -16,7 +16,7 @@ use Rattle.bpf_code.specs.Program.{Program}
 use Rattle.bpf_bytes.specs.Spelling.{spelling}
 use Rattle.schema.specs.declared.limits.TheConstants.{MAX_ARGUMENTS}
 use Rattle.log_model.specs.Name.{is_name}
-use Rattle.call_model.specs.Check.{Passed}
+use Rattle.program_checks.specs.ProgramCheck.{Passed}
 use Rattle.program_checks.specs.Check.{check_of}
 use Rattle.log_entry.specs.Fit.{named_procedure}
 use Rattle.log_entry.specs.Head.{NamedProcedure, AdditionHead, CallHead, head_of, is_whole}

@@ -4,7 +4,7 @@ use Rattle.bpf_code.specs.Program.{Program}
 use Rattle.schema.specs.declared.limits.TheConstants.{MAX_ARGUMENTS}
 use Rattle.log_model.specs.Log.{StoredProcedure, by_name, by_number}
 use Rattle.log_model.specs.Name.{is_name}
-use Rattle.call_model.specs.Check.{Passed}
+use Rattle.program_checks.specs.ProgramCheck.{Passed}
 use Rattle.program_checks.specs.Check.{check_of}
 use Rattle.log_entry.specs.Head.{NamedProcedure, AdditionHead, head_of}
 use Rattle.site_model.specs.Standing.{SiteSetting}

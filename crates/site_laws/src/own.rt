@@ -5,7 +5,7 @@ ghost use Rattle.bpf_code.specs.Program.{Program};
 ghost use Rattle.bpf_bytes.specs.Spelling.{spelling};
 ghost use Rattle.schema.specs.declared.limits.TheConstants.{MAX_ARGUMENTS};
 ghost use Rattle.log_model.specs.Log.{run_in};
-ghost use Rattle.call_model.specs.Check.{Passed};
+ghost use Rattle.program_checks.specs.ProgramCheck.{Passed};
 ghost use Rattle.program_checks.specs.Check.{check_of};
 ghost use Rattle.log_entry.specs.Fit.{AdditionFitsFields};
 ghost use Rattle.log_entry.specs.Head.{NamedProcedure};

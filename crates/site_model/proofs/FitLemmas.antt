@@ -2,7 +2,7 @@
 use Rattle.std.proofs.Common.{◌≡◌, ℕ, zero, suc, ◌+◌, ◌≤◌, List, [], ◌∷◌, ◌++◌, length, slice_get, option_map, Some, refl, sym, ap, subst, ◌∙◌, arith}
 use Rattle.std.proofs.lemmas.List.{length-map, map-append}
 use Rattle.std.proofs.lemmas.List.Sums.{fold-append}
-use Rattle.row_model.specs.InstalledWrites.{map_after}
+use Rattle.log_model.specs.InstalledWrites.{map_after}
 use Rattle.log_model.specs.Log.{Catalogue, CertifiedItem, Setting, Item, Log, IsLog, IsPlaced, history, rows_after, verdict_of}
 use Rattle.log_model.specs.Fit.{AllFitLog, FitsLog, HasSafeProcedures}
 use Rattle.log_model.specs.Entries.{Entry, item_of, items_of, CarryRuns, CertifiedEntries, IsCarried, certified_entry, certified_entries_of, installed_from, with_entry}

@@ -10,7 +10,7 @@ use Rattle.log_model.specs.Log.{StoredProcedure, Catalogue, Setting, Call, Log, 
 use Rattle.log_model.specs.Fit.{AreArguments, FitsProcedures, IsSafe, FitsLog}
 use Rattle.log_model.specs.Entries.{CallEntry, AdditionEntry, item_of, IsCarried}
 use Rattle.log_model.specs.Name.{is_name}
-use Rattle.call_model.specs.Check.{Passed, Failed}
+use Rattle.program_checks.specs.ProgramCheck.{Passed, Failed}
 use Rattle.program_checks.specs.Check.{check_of}
 use Rattle.log_entry.specs.Head.{CallHead, AdditionHead, NamedProcedure, part, field, is_whole, request_of, call_of, call_head, procedure_of as named_procedure_of, addition_head, head_of}
 use Rattle.site_model.specs.declared.cause.NothingCause.{NothingCause}

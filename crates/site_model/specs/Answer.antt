@@ -9,7 +9,7 @@ use Rattle.log_model.specs.Entries.{Entry, CallEntry, AdditionEntry, items_of}
 use Rattle.log_model.specs.Name.{is_name}
 use Rattle.log_entry.specs.Bytes.{entry_bytes}
 use Rattle.log_entry.specs.Head.{NamedProcedure, is_whole}
-use Rattle.call_model.specs.Check.{ProgramCheck, Passed, Failed}
+use Rattle.program_checks.specs.ProgramCheck.{ProgramCheck, Passed, Failed}
 use Rattle.program_checks.specs.Check.{check_of}
 use Rattle.site_model.specs.declared.answer.CallAnswer.{CallAnswer}
 use Rattle.site_model.specs.declared.answer.CallAnswer.TheVariants.{Refused, Repeated, Cancelled, Read, Submitted}

@@ -1,6 +1,6 @@
 //! What a site answers to a caller.
 
-use call_model::ProgramFault;
+use program_checks::ProgramFault;
 
 /// Why a call isn't run.
 #[derive(Clone, Copy, Debug, PartialEq, Eq)]

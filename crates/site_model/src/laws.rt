@@ -1,7 +1,7 @@
 //! Laws of orders.
 
 ghost use Rattle.std.specs.Prelude.{◌≡◌, ℕ, ◌+◌, ◌<◌, ◌≤◌, Some, List, [], ◌∷◌, ◌++◌, length, All};
-ghost use Rattle.row_model.specs.InstalledWrites.{map_after};
+ghost use Rattle.log_model.specs.InstalledWrites.{map_after};
 ghost use Rattle.log_model.specs.Log.{StoredProcedure, Setting, IsPlaced, rows_after, verdict_of};
 ghost use Rattle.log_model.specs.Fit.{IsSafe, FitsLog};
 ghost use Rattle.log_model.specs.Entries.{Entry, AdditionEntry, item_of, items_of, IsCarried};

@@ -18,8 +18,8 @@ use Rattle.bpf_semantics.proofs.MomentLemmas.{from_its_length_on}
 use Rattle.bpf_vm.specs.Turns.{MachineState, MayWantMemory}
 use Rattle.bpf_vm.specs.Run.{Effects, HasEnded, IsStaleAt, IsNotStale, AfterTurn}
 use Rattle.log_model.specs.Log.{StoredProcedure, Setting, Call, Log, or_idle, run_of_procedure, run_of_call, rows_after, run_in, moment_of, moment_at, procedure_of}
-use Rattle.call_model.specs.OpenCall.{OpenCall, makes_look, is_row_helper, calls_row_helper, at_row_helper}
-use Rattle.call_model.proofs.NextLemmas.{is_row}
+use Rattle.log_model.specs.OpenCall.{OpenCall, makes_look, is_row_helper, calls_row_helper, at_row_helper}
+use Rattle.log_model.proofs.NextLemmas.{is_row}
 use Rattle.catalogue.specs.Catalogue.{accepted_of}
 use Rattle.bpf_vm.specs.declared.turn.Turn.{Turn}
 use Rattle.bpf_vm.specs.declared.turn.Turn.TheVariants.{More, Exit, Stale, NoMemory}

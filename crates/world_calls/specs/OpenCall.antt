@@ -11,7 +11,7 @@ use Rattle.log_model.specs.declared.request.RequestId.{RequestId}
 use Rattle.log_model.specs.Log.{Setting, Call, Log, StoredProcedure, by_number, procedures_after, rows_after, run_in, moment_at, procedure_of}
 use Rattle.log_model.specs.Entries.{CarriesRun}
 use Rattle.log_model.specs.Fit.{IsCall}
-use Rattle.call_model.specs.OpenCall.{OpenCall, makes_look, at_row_helper}
+use Rattle.log_model.specs.OpenCall.{OpenCall, makes_look, at_row_helper}
 use Rattle.catalogue.specs.Catalogue.{accepted_of}
 use Rattle.world_calls.specs.declared.open_call.OpenCall.{OpenCall as OpenCallState}
 use Rattle.world_calls.specs.declared.completion.Completion.{Completion}

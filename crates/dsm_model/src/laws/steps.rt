@@ -9,7 +9,7 @@ ghost use Rattle.schema.specs.declared.limits.TheConstants.{MAX_ARGUMENTS};
 ghost use Rattle.bpf_code.specs.Program.{Program};
 ghost use Rattle.log_model.specs.declared.request.RequestId.{RequestId};
 ghost use Rattle.log_model.specs.declared.verdict.Verdict.{Verdict};
-ghost use Rattle.call_model.specs.declared.fault.ProgramFault.{ProgramFault};
+ghost use Rattle.program_checks.specs.declared.fault.ProgramFault.{ProgramFault};
 ghost use Rattle.dsm_model.specs.declared.outcome.StepRefusal.TheVariants.{NoReplica, NoProcedure, ArgumentsLength};
 ghost use Rattle.dsm_model.specs.declared.outcome.StepRefusal.TheVariants as step_refusal;
 ghost use Rattle.dsm_model.specs.declared.outcome.StepRefusal.TheVariants.{NoCall, NotAtExit, NothingToDeliver};
@@ -26,9 +26,9 @@ ghost use Rattle.log_model.specs.Name.{is_name};
 ghost use Rattle.dsm_model.specs.World.{World, Replica, Step, Begin, Turn, Order, Deliver, Rebuild, max_calls, Add};
 ghost use Rattle.dsm_model.specs.World.{call_count, is_answer, numbered, position_of, open_call, with_open_call};
 ghost use Rattle.dsm_model.specs.World.{with_replica, IsStep};
-ghost use Rattle.call_model.specs.OpenCall.{OpenCall, makes_look, at_row_helper};
-ghost use Rattle.call_model.specs.Request.{or_none, has_zero};
-ghost use Rattle.call_model.specs.Check.{ProgramCheck, Passed, Failed};
+ghost use Rattle.log_model.specs.OpenCall.{OpenCall, makes_look, at_row_helper};
+ghost use Rattle.log_model.specs.OpenRequest.{or_none, has_zero};
+ghost use Rattle.program_checks.specs.ProgramCheck.{ProgramCheck, Passed, Failed};
 
 /// A call begins as the next of the world's, at the position of its replica, with no instruction run. It doesn't where
 /// there is no such replica; else, where there is no such procedure at its position; else, where the arguments have

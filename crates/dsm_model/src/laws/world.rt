@@ -8,7 +8,7 @@ ghost use Rattle.dsm_model.specs.declared.outcome.Outcome.TheVariants.{Exit, Ord
 ghost use Rattle.log_model.specs.Log.{Setting, verdict_of};
 ghost use Rattle.log_model.specs.Fit.{HasSafeProcedures};
 ghost use Rattle.dsm_model.specs.World.{World, Step, Turn, Order, first_world, open_call, IsStep, AreSteps};
-ghost use Rattle.call_model.specs.OpenCall.{OpenCall};
+ghost use Rattle.log_model.specs.OpenCall.{OpenCall};
 ghost use Rattle.dsm_model.specs.Sound.{IsWorld, IsSound, IsSerialReply, IsGiven, AreGiven};
 
 /// Every list of steps leads from the first world to one in which the log is a log of calls of its procedures and of

@@ -1,8 +1,8 @@
 use bpf_bytes::{DecodeCause, DecodeFault};
 use bpf_verify::Cause;
-use call_model::ProgramFault;
-use dsm_model::{Outcome, StepRefusal};
 use log_model::{Identifier, Verdict};
+use program_checks::ProgramFault;
+use dsm_model::{Outcome, StepRefusal};
 use report::{
     CallAnswer, CallReport, DeliveredEntry, Line, LoggedEntry, ReplicaReport, add_line, call_line,
     line,

@@ -1,8 +1,8 @@
 use bpf_verify::Cause;
 use byte_output::sink::GrowingBytes;
-use call_model::ProgramFault;
-use log_entry::{Entry, ExecutedCall};
 use log_model::{Identifier, RequestId};
+use program_checks::ProgramFault;
+use log_entry::{Entry, ExecutedCall};
 use row_sets::{Bytes, ReadSet, WriteSet};
 use script::LineFault;
 use site_model::{

@@ -4,11 +4,11 @@ use super::{
     ADD_TEN, BEGIN_SEVEN, BEGIN_TEN, Script, described, run_script, same, steps_of, two_replicas,
 };
 use bpf_verify::Cause;
-use call_model::ProgramFault;
+use log_model::Verdict;
+use program_checks::ProgramFault;
 use catalogue::Catalogue;
 use dsm_model::{Outcome, StepRefusal};
 use dsm_world::{Step, World};
-use log_model::Verdict;
 use scarce::Scarce;
 use std::alloc::{Allocator, Global};
 use std::process::Abort;

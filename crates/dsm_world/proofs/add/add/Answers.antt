@@ -7,7 +7,7 @@ use Rattle.dsm_model.specs.declared.outcome.StepRefusal.{StepRefusal}
 use Rattle.dsm_model.specs.declared.outcome.StepRefusal.TheVariants.{NoMemory}
 use Rattle.dsm_model.specs.declared.outcome.Outcome.TheVariants.{Added, Refused}
 use Rattle.dsm_model.specs.World.{Add, IsStep, max_calls, call_count}
-use Rattle.call_model.specs.Check.{ProgramCheck}
+use Rattle.program_checks.specs.ProgramCheck.{ProgramCheck}
 use Rattle.dsm_model.specs.Sound.{IsGiven, IsWorld}
 use Rattle.program_checks.specs.Check.{check_of}
 use Rattle.program_checks.proofs.CheckLemmas.{accepted_for}

@@ -5,7 +5,7 @@ use Rattle.dsm_model.specs.declared.outcome.Outcome.TheVariants.{Begun, Refused}
 use Rattle.log_model.specs.Log.{by_number, procedures_after}
 use Rattle.log_model.specs.Entries.{items_of}
 use Rattle.dsm_model.specs.World.{Begin, IsStep}
-use Rattle.call_model.specs.Request.{or_none}
+use Rattle.log_model.specs.OpenRequest.{or_none}
 use Rattle.catalogue.specs.Catalogue.{accepted_of}
 use Rattle.world_calls.specs.OpenCall.{open_call_of}
 use Rattle.dsm_world.specs.System.{setting_of, progress_of, world_of}

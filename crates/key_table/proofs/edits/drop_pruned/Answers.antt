@@ -1,7 +1,7 @@
 use Rattle.std.proofs.Common.{◌≡◌, ◌≤◌, List, [], length, get_or, set, filter, ap, ◌∙◌, arith}
 use Rattle.key_table.specs.Table.{Slot}
-use Rattle.key_group.specs.Pages.{all_slots, least_key}
-use Rattle.key_group.proofs.PrunePagesLemmas.{length-filter-le}
+use Rattle.key_table.specs.Pages.{all_slots, least_key}
+use Rattle.key_table.proofs.PrunePagesLemmas.{length-filter-le}
 use Rattle.key_table.specs.Groups.{has_any}
 use Rattle.key_table.proofs.edits.drop_pruned.Goals as goal
 

@@ -1,7 +1,7 @@
 use Rattle.std.proofs.Common.{◌≡◌, ◌∙◌, ◌<◌, ◌≤◌, ℕ, List, [], length, get_or, subst, sym, ap, arith}
 use Rattle.key_table.specs.Table.{Slot, AreRising}
-use Rattle.key_group.specs.Pages.{least_keys}
-use Rattle.key_group.proofs.LeastLemmas.{length-least}
+use Rattle.key_table.specs.Pages.{least_keys}
+use Rattle.key_table.proofs.LeastLemmas.{length-least}
 use Rattle.key_table.specs.Groups.{group_slots}
 use Rattle.key_table.proofs.PartLemmas.{length-group_slots}
 use Rattle.key_table.proofs.SplitLemmas.{split_length, split_slots, split_room}

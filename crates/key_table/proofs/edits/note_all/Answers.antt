@@ -1,8 +1,8 @@
 use Rattle.std.proofs.Common.{ℕ, List, [], length, get_or, set, sym, ap, ◌∙◌}
 use Rattle.std.proofs.lemmas.List.{length-set}
 use Rattle.key_table.specs.Table.{Slot}
-use Rattle.key_group.specs.Pages.{all_slots, least_key}
-use Rattle.key_group.proofs.LeastLemmas.{one_noted}
+use Rattle.key_table.specs.Pages.{all_slots, least_key}
+use Rattle.key_table.proofs.LeastLemmas.{one_noted}
 use Rattle.key_table.specs.Groups.{group_slots}
 use Rattle.key_table.proofs.PartLemmas.{within, part_at, length-group_slots}
 use Rattle.key_table.proofs.edits.note_all.Goals as goal

@@ -1,5 +1,5 @@
 use Rattle.std.proofs.Common.{◌≡◌, length, take}
-use Rattle.key_group.specs.Pages.{least_keys}
+use Rattle.key_table.specs.Pages.{least_keys}
 use Rattle.key_table.specs.Groups.{group_slots}
 use Rattle.key_table.proofs.edits.note_all.Given as goal
 

@@ -1,11 +1,11 @@
 use Rattle.std.proofs.Common.{◌≡◌, ◌≤◌, ◌<◌, ℕ, Bool, true, false, List, [], ◌∷◌, length, get_or, set, filter, cond, refl, sym, ap, subst, ◌∙◌, arith}
 use Rattle.std.proofs.lemmas.List.{get_or_default, length-set, map-set}
 use Rattle.key_table.specs.Table.{Slot}
-use Rattle.key_group.specs.Pages.{all_slots, has_slots, least_key, least_keys, AreFilled, IsPrunedWithin}
-use Rattle.key_group.proofs.LeastLemmas.{length-least}
-use Rattle.key_group.proofs.PlaceLemmas.{filled_page}
-use Rattle.key_group.proofs.PrunePagesLemmas.{length-filter-le}
-use Rattle.key_group.proofs.PrunePartLemmas.{part_within, length_within, without_empty, slots_left, filled_left}
+use Rattle.key_table.specs.Pages.{all_slots, has_slots, least_key, least_keys, AreFilled, IsPrunedWithin}
+use Rattle.key_table.proofs.LeastLemmas.{length-least}
+use Rattle.key_table.proofs.PlaceLemmas.{filled_page}
+use Rattle.key_table.proofs.PrunePagesLemmas.{length-filter-le}
+use Rattle.key_table.proofs.PrunePartLemmas.{part_within, length_within, without_empty, slots_left, filled_left}
 use Rattle.key_table.specs.Groups.{group_slots, has_any}
 use Rattle.key_table.proofs.PartLemmas.{within, part_at, part_set, parts_left, length-group_slots}
 use Rattle.key_table.proofs.edits.prune_page.Goals as goal

@@ -4,10 +4,10 @@ use Rattle.std.proofs.lemmas.Bool.{false≢true}
 use Rattle.std.proofs.lemmas.List.{length-set, set-get_or, get_or_default}
 use Rattle.row_chain.specs.Version.{ChainState}
 use Rattle.key_table.specs.Table.{Slot, IsReserved, HasRoomAt, chain_at}
-use Rattle.key_group.specs.Pages.{all_slots, least_key, page_place, IsGroupSized}
-use Rattle.key_group.specs.Changes.{IsChangedAt, IsAdded}
-use Rattle.key_group.proofs.LeastLemmas.{length-least, least_noted}
-use Rattle.key_page.proofs.EditLemmas.{on_ok}
+use Rattle.key_table.specs.Pages.{all_slots, least_key, page_place, IsGroupSized}
+use Rattle.key_table.specs.Changes.{IsChangedAt, IsAdded}
+use Rattle.key_table.proofs.LeastLemmas.{length-least, least_noted}
+use Rattle.row_chain.proofs.EditLemmas.{on_ok}
 use Rattle.key_table.specs.Groups.{group_slots, AreGroups}
 use Rattle.key_table.proofs.PartLemmas.{within, part_at, part_set, chain_group, length-group_slots}
 use Rattle.key_table.proofs.SlotLemmas.{Reserved, reserved_found, reserved_added, reserved_none, length_changed, length_added}

@@ -3,7 +3,7 @@ use Rattle.std.specs.Prelude.{is_ok}
 use Rattle.std.specs.List.{insert}
 use Rattle.std.proofs.lemmas.Bool.{false≢true}
 use Rattle.key_table.specs.Table.{Slot}
-use Rattle.key_group.proofs.PageEditLemmas.{halved, insert_after}
+use Rattle.key_table.proofs.PageEditLemmas.{halved, insert_after}
 use Rattle.key_table.proofs.edits.split_group.Goals as goal
 
 done : (gs rs ts new : List (List (List Slot))) (i : ℕ) (b : Bool) (u g : List (List Slot)) → i < length gs → rs ≡ gs → ts ≡ set rs i (take 128 (get_or rs i g)) → u ≡ drop 128 (get_or rs i g) → new ≡ cond b (insert ts (i + 1) u) ts → b ≡ true → new ≡ halved gs i (take 128 (get_or gs i g)) (drop 128 (get_or gs i g))

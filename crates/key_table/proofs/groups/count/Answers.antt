@@ -1,8 +1,8 @@
 use Rattle.std.proofs.Common.{◌≡◌, ◌≤◌, ◌<◌, ◌+◌, ◌∙◌, ℕ, List, length, drop, get_or, subst, sym, ap, arith}
 use Rattle.std.proofs.lemmas.List.{length-append}
 use Rattle.key_table.specs.Table.{Slot, rows_between}
-use Rattle.key_group.specs.Pages.{all_slots, AreFilled}
-use Rattle.key_group.proofs.PlaceLemmas.{filled_page, rows_page, rows_end, rows-le}
+use Rattle.key_table.specs.Pages.{all_slots, AreFilled}
+use Rattle.key_table.proofs.PlaceLemmas.{filled_page, rows_page, rows_end, rows-le}
 use Rattle.key_table.specs.Groups.{group_slots}
 use Rattle.key_table.proofs.PartLemmas.{within, part, begins_past}
 use Rattle.key_table.proofs.groups.count.Goals as goal

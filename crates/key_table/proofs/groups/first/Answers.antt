@@ -1,8 +1,8 @@
 use Rattle.std.proofs.Common.{◌≡◌, ◌+◌, ◌∙◌, ℕ, List, [], ◌∷◌, ◌++◌, drop, sym, ap, arith}
 use Rattle.std.specs.Prelude.{Some, None, slice_get}
 use Rattle.key_table.specs.Table.{rows_between}
-use Rattle.key_group.specs.Pages.{all_slots}
-use Rattle.key_group.proofs.PlaceLemmas.{rows_page, rows_end}
+use Rattle.key_table.specs.Pages.{all_slots}
+use Rattle.key_table.proofs.PlaceLemmas.{rows_page, rows_end}
 use Rattle.key_table.specs.Groups.{group_slots}
 use Rattle.key_table.proofs.PartLemmas.{within, part, begins_past}
 use Rattle.key_table.proofs.groups.first.Goals as goal

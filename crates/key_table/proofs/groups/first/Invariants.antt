@@ -1,6 +1,6 @@
 use Rattle.std.proofs.Common.{◌≡◌, drop}
 use Rattle.key_table.specs.Table.{rows_between}
-use Rattle.key_group.specs.Pages.{all_slots}
+use Rattle.key_table.specs.Pages.{all_slots}
 use Rattle.key_table.specs.Groups.{group_slots}
 use Rattle.key_table.proofs.groups.first.Given as goal
 

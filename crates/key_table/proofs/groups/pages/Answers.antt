@@ -1,8 +1,8 @@
 use Rattle.std.proofs.Common.{◌≡◌, ◌+◌, ◌∙◌, List, length, drop, ap, arith}
 use Rattle.std.proofs.lemmas.List.{length-append}
 use Rattle.key_table.specs.Table.{Slot}
-use Rattle.key_group.specs.Pages.{all_slots}
-use Rattle.key_group.proofs.PlaceLemmas.{drop_page}
+use Rattle.key_table.specs.Pages.{all_slots}
+use Rattle.key_table.proofs.PlaceLemmas.{drop_page}
 use Rattle.key_table.specs.Groups.{group_slots}
 use Rattle.key_table.proofs.PartLemmas.{within, part}
 use Rattle.key_table.proofs.groups.pages.Goals as goal

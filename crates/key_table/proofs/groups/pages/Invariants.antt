@@ -1,5 +1,5 @@
 use Rattle.std.proofs.Common.{◌≤◌, ◌+◌, ◌*◌, length, drop}
-use Rattle.key_group.specs.Pages.{all_slots}
+use Rattle.key_table.specs.Pages.{all_slots}
 use Rattle.key_table.specs.Groups.{group_slots}
 use Rattle.key_table.proofs.groups.pages.Given as goal
 

@@ -3,7 +3,7 @@ use Rattle.std.specs.Prelude.{Option}
 use Rattle.row_chain.specs.Version.{ChainState, row_up_to}
 use Rattle.key_table.specs.Table.{versions_in}
 use Rattle.key_table.specs.Groups.{group_slots}
-use Rattle.key_group.proofs.LeastLemmas.{length-least}
+use Rattle.key_table.proofs.LeastLemmas.{length-least}
 use Rattle.key_table.proofs.PartLemmas.{length-group_slots, chain_group}
 use Rattle.key_table.proofs.groups.row_at.Goals as goal
 

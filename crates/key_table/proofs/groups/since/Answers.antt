@@ -1,8 +1,8 @@
 use Rattle.std.proofs.Common.{◌≡◌, ◌-◌, ◌≤◌, ◌∙◌, ℕ, List, length, drop, subst, sym, ap, arith}
 use Rattle.std.proofs.lemmas.List.{take_rest, length-drop, drop-map}
 use Rattle.key_table.specs.Table.{Slot, AreRising, rows_between}
-use Rattle.key_group.specs.Pages.{all_slots, AreFilled}
-use Rattle.key_group.proofs.PlaceLemmas.{rising-drop_pages, filled-drop, rows-drop_place}
+use Rattle.key_table.specs.Pages.{all_slots, AreFilled}
+use Rattle.key_table.proofs.PlaceLemmas.{rising-drop_pages, filled-drop, rows-drop_place}
 use Rattle.key_table.specs.Groups.{group_slots}
 use Rattle.key_table.proofs.groups.since.Goals as goal
 

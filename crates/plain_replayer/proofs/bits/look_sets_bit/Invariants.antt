@@ -1,5 +1,5 @@
 use Rattle.std.proofs.Common.{◌≡◌, nat_eq}
-use Rattle.row_model.specs.Signature.{bit_of}
+use Rattle.sig_lanes.specs.Signature.{bit_of}
 use Rattle.plain_replayer.proofs.BitLemmas.{any_key}
 use Rattle.plain_replayer.proofs.bits.look_sets_bit.Given as goal
 

@@ -2,7 +2,7 @@ use Rattle.std.proofs.Common.{◌≡◌, ◌∙◌, rules, tests}
 use Rattle.std.proofs.lemmas.Iterator.{YieldsList-from_slice}
 use Rattle.std.proofs.lemmas.Iterator.Search.{any_from_yields_List}
 use Rattle.std.specs.List.{list_any}
-use Rattle.row_model.specs.Signature.{bit_of, looks_set_bit}
+use Rattle.sig_lanes.specs.Signature.{bit_of, looks_set_bit}
 use Rattle.plain_replayer.proofs.BitLemmas.{any_of_map}
 use Rattle.plain_replayer.proofs.bits.shares_bit.Goals as goal
 

@@ -1,6 +1,6 @@
 use Rattle.std.proofs.Common.{◌∙◌, ◌+◌, ◌++◌, List, ℕ, sym, ap, map, drop, arith}
 use Rattle.std.proofs.lemmas.List.{append-nil, append_assoc}
-use Rattle.log_model.specs.Comparisons.{comparisons_from}
+use Rattle.certify.specs.Comparisons.{comparisons_from}
 use Rattle.plain_replayer.specs.Replay.{certified_of}
 use Rattle.plain_replayer.proofs.CertifyLemmas.{from_place, compared_last, compared_on, none_compared}
 use Rattle.plain_replayer.proofs.certify.comparisons_from.Goals as goal

@@ -1,5 +1,5 @@
 use Rattle.std.proofs.Common.{◌≡◌, ◌+◌, ◌++◌, map, drop}
-use Rattle.log_model.specs.Comparisons.{comparisons_from}
+use Rattle.certify.specs.Comparisons.{comparisons_from}
 use Rattle.plain_replayer.specs.Replay.{certified_of}
 use Rattle.plain_replayer.proofs.certify.comparisons_from.Given as goal
 

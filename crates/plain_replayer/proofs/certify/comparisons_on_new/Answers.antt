@@ -1,6 +1,6 @@
 use Rattle.std.proofs.Common.{◌∙◌, ◌+◌, sym, ap, map}
 use Rattle.std.proofs.lemmas.Result.{IfOk-weaker}
-use Rattle.log_model.specs.Comparisons.{comparisons_from}
+use Rattle.certify.specs.Comparisons.{comparisons_from}
 use Rattle.plain_replayer.specs.Replay.{certified_of}
 use Rattle.plain_replayer.proofs.CertifyLemmas.{stale_comparisons, recent_comparisons}
 use Rattle.plain_replayer.proofs.certify.comparisons_on_new.Goals as goal

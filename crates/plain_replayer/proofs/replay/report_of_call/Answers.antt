@@ -2,7 +2,7 @@ use Rattle.std.proofs.Common.{◌∙◌, ◌≡◌, ℕ, ap, map, get_or}
 use Rattle.std.specs.FinMap.{empty}
 use Rattle.plain_runner.specs.Listed.{rows_of}
 use Rattle.log_model.specs.Log.{by_number, run_of_procedure, verdict_after}
-use Rattle.log_model.specs.Comparisons.{comparisons_after}
+use Rattle.certify.specs.Comparisons.{comparisons_after}
 use Rattle.plain_replayer.specs.Replay.{certified_of, procedures_at}
 use Rattle.plain_replayer.proofs.LogLemmas.{said_of_run}
 use Rattle.plain_replayer.proofs.replay.report_of_call.Goals as goal

@@ -1,7 +1,7 @@
 use Rattle.std.proofs.Common.{◌≡◌}
 use Rattle.bpf_verify.specs.Flow.{Procedure, IsAccepted}
-use Rattle.call_model.specs.Check.{Passed}
-use Rattle.call_model.specs.declared.fault.ProgramFault.{ProgramFault}
+use Rattle.program_checks.specs.ProgramCheck.{Passed}
+use Rattle.program_checks.specs.declared.fault.ProgramFault.{ProgramFault}
 use Rattle.schema.specs.declared.or_no_memory.OrNoMemory.{OrNoMemory}
 use Rattle.program_checks.specs.Check.{check_of}
 use Rattle.program_checks.specs.Fault.{IsFaultOf, IsRefusedFor}

@@ -1,5 +1,5 @@
 use Rattle.std.proofs.Common.{[], None, sym, ap, ◌∙◌}
-use Rattle.call_model.specs.Check.{Passed}
+use Rattle.program_checks.specs.ProgramCheck.{Passed}
 use Rattle.dsm_world.specs.System.{step_of}
 use Rattle.report.specs.Answers.{answer_line}
 use Rattle.script_replay.proofs.answers.answer_line.Goals as goal

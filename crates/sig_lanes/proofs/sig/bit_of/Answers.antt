@@ -1,5 +1,5 @@
 use Rattle.std.proofs.Common.{arith}
-use Rattle.row_model.specs.Signature.{bit_of}
+use Rattle.sig_lanes.specs.Signature.{bit_of}
 use Rattle.sig_lanes.proofs.sig.bit_of.Goals as goal
 
 pub returns-clause-value : goal.returns-clause-value

@@ -3,7 +3,7 @@ use Rattle.rows_mv.specs.Versions.{AnswersFrom}
 use Rattle.bpf_vm.specs.declared.turn.Turn.{Turn}
 use Rattle.log_model.specs.Entries.{items_of}
 use Rattle.log_model.specs.Log.{Call}
-use Rattle.call_model.specs.OpenCall.{OpenCall}
+use Rattle.log_model.specs.OpenCall.{OpenCall}
 use Rattle.world_calls.specs.OpenCall.{IsCompletion, IsTurn, further, open_call_of, stays_open}
 use Rattle.site.specs.Run.{named_call}
 use Rattle.site.proofs.RunLemmas.{can_go_on, never_stale, call_stays}

@@ -2,7 +2,7 @@ use Rattle.std.proofs.Common.{◌≡◌, ◌≢◌, ℕ, ◌≤◌, ◌<◌, ◌
 use Rattle.std.specs.List.{list_all}
 use Rattle.std.proofs.lemmas.Bool.Decides.{nat_tests}
 use Rattle.log_model.specs.Name.{is_name, is_name_byte}
-use Rattle.call_model.specs.Check.{ProgramCheck, Passed, Failed}
+use Rattle.program_checks.specs.ProgramCheck.{ProgramCheck, Passed, Failed}
 use Rattle.program_checks.specs.Check.{check_of}
 use Rattle.log_entry.specs.Fit.{AdditionFitsFields}
 use Rattle.site_model.specs.declared.answer.AdditionAnswer.TheVariants.{Submitted}

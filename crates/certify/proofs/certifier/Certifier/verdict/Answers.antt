@@ -1,7 +1,7 @@
 use Rattle.std.proofs.Common.{◌≡◌, ℕ, List, Option, Some, None, cond, is_some, length, drop, nat_le, sym, ap, subst, ◌∙◌}
 use Rattle.schema.specs.Rows.{Writes}
 use Rattle.log_model.specs.Log.{CertifiedItem, Call, first_repeated, verdict_after}
-use Rattle.log_model.specs.Comparisons.{comparisons_after}
+use Rattle.certify.specs.Comparisons.{comparisons_after}
 use Rattle.log_model.specs.Entries.{ExecutedCall}
 use Rattle.certify.specs.Kept.{CertifierState, IsMemoryOf, IsMemoryOfLatest}
 use Rattle.certify.proofs.VerdictLemmas.{repeated_verdict, none_compared_again, none_left_of}

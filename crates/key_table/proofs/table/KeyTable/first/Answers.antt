@@ -1,8 +1,8 @@
 use Rattle.std.proofs.Common.{◌∙◌, ap, sym}
 use Rattle.key_table.specs.Table.{Table, versions_in, versions_at}
-use Rattle.key_group.specs.Pages.{all_slots}
+use Rattle.key_table.specs.Pages.{all_slots}
 use Rattle.key_table.specs.Groups.{group_slots}
-use Rattle.key_page.proofs.EditLemmas.{none_past}
+use Rattle.row_chain.proofs.EditLemmas.{none_past}
 use Rattle.key_table.proofs.table.KeyTable.first.Goals as goal
 
 pub returns-clause-words : goal.returns-clause-words

@@ -1,7 +1,7 @@
 use Rattle.std.proofs.Common.{◌∙◌, List, not, eqb, length, sym, ap}
 use Rattle.key_table.specs.Table.{Slot, Table}
-use Rattle.key_group.specs.Pages.{has_slots}
-use Rattle.key_group.proofs.GroupLemmas.{some_slots}
+use Rattle.key_table.specs.Pages.{has_slots}
+use Rattle.key_table.proofs.GroupLemmas.{some_slots}
 use Rattle.key_table.specs.Groups.{group_slots}
 use Rattle.key_table.proofs.PartLemmas.{length-group_slots}
 use Rattle.key_table.proofs.table.KeyTable.has_keys.Goals as goal

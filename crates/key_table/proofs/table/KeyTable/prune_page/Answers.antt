@@ -1,7 +1,7 @@
 use Rattle.std.proofs.Common.{subst, arith}
 use Rattle.key_table.specs.Table.{Table, ArePrunedOrSame, versions_at}
-use Rattle.key_group.specs.Pages.{all_slots}
-use Rattle.key_group.proofs.PrunePartLemmas.{rising_within, wide_within, versions_within}
+use Rattle.key_table.specs.Pages.{all_slots}
+use Rattle.key_table.proofs.PrunePartLemmas.{rising_within, wide_within, versions_within}
 use Rattle.key_table.specs.Groups.{group_slots}
 use Rattle.key_table.proofs.table.KeyTable.prune_page.Goals as goal
 

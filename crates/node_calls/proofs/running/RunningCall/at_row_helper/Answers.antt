@@ -1,7 +1,7 @@
 use Rattle.std.proofs.Common.{sym, ap, ◌∙◌}
 use Rattle.bpf_code.specs.Program.{instruction_at}
 use Rattle.bpf_verify.specs.Flow.{Procedure}
-use Rattle.call_model.specs.OpenCall.{calls_row_helper}
+use Rattle.log_model.specs.OpenCall.{calls_row_helper}
 use Rattle.world_calls.specs.OpenCall.{stays_open}
 use Rattle.node_calls.specs.Running.{RunningState, calls_row_helper_next}
 use Rattle.node_calls.proofs.RunLemmas.{helper_next}

@@ -1,6 +1,6 @@
 use Rattle.std.proofs.Common.{List, length, ap, ◌∙◌}
 use Rattle.log_entry.specs.declared.entry.Entry.{Entry as LogEntry}
-use Rattle.call_model.specs.OpenCall.{OpenCall}
+use Rattle.log_model.specs.OpenCall.{OpenCall}
 use Rattle.node_calls.proofs.RunLemmas.{begun_under_way}
 use Rattle.node_calls.proofs.running.RunningCall.start.Goals as goal
 

@@ -1,6 +1,6 @@
 use Rattle.std.proofs.Common.{◌+◌, ◌∙◌, ap, sym, ◌||◌, Bool, ℕ, nat_eq}
 use Rattle.std.specs.List.{list_any, range_with_len}
-use Rattle.row_model.specs.Signature.{bit_of}
+use Rattle.sig_lanes.specs.Signature.{bit_of}
 use Rattle.sig_lanes.specs.Bits.{has_bit}
 use Rattle.sig_lanes.proofs.BitLemmas.{or_false, or_assoc, any_last}
 use Rattle.sig_lanes.proofs.sig.Sig.add_look.Goals as goal

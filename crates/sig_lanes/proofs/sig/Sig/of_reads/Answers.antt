@@ -1,7 +1,7 @@
 use Rattle.std.proofs.Common.{◌∙◌, ap, ◌||◌, Bool, arith}
 use Rattle.std.specs.List.{list_any}
 use Rattle.schema.specs.declared.look.Look.{Look}
-use Rattle.row_model.specs.Signature.{look_sets_bit}
+use Rattle.sig_lanes.specs.Signature.{look_sets_bit}
 use Rattle.sig_lanes.specs.Bits.{has_bit}
 use Rattle.sig_lanes.proofs.BitLemmas.{gathered, all_gathered}
 use Rattle.sig_lanes.proofs.sig.Sig.of_reads.Goals as goal

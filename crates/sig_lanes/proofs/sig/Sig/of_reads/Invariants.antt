@@ -1,6 +1,6 @@
 use Rattle.std.proofs.Common.{◌≡◌, ℕ, ◌<◌, ◌||◌, drop}
 use Rattle.std.specs.List.{list_any}
-use Rattle.row_model.specs.Signature.{look_sets_bit}
+use Rattle.sig_lanes.specs.Signature.{look_sets_bit}
 use Rattle.sig_lanes.specs.Bits.{has_bit}
 use Rattle.sig_lanes.proofs.sig.Sig.of_reads.Given as goal
 

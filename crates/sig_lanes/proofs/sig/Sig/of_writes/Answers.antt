@@ -2,7 +2,7 @@ use Rattle.std.proofs.Common.{◌∙◌, ap, sym, ◌||◌, Bool, ℕ, map, nat_
 use Rattle.std.specs.Slice.Iter.{iter_rest}
 use Rattle.std.proofs.lemmas.List.{nil_from_length}
 use Rattle.std.specs.List.{list_any}
-use Rattle.row_model.specs.Signature.{bit_of}
+use Rattle.sig_lanes.specs.Signature.{bit_of}
 use Rattle.sig_lanes.specs.Bits.{has_bit}
 use Rattle.sig_lanes.proofs.BitLemmas.{moved, or_false}
 use Rattle.sig_lanes.proofs.sig.Sig.of_writes.Goals as goal

@@ -2,7 +2,7 @@ use Rattle.std.proofs.Common.{◌≡◌, ℕ, ◌||◌, map, nat_eq}
 use Rattle.std.specs.Slice.Iter.{iter_rest}
 use Rattle.std.specs.List.{list_any}
 use Rattle.std.specs.FinMap.{keys}
-use Rattle.row_model.specs.Signature.{bit_of}
+use Rattle.sig_lanes.specs.Signature.{bit_of}
 use Rattle.sig_lanes.specs.Bits.{has_bit}
 use Rattle.sig_lanes.proofs.sig.Sig.of_writes.Given as goal
 

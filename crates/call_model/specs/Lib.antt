@@ -1,3 +1,0 @@
-pub mod OpenCall
-pub mod Request
-pub mod Check

@@ -1,0 +1,17 @@
+//! Laws of exact comparisons.
+
+ghost use Rattle.std.specs.Prelude.{◌≡◌, ◌↔◌, ◌==◌, ℕ, List, IsTrue};
+ghost use Rattle.std.specs.List.{list_any};
+ghost use Rattle.schema.specs.declared.look.Look.{Look};
+ghost use Rattle.log_model.specs.Log.{CertifiedItem, Call};
+ghost use Rattle.certify.specs.Comparisons.{comparisons_after, AreRising, IsCompared};
+
+/// An exact comparison is made exactly with those that committed since the snapshot and share a bit with the looks, up
+/// to the first that conflicts, once with each, in rising order; where the call is repeated or stale, with none.
+pub fn comparisons_in_words_of_the_log()
+    ensures rising { (window : ℕ) (past : List CertifiedItem) (call : Call) (looks : List Look)
+        → AreRising (comparisons_after window past call looks) }
+    ensures compared { (window : ℕ) (past : List CertifiedItem) (call : Call) (looks : List Look) (position : ℕ)
+        → IsTrue (list_any (λ x. x == position) (comparisons_after window past call looks))
+        ↔ IsCompared window past call looks position }
+{}

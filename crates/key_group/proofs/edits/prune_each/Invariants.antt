@@ -1,5 +1,0 @@
-use Rattle.key_group.specs.Pages.{ArePagesPruned}
-use Rattle.key_group.proofs.edits.prune_each.Given as goal
-
-abbrev pub invariant-loop-i : goal.invariant-loop-i
-invariant-loop-i g l = ArePagesPruned l.horizon l.i l.fn.pages.items l.pages.items

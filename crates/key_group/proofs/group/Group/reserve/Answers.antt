@@ -1,5 +1,0 @@
-use Rattle.key_group.proofs.GroupLemmas.{sized}
-use Rattle.key_group.proofs.group.Group.reserve.Goals as goal
-
-pub returns-clause-size : goal.returns-clause-size
-returns-clause-size g c = sized c.reserve.new.pages.items c.reserve.ensures.pages

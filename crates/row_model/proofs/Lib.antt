@@ -1,2 +1,0 @@
-mod SignatureLemmas
-mod InstalledLemmas
