@@ -1,4 +1,4 @@
-// The puts and reads of crates/rows_bench on absl::btree_map.
+// The puts and reads of `crates/bench`, by the word rows, on absl::btree_map.
 #include <absl/container/btree_map.h>
 
 #include <cstdint>

@@ -1,7 +1,7 @@
 /* Runs a program on the BPF interpreter of DPDK (librte_bpf), for comparison: dpdk arithmetic|memory|mixed CALLS; or
    loads one of so many instructions and a few, which its verifier takes first and it then makes machine code of: dpdk
-   INSTRUCTIONS TIMES verify. The programs are those of crates/machine_bench. It says how many instructions were run, or
-   slots were taken; the time is taken by whoever starts it (bench/machine). */
+   INSTRUCTIONS TIMES verify. The programs are those of crates/bench, by the word machine. It says how many instructions
+   were run, or slots were taken; the time is taken by whoever starts it (bench/machine). */
 #include <rte_bpf.h>
 #include <stdint.h>
 #include <stdio.h>

@@ -10,7 +10,6 @@ import programs
 from workspace import ROOT
 
 FOLDER = f"{ROOT}/crates/{programs.NAME}"
-RT = [sys.executable, f"{ROOT}/gate/rt.py"]
 MEMORY = 4 << 30  # what a check may take, in bytes
 
 
@@ -25,13 +24,11 @@ def say(text):
 
 
 def number_in(path, pattern):
-    """Returns the first number of a file that follows the pattern, or None."""
-    try:
-        with open(path) as file:
-            found = re.search(pattern, file.read())
-    except OSError:
-        return None
-    return int(found[1]) if found else None
+    """Returns the first number of a file that follows the pattern, or 0."""
+    with contextlib.suppress(OSError), open(path) as file:
+        if found := re.search(pattern, file.read()):
+            return int(found[1])
+    return 0
 
 
 def jobs():
@@ -40,17 +37,16 @@ def jobs():
     quota, period = (number_in("/sys/fs/cgroup/cpu.max", it) for it in (r"^(\d+)", r" (\d+)"))
     if quota and period:
         processors = min(processors, max(quota // period, 1))
-    free = 1024 * (number_in("/proc/meminfo", r"MemAvailable:\s+(\d+)") or 0)
-    limit = number_in("/sys/fs/cgroup/memory.max", r"^(\d+)")
-    if limit:
-        free = min(free, limit - (number_in("/sys/fs/cgroup/memory.stat", r"anon (\d+)") or 0))
+    free = 1024 * number_in("/proc/meminfo", r"MemAvailable:\s+(\d+)")
+    if limit := number_in("/sys/fs/cgroup/memory.max", r"^(\d+)"):
+        free = min(free, limit - number_in("/sys/fs/cgroup/memory.stat", r"anon (\d+)"))
     return max(min(processors, free // MEMORY), 1)
 
 
-def run(words, heard):
-    """Runs a command in the program's folder, hands on each line that it prints, and returns its status."""
-    how = {"stdin": subprocess.DEVNULL, "stdout": subprocess.PIPE, "stderr": subprocess.STDOUT, "text": True}
-    with subprocess.Popen(words, cwd=FOLDER, errors="replace", **how) as command:
+def run(words, folder, heard, **environment):
+    """Runs a command in a folder, hands on each line that it prints, and returns its status. It ends with this program."""
+    how = {"stdin": subprocess.DEVNULL, "stdout": subprocess.PIPE, "stderr": subprocess.STDOUT, "text": True, "errors": "replace"}
+    with subprocess.Popen(words, cwd=folder, env={**os.environ, **environment}, **how) as command:
         try:
             for line in command.stdout:
                 heard(line.rstrip("\n"))
@@ -97,12 +93,28 @@ def prove_all():
     say(f"proving and building it, {count} crates, {at_once} at a time, from nothing half an hour or more")
     while True:
         progress = Progress(count)
-        status = run([*RT, "all", "check", "--jobs", str(at_once)], progress.hear)
+        status = run(["rt", "all", "check", "--jobs", str(at_once)], FOLDER, progress.hear)
         progress.end_block()
         if status == 0 or not progress.killed or at_once == 1:
             return status, progress.failed
         at_once = max(at_once // 2, 1)
         say(f"memory ran out: going on with {at_once} at a time")
+
+
+def build_or_fail(reason):
+    say(f"{reason}; what is proved is kept when this is interrupted")
+    of_sources = programs.sources()
+    status, said = prove_all()
+    if status == 0:
+        said = []
+        say("linking")
+        status = run(["rt", "run", "--jobs", str(jobs()), "--", "--help"], FOLDER, said.append)
+    if status or not os.path.isfile(programs.BUILT):
+        print("\n".join(said), file=sys.stderr)
+        raise Failed("the build failed")
+    if programs.sources_of(ROOT) != of_sources:
+        raise Failed("its sources changed while it was built; what was proved is kept, and the next run goes on from there")
+    programs.write_origin(programs.BUILT, of_sources, programs.kit_here())
 
 
 def build(reason):
@@ -119,19 +131,3 @@ def build(reason):
         say("interrupted: what was proved is kept, and the next run goes on from there")
         return 130
     return 0
-
-
-def build_or_fail(reason):
-    say(f"{reason}; what is proved is kept when this is interrupted")
-    of_sources = programs.sources()
-    status, said = prove_all()
-    if status == 0:
-        said = []
-        say("linking")
-        status = run([*RT, "run", "--jobs", str(jobs()), "--", "--help"], said.append)
-    if status or not os.path.isfile(programs.BUILT):
-        print("\n".join(said), file=sys.stderr)
-        raise Failed("the build failed")
-    if programs.sources_of(ROOT) != of_sources:
-        raise Failed("its sources changed while it was built; what was proved is kept, and the next run goes on from there")
-    programs.write_origin(programs.BUILT, of_sources, programs.kit_here())

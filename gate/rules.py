@@ -1,20 +1,61 @@
-"""The workspace's own rules: what crates list, and what is made from other files, is as it should be."""
-import believed
+"""The workspace's own rules: what crates list, what is made from other files, and what pages name is as it should be."""
+import glob
+import os
+import re
+
 import explanations
 import floors
 import workspace
+from programs import PARTS
+from workspace import ROOT
 
 
-def faults():
-    """Says which rules are broken, each with what mends it."""
-    found = [f"crates.txt: {crate} lists {it}, which no file of it names" for crate, it in workspace.unnamed()]
-    found += floors.faults()
-    for page in (floors, believed, explanations):
-        if not page.is_today():
-            found.append(f"{page.MADE} isn't that of its sources: python3 gate/{page.__name__}.py")
-    return found
+def unnamed():
+    """Says which libraries a crate's line has that none of its files names."""
+    for crate in workspace.lines():
+        sources = "\n".join(workspace.text(it) for it in workspace.files(crate) if it.endswith((".rt", ".antt")))
+        for it in workspace.libraries(crate):
+            if not re.search(rf"\b{it}\b", sources):
+                yield f"crates.txt: {crate} lists {it}, which no file of it names"
+
+
+def stale():
+    """Says which pages and files aren't those of their sources."""
+    for it in (floors, explanations):
+        if workspace.text(it.MADE) != it.made():
+            yield f"{it.MADE} isn't that of its sources: python3 gate/{it.__name__}.py"
+
+
+def is_there(path):
+    """Whether a path of the tree, or of some crate, is there. A name in capitals stands for any."""
+    pattern = re.sub(r"(?<=/)[A-Z]+(?=/|$)", "*", path.removeprefix("./"))
+    crate = re.match(r"crates/(\w+)", path)
+    found = glob.glob(f"{ROOT}/{pattern}", recursive=True) or glob.glob(f"{ROOT}/crates/*/{pattern}")
+    return bool(found) and (not crate or crate[1] in workspace.lines() or crate[1].isupper())
+
+
+def lost():
+    """Says which paths and crates pages name, in code and in links, that aren't there."""
+    tops = {*(it for it in os.listdir(ROOT) if os.path.isdir(f"{ROOT}/{it}")), *PARTS, "must-fail", "."}
+    for page in ("README.md", "CONTRIBUTING.md", *(f"docs/{it}" for it in sorted(os.listdir(f"{ROOT}/docs")) if it.endswith(".md"))):
+        text = workspace.text(page)
+        words = [word for span in re.findall(r"`([^`\n]+)`", text) for word in span.split()]
+        paths = [it for it in words if re.fullmatch(r"[\w.*-]+(/[\w.*-]+)*/?", it) and "/" in it and it.split("/")[0] in tops]
+        gone = [it for it in paths if not is_there(it)]
+        links = re.findall(r"\]\(([^):#]+)(?:#[^)]*)?\)", text)
+        gone += [it for it in links if not os.path.exists(f"{ROOT}/{os.path.dirname(page)}/{it}")]
+        yield from (f"{page}: {it} isn't there" for it in sorted({*gone}))
+
+
+def untried():
+    """Says which must-fail edits TESTING's table of mistakes names that aren't there."""
+    table = workspace.text("docs/TESTING.md").partition("\n| Plausible mistake |")[2].partition("\n\n")[0]
+    for crates, edits in re.findall(r"[|;] ([\w, ]+): ([\w, ]+)", table):
+        for it in (f"crates/{crate}/must-fail/{edit}.edit" for crate in crates.split(", ") for edit in edits.split(", ")):
+            if not os.path.exists(f"{ROOT}/{it.strip()}"):
+                yield f"docs/TESTING.md: {it} isn't there"
 
 
 def run(tally):
-    found = faults()
+    found = [*unnamed(), *floors.faults(), *stale(), *lost(), *untried()]
     tally.tell("workspace", not found, "; ".join(found))

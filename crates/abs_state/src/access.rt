@@ -1,4 +1,4 @@
-//! Which bytes a load, a store or a helper may touch.
+//! The bytes that a load, a store or a helper may touch.
 ghost use Rattle.std.specs.Prelude.{◌≡◌, ◌+◌, ◌≤◌, ◌^◌, length, unsigned_abs, IfSome};
 ghost use Rattle.std.specs.Int.{int_gap};
 ghost use Rattle.bpf_semantics.specs.Memory.{index_in, stack_index};
@@ -7,7 +7,7 @@ ghost use Rattle.abs_state.specs.Access.{args_span, are_initialised, buffer_span
 use crate::kind::Kind;
 use crate::state::AbsState;
 
-/// So many bytes of a memory from an index on.
+/// A number of bytes of a memory, from an index on.
 #[derive(Clone, Copy, Debug, PartialEq, Eq)]
 pub struct ByteSpan {
     pub index: usize,
@@ -25,7 +25,7 @@ fn index_in(place: i64, count: usize, all: usize) -> Option<usize>
     if end <= all { Some(index) } else { None }
 }
 
-/// The same for the stack, which ends before place 0.
+/// The index of a place in the stack, which ends before place 0, where `count` bytes from there on lie inside.
 fn stack_index(place: i64, count: usize) -> Option<usize>
     requires { unsigned_abs place ≤ 2 ^ 40 }
     ensures exact { result ≡ stack_index place count }
@@ -43,14 +43,14 @@ fn span_from(count: usize, index: Option<usize>) -> Option<ByteSpan>
     }
 }
 
-/// How many bytes accesses of this size through a pointer from lo to hi touch.
+/// Returns the number of bytes that accesses of this size through a pointer from lo to hi touch.
 fn span_length(lo: i32, hi: i32, size: u8) -> usize
     ensures exact { result ≡ span_length lo hi size }
 {
     usize::try_from(i64::from(hi) - i64::from(lo)).unwrap_or(0) + usize::from(size)
 }
 
-/// Those of the stack, where all are inside.
+/// Returns the bytes of the stack that such accesses touch, where all are inside.
 pub fn stack_span(lo: i32, hi: i32, offset: i16, size: u8) -> Option<ByteSpan>
     ensures exact { result ≡ stack_span lo hi offset size }
     ensures inside { IfSome result (λ bytes. bytes.index + bytes.count ≤ 512) }
@@ -59,7 +59,7 @@ pub fn stack_span(lo: i32, hi: i32, offset: i16, size: u8) -> Option<ByteSpan>
     span_from(count, stack_index(i64::from(lo) + i64::from(offset), count))
 }
 
-/// Those of arguments of this length, where all are inside.
+/// Returns the bytes of arguments of this length that such accesses touch, where all are inside.
 pub fn args_span(args_len: u16, lo: i32, hi: i32, offset: i16, size: u8) -> Option<ByteSpan>
     ensures { result ≡ args_span args_len lo hi offset size }
 {
@@ -85,7 +85,7 @@ pub fn buffer_span(kind: Kind, count: usize) -> Option<ByteSpan>
     }
 }
 
-/// Whether these bytes of the stack are initialised.
+/// Tells whether these bytes of the stack are initialised.
 pub fn are_initialised(state: &AbsState, bytes: ByteSpan) -> bool
     requires { bytes.index + bytes.count ≤ 512 }
     ensures { result ≡ are_initialised state.now bytes }

@@ -1,13 +1,13 @@
-//! What is known of a value.
+//! Kinds: what is known of a value.
 ghost use Rattle.std.specs.Prelude.{◌≡◌};
 ghost use Rattle.abs_state.specs.State.{kind_join};
 
 use interval::Range;
 
-/// What is known of a value in a register.
+/// A kind of value: what is known of the value in a register.
 #[derive(Clone, Copy, Debug, PartialEq, Eq)]
 pub enum Kind {
-    /// Nothing: it may not be read.
+    /// No value is known: the register may not be read.
     Nothing,
     /// A number of the range.
     Number(Range),
@@ -18,7 +18,7 @@ pub enum Kind {
 }
 
 impl Kind {
-    /// What is known where either of two is.
+    /// Returns the join of two kinds: what is known where either of them is.
     pub fn join(self, other: Kind) -> Kind
         ensures { result ≡ kind_join self other }
     {

@@ -15,7 +15,7 @@ use interval::{Range, alu32_range, alu64_range};
 use schema::Schema;
 use std::alloc::Allocator;
 
-/// Whether nothing is known to be there.
+/// Tells whether nothing is known of the value.
 pub fn is_nothing(kind: Kind) -> bool
     ensures { result ≡ is_nothing kind }
 {
@@ -25,7 +25,7 @@ pub fn is_nothing(kind: Kind) -> bool
     }
 }
 
-/// Whether it is a number.
+/// Tells whether the value is a number.
 pub fn is_number(kind: Kind) -> bool
     ensures { result ≡ is_number kind }
 {
@@ -35,7 +35,7 @@ pub fn is_number(kind: Kind) -> bool
     }
 }
 
-/// Whether it is a place in the stack or in the arguments.
+/// Tells whether the value is a place in the stack or in the arguments.
 pub fn is_pointer(kind: Kind) -> bool
     ensures { result ≡ is_pointer kind }
 {
@@ -46,7 +46,7 @@ pub fn is_pointer(kind: Kind) -> bool
     }
 }
 
-/// What is known of the second operand.
+/// Returns what is known of the second operand.
 pub fn operand_kind(state: &AbsState, source: Source) -> Kind
     ensures { result ≡ operand_kind state.now source }
 {
@@ -58,7 +58,7 @@ pub fn operand_kind(state: &AbsState, source: Source) -> Kind
     }
 }
 
-/// Whether some numbers of the range are below 2^63 and some aren't.
+/// Tells whether some numbers of the range are below 2^63 and some aren't.
 fn has_both_signs(range: Range) -> bool
     ensures { result ≡ has_both_signs range }
 {
@@ -97,8 +97,8 @@ fn difference(place: i128, distance: i128) -> i128
     place - distance
 }
 
-/// Where a pointer from lo to hi is after a 64-bit ADD or SUB of a number from least to greatest; none where that
-/// may be too far.
+/// Returns the places of a pointer from lo to hi after a 64-bit ADD or SUB of a number from least to greatest; none
+/// where that may be too far.
 fn moved_by(op: BinaryOperation, lo: i32, hi: i32, least: i64, greatest: i64) -> Option<(i32, i32)>
     ensures { result ≡ moved_by op lo hi least greatest }
 {
@@ -111,7 +111,7 @@ fn moved_by(op: BinaryOperation, lo: i32, hi: i32, least: i64, greatest: i64) ->
     }
 }
 
-/// The same with a number of a range, read as signed; none too where it may have either sign.
+/// Returns the same places for a number of a range, read as signed; none too where the number may have either sign.
 pub fn moved_places(op: BinaryOperation, lo: i32, hi: i32, range: Range) -> Option<(i32, i32)>
     ensures { result ≡ moved_places op lo hi range }
 {
@@ -191,14 +191,14 @@ fn binary_kind(width: Width, op: BinaryOperation, a: Kind, b: Kind) -> Kind
     }
 }
 
-/// Whether an operation is a move.
+/// Tells whether an operation is a move.
 pub fn is_move(op: BinaryOperation) -> bool
     ensures { result ≡ is_move_operation op }
 {
     matches!(op, BinaryOperation::Mov)
 }
 
-/// What an arithmetic operation gives.
+/// Returns what an arithmetic operation gives.
 pub fn operation_kind(width: Width, op: BinaryOperation, a: Kind, b: Kind) -> Kind
     ensures { result ≡ operation_kind width op a b }
 {
@@ -209,7 +209,7 @@ pub fn operation_kind(width: Width, op: BinaryOperation, a: Kind, b: Kind) -> Ki
     }
 }
 
-/// What an operation on one number gives.
+/// Returns what an operation on one number gives.
 pub fn number_kind(width: Width, op: Operation, a: Kind) -> Kind
     ensures { result ≡ number_kind width op a }
 {
@@ -219,7 +219,7 @@ pub fn number_kind(width: Width, op: Operation, a: Kind) -> Kind
     }
 }
 
-/// The width of the table of a number that is one alone.
+/// The width of the table whose number is the one number of a kind.
 pub fn table_width<A: Allocator>(schema: &Schema<A>, kind: Kind) -> Option<usize>
     ensures { result ≡ table_width schema.now kind }
 {

@@ -1,5 +1,5 @@
-//! What is known of a program's state before an instruction: the kind of each register's value, which bytes of the
-//! stack are initialised. Beside it stand what operations give, and which bytes may be touched.
+//! The knowledge of a program's state before an instruction: the kind of each register's value, which bytes of the
+//! stack are initialised. Beside it stand the results of operations, and which bytes may be touched.
 #![tactic(auto)]
 
 pub use access::{ByteSpan, are_initialised, args_span, buffer_span, stack_span};

@@ -6,8 +6,8 @@ ghost use Rattle.abs_state.specs.State.{in_both, zip_with};
 
 use std::marker::Model;
 
-/// Some of the stack's 512 bytes, a bit each: byte b is bit b mod 64 of word b / 64. Contracts see whether each byte is
-/// one of them, the lowest first.
+/// A set of the stack's 512 bytes, a bit each: byte b is bit b mod 64 of word b / 64. Contracts see for each byte, the
+/// lowest first, whether the byte is in the set.
 #[derive(Clone, Copy)]
 pub struct StackBytes {
     words: [u64; 8],
@@ -30,21 +30,21 @@ impl Model for StackBytes {
 }
 
 impl StackBytes {
-    /// None.
+    /// Returns a set of no bytes.
     pub(crate) fn none() -> StackBytes
         ensures { result ≡ replicate 512 false }
     {
         StackBytes { words: [0; 8] }
     }
 
-    /// Only those that are in another set too.
+    /// Keeps the bytes that are in another set too.
     pub(crate) fn intersect(&mut self, other: &StackBytes)
         ensures { self.new ≡ zip_with in_both self.old other.now }
     {
         intersect(&mut self.words, &other.words);
     }
 
-    /// One more.
+    /// Adds one byte.
     fn add_one(&mut self, byte: usize)
         requires { byte < 512 }
         ensures added { self.new ≡ slice_set self.old byte true }
@@ -53,7 +53,7 @@ impl StackBytes {
         self.words[byte / 64] |= 1 << (byte % 64);
     }
 
-    /// Whether one is in it.
+    /// Tells whether a byte is in the set.
     fn has_one(&self, byte: usize) -> bool
         requires { byte < 512 }
         ensures value { result ≡ slice_index_or self.now byte false }
@@ -62,7 +62,7 @@ impl StackBytes {
         (self.words[byte / 64] >> (byte % 64)) & 1 == 1
     }
 
-    /// So many bytes more, from an index on.
+    /// Adds `count` bytes, from an index on.
     pub(crate) fn add(&mut self, from: usize, count: usize)
         requires { from + count ≤ 512 }
         ensures { self.new ≡ take from self.old ++ replicate count true ++ drop (from + count) self.old }
@@ -72,7 +72,7 @@ impl StackBytes {
         }
     }
 
-    /// Whether so many bytes from an index on all are in it.
+    /// Tells whether `count` bytes from an index on are all in the set.
     pub(crate) fn has(&self, from: usize, count: usize) -> bool
         requires { from + count ≤ 512 }
         ensures { result ≡ list_all (λ byte. byte) (take count (drop from self.now)) }
@@ -86,7 +86,7 @@ impl StackBytes {
     }
 }
 
-/// Only the bits that are set in both.
+/// Keeps the bits that are set in both.
 fn intersect(words: &mut [u64], others: &[u64])
     requires { length words.old ≡ length others.now }
     ensures { words.new ≡ zip_with bit_and words.old others.now }

@@ -1,4 +1,4 @@
-//! What is known of a state.
+//! Abstract states: what is known of a state.
 ghost use Rattle.std.specs.Prelude.{◌≡◌, ◌++◌, replicate, true, ◌+◌, ◌≤◌, take, drop, length};
 ghost use Rattle.std.specs.List.{list_all};
 ghost use Rattle.abs_state.specs.State.{abs_entry, in_both, kind_join, kind_of, state_join, with_known_answer};
@@ -9,8 +9,8 @@ use crate::stack_bytes::StackBytes;
 use bpf_code::Register;
 use interval::Range;
 
-/// What is known of a state: the kind of each register's value, r0 first, and which of the stack's 512 bytes,
-/// the lowest first, are initialised.
+/// An abstract state, which is what is known of a state. The kind of each register's value, r0 first, is known, and
+/// which of the stack's 512 bytes, the lowest first, are initialised.
 #[derive(Clone, Copy)]
 pub struct AbsState {
     pub kinds: [Kind; 11],
@@ -18,7 +18,7 @@ pub struct AbsState {
 }
 
 impl AbsState {
-    /// What is known at entry.
+    /// Returns what is known at entry.
     pub fn entry() -> AbsState
         ensures { result ≡ abs_entry }
     {
@@ -31,7 +31,7 @@ impl AbsState {
         }
     }
 
-    /// What is known where either of two is.
+    /// Joins another abstract state to this one: what is known then is what is known where either is.
     #[tactic(auto, unfolding(crate::specs::State::state_join))]
     pub fn join(&mut self, other: &AbsState)
         ensures { self.new ≡ state_join self.old other.now }
@@ -47,14 +47,14 @@ impl AbsState {
         self.kinds[usize::from(register.number())]
     }
 
-    /// A register's value is of this kind.
+    /// Sets the kind of a register's value.
     pub fn set_kind(&mut self, register: Register, kind: Kind)
         ensures { self.new ≡ with_kind self.old register kind }
     {
         self.kinds[usize::from(register.number())] = kind;
     }
 
-    /// After a call r0 has a number of the answer's range, and r1 to r5 hold nothing.
+    /// Sets r0 to a number of the answer's range, and r1 to r5 to nothing, as a call does.
     pub fn set_answer(&mut self, answer: Range)
         ensures { self.new ≡ with_known_answer answer self.old }
     {
@@ -66,7 +66,7 @@ impl AbsState {
         self.set_kind(Register::R0, Kind::Number(answer));
     }
 
-    /// So many bytes of the stack from an index on are initialised.
+    /// Marks `count` bytes of the stack from an index on as initialised.
     pub fn set_initialised(&mut self, from: usize, count: usize)
         requires { from + count ≤ 512 }
         ensures { self.new ≡ with_initialised self.old from count }
@@ -74,7 +74,7 @@ impl AbsState {
         self.initialised.add(from, count);
     }
 
-    /// Whether so many bytes of the stack from an index on all are.
+    /// Tells whether `count` bytes of the stack from an index on are all initialised.
     pub fn is_initialised(&self, from: usize, count: usize) -> bool
         requires { from + count ≤ 512 }
         ensures { result ≡ list_all (λ byte. byte) (take count (drop from self.now.initialised)) }

@@ -1,4 +1,4 @@
-//! What a call asks of its arguments.
+//! The conditions that a call has for its arguments.
 ghost use Rattle.std.specs.Prelude.{◌≡◌, ◌+◌, ◌≤◌, Some, IfSome, map};
 ghost use Rattle.std.specs.List.{list_any};
 ghost use Rattle.abs_state.specs.State.{kind_of};
@@ -23,7 +23,7 @@ pub static ARGUMENT_REGISTERS: [Register; 5] = [
     Register::R5,
 ];
 
-/// Whether an argument holds nothing.
+/// Tells whether an argument holds nothing.
 pub(crate) fn argument_is_nothing(helper: Helper, state: &AbsState) -> bool
     ensures { result ≡ list_any (λ r. is_nothing (kind_of state.now r))
         (map (λ a. a.1) (call_arguments (Some helper))) }
@@ -33,7 +33,7 @@ pub(crate) fn argument_is_nothing(helper: Helper, state: &AbsState) -> bool
     registers.any(|register| is_nothing(state.kind(register)))
 }
 
-/// Whether the table isn't one known number of the schema.
+/// Tells whether the table isn't one known number of the schema.
 pub(crate) fn table_is_unknown<A: Allocator>(
     helper: Helper,
     state: &AbsState,
@@ -48,7 +48,7 @@ pub(crate) fn table_is_unknown<A: Allocator>(
     })
 }
 
-/// Whether what is to be a table's number isn't one known number of the schema.
+/// Tells whether a table's argument isn't one known number of the schema.
 fn is_unknown_table<A: Allocator>(schema: &Schema<A>, argument: ArgumentKind, kind: Kind) -> bool
     ensures { result ≡ is_unknown_table schema.now argument kind }
 {
@@ -58,7 +58,7 @@ fn is_unknown_table<A: Allocator>(schema: &Schema<A>, argument: ArgumentKind, ki
     }
 }
 
-/// Whether a key, the bound of an interval or a code isn't a number.
+/// Tells whether a key, the bound of an interval or a code isn't a number.
 pub(crate) fn number_is_missing(helper: Helper, state: &AbsState) -> bool
     ensures { result ≡ list_any (λ a. is_no_number a.0 (kind_of state.now a.1)) (call_arguments (Some helper)) }
 {
@@ -68,7 +68,7 @@ pub(crate) fn number_is_missing(helper: Helper, state: &AbsState) -> bool
     })
 }
 
-/// How long an argument's buffer is, where the table has this width.
+/// Returns the length of an argument's buffer, where the table has this width.
 fn buffer_length(argument: ArgumentKind, width: Option<usize>) -> Option<usize>
     ensures { result ≡ buffer_length width argument }
 {
@@ -79,7 +79,7 @@ fn buffer_length(argument: ArgumentKind, width: Option<usize>) -> Option<usize>
     }
 }
 
-/// Whether a buffer of so many bytes isn't at one place of the stack, or isn't whole inside.
+/// Tells whether a buffer of `count` bytes isn't at one place of the stack, or isn't whole inside.
 fn lacks_room(count: Option<usize>, kind: Kind) -> bool
     ensures { result ≡ lacks_room count kind }
 {
@@ -89,7 +89,7 @@ fn lacks_room(count: Option<usize>, kind: Kind) -> bool
     }
 }
 
-/// The same of each buffer, where the table has this width.
+/// Tells whether some buffer isn't at one place of the stack, or isn't whole inside, where the table has this width.
 pub(crate) fn buffer_is_missing(helper: Helper, state: &AbsState, width: Option<usize>) -> bool
     ensures { result ≡ list_any (λ a. is_no_buffer width a.0 (kind_of state.now a.1)) (call_arguments (Some helper)) }
 {
@@ -99,7 +99,7 @@ pub(crate) fn buffer_is_missing(helper: Helper, state: &AbsState, width: Option<
     })
 }
 
-/// Whether some of the stack's bytes aren't initialised.
+/// Tells whether some of these bytes of the stack aren't initialised.
 pub(crate) fn some_uninitialised(state: &AbsState, bytes: Option<ByteSpan>) -> bool
     requires { IfSome bytes (λ bytes. bytes.index + bytes.count ≤ 512) }
     ensures { result ≡ some_uninitialised state.now bytes }
@@ -110,7 +110,7 @@ pub(crate) fn some_uninitialised(state: &AbsState, bytes: Option<ByteSpan>) -> b
     }
 }
 
-/// Whether the row that is put has a byte that isn't initialised.
+/// Tells whether the row that is put has a byte that isn't initialised.
 pub(crate) fn row_is_uninitialised(helper: Helper, state: &AbsState, width: Option<usize>) -> bool
     ensures { result ≡ list_any (λ a. row_is_uninitialised state.now width a.0 (kind_of state.now a.1))
         (call_arguments (Some helper)) }

@@ -1,4 +1,4 @@
-//! What is known after a call.
+//! The abstract state after a call.
 ghost use Rattle.std.specs.Prelude.{◌≡◌, ◌+◌, ◌≤◌, Some, IfSome};
 ghost use Rattle.abs_step.specs.Result.{answer_range, with_buffer, with_buffers, with_span, written_length, after_call};
 
@@ -19,7 +19,7 @@ fn answer_range(answer: AnswerKind) -> Range
     }
 }
 
-/// These bytes of the stack are initialised.
+/// Marks these bytes of the stack as initialised.
 pub(crate) fn set_bytes(state: &mut AbsState, bytes: Option<ByteSpan>)
     requires { IfSome bytes (λ bytes. bytes.index + bytes.count ≤ 512) }
     ensures { state.new ≡ with_span bytes state.old }
@@ -37,7 +37,7 @@ fn set_buffer(state: &mut AbsState, kind: Kind, count: Option<usize>)
     }
 }
 
-/// How many bytes a helper writes to an argument's buffer, where the table has this width.
+/// Returns the number of bytes that a helper writes to an argument's buffer, where the table has this width.
 fn written_length(argument: ArgumentKind, width: Option<usize>) -> Option<usize>
     ensures { result ≡ written_length width argument }
 {
@@ -48,7 +48,7 @@ fn written_length(argument: ArgumentKind, width: Option<usize>) -> Option<usize>
     }
 }
 
-/// Each buffer that a helper writes is initialised.
+/// Marks each buffer that a helper writes as initialised.
 fn set_buffers<A: Allocator>(state: &mut AbsState, schema: &Schema<A>, helper: Helper)
     ensures { state.new ≡ with_buffers schema.now helper state.old }
 {
@@ -62,7 +62,7 @@ fn set_buffers<A: Allocator>(state: &mut AbsState, schema: &Schema<A>, helper: H
     }
 }
 
-/// The state after a call.
+/// Changes the abstract state to that after a call.
 pub(crate) fn call<A: Allocator>(state: &mut AbsState, schema: &Schema<A>, helper: Helper)
     ensures { state.new ≡ after_call schema.now (Some helper) state.old }
 {

@@ -2,20 +2,20 @@
 ghost use Rattle.std.specs.Prelude.{◌≡◌};
 ghost use Rattle.abs_step.specs.Number.{cause_number};
 
-/// Why an instruction is refused, the lowest first.
+/// A cause for which an instruction is refused. The lowest cause stands first.
 #[derive(Clone, Copy, Debug, PartialEq, Eq)]
 pub enum Cause {
     /// A register that is read may hold nothing.
     HoldsNothing,
-    /// It writes r10, the frame pointer.
+    /// The instruction writes r10, the frame pointer.
     WritesFramePointer,
     /// A pointer stands where only a number may, or may be moved too far, or by a number that may have either sign.
     UsesPointer,
     /// A load or a store at a number, or one that may touch a byte outside the stack or the arguments.
     OutsideMemory,
-    /// It may read a byte of the stack that nothing was written to.
+    /// The instruction may read a byte of the stack that nothing was written to.
     Uninitialised,
-    /// It calls a helper that there isn't.
+    /// The instruction calls a helper that doesn't exist.
     UnknownHelper,
     /// The table that a call names isn't one known number of the schema.
     UnknownTable,

@@ -1,4 +1,4 @@
-//! Why an instruction is refused.
+//! The causes for which an instruction is refused.
 ghost use Rattle.std.specs.Prelude.{◌≡◌, IfSome, ◌+◌, ◌≤◌};
 ghost use Rattle.std.specs.List.{list_any};
 ghost use Rattle.bpf_code.specs.declared.instruction.Register.TheVariants.{R1};
@@ -29,7 +29,7 @@ use interval::Range;
 use schema::{Helper, Schema};
 use std::alloc::Allocator;
 
-/// Whether the source is a register that holds nothing.
+/// Tells whether the source is a register that holds nothing.
 fn source_is_nothing(state: &AbsState, source: Source) -> bool
     ensures { result ≡ list_any (λ r. is_nothing (kind_of state.now r)) (source_registers source) }
 {
@@ -39,7 +39,7 @@ fn source_is_nothing(state: &AbsState, source: Source) -> bool
     }
 }
 
-/// Whether a register that is read holds nothing.
+/// Tells whether a register that is read holds nothing.
 #[tactic(auto, unfolding(crate::specs::Cause::holds_nothing))]
 fn holds_nothing(instruction: Instruction, state: &AbsState) -> bool
     ensures { result ≡ holds_nothing instruction state.now }
@@ -87,7 +87,7 @@ fn operands_are_nothing(
     }
 }
 
-/// Whether it writes r10.
+/// Tells whether the instruction writes r10.
 fn writes_frame_pointer(instruction: Instruction) -> bool
     ensures { result ≡ writes_frame_pointer instruction }
 {
@@ -130,7 +130,7 @@ fn binary_uses_pointer(width: Width, op: BinaryOperation, a: Kind, b: Kind) -> b
     }
 }
 
-/// Whether a pointer is moved too far, or by another operation than ADD and SUB.
+/// Tells whether a pointer is moved too far, or by another operation than ADD and SUB.
 fn moves_too_far(op: BinaryOperation, a: Kind, b: Range) -> bool
     ensures { result ≡ binary_uses_pointer Bits64 op a (Number b) }
 {
@@ -151,7 +151,7 @@ fn operands_use_pointer(width: Width, op: BinaryOperation, a: Kind, b: Kind) -> 
     }
 }
 
-/// Whether a pointer stands where only a number may, or is moved too far.
+/// Tells whether a pointer stands where only a number may, or is moved too far.
 #[tactic(auto, unfolding(crate::specs::Cause::uses_pointer))]
 fn uses_pointer(instruction: Instruction, state: &AbsState) -> bool
     ensures { result ≡ uses_pointer instruction state.now }
@@ -179,7 +179,7 @@ fn uses_pointer(instruction: Instruction, state: &AbsState) -> bool
     }
 }
 
-/// Whether a load's address is a number, or a byte that it may touch lies outside.
+/// Tells whether a load's address is a number, or a byte that the load may touch lies outside.
 fn load_is_outside(args_len: u16, address: Kind, offset: i16, size: u8) -> bool
     ensures { result ≡ load_is_outside args_len address offset size }
 {
@@ -191,7 +191,8 @@ fn load_is_outside(args_len: u16, address: Kind, offset: i16, size: u8) -> bool
     }
 }
 
-/// The same of a store, but for the arguments.
+/// Tells whether a store's address is a number, or a byte that the store may touch lies outside the stack. An address
+/// in the arguments doesn't count here.
 fn store_is_outside(address: Kind, offset: i16, size: u8) -> bool
     ensures { result ≡ store_is_outside address offset size }
 {
@@ -259,7 +260,7 @@ fn bytes_loaded(address: Kind, offset: i16, size: u8) -> Option<ByteSpan>
     }
 }
 
-/// Whether it reads a byte of the stack that isn't initialised.
+/// Tells whether the instruction reads a byte of the stack that isn't initialised.
 #[tactic(auto, unfolding(crate::specs::Cause::reads_uninitialised))]
 fn reads_uninitialised<A: Allocator>(
     schema: &Schema<A>,
@@ -352,8 +353,8 @@ fn replies_pointer(instruction: Instruction, state: &AbsState) -> bool
     }
 }
 
-/// The lowest cause for which an instruction is refused, given what is known of the state before it; none
-/// where there is no cause. `args_len` is how many bytes the arguments have.
+/// The lowest cause for which an instruction is refused, given what is known of the state before it; none where there
+/// is no cause. `args_len` is the number of bytes of the arguments.
 #[tactic(auto, unfolding(crate::specs::Cause::cause_of))]
 pub fn cause_of<A: Allocator>(
     schema: &Schema<A>,

@@ -1,4 +1,4 @@
-//! What is known after an instruction, on each edge.
+//! The abstract states after an instruction, one for each edge.
 ghost use Rattle.std.specs.Prelude.{◌≡◌, Some};
 ghost use Rattle.bpf_code.specs.Sizes.{size_bytes, width_bits};
 ghost use Rattle.bpf_semantics.specs.Step.{low_bits};
@@ -18,7 +18,7 @@ use range_refine::{refine32, refine64};
 use schema::{Helper, Schema};
 use std::alloc::Allocator;
 
-/// What a load gives.
+/// Returns the range that a load gives.
 fn loaded_range(kind: LoadKind) -> Range
     ensures { result ≡ loaded_range kind }
 {
@@ -30,7 +30,7 @@ fn loaded_range(kind: LoadKind) -> Range
     }
 }
 
-/// The state after a store of so many bytes.
+/// Changes the abstract state to that after a store of `size` bytes.
 fn store(state: &mut AbsState, address: Kind, offset: i16, size: u8)
     ensures { state.new ≡ with_known_store state.old address offset size }
 {
@@ -40,7 +40,7 @@ fn store(state: &mut AbsState, address: Kind, offset: i16, size: u8)
     }
 }
 
-/// How many low bits a sign-extending move takes.
+/// Returns the number of low bits that a sign-extending move takes.
 fn low_bits(kind: SignExtendingMove) -> SignExtension
     ensures { result ≡ low_bits kind }
 {
@@ -60,7 +60,7 @@ fn end_kind(order: ByteOrder, width: EndWidth, kind: Kind) -> Kind
     }
 }
 
-/// What is known of the second side of a condition.
+/// Returns what is known of the second side of a condition.
 fn compared_kind(width: Width, state: &AbsState, source: Source) -> Kind
     ensures { result ≡ compared_kind width state.now source }
 {
@@ -110,7 +110,7 @@ fn with_sides(dst: Register, source: Source, state: &AbsState, sides: (Range, Ra
     refined
 }
 
-/// What is known where the condition holds, or doesn't; none where that edge is never taken.
+/// Returns what is known where the condition holds, or doesn't; none where that edge is never taken.
 fn edge_state(
     width: Width,
     condition: Condition,
@@ -177,8 +177,8 @@ fn after_call<A: Allocator>(schema: &Schema<A>, number: i32, state: &AbsState) -
     after
 }
 
-/// What is known at the next instruction after one that has no cause to be refused; none where that edge is never
-/// taken.
+/// Returns what is known at the next instruction after an instruction that has no cause to be refused; none where that
+/// edge is never taken.
 #[tactic(auto, unfolding(crate::specs::Result::next_state))]
 pub fn next_state<A: Allocator>(
     schema: &Schema<A>,
@@ -247,7 +247,7 @@ pub fn next_state<A: Allocator>(
     }
 }
 
-/// What is known at the target of a jump; none where the jump is never taken, and where there is none.
+/// Returns what is known at the target of a jump; none where the jump is never taken, and where there is no jump.
 #[tactic(auto, unfolding(crate::specs::Result::jump_state))]
 pub fn jump_state(instruction: Instruction, state: &AbsState) -> Option<AbsState>
     ensures { result ≡ jump_state instruction state.now }

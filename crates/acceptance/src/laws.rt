@@ -14,7 +14,7 @@ ghost use Rattle.abs_state.specs.State.{abs_entry, state_join};
 ghost use Rattle.bpf_verify.specs.Flow.{Procedure, IsAccepted, state_at};
 ghost use Rattle.acceptance.specs.Description.{Describes, IsAbsState, IsOfProgram, StepsAlong, SendsKnown, Suits};
 
-/// What is known at entry is true of each entry state.
+/// The knowledge at entry is true of each entry state.
 #[tactic(auto, using(crate::proofs::Entry::entry_known))]
 pub fn entry_is_described()
     ensures known { IsAbsState abs_entry }
@@ -30,17 +30,17 @@ pub fn joins_describe_both()
         → Describes args_len b s → Describes args_len (state_join a b) s }
 {}
 
-/// From a state of which what is known is true, an instruction without a cause isn't stuck; where it goes
-/// on, it goes along an edge, and what is sent there is true of the state after it.
+/// An instruction without a cause isn't stuck in a state of which the knowledge is true. Where the instruction goes on,
+/// it goes along an edge, and what is sent there is true of the state after it.
 pub fn instructions_without_a_cause_go_along_an_edge()
     ensures steps { (tables : Tables) (args_len : ℕ) (i : Instruction) → IsOfProgram i → StepsAlong tables args_len i }
     ensures sends { (tables : Tables) (i : Instruction) (known : AbsState) → IsOfProgram i → IsAbsState known
         → SendsKnown tables i known }
 {}
 
-/// On arguments and rows for which it was verified an accepted program never goes wrong: at each moment
-/// what is known before the slot is true of the state, no moment is stuck, and there is a run, no longer than the
-/// longest path, that replies a 64-bit number and leaves rows of the schema.
+/// An accepted program never goes wrong on arguments and rows for which it was verified. At each moment what is known
+/// before the slot is true of the state, and no moment is stuck. A run exists, no longer than the longest path, that
+/// replies a 64-bit number and leaves rows of the schema.
 pub fn accepted_programs_never_go_wrong()
     ensures described { (p : Procedure) (args : List ℕ) (rows : Rows) (k : ℕ) (s : State)
         → IsProgram p.program → AreTables p.tables → IsAccepted p → Suits p args rows

@@ -1,4 +1,4 @@
-//! What acceptance implies: no run of an accepted program is ever stuck.
+//! The consequence of acceptance: no run of an accepted program is ever stuck.
 #![tactic(auto)]
 
 pub use laws::{

@@ -44,7 +44,7 @@ fn completed_load(first: Instruction, high: u32) -> Instruction
     }
 }
 
-/// What one slot adds to the slots so far; the answer is the first half whose second is due.
+/// Appends what one slot adds to the slots so far, and returns the first half whose second half is due.
 #[tactic(auto, unfolding(crate::specs::Decoding::reading_of_slots))]
 fn read_slot<A: Allocator>(
     slots: &mut Vec<Option<Instruction>, A>,
@@ -144,7 +144,7 @@ fn program<A: Allocator>(alloc: A, bytes: &[u8]) -> Result<Code<A>, DecodeFault>
 /// assert_eq!(rt; code.slots(), 2);
 /// ```
 pub fn decode<A: Allocator>(alloc: A, bytes: &[u8]) -> Result<Code<A>, DecodeFault>
-    // What is decoded is a program, and the bytes are its bytes.
+    // The decoded value is a program, and the bytes are its bytes.
     ensures spelled { IfOk result (λ code. spelling code ≡ bytes.now) }
     ensures program { IfOk result IsProgram }
 

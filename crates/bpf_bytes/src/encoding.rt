@@ -7,7 +7,7 @@ use bpf_code::{Code, Instruction};
 use byte_output::sink::{ByteSink, GrowingBytes};
 use std::alloc::{AllocError, Allocator};
 
-/// How many bytes the program has: eight a slot.
+/// Returns the number of bytes of the program: eight a slot.
 pub fn byte_length<A: Allocator>(code: &Code<A>) -> usize
     ensures length { result ≡ length (spelling code.now) }
     ensures slots { result ≡ 8 * length code.now }

@@ -1,4 +1,4 @@
-//! Why bytes are no program.
+//! The faults of bytes that are no program.
 
 ghost use Rattle.std.specs.Prelude.{◌≡◌};
 ghost use Rattle.bpf_bytes.specs.Fault.{number_of_cause};
@@ -6,12 +6,12 @@ ghost use Rattle.bpf_bytes.specs.Fault.{number_of_cause};
 use std::error::Error;
 use std::fmt;
 
-/// What is wrong, in the order in which one slot's faults count.
+/// The cause of a fault. The causes stand in the order in which one slot's faults count.
 #[derive(Clone, Copy, Debug, PartialEq, Eq)]
 pub enum DecodeCause {
-    /// There are no bytes, or no whole number of slots.
+    /// The number of bytes is 0, or makes no whole number of slots.
     Length,
-    /// There are more slots than a program may have.
+    /// The slots are more than a program may have.
     TooManySlots,
     UnknownOpcode,
     /// A register's number is above 10.
@@ -53,7 +53,7 @@ impl DecodeCause {
     }
 }
 
-/// Why bytes were not decoded, and at which slot, counted from 0.
+/// The cause for which bytes were not decoded, and the slot, counted from 0.
 #[derive(Clone, Copy, Debug, PartialEq, Eq)]
 pub struct DecodeFault {
     pub cause: DecodeCause,

@@ -3,7 +3,7 @@ ghost use Rattle.bpf_bytes.specs.Fields.{fields_of_bytes, bytes_of};
 
 use byteorder::{ByteOrder, LittleEndian};
 
-/// What the eight bytes of a slot hold (RFC 9669 section 3.1); each register field has four bits.
+/// The contents of a slot's eight bytes (RFC 9669 section 3.1); each register field has four bits.
 #[derive(Clone, Copy, Debug, PartialEq, Eq)]
 pub struct Fields {
     pub opcode: u8,

@@ -17,7 +17,7 @@ fn distance(instruction: Instruction) -> Option<i32>
     }
 }
 
-/// Whether the jump in this slot, where there is one, goes forward to an instruction.
+/// Checks that the jump in this slot, where there is a jump, goes forward to an instruction.
 #[tactic(auto, unfolding(crate::specs::Decoding::jump_fault))]
 fn check_jump(slots: &[Option<Instruction>], slot: usize) -> Result<(), DecodeFault>
     requires within { slot < length slots.now }
@@ -42,7 +42,7 @@ fn check_jump(slots: &[Option<Instruction>], slot: usize) -> Result<(), DecodeFa
     }
 }
 
-/// Whether each jump goes forward to an instruction; the fault is the first one's.
+/// Checks that each jump goes forward to an instruction; the fault is that of the first jump that doesn't.
 pub fn check_jumps(slots: &[Option<Instruction>]) -> Result<(), DecodeFault>
     requires { length slots.now ≤ max_slots }
     ensures none { OnOk result (jump_faults slots.now 0 slots.now ≡ None) }
@@ -54,7 +54,7 @@ pub fn check_jumps(slots: &[Option<Instruction>]) -> Result<(), DecodeFault>
     Ok(())
 }
 
-/// Whether the last instruction is EXIT.
+/// Checks that the last instruction is EXIT.
 #[tactic(auto, unfolding(crate::specs::Decoding::exit_fault))]
 pub fn check_exit(slots: &[Option<Instruction>]) -> Result<(), DecodeFault>
     requires some { 0 < length slots.now }

@@ -25,7 +25,7 @@ pub enum ArithmeticCode {
     Arsh,
 }
 
-/// Where the opcode says that the second operand is (RFC 9669 section 4).
+/// The place of the second operand, as the opcode says it (RFC 9669 section 4).
 #[derive(Clone, Copy, Debug, PartialEq, Eq)]
 pub enum SourceKind {
     Immediate,
@@ -48,7 +48,7 @@ pub enum Opcode {
     Exit,
 }
 
-/// Which fields of its slot an opcode uses; the others are zero.
+/// The fields of its slot that an opcode uses; the others are zero.
 #[derive(Clone, Copy, Debug, PartialEq, Eq)]
 pub struct Uses {
     pub dst: bool,
@@ -88,8 +88,8 @@ impl Opcode {
         })
     }
 
-    /// The fields that the opcode uses. Those of a wide load and of a call whose only defined value
-    /// is zero count as used.
+    /// The fields that the opcode uses. The fields of a wide load and of a call whose only defined value is zero count
+    /// as used.
     pub fn uses(self) -> Uses
         ensures { result ≡ uses_of self }
     {
@@ -160,7 +160,7 @@ impl Uses {
 impl ArithmeticCode {
     ghost use Rattle.bpf_bytes.specs.Uses.{offset_chooses as chooses};
 
-    /// Whether the offset tells this operation's variants apart.
+    /// Tells whether the offset tells this operation's variants apart.
     fn offset_chooses(self, source: SourceKind) -> bool
         ensures { result ≡ chooses self source }
     {

@@ -124,7 +124,7 @@ fn slot(opcode: Opcode, dst: Register, src: Register, offset: i16, immediate: i3
     }
 }
 
-/// Where the operand is, its register, r0 for none, and its immediate, 0 for none.
+/// Returns the place of the operand, its register, r0 for none, and its immediate, 0 for none.
 fn operand(source: Source) -> (SourceKind, Register, i32)
     ensures register { (src : Register) → source ≡ InRegister src → result ≡ (OfRegister, src, pos 0) }
     ensures immediate { (immediate : ℤ) → source ≡ InImmediate immediate → result ≡ (OfImmediate, R0, immediate) }

@@ -26,7 +26,7 @@ impl<A: Allocator> Model for Code<A> {
 }
 
 impl<A: Allocator> Code<A> {
-    /// The program of its slots.
+    /// The program of these slots.
     pub fn new(slots: Vec<Option<Instruction>, A>) -> Code<A>
         requires { IsProgram slots.items }
         ensures { result ≡ slots.items }
@@ -34,17 +34,17 @@ impl<A: Allocator> Code<A> {
         Code { slots }
     }
 
-    /// What is known of every program. To call this does nothing.
+    /// Every value of this type is a program. A call of this law does nothing.
     pub fn known(&self)
         ensures { IsProgram self.now }
     {
         let _ = &self.slots;
     }
 
-    /// How many slots of eight bytes the program has, 1 to 4,096.
+    /// Returns the number of slots of eight bytes that the program has, 1 to 4,096.
     pub fn slots(&self) -> usize
         ensures count { result ≡ length self.now }
-        // What is known of every program.
+        // Every value of this type is a program.
         ensures program { IsProgram self.now }
     {
         self.slots.len()

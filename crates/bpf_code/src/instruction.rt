@@ -62,7 +62,7 @@ impl Register {
     }
 }
 
-/// How many bits an arithmetic operation or a condition works on (RFC 9669 section 3.3).
+/// The number of bits that an arithmetic operation or a condition works on (RFC 9669 section 3.3).
 #[derive(Clone, Copy, Debug, PartialEq, Eq)]
 pub enum Width {
     Bits32,
@@ -81,7 +81,7 @@ impl Width {
     }
 }
 
-/// How much a store writes (RFC 9669 section 5).
+/// The number of bytes that a store writes (RFC 9669 section 5).
 #[derive(Clone, Copy, Debug, PartialEq, Eq)]
 pub enum Size {
     /// One byte.
@@ -95,7 +95,7 @@ pub enum Size {
 }
 
 impl Size {
-    /// How many bytes it writes.
+    /// Returns the number of bytes that a store of this size writes.
     pub fn bytes(self) -> u8
         ensures count { result ≡ size_bytes self }
         ensures few { result ≤ 8 }
@@ -109,8 +109,8 @@ impl Size {
     }
 }
 
-/// What a load reads, as Rust names the type: the unsigned ones are zero-extended to 64 bits, the
-/// signed ones sign-extended (RFC 9669 sections 5.1 and 5.2).
+/// The type that a load reads, by its name in Rust (RFC 9669 sections 5.1 and 5.2). Unsigned types are zero-extended to
+/// 64 bits, signed types sign-extended.
 #[derive(Clone, Copy, Debug, PartialEq, Eq)]
 pub enum LoadKind {
     U8,
@@ -123,7 +123,7 @@ pub enum LoadKind {
 }
 
 impl LoadKind {
-    /// How many bytes it reads.
+    /// Returns the number of bytes that the load reads.
     pub fn bytes(self) -> u8
         ensures count { result ≡ load_bytes self }
         ensures few { result ≤ 8 }
@@ -144,7 +144,8 @@ pub enum Source {
     Register(Register),
 }
 
-/// A sign-extending move: from how many low bits, to how many (RFC 9669 section 4.1).
+/// A sign-extending move: the number of low bits that are extended, and the number of bits that they are extended to
+/// (RFC 9669 section 4.1).
 #[derive(Clone, Copy, Debug, PartialEq, Eq)]
 pub enum SignExtendingMove {
     From8To32,
@@ -155,7 +156,7 @@ pub enum SignExtendingMove {
 }
 
 impl SignExtendingMove {
-    /// The width that it extends to.
+    /// The width that the move extends to.
     pub fn width(self) -> Width
         ensures { result ≡ extension_width self }
     {
@@ -225,7 +226,7 @@ pub enum Instruction {
     Jump {
         distance: i16,
     },
-    /// The same with a distance of 32 bits.
+    /// Jumps by a distance of 32 bits, in slots from the next one.
     LongJump {
         distance: i32,
     },

@@ -31,8 +31,8 @@ fn put_line<W: Write>(
     output.put(&line::line(slot, instruction))
 }
 
-/// Writes a line for each instruction: the slot, its bytes, its name and its fields; then flushes. It
-/// takes no memory; an error comes only from the output.
+/// Writes a line for each instruction: the slot, its bytes, its name and its fields; then flushes. No memory is
+/// allocated; an error comes only from the output.
 pub fn listing<A: Allocator, W: Write>(code: &Code<A>, output: &mut W) -> io::Result<()>
     // At `Ok` the listing was appended, at `Err` a beginning of it.
     ensures { WritesText (W.contents output.old) (W.contents output.new) result (listing_of code.now) }

@@ -1,4 +1,4 @@
-//! What instructions are called in a listing.
+//! The names of instructions in a listing.
 
 ghost use Rattle.std.specs.Prelude.{◌≡◌, ◌≤◌, length};
 ghost use Rattle.bpf_list.specs.Listing.{operation_name, condition_name, load_name, name_parts};
@@ -6,7 +6,7 @@ ghost use Rattle.bpf_list.specs.Listing.{operation_name, condition_name, load_na
 use bpf_code::{Instruction, LoadKind};
 use bpf_words::{BinaryOperation, ByteOrder, Condition};
 
-/// A name, and the bits that follow it where they do.
+/// The name of an instruction, and the number of bits that follows the name, where a number does.
 pub fn name(instruction: Instruction) -> (&'static str, Option<u8>)
     ensures text { result.0.now ≡ (name_parts instruction).0 }
     ensures bits { result.1 ≡ (name_parts instruction).1 }

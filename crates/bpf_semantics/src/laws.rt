@@ -1,4 +1,4 @@
-//! What follows from the definitions, for every program, all arguments and all rows.
+//! Laws that follow from the definitions, for every program, all arguments and all rows.
 
 ghost use Rattle.std.specs.Prelude.{◌≡◌, ◌↔◌, All, ℕ, ◌+◌, ◌≤◌, List, length, Some, None, IsSome};
 ghost use Rattle.std.specs.FinMap.{empty};
@@ -11,7 +11,7 @@ ghost use Rattle.bpf_semantics.specs.Run.{Run, moment, run, run_of};
 ghost use Rattle.bpf_semantics.specs.Agree.{AgreeOnLooks, in_tables, same_on, AreElsewhere, after_each};
 ghost use Rattle.bpf_semantics.specs.Path.{longest_path, instructions};
 
-/// What is stuck stays stuck, and what has ended stays as it ended.
+/// A stuck run stays stuck, and an ended run stays as it ended.
 pub fn the_end_stays()
     ensures stuck { (p : Program) (tables : Tables) (k n : ℕ) (s : State)
         → moment p tables k s ≡ Stuck → moment p tables (n + k) s ≡ Stuck }
@@ -19,8 +19,8 @@ pub fn the_end_stays()
         → moment p tables k s ≡ Ended reply t → moment p tables (n + k) s ≡ Ended reply t }
 {}
 
-/// Where some moment has ended there is a run, which is what is read off there; there is none exactly
-/// where the moment after as many steps as slots and one is stuck.
+/// A run exists where some moment has ended, and is what is read off there. No run exists exactly where the moment
+/// after one step more than there are slots is stuck.
 pub fn a_run_ends_or_is_stuck()
     ensures ended { (p : Program) (tables : Tables) (args : List ℕ) (rows : Rows) (k reply : ℕ) (s : State)
         → moment p tables k (entry_state args rows) ≡ Ended reply s
@@ -30,15 +30,14 @@ pub fn a_run_ends_or_is_stuck()
         ↔ (moment p tables (length p + 1) (entry_state args rows) ≡ Stuck) }
 {}
 
-/// A run has no more steps than the longest path has instructions, and that has no more than the
-/// program.
+/// A run has no more steps than the longest path has instructions; the longest path has no more than the program.
 pub fn runs_are_short()
     ensures path { (p : Program) (tables : Tables) (args : List ℕ) (rows : Rows) (r : Run)
         → run p tables args rows ≡ Some r → r.steps ≤ longest_path p }
     ensures instructions { (p : Program) → longest_path p ≤ instructions p }
 {}
 
-/// A run that didn't cancel leaves the rows after its writes; one that did leaves them as they were.
+/// A run that didn't cancel leaves the rows after its writes; a run that cancelled leaves the rows as they were.
 pub fn the_effect_is_that_of_the_writes()
     ensures kept { (p : Program) (tables : Tables) (args : List ℕ) (rows : Rows) (r : Run)
         → run p tables args rows ≡ Some r → r.cancel_code ≡ None → r.effect ≡ after_writes r.writes rows }
@@ -46,9 +45,9 @@ pub fn the_effect_is_that_of_the_writes()
         → run p tables args rows ≡ Some r → IsSome r.cancel_code → (r.effect ≡ rows) × (r.writes ≡ empty) }
 {}
 
-/// A run depends on the rows only where it looks. On others that have the same there, present or
-/// absent, one that ended is the same but for its effect; one that goes on is in the same state but
-/// for the rows; and one that is stuck is stuck after as many steps.
+/// A run depends on the rows only where it looks. On other rows that are the same there, present or absent, a run that
+/// ended is the same but for its effect. A run that goes on is in the same state but for the rows; a stuck run is stuck
+/// after as many steps.
 pub fn a_run_depends_on_its_looks()
     ensures same { (p : Program) (tables : Tables) (args : List ℕ) (m n : Rows) (r : Run)
         → run p tables args m ≡ Some r → AgreeOn (any_covers r.looks) m n
@@ -66,9 +65,9 @@ pub fn a_run_depends_on_its_looks()
         → (run p tables args m ≡ None) ↔ (run p tables args n ≡ None) }
 {}
 
-/// A run depends on the rows of the schema's tables alone. On others that have the same in those
-/// tables, one that ended is the same but for its effect; one that goes on is in the same state but
-/// for the rows; and one that is stuck is stuck after as many steps.
+/// A run depends on the rows of the schema's tables alone. On other rows that are the same in those tables, a run that
+/// ended is the same but for its effect. A run that goes on is in the same state but for the rows; a stuck run is stuck
+/// after as many steps.
 pub fn a_run_depends_on_its_schemas_tables()
     ensures same { (p : Program) (tables : Tables) (args : List ℕ) (m n : Rows) (r : Run)
         → run p tables args m ≡ Some r → AgreeOn (in_tables tables) m n
@@ -86,7 +85,7 @@ pub fn a_run_depends_on_its_schemas_tables()
         → (run p tables args m ≡ None) ↔ (run p tables args n ≡ None) }
 {}
 
-/// Writes to keys that a run didn't look at change nothing of it but the effect, where it ended.
+/// Writes to keys that an ended run didn't look at change nothing of the run but its effect.
 pub fn writes_elsewhere_leave_the_run()
     ensures once { (p : Program) (tables : Tables) (args : List ℕ) (rows : Rows) (r : Run) (writes : Writes)
         → run p tables args rows ≡ Some r → AreElsewhere r.looks writes

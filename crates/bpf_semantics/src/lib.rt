@@ -1,4 +1,4 @@
-//! What a run of a program is: the definitions, and laws about them.
+//! Runs of programs: the definitions, and laws about them.
 //!
 //! `laws.rt` has the laws of whole runs, `states.rt` those of its moments, `steps.rt` those of single
 //! steps.

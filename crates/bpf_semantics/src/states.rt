@@ -1,5 +1,5 @@
-//! Runs moment by moment: how long one goes on, which states it comes to, and what an open call
-//! depends on.
+//! Runs moment by moment: the length of a run, the states that a run comes to, and the rows that an open call depends
+//! on.
 
 ghost use Rattle.std.specs.Prelude.{◌≡◌, All, ℕ, ◌^◌, ◌<◌, ◌≤◌, List, length, Some};
 ghost use Rattle.std.specs.FinMap.{len};
@@ -11,8 +11,8 @@ ghost use Rattle.bpf_semantics.specs.Step.{Going, Ended};
 ghost use Rattle.bpf_semantics.specs.Run.{Run, moment, run, run_of};
 ghost use Rattle.bpf_semantics.specs.Fit.{IsState, IsRunOf};
 
-/// Before its length a run goes on at every moment, with as many steps; from its length on it has
-/// ended, with its reply, and is what is read off there.
+/// A run goes on at every moment before its length, with as many steps. At its length and later the run has ended, with
+/// its reply, and is what is read off there.
 pub fn a_run_goes_on_to_its_length()
     ensures before { (p : Program) (tables : Tables) (args : List ℕ) (rows : Rows) (r : Run) (k : ℕ)
         → run p tables args rows ≡ Some r → k < r.steps
@@ -23,8 +23,8 @@ pub fn a_run_goes_on_to_its_length()
         × (run_of rows r.reply s ≡ r) }
 {}
 
-/// On rows of the schema and arguments of bytes a program's run is in a state that fits while it goes
-/// on and where it ends, its rows are those of the beginning after its writes, and what comes of it fits too.
+/// A program's run on rows of the schema and arguments of bytes is in a fitting state while it goes on and where it
+/// ends. The state's rows are those of the beginning after its writes, and what comes of the run fits too.
 pub fn states_fit()
     ensures going { (p : Program) (tables : Tables) (args : List ℕ) (rows : Rows) (k : ℕ) (s : State)
         → IsProgram p → All (λ b. b < 256) args → AreRows tables rows
@@ -50,9 +50,9 @@ pub fn looks_and_writes_are_few()
         → (length r.looks ≤ r.steps) × (len r.writes ≤ r.steps) }
 {}
 
-/// An open call depends on the rows only where it has looked so far: on others that have the same
-/// there, present or absent, it is at the same moment in the same state but for the rows. (Of stuck
-/// runs `a_run_depends_on_its_looks` says it.)
+/// An open call depends on the rows only where it has looked so far. On other rows that are the same there, present or
+/// absent, the call is in the same state but for the rows, at the same moment. (`a_run_depends_on_its_looks` is the law
+/// of stuck runs.)
 pub fn an_open_call_depends_on_its_looks()
     ensures going { (p : Program) (tables : Tables) (args : List ℕ) (m n : Rows) (k : ℕ) (s : State)
         → moment p tables k (entry_state args m) ≡ Going s → AgreeOn (any_covers s.looks) m n

@@ -1,4 +1,5 @@
-//! Single steps: where one leads, what it looks at and leaves, how far a place goes.
+//! Single steps: the slot to which a step leads, the keys at which it looks, the rows that it leaves, and how far a
+//! place moves.
 
 ghost use Rattle.std.specs.Prelude.{◌≡◌, ◌≢◌, ◌⊎◌, ℕ, ℤ, ◌+◌, ◌<◌, ◌≤◌, ◌+ℤ◌, List, [], ◌∷◌, ◌++◌, length, Some, None};
 ghost use Rattle.std.specs.Prelude.{IsSome};
@@ -20,8 +21,8 @@ ghost use Rattle.bpf_semantics.specs.Step.{Going, moved_place, step};
 ghost use Rattle.bpf_semantics.specs.Path.{fall_through, jump_of};
 ghost use Rattle.bpf_semantics.specs.Fit.{IsPlace, Leads, AddsAtMostOne, PutLeaves};
 
-/// A program doesn't run off its end: at its first slot, behind an instruction that falls through, and
-/// where one jumps to, an instruction begins.
+/// A program doesn't run off its end. An instruction begins at its first slot, behind an instruction that falls
+/// through, and at the target of a jump.
 pub fn a_program_does_not_run_off_its_end()
     ensures first { (p : Program) → IsProgram p → IsSome (instruction_at p 0) }
     ensures next { (p : Program) (slot n : ℕ) (i : Instruction) → IsProgram p
@@ -32,8 +33,8 @@ pub fn a_program_does_not_run_off_its_end()
         → IsSome (instruction_at p (slot + n)) }
 {}
 
-/// A step goes on by falling through or by its jump, and is counted. A call leaves what its helper
-/// does; no other instruction looks at anything, so a step adds at most one look.
+/// A step goes on by falling through or by its jump, and is counted. A call leaves what its helper does. No other
+/// instruction looks at anything, so a step adds at most one look.
 pub fn a_step_leads_on()
     ensures leads { (p : Program) (tables : Tables) (s t : State) → step p tables s ≡ Going t
         → (i : Instruction) × (instruction_at p s.slot ≡ Some i)
@@ -63,7 +64,7 @@ pub fn gets_look_at_their_key()
         → IsSome (get s.writes (table, key)) → t.looks ≡ s.looks }
 {}
 
-/// A count looks at its interval; at nothing where that is empty.
+/// A count looks at its interval; at nothing where the interval is empty.
 pub fn counts_look_at_their_interval()
     ensures look { (tables : Tables) (s t : State) (table lo hi : ℕ)
         → state_after_call tables RangeCount s ≡ Some t → register s R1 ≡ Number table
@@ -123,7 +124,7 @@ pub fn a_removal_leaves_nothing()
         → register s R2 ≡ Number key → get t.writes (table, key) ≡ Some None }
 {}
 
-/// A place moves to each other that is at most 65,536 away, and no further.
+/// A place moves to each other place from -65,536 to 65,536, and no further.
 pub fn places_move_so_far()
     ensures stack { (place distance : ℤ) → IsPlace (place +ℤ distance)
         → moved_place (Stack place) distance ≡ Some (Stack (place +ℤ distance)) }

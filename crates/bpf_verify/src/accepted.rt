@@ -13,8 +13,8 @@ use schema::Schema;
 use std::alloc::{Allocator, Global};
 use std::marker::Model;
 
-/// A program that was verified, with the schema and the length of its arguments for which it was. Contracts see
-/// these three. It keeps the program's layout too, in the schema's memory.
+/// A program that was verified, with the schema and the length of arguments for which it was verified. Contracts see
+/// these three. The program's layout is kept too, in the schema's memory.
 #[derive(Drop)]
 pub struct Accepted<A: Allocator = Global, B: Allocator = Global> {
     code: Code<A>,
@@ -66,7 +66,8 @@ impl<A: Allocator, B: Allocator> Accepted<A, B> {
         }
     }
 
-    /// What is known of every accepted program. To call this does nothing.
+    /// Every accepted program is a program that the definition accepts, and its schema, its argument length and its
+    /// bound are within the limits. A call of this law does nothing.
     pub fn known(&self)
         ensures program { IsProgram self.now.program }
         ensures tables { AreTables self.now.tables }
@@ -86,14 +87,14 @@ impl<A: Allocator, B: Allocator> Accepted<A, B> {
         &self.code
     }
 
-    /// The schema whose tables it may name.
+    /// The schema whose tables the program may name.
     pub fn schema(&self) -> &Schema<B>
         ensures { result.now ≡ self.now.tables }
     {
         &self.schema
     }
 
-    /// How many bytes its arguments have, at most 256.
+    /// Returns the number of bytes of the program's arguments, at most 256.
     pub fn args_len(&self) -> u16
         ensures length { result ≡ self.now.args_len }
         ensures few { result ≤ MAX_ARGUMENTS }
@@ -101,7 +102,7 @@ impl<A: Allocator, B: Allocator> Accepted<A, B> {
         self.args_len
     }
 
-    /// The most instructions that it may run: those on the longest path, whatever the conditions say.
+    /// The most instructions that the program may run: those on the longest path, whatever the conditions say.
     pub fn bound(&self) -> u32
         ensures { result ≡ longest_path self.now.program }
     {

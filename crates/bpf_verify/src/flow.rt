@@ -1,4 +1,4 @@
-//! One pass over a program: what is known before each slot goes on to those ahead.
+//! One pass over a program: what is known before each slot goes on to the slots ahead.
 ghost use Rattle.std.specs.Prelude.{◌≡◌, ℕ, ◌+◌, ◌<◌, ◌≤◌, ◌^◌, ◌==◌, length, slice_index_or, replicate};
 ghost use Rattle.std.specs.Prelude.{if◌then◌else◌, [], ◌∷◌, Some, None, IfSome, IfNone, IfErr, IfOk};
 ghost use Rattle.bpf_code.specs.Program.{instruction_at};
@@ -18,9 +18,10 @@ use flat_code::{FlatInstruction, lay_out};
 use schema::Schema;
 use std::alloc::{AllocError, Allocator};
 
-/// The program, accepted on arguments of so many bytes and with the schema's tables, or why not. It takes as
-/// much memory as there are slots, by one growth, and gives it back. What is accepted keeps, in the schema's memory,
-/// the copy of the schema and the program's layout: by one growth 16 bytes a slot, 64 KB for 4,096 slots.
+/// Verifies a program on arguments of `args_len` bytes and with the schema's tables: the answer is the accepted
+/// program, or the refusal. The call takes as much memory as there are slots, by one growth, and gives it back. The
+/// accepted program keeps, in the schema's memory, a copy of the schema and the program's layout. The layout takes by
+/// one growth 16 bytes a slot, 64 KB for 4,096 slots.
 ///
 /// ```text
 /// let schema = Schema::new(alloc, &[(1, 8)])?;
@@ -95,7 +96,7 @@ fn scan<A: Allocator, B: Allocator>(
     None
 }
 
-/// The cause for which a slot is refused; where there is none, what it sends arrives.
+/// The cause for which a slot is refused. Where there is no cause, what the slot sends arrives.
 fn visit<A: Allocator, B: Allocator>(
     code: &Code<A>,
     schema: &Schema<B>,

@@ -1,10 +1,10 @@
-//! How many slots on an instruction leads.
+//! The number of slots that an instruction leads on.
 ghost use Rattle.std.specs.Prelude.{◌≡◌, ◌<◌, ◌^◌, IfSome};
 ghost use Rattle.bpf_semantics.specs.Path.{fall_through, jump_of};
 
 use bpf_code::Instruction;
 
-/// To the next instruction; none where it always jumps, or ends.
+/// Returns the number of slots to the next instruction; none where the instruction always jumps, or ends.
 pub(crate) fn fall_through(instruction: Instruction) -> Option<usize>
     ensures slots { result ≡ fall_through instruction }
     ensures near { IfSome result (λ n. n < 2 ^ 32) }
@@ -16,7 +16,7 @@ pub(crate) fn fall_through(instruction: Instruction) -> Option<usize>
     }
 }
 
-/// To where it jumps; none where it doesn't.
+/// Returns the number of slots to the jump's target; none where the instruction doesn't jump.
 pub(crate) fn jump_of(instruction: Instruction) -> Option<usize>
     ensures slots { result ≡ jump_of instruction }
     ensures near { IfSome result (λ n. n < 2 ^ 32) }

@@ -1,9 +1,9 @@
-//! Why a procedure isn't accepted.
+//! The refusals of procedures.
 use abs_step::Cause;
 use std::error::Error;
 use std::fmt;
 
-/// Why a procedure isn't accepted.
+/// The refusal of a procedure, which says why the procedure isn't accepted.
 #[derive(Clone, Copy, Debug, PartialEq, Eq)]
 pub enum Refusal {
     /// The lowest slot, counted from 0, whose instruction is refused, and its lowest cause.

@@ -18,19 +18,19 @@ use std::alloc::Allocator;
 use txn_view::{Store, View};
 use vm_state::WordState;
 
-/// What a call answers.
+/// The answer of a call.
 #[derive(Clone, Copy, Debug, PartialEq, Eq)]
 pub enum CallAnswer {
-    /// It was made.
+    /// The call was made.
     Done,
     /// The store has the rows no more.
     Stale,
-    /// There is no memory for what it adds.
+    /// No memory is left for what the call adds.
     NoMemory,
 }
 
-/// Calls a helper: of each state that words and view stand for, they stand for the one after the call.
-/// Where it isn't done they stay as they were.
+/// Calls a helper. For each state that words and view stand for, they stand for the state after the call. Where the
+/// call isn't done they stay as they were.
 pub fn call<B: Allocator, S: Store, A: Allocator + Copy>(
     words: &mut WordState,
     view: &mut View<S, A>,
@@ -67,6 +67,7 @@ fn cancel<S: Store, A: Allocator + Copy>(words: &mut WordState, view: &mut View<
         (state_after_call tables Cancel s) result words.new view.new.own }
     ensures store { view.new.store ≡ view.old.store }
 {
+    // Laws:
     held_laws();
     view.cancel(words.word(Register::R1));
     words.answer(0);

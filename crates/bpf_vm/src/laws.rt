@@ -1,4 +1,4 @@
-//! What the definitions say of calls that are open.
+//! The laws of open calls, from the definitions.
 
 ghost use Rattle.std.specs.Prelude.{◌≡◌, ◌+◌, ◌<◌, ℕ, List};
 ghost use Rattle.schema.specs.Rows.{Rows};
@@ -16,20 +16,21 @@ use bpf_semantics::{a_run_ends_or_is_stuck, a_run_goes_on_to_its_length, states_
 use std::alloc::Allocator;
 use txn_view::{Store, View};
 
-/// A machine that has run so many instructions of a run, with a view of what the run has done so far and
-/// a store that answers from its rows, may have another turn.
+/// A machine that has run k instructions of a run may have another turn. The machine's view must be of what the run has
+/// done so far, and its store must answer from the run's rows.
 pub fn open_calls_can_turn<S: Store, C: Allocator + Copy>(view: &View<S, C>)
     ensures { (p : Procedure) (args : List ℕ) (rows : Rows) (k : ℕ) (m : MachineState)
         → Suits p args rows → S.answers_from view.now.store rows
         → HasRun p args rows k m (own_effects view.now.own)
         → CanTurn p (S.answers_from view.now.store) m view.now.own }
 {
+    // Laws:
     accepted_programs_never_go_wrong();
     states_fit();
 }
 
-/// An accepted procedure's run that goes on after so many instructions has one more on its longest path; where that
-/// ends it, the run is what it leaves there.
+/// An accepted procedure's run that goes on after k instructions has one more on its longest path. Where that
+/// instruction ends the run, the run is what it leaves there.
 pub fn runs_go_on_or_end()
     ensures short { (p : Procedure) (args : List ℕ) (rows : Rows) (k : ℕ) (s : State)
         → IsAcceptedProcedure p → Suits p args rows
@@ -41,6 +42,7 @@ pub fn runs_go_on_or_end()
         → step p.program p.tables s ≡ Ended reply t
         → HasEnded p args rows (k + 1) reply (effects_of t) }
 {
+    // Laws:
     accepted_programs_never_go_wrong();
     a_run_goes_on_to_its_length();
     a_run_ends_or_is_stuck();

@@ -26,7 +26,7 @@ use std::marker::Model;
 use txn_view::{Store, View};
 use vm_state::WordState;
 
-/// The arguments aren't as long as the procedure's.
+/// The fault of arguments that aren't as long as the procedure's.
 #[derive(Clone, Copy, Debug, PartialEq, Eq, Drop)]
 pub struct ArgsLength;
 
@@ -76,7 +76,7 @@ impl Machine {
         })
     }
 
-    /// A call on these arguments, as one that starts, in the memory of this one.
+    /// Restarts the machine with a call on these arguments, in the same memory.
     pub fn restart<A: Allocator, B: Allocator>(
         &mut self,
         procedure: &Accepted<A, B>,
@@ -95,7 +95,7 @@ impl Machine {
         Ok(())
     }
 
-    /// What the last turn answered, and before the first that there is more.
+    /// Returns what the last turn answered; before the first turn, that there is more.
     pub fn last(&self) -> Turn
         ensures { result ≡ self.now.last }
     {
@@ -112,8 +112,8 @@ impl Machine {
         procedure.code().at(self.words.slot())
     }
 
-    /// The next instruction. Where the last turn didn't answer that there is more, nothing is done, and it answers
-    /// the same again.
+    /// Runs the next instruction. Where the last turn didn't answer that there is more, nothing is done, and the answer
+    /// is the same again.
     pub fn turn<A: Allocator, B: Allocator, S: Store, C: Allocator + Copy>(
         &mut self,
         procedure: &Accepted<A, B>,
@@ -138,6 +138,7 @@ impl Machine {
             → HasRun procedure.now args rows k self.old (own_effects view.old.own)
             → k < longest_path procedure.now.program }
     {
+        // Laws:
         runs_go_on_or_end();
         accepted_programs_never_go_wrong();
         states_fit();
@@ -147,7 +148,7 @@ impl Machine {
         }
     }
 
-    /// The next instruction.
+    /// Runs the next instruction.
     fn advance<A: Allocator, B: Allocator, S: Store, C: Allocator + Copy>(
         &mut self,
         procedure: &Accepted<A, B>,
@@ -167,8 +168,8 @@ impl Machine {
         self.last
     }
 
-    /// Turns until one doesn't answer that there is more: as many as the procedure's bound at most. Where
-    /// the last turn didn't, nothing is done.
+    /// Takes turns until a turn doesn't answer that there is more: at most as many as the procedure's bound. Where the
+    /// last turn before didn't answer so, nothing is done.
     pub fn run<A: Allocator, B: Allocator, S: Store, C: Allocator + Copy>(
         &mut self,
         procedure: &Accepted<A, B>,
@@ -189,7 +190,8 @@ impl Machine {
         self.run_counted(procedure, view).last
     }
 
-    /// As `run`, and how many turns answered that there is more. Those of plain instructions are taken at once.
+    /// Runs as `run` does, and counts the turns that answered that there is more. The turns of plain instructions are
+    /// taken at once.
     pub fn run_counted<A: Allocator, B: Allocator, S: Store, C: Allocator + Copy>(
         &mut self,
         procedure: &Accepted<A, B>,
@@ -213,7 +215,7 @@ impl Machine {
         }
     }
 
-    /// Turns until one doesn't answer that there is more.
+    /// Takes turns until a turn doesn't answer that there is more.
     fn run_on<A: Allocator, B: Allocator, S: Store, C: Allocator + Copy>(
         &mut self,
         procedure: &Accepted<A, B>,
@@ -230,11 +232,13 @@ impl Machine {
             → AfterRun procedure.now args rows (S.is_gone view.old.store) k result.before result.last self.new
             (own_effects view.new.own) }
     {
+        // Laws:
         runs_go_on_or_end();
         accepted_programs_never_go_wrong();
         let mut before = 0;
         for _ in 0..procedure.bound() {
             before += self.run_plain(procedure);
+            // Laws:
             open_calls_can_turn(view);
             match self.turn(procedure, view) {
                 Turn::More => before += 1,
@@ -244,7 +248,8 @@ impl Machine {
         unreachable!()
     }
 
-    /// The instructions up to the next call, long jump or end, by the procedure's layout, and how many they are.
+    /// Runs the instructions up to the next call, long jump or end, by the procedure's layout, and returns their
+    /// number.
     fn run_plain<A: Allocator, B: Allocator>(&mut self, procedure: &Accepted<A, B>) -> u32
         requires { CanRunOn procedure.now.program self.old.words }
         ensures { (args : List ℕ) (rows : Rows) (k : ℕ) (effects : Effects) → Suits procedure.now args rows
@@ -252,6 +257,7 @@ impl Machine {
             → HasRun procedure.now args rows (k + result) self.new effects
             × ((gone : Bool) → NoneIsStale procedure.now args rows gone k result) }
     {
+        // Laws:
         accepted_programs_never_go_wrong();
         self.words.run_plain(procedure.code(), procedure.layout())
     }

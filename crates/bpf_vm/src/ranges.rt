@@ -33,6 +33,7 @@ pub fn range_count<B: Allocator, S: Store, A: Allocator + Copy>(
     ensures own { result ≢ CallAnswer.Done → view.new.own ≡ view.old.own }
     ensures store { view.new.store ≡ view.old.store }
 {
+    // Laws:
     held_laws();
     let (table, _) = named_table(words, schema);
     let lo = words.word(Register::R2);
@@ -64,6 +65,7 @@ pub fn range_next<B: Allocator, S: Store, A: Allocator + Copy>(
     ensures own { result ≢ CallAnswer.Done → view.new.own ≡ view.old.own }
     ensures store { view.new.store ≡ view.old.store }
 {
+    // Laws:
     held_laws();
     first_is_least();
     looks_cover_from_lo_to_hi();

@@ -33,6 +33,7 @@ pub fn row_get<B: Allocator, S: Store, A: Allocator + Copy>(
     ensures own { result ≢ CallAnswer.Done → view.new.own ≡ view.old.own }
     ensures store { view.new.store ≡ view.old.store }
 {
+    // Laws:
     held_laws();
     let (table, width) = named_table(words, schema);
     let key = words.word(Register::R2);
@@ -48,7 +49,7 @@ pub fn row_get<B: Allocator, S: Store, A: Allocator + Copy>(
     CallAnswer::Done
 }
 
-/// Makes the row what a buffer holds.
+/// Puts the bytes of a buffer as the row.
 pub fn row_put<B: Allocator, S: Store, A: Allocator + Copy>(
     words: &mut WordState,
     view: &mut View<S, A>,
@@ -64,6 +65,7 @@ pub fn row_put<B: Allocator, S: Store, A: Allocator + Copy>(
     ensures own { result ≢ CallAnswer.Done → view.new.own ≡ view.old.own }
     ensures store { view.new.store ≡ view.old.store }
 {
+    // Laws:
     held_laws();
     let (table, width) = named_table(words, schema);
     let key = words.word(Register::R2);
@@ -93,6 +95,7 @@ pub fn row_delete<B: Allocator, S: Store, A: Allocator + Copy>(
     ensures own { result ≢ CallAnswer.Done → view.new.own ≡ view.old.own }
     ensures store { view.new.store ≡ view.old.store }
 {
+    // Laws:
     held_laws();
     let (table, _) = named_table(words, schema);
     let key = words.word(Register::R2);

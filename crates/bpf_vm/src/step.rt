@@ -16,7 +16,7 @@ use std::alloc::Allocator;
 use txn_view::{Store, View};
 use vm_state::{WordState, registers_are_held};
 
-/// The instruction at the slot.
+/// Runs the instruction at the slot.
 pub fn step<A: Allocator, B: Allocator, S: Store, C: Allocator + Copy>(
     words: &mut WordState,
     procedure: &Accepted<A, B>,
@@ -52,6 +52,7 @@ fn execute<B: Allocator, S: Store, C: Allocator + Copy>(
     ensures own { DoesNothing result → view.new.own ≡ view.old.own }
     ensures store { view.new.store ≡ view.old.store }
 {
+    // Laws:
     registers_are_held();
     match instruction {
         Instruction::Call { helper } => call(words, schema, view, helper),

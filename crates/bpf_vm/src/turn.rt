@@ -1,6 +1,6 @@
-//! What a turn answers.
+//! The answers of turns and of runs.
 
-/// What a turn answers.
+/// The answer of a turn.
 #[derive(Clone, Copy, Debug, PartialEq, Eq)]
 pub enum Turn {
     /// An instruction was run, and there is more.
@@ -9,15 +9,15 @@ pub enum Turn {
     Exit(u64),
     /// A look was due, and the store has its rows no more. Nothing was done.
     Stale,
-    /// There was no memory for what a call does. Nothing was done.
+    /// No memory was left for what a call does. Nothing was done.
     NoMemory,
 }
 
-/// What a run came to.
+/// The end of a run.
 #[derive(Clone, Copy, Debug, PartialEq, Eq)]
 pub struct RunEnd {
-    /// How many turns answered that there is more.
+    /// The number of turns that answered that there is more.
     pub before: u32,
-    /// What the turn after them answered.
+    /// The answer of the turn after them.
     pub last: Turn,
 }

@@ -5,8 +5,8 @@ use crate::cut::low32;
 use crate::operation::Operation;
 use crate::{word32, word64};
 
-/// What an operation gives on 64 bits: `a` is the destination's value and `b` the source's (RFC
-/// 9669 section 4.1).
+/// Returns what an operation gives on 64 bits: `a` is the destination's value and `b` the source's (RFC 9669 section
+/// 4.1).
 #[tactic(auto, unfolding(crate::specs::Operation::alu))]
 pub fn alu64(op: Operation, a: u64, b: u64) -> u64
     ensures { result ≡ alu 64 op a b }
@@ -18,8 +18,8 @@ pub fn alu64(op: Operation, a: u64, b: u64) -> u64
     }
 }
 
-/// What an operation gives on the low 32 bits of both values, with zeros above them: `a` is the
-/// destination's value and `b` the source's (RFC 9669 section 4.1).
+/// Returns what an operation gives on the low 32 bits of both values, with zeros above them (RFC 9669 section 4.1). `a`
+/// is the destination's value and `b` the source's.
 #[tactic(auto, unfolding(crate::specs::Operation::alu))]
 pub fn alu32(op: Operation, a: u64, b: u64) -> u64
     ensures { result ≡ alu 32 op a b }

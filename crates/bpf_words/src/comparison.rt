@@ -5,8 +5,8 @@ use crate::condition::Condition;
 use crate::cut::low32;
 use crate::{word32, word64};
 
-/// Whether a condition holds on 64 bits: `a` is the destination's value and `b` the source's (RFC
-/// 9669 section 4.3).
+/// Tells whether a condition holds on 64 bits: `a` is the destination's value and `b` the source's (RFC 9669 section
+/// 4.3).
 #[tactic(auto, unfolding(crate::specs::Condition::holds))]
 pub fn holds64(condition: Condition, a: u64, b: u64) -> bool
     ensures { result ≡ holds 64 condition a b }
@@ -14,8 +14,8 @@ pub fn holds64(condition: Condition, a: u64, b: u64) -> bool
     word64::comparison(condition, a, b)
 }
 
-/// Whether a condition holds of the low 32 bits of both values: `a` is the destination's value and
-/// `b` the source's (RFC 9669 section 4.3).
+/// Tells whether a condition holds of the low 32 bits of both values (RFC 9669 section 4.3). `a` is the destination's
+/// value and `b` the source's.
 #[tactic(auto, unfolding(crate::specs::Condition::holds))]
 pub fn holds32(condition: Condition, a: u64, b: u64) -> bool
     ensures { result ≡ holds 32 condition a b }

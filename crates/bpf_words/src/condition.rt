@@ -1,26 +1,26 @@
 /// A condition of the conditional jumps, by its name there (RFC 9669 section 4.3).
 #[derive(Clone, Copy, Debug, PartialEq, Eq)]
 pub enum Condition {
-    /// Equal.
+    /// The words are equal.
     Eq,
-    /// Greater, unsigned.
+    /// The first word is greater, unsigned.
     Gt,
-    /// Greater or equal, unsigned.
+    /// The first word is greater or equal, unsigned.
     Ge,
-    /// Some bit is set in both.
+    /// A bit is set in both words.
     Set,
-    /// Not equal.
+    /// The words differ.
     Ne,
-    /// Greater, signed.
+    /// The first word is greater, signed.
     Sgt,
-    /// Greater or equal, signed.
+    /// The first word is greater or equal, signed.
     Sge,
-    /// Less, unsigned.
+    /// The first word is less, unsigned.
     Lt,
-    /// Less or equal, unsigned.
+    /// The first word is less or equal, unsigned.
     Le,
-    /// Less, signed.
+    /// The first word is less, signed.
     Slt,
-    /// Less or equal, signed.
+    /// The first word is less or equal, signed.
     Sle,
 }

@@ -14,14 +14,13 @@ ghost use Rattle.bpf_words.specs.declared.operation.Operation.{Operation};
 ghost use Rattle.bpf_words.specs.declared.operation.Operation.TheVariants.{Binary};
 ghost use Rattle.bpf_words.specs.declared.operation.BinaryOperation.TheVariants.{Div, Mod, Sdiv, Smod};
 
-/// What an operation gives is a word: below 2^64, and at 32 bits below 2^32, with zeros in the
-/// upper half.
+/// The result of an operation is a word: below 2^64, and at 32 bits below 2^32, with zeros in the upper half.
 #[tactic(auto, using(crate::proofs::Words::alu_below))]
 pub fn results_are_words()
     ensures { (n : ℕ) → (op : Operation) → (a b : ℕ) → alu n op a b < 2 ^ n }
 {}
 
-/// What a byte swap instruction gives has zeros above the bits that it takes.
+/// The result of a byte swap instruction has zeros above the bits that the instruction takes.
 #[tactic(auto, using(crate::proofs::Words::ended_below))]
 pub fn end_is_narrow()
     ensures { (order : ByteOrder) → (width : EndWidth) → (a : ℕ)
@@ -61,8 +60,8 @@ pub fn signed_reads_words()
     ensures back { (n a : ℕ) → a < 2 ^ n → word n (signed_value n a) ≡ a }
 {}
 
-/// Of a condition and its opposite just one holds, and the opposite's opposite is the condition. The
-/// bit test alone has none.
+/// A condition and its opposite exclude each other: exactly one of the two holds. The opposite's opposite is the
+/// condition. The bit test alone has no opposite.
 #[tactic(auto, using(crate::proofs::Words::opposite_excludes, crate::proofs::Words::opposite_back, crate::proofs::Words::opposite_none))]
 pub fn opposites_exclude()
     ensures excludes { (condition : Condition) → IfSome (opposite condition) (λ other.
@@ -72,7 +71,7 @@ pub fn opposites_exclude()
     ensures none { (condition : Condition) → (opposite condition ≡ None) ↔ (condition ≡ Set) }
 {}
 
-/// What each condition says of two words.
+/// Each condition is a comparison of two words: unsigned, signed, or of the bits that are set in both.
 #[tactic(auto, using(crate::proofs::Words::cut_word), unfolding(crate::specs::Condition::holds, crate::specs::Condition::comparison))]
 pub fn conditions_compare()
     ensures eq { (n a b : ℕ) → a < 2 ^ n → b < 2 ^ n → IsTrue (holds n Eq a b) ↔ (a ≡ b) }

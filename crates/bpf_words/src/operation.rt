@@ -24,7 +24,7 @@ pub enum BinaryOperation {
     Arsh,
 }
 
-/// How many low bits a sign-extending move takes (RFC 9669 section 4.1).
+/// The number of low bits that a sign-extending move takes (RFC 9669 section 4.1).
 #[derive(Clone, Copy, Debug, PartialEq, Eq)]
 pub enum SignExtension {
     From8,
@@ -42,7 +42,7 @@ pub enum Operation {
     Movsx(SignExtension),
 }
 
-/// What a byte swap instruction does with the bytes (RFC 9669 section 4.2, on a little-endian host).
+/// The effect of a byte swap instruction on the bytes (RFC 9669 section 4.2, on a little-endian host).
 #[derive(Clone, Copy, Debug, PartialEq, Eq)]
 pub enum ByteOrder {
     /// Keeps the low bits in their order.
@@ -53,7 +53,7 @@ pub enum ByteOrder {
     Swap,
 }
 
-/// How many low bits a byte swap instruction takes (RFC 9669 section 4.2).
+/// The number of low bits that a byte swap instruction takes (RFC 9669 section 4.2).
 #[derive(Clone, Copy, Debug, PartialEq, Eq)]
 pub enum EndWidth {
     Low16,

@@ -4,8 +4,8 @@ ghost use Rattle.bpf_words.specs.End.{end_value, byte_reversal};
 use crate::cut::{low16, low32};
 use crate::operation::{ByteOrder, EndWidth};
 
-/// The low bits of `a`, in little-endian or in reversed byte order, with zeros above them (RFC 9669
-/// section 4.2). It takes the whole 64-bit value in every class.
+/// The low bits of `a`, in little-endian or in reversed byte order, with zeros above them (RFC 9669 section 4.2). The
+/// whole 64-bit value is taken in every class.
 #[tactic(auto, unfolding(crate::specs::End::end_value))]
 pub fn end(order: ByteOrder, width: EndWidth, a: u64) -> u64
     ensures { result ≡ end_value order width a }

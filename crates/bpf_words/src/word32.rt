@@ -8,7 +8,7 @@ use crate::condition::Condition;
 use crate::cut::{low8, low16, low32};
 use crate::operation::{BinaryOperation, SignExtension};
 
-/// What an operation gives on two words of 32 bits.
+/// Returns what an operation gives on two words of 32 bits.
 #[tactic(auto, unfolding(crate::specs::Operation::binary_value))]
 pub fn binary_value(op: BinaryOperation, a: u32, b: u32) -> u32
     ensures { result ≡ operations.binary_value 32 op a b }
@@ -43,7 +43,7 @@ pub fn sign_extension(from: SignExtension, b: u64) -> u32
     .cast_unsigned()
 }
 
-/// Whether a condition holds of two words of 32 bits.
+/// Tells whether a condition holds of two words of 32 bits.
 #[tactic(auto, unfolding(crate::specs::Condition::comparison))]
 pub fn comparison(condition: Condition, a: u32, b: u32) -> bool
     ensures { result ≡ conditions.comparison 32 condition a b }

@@ -8,7 +8,7 @@ use crate::condition::Condition;
 use crate::cut::{low8, low16, low32};
 use crate::operation::{BinaryOperation, SignExtension};
 
-/// What an operation gives on two words of 64 bits.
+/// Returns what an operation gives on two words of 64 bits.
 #[tactic(auto, unfolding(crate::specs::Operation::binary_value))]
 pub fn binary_value(op: BinaryOperation, a: u64, b: u64) -> u64
     ensures { result ≡ operations.binary_value 64 op a b }
@@ -43,7 +43,7 @@ pub fn sign_extension(from: SignExtension, b: u64) -> u64
     .cast_unsigned()
 }
 
-/// Whether a condition holds of two words of 64 bits.
+/// Tells whether a condition holds of two words of 64 bits.
 #[tactic(auto, unfolding(crate::specs::Condition::comparison))]
 pub fn comparison(condition: Condition, a: u64, b: u64) -> bool
     ensures { result ≡ conditions.comparison 64 condition a b }

@@ -1,4 +1,4 @@
-//! What is said where a stream fails.
+//! The line that reports the failure of a stream.
 
 ghost use Rattle.std.specs.Prelude.{◌≡◌, ℕ, List};
 ghost use Rattle.byte_output.specs.Writes.{WritesText};

@@ -18,8 +18,8 @@ pub mod paged;
 pub mod sink;
 mod status;
 
-/// One write. How many bytes it took from the front: none where it was interrupted, an error where
-/// it took none by itself.
+/// Makes one write, and returns the number of bytes that were taken from the front. An interrupted write takes 0; a
+/// write that takes 0 by itself is an error.
 fn write_some<W: Write>(output: &mut W, bytes: &[u8]) -> io::Result<usize>
     ensures bound { IfOk result (λ n. n ≤ length bytes.now) }
     ensures appended { WriteAppends (W.contents output.old) (W.contents output.new) result bytes.now }
@@ -32,8 +32,8 @@ fn write_some<W: Write>(output: &mut W, bytes: &[u8]) -> io::Result<usize>
     }
 }
 
-/// Writes the bytes, by as many writes as it takes. A write that was interrupted is made again; one
-/// that fails, or takes nothing, ends the call.
+/// Writes the bytes, by as many writes as it takes. A write that was interrupted is made again; a write that fails, or
+/// takes nothing, ends the call.
 pub fn put<W: Write>(output: &mut W, bytes: &[u8]) -> io::Result<()>
     // At `Ok` the bytes are appended, at `Err` some of them from the front.
     ensures { WritesText (W.contents output.old) (W.contents output.new) result bytes.now }

@@ -49,7 +49,7 @@ pub fn push_signed(line: &mut LineBuffer, label: &str, number: i32)
     push(line, digits.format(number).as_bytes());
 }
 
-/// Appends a text at the right of so many places. One that is longer stands as it is.
+/// Appends a text, right-aligned in a column of `places` bytes. A longer text is appended as it is.
 pub fn push_right(line: &mut LineBuffer, places: usize, text: &[u8])
     requires narrow { places ≤ COLUMN_BYTES }
     requires short { length text.now ≤ COLUMN_BYTES }
@@ -62,7 +62,7 @@ pub fn push_right(line: &mut LineBuffer, places: usize, text: &[u8])
     push(line, text);
 }
 
-/// Appends a number in decimal at the right of so many places.
+/// Appends a number in decimal, right-aligned in a column of `places` bytes.
 pub fn push_column(line: &mut LineBuffer, places: usize, number: u64)
     requires narrow { places ≤ COLUMN_BYTES }
     requires room { array_vec_len line.old + COLUMN_BYTES ≤ LINE_BYTES }

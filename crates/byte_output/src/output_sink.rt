@@ -1,4 +1,4 @@
-//! An output that bytes are appended to.
+//! An output to which bytes are appended.
 
 ghost use Rattle.std.specs.Prelude.{◌≡◌, ℕ, List, Option};
 ghost use Rattle.byte_output.specs.Writes.{WritesText};
@@ -9,8 +9,8 @@ use crate::sink::ByteSink;
 use std::io;
 use std::io::Write;
 
-/// An output, in front of which a page is kept, that bytes are appended to. It takes no memory. Its first error is told
-/// at the end; what is appended behind it is lost.
+/// An output to which bytes are appended, with a page kept in front of the output. No memory is allocated. The first
+/// error is told at the end; bytes that are appended after the error are lost.
 #[derive(Drop)]
 pub struct OutputSink<'b, 'a, W: Write> {
     pub pages: &'b mut PagedOutput<'a, W>,
@@ -21,7 +21,7 @@ pub struct OutputSink<'b, 'a, W: Write> {
 impl<'b, 'a, W: Write> OutputSink<'b, 'a, W> {
     ghost use Rattle.byte_output.specs.Taken.{pages_of, HasTakenSo};
 
-    /// The first error of the output, where it had one, which is told once.
+    /// Takes the first error of the output, where there was an error. The error is told once.
     pub fn take_error(&mut self) -> Option<io::Error>
         ensures taken { (start : Option (List ℕ)) (text : List ℕ) → HasTakenSo W.contents start text self.old
             → HasTaken W.contents start text (pages_of self.new).now result }
@@ -32,8 +32,8 @@ impl<'b, 'a, W: Write> OutputSink<'b, 'a, W> {
     }
 }
 
-/// Puts out what is left of what was appended, unless that failed, and flushes the output: all of it was written, or at an
-/// error a beginning.
+/// Puts out the rest of the appended bytes, unless an append failed, and flushes the output. At `Ok` all of them were
+/// written, at an error a beginning of them.
 pub fn finish<W: Write>(pages: PagedOutput<'_, W>, failed: Option<io::Error>) -> io::Result<()>
     ensures { (start : Option (List ℕ)) (text : List ℕ) → HasTaken W.contents start text pages.entry failed
         → WritesText start (W.contents pages.exit.0.now) result text }

@@ -11,11 +11,11 @@ use std::io::Write;
 /// The most bytes that are kept.
 pub const PAGE_BYTES: usize = 4096;
 
-/// An output, and a page of bytes that were given for it and haven't left. It takes no memory.
+/// An output, and a page of bytes that were given for it and haven't left. No memory is allocated.
 ///
-/// Where each `put` and then `finish` has answered `Ok`, the output has all that was given. At the
-/// first error it has a beginning of that, and what was kept is given up, so that nothing leaves
-/// twice. What is kept when the value is dropped is lost.
+/// The output has all bytes that were given, where each `put` and then `finish` has answered `Ok`. At the first error
+/// the output has a beginning of them. The bytes that were kept are given up, so that no byte leaves twice. Bytes that
+/// are kept when the value is dropped are lost.
 #[derive(Drop)]
 pub struct PagedOutput<'a, W: Write> {
     output: &'a mut W,
@@ -25,7 +25,7 @@ pub struct PagedOutput<'a, W: Write> {
 impl<'a, W: Write> PagedOutput<'a, W> {
     ghost use Rattle.byte_output.specs.Pending.{output_of, pending_of, Takes};
 
-    /// One in front of an output, with nothing pending. The output is as it was.
+    /// An empty page in front of an output. The output is as it was.
     pub fn new(output: &'a mut W) -> PagedOutput<'a, W>
         ensures same_output { (output_of result).ghost_name ≡ output.entry.ghost_name }
         ensures untouched { (output_of result).now ≡ output.old }
@@ -37,7 +37,7 @@ impl<'a, W: Write> PagedOutput<'a, W> {
         }
     }
 
-    /// Takes the bytes. Where there is no room for them, what is pending leaves first.
+    /// Takes the bytes. Where there is no room for them, the pending bytes leave first.
     pub fn put(&mut self, bytes: &[u8]) -> io::Result<()>
         ensures same_output { (output_of self.new).ghost_name ≡ (output_of self.old).ghost_name }
         ensures bytes { Takes W.contents self.old self.new result bytes.now }
@@ -58,7 +58,7 @@ impl<'a, W: Write> PagedOutput<'a, W> {
         Ok(())
     }
 
-    /// Puts out what is pending, and flushes the output.
+    /// Puts out the pending bytes, and flushes the output.
     pub fn finish(self) -> io::Result<()>
         ensures { WritesText (W.contents (output_of self.entry).now) (W.contents self.exit.0.now) result
             (pending_of self.entry) }

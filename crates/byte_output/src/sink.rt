@@ -1,23 +1,23 @@
-//! What bytes are appended to, a piece at a time.
+//! Sinks, to which bytes are appended a piece at a time.
 
 ghost use Rattle.std.specs.Prelude.{◌≡◌, ◌++◌, ℕ, [], List, Some, IfOk};
 ghost use Rattle.byte_output.specs.Sink.{bytes_of};
 
 use std::alloc::{AllocError, Allocator};
 
-/// Bytes are appended to it, a piece at a time. One that can't take a piece says so at its end, and takes none of
-/// those behind it, so that whoever appends needs no error.
+/// A sink, to which bytes are appended a piece at a time. A sink that can't take a piece says so at its end, and takes
+/// no later piece. Whoever appends needs no error.
 pub trait ByteSink {
-    /// Whether the second is what comes of the first by appending these bytes.
+    /// The second sink is the first with these bytes appended.
     ghost appends: { Self → Self → List ℕ → Type 0 };
 
     fn append(&mut self, bytes: &[u8])
         ensures { appends self.old self.new bytes.now };
 
-    /// No bytes change nothing.
+    /// An append of no bytes changes nothing.
     ghost nothing: { (a : Self) → appends a a [] };
 
-    /// A piece and one behind it are both of them together.
+    /// An append of a piece, and of another behind it, is an append of both together.
     ghost together: { (a b c : Self) (front back : List ℕ) → appends a b front → appends b c back
         → appends a c (front ++ back) };
 }
@@ -30,7 +30,7 @@ pub struct GrowingBytes<A: Allocator> {
 }
 
 impl<A: Allocator> GrowingBytes<A> {
-    /// So many bytes, to which others are appended.
+    /// A sink that holds these bytes, to which others are appended.
     pub fn new(bytes: Vec<u8, A>) -> GrowingBytes<A>
         ensures { bytes_of result ≡ Some bytes.items }
     {
@@ -40,7 +40,7 @@ impl<A: Allocator> GrowingBytes<A> {
         }
     }
 
-    /// All of them; an error where memory was wanting for a piece.
+    /// Returns all bytes of the sink; an error where memory was wanting for a piece.
     pub fn into_bytes(self) -> Result<Vec<u8, A>, AllocError>
         ensures { IfOk result (λ bytes. bytes_of self ≡ Some bytes.items) }
     {

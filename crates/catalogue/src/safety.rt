@@ -16,15 +16,17 @@ pub fn accepted_procedures_are_safe()
         → IsAccepted (record { program = p.program; tables = tables; args_len = p.args_len })
         → IsSafe tables p }
 {
+    // Laws:
     accepted_programs_never_go_wrong();
 }
 
-/// Where each procedure of a catalogue was accepted, with the tables of the setting, all of them are safe.
+/// Safety holds of all procedures of a catalogue where each was accepted with the tables of the setting.
 pub fn catalogues_of_accepted_procedures_are_safe()
     ensures { (w : Setting) → AreTables w.tables
         → ((number : ℕ) (p : StoredProcedure) → by_number w.catalogue number ≡ Some p
         → IsProgram p.program × IsAccepted (record { program = p.program; tables = w.tables; args_len = p.args_len }))
         → HasSafeProcedures w }
 {
+    // Laws:
     accepted_procedures_are_safe();
 }

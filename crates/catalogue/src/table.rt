@@ -1,4 +1,4 @@
-//! What is held by number.
+//! Programs under names, held by number.
 
 ghost use Rattle.std.specs.Prelude.{◌≡◌, [], ◌∷◌, ◌++◌, None, IfOk, OnOk, OnErr, option_map};
 ghost use Rattle.std.specs.Option.{option_copied};
@@ -13,7 +13,7 @@ use std::alloc::{AllocError, Allocator};
 use std::hash::{BuildHasherDefault, FoldHasher};
 use std::sync::Arc;
 
-/// From a number to what was entered under it, in order of entry.
+/// The map from a number to what was entered under it, in order of entry.
 pub(crate) type Table<A, P> = IndexMap<u16, Named<A, P>, BuildHasherDefault<FoldHasher>, A>;
 
 /// The program of a number.
@@ -29,7 +29,7 @@ pub(crate) fn accepted_by_number<A: Allocator, P: Allocator>(
     }
 }
 
-/// The program of a number, for one more to hold.
+/// The program of a number, for one more holder.
 pub(crate) fn shared_by_number<A: Allocator, P: Allocator>(
     table: &Table<A, P>,
     number: u16,

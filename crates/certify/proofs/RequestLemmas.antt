@@ -42,7 +42,7 @@ no_commit false b e = refl
 
 -- ---- keys
 
-same_key : (r s : RequestId) → IsRequest r → IsRequest s → nat_eq (key_of r) (key_of s) ≡ (nat_eq r.session s.session && nat_eq r.sequence s.sequence)
+pub same_key : (r s : RequestId) → IsRequest r → IsRequest s → nat_eq (key_of r) (key_of s) ≡ same_request (Some r) (Some s)
 same_key r s is other =
     let a = is.session in
     let b = is.sequence in
@@ -71,73 +71,42 @@ same_key r s is other =
     apart : (m n : ℕ) → (m ≡ n → ⊥) → nat_eq m n ≡ false
     apart m n f = elim (nat_eq m n) as (λ b. nat_eq m n ≡ b → b ≡ false) [ true ↦ λ e. absurd (f (is_eq m n e)) | false ↦ λ e. refl ] refl
 
-and_true : (b : Bool) → (b && true) ≡ b
-and_true true = refl
-and_true false = refl
-
--- of two requests that there are
-pub same_by_key : (r s : RequestId) → IsRequest r → IsRequest s → same_request r s ≡ nat_eq (key_of r) (key_of s)
-same_by_key r s is other =
-    ap (λ b. (nat_eq r.session s.session && nat_eq r.sequence s.sequence) && b) is.one ∙ and_true (nat_eq r.session s.session && nat_eq r.sequence s.sequence) ∙ sym (same_key r s is other)
-
--- a request isn't the same as none
-pub never_none : (r s : RequestId) → IsRequest r → not (nat_eq s.session 0 && nat_eq s.sequence 0) ≡ false → same_request r s ≡ false
-never_none r s is none = by (same_request r s) refl
-  where
-    two : (a b : Bool) → (a && b) ≡ true → (a ≡ true) × (b ≡ true)
-    two true b e = (refl, e)
-    two false b e = absurd cc
-
-    is_eq : (m n : ℕ) → nat_eq m n ≡ true → m ≡ n
-    is_eq m n e = grind (arith, nat_tests)
-
-    contradiction : (b : Bool) → b ≡ true → b ≡ false → ⊥
-    contradiction true e f = cc
-    contradiction false e f = cc
-
-    by : (b : Bool) → same_request r s ≡ b → same_request r s ≡ false
-    by false e = e
-    by true e =
-        let parts = two (nat_eq r.session s.session && nat_eq r.sequence s.sequence) (not (nat_eq r.session 0 && nat_eq r.sequence 0)) e in
-        let eqs = two (nat_eq r.session s.session) (nat_eq r.sequence s.sequence) parts.0 in
-        absurd (contradiction (not (nat_eq r.session 0 && nat_eq r.sequence 0)) is.one
-        (ap (λ (m : ℕ). not (nat_eq m 0 && nat_eq r.sequence 0)) (is_eq r.session s.session eqs.0) ∙ ap (λ (n : ℕ). not (nat_eq s.session 0 && nat_eq n 0)) (is_eq r.sequence s.sequence eqs.1) ∙ none))
-
 -- ---- one more item
 
-pub not_kept : (entries : List (ℕ × ℕ)) (past : List CertifiedItem) (c : CertifiedItem) → ((r : RequestId) → IsRequest r → repeats r c ≡ false) → KeepsRequests entries past → KeepsRequests entries (past ++ c ∷ [])
-not_kept entries past c none keeps r is = keeps r is ∙ sym (first_unless (repeats r) 1 past c (none r is))
+pub not_kept : (entries : List (ℕ × ℕ)) (past : List CertifiedItem) (c : CertifiedItem) → ((r : RequestId) → IsRequest r → repeats (Some r) c ≡ false) → KeepsRequests entries past → KeepsRequests entries (past ++ c ∷ [])
+not_kept entries past c none keeps r is = keeps r is ∙ sym (first_unless (repeats (Some r)) 1 past c (none r is))
 
-pub of_refused : (c : CertifiedItem) (r : RequestId) → is_commit c.verdict ≡ false → repeats r c ≡ false
-of_refused c r e = no_commit (is_commit c.verdict) (same_request r c.request) e
+pub of_refused : (c : CertifiedItem) (r : RequestId) → is_commit c.verdict ≡ false → repeats (Some r) c ≡ false
+of_refused c r e = no_commit (is_commit c.verdict) (same_request (Some r) c.request) e
 
-pub of_none : (c : CertifiedItem) (r : RequestId) → IsRequest r → not (nat_eq c.request.session 0 && nat_eq c.request.sequence 0) ≡ false → repeats r c ≡ false
-of_none c r is none = ap (λ b. is_commit c.verdict && b) (never_none r c.request is none) ∙ by (is_commit c.verdict)
+pub of_none : (c : CertifiedItem) (r : RequestId) → c.request ≡ None → repeats (Some r) c ≡ false
+of_none c r none = ap (λ (q : Option RequestId). is_commit c.verdict && same_request (Some r) q) none ∙ by (is_commit c.verdict)
   where
     by : (b : Bool) → (b && false) ≡ false
     by true = refl
     by false = refl
 
-committed_repeats : (c : CertifiedItem) (r : RequestId) → is_commit c.verdict ≡ true → IsRequest r → IsRequest c.request → repeats r c ≡ nat_eq (key_of r) (key_of c.request)
-committed_repeats c r e is other = ap (λ b. b && same_request r c.request) e ∙ same_by_key r c.request is other
+committed_repeats : (c : CertifiedItem) (r s : RequestId) → is_commit c.verdict ≡ true → c.request ≡ Some s → IsRequest r → IsRequest s → repeats (Some r) c ≡ nat_eq (key_of r) (key_of s)
+committed_repeats c r s e carried is other =
+    ap (λ b. b && same_request (Some r) c.request) e ∙ ap (same_request (Some r)) carried ∙ sym (same_key r s is other)
 
 -- where the key is there already, an earlier one stays
-pub kept_before : (entries : List (ℕ × ℕ)) (past : List CertifiedItem) (c : CertifiedItem) → is_commit c.verdict ≡ true → IsRequest c.request → is_some (lookup (nat_eq (key_of c.request)) entries) ≡ true → KeepsRequests entries past → KeepsRequests entries (past ++ c ∷ [])
-kept_before entries past c commit is there keeps r one =
-    elim (nat_eq (key_of r) (key_of c.request)) as (λ b. nat_eq (key_of r) (key_of c.request) ≡ b → lookup (nat_eq (key_of r)) entries ≡ first_position (repeats r) 1 (past ++ c ∷ [])) [
-      | false ↦ λ e. keeps r one ∙ sym (first_unless (repeats r) 1 past c (committed_repeats c r commit one is ∙ e))
+pub kept_before : (entries : List (ℕ × ℕ)) (past : List CertifiedItem) (c : CertifiedItem) (s : RequestId) → is_commit c.verdict ≡ true → c.request ≡ Some s → IsRequest s → is_some (lookup (nat_eq (key_of s)) entries) ≡ true → KeepsRequests entries past → KeepsRequests entries (past ++ c ∷ [])
+kept_before entries past c s commit carried is there keeps r one =
+    elim (nat_eq (key_of r) (key_of s)) as (λ b. nat_eq (key_of r) (key_of s) ≡ b → lookup (nat_eq (key_of r)) entries ≡ first_position (repeats (Some r)) 1 (past ++ c ∷ [])) [
+      | false ↦ λ e. keeps r one ∙ sym (first_unless (repeats (Some r)) 1 past c (committed_repeats c r s commit carried one is ∙ e))
       | true ↦ λ e.
-          let same : key_of c.request ≡ key_of r = is_eq (key_of r) (key_of c.request) e in
+          let same : key_of s ≡ key_of r = is_eq (key_of r) (key_of s) e in
           by (lookup (nat_eq (key_of r)) entries) refl (ap (λ (k : ℕ). is_some (lookup (nat_eq k) entries)) (sym same) ∙ there)
     ] refl
   where
     is_eq : (m n : ℕ) → nat_eq m n ≡ true → n ≡ m
     is_eq m n e = grind (arith, nat_tests)
 
-    by : (o : Option ℕ) → lookup (nat_eq (key_of r)) entries ≡ o → is_some (lookup (nat_eq (key_of r)) entries) ≡ true → lookup (nat_eq (key_of r)) entries ≡ first_position (repeats r) 1 (past ++ c ∷ [])
+    by : (o : Option ℕ) → lookup (nat_eq (key_of r)) entries ≡ o → is_some (lookup (nat_eq (key_of r)) entries) ≡ true → lookup (nat_eq (key_of r)) entries ≡ first_position (repeats (Some r)) 1 (past ++ c ∷ [])
     by None e h = absurd (let bad : false ≡ true = ap is_some (sym e) ∙ h in cc)
     by (Some x) e h =
-        e ∙ sym (first_one_more (repeats r) 1 past c ∙ ap (λ (o : Option ℕ). or_else o (cond (repeats r c) (just (1 + length past)) None)) (sym (keeps r one) ∙ e))
+        e ∙ sym (first_one_more (repeats (Some r)) 1 past c ∙ ap (λ (o : Option ℕ). or_else o (cond (repeats (Some r) c) (just (1 + length past)) None)) (sym (keeps r one) ∙ e))
 
 lookup_last : (test : ℕ → Bool) (entries : List (ℕ × ℕ)) (k v : ℕ) → lookup test (entries ++ (k, v) ∷ []) ≡ or_else (lookup test entries) (cond (test k) (just v) None)
 lookup_last test [] k v = refl
@@ -147,26 +116,23 @@ lookup_last test (e ∷ entries) k v = elim (test e.0) as (λ b. cond b (just e.
 ]
 
 -- where it isn't, it comes last
-pub kept_last : (entries : List (ℕ × ℕ)) (past : List CertifiedItem) (c : CertifiedItem) (position : ℕ) → length past + 1 ≡ position → is_commit c.verdict ≡ true → IsRequest c.request → KeepsRequests entries past → KeepsRequests (entries ++ (key_of c.request, position) ∷ []) (past ++ c ∷ [])
-kept_last entries past c position at commit is keeps r one =
-    lookup_last (nat_eq (key_of r)) entries (key_of c.request) position
-    ∙ ap (λ (o : Option ℕ). or_else o (cond (nat_eq (key_of r) (key_of c.request)) (just position) None)) (keeps r one)
-    ∙ ap (λ b. or_else (first_position (repeats r) 1 past) (cond b (just position) None)) (sym (committed_repeats c r commit one is))
-    ∙ ap (λ (n : ℕ). or_else (first_position (repeats r) 1 past) (cond (repeats r c) (just n) None)) (let same : position ≡ 1 + length past = omega arith in same)
-    ∙ sym (first_one_more (repeats r) 1 past c)
+pub kept_last : (entries : List (ℕ × ℕ)) (past : List CertifiedItem) (c : CertifiedItem) (s : RequestId) (position : ℕ) → length past + 1 ≡ position → is_commit c.verdict ≡ true → c.request ≡ Some s → IsRequest s → KeepsRequests entries past → KeepsRequests (entries ++ (key_of s, position) ∷ []) (past ++ c ∷ [])
+kept_last entries past c s position at commit carried is keeps r one =
+    lookup_last (nat_eq (key_of r)) entries (key_of s) position
+    ∙ ap (λ (o : Option ℕ). or_else o (cond (nat_eq (key_of r) (key_of s)) (just position) None)) (keeps r one)
+    ∙ ap (λ b. or_else (first_position (repeats (Some r)) 1 past) (cond b (just position) None)) (sym (committed_repeats c r s commit carried one is))
+    ∙ ap (λ (n : ℕ). or_else (first_position (repeats (Some r)) 1 past) (cond (repeats (Some r) c) (just n) None)) (let same : position ≡ 1 + length past = omega arith in same)
+    ∙ sym (first_one_more (repeats (Some r)) 1 past c)
 
--- none carries no request
-pub never_repeated : (r : RequestId) (n : ℕ) (past : List CertifiedItem) → (nat_eq r.session 0 && nat_eq r.sequence 0) ≡ true → first_position (repeats r) n past ≡ None
+-- no request is repeated
+pub never_repeated : (n : ℕ) (past : List CertifiedItem) → first_position (repeats None) n past ≡ None
 unfolding first_position
-never_repeated r n [] none = refl
-never_repeated r n (c ∷ past) none =
-    ap (λ b. cond b (just n) (first_position (repeats r) (n + 1) past)) (ap (λ b. is_commit c.verdict && ((nat_eq r.session c.request.session && nat_eq r.sequence c.request.sequence) && not b)) none ∙ both_false (is_commit c.verdict) (nat_eq r.session c.request.session && nat_eq r.sequence c.request.sequence))
-    ∙ never_repeated r (n + 1) past none
+never_repeated n [] = refl
+never_repeated n (c ∷ past) = ap (λ b. cond b (just n) (first_position (repeats None) (n + 1) past)) (by (is_commit c.verdict)) ∙ never_repeated (n + 1) past
   where
-    both_false : (a b : Bool) → (a && (b && false)) ≡ false
-    both_false true true = refl
-    both_false true false = refl
-    both_false false b = refl
+    by : (b : Bool) → (b && false) ≡ false
+    by true = refl
+    by false = refl
 
 pub no_keys : KeepsRequests [] []
 unfolding first_position
@@ -175,11 +141,3 @@ no_keys r is = refl
 pub is_none_of : (o : Option ℕ) → is_some o ≡ false → o ≡ None
 is_none_of None e = refl
 is_none_of (Some x) e = absurd cc
-
-pub not_false : (b : Bool) → not b ≡ true → b ≡ false
-not_false true e = absurd cc
-not_false false e = refl
-
-pub not_true : (b : Bool) → not b ≡ false → b ≡ true
-not_true true e = refl
-not_true false e = absurd cc

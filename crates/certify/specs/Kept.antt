@@ -1,5 +1,5 @@
 -- What a certifier keeps, and the delivered items for which it stands.
-use Rattle.std.specs.Prelude.{◌≡◌, ℕ, ◌+◌, ◌*◌, ◌/◌, ◌%◌, ◌<◌, ◌≤◌, ◌^◌, ◌==◌, ◌&&◌, not, true, List, [], length, slice_get, slice_index_or, Some, nat_eq}
+use Rattle.std.specs.Prelude.{◌≡◌, ℕ, ◌+◌, ◌*◌, ◌/◌, ◌%◌, ◌<◌, ◌≤◌, ◌^◌, ◌&&◌, List, Option, [], length, slice_get, slice_index_or, Some, nat_eq}
 use Rattle.std.specs.Map.{lookup}
 use Rattle.std.specs.FinMap.{empty}
 use Rattle.schema.specs.declared.look.Look.{Look}
@@ -11,7 +11,7 @@ use Rattle.log_model.specs.Log.{CertifiedItem, is_commit, repeats, first_positio
 
 -- of one item, ready to be kept: its request, its signature, and writes of its keys
 pub record PreparedCall : Type 0 where
-  pub request : RequestId
+  pub request : Option RequestId
   pub signature : List ℕ
   pub writes : Writes
 
@@ -65,18 +65,14 @@ pub record IsMemoryOfLatest (m : Latest) (past : List CertifiedItem) : Type 0 wh
 abbrev pub key_of : RequestId → ℕ
 key_of request = request.session * 2 ^ 32 + request.sequence
 
--- session and sequence number aren't both 0
-abbrev pub IsGivenRequest : RequestId → Type 0
-IsGivenRequest request = not (request.session == 0 && request.sequence == 0) ≡ true
-
+-- numbers of 32 bits
 pub record IsRequest (request : RequestId) : Type 0 where
   pub session : request.session < 2 ^ 32
   pub sequence : request.sequence < 2 ^ 32
-  pub one : not (request.session == 0 && request.sequence == 0) ≡ true
 
 -- under each request the position of the first committed call that carries it, for good
 abbrev pub KeepsRequests : List (ℕ × ℕ) → List CertifiedItem → Type 0
-KeepsRequests entries past = (request : RequestId) → IsRequest request → lookup (nat_eq (key_of request)) entries ≡ first_position (repeats request) 1 past
+KeepsRequests entries past = (request : RequestId) → IsRequest request → lookup (nat_eq (key_of request)) entries ≡ first_position (repeats (Some request)) 1 past
 
 -- with the requests of all that committed
 pub record Memory : Type 0 where

@@ -1,4 +1,4 @@
-//! What became of each delivered entry, in blocks.
+//! The certifications of the delivered entries, in blocks.
 
 ghost use Rattle.std.specs.Prelude.{◌≡◌, ◌<◌, ◌++◌, [], ◌∷◌, length, slice_get, slice_index_or, vec_len};
 ghost use Rattle.std.specs.Prelude.{vec_capacity, Some, OnOk};
@@ -10,7 +10,7 @@ use std::alloc::{AllocError, Allocator, Global};
 use std::marker::Model;
 use std::mem;
 
-/// How many stand in a block.
+/// The number of certifications in a block.
 const BLOCK: usize = 1024;
 
 /// The certifications of one block.
@@ -28,8 +28,8 @@ impl<A: Allocator> Model for Block<A> {
     ghost view = { λ b. b.certifications.items };
 }
 
-/// The certifications of all entries in order. They stand in blocks, so that one more never moves all that there are.
-/// Contracts see them, and for how many more there is room.
+/// The certifications of all entries in order. They stand in blocks, so that one more never moves all the others.
+/// Contracts see the certifications, and the number of those for which there is room.
 #[derive(Drop)]
 pub struct Certifications<A: Allocator + Copy = Global> {
     alloc: A,
@@ -51,7 +51,7 @@ impl<A: Allocator + Copy> Model for Certifications<A> {
     ghost invariant = { λ c. AreFull c.full.items };
 }
 
-/// The one at a place.
+/// The certification at a place.
 fn at_place(certifications: &[Certification], place: usize) -> Certification
     requires { place < length certifications.now }
     ensures { (d : Certification) → result ≡ slice_index_or certifications.now place d }
@@ -60,7 +60,7 @@ fn at_place(certifications: &[Certification], place: usize) -> Certification
 }
 
 impl<A: Allocator> Block<A> {
-    /// The one at a place.
+    /// The certification at a place.
     fn at(&self, place: usize) -> Certification
         requires { place < length self.now }
         ensures { (d : Certification) → result ≡ slice_index_or self.now place d }
@@ -69,7 +69,7 @@ impl<A: Allocator> Block<A> {
     }
 }
 
-/// Takes all out of a vector into a block.
+/// Moves all certifications of a vector to a block.
 fn take_all<A: Allocator>(alloc: A, certifications: &mut Vec<Certification, A>) -> Block<A>
     ensures taken { result ≡ certifications.old.items }
     ensures none { certifications.new.items ≡ [] }
@@ -87,7 +87,7 @@ fn push_block<A: Allocator>(blocks: &mut Vec<Block<A>, A>, block: Block<A>)
     prove!(pushed.is_ok());
 }
 
-/// Puts the last block among the full ones where it is one, so that an empty one is last.
+/// Puts the last block among the full blocks where it is full, so that an empty block is last.
 fn begin_block<A: Allocator + Copy>(
     alloc: A,
     full: &mut Vec<Block<A>, A>,
@@ -104,7 +104,7 @@ fn begin_block<A: Allocator + Copy>(
     Ok(())
 }
 
-/// The one that has so many before it, in full blocks and in the last.
+/// The certification that has `before` others before it, in full blocks and in the last.
 fn at_block_or_last<A: Allocator>(
     full: &[Block<A>],
     last: &[Certification],
@@ -122,7 +122,7 @@ fn at_block_or_last<A: Allocator>(
 }
 
 impl<A: Allocator + Copy> Certifications<A> {
-    /// None. Takes no memory.
+    /// Returns an empty list of certifications. Takes no memory.
     pub fn new(alloc: A) -> Certifications<A>
         ensures { result.items ≡ [] }
     {
@@ -133,7 +133,7 @@ impl<A: Allocator + Copy> Certifications<A> {
         }
     }
 
-    /// Makes room for one more.
+    /// Makes room for one more certification.
     pub fn reserve(&mut self) -> Result<(), AllocError>
         ensures items { self.new.items ≡ self.old.items }
         ensures room { OnOk result (0 < self.new.room) }
@@ -143,7 +143,7 @@ impl<A: Allocator + Copy> Certifications<A> {
         Ok(())
     }
 
-    /// One more, for which room was made. Takes no memory.
+    /// Adds a certification, for which room was made. Takes no memory.
     pub fn push(&mut self, certification: Certification)
         requires { 0 < self.old.room }
         ensures { self.new.items ≡ self.old.items ++ certification ∷ [] }
@@ -152,7 +152,7 @@ impl<A: Allocator + Copy> Certifications<A> {
         prove!(pushed.is_ok());
     }
 
-    /// The one of an entry that has so many before it.
+    /// The certification of the entry that has `before` others before it.
     pub fn at(&self, before: usize) -> Certification
         requires { before < length self.now.items }
         ensures place { (d : Certification) → result ≡ slice_index_or self.now.items before d }

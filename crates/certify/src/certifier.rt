@@ -1,25 +1,35 @@
 //! Verdicts on calls in the order of their delivery.
 
-ghost use Rattle.std.specs.Prelude.{◌≡◌, ◌+◌, ◌<◌, ◌≤◌, ◌^◌, ◌++◌, [], ◌∷◌, List, length, IfOk, OnOk};
-ghost use Rattle.log_model.specs.Log.{CertifiedItem, verdict_after, no_request, first_position, repeats};
+ghost use Rattle.std.specs.Prelude.{◌≡◌, ◌+◌, ◌<◌, ◌≤◌, ◌^◌, ◌++◌, [], ◌∷◌, List, length, IfOk, OnOk, IsSome, None};
+ghost use Rattle.log_model.specs.Log.{Call, CertifiedItem, verdict_after, first_position, repeats};
 ghost use Rattle.certify.specs.Comparisons.{comparisons_after};
 ghost use Rattle.std.specs.FinMap.{empty};
-ghost use Rattle.certify.specs.Kept.{IsGivenRequest, IsPreparedOf, IsMemoryOf};
+ghost use Rattle.certify.specs.Kept.{IsPreparedOf, IsMemoryOf};
 
 use crate::prepared::{Prepared, prepared_of};
-use crate::requests::{Requests, is_none, keep_request, repeated_in};
+use crate::requests::{Requests, keep_request, repeated_in};
 use crate::ring::{empty_blocks, empty_writes, keep_in};
 use crate::search::find_verdict;
 use indexmap::IndexMap;
-use log_entry::ExecutedCall;
 use log_model::{RequestId, Verdict};
-use row_sets::WriteSet;
+use row_sets::{ReadSet, WriteSet};
 use sig_lanes::Block;
 use std::alloc::{AllocError, Allocator, Global};
 use std::marker::Model;
 
-/// Verdicts on calls in the order of their delivery, by what was kept of the latest. Contracts see that, and how many
-/// exact comparisons the last verdict made and for how many requests more there is room.
+/// The parts of a call that are certified: the request that it carries, its snapshot, and what its run looked at and
+/// wrote.
+#[derive(Drop)]
+pub struct CallToCertify<'a, A: Allocator + Copy = Global> {
+    pub request: Option<RequestId>,
+    /// The position whose rows the call read.
+    pub snapshot: u32,
+    pub reads: &'a ReadSet<A>,
+    pub writes: &'a WriteSet<A>,
+}
+
+/// Verdicts on calls in the order of their delivery, by what was kept of the latest. Contracts see this memory, the
+/// number of exact comparisons that the last verdict made, and the number of requests for which there is room.
 ///
 /// ```text
 /// let mut certifier = Certifier::new(alloc, 64)?;
@@ -87,19 +97,21 @@ impl<A: Allocator + Copy> Certifier<A> {
     /// The verdict on a call at the next position. Takes no memory.
     pub fn verdict<B: Allocator + Copy>(
         &mut self,
-        entry: &ExecutedCall<B>,
+        call: &CallToCertify<'_, B>,
         position: u32,
     ) -> Verdict
         requires next { position ≡ self.old.memory.count + 1 }
-        requires snapshot { entry.now.call.snapshot < position }
-        ensures verdict { (past : List CertifiedItem) → IsMemoryOf self.old.memory past
-            → result ≡ verdict_after self.old.memory.window past entry.now.call entry.now.looks }
-        ensures compared { (past : List CertifiedItem) → IsMemoryOf self.old.memory past
+        requires snapshot { call.now.snapshot < position }
+        ensures verdict { (past : List CertifiedItem) (c : Call) → IsMemoryOf self.old.memory past
+            → c.request ≡ call.now.request → c.snapshot ≡ call.now.snapshot
+            → result ≡ verdict_after self.old.memory.window past c call.now.reads.now }
+        ensures compared { (past : List CertifiedItem) (c : Call) → IsMemoryOf self.old.memory past
+            → c.request ≡ call.now.request → c.snapshot ≡ call.now.snapshot
             → self.new.compared ≡ length
-            (comparisons_after self.old.memory.window past entry.now.call entry.now.looks) }
+            (comparisons_after self.old.memory.window past c call.now.reads.now) }
         ensures memory { self.new.memory ≡ self.old.memory }
     {
-        if let Some(repeated) = repeated_in(&self.requests, entry.request) {
+        if let Some(repeated) = repeated_in(&self.requests, call.request) {
             self.compared = 0;
             return Verdict::Repeated(repeated);
         }
@@ -108,14 +120,14 @@ impl<A: Allocator + Copy> Certifier<A> {
             self.count,
             &self.blocks,
             &self.writes,
-            entry.snapshot,
-            &entry.reads,
+            call.snapshot,
+            call.reads,
         );
         self.compared = compared;
         verdict
     }
 
-    /// How many exact comparisons the last verdict made; 0 before the first.
+    /// Returns the number of exact comparisons that the last verdict made; 0 before the first verdict.
     pub fn compared(&self) -> u64
         ensures { result ≡ self.now.compared }
     {
@@ -123,46 +135,42 @@ impl<A: Allocator + Copy> Certifier<A> {
     }
 
     /// The position of the committed call that carries a request, however long ago.
-    pub fn repeated(&self, request: RequestId) -> Option<u32>
+    pub fn repeated(&self, request: Option<RequestId>) -> Option<u32>
         ensures { (past : List CertifiedItem) → IsMemoryOf self.now.memory past
             → result ≡ first_position (repeats request) 1 past }
     {
         repeated_in(&self.requests, request)
     }
 
-    /// What will be kept of a call, and room for its request where it has one.
+    /// Prepares what will be kept of a call, and makes room for its request where it has one.
     pub fn prepare<B: Allocator + Copy>(
         &mut self,
-        entry: &ExecutedCall<B>,
+        call: &CallToCertify<'_, B>,
     ) -> Result<Prepared<A>, AllocError>
-        ensures keys { IfOk result (λ p. IsPreparedOf p entry.now.writes) }
-        ensures request { IfOk result (λ p. p.request ≡ entry.now.call.request) }
-        ensures room { OnOk result (IsGivenRequest entry.now.call.request → 0 < self.new.room) }
+        ensures keys { IfOk result (λ p. IsPreparedOf p call.now.writes.now) }
+        ensures request { IfOk result (λ p. p.request ≡ call.now.request) }
+        ensures room { OnOk result (IsSome call.now.request → 0 < self.new.room) }
         ensures memory { self.new.memory ≡ self.old.memory }
         ensures compared { self.new.compared ≡ self.old.compared }
     {
-        if !is_none(entry.request) {
+        if call.request.is_some() {
             self.requests.reserve(1)?;
         }
-        prepared_of(self.alloc, entry.request, &entry.writes)
+        prepared_of(self.alloc, call.request, call.writes)
     }
 
-    /// What will be kept of an addition: nothing.
+    /// Prepares what will be kept of an addition: nothing.
     pub fn prepare_addition(&self) -> Result<Prepared<A>, AllocError>
         ensures keys { IfOk result (λ p. IsPreparedOf p empty) }
-        ensures request { IfOk result (λ p. p.request ≡ no_request) }
+        ensures request { IfOk result (λ p. p.request ≡ None) }
     {
-        let none = RequestId {
-            session: 0,
-            sequence: 0,
-        };
-        prepared_of(self.alloc, none, &WriteSet::new(self.alloc))
+        prepared_of(self.alloc, None, &WriteSet::new(self.alloc))
     }
 
     /// Keeps an item of this verdict, which stands at the next position. Takes no memory.
     pub fn keep(&mut self, position: u32, verdict: Verdict, prepared: Prepared<A>)
         requires next { position ≡ self.old.memory.count + 1 }
-        requires room { IsGivenRequest prepared.request → 0 < self.old.room }
+        requires room { IsSome prepared.request → 0 < self.old.room }
         ensures stands { (past : List CertifiedItem) (c : CertifiedItem) → IsMemoryOf self.old.memory past
             → c.verdict ≡ verdict → c.request ≡ prepared.request → IsPreparedOf prepared c.writes
             → IsMemoryOf self.new.memory (past ++ c ∷ []) }

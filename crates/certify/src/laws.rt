@@ -6,8 +6,9 @@ ghost use Rattle.schema.specs.declared.look.Look.{Look};
 ghost use Rattle.log_model.specs.Log.{CertifiedItem, Call};
 ghost use Rattle.certify.specs.Comparisons.{comparisons_after, AreRising, IsCompared};
 
-/// An exact comparison is made exactly with those that committed since the snapshot and share a bit with the looks, up
-/// to the first that conflicts, once with each, in rising order; where the call is repeated or stale, with none.
+/// Exact comparisons are made with the calls that committed since the snapshot and share a bit with the looks, up to
+/// the first that conflicts. Each such call is compared once, in rising order, and no other is. A repeated or stale
+/// call is compared with none.
 pub fn comparisons_in_words_of_the_log()
     ensures rising { (window : ℕ) (past : List CertifiedItem) (call : Call) (looks : List Look)
         → AreRising (comparisons_after window past call looks) }

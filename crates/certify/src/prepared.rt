@@ -1,4 +1,4 @@
-//! What will be kept of a call.
+//! The parts of a call that will be kept.
 
 ghost use Rattle.std.specs.Prelude.{◌≡◌, IfOk, IsSome, ◌↔◌, ℕ};
 ghost use Rattle.std.specs.FinMap.{get};
@@ -12,10 +12,11 @@ use sig_lanes::Sig;
 use std::alloc::{AllocError, Allocator, Global};
 use std::marker::Model;
 
-/// What will be kept of an item, in memory of its own. Contracts see its request, its signature and writes of its keys.
+/// The parts of an item that will be kept, in memory of their own. Contracts see the item's request, its signature and
+/// writes of its keys.
 #[derive(Drop)]
 pub struct Prepared<A: Allocator + Copy = Global> {
-    pub(crate) request: RequestId,
+    pub(crate) request: Option<RequestId>,
     pub(crate) signature: Sig,
     pub(crate) writes: WriteSet<A>,
 }
@@ -45,15 +46,16 @@ fn removals<A: Allocator + Copy, B: Allocator + Copy>(
     Ok(copy)
 }
 
-/// What will be kept of a call that carried this request and wrote this.
+/// Prepares what will be kept of a call that carried this request and made these writes.
 pub(crate) fn prepared_of<A: Allocator + Copy, B: Allocator + Copy>(
     alloc: A,
-    request: RequestId,
+    request: Option<RequestId>,
     writes: &WriteSet<B>,
 ) -> Result<Prepared<A>, AllocError>
     ensures keys { IfOk result (λ p. IsPreparedOf p writes.now) }
     ensures request { IfOk result (λ p. p.request ≡ request) }
 {
+    // Laws:
     writes_share_a_key_with_looks();
     let signature = Sig::of_writes(writes);
     let writes = removals(alloc, writes)?;

@@ -11,7 +11,7 @@ use row_sets::WriteSet;
 use sig_lanes::{Block, Sig};
 use std::alloc::{AllocError, Allocator};
 
-/// So many blocks of eight signatures without bits.
+/// Returns `count` blocks of eight signatures without bits.
 pub fn empty_blocks<A: Allocator>(alloc: A, count: usize) -> Result<Vec<Block, A>, AllocError>
     ensures { IfOk result (λ blocks. length blocks.items ≡ count) }
 {
@@ -22,7 +22,7 @@ pub fn empty_blocks<A: Allocator>(alloc: A, count: usize) -> Result<Vec<Block, A
     Ok(blocks)
 }
 
-/// So many sets of no writes.
+/// Returns `count` sets of no writes.
 pub fn empty_writes<A: Allocator + Copy>(
     alloc: A,
     count: usize,
@@ -72,7 +72,7 @@ pub(crate) fn is_commit(verdict: Verdict) -> bool
     matches!(verdict, Verdict::Commit)
 }
 
-/// Keeps one call more, which has so many before it.
+/// Keeps one more call, which has `before` others before it.
 pub fn keep_in<A: Allocator + Copy>(
     blocks: &mut Vec<Block, A>,
     kept: &mut Vec<WriteSet<A>, A>,

@@ -12,17 +12,17 @@ ghost use Rattle.certify.specs.Search.{search, lane_met, kept_shares, Meets};
 
 use log_model::Verdict;
 use row_sets::{ReadSet, WriteSet, shares_key};
-use sig_lanes::{Block, Sig};
+use sig_lanes::{Block, Sig, sets_that_share_a_key_share_a_bit, shared_bits_are_of_both};
 use std::alloc::Allocator;
 
-/// How many exact comparisons were made, and the position of the conflict that was found.
+/// The number of exact comparisons that were made, and the position of the conflict that was found.
 #[derive(Clone, Copy)]
 pub struct SearchResult {
     pub compared: u64,
     pub conflict: Option<u32>,
 }
 
-/// Whether a lane is one of those that met.
+/// Tells whether a lane is one of those that met.
 fn has_met(met: u8, lane: usize) -> bool
     requires { lane < 8 }
     ensures { result ≡ (bit_at met lane == 1) }
@@ -30,8 +30,8 @@ fn has_met(met: u8, lane: usize) -> bool
     met >> lane & 1 == 1
 }
 
-/// Searches calls that stand in one block, of which these lanes met: from the one that has so many before it to
-/// another, which isn't searched.
+/// Searches calls that stand in one block, of which these lanes met. The first call has `from` others before it; the
+/// call that has `to` isn't searched.
 pub fn search_lanes<A: Allocator + Copy, B: Allocator>(
     met: u8,
     kept: &[WriteSet<A>],
@@ -68,8 +68,8 @@ pub fn search_lanes<A: Allocator + Copy, B: Allocator>(
     }
 }
 
-/// Searches those of the calls since a snapshot that stand in the block at a place, of all the first that stand in no
-/// earlier one.
+/// Searches the calls of one block that the signature meets. The first call has `from` others before it; the call that
+/// has `to` isn't searched.
 #[inline(always)]
 fn search_block<A: Allocator + Copy, B: Allocator>(
     blocks: &[Block],
@@ -97,7 +97,7 @@ fn search_block<A: Allocator + Copy, B: Allocator>(
     search_lanes(block.meets(signature), kept, reads, from, to)
 }
 
-/// The place behind one of so many, which is the first behind the last.
+/// The place behind a place, of `count` places. The first place is behind the last.
 #[inline(always)]
 fn next_place(at: usize, count: usize) -> usize
     requires { at < count }
@@ -110,7 +110,7 @@ fn next_place(at: usize, count: usize) -> usize
     at + 1
 }
 
-/// Searches the calls since a snapshot, of so many.
+/// Searches the calls since a snapshot among `count` calls.
 pub fn search_since<A: Allocator + Copy, B: Allocator>(
     blocks: &[Block],
     kept: &[WriteSet<A>],
@@ -146,8 +146,8 @@ pub fn search_since<A: Allocator + Copy, B: Allocator>(
     }
 }
 
-/// The verdict on a call of this snapshot and these looks that has so many before it and repeats none of them, and how
-/// many exact comparisons it takes.
+/// Finds the verdict on a call of this snapshot and these looks, and the number of exact comparisons that the verdict
+/// takes. The call has `count` others before it and repeats none of them.
 pub fn find_verdict<A: Allocator + Copy, B: Allocator>(
     window: u32,
     count: u32,
@@ -176,6 +176,7 @@ pub fn find_verdict<A: Allocator + Copy, B: Allocator>(
         }) past
         → result.1 ≡ length (comparisons_after window past call reads.now) }
 {
+    // Laws:
     shared_bits_are_of_both();
     sets_that_share_a_key_share_a_bit();
     if count - snapshot > window {

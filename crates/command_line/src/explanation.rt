@@ -5,16 +5,16 @@ ghost use Rattle.std.specs.Prelude.{◌≡◌, IfSome};
 use crate::rows::{OF_PROCEDURES, OF_RUNS};
 use std::fmt;
 
-/// What is said of a refusal's number.
+/// The row of a refusal's number.
 #[derive(Clone, Copy, Debug, PartialEq, Eq)]
 pub struct Explanation {
-    /// A letter and a number, as `V5`.
+    /// A letter and a number, such as `V5`.
     pub number: &'static str,
-    /// When it is refused so.
+    /// The case in which something is refused so.
     pub cause: &'static str,
-    /// What to do.
+    /// The remedy.
     pub cure: &'static str,
-    /// What to do in a source in C; empty where there is nothing to say.
+    /// The remedy in a source in C, and empty where there is nothing to say.
     pub in_c: &'static str,
 }
 
@@ -32,7 +32,7 @@ impl fmt::Display for Explanation {
     }
 }
 
-/// The row of a number, as `V5`; none where no refusal has it.
+/// The row of a number, such as `V5`, and none where no refusal has the number.
 pub fn explain(number: &str) -> Option<Explanation>
     ensures { IfSome result (λ row. row.number.now ≡ number.now) }
 {
@@ -42,7 +42,7 @@ pub fn explain(number: &str) -> Option<Explanation>
     }
 }
 
-/// A row about programs, schemas and procedures.
+/// Finds a row about programs, schemas and procedures.
 fn of_procedures(number: &str) -> Option<Explanation>
     ensures { IfSome result (λ row. row.number.now ≡ number.now) }
 {
@@ -52,7 +52,7 @@ fn of_procedures(number: &str) -> Option<Explanation>
         .find(|row| row.number == number)
 }
 
-/// A row about what is run.
+/// Finds a row about what is run.
 fn of_runs(number: &str) -> Option<Explanation>
     ensures { IfSome result (λ row. row.number.now ≡ number.now) }
 {

@@ -1,4 +1,4 @@
-//! What `--help` says of the lines of scripts and of sites.
+//! The text of `--help` on the lines of scripts and of sites.
 
 /// The lines of a script and what they print, as docs/FORMATS.md explains them.
 pub const SCRIPT_HELP: &str = "\

@@ -1,4 +1,4 @@
-//! The commands, and why words are none.
+//! The commands, and the causes for which words are none.
 
 ghost use Rattle.std.specs.Prelude.{◌≡◌};
 ghost use Rattle.command_line.specs.Fault.{fault_status, kind_status};
@@ -12,44 +12,44 @@ use thiserror::Error;
 /// A command with its values.
 #[derive(Debug, Drop, PartialEq, Eq)]
 pub enum Plan<'a> {
-    /// List the program in this file.
+    /// Lists the program in this file.
     List {
         file: &'a str,
     },
-    /// Check the program in this file, for arguments of so many bytes and for these pairs of a
-    /// table's number and its row width.
+    /// Checks the program in this file, for arguments of `args_len` bytes and for these tables. A table is a pair of
+    /// its number and its row width.
     Check {
         file: &'a str,
         args_len: u16,
         tables: Vec<(u8, u16)>,
     },
-    /// Replay the script in this file.
+    /// Replays the script in this file.
     Replay {
         script: &'a str,
     },
-    /// Take the calls of the script in this file on threads, so many at each replica, with a log of at most so many
-    /// entries.
+    /// Takes the calls of the script in this file on threads: `executors` at each replica, with a log of at most
+    /// `log_limit` entries.
     Run {
         script: &'a str,
-        /// 1 to 16.
+        /// The number of threads at each replica, 1 to 16.
         executors: u32,
-        /// 1 to 1,048,576.
+        /// The most entries of the log, 1 to 1,048,576.
         log_limit: u32,
     },
-    /// Be a site, with the settings in this file.
+    /// Runs a site, with the settings in this file.
     Site {
         settings: &'a str,
     },
-    /// Say what is known of a refusal.
+    /// Says what is known of a refusal.
     Explain {
         explanation: Explanation,
     },
 }
 
-/// Why the words are no plan.
+/// A cause for which the words are no plan.
 #[derive(Debug, Drop, Error)]
 pub enum PlanFault<'a> {
-    /// They can't be read, or ask for help or the version: clap has the text and the exit status.
+    /// The words can't be read, or ask for help or the version. clap has the text and the exit status.
     #[error(transparent)]
     CommandLine(clap::Error),
     #[error("ARGS must be a number from 0 to 256: '{word}'")]

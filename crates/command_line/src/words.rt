@@ -1,4 +1,4 @@
-//! What the command line asks for.
+//! The meaning of the command line.
 
 ghost use Rattle.std.specs.Prelude.{◌≡◌, ◌≤◌, [], codes, false, Some, IfOk, map};
 ghost use Rattle.std.specs.Option.{unwrap_or};
@@ -20,10 +20,10 @@ use schema::{MAX_ARGUMENTS, MAX_EXECUTORS, MAX_LOG};
 use std::alloc::{AllocError, Global};
 use std::convert::AsStr;
 
-/// What `--version` prints behind the name.
+/// The text that `--version` prints behind the name.
 const VERSION: &str = "0.1.0";
 
-/// The words after the program's name, which is the first, as a plan.
+/// Reads the words behind the program's name, which is the first word, as a plan.
 pub fn plan<'a, S: AsStr>(alloc: Global, words: &'a [S]) -> Result<Plan<'a>, PlanFault<'a>>
     ensures words { IfOk result (λ plan. IsPlanOf (subcommand_of command_line (map S.text words.entry.now)) plan) }
     ensures limits { IfOk result IsWithinLimits }
@@ -40,7 +40,7 @@ pub fn plan<'a, S: AsStr>(alloc: Global, words: &'a [S]) -> Result<Plan<'a>, Pla
     }
 }
 
-/// The values of `list`.
+/// Reads the values of `list`.
 fn list_plan<'a>(values: &ArgMatches<'a>) -> Result<Plan<'a>, PlanFault<'a>>
     ensures { IfOk result (IsListOf (rows_of (found_of values.now))) }
 {
@@ -50,7 +50,7 @@ fn list_plan<'a>(values: &ArgMatches<'a>) -> Result<Plan<'a>, PlanFault<'a>>
     }
 }
 
-/// The values of `check`.
+/// Reads the values of `check`.
 fn check_plan<'a>(alloc: Global, values: &ArgMatches<'a>) -> Result<Plan<'a>, PlanFault<'a>>
     ensures values { IfOk result (IsCheckOf (rows_of (found_of values.now))) }
     ensures limits { IfOk result IsWithinLimits }
@@ -72,7 +72,7 @@ fn check_plan<'a>(alloc: Global, values: &ArgMatches<'a>) -> Result<Plan<'a>, Pl
     })
 }
 
-/// The tables of `check`.
+/// Reads the tables of `check`.
 fn tables<'a>(alloc: Global, values: &ArgMatches<'a>) -> Result<Vec<(u8, u16)>, PlanFault<'a>>
     ensures { IfOk result
         (λ tables. map table_word (unwrap_or (all_of (codes "T:W") (rows_of (found_of values.now))) [])
@@ -84,7 +84,7 @@ fn tables<'a>(alloc: Global, values: &ArgMatches<'a>) -> Result<Vec<(u8, u16)>, 
     }
 }
 
-/// The tables that the words give.
+/// Reads the tables that the words give.
 fn read_tables<'a>(alloc: Global, words: &[&'a str]) -> Result<Vec<(u8, u16)>, PlanFault<'a>>
     ensures { IfOk result (λ tables. map (λ w. table_word w.now) words.now ≡ map (λ t. Some t) tables.items) }
 {
@@ -98,7 +98,7 @@ fn read_tables<'a>(alloc: Global, words: &[&'a str]) -> Result<Vec<(u8, u16)>, P
     Ok(tables)
 }
 
-/// The values of `replay`.
+/// Reads the values of `replay`.
 fn replay_plan<'a>(values: &ArgMatches<'a>) -> Result<Plan<'a>, PlanFault<'a>>
     ensures { IfOk result (IsReplayOf (rows_of (found_of values.now))) }
 {
@@ -108,7 +108,7 @@ fn replay_plan<'a>(values: &ArgMatches<'a>) -> Result<Plan<'a>, PlanFault<'a>>
     }
 }
 
-/// The values of `run`.
+/// Reads the values of `run`.
 fn run_plan<'a>(values: &ArgMatches<'a>) -> Result<Plan<'a>, PlanFault<'a>>
     ensures values { IfOk result (IsRunOf (rows_of (found_of values.now))) }
     ensures limits { IfOk result IsWithinLimits }
@@ -125,7 +125,7 @@ fn run_plan<'a>(values: &ArgMatches<'a>) -> Result<Plan<'a>, PlanFault<'a>>
     })
 }
 
-/// How many executing threads each replica has.
+/// Reads the number of executing threads of each replica.
 fn executors<'a>(values: &ArgMatches<'a>) -> Result<u32, PlanFault<'a>>
     ensures number { IfOk result (λ n. number_of (rows_of (found_of values.now)) (codes "executors") 1 MAX_EXECUTORS
         ≡ Some n) }
@@ -140,7 +140,7 @@ fn executors<'a>(values: &ArgMatches<'a>) -> Result<u32, PlanFault<'a>>
     }
 }
 
-/// How many entries the log has at most.
+/// Reads the most entries that the log has.
 fn log_limit<'a>(values: &ArgMatches<'a>) -> Result<u32, PlanFault<'a>>
     ensures number { IfOk result (λ n. number_of (rows_of (found_of values.now)) (codes "log") 1 MAX_LOG ≡ Some n) }
     ensures range { IfOk result (λ n. (1 ≤ n) × (n ≤ MAX_LOG)) }
@@ -154,7 +154,7 @@ fn log_limit<'a>(values: &ArgMatches<'a>) -> Result<u32, PlanFault<'a>>
     }
 }
 
-/// The values of `site`.
+/// Reads the values of `site`.
 fn site_plan<'a>(values: &ArgMatches<'a>) -> Result<Plan<'a>, PlanFault<'a>>
     ensures { IfOk result (IsSiteOf (rows_of (found_of values.now))) }
 {
@@ -164,7 +164,7 @@ fn site_plan<'a>(values: &ArgMatches<'a>) -> Result<Plan<'a>, PlanFault<'a>>
     }
 }
 
-/// The values of `explain`.
+/// Reads the values of `explain`.
 fn explain_plan<'a>(values: &ArgMatches<'a>) -> Result<Plan<'a>, PlanFault<'a>>
     ensures { IfOk result (IsExplainOf (rows_of (found_of values.now))) }
 {
@@ -177,7 +177,7 @@ fn explain_plan<'a>(values: &ArgMatches<'a>) -> Result<Plan<'a>, PlanFault<'a>>
     }
 }
 
-/// What clap reads of the words.
+/// Returns what clap reads of the words.
 fn matches<'a, S: AsStr>(alloc: Global, words: &'a [S]) -> Result<ArgMatches<'a>, PlanFault<'a>>
     ensures { IfOk result (λ m. subcommand_rows_of m ≡ subcommand_of command_line (map S.text words.entry.now)) }
 {
@@ -185,7 +185,7 @@ fn matches<'a, S: AsStr>(alloc: Global, words: &'a [S]) -> Result<ArgMatches<'a>
     Ok(command.try_get_matches_from(words)?)
 }
 
-/// The whole command line. Each command is made where it is added, so that few have to be let go where memory is
+/// Makes the whole command line. Each command is made where it is added, so that few have to be let go where memory is
 /// wanting.
 fn dsmdb_command<'a>(alloc: Global) -> Result<Command<'a>, AllocError>
     ensures { IfOk result (λ c. app_of c ≡ command_line) }

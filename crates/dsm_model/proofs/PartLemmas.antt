@@ -6,7 +6,6 @@ use Rattle.dsm_model.specs.declared.outcome.Outcome.TheVariants.{Begun}
 use Rattle.log_model.specs.Log.{Setting}
 use Rattle.dsm_model.specs.World.{World, Replica, Step, Begin, numbered, with_numbered, flatten, open_call, with_open_call, with_replica, first_world, after_step, IsStep, AreSteps}
 use Rattle.log_model.specs.OpenCall.{OpenCall}
-use Rattle.log_model.specs.OpenRequest.{or_none}
 use Rattle.log_model.proofs.RunLemmas.{just}
 use Rattle.dsm_model.proofs.Numbered.{get_last}
 use Rattle.dsm_model.proofs.StepLemmas.{begins}
@@ -49,11 +48,11 @@ pub rest_stays : (world : World) (c r : ℕ) (o : Option OpenCall) (replica : Re
 rest_stays world c r o replica = (refl, refl, refl, refl)
 
 pub begun_is_open : (w : Setting) (before : World) (r procedure : ℕ) (args : List ℕ) (request : Option RequestId) (c snapshot : ℕ) (after : World) → IsStep w before (Begin r procedure args request) (Begun c snapshot) after
-    → open_call after c ≡ Some (record { replica = r; call = record { number = c; procedure = procedure; args = args; snapshot = snapshot; request = or_none request }; turns = 0 })
+    → open_call after c ≡ Some (record { replica = r; call = record { number = c; procedure = procedure; args = args; snapshot = snapshot; request = request }; turns = 0 })
 begun_is_open w before r procedure args request c snapshot after h =
     let x = begins w before r procedure args request c snapshot after h in
     let number : c ≡ suc (length before.calls) = (let n = x.7 in omega arith) in
-    let new : Option OpenCall = just (record { replica = r; call = record { number = c; procedure = procedure; args = args; snapshot = snapshot; request = or_none request }; turns = 0 }) in
+    let new : Option OpenCall = just (record { replica = r; call = record { number = c; procedure = procedure; args = args; snapshot = snapshot; request = request }; turns = 0 }) in
     ap (λ (v : World). open_call v c) x.9 ∙ ap (λ (n : ℕ). flatten (numbered (before.calls ++ new ∷ []) n)) number ∙ ap flatten (get_last before.calls new)
 
 get_replica : (n k : ℕ) (replica : Replica) → k < n → slice_get (replicate n replica) k ≡ just replica

@@ -15,7 +15,7 @@ use Rattle.dsm_model.specs.declared.outcome.Outcome.TheVariants.{Begun, More, Ex
 use Rattle.log_model.specs.Log.{StoredProcedure, Setting, Call, Log, by_number, run_in, verdict_of, moment_at, procedures_after, procedure_of}
 use Rattle.dsm_model.specs.World.{World, Replica, Step, Begin, Turn, Order, Deliver, Rebuild, max_calls, numbered, position_of, open_call, without_call, with_replica, with_begun, after_begin, is_stale, with_turns, after_turn, with_ordered, after_order_by_run, after_order, after_deliver_next, after_deliver, after_rebuild, after_step, with_stopped, after_turn_without_memory, after_refused_memory, after_step_without_memory, IsStep, Add, call_count, with_added, after_add_checked, after_add}
 use Rattle.log_model.specs.OpenCall.{OpenCall, makes_look, at_row_helper}
-use Rattle.log_model.specs.OpenRequest.{or_none, has_zero}
+use Rattle.log_model.specs.OpenRequest.{has_zero}
 use Rattle.program_checks.specs.ProgramCheck.{ProgramCheck, Passed, Failed}
 use Rattle.log_model.specs.Name.{is_name}
 use Rattle.log_model.proofs.RunLemmas.{just}
@@ -87,7 +87,7 @@ begun_snapshot : (a b c d : ℕ) → Begun a b ≡ Begun c d → b ≡ d
 begun_snapshot a b c d e = cc
 
 abbrev begun_world : World → ℕ → ℕ → List ℕ → Option RequestId → ℕ → ℕ → World
-begun_world before r procedure args request c snapshot = with_begun before r (record { number = c; procedure = procedure; args = args; snapshot = snapshot; request = or_none request })
+begun_world before r procedure args request c snapshot = with_begun before r (record { number = c; procedure = procedure; args = args; snapshot = snapshot; request = request })
 
 -- the ways in which a begin may be answered
 data BeginWay (w : Setting) (before : World) (r procedure : ℕ) (args : List ℕ) (request : Option RequestId) (outcome : Outcome) (after : World) : Type 0 where

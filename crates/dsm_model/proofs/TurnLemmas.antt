@@ -14,7 +14,6 @@ use Rattle.log_model.specs.Log.{StoredProcedure, Catalogue, Setting, Call, Log, 
 use Rattle.log_model.specs.Fit.{HasSafeProcedures}
 use Rattle.dsm_model.specs.World.{World, Step, Begin, Turn, Order, Deliver, Rebuild, numbered, with_numbered, flatten, open_call, without_call, with_turns, IsStep, AreSteps, is_answer, Add}
 use Rattle.log_model.specs.OpenCall.{OpenCall}
-use Rattle.log_model.specs.OpenRequest.{or_none}
 use Rattle.dsm_model.specs.Sound.{IsWorld, IsSound, AreGiven}
 use Rattle.dsm_model.specs.Worlds.{HasExited, IsBegun, IsCallNumbered, is_turn_of, runs_further, turns_of}
 use Rattle.log_model.proofs.GrowthLemmas.{procedures_grown, run_grown}
@@ -376,11 +375,11 @@ not_yet w before (step ∷ steps) (outcome ∷ outcomes) after c (suc i) r proce
     go None e none = e
     go (Some x) e none = absurd (let next = (step_leads w before step outcome h.0 h.1).calls c x e in let there = next.1 in cc)
 
-begun_call_is : (call : Call) (c : ℕ) (request : Option RequestId) → call.number ≡ c → call.request ≡ or_none request → record { number = c; procedure = call.procedure; args = call.args; snapshot = call.snapshot; request = or_none request } ≡ call
+begun_call_is : (call : Call) (c : ℕ) (request : Option RequestId) → call.number ≡ c → call.request ≡ request → record { number = c; procedure = call.procedure; args = call.args; snapshot = call.snapshot; request = request } ≡ call
 begun_call_is call c request number carried = rw (sym number) rw (sym carried) refl
 
 since_begun : (w : Setting) (before : World) (steps : List Step) (outcomes : List Outcome) (after : World) (c i r : ℕ) (request : Option RequestId) (call : Call) → AreGiven w steps outcomes → IsWorld w before → AreSteps w before steps outcomes after
-    → slice_get steps i ≡ just (Begin r call.procedure call.args request) → slice_get outcomes i ≡ just (Begun c call.snapshot) → call.number ≡ c → call.request ≡ or_none request → Since w steps outcomes after c call
+    → slice_get steps i ≡ just (Begin r call.procedure call.args request) → slice_get outcomes i ≡ just (Begun c call.snapshot) → call.number ≡ c → call.request ≡ request → Since w steps outcomes after c call
 unfolding AreSteps
 since_begun w before [] outcomes after c i r request call bytes is h a b number carried = absurd cc
 since_begun w before (step ∷ steps) [] after c i r request call bytes is h a b number carried = absurd h
@@ -394,7 +393,7 @@ since_begun w before (step ∷ steps) (outcome ∷ outcomes) after c zero r requ
       given = bytes.1;
       world = step_keeps w before step outcome h.0 bytes.0 h.1 is;
       are = h.2;
-      o = record { replica = r; call = record { number = c; procedure = call.procedure; args = call.args; snapshot = call.snapshot; request = or_none request }; turns = 0 };
+      o = record { replica = r; call = record { number = c; procedure = call.procedure; args = call.args; snapshot = call.snapshot; request = request }; turns = 0 };
       stands = begun_is_open w before r call.procedure call.args request c call.snapshot h.0 begun;
       same = begun_call_is call c request number carried;
       count = count_none c step outcome steps outcomes (ap (λ (x : Step). is_turn_of c x outcome) begin);

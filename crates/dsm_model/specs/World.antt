@@ -6,7 +6,7 @@ use Rattle.bpf_semantics.specs.Run.{Run}
 use Rattle.log_model.specs.declared.verdict.Verdict.{Verdict}
 use Rattle.log_model.specs.declared.request.RequestId.{RequestId}
 use Rattle.log_model.specs.OpenCall.{OpenCall, makes_look, at_row_helper}
-use Rattle.log_model.specs.OpenRequest.{or_none, has_zero}
+use Rattle.log_model.specs.OpenRequest.{has_zero}
 use Rattle.program_checks.specs.ProgramCheck.{ProgramCheck, Passed, Failed}
 use Rattle.dsm_model.specs.declared.outcome.StepRefusal.TheVariants.{NoReplica, NoProcedure, ArgumentsLength, NoCall, NotAtExit, NothingToDeliver, ReplicaStopped, LogFull, TooManyCalls, ArgumentsLimit, ProgramRefused, NameShape, ZeroInRequest}
 use Rattle.dsm_model.specs.declared.outcome.StepRefusal.TheVariants as step_refusal
@@ -92,7 +92,7 @@ with_begun world r call = record world { calls = world.calls ++ Some (record { r
 
 abbrev pub new_call : World → ℕ → List ℕ → Option RequestId → ℕ → Call
 new_call world procedure args request snapshot =
-    record { number = length world.calls + 1; procedure = procedure; args = args; snapshot = snapshot; request = or_none request }
+    record { number = length world.calls + 1; procedure = procedure; args = args; snapshot = snapshot; request = request }
 
 abbrev pub after_begin : World → ℕ → ℕ → List ℕ → Option RequestId → Option Replica → Option StoredProcedure → Outcome × World
 after_begin world r procedure args request None _ = (Refused NoReplica, world)

@@ -6,7 +6,6 @@ use Rattle.dsm_model.specs.declared.outcome.Outcome.{Outcome}
 use Rattle.dsm_model.specs.declared.outcome.Outcome.TheVariants.{Begun, More, Exit}
 use Rattle.dsm_model.specs.World.{World, Replica, Step, Begin, Turn, open_call}
 use Rattle.log_model.specs.OpenCall.{OpenCall}
-use Rattle.log_model.specs.OpenRequest.{or_none}
 
 -- whether a turn with this answer ran an instruction
 abbrev pub runs_further : Outcome → Bool
@@ -38,7 +37,7 @@ pub record IsBegun (steps : List Step) (outcomes : List Outcome) (c : ℕ) (call
   pub begin : slice_get steps at ≡ Some (Begin replica call.procedure call.args request)
   pub answer : slice_get outcomes at ≡ Some (Begun c call.snapshot)
   pub number : call.number ≡ c
-  pub carried : call.request ≡ or_none request
+  pub carried : call.request ≡ request
 
 -- the call of a number was open before these steps, or one of them began it
 abbrev pub IsCallNumbered : World → List Step → List Outcome → ℕ → Call → Type 0

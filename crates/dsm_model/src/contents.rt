@@ -8,8 +8,8 @@ ghost use Rattle.log_model.specs.Entries.{Entry, item_of, items_of, IsCarried, C
 ghost use Rattle.dsm_model.specs.Contents.{ReplicaContents, IsContentsOf, first_contents, certified_next};
 ghost use Rattle.dsm_model.specs.Contents.{with_delivered};
 
-/// A copy that is what the log says of its position is so after a delivery too, and the verdict is the log's;
-/// a log that grows keeps it.
+/// A copy that is what the log says of its position stays so by a delivery, and where the log grows. The delivery's
+/// verdict is the log's.
 pub fn deliveries_follow_the_log()
     ensures first { (w : Setting) (log : Log) → IsContentsOf w log (first_contents w) }
     ensures verdict { (w : Setting) (log : Log) (copy : ReplicaContents) (e : Entry)

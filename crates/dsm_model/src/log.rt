@@ -13,8 +13,8 @@ ghost use Rattle.dsm_model.specs.World.{numbered};
 ghost use Rattle.dsm_model.specs.Sound.{IsSerialReply, told_reply};
 ghost use Rattle.log_model.specs.Fit.{HasSafeProcedures, AreItems};
 
-/// The rows after each position: none at first; then the effect of the call's run on the rows before it, where
-/// it commits, and else those rows; an addition leaves them.
+/// The rows after each position: none at first; then the effect of the call's run on the rows before it, where the call
+/// commits, and else those rows. An addition leaves the rows.
 pub fn rows_after_each_call()
     ensures first { (w : Setting) (log : Log) → rows_after w log 0 ≡ empty }
     ensures next { (w : Setting) (log : Log) (d : ℕ) (call : Call) (v : Verdict)
@@ -38,8 +38,8 @@ pub fn what_commits_is_serial()
         → rows_after w log (suc d) ≡ after_writes (run_in w log call).writes (rows_after w log d) }
 {}
 
-/// What is told of a call that commits is its reply where it runs in its turn; of one that is repeated, that of the
-/// call that it repeats.
+/// The reply that is told of a call that commits is its reply where it runs in its turn. The reply that is told of a
+/// repeated call is that of the call that it repeats.
 pub fn what_is_told_is_serial()
     ensures committed { (w : Setting) (log : Log) (d : ℕ) (call : Call)
         → HasSafeProcedures w → IsLog log → AreItems w log → slice_get log d ≡ Some (CallItem call)
@@ -55,8 +55,8 @@ pub fn what_is_told_is_serial()
         → told_reply w log position ≡ None }
 {}
 
-/// An entry of those that carry their runs carries the reply of its call's run on the rows of its snapshot, and where
-/// it commits, of the run on the rows just before it.
+/// An entry among entries that carry their runs has the reply of its call's run on the rows of its snapshot. Where the
+/// call commits, this is the reply of the run on the rows just before it too.
 pub fn entries_carry_serial_replies()
     ensures carried { (w : Setting) (entries : List Entry) (position : ℕ) (e : ExecutedCall)
         → CarryRuns w entries → numbered entries position ≡ Some (CallEntry e)

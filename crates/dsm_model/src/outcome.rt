@@ -1,14 +1,14 @@
-//! What a step of the world answers.
+//! The answers of the world's steps.
 use log_model::Verdict;
 use program_checks::ProgramFault;
 
-/// Why a step was refused, in the order of their printed numbers.
+/// A cause for which a step is refused. The causes stand in the order of their printed numbers.
 #[derive(Clone, Copy, Debug, PartialEq, Eq)]
 pub enum StepRefusal {
     NoReplica,
     NoProcedure,
     ArgumentsLength,
-    /// No such call, or it is over.
+    /// The call doesn't exist, or is over.
     NoCall,
     NotAtExit,
     NothingToDeliver,
@@ -27,7 +27,7 @@ pub enum StepRefusal {
     ZeroInRequest,
 }
 
-/// What a step answers.
+/// The answer of a step.
 #[derive(Clone, Copy, Debug, PartialEq, Eq)]
 pub enum Outcome {
     Begun { call: u32, snapshot: u32 },

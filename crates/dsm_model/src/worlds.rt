@@ -1,5 +1,5 @@
-//! Laws of worlds: what there is at first, that a change of one call or replica is one of that alone, what refused
-//! steps leave, where calls end, and that replicas agree.
+//! Laws of worlds: the first world, changes of one call or replica, what refused steps leave, where calls end, and the
+//! agreement of replicas.
 
 ghost use Rattle.std.specs.Prelude.{◌≡◌, ◌≢◌, ◌+◌, ◌<◌, ◌≤◌, ◌++◌, ℕ, true, List, [], ◌∷◌, Some, None, IsSome, Option};
 ghost use Rattle.std.specs.Prelude.{◌⊎◌, false, length};
@@ -11,7 +11,6 @@ ghost use Rattle.dsm_model.specs.World.{World, Replica, Step, Begin, Turn, Order
 ghost use Rattle.dsm_model.specs.World.{first_world, numbered, open_call, with_open_call, with_replica, IsStep};
 ghost use Rattle.dsm_model.specs.World.{AreSteps};
 ghost use Rattle.log_model.specs.OpenCall.{OpenCall};
-ghost use Rattle.log_model.specs.OpenRequest.{or_none};
 ghost use Rattle.program_checks.specs.ProgramCheck.{ProgramCheck};
 ghost use Rattle.dsm_model.specs.declared.outcome.StepRefusal.{StepRefusal};
 ghost use Rattle.dsm_model.specs.declared.outcome.StepRefusal.TheVariants.{NotAtExit, LogFull};
@@ -45,14 +44,14 @@ pub fn each_change_is_of_one()
             procedure = procedure;
             args = args;
             snapshot = snapshot;
-            request = or_none request;
+            request = request;
           };
           turns = 0;
         }) }
 {}
 
-/// In the first world so many replicas run at position 0, and there is neither a log nor a call; and each list of steps
-/// leads on.
+/// The first world has n replicas that run at position 0, and neither a log nor a call. Each list of steps leads on
+/// from any world.
 pub fn there_are_worlds()
     ensures replicas { (n k : ℕ) → k < n
         → numbered (first_world n).replicas (k + 1) ≡ Some (record { position = 0; stopped = false }) }
@@ -72,9 +71,9 @@ pub fn turns_that_run_are_counted()
         → d ≢ c → turns_of c (Turn d ∷ steps) (outcome ∷ outcomes) ≡ turns_of c steps outcomes }
 {}
 
-/// A call of which as many turns ran an instruction as its procedure's longest path has has come to its end: one of
-/// these turns has answered Exit, with the reply of its run. It was open before these steps, or one of them began it,
-/// and it may be over since. Where it is still open it is at its end.
+/// A call has come to its end where as many of its turns ran an instruction as its procedure's longest path has. One of
+/// these turns has answered Exit, with the reply of the call's run. The call was open before these steps, or one of
+/// them began it, and it may be over since. A call that is still open is at its end.
 pub fn enough_turns_reach_exit()
     ensures exit { (w : Setting) (before : World) (steps : List Step) (outcomes : List Outcome)
         (after : World) (c : ℕ) (call : Call) (p : StoredProcedure)
@@ -93,7 +92,7 @@ pub fn enough_turns_reach_exit()
 {}
 
 /// A step leaves the log or appends to it, and a call stays the same while it is open. The reply that a turn answered
-/// at Exit is that of the call's run however much longer the log becomes, and so the one that its entry carries.
+/// at Exit stays that of the call's run, however much longer the log becomes. The call's entry carries the same reply.
 pub fn open_calls_keep_their_replies()
     ensures log { (w : Setting) (before : World) (step : Step) (outcome : Outcome) (after : World)
         → IsStep w before step outcome after → (more : Log) × (after.log ≡ before.log ++ more) }
@@ -109,14 +108,14 @@ pub fn open_calls_keep_their_replies()
         → (run_in w (before.log ++ more) o.call).reply ≡ reply }
 {}
 
-/// Of what two replicas of one log have delivered, one begins with the other.
+/// Two replicas of one log agree: the items that one of them has delivered begin with those of the other.
 pub fn replicas_agree()
     ensures { (log : Log) (a b : Replica)
         → IsPrefix (delivered_items log a) (delivered_items log b)
         ⊎ IsPrefix (delivered_items log b) (delivered_items log a) }
 {}
 
-/// A refused step changes nothing, but where memory is wanted or the log is full: then a call that was to be ordered is
+/// A refused step changes nothing, unless memory is wanted or the log is full. Then a call that was to be ordered is
 /// over, and a replica that was to deliver is stopped at its position.
 pub fn refused_steps_change_nothing()
     ensures nothing { (w : Setting) (before : World) (step : Step) (refusal : StepRefusal) (after : World)
@@ -138,8 +137,8 @@ pub fn refused_steps_change_nothing()
         → IsStep w before (Add name number args_len checked) (Refused step_refusal.NoMemory) after → after ≡ before }
 {}
 
-/// A call is over after any answer of its order but that it isn't at EXIT, and after a turn that is stale or finds
-/// no memory; and it stays over.
+/// A call is over after any answer of its order but that it isn't at EXIT. After a turn that is stale or finds no
+/// memory it is over too. A call that is over stays over.
 pub fn calls_end()
     ensures order { (w : Setting) (before : World) (c : ℕ) (outcome : Outcome) (after : World)
         → IsStep w before (Order c) outcome after

@@ -23,7 +23,7 @@ use Rattle.log_entry.specs.declared.entry.Entry.TheVariants.{Call as LogCall, Ad
 use Rattle.dsm_model.specs.World as model
 use Rattle.dsm_model.specs.World.{World, Begin, Order, numbered, with_numbered, flatten, open_call, with_open_call, without_call, with_ordered, with_begun, new_call, position_of, max_calls, addition_count, call_count, IsStep}
 use Rattle.log_model.specs.OpenCall.{OpenCall}
-use Rattle.log_model.specs.OpenRequest.{has_zero, or_none}
+use Rattle.log_model.specs.OpenRequest.{has_zero}
 use Rattle.dsm_model.specs.Sound.{IsWorld}
 use Rattle.bpf_verify.specs.Flow.{Procedure}
 use Rattle.catalogue.specs.Catalogue.{accepted_of}
@@ -284,13 +284,13 @@ pub calls_are : {A : Type 0} (s : SystemWorld) (slots : List (Option (OpenCallSt
 calls_are s slots h = ap (λ (x : List (Option OpenCall)). length x) h.calls ∙ map_count (λ (slot : Option (OpenCallState _)). option_map open_call_of slot) slots
 
 pub begins : {A : Type 0} (s : SystemWorld) (slots : List (Option (OpenCallState A))) (r k p : ℕ) (args : List ℕ) (request : Option RequestId) (old : Replica) (q : StoredProcedure) (c : OpenCallState A) (number : ℕ) → IsTogether s slots → r ≡ k + 1 → slice_get s.replicas k ≡ Some old → by_number (procedures_after (setting_of s) (world_of s).log old.position) p ≡ Some q
-    → length args ≡ q.args_len → has_zero request ≡ false → call_count (world_of s) < max_calls → number ≡ length slots + 1 → open_call_of c ≡ record { replica = r; call = record { number = number; procedure = p; args = args; snapshot = old.position; request = or_none request }; turns = 0 }
+    → length args ≡ q.args_len → has_zero request ≡ false → call_count (world_of s) < max_calls → number ≡ length slots + 1 → open_call_of c ≡ record { replica = r; call = record { number = number; procedure = p; args = args; snapshot = old.position; request = request }; turns = 0 }
     → IsStep (setting_of s) (world_of s) (Begin r p args request) (Begun number old.position) (world_of (with_slots s (slots ++ Some c ∷ [])))
 begins s slots r k p args request old q c number h place at known long some few is same =
     let count = calls_are s slots h in
     let n : length s.calls + 1 ≡ number = omega arith in
     let entered : s.calls ++ Some (record { replica = r; call = new_call (world_of s) p args request old.position; turns = 0 }) ∷ [] ≡ open_calls_of (slots ++ Some c ∷ []) =
-    ap (λ (m : ℕ). s.calls ++ Some (record { replica = r; call = record { number = m; procedure = p; args = args; snapshot = old.position; request = or_none request }; turns = 0 }) ∷ []) n
+    ap (λ (m : ℕ). s.calls ++ Some (record { replica = r; call = record { number = m; procedure = p; args = args; snapshot = old.position; request = request }; turns = 0 }) ∷ []) n
     ∙ ap (λ (o : OpenCall). s.calls ++ Some o ∷ []) (sym same) ∙ ap (λ (calls : List (Option OpenCall)). calls ++ Some (open_call_of c) ∷ []) h.calls ∙ sym (append_map (λ (slot : Option (OpenCallState _)). option_map open_call_of slot) slots (Some c)) in
     let leaves = ap (λ (calls : List (Option OpenCall)). record { log = items_of s.entries; replicas = map progress_of s.replicas; calls = calls }) entered in
     subst (λ (x : World). IsStep (setting_of s) (world_of s) (Begin r p args request) (Begun number old.position) x) leaves

@@ -44,9 +44,11 @@ pub(crate) fn add<A: Allocator + Copy>(
     ensures given { IsGiven (setting_of (system_of world.old))
         (Add name.now number args_len (check_of world.old.catalogue.tables args_len bytes.now)) result }
 {
+    // Laws:
     a_log_only_grows();
     accepted_procedures_are_safe();
     each_catalogue_is_consistent(&world.catalogue);
+    // Laws:
     one_more_entry_carries_its_run();
     steps_keep_a_world();
     if world.calls.len() + world.additions as usize >= MAX_CALLS {
@@ -73,7 +75,7 @@ pub(crate) fn add<A: Allocator + Copy>(
     }
 }
 
-/// The program of some bytes, where the verifier accepts it for these tables and arguments of so many bytes.
+/// The program of some bytes, where the verifier accepts it for these tables and arguments of `args_len` bytes.
 fn checked<A: Allocator + Copy>(
     alloc: A,
     bytes: &[u8],

@@ -8,8 +8,8 @@ ghost use Rattle.dsm_world.specs.Holdings.{system_of, AreConsistentHoldings};
 use crate::calls::{begin_call, enter};
 use crate::holdings::Holdings;
 use crate::numbers::index_of;
-use log_model::{RequestId, a_log_only_grows, has_zero, or_none, rows_fit_the_schema};
 use dsm_model::{Outcome, StepRefusal, steps_keep_a_world};
+use log_model::{RequestId, a_log_only_grows, has_zero, rows_fit_the_schema};
 use replica::replicas_follow_the_log;
 use schema::MAX_LOG;
 use std::alloc::Allocator;
@@ -33,6 +33,7 @@ pub(crate) fn begin<A: Allocator + Copy>(
     ensures consistent { AreConsistentHoldings world.new }
     ensures bytes { All (λ b. b < 256) args.now }
 {
+    // Laws:
     a_log_only_grows();
     replicas_follow_the_log();
     rows_fit_the_schema();
@@ -56,7 +57,6 @@ pub(crate) fn begin<A: Allocator + Copy>(
     let alloc = world.alloc;
     let call = world.calls.len() as u32 + 1;
     let snapshot = held.begin();
-    let request = or_none(request);
     let begun = begin_call(
         &mut world.spare,
         alloc,

@@ -14,13 +14,13 @@ use log_model::RequestId;
 use std::alloc::{AllocError, Allocator};
 use world_calls::{Completion, OpenCall};
 
-/// Calls in the order of their numbers; none in the place of one that is over.
+/// Calls in the order of their numbers; none in the place of a call that is over.
 pub type Calls<A> = Vec<Option<Box<OpenCall<A>, A>>, A>;
 
 /// A call that is over, in whose memory another may begin.
 pub type Spare<A> = Option<Box<OpenCall<A>, A>>;
 
-/// A call that has run nothing yet, in the memory of one that is over where there is one.
+/// A call that has run nothing yet, in the memory of a call that is over, where there is one.
 pub(crate) fn begin_call<A: Allocator + Copy, P: Allocator, Q: Allocator>(
     spare: &mut Spare<A>,
     alloc: A,
@@ -30,7 +30,7 @@ pub(crate) fn begin_call<A: Allocator + Copy, P: Allocator, Q: Allocator>(
     accepted: &Accepted<P, Q>,
     args: &[u8],
     snapshot: u32,
-    request: RequestId,
+    request: Option<RequestId>,
 ) -> Result<Box<OpenCall<A>, A>, AllocError>
     requires { length args.now ≡ accepted.now.args_len }
     ensures begun { IfOk result (λ b. open_call_of b.value
@@ -49,7 +49,7 @@ pub(crate) fn begin_call<A: Allocator + Copy, P: Allocator, Q: Allocator>(
     Ok(open_call)
 }
 
-/// What comes of a call that is at its end. Its memory is kept, for another to begin in.
+/// Returns the completion of a call that is at its end. The call's memory is kept, for another to begin in.
 pub(crate) fn end_call<A: Allocator + Copy>(
     spare: &mut Spare<A>,
     alloc: A,
@@ -78,7 +78,7 @@ pub(crate) fn enter<A: Allocator + Copy>(
     Ok(())
 }
 
-/// Takes a call out of its place, and tells which that is.
+/// Takes a call out of its place, and tells that place.
 pub(crate) fn take_call<A: Allocator + Copy>(
     calls: &mut Calls<A>,
     number: u32,

@@ -20,6 +20,7 @@ pub(crate) fn deliver<A: Allocator + Copy>(world: &mut Holdings<A>, replica: u32
     ensures setting { setting_of (system_of world.new) ≡ setting_of (system_of world.old) }
     ensures consistent { AreConsistentHoldings world.new }
 {
+    // Laws:
     a_log_only_grows();
     each_call_has_a_verdict();
     steps_keep_a_world();

@@ -1,4 +1,4 @@
-//! What a world holds.
+//! The holdings of a world.
 
 use crate::calls::{Calls, Spare};
 use catalogue::Catalogue;
@@ -6,23 +6,23 @@ use log_entry::Entry;
 use replica::Replica;
 use std::alloc::{Allocator, Global};
 
-/// What a world holds.
+/// The holdings of a world.
 #[derive(Drop)]
 pub struct Holdings<A: Allocator + Copy = Global> {
-    /// Where all of it takes memory.
+    /// The allocator of all its memory.
     pub alloc: A,
-    /// The rows of how many positions besides its last each replica keeps.
+    /// The number of positions, besides its last, whose rows each replica keeps.
     pub window: u32,
     /// The tables, and the procedures that the log begins with.
     pub catalogue: Catalogue<A>,
-    /// What was ordered.
+    /// The entries that were ordered.
     pub entries: Vec<Entry<A>, A>,
-    /// How many of them are additions.
+    /// The number of entries that are additions.
     pub additions: u32,
-    /// In the order of their numbers.
+    /// The replicas in the order of their numbers.
     pub replicas: Vec<Replica<A>, A>,
     /// The calls that were begun.
     pub calls: Calls<A>,
-    /// One that is over, in whose memory the next begins.
+    /// A call that is over, in whose memory the next begins.
     pub spare: Spare<A>,
 }

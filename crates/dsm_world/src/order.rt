@@ -26,6 +26,7 @@ pub(crate) fn order<A: Allocator + Copy>(world: &mut Holdings<A>, call: u32) -> 
     ensures setting { setting_of (system_of world.new) ≡ setting_of (system_of world.old) }
     ensures consistent { AreConsistentHoldings world.new }
 {
+    // Laws:
     a_log_only_grows();
     one_more_entry_carries_its_run();
     steps_keep_a_world();

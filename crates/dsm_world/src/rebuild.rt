@@ -18,6 +18,7 @@ pub(crate) fn rebuild<A: Allocator + Copy>(world: &mut Holdings<A>, replica: u32
     ensures setting { setting_of (system_of world.new) ≡ setting_of (system_of world.old) }
     ensures consistent { AreConsistentHoldings world.new }
 {
+    // Laws:
     steps_keep_a_world();
     let Some(at) = index_of(replica, world.replicas.len()) else {
         return Outcome::Refused(StepRefusal::NoReplica);

@@ -34,6 +34,7 @@ impl<A: Allocator + Copy> World<A> {
         ensures rows { IfOk result (λ found. IfSome found (λ listed.
             listed.rows.items ≡ entries (rows_after (setting_of self.now) (world_of self.now).log listed.position))) }
     {
+        // Laws:
         entries_suffice();
         self.keeps_what_was_delivered();
         let Some(kept) = self.replica(replica) else {
@@ -47,7 +48,7 @@ impl<A: Allocator + Copy> World<A> {
     }
 
     /// The rows of a replica, by its number, after a position; none where there is no such replica, or it hasn't come
-    /// so far. They are gone where more than the window was delivered to it since.
+    /// so far. The rows are gone where more entries than the window were delivered to the replica since.
     pub fn at<'a>(&'a self, replica: u32, position: u32) -> Option<At<'a, A>>
         ensures there { IsSome result → IsSome (numbered (world_of self.now).replicas replica) }
         ensures reached { (r : ModelReplica) → numbered (world_of self.now).replicas replica ≡ Some r
@@ -57,6 +58,7 @@ impl<A: Allocator + Copy> World<A> {
         ensures gone { IfSome result (λ at. (r : ModelReplica) → numbered (world_of self.now).replicas replica ≡ Some r
             → ⟦<At<'a, A> as Store>⟧.is_gone at ≡ nat_lt self.now.window (r.position - position)) }
     {
+        // Laws:
         entries_suffice();
         self.keeps_what_was_delivered();
         let kept = self.replica(replica)?;

@@ -1,6 +1,6 @@
 //! The steps of a world.
 
-/// What a world does next.
+/// A step of a world.
 #[derive(Clone, Copy, Debug)]
 pub enum Step<'a> {
     /// A call of a procedure, by its number, begins at a replica.
@@ -14,7 +14,8 @@ pub enum Step<'a> {
         replica: u32,
         procedure: u16,
         args: &'a [u8],
-        /// Which caller asks, and for which of its requests, both from 1 on.
+        /// The caller that asks, from 1 on. The number behind it, from 1 on too, tells which of the caller's requests
+        /// is meant.
         session: u32,
         sequence: u32,
     },
@@ -34,7 +35,7 @@ pub enum Step<'a> {
     Rebuild {
         replica: u32,
     },
-    /// A procedure is appended to the log, by the bytes of its program; its arguments have so many bytes.
+    /// A procedure is appended to the log, by the bytes of its program; its arguments have `args_len` bytes.
     Add {
         name: &'a [u8],
         number: u16,

@@ -18,14 +18,14 @@ use dsm_model::Outcome;
 use log_model::RequestId;
 use std::alloc::Allocator;
 
-/// One step: what it answers, as the definitions of the world say.
+/// Takes one step, and answers as the definitions of the world say.
 pub fn take_step<A: Allocator + Copy>(world: &mut Holdings<A>, step: Step<'_>) -> Outcome
     requires { AreConsistentHoldings world.old }
     ensures step { IsStep (setting_of (system_of world.old)) (world_of (system_of world.old))
         (step_of (setting_of (system_of world.old)) step.entry) result (world_of (system_of world.new)) }
     ensures setting { setting_of (system_of world.new) ≡ setting_of (system_of world.old) }
     ensures consistent { AreConsistentHoldings world.new }
-    // What their type says of the arguments, and the verifier of a program that is added.
+    // The arguments are bytes by their type, and an added program is safe since the verifier accepted it.
     ensures given { IsGiven (setting_of (system_of world.old))
         (step_of (setting_of (system_of world.old)) step.entry) result }
 {

@@ -24,11 +24,11 @@ use std::alloc::Allocator;
 use txn_view::Store;
 use world_calls::{OpenCall, stays_open};
 
-/// How many turns a call has in one go.
+/// The number of turns that a call has in one go.
 #[derive(Clone, Copy)]
 pub(crate) enum TurnCount {
     One,
-    /// Up to the first that doesn't answer that there is more.
+    /// Turns up to the first that doesn't answer that there is more.
     ToTheEnd,
 }
 
@@ -56,7 +56,7 @@ pub fn exec<A: Allocator + Copy>(world: &mut Holdings<A>, call: u32) -> Outcome
     run_on(world, call, TurnCount::ToTheEnd)
 }
 
-/// So many turns of a call: what the last of them answers.
+/// Takes turns of a call, and answers what the last of them answers.
 fn run_on<A: Allocator + Copy>(world: &mut Holdings<A>, call: u32, count: TurnCount) -> Outcome
     requires { AreConsistentHoldings world.old }
     ensures turns { (before : ℕ) × (before < max_slots) × (count ≡ One → before ≡ 0)
@@ -66,6 +66,7 @@ fn run_on<A: Allocator + Copy>(world: &mut Holdings<A>, call: u32, count: TurnCo
     ensures setting { setting_of (system_of world.new) ≡ setting_of (system_of world.old) }
     ensures consistent { AreConsistentHoldings world.new }
 {
+    // Laws:
     a_log_only_grows();
     entries_suffice();
     procedures_are_never_lost();
@@ -87,7 +88,7 @@ fn run_on<A: Allocator + Copy>(world: &mut Holdings<A>, call: u32, count: TurnCo
     outcome_of(answer)
 }
 
-/// So many turns of an open call: what the last of them answers.
+/// Takes turns of an open call, and answers what the last of them answers.
 fn take_turns<A: Allocator + Copy, P: Allocator, Q: Allocator, S: Store + Drop>(
     open_call: &mut OpenCall<A>,
     alloc: A,
@@ -109,7 +110,7 @@ fn take_turns<A: Allocator + Copy, P: Allocator, Q: Allocator, S: Store + Drop>(
     }
 }
 
-/// What the world answers.
+/// Returns what the world answers.
 fn outcome_of(answer: Turn) -> Outcome
     ensures { result ≡ outcome_of answer }
 {

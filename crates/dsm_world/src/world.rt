@@ -70,7 +70,7 @@ impl<A: Allocator + Copy> Model for World<A> {
     ghost invariant = { λ w. AreConsistentHoldings w.holdings };
 }
 
-/// So many replicas to which nothing was delivered.
+/// Returns `count` replicas to which nothing was delivered.
 fn replicas_of<A: Allocator + Copy>(
     alloc: A,
     count: u32,
@@ -102,8 +102,8 @@ fn push_within<A: Allocator>(outcomes: &mut Vec<Outcome, A>, outcome: Outcome)
 }
 
 impl<A: Allocator + Copy> World<A> {
-    /// A world of so many replicas that run at position 0, in which nothing was begun or ordered. It has 1 to 8
-    /// replicas, and each keeps the rows of 1 to 4,096 positions besides the last.
+    /// A world of `replicas` replicas that run at position 0, in which nothing was begun or ordered. The world has 1 to
+    /// 8 replicas, and each keeps the rows of 1 to 4,096 positions besides the last.
     pub fn new(
         alloc: A,
         replicas: u32,
@@ -120,6 +120,7 @@ impl<A: Allocator + Copy> World<A> {
         }) }
     {
         catalogues_are_safe(&catalogue);
+        // Laws:
         steps_keep_a_world();
         let replicas = replicas_of(alloc, replicas, window, &catalogue)?;
         Ok(World {
@@ -136,19 +137,19 @@ impl<A: Allocator + Copy> World<A> {
         })
     }
 
-    /// One step: what it answers, as the definitions of the world say.
+    /// Takes one step, and answers as the definitions of the world say.
     pub fn step(&mut self, step: Step<'_>) -> Outcome
         ensures step { IsStep (setting_of self.old) (world_of self.old) (step_of (setting_of self.old) step.entry)
             result (world_of self.new) }
         ensures setting { setting_of self.new ≡ setting_of self.old }
-        // What their type says of the arguments, and the verifier of a program that is added.
+        // The arguments are bytes by their type, and an added program is safe since the verifier accepted it.
         ensures given { IsGiven (setting_of self.old) (step_of (setting_of self.old) step.entry) result }
     {
         take_step(&mut self.holdings, step)
     }
 
-    /// Runs a call to its end in one go: as many turns of it as answer that there is more, and one that doesn't, which
-    /// is answered. They are no more than a program has slots at the most.
+    /// Runs a call to its end in one go: its turns that answer that there is more, and one that doesn't, whose answer
+    /// is returned. These turns are at most as many as the slots that a program may have.
     pub fn exec(&mut self, call: u32) -> Outcome
         ensures turns { (before : ℕ) × (before < max_slots)
             × IsExecution (setting_of self.old) (world_of self.old) call before result (world_of self.new) }
@@ -158,13 +159,14 @@ impl<A: Allocator + Copy> World<A> {
         exec(&mut self.holdings, call)
     }
 
-    /// Steps, one after another: what each answers. Room for all answers is made first; where there is no memory for
-    /// it, no step is taken.
+    /// Takes steps, one after another, and returns what each answers. Room for all answers is made first; where there
+    /// is no memory for it, no step is taken.
     ///
-    /// Whatever the steps are, and whichever of them find no memory: they go on as the definitions of the world say;
-    /// each open call is sound; each ordered call is committed exactly where the written test says so; what a replica
-    /// keeps are the verdicts, rows and procedures of the log as far as it has come; a reply that was answered is that
-    /// of the call run in its turn, where it commits; and enough turns have answered one.
+    /// The following holds whatever the steps are, and whichever of them find no memory. The steps go on as the
+    /// definitions of the world say, and each open call is sound. Each ordered call is committed exactly where the
+    /// written test says so. The verdicts, rows and procedures that a replica keeps are those of the log as far as the
+    /// replica has come. A reply that was answered is that of the call run in its turn, where the call commits; and
+    /// enough turns have answered a reply.
     pub fn run(&mut self, steps: &[Step<'_>]) -> Result<Vec<Outcome, A>, AllocError>
         ensures steps { IfOk result (λ outcomes. AreSteps (setting_of self.old) (world_of self.old)
             (map (step_of (setting_of self.old)) steps.now) outcomes.items (world_of self.new)) }
@@ -192,6 +194,7 @@ impl<A: Allocator + Copy> World<A> {
         ensures setting { setting_of self.new ≡ setting_of self.old }
         ensures unchanged { OnErr result (self.new ≡ self.old) }
     {
+        // Laws:
         delivered_verdicts_are_the_logs();
         enough_turns_reach_exit();
         open_calls_are_sound();
@@ -206,12 +209,12 @@ impl<A: Allocator + Copy> World<A> {
         Ok(outcomes)
     }
 
-    /// What is known of every world: steps lead to such a one, its catalogue's procedures were accepted and are safe,
-    /// its entries are those of a log and carry their runs, and what each replica keeps are the verdicts, rows and
-    /// procedures of the log as far as it has come. Each open call is sound, and its run, with the reply that a turn
-    /// answers at its end, stays the same however long the log becomes; an entry carries the reply of its call's run,
-    /// and where it commits that of the call run in its turn. So whoever takes single steps knows what becomes of a
-    /// reply.
+    /// Every world keeps what was delivered. Steps lead to such a world. Its catalogue's procedures were accepted and
+    /// are safe, and its entries are those of a log and carry their runs. The verdicts, rows and procedures that a
+    /// replica keeps are those of the log as far as the replica has come. Each open call is sound. Its run, with the
+    /// reply that a turn answers at its end, stays the same however long the log becomes. An entry carries the reply of
+    /// its call's run, and where the call commits that of the call run in its turn. So whoever takes single steps knows
+    /// what becomes of a reply.
     pub fn keeps_what_was_delivered(&self)
         ensures world { IsWorld (setting_of self.now) (world_of self.now) }
         ensures catalogue { IsCatalogue self.now.catalogue }
@@ -230,6 +233,7 @@ impl<A: Allocator + Copy> World<A> {
             → verdict_of (setting_of self.now) (world_of self.now).log position ≡ Some Commit
             → IsSerialReply (setting_of self.now) (world_of self.now).log position e.reply }
     {
+        // Laws:
         a_log_only_grows();
         entries_carry_serial_replies();
         open_calls_are_sound();
@@ -239,7 +243,7 @@ impl<A: Allocator + Copy> World<A> {
         each_catalogue_is_consistent(&self.holdings.catalogue);
     }
 
-    /// How many entries the log has.
+    /// Returns the number of entries of the log.
     pub fn log_len(&self) -> u32
         ensures { result ≡ length self.now.entries }
     {

@@ -17,7 +17,7 @@ use std::sync::Wait;
 use std::thread::Threads;
 use std::{env, io};
 
-/// Says that a file can't be opened. Where that can't be said the status is the same.
+/// Says that a file can't be opened. The status is the same where that can't be said.
 fn not_opened(rt: &HostRuntime, path: &str, error: &io::Error) -> u8 {
     let _ = writeln!(rt.stderr(), "dsmdb: {path}: {error}");
     FAILED
@@ -69,7 +69,7 @@ fn replay_file(rt: &HostRuntime, path: &str) -> io::Result<u8> {
     }
 }
 
-/// Runs the script in a file on threads. How far it has come is said where somebody watches.
+/// Runs the script in a file on threads. Progress is said where somebody watches.
 fn run_file<R: Threads + Wait + Copy + Send + Sync + 'static>(
     rt: &HostRuntime,
     threads: &R,
@@ -100,13 +100,13 @@ fn run_file<R: Threads + Wait + Copy + Send + Sync + 'static>(
     }
 }
 
-/// Is a site, with the settings in a file.
+/// Runs a site, with the settings in a file.
 fn site_of_file(rt: &HostRuntime, path: &str) -> io::Result<u8> {
     let mut faults = rt.stderr();
     match File::open(rt, path) {
         Ok(file) => {
             let mut settings = BufReader::new(rt.alloc(), file)?;
-            // one that is locked reads a pipe byte by byte
+            // A locked input reads a pipe byte by byte.
             let mut input = BufReader::new(rt.alloc(), rt.stdin())?;
             let mut output = rt.stdout();
             Ok(site_over(
@@ -127,8 +127,8 @@ fn print_explanation(rt: &HostRuntime, explanation: &Explanation) -> io::Result<
     Ok(0)
 }
 
-/// Prints what was asked for in place of a command, or says why the words are none. Where the latter can't be said the
-/// status is the same.
+/// Prints what was asked for in place of a command, or says why the words are none. The status is the same where the
+/// latter can't be said.
 fn refused(rt: &HostRuntime, fault: &PlanFault<'_>) -> io::Result<u8> {
     match fault {
         PlanFault::CommandLine(error) if !error.use_stderr() => error.print(rt)?,

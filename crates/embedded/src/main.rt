@@ -47,7 +47,7 @@ fn database(alloc: Global) -> Option<Catalogue> {
     Some(catalogue)
 }
 
-/// Adds 1 to row 5 at a replica: asks again as long as another call came between. Whether it was done.
+/// Adds 1 to row 5 at a replica. Asks again as long as another call came between. Tells whether it was done.
 fn add_one<J: LogSetting + Ledgers + Send + Sync + 'static, R: Wait>(
     rt: &R,
     session: &mut Session<'_, J, OpenGate>,
@@ -64,7 +64,7 @@ fn add_one<J: LogSetting + Ledgers + Send + Sync + 'static, R: Wait>(
     false
 }
 
-/// What a caller does: ten additions, by a session of its own. How many were done.
+/// Makes the ten additions of a caller, by a session of its own. Returns the number that were done.
 fn call<J: LogSetting + Ledgers + Send + Sync + 'static, R: Wait>(
     rt: &R,
     desk: &Desk<J, OpenGate>,
@@ -84,8 +84,8 @@ fn call<J: LogSetting + Ledgers + Send + Sync + 'static, R: Wait>(
     done
 }
 
-/// Opens a node, has callers call, and ends it. How many additions were done, how many committed, and whether the
-/// replicas agree.
+/// Opens a node, has callers call, and ends it. Returns the number of additions that were done, the number that
+/// committed, and whether the replicas agree.
 fn use_node<
     J: LogSetting + Ledgers + Send + Sync + 'static,
     R: Threads + Wait + Copy + Send + Sync + 'static,

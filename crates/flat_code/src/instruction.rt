@@ -7,13 +7,15 @@ use crate::kind::Kind;
 use crate::{arithmetic, branches, memory};
 use bpf_code::{Instruction, Register, Source};
 
-/// An instruction told apart by its kind alone. A register that the kind hasn't is r0, a number 0.
+/// An instruction told apart by its kind alone. A register that the kind hasn't is r0, a number that the kind hasn't is
+/// 0.
 #[derive(Clone, Copy)]
 pub struct FlatInstruction {
     pub kind: Kind,
     pub dst: Register,
     pub src: Register,
-    /// Of an address, in bytes; of a jump that isn't long, in slots from the next instruction on.
+    /// The offset of an address, in bytes; the distance of a jump that isn't long, in slots from the next instruction
+    /// on.
     pub offset: i16,
     /// The immediate, a call's helper or a long jump's distance, sign-extended to 64 bits; all 64 bits of a wide load.
     pub immediate: u64,

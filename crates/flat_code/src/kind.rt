@@ -1,7 +1,7 @@
 //! The kinds of flat instructions.
 
-/// What a flat instruction does: a kind for each form of instruction with its operator, its width and where its second
-/// operand is, so that nothing more is to be told apart where it is run.
+/// The action of a flat instruction. Each form of instruction has a kind for its operator, its width and the place of
+/// its second operand. Nothing more is to be told apart where the instruction is run.
 #[derive(Clone, Copy)]
 #[repr(u8)]
 pub enum Kind {

@@ -7,8 +7,8 @@ use crate::instruction::FlatInstruction;
 use bpf_code::{Code, Instruction};
 use std::alloc::{AllocError, Allocator};
 
-/// The layout of a program, in memory of this allocator: 16 bytes a slot, 64 KB for 4,096 slots, by one growth. At the
-/// second half of a wide load stands what is never run.
+/// The layout of a program, in memory of this allocator: 16 bytes a slot, 64 KB for 4,096 slots, by one growth. The
+/// second half of a wide load holds an instruction that is never run.
 pub fn lay_out<A: Allocator, B: Allocator>(
     alloc: B,
     code: &Code<A>,

@@ -37,7 +37,7 @@ fn accepted(rt: &impl Abort, alloc: Global, schema: &Schema, program: &[u8]) -> 
     }
 }
 
-/// What the definition says of a call.
+/// Returns what the definition says of a call.
 fn plain_run(rt: &impl Abort, alloc: Global, procedure: &Accepted, call: &Call) -> CompletedRun {
     let code = procedure.code();
     let schema = procedure.schema();
@@ -46,7 +46,7 @@ fn plain_run(rt: &impl Abort, alloc: Global, procedure: &Accepted, call: &Call) 
         .expect(rt, "memory")
 }
 
-/// What the machine does at a call, to its end at once.
+/// Returns what the machine does at a call, to its end at once.
 fn completed_line(
     rt: &impl Abort,
     alloc: Global,
@@ -60,7 +60,7 @@ fn completed_line(
     line_of_completed(alloc, &completed, turns).expect(rt, "memory")
 }
 
-/// What the machine does at a call, turn by turn.
+/// Returns what the machine does at a call, turn by turn.
 fn machine_line(rt: &impl Abort, alloc: Global, procedure: &Accepted, call: &Call) -> String {
     let run = run_call(alloc, procedure, &call.arguments, &call.rows, NEVER).expect(rt, "memory");
     line_of_call(alloc, run).expect(rt, "memory")
@@ -79,7 +79,7 @@ fn assert_same(
     Ok(())
 }
 
-/// Compares a call on the machine, both ways, with what the definition says, and answers that.
+/// Compares a call on the machine, both ways, with what the definition says, and returns the run of the definition.
 fn compared(rt: &impl Abort, alloc: Global, schema: &Schema, call: &Call) -> CompletedRun {
     let procedure = accepted(rt, alloc, schema, &call.program.bytes);
     let run = plain_run(rt, alloc, &procedure, call);

@@ -12,8 +12,7 @@ ghost use Rattle.bpf_words.specs.declared.operation.SignExtension.{SignExtension
 ghost use Rattle.interval.specs.Range.{Bounds, IsRange, IsWithin, IsInside, single, join};
 ghost use Rattle.interval.specs.Table.{alu_range, end_range, up};
 
-/// Of whatever members of the operands' ranges, what the operation gives is a member of the result's
-/// range.
+/// The result of an operation on members of the operands' ranges is a member of the result's range.
 #[tactic(auto, using(crate::proofs::Sound::alu_sound, crate::proofs::Sound::end_sound))]
 pub fn results_are_within()
     ensures alu { (n : ℕ) (op : Operation) (a b : Bounds) (x y : ℕ) → IsRange a → IsRange b
@@ -22,8 +21,8 @@ pub fn results_are_within()
         → IsWithin a x → IsWithin (end_range order width a) (end_value order width x) }
 {}
 
-/// The result's range has a number, and all of them are words of n bits: below 2^n, and of a byte
-/// swap below 2 to the power of its bits.
+/// The result's range isn't empty. All its numbers are words of n bits: below 2^n, and of a byte swap below 2 to the
+/// power of its bits.
 pub fn results_are_ranges()
     ensures ordered { (n : ℕ) (op : Operation) (a b : Bounds) → IsRange a → IsRange b
         → (alu_range n op a b).lo ≤ (alu_range n op a b).hi }
@@ -35,8 +34,8 @@ pub fn results_are_ranges()
         → (end_range order width a).hi < 2 ^ end_bits width }
 {}
 
-/// Where each operand is one value the result is the one that the operation gives. NEG has the
-/// destination alone, MOV and MOVSX the source alone.
+/// The result's range is one value, that of the operation, where each operand is one value. NEG has the destination
+/// alone, MOV and MOVSX the source alone.
 pub fn one_value_gives_one()
     ensures binary { (n : ℕ) (op : BinaryOperation) (x y : ℕ)
         → alu_range n (Binary op) (single x) (single y) ≡ single (alu n (Binary op) x y) }
@@ -50,7 +49,7 @@ pub fn one_value_gives_one()
         → end_range order width (single x) ≡ single (end_value order width x) }
 {}
 
-/// What `up` gives is all ones in binary, isn't below the word, and is the least such number.
+/// The result of `up` is all ones in binary, isn't below the word, and is the least such number.
 #[tactic(auto, using(crate::proofs::Up::up_ones, crate::proofs::Up::up_above, crate::proofs::Up::up_least,))]
 pub fn up_is_least()
     ensures ones { (x : ℕ) → x < 2 ^ 64 → (k : ℕ) × (up x ≡ 2 ^ k - 1) }
@@ -58,7 +57,7 @@ pub fn up_is_least()
     ensures least { (x k : ℕ) → x < 2 ^ 64 → x ≤ 2 ^ k - 1 → up x ≤ 2 ^ k - 1 }
 {}
 
-/// A join is a range, and each number of either side is one of it.
+/// A join is a range, and has each number of either side.
 pub fn join_holds_both()
     ensures range { (a b : Bounds) → IsRange a → IsRange b → IsRange (join a b) }
     ensures left { (a b : Bounds) → IsInside a (join a b) }

@@ -1,7 +1,7 @@
 //! A range of words.
 use std::marker::Model;
 
-/// The 64-bit words from a least to a greatest one, both included.
+/// The 64-bit words from a least word to a greatest word, both included.
 #[derive(Clone, Copy, Debug, PartialEq, Eq)]
 pub struct Range {
     lo: u64,
@@ -60,14 +60,14 @@ impl Range {
         self.hi
     }
 
-    /// Whether it has one word alone.
+    /// Tells whether the range has one word alone.
     pub fn is_single(self) -> bool
         ensures { result ≡ ranges.is_single self }
     {
         self.lo == self.hi
     }
 
-    /// The least range round both.
+    /// The least range round both ranges.
     pub fn join(self, other: Range) -> Range
         ensures { result ≡ ranges.join self other }
     {

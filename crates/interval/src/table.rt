@@ -31,7 +31,7 @@ pub fn alu32_range(op: Operation, a: Range, b: Range) -> Range
     alu_range(Width::Bits32, op, a, b)
 }
 
-/// The range of what a byte swap instruction gives. It takes the whole 64-bit value in every class.
+/// The range of what a byte swap instruction gives. The whole 64-bit value is taken in every class.
 #[tactic(auto, unfolding(crate::specs::Table::end_range))]
 pub fn end_range(order: ByteOrder, width: EndWidth, a: Range) -> Range
     ensures { result ≡ tables.end_range order width a }
@@ -59,7 +59,7 @@ fn alu_range(width: Width, op: Operation, a: Range, b: Range) -> Range
     }
 }
 
-/// What an operation gives.
+/// Returns what an operation gives.
 fn word(width: Width, op: Operation, a: u64, b: u64) -> u64
     ensures { result ≡ alu (width_bits width) op a b }
 {
@@ -69,7 +69,7 @@ fn word(width: Width, op: Operation, a: u64, b: u64) -> u64
     }
 }
 
-/// Whether each operand of the operation is one value.
+/// Tells whether each operand of the operation is one value.
 fn are_single(op: Operation, a: Range, b: Range) -> bool
     ensures { result ≡ tables.are_single op a b }
 {

@@ -5,7 +5,7 @@ ghost use Rattle.interval.specs.Width.{width_bits};
 
 use crate::range::Range;
 
-/// How many bits an operation works on.
+/// The number of bits that an operation works on.
 #[derive(Clone, Copy)]
 pub enum Width {
     Bits32,

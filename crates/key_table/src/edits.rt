@@ -12,12 +12,12 @@ ghost use Rattle.key_table.specs.Changes.{IsChangedAt, IsAdded};
 ghost use Rattle.key_table.specs.Table.{Slot, IsReserved, IsPushed, AreRising, chain_at, versions_at, HasRoomAt};
 ghost use Rattle.key_table.specs.Groups.{group_slots, has_any, AreGroups};
 
-use crate::group_edits::GROUP_PAGES;
 use crate::group::Group;
+use crate::group_edits::GROUP_PAGES;
 use crate::pages::{key_behind, place_of};
 use std::alloc::{AllocError, Allocator};
 
-/// The most groups of a table, more than memory holds, so that its keys can be counted.
+/// The most groups of a table, more than memory holds, so that the table's keys can be counted.
 pub const TABLE_GROUPS: usize = 562_949_953_421_312;
 
 /// Notes the least key of a group again.
@@ -30,7 +30,7 @@ fn set_least<A: Allocator>(least: &mut Vec<u64, A>, groups: &[Group<A>], at: usi
     least[at] = groups[at].least();
 }
 
-/// How many pages a group has.
+/// Returns the number of a group's pages.
 fn pages_at<A: Allocator>(groups: &[Group<A>], at: usize) -> usize
     requires { at < length groups.now }
     ensures pages { (g : List (List Slot)) → result ≡ length (slice_index_or groups.now at g) }
@@ -259,7 +259,7 @@ pub fn reserve<A: Allocator + Copy>(
     reserve_in(least, groups, alloc, at, width, key)
 }
 
-/// One version more of a key in a group.
+/// Adds one version of a key in a group.
 fn push_at<A: Allocator>(
     groups: &mut Vec<Group<A>, A>,
     at: usize,
@@ -279,7 +279,7 @@ fn push_at<A: Allocator>(
     groups[at].push(key, position, row);
 }
 
-/// One version more of a key.
+/// Adds one version of a key.
 pub fn push<A: Allocator>(
     least: &[u64],
     groups: &mut Vec<Group<A>, A>,
@@ -333,7 +333,7 @@ fn drop_empty<A: Allocator>(groups: &mut Vec<Group<A>, A>)
     groups.retain(|group| group.has_keys());
 }
 
-/// Whether a group has keys.
+/// Tells whether a group has keys.
 fn has_keys<A: Allocator>(groups: &[Group<A>], at: usize) -> bool
     requires { at < length groups.now }
     ensures { (g : List (List Slot)) → result ≡ has_any (slice_index_or groups.now at g) }
@@ -377,7 +377,7 @@ fn drop_pruned<A: Allocator>(least: &mut Vec<u64, A>, groups: &mut Vec<Group<A>,
 }
 
 /// Prunes the page in which a key stands or would stand, and drops the page and its group where they have no keys then.
-/// Answers the least key of the page behind it.
+/// Answers the least key of the page behind.
 pub fn prune_page<A: Allocator>(
     least: &mut Vec<u64, A>,
     groups: &mut Vec<Group<A>, A>,
@@ -400,7 +400,8 @@ pub fn prune_page<A: Allocator>(
     next.or(behind)
 }
 
-/// Drops what no position from the horizon on sees, the keys of which nothing is left, and the groups without keys.
+/// Drops the versions that no position from the horizon on sees, the keys of which no version is left, and the groups
+/// without keys.
 pub fn prune<A: Allocator>(least: &mut Vec<u64, A>, groups: &mut Vec<Group<A>, A>, horizon: u32)
     requires { least.old.items ≡ least_keys (group_slots groups.old.items) }
     ensures least { least.new.items ≡ least_keys (group_slots groups.new.items) }

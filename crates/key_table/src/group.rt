@@ -1,4 +1,4 @@
-//! A group: some pages in order.
+//! A group: pages in order.
 
 ghost use Rattle.std.specs.Prelude.{◌≡◌, ◌≤◌, ◌<◌, ◌*◌, [], length, take, drop, slice_get, option_map, is_ok, None};
 ghost use Rattle.std.specs.Prelude.{OnOk, OnErr, IfOk, IfSome, IsSome};
@@ -11,13 +11,13 @@ ghost use Rattle.key_table.specs.Pages.{all_slots, least_key, has_slots, IsInser
 ghost use Rattle.key_table.specs.Pages.{IsPrunedWithin};
 ghost use Rattle.key_table.specs.Changes.{IsChangedAt, IsAdded};
 
-use crate::{edits, pages};
+use crate::{group_edits, pages};
 use row_chain::Page;
 use std::alloc::{AllocError, Allocator, Global};
 use std::marker::Model;
 
-/// Some keys in order, each with its versions, in pages. The least keys of its pages lie in one run, so that a page is
-/// found in little memory.
+/// A group of keys in order, each with its versions, in pages. The least keys of the pages lie in one run, so that a
+/// page is found in little memory.
 #[derive(Drop)]
 pub struct Group<A: Allocator = Global> {
     least: Vec<u64, A>,
@@ -37,7 +37,7 @@ impl<A: Allocator> Model for Group<A> {
 }
 
 impl<A: Allocator> Group<A> {
-    /// How many pages of 1 to 64 keys it has.
+    /// Returns the number of the group's pages, each of 1 to 64 keys.
     pub fn pages(&self) -> usize
         ensures pages { result ≡ length self.now }
         ensures most { result ≤ GROUP_PAGES }
@@ -48,7 +48,7 @@ impl<A: Allocator> Group<A> {
         pages.len()
     }
 
-    /// Whether it has keys.
+    /// Tells whether the group has keys.
     pub fn has_keys(&self) -> bool
         ensures { result ≡ has_slots (all_slots self.now) }
     {
@@ -56,7 +56,7 @@ impl<A: Allocator> Group<A> {
         !pages.is_empty()
     }
 
-    /// Its least key, 0 where it has none.
+    /// The group's least key, 0 where the group has none.
     pub fn least(&self) -> u64
         ensures { result ≡ least_key (all_slots self.now) }
     {
@@ -74,7 +74,7 @@ impl<A: Allocator> Group<A> {
         pages::row_at(&self.least, &self.pages, position, key)
     }
 
-    /// How many rows there are in a range at a position.
+    /// Counts the rows in a range at a position.
     pub fn count(&self, position: u32, lo: u64, hi: u64) -> usize
         ensures { result ≡ length (rows_between position lo hi (all_slots self.now)) }
     {
@@ -91,7 +91,7 @@ impl<A: Allocator> Group<A> {
 }
 
 impl<A: Allocator + Copy> Group<A> {
-    /// One without keys. Takes no memory.
+    /// A group without keys. Takes no memory.
     pub fn new(alloc: A) -> Group<A>
         ensures { result ≡ [] }
     {
@@ -129,12 +129,12 @@ impl<A: Allocator + Copy> Group<A> {
             → all_slots self.new ≡ all_slots self.old) }
         ensures size { IsGroupSized self.new }
     {
-        edits::reserve(&mut self.least, &mut self.pages, alloc, width, key)
+        group_edits::reserve(&mut self.least, &mut self.pages, alloc, width, key)
     }
 }
 
 impl<A: Allocator> Group<A> {
-    /// One version more of a key.
+    /// Adds one version of a key.
     pub fn push(&mut self, key: u64, position: u32, row: Option<&[u8]>)
         requires room { HasRoomAt (all_slots self.old) key }
         requires width { IfSome row
@@ -142,22 +142,24 @@ impl<A: Allocator> Group<A> {
         ensures pushed { IsChangedAt (IsPushed position (option_copied row.entry)) key (all_slots self.old)
             (all_slots self.new) }
     {
-        edits::push(&self.least, &mut self.pages, key, position, row);
+        group_edits::push(&self.least, &mut self.pages, key, position, row);
     }
 
-    /// Drops of the page in which a key stands or would stand what no position from the horizon on sees, the keys of
-    /// which nothing is left, and the page itself where it has no keys then. Answers the least key of the page behind.
+    /// Drops, in the page in which a key stands or would stand, the versions that no position from the horizon on sees.
+    /// Keys of which no version is left are dropped too, and the page itself where it has no keys then. Answers the
+    /// least key of the page behind.
     pub fn prune_page(&mut self, key: u64, horizon: u32) -> Option<u64>
         requires { 0 < length self.old }
         ensures { IsPrunedWithin horizon (all_slots self.old) (all_slots self.new) }
     {
-        edits::prune_page(&mut self.least, &mut self.pages, key, horizon)
+        group_edits::prune_page(&mut self.least, &mut self.pages, key, horizon)
     }
 
-    /// Drops what no position from the horizon on sees, the keys of which nothing is left, and the pages without keys.
+    /// Drops the versions that no position from the horizon on sees, the keys of which no version is left, and the
+    /// pages without keys.
     pub fn prune(&mut self, horizon: u32)
         ensures { IsPrunedTo horizon (all_slots self.old) (all_slots self.new) }
     {
-        edits::prune(&mut self.least, &mut self.pages, horizon);
+        group_edits::prune(&mut self.least, &mut self.pages, horizon);
     }
 }

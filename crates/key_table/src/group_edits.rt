@@ -44,7 +44,7 @@ pub fn reserve_at<A: Allocator + Copy>(
     pages[page].reserve_at(alloc, at)
 }
 
-/// One version more at a place of a page.
+/// Adds one version at a place of a page.
 pub fn push_at<A: Allocator>(
     pages: &mut Vec<Page<A>, A>,
     page: usize,
@@ -113,7 +113,7 @@ fn put_in<A: Allocator>(
     pages[page].insert(entry)
 }
 
-/// How many keys a page has.
+/// Returns the number of a page's keys.
 fn keys<A: Allocator>(pages: &[Page<A>], page: usize) -> usize
     requires { page < length pages.now }
     ensures { (p : List Slot) → result ≡ length (slice_index_or pages.now page p) }
@@ -121,7 +121,7 @@ fn keys<A: Allocator>(pages: &[Page<A>], page: usize) -> usize
     pages[page].len()
 }
 
-/// Whether a page begins at a key or before.
+/// Tells whether a page begins at a key or before.
 fn begins_by<A: Allocator>(pages: &[Page<A>], page: usize, key: u64) -> bool
     requires { page < length pages.now }
     ensures { (p : List Slot) → result ≡ begins_by key (slice_index_or pages.now page p) }
@@ -323,7 +323,7 @@ pub fn reserve<A: Allocator + Copy>(
     }
 }
 
-/// One version more of a key.
+/// Adds one version of a key.
 pub fn push<A: Allocator>(
     least: &[u64],
     pages: &mut Vec<Page<A>, A>,
@@ -395,8 +395,8 @@ fn drop_pruned<A: Allocator>(least: &mut Vec<u64, A>, pages: &mut Vec<Page<A>, A
     note_all(least, pages);
 }
 
-/// Prunes the page in which a key stands or would stand, and drops it where it has no keys then. Answers the least key
-/// of the page behind it.
+/// Prunes the page in which a key stands or would stand, and drops the page where it has no keys then. Answers the
+/// least key of the page behind.
 pub fn prune_page<A: Allocator>(
     least: &mut Vec<u64, A>,
     pages: &mut Vec<Page<A>, A>,
@@ -417,7 +417,8 @@ pub fn prune_page<A: Allocator>(
     behind
 }
 
-/// Drops what no position from the horizon on sees, the keys of which nothing is left, and the pages without keys.
+/// Drops the versions that no position from the horizon on sees, the keys of which no version is left, and the pages
+/// without keys.
 pub fn prune<A: Allocator>(least: &mut Vec<u64, A>, pages: &mut Vec<Page<A>, A>, horizon: u32)
     requires { least.old.items ≡ least_keys pages.old.items }
     ensures least { least.new.items ≡ least_keys pages.new.items }

@@ -31,7 +31,7 @@ pub fn row_at<'a, A: Allocator>(
     groups[place_of(least, key)].row_at(position, key)
 }
 
-/// The groups from that of a key on.
+/// The groups from the group of a key on.
 pub fn since<'a, A: Allocator>(least: &[u64], groups: &'a [Group<A>], lo: u64) -> &'a [Group<A>]
     requires least { least.now ≡ least_keys (group_slots groups.now) }
     requires rising { AreRising (all_slots (group_slots groups.now)) }
@@ -49,7 +49,7 @@ pub fn since<'a, A: Allocator>(least: &[u64], groups: &'a [Group<A>], lo: u64) -
     &groups[from..]
 }
 
-/// How many rows there are in a range.
+/// Counts the rows in a range.
 pub fn count<A: Allocator>(groups: &[Group<A>], position: u32, lo: u64, hi: u64) -> usize
     requires rising { AreRising (all_slots (group_slots groups.now)) }
     requires filled { AreFilled GROUP_KEYS (group_slots groups.now) }
@@ -89,7 +89,7 @@ pub fn first<A: Allocator>(
     None
 }
 
-/// How many pages there are.
+/// Returns the number of pages.
 pub fn pages<A: Allocator>(groups: &[Group<A>]) -> usize
     requires { length groups.now ≤ TABLE_GROUPS }
     ensures few { result ≤ length (all_slots (group_slots groups.now)) }

@@ -8,13 +8,13 @@ ghost use Rattle.row_chain.specs.Version.{row_up_to, needed_versions};
 ghost use Rattle.key_table.specs.Pages.{has_slots};
 ghost use Rattle.key_table.specs.Table.{AreRising, ArePrunedOrSame, chain_at, versions_at, HasRoomAt, rows_between};
 
-use crate::{edits, groups};
 use crate::group::Group;
+use crate::{edits, groups};
 use std::alloc::{AllocError, Allocator, Global};
 use std::marker::Model;
 
 /// The keys of one table in order, each with its versions, in groups of pages. The least keys of the groups lie in one
-/// run, and a group has few pages, so that a key more moves little memory however many keys there are.
+/// run, and a group has few pages. One more key moves little memory then, whatever the number of keys.
 #[derive(Drop)]
 pub struct KeyTable<A: Allocator = Global> {
     width: u16,
@@ -37,7 +37,7 @@ impl<A: Allocator> Model for KeyTable<A> {
 }
 
 impl<A: Allocator> KeyTable<A> {
-    /// No keys, for rows of so many bytes. Takes no memory.
+    /// A table without keys, for rows of `width` bytes. Takes no memory.
     pub fn new(alloc: A, width: u16) -> KeyTable<A>
     where
         A: Copy,
@@ -51,7 +51,7 @@ impl<A: Allocator> KeyTable<A> {
         }
     }
 
-    /// Whether it has keys.
+    /// Tells whether the table has keys.
     pub fn has_keys(&self) -> bool
         ensures { result ≡ has_slots self.now.slots }
     {
@@ -59,7 +59,7 @@ impl<A: Allocator> KeyTable<A> {
         !groups.is_empty()
     }
 
-    /// How many pages of 1 to 64 keys it has.
+    /// Returns the number of the table's pages, each of 1 to 64 keys.
     pub fn pages(&self) -> usize
         ensures few { result ≤ length self.now.slots }
         ensures enough { length self.now.slots ≤ PAGE_KEYS * result }
@@ -74,7 +74,7 @@ impl<A: Allocator> KeyTable<A> {
         groups::row_at(&self.least, &self.groups, position, key)
     }
 
-    /// How many rows there are in a range at a position.
+    /// Counts the rows in a range at a position.
     pub fn count(&self, position: u32, lo: u64, hi: u64) -> usize
         ensures count { result ≡ length (rows_between position lo hi self.now.slots) }
         ensures rising { AreRising self.now.slots }
@@ -92,7 +92,7 @@ impl<A: Allocator> KeyTable<A> {
         ensures first { option_map (λ f. (f.0, f.1.now)) result
             ≡ slice_get (rows_between position lo hi self.now.slots) 0 }
         ensures rising { AreRising self.now.slots }
-        // What is known of every table: a greater number than any key has no versions.
+        // A number greater than any key has no versions in any table.
         ensures words { (q : ℕ) → 2 ^ 64 ≤ q → versions_at self.now.slots q ≡ [] }
     {
         groups::first(
@@ -117,7 +117,7 @@ impl<A: Allocator + Copy> KeyTable<A> {
 }
 
 impl<A: Allocator> KeyTable<A> {
-    /// One version more of a key.
+    /// Adds one version of a key.
     pub fn push(&mut self, key: u64, position: u32, row: Option<&[u8]>)
         requires room { HasRoomAt self.old.slots key }
         requires width { IfSome row (λ r. length r.now ≡ self.old.width) }
@@ -130,8 +130,8 @@ impl<A: Allocator> KeyTable<A> {
         edits::push(&self.least, &mut self.groups, key, position, row);
     }
 
-    /// Drops of the page in which a key stands or would stand what no position from the horizon on sees, and the keys
-    /// of which no version is left. Answers the least key of the page behind it.
+    /// Drops, in the page in which a key stands or would stand, the versions that no position from the horizon on sees.
+    /// Keys of which no version is left are dropped too. Answers the least key of the page behind.
     pub fn prune_page(&mut self, key: u64, horizon: u32) -> Option<u64>
         ensures versions { (q : ℕ) → ArePrunedOrSame horizon (versions_at self.old.slots q)
             (versions_at self.new.slots q) }
@@ -143,7 +143,8 @@ impl<A: Allocator> KeyTable<A> {
         edits::prune_page(&mut self.least, &mut self.groups, key, horizon)
     }
 
-    /// Drops from each key the versions that no position from the horizon on sees, and the keys of which none is left.
+    /// Drops from each key the versions that no position from the horizon on sees, and the keys of which no version is
+    /// left.
     pub fn prune(&mut self, horizon: u32)
         ensures versions { (q : ℕ) → versions_at self.new.slots q
             ≡ needed_versions horizon (versions_at self.old.slots q) }

@@ -6,8 +6,9 @@ ghost use Rattle.once_cell.specs.Once.{noted};
 use once_cell::race::Note;
 use std::marker::{Model, PhantomData};
 
-/// What shows that the set-once cell `cell` holds `value` for good. It has no bytes, and threads share it by reference:
-/// a `Note` of `once_cell` says the same, but lets neither be had of it.
+/// A value that shows that the set-once cell `cell` holds `value` for good. A `Known` has no bytes, and threads share a
+/// `Known` by reference. A `Note` of `once_cell` shows the same, but it is reached only by `&mut`, so threads can't
+/// share a `Note`.
 pub struct Known<T> {
     marker: PhantomData<T>,
     pub ghost cell: { ℕ },
@@ -21,7 +22,7 @@ impl<T> Model for Known<T> {
 }
 
 impl<T> Known<T> {
-    /// What a note has seen, which stays with the note.
+    /// Returns what a note has seen. The note keeps that knowledge too.
     pub fn of(note: &mut Note<T>) -> Known<T>
         requires { (x : T) × (note.old.known ≡ Some x) }
         ensures { (note.new ≡ note.old) × (result.cell ≡ note.old.cell) × (note.old.known ≡ Some result.value) }
@@ -32,7 +33,7 @@ impl<T> Known<T> {
         }
     }
 
-    /// The same knowledge once more.
+    /// A second value of the same knowledge.
     pub fn again(&self) -> Known<T>
         ensures { (result.cell ≡ self.now.cell) × (result.value ≡ self.now.value) }
     {
@@ -41,7 +42,7 @@ impl<T> Known<T> {
         }
     }
 
-    /// A cell holds one value, so whoever knows two knows that they are one. Nothing is done at run time.
+    /// A cell holds one value, so two values that are known of one cell are equal. Nothing is done at run time.
     pub fn agrees(&self, other: &Known<T>)
         requires { self.now.cell ≡ other.now.cell }
         ensures { self.now.value ≡ other.now.value }

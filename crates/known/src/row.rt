@@ -9,8 +9,8 @@ use crate::known::Known;
 use once_cell::race::Note;
 use std::marker::{Model, PhantomData};
 
-/// What shows of each cell in a row that it holds its value for good. It has no bytes, however long it is, so that it
-/// can be had again, compared and added to without a loop and without memory.
+/// A value that shows, of each cell in a row, that the cell holds its value for good. A `Row` has no bytes, however
+/// long the row is. A `Row` is therefore copied, compared and extended without a loop and without memory.
 pub struct Row<T> {
     marker: PhantomData<T>,
     pub ghost known: { List (ℕ × T) } by { coded_list (coded× coded_ℕ T.code) },
@@ -37,7 +37,7 @@ impl<T> Row<T> {
         ensures { self.new.known ≡ self.old.known ++ (known.now.cell, known.now.value) ∷ [] }
     {}
 
-    /// The same knowledge once more.
+    /// A second value of the same knowledge.
     pub fn again(&self) -> Row<T>
         ensures { result.known ≡ self.now.known }
     {

@@ -1,6 +1,6 @@
 use log_model::Verdict;
 
-/// What came of a delivery.
+/// The outcome of a delivery.
 #[derive(Clone, Copy, Debug, PartialEq, Eq)]
 pub enum Delivery {
     Delivered(Verdict),
@@ -10,12 +10,12 @@ pub enum Delivery {
     Stopped,
 }
 
-/// What a replica says of an entry.
+/// The answer of a replica about an entry.
 #[derive(Clone, Copy, Debug, PartialEq, Eq)]
 pub enum Found {
     Verdict(Verdict),
-    /// It has stopped before the entry.
+    /// The replica has stopped before the entry.
     Stopped,
-    /// It hasn't come so far yet.
+    /// The replica hasn't come to the entry yet.
     NotYet,
 }

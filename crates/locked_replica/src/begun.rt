@@ -11,8 +11,9 @@ use std::alloc::{Allocator, Global};
 use std::marker::Model;
 use std::sync::Arc;
 
-/// A call that begins: what it has seen of the log, whose rows it reads, and the program of its procedure after that.
-/// Only a replica makes one. Contracts see what it has seen, the procedure's number and the program.
+/// A call that begins: what the call has seen of the log, whose rows the call reads, and the program of its procedure
+/// after that. Only a replica makes such a call. Contracts see what the call has seen, the procedure's number and the
+/// program.
 #[derive(Drop)]
 pub struct BegunCall<J: LogSetting, P: Allocator + Copy = Global> {
     seen: Seen<J, P>,
@@ -52,7 +53,7 @@ impl<J: LogSetting, P: Allocator + Copy> BegunCall<J, P> {
         }
     }
 
-    /// What it has seen of the log.
+    /// Returns what the call has seen of the log.
     pub fn seen(&self) -> &Seen<J, P>
         ensures { result.now ≡ self.now.entries }
     {
@@ -73,7 +74,7 @@ impl<J: LogSetting, P: Allocator + Copy> BegunCall<J, P> {
         &self.accepted
     }
 
-    /// What it has seen are entries of a log, and its program is the one that its procedure's number has after them.
+    /// A call has seen entries of a log, and its program is the procedure's program after these entries.
     pub fn is_of_the_log(&self)
         ensures { IsBegun J.setting self.now }
     {

@@ -5,7 +5,7 @@ use std::marker::{Brand, PhantomData};
 pub trait LogSetting: LogIdentity {
     ghost use Rattle.log_model.specs.Log.{Setting};
 
-    /// Tables, procedures at first, and the window.
+    /// The tables, the procedures at first, and the window.
     ghost setting: { Setting };
 }
 
@@ -16,7 +16,7 @@ impl LogSetting for Brand {
     ghost setting = { record { tables = empty; catalogue = []; window = 0 } };
 }
 
-/// The fact of the entries of a database's log: a call is one, carries its run, and writes what is the schema's; an
+/// The fact of the entries of a database's log. A call's entry has its run, and writes rows of the schema's tables. An
 /// addition has a name and a program that was accepted for the schema.
 #[derive(Drop)]
 pub struct OrderedEntries<J: LogSetting> {

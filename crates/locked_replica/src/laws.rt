@@ -1,4 +1,4 @@
-//! What holds of the entries of a log.
+//! Laws about the entries of a log.
 
 ghost use Rattle.std.specs.Prelude.{◌≡◌, ◌≤◌, List, length};
 ghost use mathlib.Core.List.{IsPrefix};
@@ -10,7 +10,7 @@ ghost use Rattle.replica.specs.Replica.{entries_of};
 use log_model::a_log_only_grows;
 use std::alloc::Allocator;
 
-/// What was seen of a log says of its last position what every longer list of its entries says.
+/// A beginning of a log says of its last position what every longer list of the log's entries says.
 pub(crate) fn beginnings_say_the_same<A: Allocator>()
     ensures rows { (w : Setting) (seen entries : List (LogEntry A)) → IsPrefix seen entries
         → rows_after w (items_of (entries_of entries)) (length seen)
@@ -19,5 +19,6 @@ pub(crate) fn beginnings_say_the_same<A: Allocator>()
         → verdict_of w (items_of (entries_of entries)) (length seen)
         ≡ verdict_of w (items_of (entries_of seen)) (length seen) }
 {
+    // Laws:
     a_log_only_grows();
 }

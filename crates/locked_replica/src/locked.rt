@@ -29,7 +29,7 @@ use std::marker::Model;
 use std::mem;
 use txn_view::Store;
 
-/// 1 for an entry that committed, and 0 for another.
+/// Returns 1 for an entry that committed, and 0 for another.
 fn commits_of_one(verdict: Verdict) -> u32
     ensures one { result ≡ cond (is_commit verdict) 1 0 }
     ensures few { result ≤ 1 }
@@ -41,7 +41,7 @@ fn commits_of_one(verdict: Verdict) -> u32
 }
 
 /// A replica beside what was delivered to it. Contracts see both. Each value of the type stands for what was delivered,
-/// so that it does wherever a lock that guards it is free.
+/// so that the same holds wherever a lock that guards the value is free.
 #[derive(Drop)]
 pub struct LockedReplica<J: LogSetting, A: Allocator + Copy = Global, P: Allocator + Copy = A> {
     replica: Replica<A, P>,
@@ -83,7 +83,7 @@ impl<J: LogSetting, A: Allocator + Copy, P: Allocator + Copy> LockedReplica<J, A
         })
     }
 
-    /// How many entries were delivered.
+    /// Returns the number of entries that were delivered.
     pub fn position(&self) -> u32
         ensures position { result ≡ length self.now.entries }
         ensures few { length self.now.entries ≤ MAX_LOG }
@@ -91,27 +91,28 @@ impl<J: LogSetting, A: Allocator + Copy, P: Allocator + Copy> LockedReplica<J, A
         self.seen.len()
     }
 
-    /// Whether it delivers no more.
+    /// Tells whether the replica delivers no more.
     pub fn stopped(&self) -> bool
         ensures { result ≡ self.now.replica.stopped }
     {
         self.replica.stopped()
     }
 
-    /// What was delivered.
+    /// Returns what was delivered.
     pub fn seen(&self) -> Seen<J, P>
         ensures { result ≡ self.now.entries }
     {
         self.seen.again()
     }
 
-    /// Its procedures, after what was delivered.
+    /// The replica's procedures, after what was delivered.
     pub fn procedures(&self) -> &StoredProcedures<A, P>
         ensures procedures { result.now ≡ self.now.replica.procedures }
         ensures log { stored_procedures result.now
             ≡ procedures_after J.setting (items_of (entries_of self.now.entries)) (length self.now.entries) }
         ensures for_tables { AreForTables J.setting.tables result.now }
     {
+        // Laws:
         replicas_follow_the_log();
         self.replica.procedures()
     }
@@ -124,6 +125,7 @@ impl<J: LogSetting, A: Allocator + Copy, P: Allocator + Copy> LockedReplica<J, A
             return Delivery::Stopped;
         }
         entries_with_facts_are_a_logs::<P>();
+        // Laws:
         tables_take_the_schemas_writes();
         let mut seen = self.seen.again();
         let Some(entry) = log.get(&mut seen) else {
@@ -138,8 +140,8 @@ impl<J: LogSetting, A: Allocator + Copy, P: Allocator + Copy> LockedReplica<J, A
         }
     }
 
-    /// The rows after what a call has seen, whatever was delivered since. They are gone where that is more than the
-    /// window.
+    /// The rows after what a call has seen, whatever was delivered since. The rows are gone where more entries than the
+    /// window were delivered since.
     pub fn at<'a>(&'a self, seen: &Seen<J, P>) -> At<'a, A>
         requires { length seen.now ≤ length self.now.entries }
         ensures answers { ⟦<At<'a, A> as Store>⟧.answers_from result
@@ -148,13 +150,14 @@ impl<J: LogSetting, A: Allocator + Copy, P: Allocator + Copy> LockedReplica<J, A
             ≡ nat_lt J.setting.window (length self.now.entries - length seen.now) }
     {
         beginnings_say_the_same::<P>();
+        // Laws:
         entries_suffice();
         seen.agrees(&self.seen);
         self.replica.at(seen.len())
     }
 
-    /// How a call of a procedure begins here, which may not see less of the log than some least position. It sees what
-    /// was delivered.
+    /// Begins a call of a procedure, unless fewer entries than `least` were delivered. The call sees what was
+    /// delivered.
     pub fn begin(&self, least: u32, procedure: u16, args: &[u8]) -> Result<Begin<J, P>, AllocError>
         ensures { IfOk result (λ begin. Begins J.setting self.now least procedure args.now begin) }
     {
@@ -172,20 +175,21 @@ impl<J: LogSetting, A: Allocator + Copy, P: Allocator + Copy> LockedReplica<J, A
         Ok(Begin::Begun(BegunCall::new(seen, procedure, accepted)))
     }
 
-    /// What became of the entry at a position that was delivered, from 1 on.
+    /// Returns the verdict on the entry at a position that was delivered, from 1 on.
     pub fn verdict_at(&self, position: u32) -> Verdict
         requires { (1 ≤ position) × (position ≤ length self.now.entries) }
         ensures { verdict_of J.setting (items_of (entries_of self.now.entries)) position ≡ Some result }
     {
-        // So that the position is known to be the replica's.
+        // This shows that the position is the replica's.
         let _position = self.position();
         self.replica.verdict_at(position).verdict
     }
 
-    /// How many of the entries that were delivered committed: calls and additions.
+    /// Counts the entries that were delivered and committed: calls and additions.
     pub fn commits(&self) -> u32
         ensures { result ≡ commits_of J.setting (items_of (entries_of self.now.entries)) }
     {
+        // Laws:
         each_call_has_a_verdict();
         let mut commits = 0;
         for before in 0..self.position() {
@@ -194,7 +198,7 @@ impl<J: LogSetting, A: Allocator + Copy, P: Allocator + Copy> LockedReplica<J, A
         commits
     }
 
-    /// What became of the last entry that was seen.
+    /// Returns what became of the last entry that was seen.
     pub fn find(&self, seen: &Seen<J, P>) -> Found
         requires { 1 ≤ length seen.now }
         ensures { Finds J.setting self.now seen.now result }
@@ -211,7 +215,7 @@ impl<J: LogSetting, A: Allocator + Copy, P: Allocator + Copy> LockedReplica<J, A
         }
     }
 
-    /// Exchanges it with one that was made anew, unless that has come less far.
+    /// Exchanges the replica with `fresh`, and returns true, unless `fresh` has come less far.
     pub fn exchange(&mut self, fresh: &mut LockedReplica<J, A, P>) -> bool
         ensures exchanged { IsTrue result → (self.new ≡ fresh.old) × (fresh.new ≡ self.old)
             × (length self.old.entries ≤ length fresh.old.entries) }
@@ -225,7 +229,7 @@ impl<J: LogSetting, A: Allocator + Copy, P: Allocator + Copy> LockedReplica<J, A
         true
     }
 
-    /// The entries are of a log of this setting, the replica's verdicts and procedures are that log's, and so are its
+    /// The entries are of a log of this setting. The replica's verdicts and procedures are that log's, and so are its
     /// rows at each position within the window.
     pub fn keeps_what_was_delivered(&self)
         ensures schema { AreTables J.setting.tables }
@@ -241,6 +245,7 @@ impl<J: LogSetting, A: Allocator + Copy, P: Allocator + Copy> LockedReplica<J, A
         ensures procedures { stored_procedures self.now.replica.procedures
             ≡ procedures_after J.setting (items_of (entries_of self.now.entries)) (length self.now.entries) }
     {
+        // Laws:
         replicas_follow_the_log();
         // A part is looked at, so that it is known how both fit together.
         let _ = &self.replica;

@@ -14,8 +14,8 @@ use log_model::calls_ask_up_to_their_snapshots;
 use replica::one_more_entry;
 use std::alloc::Allocator;
 
-/// An entry that comes with its fact after those of a log is of that log too, and is what a replica asks of one that it
-/// is to take.
+/// An entry that comes with its fact after the entries of a log is of that log too. The entry meets what a replica
+/// requires of entries.
 pub fn entries_with_facts_are_a_logs<A: Allocator + Copy>()
     ensures of_log { (w : Setting) (entries : List (LogEntry A)) (e : LogEntry A) → AreTables w.tables
         → AreEntriesOf w (entries_of entries) → HasFactAfter (IsOrdered w) entries e
@@ -29,6 +29,7 @@ pub fn entries_with_facts_are_a_logs<A: Allocator + Copy>()
     ensures for_tables { (w : Setting) (entries : List (LogEntry A)) (e : LogEntry A)
         → HasFactAfter (IsOrdered w) entries e → IsForTables w.tables e }
 {
+    // Laws:
     accepted_procedures_are_safe();
     calls_ask_up_to_their_snapshots();
     one_more_entry();

@@ -1,5 +1,5 @@
 -- The fields of entries' bytes.
-use Rattle.std.proofs.Common.{◌≡◌, ℕ, ◌+◌, ◌<◌, ◌≤◌, ◌^◌, ◌%◌, ◌==◌, nat_le, nat_eq, Bool, true, false, ◌&&◌, if◌then◌else◌, List, [], ◌∷◌, ◌++◌, length, take, drop, Option, Some, None, refl, sym, ◌∙◌, ap, arith}
+use Rattle.std.proofs.Common.{◌≡◌, ℕ, ◌+◌, ◌<◌, ◌≤◌, ◌^◌, ◌%◌, ◌==◌, nat_le, nat_eq, Bool, true, false, not, ◌&&◌, ◌||◌, if◌then◌else◌, List, [], ◌∷◌, ◌++◌, length, take, drop, Option, Some, None, refl, sym, ◌∙◌, ap, arith}
 use Rattle.std.proofs.lemmas.Bool.Decides.{nat_tests}
 use Rattle.std.proofs.lemmas.List.{append_assoc, append-nil, length-append}
 use Rattle.std.proofs.Math.Seq.{drop-append-add, take-append_seam}
@@ -8,9 +8,10 @@ use Rattle.byteorder.specs.Numbers.{length-bytes_low_first, little_number-reads_
 use Rattle.bpf_bytes.specs.Spelling.{spelling}
 use Rattle.log_model.specs.declared.request.RequestId.{RequestId}
 use Rattle.log_model.specs.Log.{Call, StoredProcedure}
+use Rattle.log_model.specs.OpenRequest.{given_request, has_zero}
 use Rattle.log_model.specs.Entries.{ExecutedCall, CallEntry, AdditionEntry}
-use Rattle.log_entry.specs.Bytes.{entry_bytes, executed_bytes, head_bytes, looks_bytes, writes_bytes}
-use Rattle.log_entry.specs.Head.{Head, CallHead, AdditionHead, part, field, is_whole, request_of, call_of, call_head, procedure_of, addition_head, head_of}
+use Rattle.log_entry.specs.Bytes.{entry_bytes, session_of, sequence_of, executed_bytes, head_bytes, looks_bytes, writes_bytes}
+use Rattle.log_entry.specs.Head.{Head, CallHead, AdditionHead, part, field, request_of, call_of, call_head, procedure_of, addition_head, head_of}
 use Rattle.log_entry.specs.Fit.{CallFitsFields, AdditionFitsFields, named_procedure}
 
 -- what stands in front, and behind
@@ -56,17 +57,28 @@ six a b c d e f t =
 
 -- ---- a call
 
+given : (r : RequestId) → nat_eq r.session 0 ≡ false → given_request r.session r.sequence ≡ Some r
+given r e = ap (λ (b : Bool). if b && r.sequence == 0 then None else Some r) e
+
+given_back : (r : Option RequestId) → has_zero r ≡ false → given_request (session_of r) (sequence_of r) ≡ r
+given_back None whole = refl
+given_back (Some r) whole = given r (by (nat_eq r.session 0) refl)
+  where
+    by : (b : Bool) → nat_eq r.session 0 ≡ b → b ≡ false
+    by false e = refl
+    by true e = absurd (let bad : true ≡ false = sym (ap (λ (c : Bool). c || nat_eq r.sequence 0) e) ∙ whole in cc)
+
 abbrev call_fields : Call → ℕ → List ℕ → List ℕ
 call_fields call reply rest =
-    little_bytes 4 call.request.session ++ (little_bytes 4 call.request.sequence ++ (little_bytes 4 call.number ++ (little_bytes 2 call.procedure
+    little_bytes 4 (session_of call.request) ++ (little_bytes 4 (sequence_of call.request) ++ (little_bytes 4 call.number ++ (little_bytes 2 call.procedure
     ++ (little_bytes 2 (length call.args % 2 ^ 16) ++ (call.args ++ (little_bytes 4 call.snapshot ++ (little_bytes 8 reply ++ rest)))))))
 
 entry_fields : (e : ExecutedCall) → entry_bytes (CallEntry e) ≡ 1 ∷ call_fields e.call e.reply (looks_bytes e.looks ++ writes_bytes e.writes)
 entry_fields e =
     let rest = looks_bytes e.looks ++ writes_bytes e.writes in
     ap (λ (l : List ℕ). 1 ∷ l) (
-    append_assoc (little_bytes 4 e.call.request.session) (little_bytes 4 e.call.request.sequence) (executed_bytes e)
-    ∙ ap (λ l. little_bytes 4 e.call.request.session ++ (little_bytes 4 e.call.request.sequence ++ l)) (
+    append_assoc (little_bytes 4 (session_of e.call.request)) (little_bytes 4 (sequence_of e.call.request)) (executed_bytes e)
+    ∙ ap (λ l. little_bytes 4 (session_of e.call.request) ++ (little_bytes 4 (sequence_of e.call.request) ++ l)) (
     append_assoc (head_bytes e) (looks_bytes e.looks) (writes_bytes e.writes)
     ∙ six (little_bytes 4 e.call.number) (little_bytes 2 e.call.procedure) (little_bytes 2 (length e.call.args % 2 ^ 16)) e.call.args (little_bytes 4 e.call.snapshot) (little_bytes 8 e.reply) rest))
 
@@ -74,8 +86,8 @@ pub call_is_named : (e : ExecutedCall) → CallFitsFields e → head_of (entry_b
 unfolding head_of
 call_is_named e fits =
     ap head_of (entry_fields e) ∙ ap (λ n. call_head n fields) args_len
-    ∙ chosen (nat_le (28 + n) (length fields) && is_whole (request_of fields)) (Some (CallHead (call_of n fields) (field (20 + n) 8 fields))) None
-    (both _ _ (at_most (28 + n) (length fields) (omega (arith, long))) (ap is_whole request ∙ fits.whole))
+    ∙ chosen (nat_le (28 + n) (length fields) && not (has_zero (request_of fields))) (Some (CallHead (call_of n fields) (field (20 + n) 8 fields))) None
+    (both _ _ (at_most (28 + n) (length fields) (omega (arith, long))) (ap (λ (r : Option RequestId). not (has_zero r)) request ∙ ap not fits.whole))
     ∙ (λ i. Some (CallHead (call i) (reply i)))
   where
     n : ℕ
@@ -106,12 +118,12 @@ call_is_named e fits =
     behind_request = little_bytes 4 e.call.number ++ behind_number
 
     behind_session : List ℕ
-    behind_session = little_bytes 4 e.call.request.sequence ++ behind_request
+    behind_session = little_bytes 4 (sequence_of e.call.request) ++ behind_request
 
     past_request : (from other count : ℕ) → from ≡ 8 + other → part from count fields ≡ part other count behind_request
     past_request from other count at =
-        part_past 4 e.call.request.session behind_session from (4 + other) count (omega (arith, at))
-        ∙ part_past 4 e.call.request.sequence behind_request (4 + other) other count refl
+        part_past 4 (session_of e.call.request) behind_session from (4 + other) count (omega (arith, at))
+        ∙ part_past 4 (sequence_of e.call.request) behind_request (4 + other) other count refl
 
     past_number : (from other count : ℕ) → from ≡ 12 + other → part from count fields ≡ part other count behind_number
     past_number from other count at = past_request from (4 + other) count (omega (arith, at)) ∙ part_past 4 e.call.number behind_number (4 + other) other count refl
@@ -131,11 +143,14 @@ call_is_named e fits =
     args_len : field 14 2 fields ≡ n
     args_len = ap (little_number 2) (past_procedure 14 0 2 refl) ∙ field_first 2 (n % 2 ^ 16) behind_length (omega arith) ∙ small
 
+    session : field 0 4 fields ≡ session_of e.call.request
+    session = field_first 4 (session_of e.call.request) behind_session fits.session
+
+    sequence : field 4 4 fields ≡ sequence_of e.call.request
+    sequence = field_past 4 (session_of e.call.request) behind_session 4 0 4 refl ∙ field_first 4 (sequence_of e.call.request) behind_request fits.sequence
+
     request : request_of fields ≡ e.call.request
-    request = λ i. record {
-      session = field_first 4 e.call.request.session behind_session fits.session i;
-      sequence = (field_past 4 e.call.request.session behind_session 4 0 4 refl ∙ field_first 4 e.call.request.sequence behind_request fits.sequence) i;
-    }
+    request = (λ i. given_request (session i) (sequence i)) ∙ given_back e.call.request fits.whole
 
     call : call_of n fields ≡ e.call
     call = λ i. record {
@@ -154,8 +169,8 @@ call_is_named e fits =
     long : length fields ≡ 28 + n + length rest
     long = omega (
       arith,
-      of_number 4 e.call.request.session behind_session,
-      of_number 4 e.call.request.sequence behind_request,
+      of_number 4 (session_of e.call.request) behind_session,
+      of_number 4 (sequence_of e.call.request) behind_request,
       of_number 4 e.call.number behind_number,
       of_number 2 e.call.procedure behind_procedure,
       of_number 2 (n % 2 ^ 16) behind_length,

@@ -40,8 +40,17 @@ write_bytes write = write.0.0 ∷ little_bytes 8 write.0.1 ++ row_bytes write.1
 abbrev pub writes_bytes : Writes → List ℕ
 writes_bytes writes = count_bytes (len writes) ++ concat (map write_bytes (entries writes))
 
-abbrev pub request_bytes : RequestId → List ℕ
-request_bytes request = little_bytes 4 request.session ++ little_bytes 4 request.sequence
+-- session and number of a request: 0 and 0 where there is none
+abbrev pub session_of : Option RequestId → ℕ
+session_of None = 0
+session_of (Some request) = request.session
+
+abbrev pub sequence_of : Option RequestId → ℕ
+sequence_of None = 0
+sequence_of (Some request) = request.sequence
+
+abbrev pub request_bytes : Option RequestId → List ℕ
+request_bytes request = little_bytes 4 (session_of request) ++ little_bytes 4 (sequence_of request)
 
 abbrev pub executed_bytes : ExecutedCall → List ℕ
 executed_bytes e = head_bytes e ++ looks_bytes e.looks ++ writes_bytes e.writes

@@ -1,18 +1,20 @@
 -- Entries whose numbers and lengths fit their fields.
-use Rattle.std.specs.Prelude.{◌≡◌, ℕ, ◌<◌, ◌^◌, true, length}
+use Rattle.std.specs.Prelude.{◌≡◌, ℕ, ◌<◌, ◌^◌, false, length}
 use Rattle.bpf_bytes.specs.Spelling.{spelling}
 use Rattle.log_model.specs.Log.{StoredProcedure}
+use Rattle.log_model.specs.OpenRequest.{has_zero}
 use Rattle.log_model.specs.Entries.{ExecutedCall}
-use Rattle.log_entry.specs.Head.{NamedProcedure, is_whole}
+use Rattle.log_entry.specs.Head.{NamedProcedure}
+use Rattle.log_entry.specs.Bytes.{session_of, sequence_of}
 
 pub record CallFitsFields (e : ExecutedCall) : Type 0 where
   pub number : e.call.number < 2 ^ 32
   pub procedure : e.call.procedure < 2 ^ 16
   pub args : length e.call.args < 2 ^ 16
   pub snapshot : e.call.snapshot < 2 ^ 32
-  pub session : e.call.request.session < 2 ^ 32
-  pub sequence : e.call.request.sequence < 2 ^ 32
-  pub whole : is_whole e.call.request ≡ true
+  pub session : session_of e.call.request < 2 ^ 32
+  pub sequence : sequence_of e.call.request < 2 ^ 32
+  pub whole : has_zero e.call.request ≡ false
   pub reply : e.reply < 2 ^ 64
 
 pub record AdditionFitsFields (p : StoredProcedure) : Type 0 where

@@ -4,6 +4,7 @@ use Rattle.std.specs.Prelude.{ℕ, ◌+◌, ◌==◌, nat_le, Bool, not, ◌&&�
 use Rattle.byteorder.specs.Endian.{little_number}
 use Rattle.log_model.specs.declared.request.RequestId.{RequestId}
 use Rattle.log_model.specs.Log.{Call}
+use Rattle.log_model.specs.OpenRequest.{given_request, has_zero}
 
 -- a procedure that is to be added; its bytes may be no program
 pub record NamedProcedure : Type 0 where
@@ -23,12 +24,8 @@ part from count bytes = take count (drop from bytes)
 abbrev pub field : ℕ → ℕ → List ℕ → ℕ
 field from count bytes = little_number count (part from count bytes)
 
--- both of a session and its number, or none of them
-abbrev pub is_whole : RequestId → Bool
-is_whole request = if request.session == 0 then request.sequence == 0 else not (request.sequence == 0)
-
-abbrev pub request_of : List ℕ → RequestId
-request_of fields = record { session = field 0 4 fields; sequence = field 4 4 fields }
+abbrev pub request_of : List ℕ → Option RequestId
+request_of fields = given_request (field 0 4 fields) (field 4 4 fields)
 
 abbrev pub call_of : ℕ → List ℕ → Call
 call_of args_len fields = record {
@@ -39,11 +36,11 @@ call_of args_len fields = record {
   request = request_of fields;
 }
 
--- session 4, sequence 4, number of the call 4, procedure 2, length of the arguments 2 and these, snapshot 4, reply 8. Any
+-- session 4, sequence 4, both 0 or none, number of the call 4, procedure 2, length of the arguments 2 and these, snapshot 4, reply 8. Any
 -- bytes may stand behind it
 abbrev pub call_head : ℕ → List ℕ → Option Head
 call_head args_len fields =
-    if nat_le (28 + args_len) (length fields) && is_whole (request_of fields)
+    if nat_le (28 + args_len) (length fields) && not (has_zero (request_of fields))
     then Some (CallHead (call_of args_len fields) (field (20 + args_len) 8 fields)) else None
 
 abbrev pub procedure_of : ℕ → ℕ → List ℕ → NamedProcedure

@@ -18,7 +18,7 @@ pub struct ExecutedCall<A: Allocator + Copy = Global> {
     pub args: Bytes<A>,
     /// The position whose rows and procedures the call read.
     pub snapshot: u32,
-    pub request: RequestId,
+    pub request: Option<RequestId>,
     pub reads: ReadSet<A>,
     pub writes: WriteSet<A>,
     pub reply: u64,

@@ -1,12 +1,12 @@
-//! What the bytes of an entry name.
+//! The heads of entries, which are what their bytes name.
 
 use log_model::RequestId;
 
 /// A call as the bytes of its entry name it, and the reply that they tell.
 #[derive(Clone, Copy, Debug, PartialEq, Eq)]
 pub struct CallHead<'a> {
-    /// None, 0 and 0, or a whole one.
-    pub request: RequestId,
+    /// The request of the call, absent where its session and its number are both 0.
+    pub request: Option<RequestId>,
     pub number: u32,
     pub procedure: u16,
     pub args: &'a [u8],
@@ -20,11 +20,11 @@ pub struct AdditionHead<'a> {
     pub number: u16,
     pub args_len: u16,
     pub name: &'a [u8],
-    /// They may be no program.
+    /// The bytes of the program, which may be no program.
     pub program: &'a [u8],
 }
 
-/// What the bytes of an entry name.
+/// The head of an entry: what the bytes of the entry name.
 #[derive(Clone, Copy, Debug, PartialEq, Eq)]
 pub enum EntryHead<'a> {
     Call(CallHead<'a>),

@@ -1,4 +1,4 @@
-//! What heads have to do with entries.
+//! The laws of heads and entries.
 
 ghost use Rattle.std.specs.Prelude.{◌≡◌, Some};
 ghost use Rattle.log_model.specs.Log.{StoredProcedure};
@@ -7,7 +7,7 @@ ghost use Rattle.log_entry.specs.Bytes.{entry_bytes};
 ghost use Rattle.log_entry.specs.Head.{head_of, CallHead, AdditionHead};
 ghost use Rattle.log_entry.specs.Fit.{AdditionFitsFields, CallFitsFields, named_procedure};
 
-/// What the bytes of an entry name is the entry's call with its reply, or its procedure.
+/// The head that the bytes of an entry name is the entry's call with its reply, or its procedure.
 pub fn entries_have_their_heads()
     ensures calls { (e : ExecutedCall) → CallFitsFields e
         → head_of (entry_bytes (CallEntry e)) ≡ Some (CallHead e.call e.reply) }

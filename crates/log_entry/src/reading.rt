@@ -1,16 +1,16 @@
 //! Reading heads.
 
 ghost use Rattle.std.specs.Prelude.{◌≡◌, ◌+◌, ◌≤◌, ◌<◌, length, option_map};
-ghost use Rattle.log_entry.specs.Head.{addition_head, call_head, field, head_of, is_whole, part};
+ghost use Rattle.log_entry.specs.Head.{addition_head, call_head, field, head_of, part};
 ghost use Rattle.log_entry.specs.Named.{named};
 
 use crate::head::{AdditionHead, CallHead, EntryHead};
 use byteorder::{ByteOrder, LittleEndian};
-use log_model::RequestId;
+use log_model::{given_request, has_zero};
 
-/// What the bytes of an entry name: the head of a call, behind which any run may be told, or a whole addition. None
-/// where they are neither: where they are too short, an addition is longer than its lengths say, or one alone of a
-/// session and its number is 0. It takes no memory.
+/// Reads what the bytes of an entry name: the head of a call, behind which any run may be told, or a whole addition.
+/// The answer is none where the bytes are neither. They are neither where they are too short, longer than an addition's
+/// lengths say, or where a session or its number alone is 0. Takes no memory.
 #[tactic(auto, unfolding(crate::specs::Head::head_of))]
 pub fn head_of(bytes: &[u8]) -> Option<EntryHead<'_>>
     ensures { option_map named result ≡ head_of bytes.now }
@@ -23,7 +23,7 @@ pub fn head_of(bytes: &[u8]) -> Option<EntryHead<'_>>
     }
 }
 
-/// So many bytes from one on.
+/// The bytes from an index on, `count` of them.
 fn part(bytes: &[u8], from: usize, count: usize) -> &[u8]
     requires { from + count ≤ length bytes.now }
     ensures { result.now ≡ part from count bytes.now }
@@ -31,7 +31,7 @@ fn part(bytes: &[u8], from: usize, count: usize) -> &[u8]
     &bytes[from..from + count]
 }
 
-/// The number in the two bytes from one on.
+/// The number in the two bytes from an index on.
 fn u16_at(bytes: &[u8], from: usize) -> u16
     requires { from + 2 ≤ length bytes.now }
     ensures { result ≡ field from 2 bytes.now }
@@ -39,7 +39,7 @@ fn u16_at(bytes: &[u8], from: usize) -> u16
     LittleEndian::read_u16(part(bytes, from, 2))
 }
 
-/// The number in the four bytes from one on.
+/// The number in the four bytes from an index on.
 fn u32_at(bytes: &[u8], from: usize) -> u32
     requires { from + 4 ≤ length bytes.now }
     ensures { result ≡ field from 4 bytes.now }
@@ -47,19 +47,12 @@ fn u32_at(bytes: &[u8], from: usize) -> u32
     LittleEndian::read_u32(part(bytes, from, 4))
 }
 
-/// The number in the eight bytes from one on.
+/// The number in the eight bytes from an index on.
 fn u64_at(bytes: &[u8], from: usize) -> u64
     requires { from + 8 ≤ length bytes.now }
     ensures { result ≡ field from 8 bytes.now }
 {
     LittleEndian::read_u64(part(bytes, from, 8))
-}
-
-/// Whether it is none, or has both a session and a number.
-fn is_whole(request: RequestId) -> bool
-    ensures { result ≡ is_whole request }
-{
-    (request.session == 0) == (request.sequence == 0)
 }
 
 /// The head of a call, whose fields these begin with.
@@ -70,11 +63,8 @@ fn call_head(fields: &[u8]) -> Option<EntryHead<'_>>
         return None;
     }
     let args_len = usize::from(u16_at(fields, 14));
-    let request = RequestId {
-        session: u32_at(fields, 0),
-        sequence: u32_at(fields, 4),
-    };
-    if fields.len() - 28 < args_len || !is_whole(request) {
+    let request = given_request(u32_at(fields, 0), u32_at(fields, 4));
+    if fields.len() - 28 < args_len || has_zero(request) {
         return None;
     }
     Some(EntryHead::Call(CallHead {

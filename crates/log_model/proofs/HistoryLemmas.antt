@@ -12,7 +12,7 @@ use Rattle.bpf_semantics.specs.Run.{Run}
 use Rattle.bpf_semantics.specs.Agree.{same_on, AreElsewhere, after_each}
 use Rattle.log_model.specs.declared.verdict.Verdict.{Verdict}
 use Rattle.log_model.specs.declared.verdict.Verdict.TheVariants.{Commit, Conflict, Stale, Repeated, Taken}
-use Rattle.log_model.specs.Log.{StoredProcedure, Catalogue, Setting, Call, Item, CallItem, AdditionItem, IsPlaced, by_number, CertifiedItem, verdict_after, no_request, Database, first_database, History, start, database_at, database_now, with_certified, if_commits, run_at, certified_item, database_after_item, with_item}
+use Rattle.log_model.specs.Log.{StoredProcedure, Catalogue, Setting, Call, Item, CallItem, AdditionItem, IsPlaced, by_number, CertifiedItem, verdict_after, Database, first_database, History, start, database_at, database_now, with_certified, if_commits, run_at, certified_item, database_after_item, with_item}
 use Rattle.log_model.proofs.Laid.{installed_writes, rows_laid_on}
 use Rattle.log_model.specs.Fit.{IsSafe, AreSafe, HasSafeProcedures, FitsProcedures}
 use Rattle.log_model.proofs.RunLemmas.{just, same_run, effect_fits}
@@ -153,7 +153,7 @@ safe_after tables ps p safe one Stale = safe
 safe_after tables ps p safe one (Repeated n) = safe
 safe_after tables ps p safe one (Taken n) = safe
 
-empty_left : (rows : Rows) (v : Verdict) → rows ≡ after_each (installed_writes (record { request = no_request; writes = empty; verdict = v } ∷ [])) rows
+empty_left : (rows : Rows) (v : Verdict) → rows ≡ after_each (installed_writes (record { request = None; writes = empty; verdict = v } ∷ [])) rows
 empty_left rows Commit = sym (after_writes-empty rows)
 empty_left rows (Conflict n) = refl
 empty_left rows Stale = refl

@@ -10,7 +10,7 @@ use Rattle.schema.proofs.ShareLemmas.{shared as key_shared, shares as key_shares
 use Rattle.log_model.specs.declared.request.RequestId.{RequestId}
 use Rattle.log_model.specs.declared.verdict.Verdict.{Verdict}
 use Rattle.log_model.specs.declared.verdict.Verdict.TheVariants.{Commit, Conflict, Stale, Repeated, Taken}
-use Rattle.log_model.specs.Log.{Setting, Call, Item, CallItem, AdditionItem, Log, IsLog, no_request, same_request, CertifiedItem, is_commit, conflicts, repeats, first_position, first_repeated, unless_repeated, unless_conflict, verdict_after, certified_addition, history, procedures_after, verdict_of, run_in}
+use Rattle.log_model.specs.Log.{Setting, Call, Item, CallItem, AdditionItem, Log, IsLog, same_request, CertifiedItem, is_commit, conflicts, repeats, first_position, first_repeated, unless_repeated, unless_conflict, verdict_after, certified_addition, history, procedures_after, verdict_of, run_in}
 use Rattle.log_model.specs.Verdicts.{WroteWhatWasRead, IsConflict, IsLeastConflict, IsRepetition, IsNew}
 use Rattle.log_model.proofs.RunLemmas.{just}
 use Rattle.log_model.proofs.CallLemmas.{certified_is, addition_is, count_history}
@@ -117,7 +117,7 @@ both false b e = absurd cc
 -- what stands at a position of what the log came to, by the item there
 data StandsThere (w : Setting) (log : Log) (k : ℕ) (c : CertifiedItem) : Type 0 where
   ByCall : (call : Call) → slice_get log k ≡ just (CallItem call) → (run_in w log call).writes ≡ c.writes → call.request ≡ c.request → StandsThere w log k c
-  ByAddition : empty ≡ c.writes → no_request ≡ c.request → StandsThere w log k c
+  ByAddition : empty ≡ c.writes → None ≡ c.request → StandsThere w log k c
 
 stands_there : (w : Setting) (log : Log) (k : ℕ) (c : CertifiedItem) (item : Item) → IsLog log → slice_get log k ≡ just item → slice_get (history w log).certified k ≡ just c → StandsThere w log k c
 stands_there w log k c (CallItem call) below at here =
@@ -210,12 +210,9 @@ first_of_log w log d call = first_position (conflicts (run_in w log call).looks)
 
 -- ---- what carries the same request
 
-no_zero : (b : Bool) → (b && not b) ≡ true → ⊥
-no_zero true e = cc
-no_zero false e = cc
-
-not_none : (r : RequestId) → same_request r no_request ≡ true → ⊥
-not_none r e = no_zero (nat_eq r.session 0 && nat_eq r.sequence 0) e
+not_none : (r : Option RequestId) → same_request r None ≡ true → ⊥
+not_none None e = cc
+not_none (Some r) e = cc
 
 repetition_by : (w : Setting) (log : Log) (call : Call) (d k : ℕ) (c : CertifiedItem) → k < d → slice_get (history w log).certified k ≡ just c → repeats call.request c ≡ true → StandsThere w log k c → IsRepetition w log call (suc k) (suc d)
 repetition_by w log call d k c lt here test (ByCall first at writes request) =

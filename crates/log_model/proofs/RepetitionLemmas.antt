@@ -1,9 +1,9 @@
 -- No two committed calls carry one request.
-use Rattle.std.proofs.Common.{◌≡◌, ◌≢◌, ◌⊎◌, inl, inr, ◌↔◌, ℕ, suc, ◌-◌, ◌<◌, cond, Bool, true, false, not, ◌&&◌, nat_eq, nat_le, IsTrue, Option, Some, None, slice_get, refl, sym, ap, ◌∙◌, arith}
+use Rattle.std.proofs.Common.{◌≡◌, ◌⊎◌, inl, inr, ◌↔◌, ℕ, suc, ◌-◌, ◌<◌, cond, Bool, true, false, ◌&&◌, nat_eq, nat_le, IsTrue, IsSome, Option, Some, None, slice_get, refl, sym, ap, subst, ◌∙◌, arith}
 use Rattle.std.proofs.lemmas.Bool.Decides.{nat_tests}
 use Rattle.log_model.specs.declared.request.RequestId.{RequestId}
 use Rattle.log_model.specs.declared.verdict.Verdict.TheVariants.{Commit, Stale, Repeated}
-use Rattle.log_model.specs.Log.{Setting, Call, CallItem, Log, IsLog, no_request, same_request, unless_repeated, unless_conflict, verdict_of}
+use Rattle.log_model.specs.Log.{Setting, Call, CallItem, Log, IsLog, same_request, unless_repeated, unless_conflict, verdict_of}
 use Rattle.log_model.specs.Verdicts.{IsRepetition}
 use Rattle.log_model.proofs.RunLemmas.{just}
 use Rattle.log_model.proofs.MeaningLemmas.{first_of_log, verdict_known, repeated_in, first_is_repeated, none_is_new, repeated_of, commit_is}
@@ -22,65 +22,41 @@ is_eq m n e = grind (arith, nat_tests)
 eq_is : (m n : ℕ) → m ≡ n → nat_eq m n ≡ true
 eq_is m n e = grind (arith, nat_tests)
 
-record Same (a b : RequestId) : Type 0 where
-  session : a.session ≡ b.session
-  sequence : a.sequence ≡ b.sequence
-  one : not (nat_eq a.session 0 && nat_eq a.sequence 0) ≡ true
-
-same_is : (a b : RequestId) → same_request a b ≡ true → Same a b
-same_is a b e =
-    let two = both (nat_eq a.session b.session && nat_eq a.sequence b.sequence) (not (nat_eq a.session 0 && nat_eq a.sequence 0)) e in
-    let parts = both (nat_eq a.session b.session) (nat_eq a.sequence b.sequence) two.0 in
-    record { session = is_eq a.session b.session parts.0; sequence = is_eq a.sequence b.sequence parts.1; one = two.1 }
-
-is_same : (a b : RequestId) → Same a b → same_request a b ≡ true
-is_same a b s =
-    and_both (nat_eq a.session b.session && nat_eq a.sequence b.sequence) (not (nat_eq a.session 0 && nat_eq a.sequence 0))
-    (and_both (nat_eq a.session b.session) (nat_eq a.sequence b.sequence) (eq_is a.session b.session s.session) (eq_is a.sequence b.sequence s.sequence)) s.one
-
 equal : (a b : RequestId) → a.session ≡ b.session → a.sequence ≡ b.sequence → a ≡ b
 equal a b e f = ap (λ (n : ℕ). with_numbers n a.sequence) e ∙ ap (λ (n : ℕ). with_numbers b.session n) f
   where
     with_numbers : ℕ → ℕ → RequestId
     with_numbers m n = record { session = m; sequence = n }
 
-abbrev is_none : RequestId → Bool
-is_none a = nat_eq a.session 0 && nat_eq a.sequence 0
+same_is : (a b : RequestId) → same_request (Some a) (Some b) ≡ true → a ≡ b
+same_is a b e =
+    let parts = both (nat_eq a.session b.session) (nat_eq a.sequence b.sequence) e in
+    equal a b (is_eq a.session b.session parts.0) (is_eq a.sequence b.sequence parts.1)
 
-not_none : (a : RequestId) → not (is_none a) ≡ true → a ≢ no_request
-not_none a one e = absurd (let bad = sym one ∙ ap (λ (r : RequestId). not (is_none r)) e in cc)
+same_self : (a : RequestId) → same_request (Some a) (Some a) ≡ true
+same_self a = and_both (nat_eq a.session a.session) (nat_eq a.sequence a.sequence) (eq_is a.session a.session refl) (eq_is a.sequence a.sequence refl)
 
-is_one : (a : RequestId) → a ≢ no_request → not (is_none a) ≡ true
-is_one a other = by (is_none a) refl
-  where
-    by : (b : Bool) → is_none a ≡ b → not b ≡ true
-    by false e = refl
-    by true e =
-        let parts = both (nat_eq a.session 0) (nat_eq a.sequence 0) e in
-        absurd (other (equal a no_request (is_eq a.session 0 parts.0) (is_eq a.sequence 0 parts.1)))
+same_given : (a b : Option RequestId) → same_request a b ≡ true → (a ≡ b) × IsSome a
+same_given None b e = absurd cc
+same_given (Some a) None e = absurd cc
+same_given (Some a) (Some b) e = (ap just (same_is a b e), refl)
 
-pub same_in_words : (a b : RequestId) → IsTrue (same_request a b) ↔ ((a ≡ b) × (a ≢ no_request))
-same_in_words a b = (
-  λ e. let s = same_is a b e in (equal a b s.session s.sequence, not_none a s.one),
-  λ h. is_same a b (record { session = ap (λ (r : RequestId). r.session) h.0; sequence = ap (λ (r : RequestId). r.sequence) h.0; one = is_one a h.1 }),
-)
+given_same : (a b : Option RequestId) → a ≡ b → IsSome a → same_request a b ≡ true
+given_same None b e some = absurd cc
+given_same (Some a) b e some = ap (same_request (Some a)) (sym e) ∙ same_self a
 
-turned : (a b : RequestId) → same_request a b ≡ true → same_request b a ≡ true
-turned a b e =
-    let s = same_is a b e in
-    is_same b a (record {
-      session = sym s.session;
-      sequence = sym s.sequence;
-      one = sym (ap (λ (m : ℕ). not (nat_eq m 0 && nat_eq a.sequence 0)) s.session ∙ ap (λ (n : ℕ). not (nat_eq b.session 0 && nat_eq n 0)) s.sequence) ∙ s.one;
-    })
+pub same_in_words : (a b : Option RequestId) → IsTrue (same_request a b) ↔ ((a ≡ b) × IsSome a)
+same_in_words a b = (same_given a b, λ h. given_same a b h.0 h.1)
+
+turned : (a b : Option RequestId) → same_request a b ≡ true → same_request b a ≡ true
+turned a b e = let s = same_given a b e in given_same b a (sym s.0) (subst IsSome s.0 s.1)
 
 -- of two that are the same as a third
-meet : (a b c : RequestId) → same_request a b ≡ true → same_request a c ≡ true → same_request b c ≡ true
+meet : (a b c : Option RequestId) → same_request a b ≡ true → same_request a c ≡ true → same_request b c ≡ true
 meet a b c e f =
-    let s = same_is a b e in
-    let t = same_is a c f in
-    let back = same_is b a (turned a b e) in
-    is_same b c (record { session = sym s.session ∙ t.session; sequence = sym s.sequence ∙ t.sequence; one = back.one })
+    let s = same_given a b e in
+    let t = same_given a c f in
+    given_same b c (sym s.0 ∙ t.0) (subst IsSome s.0 s.1)
 
 -- the later one would repeat the earlier
 earlier : (w : Setting) (log : Log) (d e : ℕ) (a b : Call) → IsLog log → slice_get log d ≡ just (CallItem a) → slice_get log e ≡ just (CallItem b) → verdict_of w log (suc d) ≡ just Commit → verdict_of w log (suc e) ≡ just Commit → same_request b.request a.request ≡ true → d < e → ⊥

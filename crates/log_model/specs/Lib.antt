@@ -6,3 +6,4 @@ pub mod Entries
 pub mod InstalledWrites
 pub mod OpenCall
 pub mod OpenRequest
+pub mod Codes

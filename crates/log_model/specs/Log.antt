@@ -1,7 +1,7 @@
 -- The log: calls and additions of procedures in one total order. What becomes of each, and the database after each position
 -- (Pedone, Guerraoui and Schiper 2003: each site certifies the calls in that order by one deterministic test; the test
 -- itself, the window, the snapshots, the additions and the requests are this product's own).
-use Rattle.std.specs.Prelude.{ℕ, zero, suc, ◌+◌, ◌-◌, ◌≤◌, ◌==◌, nat_le, Bool, true, false, not, is_some, ◌&&◌, if◌then◌else◌, List, [], ◌∷◌, ◌++◌, length, drop, find, slice_get, slice_index_or, Option, Some, None}
+use Rattle.std.specs.Prelude.{ℕ, zero, suc, ◌+◌, ◌-◌, ◌≤◌, ◌==◌, nat_le, Bool, true, false, is_some, ◌&&◌, if◌then◌else◌, List, [], ◌∷◌, ◌++◌, length, drop, find, slice_get, slice_index_or, Option, Some, None}
 use Rattle.std.specs.Option.{option_map}
 use Rattle.std.specs.List.{fold}
 use Rattle.std.specs.FinMap.{empty}
@@ -46,14 +46,13 @@ pub record Call : Type 0 where
   pub procedure : ℕ  -- its number
   pub args : List ℕ
   pub snapshot : ℕ  -- the position whose rows and procedures it read
-  pub request : RequestId
+  pub request : Option RequestId  -- where it carries one
 
-abbrev pub no_request : RequestId
-no_request = record { session = 0; sequence = 0 }
-
--- it is the same, and one
-abbrev pub same_request : RequestId → RequestId → Bool
-same_request a b = (a.session == b.session && a.sequence == b.sequence) && not (a.session == 0 && a.sequence == 0)
+-- both carry one, and it is the same
+abbrev pub same_request : Option RequestId → Option RequestId → Bool
+same_request None b = false
+same_request (Some a) None = false
+same_request (Some a) (Some b) = a.session == b.session && a.sequence == b.sequence
 
 -- what is ordered: a call, or a procedure that is to be added
 pub data Item : Type 0 where
@@ -98,7 +97,7 @@ run_of_call tables procedures call rows = or_idle rows (run_of_procedure tables 
 
 -- an item of the log afterwards: the request that it carried, what it wrote, and its verdict
 pub record CertifiedItem : Type 0 where
-  pub request : RequestId
+  pub request : Option RequestId
   pub writes : Writes
   pub verdict : Verdict
 
@@ -111,7 +110,7 @@ abbrev pub conflicts : List Look → CertifiedItem → Bool
 conflicts looks c = is_commit c.verdict && shares_key looks c.writes
 
 -- it committed, and carried this request
-abbrev pub repeats : RequestId → CertifiedItem → Bool
+abbrev pub repeats : Option RequestId → CertifiedItem → Bool
 repeats request c = is_commit c.verdict && same_request request c.request
 
 -- the least position of one that passes a test; the first has this position
@@ -155,7 +154,7 @@ verdict_on_addition procedures p =
 
 -- it carries no request, and writes nothing
 abbrev pub certified_addition : Catalogue → StoredProcedure → CertifiedItem
-certified_addition procedures p = record { request = no_request; writes = empty; verdict = verdict_on_addition procedures p }
+certified_addition procedures p = record { request = None; writes = empty; verdict = verdict_on_addition procedures p }
 
 -- ---- the recursion on the log
 

@@ -1,13 +1,12 @@
--- The request that a call is begun with, or none.
-use Rattle.std.specs.Prelude.{◌==◌, ◌||◌, Bool, false, Option, Some, None}
+-- The request of a call, or none.
+use Rattle.std.specs.Prelude.{ℕ, ◌==◌, ◌&&◌, ◌||◌, Bool, false, if◌then◌else◌, Option, Some, None}
 use Rattle.log_model.specs.declared.request.RequestId.{RequestId}
-use Rattle.log_model.specs.Log.{no_request}
 
--- a call that is begun without a request carries none
-abbrev pub or_none : Option RequestId → RequestId
-or_none None = no_request
-or_none (Some request) = request
+-- that of two numbers, a session and a number of it: 0 and 0 is none
+abbrev pub given_request : ℕ → ℕ → Option RequestId
+given_request session sequence = if session == 0 && sequence == 0 then None else Some (record { session = session; sequence = sequence })
 
+-- half of one
 abbrev pub has_zero : Option RequestId → Bool
 has_zero None = false
 has_zero (Some request) = request.session == 0 || request.sequence == 0

@@ -1,4 +1,4 @@
-//! Laws of calls: which request one carries, and what its next instruction does.
+//! Laws of open calls: which requests have a 0, and what the next instruction does.
 
 ghost use Rattle.std.specs.Prelude.{◌≡◌, ◌≢◌, ◌⊎◌, ◌↔◌, ◌+◌, ◌++◌, ◌∷◌, [], ℕ, ℤ, false, Option, Some, None, IsTrue};
 ghost use Rattle.bpf_code.specs.declared.instruction.Instruction.TheVariants.{Call as CallInstruction};
@@ -10,23 +10,21 @@ ghost use Rattle.schema.specs.Helper.{helper_of};
 ghost use Rattle.bpf_semantics.specs.State.{State};
 ghost use Rattle.bpf_semantics.specs.Step.{Going, Ended, Stuck};
 ghost use Rattle.log_model.specs.declared.request.RequestId.{RequestId};
-ghost use Rattle.log_model.specs.Log.{StoredProcedure, Setting, Log, no_request, moment_at};
+ghost use Rattle.log_model.specs.Log.{StoredProcedure, Setting, Log, moment_at};
 ghost use Rattle.log_model.specs.Fit.{IsCall};
 ghost use Rattle.log_model.specs.OpenCall.{OpenCall, makes_look, at_row_helper};
-ghost use Rattle.log_model.specs.OpenRequest.{or_none, has_zero};
+ghost use Rattle.log_model.specs.OpenRequest.{has_zero};
 
-/// A call carries the request that it is begun with, and where it is begun without one that which stands for none. A
-/// request has a 0 where its session or its sequence number is 0.
-pub fn calls_carry_their_requests()
-    ensures carried { (request : RequestId) → or_none (Some request) ≡ request }
-    ensures none { or_none None ≡ no_request }
+/// A request has a 0 where its session or its sequence number is 0.
+pub fn requests_may_have_a_zero()
     ensures zero { (request : RequestId)
         → IsTrue (has_zero (Some request)) ↔ ((request.session ≡ 0) ⊎ (request.sequence ≡ 0)) }
     ensures without { has_zero None ≡ false }
 {}
 
-/// The next instruction of a call that isn't stuck looks exactly where its run goes on over it with one look more, so
-/// never at its end; and it calls a helper that reads or writes rows exactly where it calls one that isn't the cancel.
+/// The next instruction of a call that isn't stuck looks exactly where the run goes on behind it with one more look, so
+/// never at the end. The instruction calls a helper that reads or writes rows exactly where it calls a helper other
+/// than the cancel.
 pub fn what_the_next_instruction_does()
     ensures look { (w : Setting) (log : Log) (o : OpenCall)
         → IsCall w log o.call → moment_at w log o.call (o.turns + 1) ≢ Stuck

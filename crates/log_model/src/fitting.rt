@@ -10,8 +10,8 @@ ghost use Rattle.log_model.specs.Log.{run_in, run_on, verdict_of};
 ghost use Rattle.log_model.specs.Fit.{AllFitLog, AreItems, FitsLog, HasSafeProcedures};
 ghost use Rattle.log_model.specs.Entries.{installed_from};
 
-/// What is known of the rows and the runs of a log whose items are calls of its procedures is known too where calls fit
-/// these alone, so that there may be calls of no procedure.
+/// The laws of rows and runs, for a log whose items are calls of its procedures, hold also where calls fit the
+/// procedures alone. Such a log may have calls of no procedure.
 pub fn logs_whose_calls_fit()
     ensures items { (w : Setting) (log : Log) → AreItems w log → AllFitLog w log }
     ensures one_more { (w : Setting) (log : Log) (item : Item) → IsLog log → AllFitLog w log

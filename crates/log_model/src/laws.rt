@@ -11,7 +11,7 @@ ghost use Rattle.log_model.specs.declared.verdict.Verdict.TheVariants.{Commit, C
 ghost use Rattle.log_model.specs.declared.verdict.Identifier.TheVariants.{Name, Number};
 ghost use Rattle.log_model.specs.declared.verdict.Verdict.{Verdict};
 ghost use Rattle.log_model.specs.Log.{StoredProcedure, CertifiedItem, Setting, Call, CallItem, AdditionItem, Log};
-ghost use Rattle.log_model.specs.Log.{IsPlaced, IsLog, no_request, same_request, by_number, by_name, if_commits};
+ghost use Rattle.log_model.specs.Log.{IsPlaced, IsLog, same_request, by_number, by_name, if_commits};
 ghost use Rattle.log_model.specs.Log.{history, rows_after, procedures_after, verdict_of, moment_at};
 ghost use Rattle.log_model.specs.declared.request.RequestId.{RequestId};
 ghost use Rattle.log_model.specs.Fit.{AreSafe, HasSafeProcedures, IsCall, AreItems};
@@ -32,9 +32,10 @@ pub fn procedures_after_each_item()
         ≡ if_commits v (procedures_after w log d ++ p ∷ []) (procedures_after w log d) }
 {}
 
-/// A verdict on a call in words of the log: repeated where an earlier committed call carries the same request, however
-/// long ago; else stale where more items than the window came since the snapshot; else in conflict with the least since
-/// then that committed and wrote a key that the call looked at; and where there is none, the call commits.
+/// A verdict on a call, in words of the log, is repeated where an earlier committed call carries the same request,
+/// however long ago. Else it is stale where more items than the window came since the snapshot. Else it is a conflict
+/// with the least item since then that committed and wrote a key that the call looked at. Where there is no such item,
+/// the call commits.
 pub fn verdicts_in_words_of_the_log()
     ensures repeated { (w : Setting) (log : Log) (d : ℕ) (call : Call) (position : ℕ)
         → IsLog log → slice_get log d ≡ Some (CallItem call)
@@ -53,9 +54,9 @@ pub fn verdicts_in_words_of_the_log()
         × ((position : ℕ) → IsConflict w log call position (suc d) → ⊥)) }
 {}
 
-/// Two requests are the same where they are equal and aren't the one that stands for none.
+/// Two calls carry the same request where both carry a request and the two are equal.
 pub fn requests_are_the_same_where_they_are_equal()
-    ensures { (a b : RequestId) → IsTrue (same_request a b) ↔ ((a ≡ b) × (a ≢ no_request)) }
+    ensures { (a b : Option RequestId) → IsTrue (same_request a b) ↔ ((a ≡ b) × IsSome a) }
 {}
 
 /// No two committed calls carry one request.
@@ -66,8 +67,8 @@ pub fn each_request_commits_once()
         → IsTrue (same_request a.request b.request) → d ≡ e }
 {}
 
-/// A verdict on an addition: its name is taken where one of the procedures before it has it; else its number, where one
-/// has that; and else it commits.
+/// A verdict on an addition: its name is taken where one of the procedures before it has the name. Else its number is
+/// taken where one of them has the number; else the addition commits.
 pub fn verdicts_on_additions_in_words_of_the_log()
     ensures name { (w : Setting) (log : Log) (d : ℕ) (p : StoredProcedure)
         → IsLog log → slice_get log d ≡ Some (AdditionItem p)
@@ -84,7 +85,7 @@ pub fn verdicts_on_additions_in_words_of_the_log()
         × (by_number (procedures_after w log d) p.number ≡ None)) }
 {}
 
-/// Each position of the log has a verdict, and none beyond its end has.
+/// Each position of the log has a verdict, and no position beyond its end has one.
 pub fn each_call_has_a_verdict()
     ensures within { (w : Setting) (log : Log) (d : ℕ) → d < length log → IsSome (verdict_of w log (suc d)) }
     ensures beyond { (w : Setting) (log : Log) (d : ℕ) → length log ≤ d → verdict_of w log (suc d) ≡ None }
@@ -123,8 +124,9 @@ pub fn procedures_stay_safe()
         → AreSafe w.tables (procedures_after w log position) }
 {}
 
-/// Where each entry that is a call carries its run's looks and writes, the verdicts and procedures by these alone are
-/// the log's, and the rows after each position are the write sets of those that commit, laid on in order.
+/// Entries suffice, where each entry that is a call carries its run's looks and writes. The verdicts and procedures by
+/// the entries alone are the log's. The rows after each position are the write sets of the calls that commit, laid on
+/// in order.
 pub fn entries_suffice()
     ensures verdicts { (w : Setting) (entries : List Entry)
         → IsLog (items_of entries) → CarryRuns w entries
@@ -140,8 +142,8 @@ pub fn entries_suffice()
         ≡ rows_after w (items_of entries) position }
 {}
 
-/// What a call asks of the log it asks of the items up to its snapshot alone: that it is one, and that an entry carries
-/// its run.
+/// The items up to a call's snapshot alone decide whether it is a call of the log, and whether an entry carries its
+/// run.
 pub fn calls_ask_up_to_their_snapshots()
     ensures is_call { (w : Setting) (log more : Log) (call : Call) → call.snapshot ≤ length log
         → (IsCall w (log ++ more) call ↔ IsCall w log call) }
@@ -157,15 +159,15 @@ pub fn procedures_are_never_lost()
         → by_number (procedures_after w log later) number ≡ Some p }
 {}
 
-/// Entries that carry their runs do so too after one more that does, or that is an addition.
+/// Entries that carry their runs still do after one more entry that carries its run or is an addition.
 pub fn one_more_entry_carries_its_run()
     ensures { (w : Setting) (entries : List Entry) (e : Entry)
         → IsLog (items_of entries) → CarryRuns w entries → IsPlaced (length entries) (item_of e)
         → IsCarried w (items_of entries) e → CarryRuns w (entries ++ e ∷ []) }
 {}
 
-/// At each position the map has the write sets that were installed up to it: one more changes it from its own
-/// position on, and not below.
+/// The map at each position has the write sets that were installed up to that position. One more write set changes the
+/// map from its own position on, and not below.
 pub fn map_after_each_write_set()
     ensures none { (position : ℕ) → map_after [] position ≡ empty }
     ensures later { (installed : List InstalledWrites) (next : InstalledWrites) (position : ℕ)

@@ -2,22 +2,20 @@
 //! each position. Definitions, and laws about them.
 #![tactic(auto)]
 
-pub use call_laws::{calls_carry_their_requests, what_the_next_instruction_does};
+pub use call_laws::{requests_may_have_a_zero, what_the_next_instruction_does};
 pub use fitting::logs_whose_calls_fit;
 pub use laws::{
-    a_log_only_grows, calls_ask_up_to_their_snapshots,
-    each_call_has_a_verdict, map_after_each_write_set, each_request_commits_once, entries_suffice,
+    a_log_only_grows, calls_ask_up_to_their_snapshots, each_call_has_a_verdict,
+    each_request_commits_once, entries_suffice, map_after_each_write_set,
     one_more_entry_carries_its_run, procedures_after_each_item, procedures_are_never_lost,
     procedures_stay_safe, requests_are_the_same_where_they_are_equal, rows_are_installed_writes,
     rows_fit_the_schema, verdicts_in_words_of_the_log, verdicts_on_additions_in_words_of_the_log,
 };
-pub use open_request::{has_zero, or_none};
-pub use request::RequestId;
+pub use request::{RequestId, given_request, has_zero};
 pub use verdict::{Identifier, Verdict};
 
 mod call_laws;
 mod fitting;
 mod laws;
-mod open_request;
 mod request;
 mod verdict;

@@ -20,13 +20,13 @@ const TABLES: [(u8, u16); 2] = [(1, 8), (2, 2)];
 /// A turn that no call comes to: its store stays.
 const NEVER: u32 = u32::MAX;
 
-/// Asserts that a value is the one that is wanted. It stands in a function of its own, since a proof of many
+/// Asserts that a value is the one that is wanted. The assertion stands in a function of its own, since a proof of many
 /// comparisons in one function beside values to be dropped takes long.
 fn same<T: PartialEq + Debug + Copy>(rt: &impl Abort, case: &str, found: T, wanted: T) {
     assert_eq!(rt; found, wanted, "{case}");
 }
 
-/// A procedure that the verifier accepts, on arguments of so many bytes.
+/// A procedure that the verifier accepts, on arguments of `args_len` bytes.
 fn accepted(rt: &impl Abort, alloc: Global, program: &[u8], args_len: usize) -> Accepted {
     let code = decode(alloc, program).expect(rt, "the program");
     let schema = Schema::new(alloc, &TABLES).expect(rt, "the schema");
@@ -57,7 +57,7 @@ fn procedure_of(
     (procedure, args)
 }
 
-/// A row from table, key and value: 2 bytes of it in table 2, and 8 in table 1.
+/// A row from table, key and value. The value has 2 bytes in table 2, and 8 in table 1.
 fn row_of(rt: &impl Abort, alloc: Global, table: u8, key: u64, value: u64) -> Row {
     let width = if table == 2 { 2 } else { 8 };
     let bytes = Vec::from_slice(alloc, value.to_le_bytes().get(..width).unwrap_or(&[]));
@@ -114,7 +114,8 @@ fn described_turn(rt: &impl Abort, alloc: Global, last: Turn, turns: u32) -> Str
     format!(in alloc; "{word} in {turns}").expect(rt, "memory")
 }
 
-/// What a call came to, in a line: its last answer and the turn that gave it, then looks, writes and cancel code.
+/// Returns what a call came to, in a line: its last answer and the turn that gave it, then looks, writes and cancel
+/// code.
 fn described<A: Allocator + Copy>(rt: &impl Abort, alloc: Global, run: SiteRun<A>) -> String {
     let mut text = described_turn(rt, alloc, run.last, run.turns);
     let rows = KeyMap::new(alloc);
@@ -142,7 +143,7 @@ fn append_sets<A: Allocator + Copy>(
     }
 }
 
-/// The same of a call that came to its end, which doesn't say in how many turns.
+/// The line of a call that came to its end, which doesn't say the number of turns.
 fn described_call(rt: &impl Abort, alloc: Global, turns: usize, call: &CompletedCall) -> String {
     let mut text = format!(in alloc; "{} in {turns}", call.reply).expect(rt, "memory");
     append_sets(rt, alloc, &mut text, &call.reads, &call.writes);
@@ -150,7 +151,7 @@ fn described_call(rt: &impl Abort, alloc: Global, turns: usize, call: &Completed
     text
 }
 
-/// The same of a run of the plain runner.
+/// The line of a run of the plain runner.
 fn described_run(rt: &impl Abort, alloc: Global, run: &CompletedRun) -> String {
     let mut text = format!(in alloc; "{} in {}", run.reply(), run.steps()).expect(rt, "memory");
     append_looks(rt, &mut text, run.looks());

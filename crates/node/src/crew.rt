@@ -16,7 +16,7 @@ use std::thread;
 use std::thread::{JoinHandle, Threads};
 use tallies::{Ledgers, Shares};
 
-/// How many requests wait at a replica before a caller does.
+/// The number of requests that wait at a replica before a caller waits.
 const QUEUE: usize = 256;
 
 /// The shares of an executing thread: one part of each ledger.
@@ -27,7 +27,7 @@ pub(crate) struct ThreadShares<J: Ledgers> {
 }
 
 impl<J: LogSetting + Ledgers> ThreadShares<J> {
-    /// What an executing thread does, to its end. Its shares then have what it counted.
+    /// Runs an executing thread to its end. The shares then have what the thread counted.
     fn serve<G: Gate, R: Wait>(
         self,
         rt: &R,
@@ -42,7 +42,7 @@ impl<J: LogSetting + Ledgers> ThreadShares<J> {
     }
 }
 
-/// The threads of a node. Contracts see how many answer calls.
+/// The threads of a node. Contracts see the number of threads that answer calls.
 #[derive(Drop)]
 pub struct Crew<J: LogSetting + Ledgers> {
     alloc: Global,
@@ -62,7 +62,7 @@ impl<J: LogSetting + Ledgers> Model for Crew<J> {
 }
 
 impl<J: LogSetting + Ledgers + Send + Sync + 'static> Crew<J> {
-    /// No threads.
+    /// Makes a crew of no threads.
     pub fn new(alloc: Global) -> Crew<J>
         ensures { result.executors ≡ 0 }
     {
@@ -73,8 +73,8 @@ impl<J: LogSetting + Ledgers + Send + Sync + 'static> Crew<J> {
         }
     }
 
-    /// Starts the threads of the replica of a number: so many that answer calls, and one that delivers. Where their
-    /// requests go. Where one isn't started, those that were stay in the crew.
+    /// Starts the threads of the replica of a number: `executors` that answer calls, and one that delivers. Returns the
+    /// channel for their requests. Where a thread isn't started, the others that were stay in the crew.
     pub fn start_replica<
         G: Gate + Drop + Send + Sync + 'static,
         R: Threads + Wait + Copy + Send + Sync + 'static,
@@ -102,7 +102,7 @@ impl<J: LogSetting + Ledgers + Send + Sync + 'static> Crew<J> {
         Ok(sender)
     }
 
-    /// Starts one that answers calls.
+    /// Starts a thread that answers calls.
     fn start_executor<
         G: Gate + Drop + Send + Sync + 'static,
         R: Threads + Wait + Copy + Send + Sync + 'static,
@@ -143,7 +143,7 @@ impl<J: LogSetting + Ledgers + Send + Sync + 'static> Crew<J> {
         Ok(())
     }
 
-    /// Starts one that delivers.
+    /// Starts a thread that delivers.
     fn start_deliverer<
         G: Gate + Drop + Send + Sync + 'static,
         R: Threads + Wait + Copy + Send + Sync + 'static,
@@ -171,8 +171,8 @@ impl<J: LogSetting + Ledgers + Send + Sync + 'static> Crew<J> {
         Ok(())
     }
 
-    /// Waits until all threads have ended: those that answer calls when nobody sends requests any more, then those that
-    /// deliver, at the end of the log. What was counted is in the shares then.
+    /// Waits until all threads have ended. First the threads that answer calls end, when nobody sends requests any
+    /// more. The threads that deliver end then, at the end of the log. The shares then have what was counted.
     pub fn end<G: Gate, R: Threads + Wait>(
         self,
         rt: &R,

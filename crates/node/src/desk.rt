@@ -1,4 +1,4 @@
-//! What callers share of a node.
+//! The part of a node that callers share.
 
 ghost use Rattle.std.specs.Prelude.{◌≡◌, ◌≤◌, Some, None, IfSome};
 ghost use Rattle.node_calls.specs.Answer.{IsAnswer};
@@ -16,17 +16,17 @@ use std::marker::Model;
 use std::sync::{Arc, Wait};
 use tallies::Ledgers;
 
-/// What is answered, and what was seen of the log then.
+/// The answer, and what was seen of the log then.
 type Answered<J> = (Answer, Option<Seen<J>>);
 
-/// What callers share of a node. Contracts see how many replicas there are.
+/// The part of a node that callers share. Contracts see the number of replicas.
 #[derive(Drop)]
 pub struct Desk<J: LogSetting + Ledgers, G: Gate>
 where
     OrderedEntries<J>: Fact,
 {
     pub(crate) shared: Arc<Shared<J, Global, Global, G>>,
-    /// One for each replica.
+    /// The channels for requests, one for each replica.
     pub(crate) requests: Vec<Sender<Request<J>>>,
     pub(crate) alloc: Global,
 }
@@ -50,14 +50,15 @@ impl<J: LogSetting + Ledgers + Send + Sync + 'static, G: Gate + Drop + Send + Sy
     J,
     G,
 > {
-    /// How many replicas there are; they are numbered from 1.
+    /// Returns the number of replicas, which are numbered from 1.
     pub fn replicas(&self) -> usize
         ensures { result ≡ self.now.replicas }
     {
         self.requests.len()
     }
 
-    /// The answer to a call of a procedure at a replica, which sees at least the log up to a position.
+    /// Executes a call of a procedure at a replica, and returns the answer. The call sees the log at least up to the
+    /// position `least`.
     pub fn execute<R: Wait>(
         &self,
         rt: &R,
@@ -72,8 +73,8 @@ impl<J: LogSetting + Ledgers + Send + Sync + 'static, G: Gate + Drop + Send + Sy
         self.ask(rt, replica, least, procedure, args, None)
     }
 
-    /// That to a call with a request: of the calls that carry one request at most one commits, and each other one that
-    /// is ordered is answered what that one replied.
+    /// Like `execute`, but idempotent: at most one of the calls that share a request id commits. Each of these calls
+    /// that is ordered later gets the committed call's reply.
     pub fn execute_numbered<R: Wait>(
         &self,
         rt: &R,
@@ -118,7 +119,8 @@ impl<J: LogSetting + Ledgers + Send + Sync + 'static, G: Gate + Drop + Send + Sy
         }
     }
 
-    /// What an executing thread replies. None where the request or its reply was lost, as where memory is wanting.
+    /// Returns what an executing thread replies. Returns `None` where the request or its reply was lost, as where
+    /// memory is wanting.
     fn reply_from<R: Wait>(
         &self,
         rt: &R,
@@ -149,7 +151,7 @@ impl<J: LogSetting + Ledgers + Send + Sync + 'static, G: Gate + Drop + Send + Sy
         reply.answer_to(replica, least, procedure, args, request)
     }
 
-    /// An answer that no executing thread gave, which is counted apart.
+    /// Returns an answer that no executing thread gave, and counts it apart.
     fn unserved(&self, answer: Answer) -> Answered<J>
         ensures { (result.0 ≡ answer) × (result.1 ≡ None) }
     {
@@ -157,8 +159,8 @@ impl<J: LogSetting + Ledgers + Send + Sync + 'static, G: Gate + Drop + Send + Sy
         (answer, None)
     }
 
-    /// The verdict on the entry at a position, where there is such a replica and it has come there, and what the
-    /// replica has delivered by now.
+    /// Returns the verdict on the entry at a position, where there is such a replica and it has come there. The second
+    /// value is what the replica has delivered by now.
     pub fn verdict<R: Wait>(
         &self,
         rt: &R,

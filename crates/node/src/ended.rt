@@ -1,4 +1,4 @@
-//! How a node's replicas have ended.
+//! The ends of a node's replicas.
 
 ghost use Rattle.std.specs.Prelude.{◌≡◌, length};
 ghost use Rattle.log_model.specs.Entries.{items_of};
@@ -10,7 +10,7 @@ use locked_replica::{LockedReplica, LogSetting};
 use order_log::{LogIdentity, Seen};
 use std::alloc::{Allocator, Global};
 
-/// How a replica has ended, beside what was delivered to it.
+/// The end of a replica, beside what was delivered to it.
 #[derive(Drop)]
 pub struct EndedReplica<J: LogSetting, P: Allocator + Copy = Global> {
     pub position: u32,
@@ -22,7 +22,7 @@ pub struct EndedReplica<J: LogSetting, P: Allocator + Copy = Global> {
 }
 
 impl<J: LogSetting, P: Allocator + Copy> EndedReplica<J, P> {
-    /// How a replica has ended.
+    /// Returns the end of a replica.
     pub fn of<A: Allocator + Copy>(replica: &LockedReplica<J, A, P>) -> EndedReplica<J, P>
         ensures seen { result.seen ≡ replica.now.entries }
         ensures stopped { result.stopped ≡ replica.now.replica.stopped }
@@ -38,7 +38,7 @@ impl<J: LogSetting, P: Allocator + Copy> EndedReplica<J, P> {
     }
 }
 
-/// Of two beginnings of one log one begins the other. Nothing is done at run time.
+/// The shorter of two beginnings of one log is a prefix of the longer. Nothing is done at run time.
 fn agree_two<J: LogIdentity, P: Allocator + Copy>(one: &Seen<J, P>, other: &Seen<J, P>)
     ensures { OneBegins one.now other.now }
 {
@@ -46,7 +46,7 @@ fn agree_two<J: LogIdentity, P: Allocator + Copy>(one: &Seen<J, P>, other: &Seen
     other.agrees(one);
 }
 
-/// Of what was delivered to two replicas one begins the other.
+/// The shorter of what was delivered to two replicas is a prefix of the longer, for each two of them.
 pub(crate) fn agree_all<J: LogSetting, P: Allocator + Copy, A: Allocator>(
     all: &Vec<EndedReplica<J, P>, A>,
 )

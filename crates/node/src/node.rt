@@ -28,32 +28,32 @@ use std::sync::{Arc, RwLock, Wait};
 use std::thread::Threads;
 use tallies::{Blanks, Counts, Ledgers, Shares, Totals};
 
-/// How a node has ended.
+/// The end of a node.
 #[derive(Drop)]
 pub struct Finish<J: LogSetting + Ledgers, G: Gate>
 where
     OrderedEntries<J>: Fact,
 {
-    /// How many answers of each kind there were.
+    /// The number of answers of each kind.
     pub totals: Counts,
     pub replicas: Vec<EndedReplica<J>>,
-    /// Whether of what was delivered to each two replicas one begins the other.
+    /// True where, for each two replicas, what was delivered to one is a prefix of what was delivered to the other.
     pub agreement: bool,
-    /// All shares, in which the answers were counted.
+    /// The shares, all together, in which the answers were counted.
     pub shares: Shares<J>,
     shared: Arc<Shared<J, Global, Global, G>>,
     ghost all: { vec_len replicas ≡ (arc_value shared).replicas },
 }
 
-/// How a node's replicas have ended.
+/// The ends of a node's replicas.
 #[derive(Drop)]
 pub struct Ended<J: LogSetting> {
     pub replicas: Vec<EndedReplica<J>>,
-    /// Whether of what was delivered to each two replicas one begins the other.
+    /// True where, for each two replicas, what was delivered to one is a prefix of what was delivered to the other.
     pub agreement: bool,
 }
 
-/// A node whose threads run. It has to be ended, by `stop` or `finish`. Contracts see how many replicas there are.
+/// A node whose threads run. A node has to be ended, by `stop` or `finish`. Contracts see the number of replicas.
 pub struct Node<J: LogSetting + Ledgers, G: Gate>
 where
     OrderedEntries<J>: Fact,
@@ -61,7 +61,7 @@ where
     desk: Desk<J, G>,
     crew: Crew<J>,
     shares: Shares<J>,
-    /// Room for how the replicas end.
+    /// Room for the ends of the replicas.
     ended: Vec<EndedReplica<J>>,
 }
 
@@ -114,7 +114,7 @@ impl<J: LogSetting + Ledgers + Send + Sync + 'static, G: Gate + Drop + Send + Sy
         }
     }
 
-    /// As `start_sized`, with a log of 1,048,576 entries.
+    /// Starts a node as `start_sized` does, with a log of at most 1,048,576 entries.
     pub fn start_gated<R: Threads + Wait + Copy + Send + Sync + 'static>(
         rt: &R,
         alloc: Global,
@@ -145,15 +145,15 @@ impl<J: LogSetting + Ledgers + Send + Sync + 'static, G: Gate + Drop + Send + Sy
         Node::start_sized(rt, alloc, cells, blanks, size, catalogue, gate)
     }
 
-    /// What callers share.
+    /// The part of the node that callers share.
     pub fn desk(&self) -> &Desk<J, G>
         ensures { result.now.replicas ≡ self.now.replicas }
     {
         &self.desk
     }
 
-    /// Adds a procedure through the log, where its program is accepted for the node's tables. What was seen of the log
-    /// then, the addition being the last entry, where it was appended.
+    /// Adds a procedure through the log, where its program is accepted for the node's tables. Where the procedure was
+    /// appended, returns what was seen of the log then, with the addition as the last entry.
     pub fn add<R: Wait>(
         &self,
         rt: &R,
@@ -168,7 +168,7 @@ impl<J: LogSetting + Ledgers + Send + Sync + 'static, G: Gate + Drop + Send + Sy
         self.desk.shared.add(rt, name, number, args_len, bytes)
     }
 
-    /// Makes the replica of a number anew from the log. The position that it has then.
+    /// Makes the replica of a number anew from the log, and returns the position that the new one has then.
     pub fn rebuild<R: Wait>(&self, rt: &R, replica: u32) -> Result<u32, RebuildFault>
         ensures none { result ≡ Err NoReplica → IsNoReplica self.now.replicas replica }
         ensures some { IfOk result (λ _. (1 ≤ replica) × (replica ≤ self.now.replicas)) }
@@ -176,7 +176,7 @@ impl<J: LogSetting + Ledgers + Send + Sync + 'static, G: Gate + Drop + Send + Sy
         self.desk.shared.rebuild(rt, replica)
     }
 
-    /// As `finish`, without the sums.
+    /// Ends the threads as `finish` does, and returns no sums.
     pub fn stop<R: Threads + Wait>(self, rt: &R) -> Ended<J>
         ensures replicas { length result.replicas.items ≡ self.replicas }
         ensures agreement { AgreeBy (λ e. e.seen) result.replicas.items }
@@ -189,8 +189,8 @@ impl<J: LogSetting + Ledgers + Send + Sync + 'static, G: Gate + Drop + Send + Sy
         }
     }
 
-    /// Ends the threads when all that was asked is answered and all that was ordered is delivered, or its replica has
-    /// stopped.
+    /// Ends the threads when all that was asked is answered and all that was ordered is delivered. A replica that has
+    /// stopped delivers no more.
     pub fn finish<R: Threads + Wait>(self, rt: &R) -> Finish<J, G>
         ensures totals { result.totals ≡ result.shares.counted }
         ensures shares { result.shares.parts ≡ 129 }
@@ -228,7 +228,7 @@ impl<J: LogSetting + Ledgers + Send + Sync + 'static, G: Gate + Drop + Send + Sy
 }
 
 impl<J: LogSetting + Ledgers + Send + Sync + 'static> Node<J, OpenGate> {
-    /// As `start_gated`, with a gate that is always open.
+    /// Starts a node as `start_gated` does, with a gate that is always open.
     pub fn start<R: Threads + Wait + Copy + Send + Sync + 'static>(
         rt: &R,
         alloc: Global,
@@ -256,7 +256,7 @@ impl<J: LogSetting + Ledgers + Send + Sync + 'static> Node<J, OpenGate> {
 }
 
 impl<J: LogSetting + Ledgers, G: Gate> Finish<J, G> {
-    /// The log, whose entries whoever has seen them can read.
+    /// The log, whose entries everyone who has seen them can read.
     pub fn log(&self) -> &OrderLog<J, OrderedEntries<J>> {
         self.shared.log()
     }
@@ -270,7 +270,7 @@ impl<J: LogSetting + Ledgers, G: Gate> Finish<J, G> {
     }
 }
 
-/// Adds how a replica has ended, by its number, in room that there is.
+/// Adds the end of a replica, by its number, within the room that `ended` has.
 fn push_end<J: LogSetting + Ledgers, G: Gate, R: Wait>(
     rt: &R,
     shared: &Shared<J, Global, Global, G>,
@@ -304,7 +304,7 @@ fn add_all_replicas<J: LogSetting + Ledgers, G: Gate>(
     Ok(())
 }
 
-/// What the threads of a node of this size share.
+/// Makes what the threads of a node of this size share.
 fn shared_of<J: LogSetting + Ledgers, G: Gate + Drop>(
     alloc: Global,
     cells: GroupCells,
@@ -329,7 +329,7 @@ fn shared_of<J: LogSetting + Ledgers, G: Gate + Drop>(
     Ok(Arc::new(alloc, shared)?)
 }
 
-/// Starts the threads of a node. Where one isn't started those that were have ended.
+/// Starts the threads of a node. Where a thread isn't started, the others that were have ended.
 fn start_threads<
     J: LogSetting + Ledgers + Send + Sync + 'static,
     G: Gate + Drop + Send + Sync + 'static,
@@ -378,7 +378,7 @@ fn start_threads<
     }
 }
 
-/// Starts the threads of all replicas. Room for how these end.
+/// Starts the threads of all replicas. Returns room for the ends of the replicas.
 fn start_replicas<
     J: LogSetting + Ledgers + Send + Sync + 'static,
     G: Gate + Drop + Send + Sync + 'static,

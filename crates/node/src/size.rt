@@ -1,16 +1,16 @@
-//! What a node is made of.
+//! The size of a node.
 
 ghost use Rattle.std.specs.Prelude.{◌≤◌, ◌↔◌, IsTrue, OnOk, IfErr};
 ghost use Rattle.node.specs.Size.{IsSize, IsSizeFault, IsWithin};
 
 use schema::{MAX_EXECUTORS, MAX_LOG, MAX_REPLICAS, MAX_WINDOW};
 
-/// Why a node doesn't start.
+/// A cause for which a node doesn't start.
 #[derive(Clone, Copy, Debug, PartialEq, Eq, Drop)]
 pub enum StartFault {
-    /// Not 1 to 8 replicas.
+    /// The number of replicas isn't 1 to 8.
     Replicas,
-    /// Not 1 to 16 executing threads a replica.
+    /// The number of executing threads a replica isn't 1 to 16.
     Executors,
     /// The window isn't 1 to 4,096.
     Window,
@@ -21,20 +21,20 @@ pub enum StartFault {
     Limit,
 }
 
-/// What a node is made of.
+/// The size of a node.
 #[derive(Clone, Copy, Debug, PartialEq, Eq, Drop)]
 pub struct Size {
-    /// 1 to 8.
+    /// The number of replicas: 1 to 8.
     pub replicas: u32,
-    /// Executing threads a replica: 1 to 16.
+    /// The number of executing threads a replica: 1 to 16.
     pub executors: u32,
-    /// How many entries after it a call's snapshot is kept: 1 to 4,096.
+    /// The number of later entries for which a call's snapshot is kept: 1 to 4,096.
     pub window: u32,
     /// The most entries of the log: 1 to 1,048,576.
     pub limit: u32,
 }
 
-/// Whether a number is from 1 to a limit.
+/// Tells whether a number is from 1 to a limit.
 fn is_within(limit: u32, number: u32) -> bool
     ensures { IsTrue result ↔ IsWithin limit number }
 {
@@ -42,7 +42,7 @@ fn is_within(limit: u32, number: u32) -> bool
 }
 
 impl Size {
-    /// Whether a node may be of this size, and else the first cause that it may not.
+    /// Checks whether a node may be of this size. Returns the first cause where it may not.
     pub fn check(&self) -> Result<(), StartFault>
         ensures size { OnOk result (IsSize self.now) }
         ensures fault { IfErr result (IsSizeFault self.now) }

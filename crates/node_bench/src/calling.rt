@@ -1,4 +1,4 @@
-//! What callers call, drawn from a seed, and how they count what they are answered.
+//! The calls of callers, drawn from a seed, and the counts of their answers.
 
 use crate::procedures::{
     ACCOUNTS, ADD_NUMBER, BALANCE_NUMBER, COUNT_NUMBER, MONEY, NEXT_NUMBER, ONE_NUMBER, PUT_NUMBER,
@@ -17,19 +17,19 @@ use std::thread;
 use std::thread::Threads;
 use tallies::{Counts, Ledgers};
 
-/// How many keys there are where calls are measured.
+/// The number of keys where calls are measured.
 const KEYS: u32 = 10_000;
 
-/// What is called.
+/// The work of callers.
 #[derive(Clone, Copy, Debug, PartialEq, Eq)]
 pub(crate) enum Work {
-    /// All kinds of calls between accounts.
+    /// Calls of all kinds between accounts.
     Soak,
     /// Additions of 1 to the row at one of the keys.
     Write,
     /// Calls that reply the row at one of the keys.
     Read,
-    /// Nothing.
+    /// No calls.
     Start,
 }
 
@@ -45,31 +45,31 @@ impl Work {
     }
 }
 
-/// More than any account has.
+/// An amount that is more than any account has.
 const FORTUNE: u64 = 1_000_000;
 
-/// How many calls are made, of whom and where.
+/// The load of a node: how many calls are made, of whom and where.
 #[derive(Clone, Copy)]
 pub(crate) struct Load {
     pub(crate) work: Work,
     pub(crate) replicas: u32,
-    /// Executing threads a replica, and as many callers.
+    /// The number of executing threads a replica, and of callers a replica.
     pub(crate) executors: u32,
     pub(crate) calls: u32,
     pub(crate) seed: u64,
 }
 
-/// Who calls.
+/// A caller.
 #[derive(Drop)]
 struct Caller {
-    /// From 1 on.
+    /// The caller's number, from 1 on.
     number: u32,
-    /// How many calls with a request it has made.
+    /// The number of calls with a request that the caller has made.
     requests: u32,
     generator: Pcg32,
 }
 
-/// A call that is drawn. Its arguments are the words, as many as the procedure takes.
+/// A drawn call. Its arguments are the first `count` words, as many as the procedure takes.
 #[derive(Clone, Copy)]
 struct DrawnCall {
     procedure: u16,
@@ -78,7 +78,7 @@ struct DrawnCall {
 }
 
 impl Caller {
-    /// A number below the end.
+    /// Draws a number below `end`.
     fn draw(&mut self, end: u32) -> u32 {
         self.generator.next_word().checked_rem(end).unwrap_or(0)
     }
@@ -100,7 +100,7 @@ impl Caller {
         }
     }
 
-    /// A search over some accounts, whose result stands at a key of its own.
+    /// Draws a search over some accounts, whose result stands at a key of the caller's own.
     fn draw_search(&mut self, procedure: u16) -> DrawnCall {
         let lo = self.draw_account();
         DrawnCall {
@@ -110,7 +110,7 @@ impl Caller {
         }
     }
 
-    /// Of sixteen calls ten are transfers, two count, two search, one cancels and one only reads.
+    /// Draws one of sixteen calls: ten are transfers, two count, two search, one cancels and one writes nothing.
     fn draw_mixed(&mut self) -> DrawnCall {
         match self.draw(16) {
             0 | 1 => self.draw_search(COUNT_NUMBER),
@@ -141,7 +141,8 @@ impl Caller {
         }
     }
 
-    /// The request of the next call of a soak: of eight one has a new one, and one that of the call before.
+    /// The request of the next call of a soak. An eighth of the calls has a new request, and an eighth has that of the
+    /// call before.
     fn draw_request(&mut self, work: Work) -> Option<RequestId> {
         if work != Work::Soak {
             return None;
@@ -196,12 +197,12 @@ fn count(counts: &mut Counts, answer: Answer) {
     *count = count.wrapping_add(1);
 }
 
-/// The counts of both.
+/// The sum of two counts.
 pub(crate) fn sum(one: Counts, other: Counts) -> Counts {
     one.checked_add(other).unwrap_or(Counts::new())
 }
 
-/// How many answers there are.
+/// Returns the number of answers.
 pub(crate) fn all(counts: &Counts) -> u64 {
     [
         counts.committed,
@@ -233,8 +234,8 @@ pub(crate) fn open_accounts<J: LogSetting + Ledgers + Send + Sync + 'static, R: 
     counts
 }
 
-/// What a caller does, by its place from 0 on: its share of the calls, at one replica and by a session of its own. What
-/// they were answered.
+/// Runs a caller, by its place from 0 on: makes its share of the calls, at one replica and by a session of its own.
+/// Returns the counts of the answers.
 fn call_from<J: LogSetting + Ledgers + Send + Sync + 'static, R: Wait>(
     rt: &R,
     desk: &Desk<J, OpenGate>,
@@ -268,8 +269,8 @@ fn call_from<J: LogSetting + Ledgers + Send + Sync + 'static, R: Wait>(
     counts
 }
 
-/// Makes so many calls by as many callers as there are executing threads. What they were answered; the error is want of
-/// memory.
+/// Makes the calls of a load by as many callers as there are executing threads. Returns the counts of the answers. The
+/// error is want of memory.
 pub(crate) fn call_all<J: LogSetting + Ledgers + Send + Sync + 'static, R: Threads + Wait + Sync>(
     rt: &R,
     alloc: Global,

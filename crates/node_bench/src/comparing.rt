@@ -1,4 +1,4 @@
-//! What the node has come to, beside the plain replay of its log.
+//! The comparison of a node with the plain replay of its log.
 
 ghost use Rattle.std.specs.Prelude.{◌<◌, ◌^◌, length};
 
@@ -16,14 +16,14 @@ use std::sync::Wait;
 use tallies::Ledgers;
 use txn_view::Store;
 
-/// All keys of table 1.
+/// Every key of table 1.
 const EVERYWHERE: Look = Look {
     table: 1,
     lo: 0,
     hi: u64::MAX,
 };
 
-/// The calls of the log. None where memory is wanting, or an entry is no call.
+/// The calls of the log. Returns `None` where memory is wanting, or an entry is no call.
 fn items_of<J: LogSetting + Ledgers>(
     alloc: Global,
     finish: &Finish<J, OpenGate>,
@@ -57,7 +57,7 @@ fn short(log: &[PlainItem]) -> &[PlainItem]
     }
 }
 
-/// Whether a store has exactly these rows.
+/// Tells whether a store has exactly these rows.
 fn has_rows<S: Store>(store: &S, rows: &[Row]) -> bool {
     if store.count(EVERYWHERE) != Ok(rows.len() as u64) {
         return false;
@@ -65,7 +65,7 @@ fn has_rows<S: Store>(store: &S, rows: &[Row]) -> bool {
     rows.iter().all(|row| store.get(row.table(), row.key()) == Ok(Some(row.bytes())))
 }
 
-/// Whether a replica's position is the log's end, and its verdicts and rows those of the replay.
+/// Tells whether a replica's position is the log's end, and its verdicts and rows are those of the replay.
 fn follows<J: LogSetting>(replica: &LockedReplica<J>, replay: &CompletedReplay) -> bool {
     let end = replay.reports().len();
     if replica.stopped() || replica.position() as usize != end {
@@ -88,7 +88,7 @@ fn follows<J: LogSetting>(replica: &LockedReplica<J>, replay: &CompletedReplay) 
     }
 }
 
-/// What is in a row of 8 bytes.
+/// Returns the number in a row of 8 bytes.
 fn number_in(row: &Row) -> u64 {
     match row.bytes().try_into() {
         Ok(bytes) => u64::from_le_bytes(bytes),
@@ -96,7 +96,7 @@ fn number_in(row: &Row) -> u64 {
     }
 }
 
-/// What all accounts have together, at the end of the replay.
+/// Returns the money of all accounts together, at the end of the replay.
 fn money_in(replay: &CompletedReplay) -> u64 {
     let Some(rows) = replay.rows(replay.reports().len()) else {
         return 0;
@@ -106,16 +106,16 @@ fn money_in(replay: &CompletedReplay) -> u64 {
         .fold(0u64, |sum, row| sum.wrapping_add(number_in(row)))
 }
 
-/// What the comparison says.
+/// The result of the comparison.
 #[derive(Clone, Copy, Debug, PartialEq, Eq, Drop)]
 pub(crate) struct Comparison {
-    /// Whether each replica has delivered all of them, with the verdicts and the rows of the plain replay.
+    /// True where each replica has delivered the whole log, with the verdicts and the rows of the plain replay.
     pub(crate) same: bool,
-    /// What all accounts have together.
+    /// The money of all accounts together.
     pub(crate) money: u64,
 }
 
-/// Compares each of so many replicas with the plain replay of the log. None where memory is wanting.
+/// Compares each of `replicas` replicas with the plain replay of the log. Returns `None` where memory is wanting.
 pub(crate) fn compare<J: LogSetting + Ledgers, R: Wait>(
     rt: &R,
     alloc: Global,

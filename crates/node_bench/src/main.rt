@@ -1,8 +1,8 @@
 //! Many callers at a node of many replicas: transfers between accounts, counts, searches, calls that cancel, that only
-//! read and that are asked for again. What came of them is compared with the plain replay of the log, and it fails
-//! where something isn't as it should be: `node_bench soak REPLICAS EXECUTORS CALLS SEED`. For measurements from
-//! outside `write`, `read` and `start` in place of `soak` only call, and compare nothing: the time is taken by whoever
-//! starts it (bench/node does).
+//! read and that are asked for again. `node_bench soak REPLICAS EXECUTORS CALLS SEED` compares the outcome with the
+//! plain replay of the log. The program fails where something isn't as it should be. `write`, `read` and `start` in
+//! place of `soak` only call, for measurements from outside, and compare nothing. The time is taken by whoever starts
+//! the program (bench/node does).
 #![tactic(auto)]
 
 ghost use Rattle.std.specs.Prelude.{◌≡◌};
@@ -29,15 +29,15 @@ use std::sync::Wait;
 use std::thread::Threads;
 use tallies::{Blanks, Counts, Ledgers};
 
-/// What came of a run.
+/// The outcome of a run.
 #[derive(Clone, Copy)]
 struct Outcome {
-    /// What the callers counted.
+    /// The answers that the callers counted.
     counted: Counts,
-    /// What the node counted.
+    /// The answers that the node counted.
     totals: Counts,
     agreement: bool,
-    /// Of a soak.
+    /// The comparison of a soak.
     comparison: Option<Comparison>,
 }
 
@@ -89,7 +89,7 @@ fn use_node<
     })
 }
 
-/// A run of this size. Few entries are kept where it is a soak, so that some calls are stale.
+/// Makes a run of this size. Few entries are kept where it is a soak, so that some calls are stale.
 fn run<R: Threads + Wait + Copy + Send + Sync + 'static>(
     rt: &R,
     alloc: Global,
@@ -105,7 +105,7 @@ fn yes(found: bool) -> &'static str {
     if found { "yes" } else { "no" }
 }
 
-/// Prints how many answers of each kind there were, where faults go: that isn't the same in each run.
+/// Prints the number of answers of each kind to the writer for faults, since it isn't the same in each run.
 fn print_counts(rt: &HostRuntime, totals: Counts) -> anyhow::Result<()> {
     eprintln!(rt;
         "committed {} read {} cancelled {} conflict {} stale {} repeat {} other {}",
@@ -120,7 +120,7 @@ fn print_counts(rt: &HostRuntime, totals: Counts) -> anyhow::Result<()> {
     Ok(())
 }
 
-/// Prints what came of the plain replay. Whether all is as it should be.
+/// Prints the result of the plain replay. Tells whether all is as it should be.
 fn print_comparison(rt: &HostRuntime, comparison: Comparison) -> anyhow::Result<bool> {
     let same_money = comparison.money == u64::from(ACCOUNTS).wrapping_mul(MONEY);
     println!(rt;
@@ -135,7 +135,7 @@ fn print_comparison(rt: &HostRuntime, comparison: Comparison) -> anyhow::Result<
     Ok(comparison.same && same_money)
 }
 
-/// Prints what came of a run. Whether all is as it should be.
+/// Prints the outcome of a run. Tells whether all is as it should be.
 fn print(rt: &HostRuntime, outcome: &Outcome) -> anyhow::Result<bool> {
     let same_counts = outcome.counted == outcome.totals;
     print_counts(rt, outcome.totals)?;
@@ -152,7 +152,7 @@ fn print(rt: &HostRuntime, outcome: &Outcome) -> anyhow::Result<bool> {
     Ok(same_counts && outcome.agreement && compared)
 }
 
-/// What the words ask for.
+/// Returns the load that the words ask for.
 fn asked(words: &[String]) -> anyhow::Result<Load> {
     let number = |place: usize| words.get(place).and_then(|word| word.parse::<u32>().ok());
     let work = words.get(1).and_then(|word| Work::from_word(word));

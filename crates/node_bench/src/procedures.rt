@@ -9,10 +9,10 @@ use test_programs::{
     ADD, COUNT, NEXT, ONE, PUT, READ, TABLES, TRANSFER, catalogue_of, digit_of, procedure_of,
 };
 
-/// How many accounts there are.
+/// The number of accounts.
 pub(crate) const ACCOUNTS: u32 = 64;
 
-/// What each account has at first.
+/// The money of each account at first.
 pub(crate) const MONEY: u64 = 1_000;
 
 pub(crate) const TRANSFER_NUMBER: u16 = 1;
@@ -29,7 +29,7 @@ pub(crate) const ADD_NUMBER: u16 = 6;
 
 pub(crate) const BALANCE_NUMBER: u16 = 7;
 
-/// Each with its number, its program, and how many words its arguments are.
+/// The procedures, each with its number, its program, and the number of words of its arguments.
 static PROCEDURES: [(u16, &str, usize); 7] = [
     (TRANSFER_NUMBER, TRANSFER, 3),
     (PUT_NUMBER, PUT, 2),
@@ -40,12 +40,12 @@ static PROCEDURES: [(u16, &str, usize); 7] = [
     (BALANCE_NUMBER, READ, 1),
 ];
 
-/// The node's catalogue. None, here and below, where memory is wanting.
+/// The node's catalogue. This function and the next return `None` where memory is wanting.
 pub(crate) fn catalogue(alloc: Global) -> Option<Catalogue> {
     catalogue_of(alloc, &TABLES, &PROCEDURES)
 }
 
-/// The same for the plain replay, under a window.
+/// The same procedures for the plain replay, under a window.
 pub(crate) fn setting(alloc: Global, window: u32) -> Option<PlainSetting> {
     let mut procedures = Vec::new(alloc);
     for (number, program, words) in &PROCEDURES {

@@ -8,7 +8,7 @@ use Rattle.log_model.specs.Fit.{IsCall}
 use Rattle.log_model.specs.Entries.{ExecutedCall}
 use Rattle.log_entry.specs.declared.entry.Entry.{Entry as LogEntry}
 use Rattle.log_entry.specs.declared.entry.Entry.TheVariants as entry
-use Rattle.log_model.specs.OpenRequest.{or_none, has_zero}
+use Rattle.log_model.specs.OpenRequest.{has_zero}
 use Rattle.replica.specs.Replica.{AreEntriesOf, entries_of}
 use Rattle.locked_replica.specs.Ordered.{IsOrderedCall}
 use Rattle.locked_replica.specs.Begun.{procedure_now}
@@ -23,7 +23,7 @@ use Rattle.node_calls.specs.declared.answer.CallRefusal.TheVariants.{NoProcedure
 
 -- the call that is asked for, on the rows after so many entries
 abbrev pub asked_call : AskedCall → ℕ → Call
-asked_call a snapshot = node_call a.procedure a.args snapshot (or_none a.request)
+asked_call a snapshot = node_call a.procedure a.args snapshot (a.request)
 
 -- the entry is the last that was seen, at this position; its call saw so many of those before it
 pub record IsAppended {A : Type 0} (w : Setting) (e : ExecutedCall) (position : ℕ) (seen : List (LogEntry A)) : Type 0 where

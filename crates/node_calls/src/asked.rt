@@ -1,14 +1,14 @@
-//! What is asked of a node.
+//! The calls that a node is asked for.
 
 use log_model::RequestId;
 use row_sets::Bytes;
 use std::alloc::{Allocator, Global};
 use std::marker::Model;
 
-/// A call that is asked for. Contracts see it with its arguments as a list of bytes.
+/// A call that a caller asks for. Contracts see the arguments as a list of bytes.
 #[derive(Drop)]
 pub struct Asked<A: Allocator = Global> {
-    /// The position of the log that the call has to see at least.
+    /// The position of the log up to which the call has to see at least.
     pub least: u32,
     /// The procedure's number.
     pub procedure: u16,

@@ -16,27 +16,27 @@ use crate::bells::{Bells, Waiter};
 use crate::gate::Gate;
 use crate::order::{answer_by, await_verdict, order};
 use crate::run::{Ran, run};
-use log_model::{has_zero, or_none};
 use locked_replica::{Begin, BegunCall, LockedReplica, LogSetting, OrderedEntries};
 use log_entry::ExecutedCall;
+use log_model::has_zero;
 use order_log::{AppendFault, Fact, OrderLog, Seen};
 use std::alloc::Allocator;
 use std::sync::{RwLock, Wait};
 use world_calls::Completion;
 
-/// What an executing thread answers calls with, and where it waits.
+/// The parts with which an executing thread answers calls, and where the thread waits.
 #[derive(Drop)]
 pub struct Executor<'a, J: LogSetting, A: Allocator + Copy, P: Allocator + Copy, G: Gate>
 where
     OrderedEntries<J>: Fact,
 {
-    /// For what calls take.
+    /// The allocator for what calls take.
     pub alloc: P,
     pub log: &'a OrderLog<J, OrderedEntries<J>, P>,
     pub replica: &'a RwLock<LockedReplica<J, A, P>>,
     pub gate: &'a G,
     pub waiter: &'a Waiter,
-    /// Of the delivering threads.
+    /// The bells of the delivering threads.
     pub bells: &'a Bells<P>,
 }
 
@@ -47,8 +47,8 @@ impl<'a, J: LogSetting, A: Allocator + Copy, P: Allocator + Copy, G: Gate> Execu
     P,
     G,
 > {
-    /// The answer to a call, and what was seen of the log then. The call runs at the replica, is ordered where it wrote
-    /// something and didn't cancel, and waits for its verdict.
+    /// Answers a call, and returns what was seen of the log then. The call runs at the replica, is ordered where it
+    /// wrote something and didn't cancel, and waits for its verdict.
     pub fn answer<R: Wait>(&self, rt: &R, asked: &Asked<P>) -> (Answer, Option<Seen<J, P>>)
         ensures { IsAnswer J.setting asked.now result.0 result.1 }
     {
@@ -72,7 +72,7 @@ impl<'a, J: LogSetting, A: Allocator + Copy, P: Allocator + Copy, G: Gate> Execu
         }
     }
 
-    /// That to a call that has begun.
+    /// Answers a call that has begun.
     fn answer_begun<R: Wait>(
         &self,
         rt: &R,
@@ -93,7 +93,7 @@ impl<'a, J: LogSetting, A: Allocator + Copy, P: Allocator + Copy, G: Gate> Execu
             self.waiter,
             begun,
             asked.args.as_slice(),
-            or_none(asked.request),
+            asked.request,
         );
         match ran {
             Ran::NoMemory => (Answer::NoMemory, None),
@@ -102,7 +102,7 @@ impl<'a, J: LogSetting, A: Allocator + Copy, P: Allocator + Copy, G: Gate> Execu
         }
     }
 
-    /// That to a call that has come to its end.
+    /// Answers a call that has come to its end.
     fn answer_ended<R: Wait>(
         &self,
         rt: &R,
@@ -124,7 +124,7 @@ impl<'a, J: LogSetting, A: Allocator + Copy, P: Allocator + Copy, G: Gate> Execu
         }
     }
 
-    /// That to a call that is to be ordered.
+    /// Answers a call that is to be ordered.
     fn answer_ordered<R: Wait>(
         &self,
         rt: &R,
@@ -159,7 +159,7 @@ fn reply_of<P: Allocator + Copy>(entry: &ExecutedCall<P>) -> u64
     entry.reply
 }
 
-/// A call that doesn't begin.
+/// Refuses a call that doesn't begin.
 fn refused<S>(why: CallRefusal, seen: Option<S>) -> (Answer, Option<S>)
     ensures { (result.0 ≡ Refused why) × (result.1 ≡ seen) }
 {

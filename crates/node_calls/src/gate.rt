@@ -1,14 +1,15 @@
-//! What an executing thread passes before it reads or writes rows.
+//! The gate that an executing thread passes before it reads or writes rows.
 
 use std::sync::Wait;
 
-/// What an executing thread calls before each helper that reads or writes rows, holding no lock. It may wait.
+/// The gate of an executing thread. The thread calls the gate before each helper that reads or writes rows, holding no
+/// lock. The gate may wait.
 pub trait Gate {
-    /// A call of this procedure is at such a helper.
+    /// Is called where a call of this procedure is at such a helper.
     fn at_look<R: Wait>(&self, rt: &R, procedure: u16);
 }
 
-/// One that is always open.
+/// A gate that is always open.
 #[derive(Clone, Copy, Debug, Drop)]
 pub struct OpenGate;
 

@@ -6,7 +6,7 @@ ghost use Rattle.log_model.specs.OpenCall.{calls_row_helper, is_row_helper};
 use bpf_code::Instruction;
 use schema::Helper;
 
-/// Whether an instruction calls a helper that reads or writes rows: any but the one that cancels.
+/// Tells whether an instruction calls a helper that reads or writes rows: any helper but the one that cancels.
 pub fn calls_row_helper(instruction: Option<Instruction>) -> bool
     ensures { result ≡ calls_row_helper instruction }
 {

@@ -20,7 +20,7 @@ use replica::replicas_follow_the_log;
 use std::alloc::Allocator;
 use std::sync::{RwLock, Wait};
 
-/// Orders an entry of a call that saw all that was seen so far, and wakes the delivering threads.
+/// Orders the entry of a call that has seen everything in `seen`, and wakes the delivering threads.
 pub(crate) fn order<J: LogSetting, P: Allocator + Copy>(
     log: &OrderLog<J, OrderedEntries<J>, P>,
     bells: &Bells<P>,
@@ -77,7 +77,7 @@ fn reply_at<J: LogSetting, P: Allocator + Copy>(
     }
 }
 
-/// The answer of the call that was seen last, by its verdict.
+/// The answer to the call that was seen last, by its verdict.
 fn answer_of<J: LogSetting, P: Allocator + Copy>(
     log: &OrderLog<J, OrderedEntries<J>, P>,
     seen: &Seen<J, P>,
@@ -91,6 +91,7 @@ fn answer_of<J: LogSetting, P: Allocator + Copy>(
         → e.call ≡ asked_call a e.call.snapshot → a.least ≤ e.call.snapshot → reply ≡ e.reply
         → IsAnswer J.setting a result (Some seen.now) }
 {
+    // Laws:
     verdicts_in_words_of_the_log();
     replicas_follow_the_log();
     match verdict {
@@ -106,7 +107,7 @@ fn answer_of<J: LogSetting, P: Allocator + Copy>(
     }
 }
 
-/// The answer of the call that was seen last, by what its replica says of it.
+/// The answer to the call that was seen last, by what its replica says of it.
 pub(crate) fn answer_by<J: LogSetting, P: Allocator + Copy>(
     log: &OrderLog<J, OrderedEntries<J>, P>,
     seen: &Seen<J, P>,

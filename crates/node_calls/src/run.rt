@@ -17,27 +17,27 @@ use std::alloc::{Allocator, Global};
 use std::sync::{RwLock, Wait};
 use world_calls::Completion;
 
-/// What came of one more instruction.
+/// The outcome of one more instruction.
 #[derive(Drop)]
 pub(crate) enum Advance<J: LogSetting, P: Allocator + Copy = Global> {
     /// The call isn't over.
     Open,
-    /// It would look at rows that are kept no longer; what was seen of the log by then.
+    /// The call would look at rows that are kept no longer. The value is what was seen of the log by then.
     Stale(Seen<J, P>),
     NoMemory,
 }
 
-/// What came of running a call.
+/// The outcome of a call's run.
 #[derive(Drop)]
 pub(crate) enum Ran<J: LogSetting, P: Allocator + Copy = Global> {
-    /// It is at its end, and has seen so much.
+    /// The call is at its end. The second value is what the call has seen of the log.
     Ended(Completion<P>, Seen<J, P>),
-    /// It would look at rows that are kept no longer; what was seen of the log by then.
+    /// The call would look at rows that are kept no longer. The value is what was seen of the log by then.
     Stale(Seen<J, P>),
     NoMemory,
 }
 
-/// The next instruction at a replica that has come no less far than the call has seen.
+/// Runs the next instruction at a replica that has come no less far than the call has seen.
 fn next_at<J: LogSetting, A: Allocator + Copy, P: Allocator + Copy>(
     alloc: P,
     replica: &LockedReplica<J, A, P>,
@@ -59,8 +59,8 @@ fn next_at<J: LogSetting, A: Allocator + Copy, P: Allocator + Copy>(
     }
 }
 
-/// Waits until a replica has come to a position. It has, where a call began at it, unless another was put in its place
-/// that has come less far.
+/// Waits until a replica has come to a position. A call begins at a replica that has come so far. The replica is behind
+/// only where another replica that has come less far was put in its place.
 fn await_position<J: LogSetting, A: Allocator + Copy, P: Allocator + Copy, R: Wait>(
     rt: &R,
     replica: &RwLock<LockedReplica<J, A, P>>,
@@ -79,7 +79,7 @@ fn await_position<J: LogSetting, A: Allocator + Copy, P: Allocator + Copy, R: Wa
     waiter.announce(0);
 }
 
-/// The next instruction under the replica's lock.
+/// Runs the next instruction under the replica's lock.
 fn next_locked<J: LogSetting, A: Allocator + Copy, P: Allocator + Copy, R: Wait>(
     rt: &R,
     alloc: P,
@@ -101,7 +101,8 @@ fn next_locked<J: LogSetting, A: Allocator + Copy, P: Allocator + Copy, R: Wait>
     unreachable!()
 }
 
-/// The next instruction. Only one that reads or writes rows goes through the gate and takes the replica's lock.
+/// Runs the next instruction. Only an instruction that reads or writes rows goes through the gate and takes the
+/// replica's lock.
 fn next_instruction<J: LogSetting, A: Allocator + Copy, P: Allocator + Copy, G: Gate, R: Wait>(
     rt: &R,
     alloc: P,
@@ -121,7 +122,7 @@ fn next_instruction<J: LogSetting, A: Allocator + Copy, P: Allocator + Copy, G: 
     Advance::Open
 }
 
-/// All instructions of a call to its end.
+/// Runs all instructions of a call to its end.
 fn run_to_the_end<J: LogSetting, A: Allocator + Copy, P: Allocator + Copy, G: Gate, R: Wait>(
     rt: &R,
     alloc: P,

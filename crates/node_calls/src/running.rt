@@ -19,7 +19,8 @@ use std::marker::Model;
 use txn_view::NoStore;
 use world_calls::{Completion, OpenCall};
 
-/// A call that runs. Contracts see what it has seen of the log, how far it has come, and what its last turn answered.
+/// A call that runs. Contracts see what the call has seen of the log, how far it has come, and the outcome of its last
+/// turn.
 #[derive(Drop)]
 pub struct RunningCall<J: LogSetting, A: Allocator + Copy = Global> {
     begun: BegunCall<J, A>,
@@ -45,12 +46,12 @@ impl<J: LogSetting, A: Allocator + Copy> Model for RunningCall<J, A> {
 }
 
 impl<J: LogSetting, A: Allocator + Copy> RunningCall<J, A> {
-    /// A call on these arguments, which are copied, that has run nothing yet.
+    /// Starts a call on these arguments, which are copied. The call has run nothing yet.
     pub fn start(
         alloc: A,
         begun: BegunCall<J, A>,
         args: &[u8],
-        request: RequestId,
+        request: Option<RequestId>,
     ) -> Result<RunningCall<J, A>, AllocError>
         requires { length args.now ≡ begun.accepted.args_len }
         ensures entries { IfOk result (λ r. r.entries ≡ begun.entries) }
@@ -61,6 +62,7 @@ impl<J: LogSetting, A: Allocator + Copy> RunningCall<J, A> {
         }) }
         ensures ready { IfOk result (λ r. r.last ≡ More) }
     {
+        // Laws:
         rows_fit_the_schema();
         begun.is_of_the_log();
         let call = OpenCall::begin(
@@ -76,14 +78,14 @@ impl<J: LogSetting, A: Allocator + Copy> RunningCall<J, A> {
         Ok(RunningCall { begun, call })
     }
 
-    /// What it has seen of the log.
+    /// Returns what the call has seen of the log.
     pub fn seen(&self) -> &Seen<J, A>
         ensures { result.now ≡ self.now.entries }
     {
         self.begun.seen()
     }
 
-    /// It is a call on the rows after what it has seen, and that are entries of a log.
+    /// An open call has seen entries of a log, and is a call on the rows after these entries.
     pub fn is_of_the_log(&self)
         requires { stays_open self.now.last ≡ true }
         ensures entries { AreEntriesOf J.setting (entries_of self.now.entries) }
@@ -92,7 +94,7 @@ impl<J: LogSetting, A: Allocator + Copy> RunningCall<J, A> {
         self.begun.is_of_the_log();
     }
 
-    /// What its last turn answered, and before the first that there is more.
+    /// Returns the outcome of the call's last turn, and `More` before the first turn.
     pub fn last(&self) -> Turn
         ensures { result ≡ self.now.last }
     {
@@ -107,7 +109,7 @@ impl<J: LogSetting, A: Allocator + Copy> RunningCall<J, A> {
         self.call.procedure
     }
 
-    /// Whether the next instruction calls a helper that reads or writes rows.
+    /// Tells whether the next instruction calls a helper that reads or writes rows.
     pub fn at_row_helper(&self) -> bool
         requires { self.now.last ≡ More }
         ensures { result ≡ calls_row_helper_next J.setting self.now }
@@ -116,7 +118,8 @@ impl<J: LogSetting, A: Allocator + Copy> RunningCall<J, A> {
         calls_row_helper(self.call.machine.next(self.begun.accepted()))
     }
 
-    /// The next instruction, on the rows after what the call has seen, at a replica to which no less was delivered.
+    /// Runs the next instruction on the rows after what the call has seen, at a replica to which at least as much was
+    /// delivered.
     pub fn turn<B: Allocator + Copy>(&mut self, alloc: A, replica: &LockedReplica<J, B, A>) -> Turn
         requires going { self.old.last ≡ More }
         requires reached { length self.old.entries ≤ length replica.now.entries }
@@ -130,7 +133,8 @@ impl<J: LogSetting, A: Allocator + Copy> RunningCall<J, A> {
         self.call.turn(alloc, self.begun.accepted(), replica.at(self.begun.seen()))
     }
 
-    /// The next instruction, without any rows, where it neither reads nor writes one: the call isn't over after it.
+    /// Runs the next instruction without any rows, where it neither reads nor writes rows. The call isn't over after
+    /// it.
     pub fn turn_alone(&mut self, alloc: A) -> Turn
         requires going { self.old.last ≡ More }
         requires alone { calls_row_helper_next J.setting self.old ≡ false }
@@ -139,6 +143,7 @@ impl<J: LogSetting, A: Allocator + Copy> RunningCall<J, A> {
         ensures entries { self.new.entries ≡ self.old.entries }
         ensures last { self.new.last ≡ result }
     {
+        // Laws:
         accepted_programs_never_go_wrong();
         a_step_leads_on();
         writes_and_cancels_look_at_nothing();
@@ -146,7 +151,7 @@ impl<J: LogSetting, A: Allocator + Copy> RunningCall<J, A> {
         self.call.turn(alloc, self.begun.accepted(), NoStore)
     }
 
-    /// What comes of a call that is at its end. Takes no memory.
+    /// Returns the outcome of a call that is at its end. Takes no memory.
     pub fn complete(self, alloc: A) -> Completion<A>
         requires { (reply : ℕ) × (self.last ≡ Exit reply) }
         ensures is_call { IsCall J.setting (log_seen self.entries) self.progress.call }

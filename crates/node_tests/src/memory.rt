@@ -1,5 +1,6 @@
-//! Replicas that find no memory. One stops beside one that does not: who has seen more is behind there, and it is made
-//! anew. And where each growth of a call is refused in turn, the log has what was answered as ordered.
+//! Replicas that find no memory. A replica stops beside another that doesn't: a caller who has seen more is behind
+//! there, and the replica is made anew. Where each growth of a call is refused in turn, the log has what was answered
+//! as ordered.
 
 use order_log::GroupCells;
 use scarce::Scarce;
@@ -12,7 +13,7 @@ use tallies::Blanks;
 use test_programs::{PROCEDURES, TABLES, catalogue_of};
 use test_served_replicas::{Case, Memories, Mismatch, RefusedGrowths, try_two};
 
-/// Tries a case at replicas of the sample procedures. What was heard that may not be.
+/// Tries a case at replicas of the sample procedures. Returns the first answer that may not be heard.
 fn try_case<P: Allocator + Copy + Send + Sync, R: Threads + Wait + Abort + Copy + Sync>(
     rt: &R,
     global: Global,
@@ -37,7 +38,7 @@ fn try_case<P: Allocator + Copy + Send + Sync, R: Threads + Wait + Abort + Copy 
     heard.expect(rt, "memory")
 }
 
-/// Tries a case to its end at replicas with memory of their own, and returns how it has gone.
+/// Tries a case to its end at replicas with memory of their own, and returns the case as it then stands.
 fn tried<R: Threads + Wait + Abort + Copy + Sync>(rt: &R, alloc: Global, case: Case) -> Case {
     let mut case = case;
     let first = Scarce::new(alloc);

@@ -7,7 +7,7 @@ use std::alloc::Global;
 mod refused;
 mod threads;
 
-/// Nothing is known of an entry.
+/// A fact that says nothing of an entry.
 struct Nothing;
 
 impl Fact for Nothing {
@@ -21,17 +21,14 @@ fn call_of(alloc: Global, snapshot: u32, reply: u64) -> Entry {
         procedure: 1,
         args: Bytes::new(Vec::new(alloc)),
         snapshot,
-        request: RequestId {
-            session: 0,
-            sequence: 0,
-        },
+        request: None,
         reads: ReadSet::new(alloc),
         writes: WriteSet::new(alloc),
         reply,
     })
 }
 
-/// What tells an entry from others; none of an addition.
+/// The reply of an entry, which tells it from others, and none of an addition.
 fn reply_of(entry: &Entry) -> Option<u64> {
     match entry {
         Entry::Call(call) => Some(call.reply),

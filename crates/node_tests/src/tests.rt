@@ -1,4 +1,4 @@
-//! Calls of several threads at a node: what each is answered, and how the node ends.
+//! Calls of several threads at a node: their answers, and the end of the node.
 
 use node::{Added, Size};
 use std::alloc::Global;
@@ -16,7 +16,7 @@ use calls::{
     is_one_session, is_overlap, numbered, often_add, often_put, one_session, overlap, row_at,
 };
 
-/// What is tried at a node.
+/// A case that is tried at a node.
 #[derive(Clone, Copy)]
 enum Case {
     OneSession,
@@ -29,8 +29,8 @@ enum Case {
     Added,
 }
 
-/// How a node has to end: the sum of all answers, how many of them committed where that is the same in each run, and
-/// each replica's position where that is.
+/// The end that a node has to have: the sum of all answers, the number that committed, and each replica's position. A
+/// number that isn't the same in each run is none.
 #[derive(Clone, Copy)]
 struct End {
     answers: u64,
@@ -38,7 +38,7 @@ struct End {
     position: Option<u32>,
 }
 
-/// The procedures of the node, with their numbers and how many words each takes.
+/// The procedures of the node, with their numbers and the number of words that each takes.
 static PROCEDURES: [(u16, &str, usize); 3] = [(1, ADD, 2), (3, PUT, 2), (9, ONE, 0)];
 
 fn sum_of(counts: &Counts) -> u64 {
@@ -108,7 +108,7 @@ impl<'a> Asked for Trial<'a> {
     }
 }
 
-/// Answers, sums, positions, commits and rows agree with what was asked, and with each other.
+/// Asserts that answers, sums, positions, commits and rows agree with what was asked, and with each other.
 fn check_end(rt: &impl Abort, ending: &Ending, trial: Trial<'_>, end: End) {
     let Trial { size, case, .. } = trial;
     let totals = ending.totals;

@@ -27,7 +27,7 @@ impl<A: Allocator + Copy> Model for GroupCells<A> {
 }
 
 impl<A: Allocator + Copy> GroupCells<A> {
-    /// Empty cells.
+    /// Makes empty cells.
     pub fn new(alloc: Global) -> Result<GroupCells<A>, AllocError> {
         let mut groups = Vec::with_capacity(alloc, GROUP)?;
         for _ in 0..GROUP {

@@ -7,12 +7,12 @@ use once_cell::race::OnceBox;
 use std::alloc::{AllocError, Allocator, Global};
 use std::marker::{Model, PhantomData};
 
-/// What stands beside each entry of a log.
+/// The fact that stands beside each entry of a log.
 pub trait Fact {
     ghost use Rattle.std.specs.Prelude.{List};
     ghost use Rattle.log_entry.specs.declared.entry.Entry.{Entry as LogEntry};
 
-    /// What is known of an entry, by as many entries of the log as its snapshot says.
+    /// The statement about an entry, over as many of the log's first entries as the entry's snapshot says.
     ghost shows: { {A : Type 0} → List (LogEntry A) → LogEntry A → Type 0 };
 }
 
@@ -40,7 +40,7 @@ impl<J: LogIdentity, F: Fact, A: Allocator + Copy> Model for EntryFact<J, F, A> 
 }
 
 impl<J: LogIdentity, F: Fact, A: Allocator + Copy> EntryFact<J, F, A> {
-    /// Of the last entry that was seen.
+    /// Makes the fact of the last entry that was seen.
     pub fn new(seen: Seen<J, A>) -> EntryFact<J, F, A>
         requires { HasFact F.shows seen }
     {
@@ -50,7 +50,7 @@ impl<J: LogIdentity, F: Fact, A: Allocator + Copy> EntryFact<J, F, A> {
         }
     }
 
-    /// Whether it is the fact of the last of these entries.
+    /// Tells whether this is the fact of the last of these entries.
     pub fn speaks_of(&self, seen: &Seen<J, A>) -> bool
         ensures { IsTrue result → HasFact F.shows seen.now }
     {

@@ -4,13 +4,13 @@ ghost use Rattle.order_log.specs.Fault.{number_of_fault};
 use std::error::Error;
 use std::fmt;
 
-/// Why an entry was not appended.
+/// A cause for which an entry was not appended.
 #[derive(Clone, Copy, Debug, PartialEq, Eq)]
 pub enum AppendFault {
     /// The log takes no more entries.
     Full,
     NoMemory,
-    /// The snapshot of a call is past what was seen.
+    /// The snapshot of a call is past the entries that were seen.
     SnapshotUnseen,
 }
 

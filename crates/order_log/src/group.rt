@@ -7,7 +7,7 @@ use once_cell::race::OnceBox;
 use std::alloc::{AllocError, Allocator, Global};
 use std::marker::Model;
 
-/// How many cells a group has, and how many groups a log.
+/// The number of cells in a group, and of groups in a log.
 pub const GROUP: usize = 1024;
 
 /// Cells that stand side by side in the log. Contracts see their names.

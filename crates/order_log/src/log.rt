@@ -19,7 +19,7 @@ use once_cell::race::{Note, OnceBox};
 use schema::MAX_LOG;
 use std::alloc::{AllocError, Allocator, Global};
 
-/// What came of an entry at the place after what was seen.
+/// The outcome for an entry at the place after what was seen.
 enum Attempt<A: Allocator + Copy = Global> {
     Taken,
     /// Another entry stands there.
@@ -32,7 +32,7 @@ enum Attempt<A: Allocator + Copy = Global> {
 pub struct OrderLog<J: LogIdentity, F: Fact, A: Allocator + Copy = Global> {
     groups: GroupCells<A>,
     facts: Vec<OnceBox<FactGroup<J, F, A>>>,
-    /// How many entries it takes.
+    /// The number of entries that the log takes.
     limit: u32,
     alloc: Global,
     ghost named: { groups ≡ J.groups },
@@ -40,7 +40,7 @@ pub struct OrderLog<J: LogIdentity, F: Fact, A: Allocator + Copy = Global> {
     ghost few: { limit ≤ MAX_LOG },
 }
 
-/// How many entries a call's run saw; none for an addition.
+/// Returns the number of entries that a call's run saw, and 0 for an addition.
 fn snapshot_of<A: Allocator + Copy>(entry: &Entry<A>) -> u32
     ensures { result ≡ snapshot_of entry.now }
 {
@@ -50,8 +50,8 @@ fn snapshot_of<A: Allocator + Copy>(entry: &Entry<A>) -> u32
     }
 }
 
-/// Puts an entry into a cell that is empty, and has a note know what then stands there. A cell that isn't is only
-/// looked at, since an exchange that fails takes its line from whoever reads it.
+/// Puts an entry into an empty cell, and has a note know what then stands there. A full cell is only read, since an
+/// exchange that fails takes the cell's cache line from its readers.
 fn place<A: Allocator + Copy>(
     cell: &OnceBox<Entry<A>>,
     note: &mut Note<Entry<A>>,
@@ -71,7 +71,7 @@ fn place<A: Allocator + Copy>(
 }
 
 impl<J: LogIdentity, F: Fact, A: Allocator + Copy> OrderLog<J, F, A> {
-    /// An empty log over these cells, which takes as many entries as a log may have.
+    /// Makes an empty log over these cells, with the highest limit that a log may have.
     pub fn new(alloc: Global, groups: GroupCells<A>) -> Result<OrderLog<J, F, A>, AllocError>
         requires { groups ≡ J.groups }
         ensures { IfOk result (λ log. log.limit ≡ MAX_LOG) }
@@ -79,7 +79,7 @@ impl<J: LogIdentity, F: Fact, A: Allocator + Copy> OrderLog<J, F, A> {
         OrderLog::with_limit(alloc, groups, MAX_LOG)
     }
 
-    /// An empty log over these cells, which takes so many entries.
+    /// Makes an empty log over these cells, for at most `limit` entries.
     pub fn with_limit(
         alloc: Global,
         groups: GroupCells<A>,
@@ -101,7 +101,7 @@ impl<J: LogIdentity, F: Fact, A: Allocator + Copy> OrderLog<J, F, A> {
         })
     }
 
-    /// Of no entries.
+    /// Returns the beginning of no entries.
     pub fn seen(&self) -> Seen<J, A>
         ensures { result ≡ [] }
     {
@@ -146,7 +146,7 @@ impl<J: LogIdentity, F: Fact, A: Allocator + Copy> OrderLog<J, F, A> {
         seen.entry(&self.groups, position - 1)
     }
 
-    /// Adds an entry after all that is then seen, and answers its position.
+    /// Adds an entry after all that is then seen, and returns the entry's position.
     pub fn append(&self, seen: &mut Seen<J, A>, entry: Entry<A>) -> Result<u32, AppendFault>
         requires { snapshot_of entry ≤ length seen.old → F.shows (take (snapshot_of entry) seen.old) entry }
         ensures position { IfOk result (λ position. position ≡ length seen.new) }

@@ -11,11 +11,11 @@ use log_entry::Entry;
 use std::alloc::{Allocator, Global};
 use std::marker::{Brand, Model, PhantomData};
 
-/// Which log it is. Each run of a program picks it.
+/// The identity of a log. Each run of a program picks an identity.
 pub trait LogIdentity {
     ghost use Rattle.std.specs.Prelude.{ℕ, List};
 
-    /// The names of the cells of its groups.
+    /// The names of the cells of the log's groups.
     ghost groups: { List ℕ };
 }
 
@@ -25,7 +25,8 @@ impl LogIdentity for Brand {
     ghost groups = { [] };
 }
 
-/// A beginning of the log that was seen, which takes no room however long it is. Contracts see its entries.
+/// A beginning of the log that was seen. A `Seen` is one number at run time, however many entries it stands for.
+/// Contracts see the entries.
 #[derive(Drop)]
 pub struct Seen<J: LogIdentity, A: Allocator + Copy = Global> {
     count: u32,
@@ -53,7 +54,7 @@ impl<J: LogIdentity, A: Allocator + Copy> Model for Seen<J, A> {
 }
 
 impl<J: LogIdentity, A: Allocator + Copy> Seen<J, A> {
-    /// Of no entries.
+    /// Makes the beginning of no entries.
     pub fn new() -> Seen<J, A>
         ensures { result ≡ [] }
     {
@@ -65,7 +66,7 @@ impl<J: LogIdentity, A: Allocator + Copy> Seen<J, A> {
         }
     }
 
-    /// How many entries were seen.
+    /// Returns the number of entries that were seen.
     pub fn len(&self) -> u32
         ensures len { result ≡ length self.now }
         ensures few { length self.now ≤ MAX_LOG }
@@ -73,7 +74,7 @@ impl<J: LogIdentity, A: Allocator + Copy> Seen<J, A> {
         self.count
     }
 
-    /// The same once more.
+    /// A second value of the same beginning.
     pub fn again(&self) -> Seen<J, A>
         ensures { result ≡ self.now }
     {
@@ -85,7 +86,7 @@ impl<J: LogIdentity, A: Allocator + Copy> Seen<J, A> {
         }
     }
 
-    /// Of two beginnings of one log one begins the other. Nothing is done at run time.
+    /// The shorter of two beginnings of one log is a prefix of the longer. Nothing is done at run time.
     pub fn agrees(&self, other: &Seen<J, A>)
         ensures { length self.now ≤ length other.now → IsPrefix self.now other.now }
     {
@@ -93,7 +94,7 @@ impl<J: LogIdentity, A: Allocator + Copy> Seen<J, A> {
         self.cells.agrees(&other.cells);
     }
 
-    /// A number of one log shows one entry. Nothing is done at run time.
+    /// A place of one log shows one entry. Nothing is done at run time.
     pub fn show_one(&self, other: &Seen<J, A>)
         ensures { (k : ℕ) (x y : LogEntry A) → slice_get self.now k ≡ Some x → slice_get other.now k ≡ Some y → x ≡ y }
     {
@@ -110,12 +111,14 @@ impl<J: LogIdentity, A: Allocator + Copy> Seen<J, A> {
         prove!(place < self.len());
         let cell = groups.at(place as usize / GROUP);
         let mut note = cell.note();
+        // Laws:
         self.groups.tell(&mut note);
         let Some(group) = cell.get_as(&mut note) else {
             unreachable!();
         };
         let cell = group.at(place as usize % GROUP);
         let mut note = cell.note();
+        // Laws:
         self.cells.tell(&mut note);
         match cell.get_as(&mut note) {
             Some(entry) => entry,
@@ -123,7 +126,7 @@ impl<J: LogIdentity, A: Allocator + Copy> Seen<J, A> {
         }
     }
 
-    /// One entry more, in the log's next cell.
+    /// Adds one entry, in the log's next cell.
     pub(crate) fn push(&mut self, group: &Known<Group<A>>, cell: &Known<Entry<A>>)
         requires room { length self.old < MAX_LOG }
         requires group { group.now.cell ≡ slice_index J.groups (length self.old / 1024) }

@@ -1,5 +1,5 @@
 -- The log, one item after another.
-use Rattle.std.proofs.Common.{◌≡◌, ◌⊎◌, inl, inr, ◌↔◌, ℕ, zero, suc, ◌+◌, ◌-◌, ◌≤◌, ◌<◌, List, [], ◌∷◌, ◌++◌, length, map, take, get_or, Some, None, option_map, refl, sym, ap, subst, ◌∙◌, arith}
+use Rattle.std.proofs.Common.{◌≡◌, ◌⊎◌, inl, inr, ◌↔◌, ℕ, zero, suc, ◌+◌, ◌-◌, ◌≤◌, ◌<◌, List, [], ◌∷◌, ◌++◌, length, map, take, get_or, Some, None, option_map, refl, sym, ap, subst, ◌∙◌, arith, Option}
 use Rattle.std.specs.Prelude.{slice_get, Option, true, false}
 use Rattle.std.specs.FinMap.{empty}
 use Rattle.std.specs.List.{cons_option, take-map}
@@ -25,7 +25,7 @@ use Rattle.plain_replayer.proofs.CertifyLemmas.{length_map}
 use Rattle.plain_replayer.proofs.ProcedureLemmas.{at_within, at_beyond, at_last, at_shorter, added_to, procedures_next}
 
 -- a call without a run has what an idle one has, on whatever rows
-reported_run : (w : Setting) (past : List Report) (call : Call) (rows : Rows) (run : Option Run) (request : RequestId) (verdict : Verdict) (comparisons : List ℕ) (told : Option ℕ)
+reported_run : (w : Setting) (past : List Report) (call : Call) (rows : Rows) (run : Option Run) (request : Option RequestId) (verdict : Verdict) (comparisons : List ℕ) (told : Option ℕ)
     → request ≡ call.request → verdict ≡ (report_of_run w past call (or_idle rows run)).verdict
     → comparisons ≡ (report_of_run w past call (or_idle rows run)).comparisons → told ≡ (report_of_run w past call (or_idle rows run)).told
     → report_by_run request run verdict comparisons told ≡ report_of_run w past call (or_idle rows run)
@@ -40,7 +40,7 @@ same_reply : (rows : Rows) (run : Option Run) → (or_idle empty run).reply ≡ 
 same_reply rows None = refl
 same_reply rows (Some r) = refl
 
-pub said_of_run : (w : Setting) (log : Log) (past : List Report) (call : Call) (rows : Rows) (run : Option Run) (request : RequestId) (looks : List Look) (reply : ℕ) (verdict : Verdict) (comparisons : List ℕ) (told : Option ℕ)
+pub said_of_run : (w : Setting) (log : Log) (past : List Report) (call : Call) (rows : Rows) (run : Option Run) (request : Option RequestId) (looks : List Look) (reply : ℕ) (verdict : Verdict) (comparisons : List ℕ) (told : Option ℕ)
     → request ≡ call.request
     → run ≡ run_of_procedure w.tables (by_number (procedures_at w log past call.snapshot) call.procedure) call.args rows
     → looks ≡ (or_idle empty run).looks → reply ≡ (or_idle empty run).reply

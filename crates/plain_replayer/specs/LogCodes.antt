@@ -11,6 +11,7 @@ use Rattle.bpf_code.specs.contracts.instruction.Instruction as instruction
 use Rattle.log_model.specs.declared.verdict.Verdict.{Verdict}
 use Rattle.log_model.specs.contracts.verdict.Verdict as verdict
 use Rattle.log_model.specs.declared.request.RequestId.{RequestId}
+use Rattle.log_model.specs.Codes.{carried_code}
 use Rattle.log_model.specs.Log.{StoredProcedure, Catalogue, Setting, Call, Item, CallItem, AdditionItem}
 use Rattle.plain_replayer.specs.Report.{Report}
 
@@ -37,12 +38,9 @@ rows_code = map.code key_code (coded_list coded_ℕ)
 abbrev look_code : Coded Look
 look_code = code_by (ℕ × (ℕ × ℕ)) (coded× coded_ℕ (coded× coded_ℕ coded_ℕ)) (λ l. (l.table, (l.lo, l.hi))) (λ c. record { table = c.0; lo = c.1.0; hi = c.1.1 }) (λ _. refl)
 
-abbrev request_code : Coded RequestId
-request_code = code_by (ℕ × ℕ) (coded× coded_ℕ coded_ℕ) (λ r. (r.session, r.sequence)) (λ c. record { session = c.0; sequence = c.1 }) (λ _. refl)
-
 abbrev call_code : Coded Call
-call_code = code_by (ℕ × (ℕ × (List ℕ × (ℕ × RequestId))))
-    (coded× coded_ℕ (coded× coded_ℕ (coded× (coded_list coded_ℕ) (coded× coded_ℕ request_code))))
+call_code = code_by (ℕ × (ℕ × (List ℕ × (ℕ × Option RequestId))))
+    (coded× coded_ℕ (coded× coded_ℕ (coded× (coded_list coded_ℕ) (coded× coded_ℕ carried_code))))
     (λ c. (c.number, (c.procedure, (c.args, (c.snapshot, c.request)))))
     (λ c. record { number = c.0; procedure = c.1.0; args = c.1.1.0; snapshot = c.1.1.1.0; request = c.1.1.1.1 })
     (λ _. refl)
@@ -63,8 +61,8 @@ abbrev pub item_code : Coded Item
 item_code = code_by (Call ⊎ StoredProcedure) (coded⊎ call_code procedure_code) split join join-split
 
 abbrev pub report_code : Coded Report
-report_code = code_by (RequestId × (ℕ × (List Look × (Writes × (Verdict × (List ℕ × Option ℕ))))))
-    (coded× request_code (coded× coded_ℕ (coded× (coded_list look_code) (coded× (map.code key_code (coded_option (coded_list coded_ℕ)))
+report_code = code_by (Option RequestId × (ℕ × (List Look × (Writes × (Verdict × (List ℕ × Option ℕ))))))
+    (coded× carried_code (coded× coded_ℕ (coded× (coded_list look_code) (coded× (map.code key_code (coded_option (coded_list coded_ℕ)))
     (coded× verdict.the_row.coded (coded× (coded_list coded_ℕ) (coded_option coded_ℕ)))))))
     (λ r. (r.request, (r.reply, (r.looks, (r.writes, (r.verdict, (r.comparisons, r.told)))))))
     (λ c. record {

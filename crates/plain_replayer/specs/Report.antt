@@ -6,10 +6,10 @@ use Rattle.schema.specs.Rows.{Writes}
 use Rattle.bpf_semantics.specs.Run.{Run}
 use Rattle.log_model.specs.declared.request.RequestId.{RequestId}
 use Rattle.log_model.specs.declared.verdict.Verdict.{Verdict}
-use Rattle.log_model.specs.Log.{no_request, or_idle}
+use Rattle.log_model.specs.Log.{or_idle}
 
 pub record Report : Type 0 where
-  pub request : RequestId  -- that it carried
+  pub request : Option RequestId  -- that it carried
   pub reply : ℕ
   pub looks : List Look
   pub writes : Writes
@@ -18,7 +18,7 @@ pub record Report : Type 0 where
   pub told : Option ℕ  -- the reply that its caller is told
 
 -- of a call, by its run, where there is one
-abbrev pub report_by_run : RequestId → Option Run → Verdict → List ℕ → Option ℕ → Report
+abbrev pub report_by_run : Option RequestId → Option Run → Verdict → List ℕ → Option ℕ → Report
 report_by_run request run verdict comparisons told = record {
   request = request;
   reply = (or_idle empty run).reply;
@@ -31,4 +31,4 @@ report_by_run request run verdict comparisons told = record {
 
 -- of an addition: its verdict alone
 abbrev pub report_of_addition : Verdict → Report
-report_of_addition verdict = report_by_run no_request None verdict [] None
+report_of_addition verdict = report_by_run None None verdict [] None

@@ -1,4 +1,4 @@
-//! Whether writes and looks share a key, and whether they share a bit.
+//! Tests whether writes and looks share a key, and whether they share a bit.
 
 ghost use Rattle.std.specs.Prelude.{◌≡◌, map};
 ghost use Rattle.std.specs.List.{list_any};
@@ -17,7 +17,7 @@ fn bit_of(table: u8, key: u64) -> u64
     key.wrapping_mul(0x9E37_79B9_7F4A_7C15).wrapping_add(table) >> 54
 }
 
-/// Whether a look sets a bit: one of at most 16 keys those of its keys, a longer one each.
+/// Tells whether a look sets a bit. A look of at most 16 keys sets the bits of its keys, a longer look sets each bit.
 fn look_sets_bit(look: Look, bit: u64) -> bool
     ensures { result ≡ look_sets_bit bit look }
 {
@@ -32,21 +32,21 @@ fn look_sets_bit(look: Look, bit: u64) -> bool
     false
 }
 
-/// Whether some look sets a bit.
+/// Tells whether some look sets a bit.
 fn looks_set_bit(looks: &[Look], bit: u64) -> bool
     ensures { result ≡ looks_set_bit looks.now bit }
 {
     looks.iter().any(|look| look_sets_bit(*look, bit))
 }
 
-/// Whether some look covers a key.
+/// Tells whether some look covers a key.
 fn any_covers(looks: &[Look], table: u8, key: u64) -> bool
     ensures { result ≡ any_covers looks.now (table, key) }
 {
     looks.iter().any(|look| look.covers(table, key))
 }
 
-/// Whether the bit of a written key is one that the looks set.
+/// Tells whether the bit of a written key is one that the looks set.
 pub(crate) fn shares_bit<A: Allocator>(looks: &[Look], writes: &[Write<A>]) -> bool
     ensures { result
         ≡ list_any (λ k. looks_set_bit looks.now (bit_of k)) (map (λ write. write.0) writes.now) }
@@ -54,7 +54,7 @@ pub(crate) fn shares_bit<A: Allocator>(looks: &[Look], writes: &[Write<A>]) -> b
     writes.iter().any(|write| looks_set_bit(looks, bit_of(write.table(), write.key())))
 }
 
-/// Whether a written key lies in one of the looks.
+/// Tells whether a written key lies in one of the looks.
 pub(crate) fn shares_key<A: Allocator>(looks: &[Look], writes: &[Write<A>]) -> bool
     ensures { result ≡ list_any (any_covers looks.now) (map (λ write. write.0) writes.now) }
 {

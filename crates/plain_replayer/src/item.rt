@@ -1,4 +1,4 @@
-//! What is replayed: calls and additions of procedures in their order, as the definitions have them.
+//! The items that are replayed: calls and additions of procedures in their order, as the definitions have them.
 
 ghost use Rattle.std.specs.Prelude.{◌≡◌, ◌<◌, ◌^◌};
 
@@ -14,7 +14,7 @@ pub struct PlainCall<A: Allocator = Global> {
     procedure: u16,
     args: Vec<u8, A>,
     snapshot: u32,
-    request: RequestId,
+    request: Option<RequestId>,
 }
 
 impl<A: Allocator> Model for PlainCall<A> {
@@ -33,13 +33,13 @@ impl<A: Allocator> Model for PlainCall<A> {
 
 impl<A: Allocator> PlainCall<A> {
     /// A call under its own number, of the procedure of a number, on arguments and the rows after a position, with
-    /// a request of its caller; 0 and 0 is none.
+    /// a request of its caller, where it carries one.
     pub fn new(
         number: u32,
         procedure: u16,
         args: Vec<u8, A>,
         snapshot: u32,
-        request: RequestId,
+        request: Option<RequestId>,
     ) -> PlainCall<A>
         ensures { result ≡ record {
           number = number;
@@ -58,21 +58,21 @@ impl<A: Allocator> PlainCall<A> {
         }
     }
 
-    /// The number of its procedure.
+    /// The number of the call's procedure.
     pub fn procedure(&self) -> u16
         ensures { result ≡ self.now.procedure }
     {
         self.procedure
     }
 
-    /// The bytes of its arguments.
+    /// The bytes of the call's arguments.
     pub fn args(&self) -> &[u8]
         ensures { result.now ≡ self.now.args }
     {
         &self.args
     }
 
-    /// The position whose rows and procedures it read.
+    /// The position whose rows and procedures the call read.
     pub fn snapshot(&self) -> usize
         ensures snapshot { result ≡ self.now.snapshot }
         ensures fits { result < 2 ^ 32 }
@@ -80,15 +80,15 @@ impl<A: Allocator> PlainCall<A> {
         self.snapshot as usize
     }
 
-    /// The request that it carries.
-    pub fn request(&self) -> RequestId
+    /// The request that the call carries.
+    pub fn request(&self) -> Option<RequestId>
         ensures { result ≡ self.now.request }
     {
         self.request
     }
 }
 
-/// What an item of a log is.
+/// The call or the addition that an item of a log is.
 #[derive(Drop)]
 pub enum PlainItemKind<A: Allocator = Global> {
     Call(PlainCall<A>),

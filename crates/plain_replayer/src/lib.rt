@@ -11,10 +11,10 @@ pub use report::ItemReport;
 pub use setting::{PlainProcedure, PlainSetting};
 
 mod bits;
-mod certify;
 mod item;
 mod procedures;
 mod replay;
 mod report;
 mod rows;
 mod setting;
+mod verdicts;

@@ -5,14 +5,14 @@ ghost use Rattle.std.specs.Str.{bytes_eq};
 ghost use Rattle.log_model.specs.Log.{by_name, by_number, is_commit, verdict_on_addition};
 ghost use Rattle.plain_replayer.specs.Replay.{added_by, added_from, passes, procedures_at, procedures_of};
 
-use crate::certify::is_commit;
 use crate::item::{PlainCall, PlainItem, PlainItemKind};
 use crate::report::ItemReport;
 use crate::setting::{PlainProcedure, PlainSetting};
+use crate::verdicts::is_commit;
 use log_model::{Identifier, Verdict};
 use std::alloc::Allocator;
 
-/// The procedure of a number after the items of which this is said, the first of the log.
+/// The procedure of a number after the items on which there are reports, the first of the log.
 pub fn procedure_by_number<'a, A: Allocator, B: Allocator>(
     setting: &'a PlainSetting<B>,
     log: &'a [PlainItem<B>],
@@ -28,7 +28,7 @@ pub fn procedure_by_number<'a, A: Allocator, B: Allocator>(
     }
 }
 
-/// The procedure of a name after the items of which this is said, the first of the log.
+/// The procedure of a name after the items on which there are reports, the first of the log.
 pub fn procedure_by_name<'a, A: Allocator, B: Allocator>(
     setting: &'a PlainSetting<B>,
     log: &'a [PlainItem<B>],
@@ -44,7 +44,7 @@ pub fn procedure_by_name<'a, A: Allocator, B: Allocator>(
     }
 }
 
-/// The procedure of a call: of those of its snapshot.
+/// The procedure of a call, among the procedures of its snapshot.
 pub(crate) fn procedure_of_call<'a, A: Allocator, B: Allocator>(
     setting: &'a PlainSetting<B>,
     log: &'a [PlainItem<B>],
@@ -82,7 +82,7 @@ pub(crate) fn verdict_on_addition<A: Allocator, B: Allocator>(
     }
 }
 
-/// The first of a number that the items add.
+/// The first procedure of a number that the items add.
 fn added_by_number<'a, A: Allocator, B: Allocator>(
     log: &'a [PlainItem<B>],
     reports: &[ItemReport<A>],
@@ -99,7 +99,7 @@ fn added_by_number<'a, A: Allocator, B: Allocator>(
     None
 }
 
-/// The first of a name that the items add.
+/// The first procedure of a name that the items add.
 fn added_by_name<'a, A: Allocator, B: Allocator>(
     log: &'a [PlainItem<B>],
     reports: &[ItemReport<A>],

@@ -10,18 +10,18 @@ ghost use Rattle.plain_replayer.specs.Report.{Report};
 ghost use Rattle.plain_replayer.specs.Replay.{IsReportOf, procedures_at, procedures_of, report_after, rows_after_next};
 ghost use Rattle.plain_replayer.specs.Replay.{run_by, told_by};
 
-use crate::certify::{comparisons_after, is_commit, verdict_after};
 use crate::item::{PlainCall, PlainItem, PlainItemKind};
 use crate::procedures::{procedure_of_call, verdict_on_addition};
 use crate::report::{ItemReport, looks_of, reply_of};
 use crate::rows::{RowList, rows_at};
 use crate::setting::PlainSetting;
+use crate::verdicts::{comparisons_after, is_commit, verdict_after};
 use log_model::{Verdict, verdicts_in_words_of_the_log};
 use plain_runner::{CompletedRun, Row, run_program};
 use std::alloc::{AllocError, Allocator, Global};
 use std::marker::Model;
 
-/// What a log comes to. Contracts see a record.
+/// The result of a replay. Contracts see a record.
 #[derive(Drop)]
 pub struct CompletedReplay<A: Allocator = Global> {
     reports: Vec<ItemReport<A>, A>,
@@ -40,7 +40,7 @@ impl<A: Allocator> Model for CompletedReplay<A> {
 }
 
 impl<A: Allocator> CompletedReplay<A> {
-    /// What it says of each item, in the order of the log.
+    /// Returns the report on each item, in the order of the log.
     pub fn reports(&self) -> &[ItemReport<A>]
         ensures { result.now ≡ self.now.reports }
     {
@@ -56,10 +56,10 @@ impl<A: Allocator> CompletedReplay<A> {
     }
 }
 
-/// What the log comes to: of each call its run on the rows of its snapshot, its verdict and its comparisons, of each
-/// addition its verdict, and the rows before the first item and after each. The error is want of memory, which may
-/// come in place of any answer. It takes time by the square of the log's length, and memory for all rows at each
-/// position.
+/// Replays a log. The report on a call has its run on the rows of its snapshot, its verdict and its comparisons. The
+/// report on an addition has its verdict. Beside the reports stand the rows before the first item and after each. The
+/// error is want of memory, which may come in place of any answer. A replay takes time by the square of the log's
+/// length, and memory for all rows at each position.
 pub fn replay_log<A: Allocator + Copy, B: Allocator>(
     alloc: A,
     setting: &PlainSetting<B>,
@@ -76,6 +76,7 @@ pub fn replay_log<A: Allocator + Copy, B: Allocator>(
         → IsLog log.now → slice_get log.now before ≡ Some item → slice_get replay.reports before ≡ Some report
         → IsReportOf setting.now log.now before item report) }
 {
+    // Laws:
     verdicts_in_words_of_the_log();
     let mut reports = Vec::new(alloc);
     let mut rows = Vec::new(alloc);
@@ -86,7 +87,7 @@ pub fn replay_log<A: Allocator + Copy, B: Allocator>(
     Ok(CompletedReplay { reports, rows })
 }
 
-/// Adds what is said of the next item, and the rows after it.
+/// Adds the report on the next item, and the rows after it.
 fn add_item<A: Allocator + Copy, B: Allocator>(
     alloc: A,
     setting: &PlainSetting<B>,
@@ -111,7 +112,7 @@ fn add_item<A: Allocator + Copy, B: Allocator>(
     Ok(())
 }
 
-/// What is said of the next item, by what was said of those before it and by the rows so far.
+/// Makes the report on the next item, by the reports on the items before it and by the rows so far.
 fn report_after<A: Allocator + Copy, B: Allocator>(
     alloc: A,
     setting: &PlainSetting<B>,
@@ -154,7 +155,7 @@ fn run_of_call<A: Allocator + Copy, B: Allocator, C: Allocator, D: Allocator>(
     }
 }
 
-/// What is said of a call as the next item.
+/// Makes the report on a call as the next item.
 fn report_of_call<A: Allocator + Copy, B: Allocator>(
     alloc: A,
     setting: &PlainSetting<B>,
@@ -219,7 +220,7 @@ fn rows_after<A: Allocator + Copy, B: Allocator>(
     }
 }
 
-/// The same of a call.
+/// The rows after a call, by its verdict.
 fn rows_after_call<A: Allocator + Copy, B: Allocator>(
     alloc: A,
     setting: &PlainSetting<B>,
@@ -240,7 +241,7 @@ fn rows_after_call<A: Allocator + Copy, B: Allocator>(
     }
 }
 
-/// The rows that a run leaves; where there is none, those before.
+/// The rows that a run leaves; where there is no run, the rows before.
 fn rows_after_run<A: Allocator + Copy>(
     alloc: A,
     run: Option<CompletedRun<A>>,

@@ -1,4 +1,4 @@
-//! What a replay says of an item.
+//! The report of a replay on an item.
 
 ghost use Rattle.std.specs.Prelude.{◌≡◌};
 ghost use Rattle.std.specs.FinMap.{empty, entries};
@@ -11,10 +11,10 @@ use schema::Look;
 use std::alloc::{Allocator, Global};
 use std::marker::Model;
 
-/// What a replay says of an item. Contracts see a record.
+/// The report of a replay on an item. Contracts see a record.
 #[derive(Drop)]
 pub struct ItemReport<A: Allocator = Global> {
-    request: RequestId,
+    request: Option<RequestId>,
     run: Option<CompletedRun<A>>,
     verdict: Verdict,
     comparisons: Vec<u32, A>,
@@ -34,9 +34,9 @@ impl<A: Allocator> Model for ItemReport<A> {
 }
 
 impl<A: Allocator> ItemReport<A> {
-    /// Of a call with a request and a run, or where there is none, and the reply that its caller is told.
+    /// Makes the report on a call with a request and a run, or with no run. The caller is told the reply `told`.
     pub fn of_call(
-        request: RequestId,
+        request: Option<RequestId>,
         run: Option<CompletedRun<A>>,
         verdict: Verdict,
         comparisons: Vec<u32, A>,
@@ -53,16 +53,12 @@ impl<A: Allocator> ItemReport<A> {
         }
     }
 
-    /// Of an addition: its verdict alone. Takes no memory.
+    /// Makes the report on an addition: its verdict alone. Takes no memory.
     pub fn of_addition(alloc: A, verdict: Verdict) -> ItemReport<A>
         ensures { result ≡ report_of_addition verdict }
     {
-        let none = RequestId {
-            session: 0,
-            sequence: 0,
-        };
         ItemReport {
-            request: none,
+            request: None,
             run: None,
             verdict,
             comparisons: Vec::new(alloc),
@@ -70,35 +66,36 @@ impl<A: Allocator> ItemReport<A> {
         }
     }
 
-    /// The request that it carried.
-    pub fn request(&self) -> RequestId
+    /// The request that the call carried.
+    pub fn request(&self) -> Option<RequestId>
         ensures { result ≡ self.now.request }
     {
         self.request
     }
 
-    /// What its run replied, where it ran: on the rows of its snapshot.
+    /// Returns the reply of the call's run, where it ran: on the rows of its snapshot.
     pub fn reply(&self) -> u64
         ensures { result ≡ self.now.reply }
     {
         reply_of(&self.run)
     }
 
-    /// The reply that its caller is told: its own where it commits, that of the earlier call where it is repeated.
+    /// The reply that the call's caller is told: its own where it commits, that of the earlier call where it is
+    /// repeated.
     pub fn told_reply(&self) -> Option<u64>
         ensures { result ≡ self.now.told }
     {
         self.told
     }
 
-    /// What its run looked at, in order, repeats kept.
+    /// Returns the looks of the call's run, in order, repeats kept.
     pub fn looks(&self) -> &[Look]
         ensures { result.now ≡ self.now.looks }
     {
         looks_of(&self.run)
     }
 
-    /// What its run wrote, in the order of tables and keys, be it installed or not.
+    /// Returns the writes of the call's run, in the order of tables and keys, be they installed or not.
     pub fn writes(&self) -> &[Write<A>]
         ensures { result.now ≡ entries self.now.writes }
     {
@@ -108,14 +105,14 @@ impl<A: Allocator> ItemReport<A> {
         }
     }
 
-    /// The verdict on it.
+    /// The verdict on the item.
     pub fn verdict(&self) -> Verdict
         ensures { result ≡ self.now.verdict }
     {
         self.verdict
     }
 
-    /// The positions of those with which its verdict compares it key by key, in rising order.
+    /// The positions of the items with which the verdict compares the call key by key, in rising order.
     pub fn comparisons(&self) -> &[u32]
         ensures { result.now ≡ self.now.comparisons }
     {
@@ -123,7 +120,7 @@ impl<A: Allocator> ItemReport<A> {
     }
 }
 
-/// What a run looked at, where there is one.
+/// Returns the looks of a run, where there is one.
 pub fn looks_of<A: Allocator>(run: &Option<CompletedRun<A>>) -> &[Look]
     ensures { result.now ≡ (or_idle empty run.now).looks }
 {
@@ -133,7 +130,7 @@ pub fn looks_of<A: Allocator>(run: &Option<CompletedRun<A>>) -> &[Look]
     }
 }
 
-/// What a run replied, where there is one.
+/// Returns the reply of a run, where there is one.
 pub fn reply_of<A: Allocator>(run: &Option<CompletedRun<A>>) -> u64
     ensures { result ≡ (or_idle empty run.now).reply }
 {

@@ -1,4 +1,4 @@
-//! What all replicas have in common, as the definitions have it.
+//! The setting that all replicas have in common, as the definitions have it.
 
 ghost use Rattle.std.specs.Prelude.{◌≡◌, option_map};
 ghost use Rattle.log_model.specs.Log.{by_name, by_number};
@@ -31,7 +31,7 @@ impl<A: Allocator> Model for PlainProcedure<A> {
 }
 
 impl<A: Allocator> PlainProcedure<A> {
-    /// A program under a name and a number, that takes arguments of so many bytes.
+    /// A program under a name and a number, that takes arguments of `args_len` bytes.
     pub fn new(name: Vec<u8, A>, number: u16, code: Code<A>, args_len: u16) -> PlainProcedure<A>
         ensures { result ≡ record {
           name = name.items;
@@ -48,28 +48,28 @@ impl<A: Allocator> PlainProcedure<A> {
         }
     }
 
-    /// The bytes of its name.
+    /// The bytes of the procedure's name.
     pub fn name(&self) -> &[u8]
         ensures { result.now ≡ self.now.name }
     {
         &self.name
     }
 
-    /// Its number.
+    /// The number of the procedure.
     pub fn number(&self) -> u16
         ensures { result ≡ self.now.number }
     {
         self.number
     }
 
-    /// Its program.
+    /// The program of the procedure.
     pub fn code(&self) -> &Code<A>
         ensures { result.now ≡ self.now.program }
     {
         &self.code
     }
 
-    /// How many bytes its arguments have.
+    /// Returns the number of bytes of the procedure's arguments.
     pub fn args_len(&self) -> u16
         ensures { result ≡ self.now.args_len }
     {
@@ -77,7 +77,7 @@ impl<A: Allocator> PlainProcedure<A> {
     }
 }
 
-/// What all replicas have in common. Contracts see the definition's record.
+/// The setting that all replicas have in common. Contracts see the definition's record.
 #[derive(Drop)]
 pub struct PlainSetting<A: Allocator = Global> {
     schema: Schema<A>,
@@ -101,7 +101,7 @@ impl<A: Allocator> Model for PlainSetting<A> {
 }
 
 impl<A: Allocator> PlainSetting<A> {
-    /// The tables, the procedures in order of entry, and how many items a verdict goes back.
+    /// A setting of tables, of procedures in order of entry, and of the number of items that a verdict goes back.
     pub fn new(
         schema: Schema<A>,
         catalogue: Vec<PlainProcedure<A>, A>,
@@ -127,7 +127,7 @@ impl<A: Allocator> PlainSetting<A> {
         &self.schema
     }
 
-    /// How many items a verdict goes back.
+    /// Returns the number of items that a verdict goes back.
     pub fn window(&self) -> u32
         ensures { result ≡ self.now.window }
     {

@@ -6,7 +6,7 @@ use std::process::Abort;
 mod programs;
 mod rows;
 
-/// Asserts that a value is the one that is wanted. It stands in a function of its own, since a proof of many
+/// Asserts that a value is the one that is wanted. The assertion stands in a function of its own, since a proof of many
 /// comparisons in one function beside values to be dropped takes long.
 fn same<T: PartialEq + Debug + Copy>(rt: &impl Abort, case: &str, found: T, wanted: T) {
     assert_eq!(rt; found, wanted, "{case}");

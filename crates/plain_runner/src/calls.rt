@@ -1,4 +1,4 @@
-//! What each helper does, as the definitions say it.
+//! The actions of the helpers, as the definitions say them.
 
 ghost use Rattle.std.specs.Prelude.{◌≡◌, ◌∷◌, ◌++◌, replicate, drop, IfOk, option_map, Some, None};
 ghost use Rattle.bpf_semantics.specs.declared.value.Value.TheVariants.{Nothing, Number};

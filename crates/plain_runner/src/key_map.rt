@@ -62,11 +62,11 @@ impl<V: Drop, A: Allocator + Clone> KeyMap<V, A> {
         self.map.get(&(table, key))
     }
 
-    /// What stands in it, in the order of tables and keys.
+    /// Returns the entries of the map, in the order of tables and keys.
     pub fn into_list(self, alloc: A) -> Result<Vec<Keyed<V>, A>, AllocError>
         ensures { IfOk result (λ list. list.items ≡ entries self) }
     {
-        // Its contract says that the entries are in order.
+        // The contract of `len` says that the entries are in order.
         let _ordered = self.map.len();
         let mut list = Vec::new(alloc);
         for ((table, key), value) in self.map {
@@ -75,7 +75,7 @@ impl<V: Drop, A: Allocator + Clone> KeyMap<V, A> {
         Ok(list)
     }
 
-    /// How many entries a look covers.
+    /// Counts the entries that a look covers.
     pub fn count(&self, look: Look) -> usize
         ensures { result ≡ len (retain_keys self.now (covers look)) }
     {

@@ -13,7 +13,7 @@ use bpf_words::{Operation, SignExtension, alu64};
 use byteorder::{ByteOrder, LittleEndian};
 use std::alloc::{AllocError, Allocator};
 
-/// How many bytes the stack has.
+/// The number of bytes of the stack.
 const STACK_BYTES: usize = 512;
 
 /// The index of a place in a memory of `all` bytes that begins at place 0, where `count` bytes from
@@ -26,7 +26,7 @@ fn index_in(place: i64, count: usize, all: usize) -> Option<usize>
     if end <= all { Some(index) } else { None }
 }
 
-/// The same for the stack, which ends before place 0.
+/// The index of a place in the stack, which ends before place 0, where `count` bytes from there on lie inside.
 fn stack_index(place: i64, count: usize) -> Option<usize>
     requires { unsigned_abs place ≤ 2 ^ 40 }
     ensures { result ≡ stack_index place count }
@@ -34,7 +34,7 @@ fn stack_index(place: i64, count: usize) -> Option<usize>
     index_in(place + 512, count, STACK_BYTES)
 }
 
-/// Where a buffer of so many bytes begins in the stack; none where it isn't whole inside.
+/// Returns the index at which a buffer of `width` bytes begins in the stack; none where the buffer isn't whole inside.
 pub fn buffer_of(value: Value, width: usize) -> Option<usize>
     ensures { result ≡ buffer_of value width }
 {
@@ -51,7 +51,7 @@ fn after<T>(all: &[T], from: usize) -> &[T]
     &all[from.min(all.len())..]
 }
 
-/// So many elements from the first on, or as many as there are.
+/// The first `count` elements, or as many as there are.
 fn front<T>(all: &[T], count: usize) -> &[T]
     ensures elements { result.now ≡ take count all.now }
     ensures short { length result.now ≤ count }
@@ -59,7 +59,7 @@ fn front<T>(all: &[T], count: usize) -> &[T]
     &all[..count.min(all.len())]
 }
 
-/// So many bytes of the stack from an index on, where each is known.
+/// The `count` bytes of the stack from an index on, where each is known.
 pub fn known_bytes<A: Allocator>(
     alloc: A,
     stack: &[Option<u8>],
@@ -98,7 +98,7 @@ pub fn stack_with<A: Allocator>(
     Ok(new)
 }
 
-/// So many known bytes of the stack from a place on.
+/// The `count` bytes of the stack from a place on, where each is known.
 #[tactic(auto, unfolding(bpf_semantics::specs::Memory::stack_bytes, bpf_semantics::specs::Memory::and_then))]
 fn stack_bytes<A: Allocator>(
     alloc: A,
@@ -117,7 +117,7 @@ fn stack_bytes<A: Allocator>(
     }
 }
 
-/// So many bytes of the arguments from a place on.
+/// The `count` bytes of the arguments from a place on, where they lie inside.
 #[tactic(auto, unfolding(bpf_semantics::specs::Memory::args_bytes, bpf_semantics::specs::Memory::and_then))]
 fn args_bytes<A: Allocator>(
     alloc: A,
@@ -138,7 +138,7 @@ fn args_bytes<A: Allocator>(
     }
 }
 
-/// So many bytes from where a value points, with an offset.
+/// The `count` bytes from where a value points, with an offset.
 pub fn memory_bytes<A: Allocator>(
     alloc: A,
     stack: &[Option<u8>],

@@ -52,42 +52,42 @@ impl<A: Allocator> Model for CompletedRun<A> {
 }
 
 impl<A: Allocator> CompletedRun<A> {
-    /// How many instructions it ran, EXIT included.
+    /// Returns the number of instructions that the run had, EXIT included.
     pub fn steps(&self) -> usize
         ensures { result ≡ self.now.steps }
     {
         self.steps
     }
 
-    /// What r0 held at EXIT.
+    /// Returns what r0 held at EXIT.
     pub fn reply(&self) -> u64
         ensures { result ≡ self.now.reply }
     {
         self.reply
     }
 
-    /// What it looked at, in order, repeats kept.
+    /// Returns the looks of the run, in order, repeats kept.
     pub fn looks(&self) -> &[Look]
         ensures { result.now ≡ self.now.looks }
     {
         &self.looks
     }
 
-    /// What it wrote, in the order of tables and keys; none where it cancelled.
+    /// Returns the writes of the run, in the order of tables and keys; none where the run cancelled.
     pub fn writes(&self) -> &[Write<A>]
         ensures { result.now ≡ entries self.now.writes }
     {
         &self.writes
     }
 
-    /// The last cancel code, where it cancelled.
+    /// The last cancel code, where the run cancelled.
     pub fn cancel_code(&self) -> Option<u64>
         ensures { result ≡ self.now.cancel_code }
     {
         self.cancel_code
     }
 
-    /// The rows afterwards, in the order of tables and keys; those before where it cancelled.
+    /// The rows afterwards, in the order of tables and keys; the rows before where the run cancelled.
     pub fn rows(&self) -> &[Row<A>]
         ensures { result.now ≡ entries self.now.effect }
     {
@@ -155,7 +155,7 @@ fn entry<A: Allocator + Copy, D: Allocator>(
     })
 }
 
-/// What is read off the last moment of a run on these rows.
+/// Returns what is read off the last moment of a run on these rows.
 fn run_at<A: Allocator + Copy, D: Allocator>(
     alloc: A,
     moment: Moment<A>,
@@ -173,7 +173,7 @@ fn run_at<A: Allocator + Copy, D: Allocator>(
     }
 }
 
-/// What is read off the end of a run on these rows.
+/// Returns what is read off the end of a run on these rows.
 fn completed_run<A: Allocator + Copy, D: Allocator>(
     alloc: A,
     reply: u64,

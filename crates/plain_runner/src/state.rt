@@ -12,7 +12,7 @@ use row_sets::Bytes;
 use schema::Look;
 use std::alloc::{AllocError, Allocator};
 
-/// What the definition's state has, field by field.
+/// The definition's state, field by field.
 #[derive(Drop)]
 pub struct State<A: Allocator> {
     pub slot: usize,
@@ -27,7 +27,7 @@ pub struct State<A: Allocator> {
 }
 
 impl<A: Allocator> State<A> {
-    /// What a register holds.
+    /// Returns what a register holds.
     pub fn register(&self, src: Register) -> Value
         ensures { result ≡ register (state_of self.now) src }
     {
@@ -52,7 +52,7 @@ impl<A: Allocator> State<A> {
         self
     }
 
-    /// One instruction further, and so many slots on.
+    /// The state one instruction further, and `slots` slots on.
     pub fn past(mut self, slots: usize) -> State<A>
         requires slot { self.slot + slots < 2 ^ 64 }
         requires steps { self.steps + 1 < 2 ^ 64 }

@@ -40,7 +40,7 @@ fn is_read_only(register: Register) -> bool
 
 #[tactic(auto, unfolding(bpf_semantics::specs::Step::execute, bpf_semantics::specs::Step::or_stuck))]
 impl<A: Allocator + Copy> Moment<A> {
-    /// So many slots on, with a value in a register that may be written.
+    /// Moves `slots` slots on, with a value in a register that may be written.
     fn with_result(state: State<A>, slots: usize, dst: Register, value: Value) -> Moment<A>
         requires few { slots ≤ 2 }
         requires slot { state.slot < 2 ^ 32 }
@@ -54,7 +54,7 @@ impl<A: Allocator + Copy> Moment<A> {
         }
     }
 
-    /// To the slot this far past the next one.
+    /// Moves to the slot this far past the next one.
     fn after_jump(state: State<A>, distance: i32) -> Moment<A>
         requires slot { state.slot < 2 ^ 32 }
         requires steps { state.steps < 2 ^ 32 }
@@ -263,7 +263,7 @@ impl<A: Allocator + Copy> Moment<A> {
         }
     }
 
-    /// One instruction.
+    /// Runs one instruction.
     fn execute<B: Allocator>(
         state: State<A>,
         alloc: A,
@@ -325,7 +325,7 @@ impl<A: Allocator + Copy> Moment<A> {
         }
     }
 
-    /// The instruction at the state's slot.
+    /// Runs the instruction at the state's slot.
     #[tactic(auto, unfolding(bpf_semantics::specs::Step::step, bpf_semantics::specs::Step::or_stuck))]
     pub(crate) fn step<B: Allocator, C: Allocator>(
         state: State<A>,

@@ -1,4 +1,4 @@
-//! What operations give on values.
+//! The results of operations on values.
 
 ghost use Rattle.std.specs.Prelude.{◌≡◌, ◌≤◌, ◌^◌, unsigned_abs};
 ghost use Rattle.bpf_words.specs.Operation.{alu};
@@ -22,7 +22,7 @@ pub fn number(value: Value) -> Option<u64>
     }
 }
 
-/// The place so far on; none where the value isn't a place, or that is too far away.
+/// The place that is `distance` on; none where the value isn't a place, or the new place is too far away.
 fn moved_place(value: Value, distance: i128) -> Option<Value>
     requires { unsigned_abs distance ≤ 2 ^ 64 }
     ensures { result ≡ moved_place value distance }
@@ -45,7 +45,7 @@ fn near_place(place: i128) -> Option<i32>
     }
 }
 
-/// What an operation gives on two values; none where it has no step.
+/// Returns what an operation gives on two values; none where it has no step.
 #[tactic(auto, unfolding(bpf_semantics::specs::Step::operation_result))]
 pub fn operation_result(width: Width, op: BinaryOperation, a: Value, b: Value) -> Option<Value>
     ensures { result ≡ operation_result width op a b }
@@ -63,7 +63,7 @@ fn is_move_operation(op: BinaryOperation) -> bool
     matches!(op, BinaryOperation::Mov)
 }
 
-/// What a move gives.
+/// Returns what a move gives.
 fn move_result(width: Width, b: Value) -> Option<Value>
     ensures { result ≡ move_result width b }
 {
@@ -77,7 +77,7 @@ fn move_result(width: Width, b: Value) -> Option<Value>
     }
 }
 
-/// What another operation gives.
+/// Returns what another operation gives.
 fn binary_result(width: Width, op: BinaryOperation, a: Value, b: Value) -> Option<Value>
     ensures { result ≡ binary_result width op a b }
 {
@@ -90,7 +90,7 @@ fn binary_result(width: Width, op: BinaryOperation, a: Value, b: Value) -> Optio
     }
 }
 
-/// What another operation gives on what is no number and a number.
+/// Returns what another operation gives on a value that is no number and a number.
 fn place_result(width: Width, op: BinaryOperation, a: Value, b: u64) -> Option<Value>
     ensures { result ≡ place_result width op a b }
 {
@@ -101,7 +101,7 @@ fn place_result(width: Width, op: BinaryOperation, a: Value, b: u64) -> Option<V
     }
 }
 
-/// What an operation gives on the low 32 bits of two words, or on all 64.
+/// Returns what an operation gives on the low 32 bits of two words, or on all 64.
 pub fn arithmetic(width: Width, op: Operation, a: u64, b: u64) -> u64
     ensures { result ≡ alu (width_bits width) op a b }
 {
@@ -111,7 +111,7 @@ pub fn arithmetic(width: Width, op: Operation, a: u64, b: u64) -> u64
     }
 }
 
-/// Whether a condition holds of the low 32 bits of two words, or of all 64.
+/// Tells whether a condition holds of the low 32 bits of two words, or of all 64.
 pub fn holds(width: Width, condition: Condition, a: u64, b: u64) -> bool
     ensures { result ≡ holds (width_bits width) condition a b }
 {

@@ -20,7 +20,7 @@ use std::alloc::{AllocError, Allocator, Global};
 use thiserror::Error;
 use txn_view::{Own, View};
 
-/// Why a call didn't begin.
+/// The fault for which a call didn't begin.
 #[derive(Clone, Copy, Debug, PartialEq, Eq, Error)]
 pub enum SiteFault {
     #[error("the arguments aren't as long as the procedure's")]
@@ -34,9 +34,9 @@ pub enum SiteFault {
 /// A call, after its last turn.
 #[derive(Drop)]
 pub struct SiteRun<A: Allocator + Copy = Global> {
-    /// How many turns it had, the last included.
+    /// The number of turns that the call had, the last included.
     pub turns: u32,
-    /// What the last one answered.
+    /// The answer of the last turn.
     pub last: Turn,
     pub own: Own<A>,
 }
@@ -122,7 +122,7 @@ fn begin<A: Allocator, B: Allocator, C: Allocator + Copy, D: Allocator>(
     Ok((map, machine))
 }
 
-/// Turns on rows of a map, from the first on.
+/// Takes turns on rows of a map, from the first on.
 fn take_turns<A: Allocator, B: Allocator, C: Allocator + Copy>(
     alloc: C,
     procedure: &Accepted<A, B>,
@@ -138,6 +138,7 @@ fn take_turns<A: Allocator, B: Allocator, C: Allocator + Copy>(
     ensures over { result.last ≢ More }
     ensures short { result.turns ≤ longest_path procedure.now.program }
 {
+    // Laws:
     runs_go_on_or_end();
     let mut machine = machine;
     let store = PlainStore {
@@ -147,6 +148,7 @@ fn take_turns<A: Allocator, B: Allocator, C: Allocator + Copy>(
     let mut view = View::over(store, Own::new(alloc));
     for turn in 0..procedure.bound() {
         view.store.gone = gone_from <= turn + 1;
+        // Laws:
         open_calls_can_turn(&view);
         match machine.turn(procedure, &mut view) {
             Turn::More => {}
@@ -171,6 +173,7 @@ fn site_rows<A: Allocator + Copy, B: Allocator, D: Allocator>(
     ensures rows { IfOk result (λ found. IfSome found (λ map. map ≡ rows_of rows.now)) }
     ensures fit { IfOk result (λ found. IfSome found (AreRows schema.now)) }
 {
+    // Laws:
     rows_stay_the_schemas();
     let mut map = KeyMap::new(alloc);
     for row in rows {

@@ -37,6 +37,7 @@ impl<'a, A: Allocator + Clone> Store for PlainStore<'a, A> {
     }
 
     fn next(&self, look: Look) -> Result<Option<(u64, &[u8])>, Gone> {
+        // Laws:
         first_is_least();
         looks_cover_from_lo_to_hi();
         if self.gone {

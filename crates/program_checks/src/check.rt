@@ -16,7 +16,7 @@ use bpf_verify::{Accepted, Refusal, verify};
 use schema::{OrNoMemory, Schema};
 use std::alloc::Allocator;
 
-/// The program of some bytes, where the verifier accepts it for these tables and arguments of so many bytes.
+/// The program of some bytes, where the verifier accepts it for these tables and arguments of `args_len` bytes.
 pub fn check_program<A: Allocator + Copy>(
     alloc: A,
     bytes: &[u8],
@@ -29,6 +29,7 @@ pub fn check_program<A: Allocator + Copy>(
     ensures accepted { IfOk result (λ accepted. IsProgram accepted.program × IsAccepted accepted) }
     ensures refused { IfErr result (IsFaultOf (check_of schema.now args_len bytes.now)) }
 {
+    // Laws:
     programs_pass_where_they_are_accepted();
     match decode(alloc, bytes) {
         Ok(code) => verified(alloc, code, schema, args_len),

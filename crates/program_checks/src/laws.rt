@@ -1,4 +1,4 @@
-//! What the check of a program means.
+//! The law of the check of a program.
 
 ghost use Rattle.std.specs.Prelude.{◌≡◌, ◌↔◌, ℕ, List, Ok, Err};
 ghost use Rattle.bpf_bytes.specs.declared.fault.DecodeFault.{DecodeFault};
@@ -11,8 +11,8 @@ ghost use Rattle.program_checks.specs.declared.fault.ProgramFault.TheVariants.{B
 ghost use Rattle.program_checks.specs.ProgramCheck.{Passed, Failed};
 ghost use Rattle.program_checks.specs.Check.{check_of};
 
-/// The check of a program comes to what decoding and the verifier answer: it passes exactly where the bytes are that
-/// program's and it is accepted, and else has their fault.
+/// A program passes the check exactly where the bytes are its bytes and the verifier accepts it. Else the check has the
+/// fault that decoding or the verifier answers.
 pub fn programs_pass_where_they_are_accepted()
     ensures passed { (tables : Tables) (args_len : ℕ) (bytes : List ℕ) (program : Program)
         → (check_of tables args_len bytes ≡ Passed program)

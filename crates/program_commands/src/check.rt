@@ -22,10 +22,10 @@ use std::alloc::Allocator;
 use std::io;
 use std::io::{Read, Write};
 
-/// Checks the program in the input, for arguments of so many bytes and for these pairs of a table's
-/// number and its row width: the line that says whether it is accepted and 0 or 1, or 3 where a
-/// stream or memory failed, which is said to `faults`. Of tables that are no schema the input isn't
-/// read.
+/// Checks the program in the input, for arguments of `args_len` bytes and for these tables. Each pair of `tables` is a
+/// table's number and its row width. Writes the line that says whether the program is accepted, and returns 0 or 1.
+/// Returns 3 where a stream or memory failed, and says that to `faults`. The input isn't read where the tables are no
+/// schema.
 pub fn check_over<A: Allocator + Copy, R: Read, W: Write, E: Write>(
     alloc: A,
     input: &mut R,
@@ -58,7 +58,7 @@ pub fn check_over<A: Allocator + Copy, R: Read, W: Write, E: Write>(
     // Nothing is said where nothing failed.
     ensures silent { result ≢ FAILED → faults.new ≡ faults.old }
 
-    // The schema is made first: of tables that are none nothing is read.
+    // The schema is made first: nothing is read where the tables are no schema.
     ensures unread { (fault : SchemaFault) → schema_of tables.now ≡ Err fault → input.new ≡ input.old }
 {
     match check(alloc, input, output, args_len, tables) {
@@ -70,7 +70,7 @@ pub fn check_over<A: Allocator + Copy, R: Read, W: Write, E: Write>(
     }
 }
 
-/// The same, with what failed as an error.
+/// Does what `check_over` does, and returns what failed as an error.
 fn check<A: Allocator + Copy, R: Read, W: Write>(
     alloc: A,
     input: &mut R,
@@ -104,7 +104,7 @@ fn print<W: Write>(line: &[u8], output: &mut W) -> io::Result<()>
     output.flush()
 }
 
-/// What is said of the program in the input; the error is the input's, or want of memory.
+/// Returns what is said of the program in the input. The error is the input's, or want of memory.
 fn verdict<A: Allocator + Copy, R: Read>(
     alloc: A,
     input: &mut R,

@@ -1,4 +1,4 @@
-//! Why a command fails, and how that is said.
+//! The causes for which a command fails, and how they are said.
 
 ghost use Rattle.program_commands.specs.Failures.{IsSaid};
 
@@ -7,10 +7,10 @@ use schema::OrNoMemory;
 use std::io;
 use std::io::Write;
 
-/// Which of a command's streams failed.
+/// The stream of a command that failed.
 #[derive(Drop)]
 pub enum StreamFault {
-    /// The input, and nothing was written.
+    /// The input failed, and nothing was written.
     Input(io::Error),
     Output(io::Error),
 }

@@ -24,8 +24,8 @@ use std::alloc::Allocator;
 use std::io;
 use std::io::{Read, Write};
 
-/// Lists the program in the input: the listing and 0, or the line that refuses it and 1, or 3 where
-/// a stream or memory failed, which is said to `faults`.
+/// Lists the program in the input. Writes the listing and returns 0, or writes the line that refuses the program and
+/// returns 1. Returns 3 where a stream or memory failed, and says that to `faults`.
 pub fn list_over<A: Allocator + Copy, R: Read, W: Write, E: Write>(
     alloc: A,
     input: &mut R,
@@ -61,7 +61,7 @@ pub fn list_over<A: Allocator + Copy, R: Read, W: Write, E: Write>(
     }
 }
 
-/// The same, with what failed as an error.
+/// Does what `list_over` does, and returns what failed as an error.
 fn list<A: Allocator + Copy, R: Read, W: Write>(
     alloc: A,
     input: &mut R,
@@ -118,7 +118,7 @@ fn put_decoded<A: Allocator, W: Write>(
     }
 }
 
-/// The line that refuses a program, as `refused B3 slot 0`.
+/// The line that refuses a program, such as `refused B3 slot 0`.
 pub(crate) fn refused_line(fault: DecodeFault) -> LineBuffer
     ensures { result.items ≡ refused_text fault }
 {

@@ -41,7 +41,7 @@ fn within(number: u32, lo: u32, hi: u32) -> Option<u32>
     }
 }
 
-/// Whether a plus sign stands in front, which `parse` would pass over.
+/// Tells whether a plus sign stands in front, which `parse` would pass over.
 fn has_plus(text: &[u8]) -> bool
     ensures { result ≡ (slice_index text.now 0 == 43) }
 {

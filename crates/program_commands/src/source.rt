@@ -1,4 +1,4 @@
-//! Reading a program's bytes, no more of them into memory than a program has.
+//! The reading of a program's bytes, no more of them into memory than a program has.
 
 ghost use Rattle.std.specs.Prelude.{◌≡◌, ◌≤◌, ◌++◌, ℕ, List, [], IfErr, IfOk, OnOk, IfSome, length};
 ghost use Rattle.std.specs.Io.KnownBytes.{ReadConsumes};
@@ -14,12 +14,12 @@ use std::alloc::{AllocError, Allocator};
 use std::io;
 use std::io::{ErrorKind, Read};
 
-/// What an input held.
+/// The bytes of an input.
 #[derive(Drop)]
 pub enum ProgramSource<A: Allocator> {
-    /// Its bytes, no more than a program may have.
+    /// The whole of the input's bytes, no more than a program may have.
     Whole(Vec<u8, A>),
-    /// More bytes than a program may have; whether they are whole slots.
+    /// More bytes than a program may have. The value is true where they are whole slots.
     TooLong(bool),
 }
 
@@ -27,9 +27,9 @@ pub enum ProgramSource<A: Allocator> {
 #[derive(Drop)]
 pub struct Front<A: Allocator> {
     bytes: Vec<u8, A>,
-    /// There were too many, and `bytes` has not all of them.
+    /// True where the input has more bytes than a program may have. `bytes` doesn't have all of them then.
     is_long: bool,
-    /// How many there were, modulo a slot's eight.
+    /// The number of bytes, modulo a slot's eight.
     remainder: usize,
 }
 
@@ -74,7 +74,7 @@ impl<A: Allocator> Front<A> {
     }
 }
 
-/// Reads once, again where that was interrupted.
+/// Reads once, and again where the read was interrupted.
 fn read_some<R: Read>(input: &mut R, chunk: &mut [u8]) -> io::Result<usize>
     ensures bound { IfOk result (λ n. n ≤ length chunk.new) }
     ensures consumed { ReadConsumes (R.remaining input.old) (R.remaining input.new) result chunk.new }
@@ -112,7 +112,7 @@ fn read_source<A: Allocator, R: Read>(
     Err(OrNoMemory::Fault(StreamFault::Input(io::Error::from(ErrorKind::Interrupted))))
 }
 
-/// What the bytes of a source decode to; the error is want of memory.
+/// Decodes the bytes of a source. The error is want of memory.
 #[tactic(auto, unfolding(bpf_bytes::specs::Decoding::program_of))]
 fn decode_source<A: Allocator>(
     alloc: A,

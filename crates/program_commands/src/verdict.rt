@@ -1,4 +1,4 @@
-//! What is said of a program, and how it is printed.
+//! The verdict on a program, and how it is printed.
 
 ghost use Rattle.std.specs.Prelude.{◌≡◌};
 ghost use Rattle.program_commands.specs.Checking.{verdict_text, verdict_status};
@@ -9,16 +9,17 @@ use bpf_verify::Cause;
 use byte_output::line::{LineBuffer, push, push_unsigned};
 use schema::SchemaFault;
 
-/// What is said of a program's bytes, with the tables and the length of its arguments.
+/// The verdict on a program's bytes, with the tables and the length of its arguments.
 #[derive(Clone, Copy, Debug, PartialEq, Eq)]
 pub enum CheckVerdict {
-    /// It is accepted; how many slots it has, and the most instructions that it may run.
+    /// The program is accepted. It has `slots` slots, and runs at most `bound` instructions.
     Accepted { slots: usize, bound: u32 },
     /// The tables are no schema.
     NoSchema(SchemaFault),
     /// The bytes are no program.
     NoProgram(DecodeFault),
-    /// The lowest slot, counted from 0, whose instruction is refused, and its lowest cause.
+    /// The program is refused. The slot is the lowest, counted from 0, whose instruction is refused; the cause is its
+    /// lowest.
     Refused { slot: u16, cause: Cause },
 }
 
@@ -46,7 +47,7 @@ impl CheckVerdict {
     }
 }
 
-/// As `accepted slots 17 bound 17`.
+/// Makes a line such as `accepted slots 17 bound 17`.
 fn accepted_line(slots: usize, bound: u32) -> LineBuffer
     ensures { result.items ≡ verdict_text (CheckVerdict.Accepted slots bound) }
 {
@@ -57,7 +58,7 @@ fn accepted_line(slots: usize, bound: u32) -> LineBuffer
     line
 }
 
-/// As `refused S3`.
+/// Makes a line such as `refused S3`.
 fn schema_line(fault: SchemaFault) -> LineBuffer
     ensures { result.items ≡ verdict_text (CheckVerdict.NoSchema fault) }
 {
@@ -67,7 +68,7 @@ fn schema_line(fault: SchemaFault) -> LineBuffer
     line
 }
 
-/// As `refused V4 slot 1`.
+/// Makes a line such as `refused V4 slot 1`.
 fn cause_line(slot: u16, cause: Cause) -> LineBuffer
     ensures { result.items ≡ verdict_text (CheckVerdict.Refused slot cause) }
 {

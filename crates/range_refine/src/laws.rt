@@ -6,8 +6,8 @@ ghost use Rattle.bpf_words.specs.declared.condition.Condition.TheVariants.{Set};
 ghost use Rattle.interval.specs.Range.{Bounds, IsRange, IsWithin, IsInside, single};
 ghost use Rattle.range_refine.specs.Refinement.{refinement, limit};
 
-/// Whatever 64-bit operands of the ranges before follow an edge, they are of the ranges along it. So
-/// it has none only where no operands of the ranges before follow it.
+/// Operands of 64 bits in the ranges before an edge that follow the edge are in the ranges along it. An edge is dropped
+/// only where no operands of the ranges before follow it.
 #[tactic(auto, using(crate::proofs::Kept::all_kept, crate::proofs::Kept::none_follow))]
 pub fn operands_along_an_edge_stay()
     ensures kept { (n : ℕ) (condition : Condition) (taken : Bool) (a b : Bounds) (x y : ℕ)
@@ -18,7 +18,7 @@ pub fn operands_along_an_edge_stay()
         → (x y : ℕ) → IsWithin a x → IsWithin b y → holds n condition x y ≢ taken }
 {}
 
-/// The ranges along an edge are ranges of words, inside those before.
+/// The ranges along an edge are ranges of words, inside the ranges before the edge.
 #[tactic(auto, using(crate::proofs::Inside::all_inside, crate::proofs::Inside::all_ranges))]
 pub fn ranges_along_an_edge_are_inside()
     ensures inside { (n : ℕ) (condition : Condition) (taken : Bool) (a b : Bounds)
@@ -29,8 +29,8 @@ pub fn ranges_along_an_edge_are_inside()
         → IfSome (refinement n condition taken a b) (λ r. IsRange r.0 × IsRange r.1) }
 {}
 
-/// Where a condition that isn't the bit test compares all numbers of the ranges as they are, the
-/// ranges along an edge are the least: they are inside any two that have each pair along it.
+/// The ranges along an edge are the least, where a condition that isn't the bit test compares all numbers of the ranges
+/// as they are. They are inside any two ranges that have each pair along the edge.
 #[tactic(auto, using(crate::proofs::Least::all_least))]
 pub fn ranges_along_an_edge_are_least()
     ensures { (n : ℕ) (condition : Condition) (taken : Bool) (a b c d : Bounds)
@@ -41,7 +41,7 @@ pub fn ranges_along_an_edge_are_least()
         → IfSome (refinement n condition taken a b) (λ r. IsInside r.0 c × IsInside r.1 d) }
 {}
 
-/// Of one value each an edge is dropped exactly where these don't follow it.
+/// An edge of operands of one value each is dropped exactly where these values don't follow it.
 #[tactic(auto, using(crate::proofs::One::one_followed, crate::proofs::One::one_dropped))]
 pub fn one_value_each_decides()
     ensures followed { (n : ℕ) (condition : Condition) (taken : Bool) (x y : ℕ)

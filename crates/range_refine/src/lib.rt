@@ -1,4 +1,4 @@
-//! What an edge of a conditional jump says of its operands: their ranges along it, or that it is
+//! The knowledge that an edge of a conditional jump gives of its operands: their ranges along it, or that the edge is
 //! never followed.
 #![tactic(auto)]
 

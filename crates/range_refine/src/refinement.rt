@@ -7,9 +7,9 @@ use crate::table::{where_fails, where_holds};
 use bpf_words::{Condition, holds32, holds64};
 use interval::Range;
 
-/// The ranges of a 64-bit condition's operands along an edge of its jump, the one that is taken or
-/// the other (RFC 9669 section 4.3), from their ranges before it: `a` is the destination's and `b`
-/// the source's. None says that the edge is never followed.
+/// The ranges of a 64-bit condition's operands along an edge of its jump, the taken edge or the other (RFC 9669 section
+/// 4.3). `a` is the destination's range before the edge and `b` the source's. None says that the edge is never
+/// followed.
 #[tactic(auto, unfolding(crate::specs::Refinement::refinement, crate::specs::Refinement::as_before))]
 pub fn refine64(condition: Condition, taken: bool, a: Range, b: Range) -> Option<(Range, Range)>
     ensures { result ≡ refinement 64 condition taken a b }
@@ -21,7 +21,8 @@ pub fn refine64(condition: Condition, taken: bool, a: Range, b: Range) -> Option
     }
 }
 
-/// The same of a condition on the low 32 bits of both operands. The ranges are of all 64 bits.
+/// The ranges along an edge, as `refine64` gives them, of a condition on the low 32 bits of both operands. The ranges
+/// are of all 64 bits.
 #[tactic(auto, unfolding(crate::specs::Refinement::refinement, crate::specs::Refinement::as_before))]
 pub fn refine32(condition: Condition, taken: bool, a: Range, b: Range) -> Option<(Range, Range)>
     ensures { result ≡ refinement 32 condition taken a b }
@@ -33,7 +34,7 @@ pub fn refine32(condition: Condition, taken: bool, a: Range, b: Range) -> Option
     }
 }
 
-/// Along an edge of a condition that compares the numbers as they are.
+/// Returns the ranges along an edge of a condition that compares the numbers as they are.
 fn along(condition: Condition, taken: bool, a: Range, b: Range) -> Option<(Range, Range)>
     ensures { result ≡ definitions.along condition taken a b }
 {
@@ -55,8 +56,7 @@ fn as_before(followed: bool, a: Range, b: Range) -> Option<(Range, Range)>
     }
 }
 
-/// Whether a condition on words up to a greatest one compares all numbers of both ranges as they
-/// are.
+/// Tells whether a condition on words up to `greatest` compares all numbers of both ranges as they are.
 fn are_plain(condition: Condition, greatest: u64, a: Range, b: Range) -> bool
     ensures { result ≡ are_below (if definitions.is_signed condition then greatest / 2 + 1 else greatest + 1) a b }
 {

@@ -7,7 +7,7 @@ ghost use Rattle.bpf_words.specs.Condition as conditions;
 use bpf_words::Condition;
 use interval::Range;
 
-/// Along the edge that is taken where the condition holds.
+/// Returns the ranges along the edge that is taken where the condition holds.
 #[tactic(auto, unfolding(crate::specs::Refinement::where_holds))]
 pub fn where_holds(condition: Condition, a: Range, b: Range) -> Option<(Range, Range)>
     ensures { result ≡ definitions.where_holds condition a b }
@@ -23,7 +23,7 @@ pub fn where_holds(condition: Condition, a: Range, b: Range) -> Option<(Range, R
     }
 }
 
-/// Along the edge that isn't taken.
+/// Returns the ranges along the edge that isn't taken.
 #[tactic(auto, unfolding(crate::specs::Refinement::where_fails))]
 pub fn where_fails(condition: Condition, a: Range, b: Range) -> Option<(Range, Range)>
     ensures { result ≡ definitions.where_fails condition a b }
@@ -76,7 +76,7 @@ fn where_unequal(a: Range, b: Range) -> Option<(Range, Range)>
     Some((without(a, b), without(b, a)))
 }
 
-/// A range without its end that is the other's one value.
+/// A range without its end that is the other range's one value.
 fn without(a: Range, b: Range) -> Range
     requires { a.lo ≡ a.hi → b.lo ≡ b.hi → a.lo ≢ b.lo }
     ensures { result ≡ definitions.without a b }
@@ -130,7 +130,7 @@ fn where_at_most(a: Range, b: Range) -> Option<(Range, Range)>
     Some((left, right))
 }
 
-/// Where some bit is set in both.
+/// Returns the ranges where some bit is set in both numbers.
 #[tactic(auto, unfolding(crate::specs::Refinement::where_bit_shared))]
 fn where_bit_shared(a: Range, b: Range) -> Option<(Range, Range)>
     ensures { result ≡ definitions.where_bit_shared a b }

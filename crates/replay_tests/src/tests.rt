@@ -1,6 +1,6 @@
 ghost use Rattle.std.specs.Prelude.{◌<◌, ◌^◌, length};
 
-use log_model::{Identifier, RequestId, Verdict};
+use log_model::{Identifier, RequestId, Verdict, given_request};
 use plain_replayer::{
     CompletedReplay, ItemReport, PlainCall, PlainItem, PlainItemKind, replay_log,
 };
@@ -18,9 +18,9 @@ mod drawn;
 enum ItemCase {
     /// A procedure's number, its arguments, and a snapshot.
     Call(u16, &'static [u64], u32),
-    /// The same, and a session and a sequence number.
+    /// The same parts, and a session and a sequence number.
     Numbered(u16, &'static [u64], u32, u32, u32),
-    /// An addition's name and number, its program, and how many words that takes.
+    /// An addition's name and number, its program, and the number of words that the program takes.
     Addition(&'static str, u16, &'static str, usize),
 }
 
@@ -30,7 +30,7 @@ fn call_of(
     procedure: u16,
     words: &[u64],
     snapshot: u32,
-    request: RequestId,
+    request: Option<RequestId>,
 ) -> PlainItem {
     let args = args_of(alloc, words).expect(rt, "memory");
     PlainItem {
@@ -66,7 +66,7 @@ fn item_of(rt: &impl Abort, alloc: Global, item: &ItemCase) -> PlainItem {
             (procedure, words, snapshot)
         }
     };
-    let request = RequestId { session, sequence };
+    let request = given_request(session, sequence);
     call_of(rt, alloc, *procedure, words, *snapshot, request)
 }
 
@@ -97,7 +97,7 @@ fn append_verdict(rt: &impl Abort, text: &mut String, verdict: Verdict) {
     }
 }
 
-/// The reply that is told, and with which items the verdict compared.
+/// Appends the reply that is told, and the items with which the verdict compared.
 fn append_told(rt: &impl Abort, text: &mut String, report: &ItemReport) {
     if let Some(reply) = report.told_reply() {
         write!(text, " told {reply}").expect(rt, "memory");
@@ -107,8 +107,8 @@ fn append_told(rt: &impl Abort, text: &mut String, report: &ItemReport) {
     }
 }
 
-/// What a replay says of an item, in a line: the reply of its run, its verdict, the reply that is told, and with which
-/// items it was compared.
+/// Returns what a replay says of an item, in a line. The line has the reply of its run, its verdict, the reply that is
+/// told, and the items with which it was compared.
 fn described(rt: &impl Abort, alloc: Global, report: &ItemReport) -> String {
     let mut text = format!(in alloc; "{}", report.reply()).expect(rt, "memory");
     append_verdict(rt, &mut text, report.verdict());
@@ -126,7 +126,7 @@ fn rows_text(rt: &impl Abort, alloc: Global, rows: &[Row]) -> String {
     text
 }
 
-/// The same of what a run wrote.
+/// Appends what a run wrote.
 fn append_write(rt: &impl Abort, alloc: Global, text: &mut String, write: &Write) {
     write!(text, " {}:{}", write.table(), write.key()).expect(rt, "memory");
     if let Some(bytes) = write.bytes() {
@@ -433,7 +433,7 @@ static LOGS: [LogCase; 21] = [
         ],
         rows: " 1:5=0a00000000000000 1:6=0100000000000000 1:7=0100000000000000",
     },
-    // After a conflict the request is free.
+    // The request is free after a conflict.
     LogCase {
         window: 4,
         items: &[
@@ -450,7 +450,7 @@ static LOGS: [LogCase; 21] = [
         ],
         rows: " 1:5=1100000000000000",
     },
-    // And where the call was stale.
+    // The request is free where the call was stale.
     LogCase {
         window: 1,
         items: &[
@@ -488,7 +488,7 @@ static LOGS: [LogCase; 21] = [
     },
 ];
 
-/// What a replay says of the items of a case, and then the rows.
+/// Returns what a replay says of the items of a case, and then the rows.
 fn said_of(rt: &impl Abort, alloc: Global, case: &LogCase) -> String {
     let log = log_of(rt, alloc, case.items);
     let replay = replay_log(
@@ -507,7 +507,7 @@ fn said_of(rt: &impl Abort, alloc: Global, case: &LogCase) -> String {
     text
 }
 
-/// What is expected of it.
+/// Returns what is expected of a case.
 fn expected(rt: &impl Abort, alloc: Global, case: &LogCase) -> String {
     let mut text = String::new(alloc);
     for line in case.said {

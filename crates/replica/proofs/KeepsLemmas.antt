@@ -60,7 +60,7 @@ pub record LaysOn : Type 0 where
   pub later : (installed : List InstalledWrites) (next : InstalledWrites) (position : ℕ) → next.position ≤ position → map_after (installed ++ next ∷ []) position ≡ after_writes next.writes (map_after installed position)
   pub before : (installed : List InstalledWrites) (next : InstalledWrites) (position : ℕ) → position < next.position → map_after (installed ++ next ∷ []) position ≡ map_after installed position
 
-later_by : LaysOn → (past : List CertifiedItem) (request : RequestId) (writes : Writes) (verdict : Verdict) (s : ℕ) → suc (length past) ≤ s
+later_by : LaysOn → (past : List CertifiedItem) (request : Option RequestId) (writes : Writes) (verdict : Verdict) (s : ℕ) → suc (length past) ≤ s
     → rows_by (past ++ record { request = request; writes = writes; verdict = verdict } ∷ []) s ≡ if_commits verdict (after_writes writes (rows_by past s)) (rows_by past s)
 later_by law past request writes Commit s le = by_more past (record { request = request; writes = writes; verdict = Commit }) s ∙ law.later (installed_from 1 past) (record { position = 1 + length past; writes = writes }) s (omega arith)
 later_by law past request writes (Conflict position) s le = by_more past (record { request = request; writes = writes; verdict = Conflict position }) s ∙ ap (λ (l : List InstalledWrites). map_after l s) (append-nil (installed_from 1 past))
@@ -68,7 +68,7 @@ later_by law past request writes Stale s le = by_more past (record { request = r
 later_by law past request writes (Repeated position) s le = by_more past (record { request = request; writes = writes; verdict = Repeated position }) s ∙ ap (λ (l : List InstalledWrites). map_after l s) (append-nil (installed_from 1 past))
 later_by law past request writes (Taken part) s le = by_more past (record { request = request; writes = writes; verdict = Taken part }) s ∙ ap (λ (l : List InstalledWrites). map_after l s) (append-nil (installed_from 1 past))
 
-before_by : LaysOn → (past : List CertifiedItem) (request : RequestId) (writes : Writes) (verdict : Verdict) (s : ℕ) → s ≤ length past
+before_by : LaysOn → (past : List CertifiedItem) (request : Option RequestId) (writes : Writes) (verdict : Verdict) (s : ℕ) → s ≤ length past
     → rows_by (past ++ record { request = request; writes = writes; verdict = verdict } ∷ []) s ≡ rows_by past s
 before_by law past request writes Commit s le = by_more past (record { request = request; writes = writes; verdict = Commit }) s ∙ law.before (installed_from 1 past) (record { position = 1 + length past; writes = writes }) s (omega arith)
 before_by law past request writes (Conflict position) s le = by_more past (record { request = request; writes = writes; verdict = Conflict position }) s ∙ ap (λ (l : List InstalledWrites). map_after l s) (append-nil (installed_from 1 past))

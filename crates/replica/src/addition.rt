@@ -27,7 +27,8 @@ fn verdict_on<A: Allocator + Copy, P: Allocator + Copy>(
     procedures.verdict_on(added.name.as_slice(), added.number)
 }
 
-/// Adds a procedure behind the others, where neither its name nor its number is taken: the verdict on the addition.
+/// Adds a procedure behind the others, where neither its name nor its number is taken, and returns the verdict on the
+/// addition.
 fn add_to<A: Allocator + Copy, P: Allocator + Copy>(
     procedures: &mut StoredProcedures<A, P>,
     added: &AddedProcedure<P>,

@@ -16,7 +16,7 @@ ghost use Rattle.replica.specs.Delivery.{HasSameVersions, IsLeft, IsTakenIn};
 use crate::addition::take_addition;
 use crate::laws::additions_are_taken_in;
 use catalogue::StoredProcedures;
-use certify::{Certification, Certifications, Certifier};
+use certify::{CallToCertify, Certification, Certifications, Certifier};
 use log_entry::{Entry, ExecutedCall};
 use log_model::Verdict;
 use row_sets::WriteSet;
@@ -88,12 +88,18 @@ fn take_call<A: Allocator + Copy, B: Allocator + Copy>(
     ensures tables { length versions.new.tables ≡ length versions.old.tables }
     ensures horizon { versions.new.horizon ≡ versions.old.horizon }
 {
-    let verdict = certifier.verdict(call, position);
+    let to_certify = CallToCertify {
+        request: call.request,
+        snapshot: call.snapshot,
+        reads: &call.reads,
+        writes: &call.writes,
+    };
+    let verdict = certifier.verdict(&to_certify, position);
     let certification = Certification {
         verdict,
         compared: certifier.compared(),
     };
-    let prepared = certifier.prepare(call)?;
+    let prepared = certifier.prepare(&to_certify)?;
     install(
         versions,
         certifications,
@@ -150,6 +156,7 @@ pub(crate) fn take_entry<A: Allocator + Copy, P: Allocator + Copy>(
     ensures tables { length versions.new.tables ≡ length versions.old.tables }
     ensures horizon { versions.new.horizon ≡ versions.old.horizon }
 {
+    // Laws:
     additions_are_taken_in();
     match entry {
         Entry::Call(call) => take_call(certifier, versions, certifications, position, call),
@@ -159,24 +166,24 @@ pub(crate) fn take_entry<A: Allocator + Copy, P: Allocator + Copy>(
     }
 }
 
-/// How many keys are written for each page that is pruned. Pages are split in half, so keys that rise make a page of
-/// each 32 that are written; twice as many are pruned, so that a pass over all pages comes to its end.
+/// The number of keys that are written for each page that is pruned. Pages are split in half, so keys that rise make a
+/// page of each 32 that are written. Twice as many pages are pruned, so that a pass over all pages comes to its end.
 const KEYS_A_PAGE: u32 = 16;
 
 /// The most pages that are pruned in one delivery.
 const MOST_PAGES: u32 = 64;
 
-/// How far pruning is behind what was written.
+/// The part of pruning that is still due for what was written.
 #[derive(Clone, Copy)]
 pub(crate) struct Pruning {
-    /// How many keys were written for which no page was pruned yet.
+    /// The number of keys that were written and for which no page was pruned yet.
     written: u32,
-    /// The position from which the pass over all pages is due that is next, or under way.
+    /// The position from which the next pass over all pages is due, or the pass under way was.
     due: u32,
 }
 
 impl Pruning {
-    /// The next pass is due at a position.
+    /// Makes the next pass due at a position.
     pub(crate) fn from(position: u32) -> Pruning {
         Pruning {
             written: 0,
@@ -184,7 +191,7 @@ impl Pruning {
         }
     }
 
-    /// How many pages are to be pruned after so many more keys were written, and what is left then.
+    /// Returns the number of pages to prune after `written` more keys were written, and the pruning that is left then.
     fn next(self, written: usize, position: u32) -> (u32, Pruning) {
         if position < self.due {
             return (0, self);
@@ -197,7 +204,7 @@ impl Pruning {
     }
 }
 
-/// How many keys an entry wrote that has this verdict.
+/// Returns the number of keys that an entry of this verdict wrote.
 pub(crate) fn written_by<A: Allocator + Copy>(entry: &Entry<A>, verdict: Verdict) -> usize {
     match (entry, verdict) {
         (Entry::Call(call), Verdict::Commit) => call.writes.len(),
@@ -205,8 +212,8 @@ pub(crate) fn written_by<A: Allocator + Copy>(entry: &Entry<A>, verdict: Verdict
     }
 }
 
-/// Drops of up to so many pages of keys what no position from one on sees. Whether none was left to be pruned, so that
-/// the pass over all pages has ended.
+/// Prunes up to `pages` pages of keys of the versions that no position from `below` on sees. Returns true where no page
+/// was left to prune, so that the pass over all pages has ended.
 fn prune_pages<A: Allocator + Copy>(versions: &mut Versions<A>, below: u32, pages: u32) -> bool
     requires { versions.old.horizon ≤ below }
     ensures seen { (s : ℕ) (rows : Rows) → below ≤ s
@@ -215,6 +222,7 @@ fn prune_pages<A: Allocator + Copy>(versions: &mut Versions<A>, below: u32, page
     ensures widths { (t : ℕ) → width_of versions.new.tables t ≡ width_of versions.old.tables t }
     ensures tables { length versions.new.tables ≡ length versions.old.tables }
 {
+    // Laws:
     answers_after_pruning_in_part();
     for _ in 0..pages {
         if versions.prune_page(below) {
@@ -224,7 +232,8 @@ fn prune_pages<A: Allocator + Copy>(versions: &mut Versions<A>, below: u32, page
     false
 }
 
-/// Drops what no position within the window sees, of as many pages of keys as are due after so many keys were written.
+/// Prunes the pages of keys that are due after `written` keys were written, of the versions that no position within the
+/// window sees.
 pub(crate) fn drop_unseen<A: Allocator + Copy>(
     versions: &mut Versions<A>,
     window: u32,

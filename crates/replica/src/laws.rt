@@ -1,4 +1,4 @@
-//! What holds of what a replica keeps.
+//! The laws of what a replica keeps.
 
 ghost use Rattle.std.specs.Prelude.{◌≡◌, ℕ, suc, ◌-◌, ◌≤◌, List, [], ◌∷◌, ◌++◌, length, slice_get, Some, ◌+◌};
 ghost use Rattle.std.specs.FinMap.{empty};
@@ -30,7 +30,7 @@ pub fn tables_take_the_schemas_writes()
         → length new ≡ length old → HaveTables schema old → HaveTables schema new }
 {}
 
-/// No rows at first; one more entry lays its writes on where it commits, from its own position on.
+/// One more entry lays its writes on the rows where it commits, from its own position on; the rows before stay.
 pub fn rows_of_each_delivery()
     ensures later { (window s : ℕ) (base : Catalogue) (entries : List Entry) (e : Entry) → suc (length entries) ≤ s
         → rows_kept window base (entries ++ e ∷ []) s
@@ -40,6 +40,7 @@ pub fn rows_of_each_delivery()
     ensures before { (window s : ℕ) (base : Catalogue) (entries : List Entry) (e : Entry) → s ≤ length entries
         → rows_kept window base (entries ++ e ∷ []) s ≡ rows_kept window base entries s }
 {
+    // Laws:
     map_after_each_write_set();
 }
 
@@ -51,11 +52,12 @@ pub(crate) fn deliveries_are_kept()
     ensures refused { (base : Catalogue) (old new : Replica) (entries : List Entry)
         → IsRefusedDelivery old new → StandsFor base old entries → StandsFor base new entries }
 {
+    // Laws:
     map_after_each_write_set();
     answers_after_an_install();
 }
 
-/// What an addition that is taken in leaves, in words of the entries: it installs nothing.
+/// An addition that is taken in is kept, in words of the entries, and installs nothing.
 pub(crate) fn additions_are_taken_in()
     ensures kept { (window : ℕ) (old new : Memory) (before after : List ListedProcedure) (l : ListedProcedure)
         → ((past : List CertifiedItem) → certifier.IsMemoryOf old past
@@ -69,15 +71,16 @@ pub(crate) fn additions_are_taken_in()
     ensures installs { (position : ℕ) (tables : List Table) → IsInstalled position empty tables tables }
 {}
 
-/// At first there are no rows at any position.
+/// No position has rows at first.
 pub(crate) fn no_rows_at_first()
     ensures { (window s : ℕ) (base : Catalogue) → rows_kept window base [] s ≡ empty }
 {
+    // Laws:
     map_after_each_write_set();
 }
 
-/// Where the delivered entries are a log's and carry their runs, a replica's verdicts are those of the log, and the
-/// rows of the positions within its window and its procedures are the log's.
+/// A replica's verdicts are the log's, where the delivered entries are a log's and carry their runs. The rows of the
+/// positions within the replica's window, and its procedures, are the log's too.
 pub fn replicas_follow_the_log()
     ensures verdicts { (w : Setting) (r : Replica) (entries : List Entry) (before : ℕ) (c : Certification)
         → w.window ≡ r.window → StandsFor w.catalogue r entries → AreEntriesOf w entries
@@ -93,16 +96,18 @@ pub fn replicas_follow_the_log()
         → verdict_of w (items_of (entries ++ e ∷ [])) (length entries + 1)
         ≡ Some (certified_entry w.window (certified_entries_of w.window w.catalogue entries) e).verdict }
 {
+    // Laws:
     entries_suffice();
 }
 
-/// One more entry behind those of a log is of that log too, where it is placed there, is an item of the log and carries
-/// its run.
+/// One more entry behind the entries of a log is of that log too. The entry has to be placed there, to be an item of
+/// the log and to carry its run.
 pub fn one_more_entry()
     ensures { (w : Setting) (entries : List Entry) (e : Entry) → AreEntriesOf w entries
         → IsPlaced (length entries) (item_of e)
         → IsItem w (items_of entries) (item_of e) → IsCarried w (items_of entries) e
         → AreEntriesOf w (entries ++ e ∷ []) }
 {
+    // Laws:
     one_more_entry_carries_its_run();
 }

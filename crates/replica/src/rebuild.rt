@@ -33,6 +33,7 @@ pub(crate) fn replica_of<A: Allocator + Copy, P: Allocator + Copy>(
     ensures tables { IfOk result (λ r. HaveTables catalogue.now.tables r.versions.tables) }
     ensures procedures { IfOk result (λ r. AreForTables catalogue.now.tables r.procedures) }
 {
+    // Laws:
     tables_take_the_schemas_writes();
     let mut replica = Replica::new(alloc, window, catalogue)?;
     for entry in entries {

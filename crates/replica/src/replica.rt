@@ -83,7 +83,7 @@ impl<A: Allocator + Copy, P: Allocator + Copy> Model for Replica<A, P> {
 }
 
 impl<A: Allocator + Copy, P: Allocator + Copy> Replica<A, P> {
-    /// One to which nothing was delivered, for the tables and with the procedures of a catalogue. A call finds
+    /// A replica to which nothing was delivered, for the tables and with the procedures of a catalogue. A call finds
     /// its rows no more where more entries than the window were delivered since its snapshot.
     pub fn new(alloc: A, window: u32, catalogue: &Catalogue<P>) -> Result<Replica<A, P>, AllocError>
         ensures stands { IfOk result (λ r. StandsFor catalogue.now.procedures r []) }
@@ -92,6 +92,7 @@ impl<A: Allocator + Copy, P: Allocator + Copy> Replica<A, P> {
         ensures tables { IfOk result (λ r. HaveTables catalogue.now.tables r.versions.tables) }
         ensures for_tables { IfOk result (λ r. AreForTables catalogue.now.tables r.procedures) }
     {
+        // Laws:
         empty_versions_answer_from_no_rows();
         no_rows_at_first();
         let certifier = Certifier::new(alloc, window)?;
@@ -110,29 +111,29 @@ impl<A: Allocator + Copy, P: Allocator + Copy> Replica<A, P> {
         })
     }
 
-    /// How many entries were delivered.
+    /// Returns the number of entries that were delivered.
     pub fn position(&self) -> u32
         ensures { result ≡ self.now.position }
     {
         self.position
     }
 
-    /// How many pages the keys of a table lie in, with those whose versions no kept position sees and that are yet to be
-    /// dropped.
+    /// Returns the number of pages in which the keys of a table lie. Keys whose versions no kept position sees, and
+    /// that are yet to be dropped, count too.
     pub fn pages(&self, table: u8) -> usize
         ensures { result ≤ length (slots_of self.now.versions.tables table) }
     {
         self.versions.pages(table)
     }
 
-    /// Whether a delivery found no memory; then there are no more.
+    /// Tells whether a delivery found no memory; then there are no more deliveries.
     pub fn stopped(&self) -> bool
         ensures { result ≡ self.now.stopped }
     {
         self.stopped
     }
 
-    /// How many of the latest positions it keeps besides the last.
+    /// Returns the number of latest positions that the replica keeps besides the last.
     pub fn window(&self) -> u32
         ensures { result ≡ self.now.window }
     {
@@ -146,7 +147,7 @@ impl<A: Allocator + Copy, P: Allocator + Copy> Replica<A, P> {
         self.position()
     }
 
-    /// Its procedures, at its position.
+    /// The replica's procedures, at its position.
     pub fn procedures(&self) -> &StoredProcedures<A, P>
         ensures { result.now ≡ self.now.procedures }
     {
@@ -154,14 +155,14 @@ impl<A: Allocator + Copy, P: Allocator + Copy> Replica<A, P> {
     }
 
     /// The position of the committed call that carries a request, however long ago.
-    pub fn repeated(&self, request: RequestId) -> Option<u32>
+    pub fn repeated(&self, request: Option<RequestId>) -> Option<u32>
         ensures { (base : Procedures) (entries : List Delivered) → StandsFor base self.now entries
             → result ≡ first_position (repeats request) 1 (certified_entries_of self.now.window base entries).certified }
     {
         self.certifier.repeated(request)
     }
 
-    /// The rows at a position that was reached. They are gone where it is out of the window.
+    /// The rows at a position that was reached. The rows are gone where the position is out of the window.
     pub fn at<'a>(&'a self, position: u32) -> At<'a, A>
         requires { position ≤ self.now.position }
         ensures answers { (base : Procedures) (entries : List Delivered) → StandsFor base self.now entries
@@ -197,6 +198,7 @@ impl<A: Allocator + Copy, P: Allocator + Copy> Replica<A, P> {
         ensures for_tables { (tables : Tables) → AreForTables tables self.old.procedures → IsForTables tables entry.now
             → AreForTables tables self.new.procedures }
     {
+        // Laws:
         deliveries_are_kept();
         replicas_follow_the_log();
         if self.stopped {
@@ -227,7 +229,7 @@ impl<A: Allocator + Copy, P: Allocator + Copy> Replica<A, P> {
         Ok(certification.verdict)
     }
 
-    /// Takes all entries in anew, from the first on. The replica changes only where that is done.
+    /// Takes all entries in anew, from the first on. The replica changes only where all are taken in.
     pub fn rebuild(
         &mut self,
         catalogue: &Catalogue<P>,
@@ -252,7 +254,7 @@ impl<A: Allocator + Copy, P: Allocator + Copy> Replica<A, P> {
         Ok(position)
     }
 
-    /// What became of the entry at a position that was reached, from 1 on.
+    /// Returns the certification of the entry at a position that was reached, from 1 on.
     pub fn verdict_at(&self, position: u32) -> Certification
         requires from { 1 ≤ position }
         requires to { position ≤ self.now.position }
@@ -263,6 +265,7 @@ impl<A: Allocator + Copy, P: Allocator + Copy> Replica<A, P> {
             → StandsFor w.catalogue self.now entries → AreEntriesOf w entries
             → verdict_of w (items_of entries) position ≡ Some result.verdict }
     {
+        // Laws:
         replicas_follow_the_log();
         self.certifications.at(position as usize - 1)
     }

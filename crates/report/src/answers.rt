@@ -10,8 +10,8 @@ ghost use Rattle.report.specs.Answers.{answer_line, call_report, replica_report}
 use crate::printed::{CallReport, DeliveredEntry, Line, ReplicaReport};
 use dsm_model::Outcome;
 
-/// The line of what the beginning of a call at a replica answered; none of an answer that says neither that it began
-/// nor that it was refused.
+/// The line of what the beginning of a call at a replica answered. There is no line for an answer that says neither
+/// that the call began nor that it was refused.
 pub fn begin_line(replica: u32, outcome: Outcome) -> Option<Line<'static>>
     ensures { (procedure : ℕ) (args : List ℕ) (request : Option RequestId) (entry : DeliveredEntry)
         → result ≡ answer_line (Begin replica procedure args request) outcome entry }
@@ -27,8 +27,8 @@ pub fn begin_line(replica: u32, outcome: Outcome) -> Option<Line<'static>>
     }
 }
 
-/// The line of what the addition of a procedure answered; none of an answer that says neither that it was appended nor
-/// that it was refused.
+/// The line of what the addition of a procedure answered. There is no line for an answer that says neither that the
+/// procedure was appended nor that it was refused.
 pub fn add_line(outcome: Outcome) -> Option<Line<'static>>
     ensures { (name : List ℕ) (number args_len : ℕ) (checked : ProgramCheck) (entry : DeliveredEntry)
         → result ≡ answer_line (Add name number args_len checked) outcome entry }
@@ -40,8 +40,8 @@ pub fn add_line(outcome: Outcome) -> Option<Line<'static>>
     }
 }
 
-/// The line of what a turn of a call, or ordering it, answered: whatever either may answer has one. None of an answer
-/// that no call gets.
+/// The line of what a turn of a call, or the ordering of a call, answered. Every such answer has a line, and an answer
+/// that no call gets has none.
 pub fn call_line(call: u32, outcome: Outcome) -> Option<Line<'static>>
     ensures turn { (entry : DeliveredEntry) → result ≡ answer_line (Turn call) outcome entry }
     ensures order { (entry : DeliveredEntry) → result ≡ answer_line (Order call) outcome entry }
@@ -50,8 +50,8 @@ pub fn call_line(call: u32, outcome: Outcome) -> Option<Line<'static>>
     Some(Line::Call { call, report })
 }
 
-/// The line of what a delivery to a replica, or rebuilding it, answered, with what is said of the delivered entry:
-/// whatever either may answer has one. None of an answer that no replica gets.
+/// The line of what a delivery to a replica, or the rebuilding of a replica, answered, with what is said of the
+/// delivered entry. Every such answer has a line, and an answer that no replica gets has none.
 pub fn replica_line(replica: u32, outcome: Outcome, entry: DeliveredEntry) -> Option<Line<'static>>
     ensures deliver { result ≡ answer_line (Deliver replica) outcome entry }
     ensures rebuild { result ≡ answer_line (Rebuild replica) outcome entry }

@@ -1,4 +1,4 @@
-//! What lines are made of.
+//! The parts that lines are made of.
 
 ghost use Rattle.std.specs.Prelude.{◌≡◌, ◌++◌, codes};
 ghost use Rattle.std.specs.Fmt.{decimal};
@@ -13,7 +13,7 @@ use crate::words::{
 use byte_output::line::{LineBuffer, push, push_column, push_unsigned};
 use tallies::Counts;
 
-/// What a line is made of: words, bytes that stand in hex behind them, and the rest, with the LF at its end.
+/// The parts of a line: words, bytes that stand in hex behind them, and the rest, with the LF at its end.
 #[derive(Drop)]
 pub(crate) struct LineParts<'a> {
     pub(crate) words: LineBuffer,
@@ -21,7 +21,7 @@ pub(crate) struct LineParts<'a> {
     pub(crate) rest: LineBuffer,
 }
 
-/// What a line is made of.
+/// The parts of a line.
 #[tactic(auto, unfolding(crate::specs::Lines::line_words))]
 pub(crate) fn parts<'a>(line: &Line<'a>) -> LineParts<'a>
     ensures { (result.words.items ++ encode_lower result.bytes.now) ++ result.rest.items ≡ line_text line.now }
@@ -74,7 +74,7 @@ fn end() -> LineBuffer
     end
 }
 
-/// A line that these words are.
+/// The parts of a line that these words are.
 #[tactic(auto, unfolding(hex::specs::Hex::encode_with))]
 fn plain(words: LineBuffer) -> LineParts<'static>
     ensures { (result.words.items ++ encode_lower result.bytes.now) ++ result.rest.items ≡ words.items ++ codes "\n" }
@@ -97,7 +97,7 @@ fn row<'a>(table: u8, key: u64, bytes: &'a [u8]) -> LineParts<'a>
     }
 }
 
-/// What stands in front of a row's bytes in its line.
+/// The label in front of a row's bytes in its line.
 pub fn row_label(table: u8, key: u64) -> LineBuffer
     ensures { result.items ≡ row_label table key }
 {
@@ -120,7 +120,7 @@ fn entry<'a>(position: u32, bytes: &'a [u8]) -> LineParts<'a>
     }
 }
 
-/// What stands in front of an entry's bytes.
+/// The label in front of an entry's bytes.
 pub(crate) fn bytes_label(position: u32) -> LineBuffer
     ensures { result.items ≡ bytes_label position }
 {

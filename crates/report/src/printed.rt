@@ -1,4 +1,4 @@
-//! What a line says.
+//! The values of a printed line.
 
 use dsm_model::StepRefusal;
 use log_model::Verdict;
@@ -42,37 +42,37 @@ pub enum Line<'a> {
     },
     /// An entry of the log that no replica has delivered.
     Open(LoggedEntry),
-    /// How many entries the log has.
+    /// The number of entries of the log.
     Log {
         entries: u32,
     },
-    /// The bytes of the entry at a position; none where the log doesn't reach so far.
+    /// The bytes of the entry at a position, and none where the log doesn't reach so far.
     Entry {
         position: u32,
         bytes: Option<&'a [u8]>,
     },
-    /// What a node answered a call of a script, the calls being counted from 1.
+    /// The answer of a node to a call of a script. The calls are counted from 1.
     Answered {
         call: u64,
         answer: CallAnswer,
     },
-    /// How many calls were answered in each way.
+    /// The number of calls that were answered in each way.
     Totals(Counts),
-    /// Whether of each two replicas one delivered what the other did, as far as it came.
+    /// True where, for each two replicas, one delivered what the other did, as far as it came.
     Agreement {
         agrees: bool,
     },
 }
 
-/// What is said of a call.
+/// The report on a call.
 #[derive(Clone, Copy)]
 pub enum CallReport {
-    /// It isn't at EXIT yet.
+    /// The call isn't at EXIT yet.
     More,
     Exit { reply: u64 },
-    /// It is over: the rows of its snapshot are kept no longer.
+    /// The call is over: the rows of its snapshot are kept no longer.
     Stale,
-    /// It is over: a turn found no memory.
+    /// The call is over: a turn found no memory.
     NoMemory,
     Ordered { position: u32 },
     Read { snapshot: u32, reply: u64 },
@@ -80,7 +80,7 @@ pub enum CallReport {
     Refused(StepRefusal),
 }
 
-/// What a node answers a call that begins with nothing seen.
+/// The answer of a node to a call that begins with nothing seen.
 #[derive(Clone, Copy)]
 pub enum CallAnswer {
     Committed {
@@ -95,7 +95,7 @@ pub enum CallAnswer {
         snapshot: u32,
         code: u64,
     },
-    /// The call that committed at the other position wrote what this one had looked at.
+    /// The call that committed at the other position wrote a key that this call had looked at.
     Conflict {
         position: u32,
         other: u32,
@@ -109,17 +109,17 @@ pub enum CallAnswer {
     },
     NoMemory,
     Full,
-    /// It is ordered, and its replica stopped before it.
+    /// The call is ordered, and its replica stopped before it.
     Stopped {
         position: u32,
     },
     Refused(StepRefusal),
 }
 
-/// What is said of a replica.
+/// The report on a replica.
 #[derive(Clone, Copy)]
 pub enum ReplicaReport {
-    /// It delivered the entry at a position.
+    /// The replica delivered the entry at a position.
     Delivered {
         position: u32,
         verdict: Verdict,
@@ -128,12 +128,12 @@ pub enum ReplicaReport {
     Rebuilt {
         position: u32,
     },
-    /// Its position, and how many rows it has: of 64 tables up to 2^64 each.
+    /// The replica's position, and the number of its rows: 64 tables have up to 2^64 rows each.
     Rows {
         position: u32,
         rows: u128,
     },
-    /// How far it came in the end, how many entries committed, and whether it is stopped.
+    /// The replica's position in the end, the number of entries that committed, and whether the replica is stopped.
     Ended {
         position: u32,
         commits: u32,
@@ -142,22 +142,22 @@ pub enum ReplicaReport {
     Refused(StepRefusal),
 }
 
-/// What is said of a delivered entry besides its verdict.
+/// The report on a delivered entry besides its verdict.
 #[derive(Clone, Copy)]
 pub enum DeliveredEntry {
-    /// Of a call: the reply that its caller is told, where it is told one.
+    /// A call. The value is the reply that its caller is told, where the caller is told one.
     Call { reply: Option<u64> },
-    /// Of an addition: the number of the procedure.
+    /// An addition. The value is the number of the procedure.
     Addition { procedure: u16 },
 }
 
-/// What stands of an entry in the log's lines.
+/// The part of an entry that stands in the log's lines.
 #[derive(Clone, Copy)]
 pub struct LoggedEntry {
     pub position: u32,
     pub procedure: u16,
-    /// Of a call; an addition has none.
+    /// The snapshot of a call. An addition has none.
     pub snapshot: Option<u32>,
-    /// How many keys it wrote.
+    /// The number of keys that the entry wrote.
     pub writes: usize,
 }

@@ -11,7 +11,7 @@ use byte_output::paged::PagedOutput;
 use std::io;
 use std::io::Write;
 
-/// Gives a line to an output, with the LF at its end. It takes no memory.
+/// Gives a line to an output, with the LF at its end. Takes no memory.
 pub fn put_line<W: Write>(output: &mut PagedOutput<'_, W>, line: &Line) -> io::Result<()>
     ensures same_output { (output_of output.new).ghost_name ≡ (output_of output.old).ghost_name }
     ensures bytes { Takes W.contents output.old output.new result (line_text line.now) }
@@ -23,7 +23,7 @@ pub fn put_line<W: Write>(output: &mut PagedOutput<'_, W>, line: &Line) -> io::R
     output.put(&rest)
 }
 
-/// Gives what stands in front of an entry's bytes in its line. It takes no memory.
+/// Gives the label in front of an entry's bytes in its line. Takes no memory.
 pub fn put_bytes_label<W: Write>(output: &mut PagedOutput<'_, W>, position: u32) -> io::Result<()>
     ensures same_output { (output_of output.new).ghost_name ≡ (output_of output.old).ghost_name }
     ensures bytes { Takes W.contents output.old output.new result (bytes_label position) }
@@ -32,7 +32,7 @@ pub fn put_bytes_label<W: Write>(output: &mut PagedOutput<'_, W>, position: u32)
     output.put(&bytes_label(position))
 }
 
-/// Gives bytes in hex to an output, two digits each. It takes no memory.
+/// Gives bytes in hex to an output, two digits each. Takes no memory.
 pub fn put_hex<W: Write>(output: &mut PagedOutput<'_, W>, bytes: &[u8]) -> io::Result<()>
     ensures same_output { (output_of output.new).ghost_name ≡ (output_of output.old).ghost_name }
     ensures bytes { Takes W.contents output.old output.new result (encode_lower bytes.now) }

@@ -13,10 +13,10 @@ ghost use Rattle.report.specs.declared.printed.Line.TheVariants as line;
 use crate::printed::{CallAnswer, CallReport, DeliveredEntry, LoggedEntry, ReplicaReport};
 use crate::refusal::step_refusal_number;
 use byte_output::line::{LineBuffer, push, push_column, push_right, push_unsigned};
-use log_model::{Identifier, Verdict};
-use program_checks::ProgramFault;
 use dsm_model::StepRefusal;
 use itoa::Buffer;
+use log_model::{Identifier, Verdict};
+use program_checks::ProgramFault;
 use tallies::Counts;
 
 pub(crate) fn push_refused(words: &mut LineBuffer, refusal: StepRefusal)
@@ -28,7 +28,7 @@ pub(crate) fn push_refused(words: &mut LineBuffer, refusal: StepRefusal)
     push_cause(words, refusal);
 }
 
-/// What a refusal says besides its number.
+/// Appends what a refusal says besides its number.
 fn push_cause(words: &mut LineBuffer, refusal: StepRefusal)
     requires { array_vec_len words.old ≤ 90 }
     ensures items { words.new.items ≡ words.old.items ++ cause_words refusal }
@@ -44,7 +44,7 @@ fn push_cause(words: &mut LineBuffer, refusal: StepRefusal)
     }
 }
 
-/// Appends a fault of a program, as `B1 slot 0` or `V5 slot 6`.
+/// Appends a fault of a program, such as `B1 slot 0` or `V5 slot 6`.
 pub fn push_program_fault(words: &mut LineBuffer, fault: ProgramFault)
     requires { array_vec_len words.old ≤ 91 }
     ensures items { words.new.items ≡ words.old.items ++ program_fault_text fault }
@@ -162,7 +162,7 @@ fn push_reply(words: &mut LineBuffer, reply: Option<u64>)
     }
 }
 
-/// The procedure of an addition, where it is added.
+/// Appends the procedure of an addition, where the addition commits.
 fn push_added(words: &mut LineBuffer, verdict: Verdict, procedure: u16)
     requires { array_vec_len words.old ≤ 120 }
     ensures items { words.new.items ≡ words.old.items ++ added_words verdict procedure }
@@ -190,7 +190,7 @@ fn push_delivered(words: &mut LineBuffer, verdict: Verdict, entry: DeliveredEntr
     }
 }
 
-/// The verdict on a call of this snapshot, or on an addition, which has none.
+/// Appends the verdict on a call of this snapshot, or on an addition, which has none.
 fn push_certified(words: &mut LineBuffer, snapshot: Option<u32>, verdict: Verdict)
     requires { array_vec_len words.old ≤ 120 }
     ensures items { words.new.items ≡ words.old.items ++ certified_words snapshot verdict }
@@ -253,7 +253,7 @@ fn push_mark(words: &mut LineBuffer, is_stopped: bool)
     }
 }
 
-/// The columns that an entry of the log has in any case.
+/// Appends the columns that an entry of the log has in any case.
 fn push_entry(words: &mut LineBuffer, entry: LoggedEntry)
     requires { array_vec_len words.old ≤ 0 }
     ensures items { words.new.items ≡ words.old.items ++ entry_words entry }

@@ -20,14 +20,14 @@ pub struct Chain<A: Allocator = Global> {
     layout: Layout<A>,
 }
 
-/// How versions lie.
+/// The layout of the versions.
 #[derive(Drop)]
 enum Layout<A: Allocator> {
-    /// The only one, or none yet.
+    /// The only version, or no version yet.
     Inside(Lone),
-    /// Two, or one and room for another.
+    /// Two versions, or one and room for another.
     Two(Box<Pair, A>),
-    /// Any number.
+    /// Any number of versions.
     Many(Box<Run<A>, A>),
 }
 
@@ -44,7 +44,7 @@ impl<A: Allocator> Model for Chain<A> {
 }
 
 impl<A: Allocator> Chain<A> {
-    /// One without versions.
+    /// A chain without versions.
     pub fn new(width: u16) -> Chain<A>
         ensures versions { result.versions ≡ [] }
         ensures width { result.width ≡ width }
@@ -54,7 +54,7 @@ impl<A: Allocator> Chain<A> {
         }
     }
 
-    /// Whether it has no version.
+    /// Tells whether the chain has no version.
     pub fn is_empty(&self) -> bool
         ensures { result ≡ (length self.now.versions == 0) }
     {
@@ -77,7 +77,8 @@ impl<A: Allocator> Chain<A> {
     }
 }
 
-/// What lies inside, in memory of its own, with room for one more: a version in a pair, none yet of a wide row in a run.
+/// Returns the version that lies inside, in memory of its own, with room for one more. A version comes into a pair; a
+/// wide row without a version gets a run.
 fn outside<A: Allocator + Copy>(alloc: A, lone: &Lone) -> Result<Layout<A>, AllocError>
     requires { IsFit lone.now }
     ensures versions { IfOk result (λ l. (chain_of l).versions ≡ versions_of_lone lone.now) }
@@ -91,7 +92,7 @@ fn outside<A: Allocator + Copy>(alloc: A, lone: &Lone) -> Result<Layout<A>, Allo
     Ok(Layout::Many(Box::new(alloc, first_run(alloc, lone.width)?)?))
 }
 
-/// A run of no version, with room for one.
+/// A run without versions, with room for one.
 fn first_run<A: Allocator + Copy>(alloc: A, width: u16) -> Result<Run<A>, AllocError>
     ensures versions { IfOk result (λ r. r.versions ≡ []) }
     ensures width { IfOk result (λ r. r.width ≡ width) }
@@ -162,7 +163,7 @@ impl<A: Allocator + Copy> Chain<A> {
 }
 
 impl<A: Allocator> Chain<A> {
-    /// One version more, the newest. It takes no memory.
+    /// Adds a version, the newest. Takes no memory.
     pub fn push(&mut self, position: u32, row: Option<&[u8]>)
         requires room { HasRoom self.old }
         requires width { IfSome row (λ r. length r.now ≡ self.old.width) }

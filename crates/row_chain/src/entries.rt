@@ -12,14 +12,14 @@ ghost use Rattle.row_chain.specs.Slots.{with_slot, IsPrunedTo};
 use crate::entry::Entry;
 use std::alloc::{AllocError, Allocator};
 
-/// How many keys a page grows by, so that little of its room is empty.
+/// The number of keys by which a page grows, so that little of its room is empty.
 const GROWTH: usize = 16;
 
-/// How many keys are passed by one probe. No probe waits for what another reads, so that memory is read side by side,
-/// as it isn't where halves are taken.
+/// The number of keys that one probe passes. No probe waits for what another reads, so that memory is read side by
+/// side, unlike in a binary search.
 const STRIDE: usize = 8;
 
-/// How many keys are below this one.
+/// Returns the number of keys that are below this one.
 pub fn place<A: Allocator>(entries: &[Entry<A>], key: u64) -> usize
     requires { AreRising entries.now }
     ensures place { result ≡ below key entries.now }
@@ -62,7 +62,7 @@ pub fn since<A: Allocator>(entries: &[Entry<A>], lo: u64) -> &[Entry<A>]
     &entries[from..]
 }
 
-/// How many rows there are up to a key.
+/// Counts the rows up to a key.
 pub fn count<A: Allocator>(entries: &[Entry<A>], position: u32, lo: u64, hi: u64) -> usize
     requires rising { AreRising entries.now }
     requires from { AreFrom lo entries.now }
@@ -120,7 +120,7 @@ pub fn find<A: Allocator>(entries: &[Entry<A>], key: u64) -> Option<usize>
     Some(at)
 }
 
-/// Whether the least key is this one or below.
+/// Tells whether the least key is this one or below.
 pub fn begins_by<A: Allocator>(entries: &[Entry<A>], key: u64) -> bool
     ensures { result ≡ begins_by key entries.now }
 {
@@ -185,7 +185,7 @@ pub fn reserve_at<A: Allocator + Copy>(
     entries[at].reserve(alloc)
 }
 
-/// One version more at a place.
+/// Adds one version at a place.
 pub fn push_at<A: Allocator>(
     entries: &mut Vec<Entry<A>, A>,
     at: usize,
@@ -203,7 +203,7 @@ pub fn push_at<A: Allocator>(
     entries[at].push(position, row);
 }
 
-/// Drops what no position from the horizon on sees.
+/// Drops the versions at a place that no position from the horizon on sees.
 pub fn prune_at<A: Allocator>(entries: &mut Vec<Entry<A>, A>, at: usize, horizon: u32)
     requires { at < length entries.old.items }
     ensures { (d : Slot) → IsPruned horizon (slice_index_or entries.old.items at d)
@@ -213,7 +213,7 @@ pub fn prune_at<A: Allocator>(entries: &mut Vec<Entry<A>, A>, at: usize, horizon
     entries[at].prune(horizon);
 }
 
-/// Drops from each key what no position from the horizon on sees.
+/// Drops from each key the versions that no position from the horizon on sees.
 pub fn prune_each<A: Allocator>(entries: &mut Vec<Entry<A>, A>, horizon: u32)
     ensures { ArePruned horizon (length entries.old.items) entries.old.items entries.new.items }
 {
@@ -231,7 +231,7 @@ pub fn drop_empty<A: Allocator>(entries: &mut Vec<Entry<A>, A>)
     entries.retain(|entry| !entry.is_empty());
 }
 
-/// Drops what no position from the horizon on sees, and the keys of which nothing is left.
+/// Drops the versions that no position from the horizon on sees, and the keys of which no version is left.
 pub fn prune<A: Allocator>(entries: &mut Vec<Entry<A>, A>, horizon: u32)
     ensures { IsPrunedTo horizon entries.old.items entries.new.items }
 {

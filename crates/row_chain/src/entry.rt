@@ -24,28 +24,28 @@ impl<A: Allocator> Model for Entry<A> {
 }
 
 impl<A: Allocator> Entry<A> {
-    /// Its key.
+    /// The key of the entry.
     pub fn key(&self) -> u64
         ensures { result ≡ self.now.key }
     {
         self.key
     }
 
-    /// The row after a position; none where there is none.
+    /// The row after a position, where there is a row.
     pub fn row(&self, position: u32) -> Option<&[u8]>
         ensures { option_copied result ≡ row_up_to position self.now.chain.versions }
     {
         self.chain.at(position)
     }
 
-    /// Whether it has no versions.
+    /// Tells whether the key has no versions.
     pub fn is_empty(&self) -> bool
         ensures { result ≡ (length self.now.chain.versions == 0) }
     {
         self.chain.is_empty()
     }
 
-    /// Whether there is a row after a position.
+    /// Tells whether there is a row after a position.
     pub fn shows(&self, position: u32) -> bool
         ensures { result ≡ is_some (row_up_to position self.now.chain.versions) }
     {
@@ -54,7 +54,7 @@ impl<A: Allocator> Entry<A> {
 }
 
 impl<A: Allocator> Entry<A> {
-    /// One of a key that has no versions yet, for rows of so many bytes.
+    /// An entry of a key that has no versions yet, for rows of `width` bytes.
     pub fn new(width: u16, key: u64) -> Entry<A>
         ensures key { result.key ≡ key }
         ensures versions { result.chain.versions ≡ [] }

@@ -30,7 +30,7 @@ fn padded(row: &[u8]) -> [u8; 8]
 }
 
 impl Lone {
-    /// None yet.
+    /// The lack of a version yet, for rows of this width.
     pub fn new(width: u16) -> Lone
         ensures versions { versions_of_lone result ≡ [] }
         ensures width { result.width ≡ width }
@@ -72,14 +72,14 @@ impl Lone {
         }
     }
 
-    /// Whether there is a version.
+    /// Tells whether there is a version.
     pub fn is_written(&self) -> bool
         ensures { result ≡ self.now.written }
     {
         self.written
     }
 
-    /// Whether one more version can be written here.
+    /// Tells whether one more version can be written here.
     pub fn has_place(&self) -> bool
         ensures { result ≡ has_place self.now }
     {
@@ -107,7 +107,7 @@ impl Lone {
         None
     }
 
-    /// Without its version, where that is a removal that each position from the horizon on sees.
+    /// Drops the version where it is a removal that each position from the horizon on sees.
     pub fn pruned(self, horizon: u32) -> Lone
         ensures versions { versions_of_lone result ≡ needed_versions horizon (versions_of_lone self) }
         ensures width { result.width ≡ self.width }

@@ -1,4 +1,4 @@
-//! A page: some keys in order.
+//! A page: keys in order.
 
 ghost use Rattle.std.specs.Prelude.{◌≡◌, ◌==◌, List, [], ◌∷◌, ◌<◌, ◌≤◌, length, take, drop, slice_get, option_map};
 ghost use Rattle.std.specs.Prelude.{is_ok, slice_index_or, slice_set, Some, None, OnOk, OnErr, IfOk, IfSome, IfNone};
@@ -12,7 +12,7 @@ use crate::entry::Entry;
 use std::alloc::{AllocError, Allocator, Global};
 use std::marker::Model;
 
-/// Some keys in order, each with its versions.
+/// A page of keys in order, each with its versions.
 #[derive(Drop)]
 pub struct Page<A: Allocator = Global> {
     entries: Vec<Entry<A>, A>,
@@ -28,21 +28,21 @@ impl<A: Allocator> Model for Page<A> {
 }
 
 impl<A: Allocator> Page<A> {
-    /// Whether its least key is this one or below.
+    /// Tells whether the page's least key is this one or below.
     pub fn begins_by(&self, key: u64) -> bool
         ensures { result ≡ begins_by key self.now }
     {
         entries::begins_by(&self.entries, key)
     }
 
-    /// Its least key, 0 where it has none.
+    /// The page's least key, 0 where the page has none.
     pub fn least(&self) -> u64
         ensures { result ≡ least_key self.now }
     {
         entries::least(&self.entries)
     }
 
-    /// How many keys it has.
+    /// Returns the number of the page's keys.
     pub fn len(&self) -> usize
         ensures { result ≡ length self.now }
     {
@@ -58,7 +58,7 @@ impl<A: Allocator> Page<A> {
         entries::row_at(&self.entries, position, key)
     }
 
-    /// How many rows there are in a range at a position.
+    /// Counts the rows in a range at a position.
     pub fn count(&self, position: u32, lo: u64, hi: u64) -> usize
         requires { AreRising self.now }
         ensures { result ≡ length (rows_between position lo hi self.now) }
@@ -129,7 +129,7 @@ impl<A: Allocator> Page<A> {
         entries::reserve_at(&mut self.entries, alloc, at)
     }
 
-    /// One version more at a place.
+    /// Adds one version at a place.
     pub fn push_at(&mut self, at: usize, position: u32, row: Option<&[u8]>)
         requires at { at < length self.old }
         requires room { (d : Slot) → HasRoom (slice_index_or self.old at d).chain }
@@ -141,7 +141,7 @@ impl<A: Allocator> Page<A> {
         entries::push_at(&mut self.entries, at, position, row);
     }
 
-    /// Drops what no position from the horizon on sees, and the keys of which nothing is left.
+    /// Drops the versions that no position from the horizon on sees, and the keys of which no version is left.
     pub fn prune(&mut self, horizon: u32)
         ensures { IsPrunedTo horizon self.old self.new }
     {

@@ -8,7 +8,7 @@ ghost use Rattle.row_chain.specs.Pair.{versions_of_pair, IsPair};
 
 use crate::lone::Lone;
 
-/// A version, and another or room for one. Rows are narrow.
+/// A version of a narrow row, and another version or room for one.
 #[derive(Clone, Copy, Debug, PartialEq, Eq)]
 pub struct Pair {
     pub(crate) first: Lone,
@@ -16,7 +16,7 @@ pub struct Pair {
 }
 
 impl Pair {
-    /// One version, and room for another.
+    /// A pair of one version, with room for another.
     pub fn of(first: Lone) -> Pair
         requires fit { IsFit first }
         requires written { first.written ≡ true }
@@ -42,7 +42,7 @@ impl Pair {
         }
     }
 
-    /// One version more, the newest.
+    /// Adds a version, the newest.
     pub fn push(&mut self, position: u32, row: Option<&[u8]>)
         requires pair { IsPair self.old }
         requires room { has_place self.old.second ≡ true }
@@ -55,8 +55,8 @@ impl Pair {
         self.second = Lone::of(self.first.width, position, row);
     }
 
-    /// The only version that some position from the horizon on sees, or that there is none; no answer where there are
-    /// two.
+    /// Returns the versions that some position from the horizon on sees, where they are at most one; no answer where
+    /// they are both.
     pub fn pruned(&self, horizon: u32) -> Option<Lone>
         requires { IsPair self.now }
         ensures left { IfSome result (λ o. versions_of_lone o ≡ needed_versions horizon (versions_of_pair self.now)) }

@@ -66,7 +66,7 @@ fn row_up_to<'a>(width: usize, marks: &[Mark], bytes: &'a [u8], position: u32) -
     None
 }
 
-/// How many marks at the front no position from the horizon on sees.
+/// Counts the marks at the front that no position from the horizon on sees.
 fn hidden_count(marks: &[Mark], horizon: u32) -> usize
     ensures within { result ≤ length marks.now }
     ensures hidden_count { result ≡ hidden_count horizon (map (λ m. m.position) marks.now) }
@@ -83,7 +83,7 @@ fn hidden_count(marks: &[Mark], horizon: u32) -> usize
 }
 
 impl<A: Allocator + Copy> Run<A> {
-    /// One without versions, with memory for so many.
+    /// A run without versions, with memory for `count` versions.
     pub fn new(alloc: A, width: u16, count: u8) -> Result<Run<A>, AllocError>
         ensures versions { IfOk result (λ r. r.versions ≡ []) }
         ensures width { IfOk result (λ r. r.width ≡ width) }
@@ -111,7 +111,7 @@ impl<A: Allocator> Run<A> {
         Ok(())
     }
 
-    /// Whether it has no version.
+    /// Tells whether the run has no version.
     pub fn is_empty(&self) -> bool
         ensures { result ≡ (length self.now.versions == 0) }
     {
@@ -128,7 +128,7 @@ impl<A: Allocator> Run<A> {
 }
 
 impl<A: Allocator> Run<A> {
-    /// One version more, the newest. It takes no memory.
+    /// Adds a version, the newest. Takes no memory.
     pub fn push(&mut self, position: u32, row: Option<&[u8]>)
         requires room { HasRoom self.old }
         requires width { IfSome row (λ r. length r.now ≡ self.old.width) }
@@ -160,7 +160,7 @@ impl<A: Allocator> Run<A> {
         }
     }
 
-    /// The only version, or that there is none, where that can lie beside the key.
+    /// The only version, or the lack of one, where that can lie beside the key.
     pub fn lone(&self) -> Option<Lone>
         ensures versions { IfSome result (λ o. versions_of_lone o ≡ self.now.versions) }
         ensures width { IfSome result (λ o. o.width ≡ self.now.width) }
@@ -184,7 +184,7 @@ impl<A: Allocator> Run<A> {
     }
 }
 
-/// Whether all that is left is a removal that each position from the horizon on sees.
+/// Tells whether all that is left is a removal that each position from the horizon on sees.
 fn is_removed(marks: &[Mark], horizon: u32) -> bool
     ensures { (width : ℕ) (bytes : List ℕ) → result ≡ is_removed horizon (versions_of width marks.now bytes) }
 {
@@ -199,8 +199,8 @@ fn is_removed(marks: &[Mark], horizon: u32) -> bool
 }
 
 impl<A: Allocator> Run<A> {
-    /// Drops the versions that no position from the horizon on sees, and answers what is left where that can lie beside
-    /// the key.
+    /// Drops the versions that no position from the horizon on sees. The answer is the version that is left, or the
+    /// lack of one, where that can lie beside the key.
     pub fn prune_to(&mut self, horizon: u32) -> Option<Lone>
         ensures versions { self.new.versions ≡ needed_versions horizon self.old.versions }
         ensures width { self.new.width ≡ self.old.width }
@@ -213,7 +213,7 @@ impl<A: Allocator> Run<A> {
     }
 }
 
-/// The only version, where rows are narrow, or that there is none.
+/// The only version, where rows are narrow, or the lack of one.
 fn lone_of(width: u16, marks: &[Mark], bytes: &[u8]) -> Option<Lone>
     requires { length bytes.now ≡ length marks.now * width }
     ensures versions { IfSome result (λ o. versions_of_lone o ≡ versions_of width marks.now bytes.now) }

@@ -1,4 +1,4 @@
-//! What a call has looked at.
+//! The looks of a call.
 
 ghost use Rattle.std.specs.Prelude.{◌≡◌, [], ◌∷◌, ◌++◌, OnOk, OnErr};
 
@@ -35,7 +35,7 @@ impl<A: Allocator> ReadSet<A> {
         }
     }
 
-    /// A look at one key, behind the others.
+    /// Adds a look at one key, behind the others.
     pub fn add_point(&mut self, table: u8, key: u64) -> Result<(), AllocError>
         ensures added { OnOk result
             (self.new ≡ self.old ++ record { table = table; lo = key; hi = key } ∷ []) }
@@ -48,7 +48,7 @@ impl<A: Allocator> ReadSet<A> {
         })
     }
 
-    /// A look, behind the others.
+    /// Adds a look, behind the others.
     pub fn add_range(&mut self, look: Look) -> Result<(), AllocError>
         ensures added { OnOk result (self.new ≡ self.old ++ look ∷ []) }
         ensures unchanged { OnErr result (self.new ≡ self.old) }

@@ -20,7 +20,7 @@ impl<A: Allocator> Model for Bytes<A> {
 }
 
 impl<A: Allocator> Bytes<A> {
-    /// These bytes, in the memory that they are in.
+    /// Makes a row of these bytes, in the memory that they are in.
     pub fn new(bytes: Vec<u8, A>) -> Bytes<A>
         ensures { result ≡ bytes.items }
     {
@@ -43,7 +43,7 @@ impl<A: Allocator> Bytes<A> {
     }
 }
 
-/// What stands at a key of a table. Contracts see a pair: the key, of table and key, and the value.
+/// A key of a table, and what stands there. Contracts see a pair: the key, of table and key, and the value.
 #[derive(Debug, Drop)]
 pub struct Keyed<V> {
     table: u8,

@@ -1,4 +1,4 @@
-//! Whether a call looked at a key that another one wrote.
+//! The test whether a call looked at a key that another call wrote.
 
 ghost use Rattle.std.specs.Prelude.{◌≡◌};
 ghost use Rattle.schema.specs.Rows.{shares_key};
@@ -7,8 +7,8 @@ use crate::read_set::ReadSet;
 use crate::write_set::WriteSet;
 use std::alloc::Allocator;
 
-/// Whether a written key, put or removed, lies in one of the looks. It takes a logarithm of the
-/// writes for each look.
+/// Tells whether a written key, put or removed, lies in one of the looks. The test takes a logarithm of the writes for
+/// each look.
 pub fn shares_key<A: Allocator, B: Allocator + Copy>(
     reads: &ReadSet<A>,
     writes: &WriteSet<B>,

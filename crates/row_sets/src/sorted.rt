@@ -16,7 +16,7 @@ use std::alloc::{AllocError, Allocator};
 /// A key, of table and key, and its last write: the bytes that were put, or none where the row was removed.
 pub(crate) type KeyAndWrite<A> = ((u8, u64), Option<Bytes<A>>);
 
-/// Where a key stands, or where it would.
+/// Returns the index where a key stands, or where it would stand.
 fn search<A: Allocator>(writes: &[KeyAndWrite<A>], key: (u8, u64)) -> Result<usize, usize>
     requires { T (is_sorted key_cmp writes.now) }
     ensures within { IsSearchInRange result (length writes.now) }
@@ -41,7 +41,7 @@ pub(crate) fn find<A: Allocator>(
     }
 }
 
-/// Puts a write at its key, in place of one that stands there.
+/// Puts a write at its key, in place of a write that stands there.
 pub(crate) fn put<A: Allocator>(
     writes: &mut Vec<KeyAndWrite<A>, A>,
     key: (u8, u64),

@@ -1,4 +1,4 @@
-//! What a call has written.
+//! The writes of a call.
 
 ghost use Rattle.std.specs.Prelude.{◌≡◌, ◌↔◌, ◌<◌, ◌^◌, length, IsTrue, IfOk, OnOk, OnErr, Some, None, option_map};
 ghost use Rattle.std.specs.Prelude.{filter};
@@ -19,7 +19,7 @@ use std::slice::Iter;
 #[derive(Drop)]
 pub struct WriteSet<A: Allocator + Copy = Global> {
     alloc: A,
-    /// In the order of tables and keys.
+    /// The writes in the order of tables and keys.
     writes: Vec<KeyAndWrite<A>, A>,
 }
 
@@ -49,7 +49,7 @@ impl<A: Allocator + Copy> WriteSet<A> {
         }
     }
 
-    /// No writes, with room for the keys of so many.
+    /// No writes, with room for the keys of `count` writes.
     pub fn with_room(alloc: A, count: usize) -> Result<WriteSet<A>, AllocError>
         ensures { IfOk result (λ writes. writes ≡ empty) }
     {
@@ -59,7 +59,7 @@ impl<A: Allocator + Copy> WriteSet<A> {
         })
     }
 
-    /// The row becomes these bytes.
+    /// Writes these bytes as the row at a key.
     pub fn put(&mut self, table: u8, key: u64, bytes: &[u8]) -> Result<(), AllocError>
         ensures written { OnOk result
             (self.new ≡ with_write self.old (table, key) (Some bytes.now)) }
@@ -70,7 +70,7 @@ impl<A: Allocator + Copy> WriteSet<A> {
         Ok(())
     }
 
-    /// The row is removed.
+    /// Removes the row at a key.
     pub fn remove(&mut self, table: u8, key: u64) -> Result<(), AllocError>
         ensures written { OnOk result (self.new ≡ with_write self.old (table, key) None) }
         ensures unchanged { OnErr result (self.new ≡ self.old) }
@@ -79,7 +79,7 @@ impl<A: Allocator + Copy> WriteSet<A> {
         Ok(())
     }
 
-    /// No writes any more.
+    /// Forgets all writes.
     pub fn clear(&mut self)
         ensures { self.new ≡ empty }
     {
@@ -98,21 +98,21 @@ impl<A: Allocator + Copy> WriteSet<A> {
         }
     }
 
-    /// Whether a key was written.
+    /// Tells whether a key was written.
     pub fn contains(&self, table: u8, key: u64) -> bool
         ensures { result ≡ contains_key self.now (table, key) }
     {
         find(&self.writes, (table, key)).is_some()
     }
 
-    /// Whether no key was written.
+    /// Tells whether no key was written.
     pub fn is_empty(&self) -> bool
         ensures { IsTrue result ↔ (self.now ≡ empty) }
     {
         self.len() == 0
     }
 
-    /// How many keys were written.
+    /// Returns the number of keys that were written.
     pub fn len(&self) -> usize
         ensures { result ≡ len self.now }
     {
@@ -135,7 +135,7 @@ impl<A: Allocator + Copy> WriteSet<A> {
         between(&self.writes, look).iter()
     }
 
-    /// Whether a key that a look covers was written.
+    /// Tells whether a key that a look covers was written.
     pub fn is_written_in(&self, look: Look) -> bool
         ensures { result ≡ list_any (covers look) (keys self.now) }
     {

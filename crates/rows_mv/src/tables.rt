@@ -90,7 +90,7 @@ fn put_at<A: Allocator>(
     tables[at].push(key, position, row);
 }
 
-/// One version more of a key.
+/// Adds one version of a key.
 pub fn put<A: Allocator>(
     tables: &mut Vec<KeyTable<A>, A>,
     table: usize,
@@ -142,7 +142,7 @@ fn row_of<A: Allocator>(write: &Option<Bytes<A>>) -> Option<&[u8]>
     }
 }
 
-/// One version more of each written key, at a position. Takes no memory.
+/// Adds one version of each written key, at a position. Takes no memory.
 pub fn put_each<A: Allocator, B: Allocator + Copy>(
     tables: &mut Vec<KeyTable<A>, A>,
     position: u32,
@@ -169,7 +169,7 @@ fn prune_at<A: Allocator>(tables: &mut Vec<KeyTable<A>, A>, at: usize, horizon: 
     tables[at].prune(horizon);
 }
 
-/// Where pruning goes on: at the page of a table in which a key stands or would stand.
+/// The place at which pruning goes on: the page of a table in which a key stands or would stand.
 #[derive(Clone, Copy)]
 pub struct Place {
     table: usize,
@@ -182,7 +182,7 @@ impl Place {
         Place { table: 0, key: 0 }
     }
 
-    /// The page behind one of a table: that of a key, or without a key the first of the next table.
+    /// The place behind a page of a table: the page of a key, or without a key the first page of the next table.
     fn behind(table: usize, key: Option<u64>) -> Place {
         match key {
             Some(key) => Place { table, key },
@@ -193,13 +193,13 @@ impl Place {
         }
     }
 
-    /// The key at which it goes on in this table or in a later one.
+    /// The key at which pruning goes on in this table or in a later one.
     fn key_in(self, table: usize) -> u64 {
         if table == self.table { self.key } else { 0 }
     }
 }
 
-/// The number of the first table from one on that has keys, else of how many tables there are.
+/// The number of the first table, from `from` on, that has keys; else the number of tables.
 fn first_with_keys<A: Allocator>(tables: &[KeyTable<A>], from: usize) -> usize {
     for at in from..tables.len() {
         if tables[at].has_keys() {
@@ -223,8 +223,8 @@ fn prune_page_at<A: Allocator>(
     tables[at].prune_page(key, horizon)
 }
 
-/// Drops of the page of keys at a place what no position from the horizon on sees. Answers the place behind it, or none
-/// where nothing stands from this place on. Takes no memory.
+/// Drops, in the page of keys at a place, the versions that no position from the horizon on sees. Answers the place
+/// behind the page, or none where no keys stand from this place on. Takes no memory.
 pub fn prune_page<A: Allocator>(
     tables: &mut Vec<KeyTable<A>, A>,
     place: Place,

@@ -30,7 +30,7 @@ use std::sync::atomic::{AtomicBool, AtomicU64, Ordering};
 /// The most calls that `refuse_each` makes.
 const MOST_CALLS: u64 = 1000;
 
-/// Which growths are to be refused, and how many were asked for and refused so far.
+/// The growths that are to be refused, and the numbers of growths that were asked for and refused so far.
 #[derive(Drop)]
 struct Refusals {
     growths: AtomicU64,
@@ -57,9 +57,10 @@ impl Refusals {
 /// An allocator that has the memory of `inner`, and refuses growths on demand.
 ///
 /// A growth is each call that asks for a block: a first block, a larger one in its place, and also a smaller one.
-/// `refuse_nth` and `refuse_all` replace what an earlier one of them asked for.
+/// `refuse_nth` and `refuse_all` replace what an earlier call of either asked for.
 ///
-/// All its values are equal, as those of `Global` are, so that a type with an allocator can derive comparisons.
+/// The values of this type are all equal, as those of `Global` are, so that a type with an allocator can derive
+/// comparisons.
 #[derive(Drop)]
 #[derive_where(PartialEq, Eq, PartialOrd, Ord, Hash, Debug)]
 pub struct Scarce<B: Allocator = Global> {
@@ -95,12 +96,12 @@ impl<B: Allocator> Scarce<B> {
         self.refusals.all.store(on, Ordering::SeqCst);
     }
 
-    /// How many growths were refused so far.
+    /// Returns the number of growths that were refused so far.
     pub fn refused(&self) -> u64 {
         self.refusals.refused.load(Ordering::SeqCst)
     }
 
-    /// How many growths were asked for so far, with those that were refused.
+    /// Returns the number of growths that were asked for so far, refused growths included.
     pub fn growths(&self) -> u64 {
         self.refusals.growths.load(Ordering::SeqCst)
     }
@@ -108,14 +109,14 @@ impl<B: Allocator> Scarce<B> {
     /// Makes `call` again and again, with its first growth refused, then its second, and so on, until it succeeds.
     ///
     /// `call` makes the call that is tested once, checks what it answered and what it left, and says whether it
-    /// succeeded. The answer is how many calls failed before. It is `None` where a call failed though no growth was
-    /// refused meanwhile, and where none of 1000 calls succeeded. Nothing is refused afterwards.
+    /// succeeded. The answer is the number of calls that failed before. The answer is `None` where a call failed though
+    /// no growth was refused meanwhile, and where none of 1000 calls succeeded. No growth is refused afterwards.
     ///
-    /// A call that succeeds although a growth was refused, as one that only tries to shrink, ends the calls too. Then
-    /// `refused` has risen by one more than the answer.
+    /// A call that succeeds although a growth was refused, as a call that only tries to shrink, ends the calls too.
+    /// Then `refused` has risen by one more than the answer.
     ///
-    /// Where `call` compares two values that are made over `&Scarce`, keep them in one pair, so that both have one
-    /// lifetime, or compare them by a function with an allocator parameter for each.
+    /// Two values over `&Scarce` that `call` compares have to stand in one pair, so that both have one lifetime; or a
+    /// function with an allocator parameter for each compares them.
     pub fn refuse_each<F: FnMut() -> bool>(&self, mut call: F) -> Option<u64>
         requires { F.IsAlwaysCallable call }
         ensures few { IfSome result (λ n. n < 1000) }

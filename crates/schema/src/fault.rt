@@ -1,4 +1,4 @@
-//! Why pairs of tables and widths make no schema.
+//! The faults of pairs of tables and widths that make no schema.
 
 ghost use Rattle.std.specs.Prelude.{◌≡◌};
 ghost use Rattle.schema.specs.Schema.{number_of_fault};
@@ -8,7 +8,7 @@ use std::alloc::AllocFailed;
 use std::error::Error;
 use std::fmt;
 
-/// What is wrong with a pair of a table and a width, in the order in which one pair's faults count.
+/// A fault of a pair of a table and a width. The faults stand in the order in which one pair's faults count.
 #[derive(Clone, Copy, Debug, PartialEq, Eq)]
 pub enum SchemaFault {
     /// The table's number is outside 1 to 64.

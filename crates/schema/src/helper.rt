@@ -20,7 +20,7 @@ pub enum Helper {
     Cancel,
 }
 
-/// What a helper takes in a register.
+/// The kind of value that a helper takes in a register.
 #[derive(Clone, Copy, Debug, PartialEq, Eq)]
 pub enum ArgumentKind {
     /// The number of a table.
@@ -35,7 +35,7 @@ pub enum ArgumentKind {
     KeyWritten,
 }
 
-/// What a helper answers in r0.
+/// The kind of value that a helper answers in r0.
 #[derive(Clone, Copy, Debug, PartialEq, Eq)]
 pub enum AnswerKind {
     /// 1 where there was a row, and else 0.
@@ -63,7 +63,7 @@ impl Helper {
         }
     }
 
-    /// The number by which a program calls it, 1 to 6.
+    /// The number by which a program calls the helper, 1 to 6.
     pub fn number(self) -> i32
         ensures number { result ≡ number_of_helper self }
         ensures back { helper_of result ≡ Some self }
@@ -78,7 +78,7 @@ impl Helper {
         }
     }
 
-    /// What it takes in r1, r2 and so on.
+    /// Returns the kinds of the values that the helper takes in r1, r2 and so on.
     pub fn arguments(self) -> &'static [ArgumentKind]
         ensures { result.now ≡ arguments_of self }
     {
@@ -110,7 +110,7 @@ impl Helper {
         }
     }
 
-    /// What it answers in r0.
+    /// Returns the kind of the value that the helper answers in r0.
     pub fn answer(self) -> AnswerKind
         ensures { result ≡ answer_of self }
     {

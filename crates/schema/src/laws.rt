@@ -1,5 +1,4 @@
-//! What holds of rows, writes and looks, each as a function that does nothing and has the law as
-//! its contract.
+//! The laws of rows, writes and looks, each as a function that does nothing and has the law as its contract.
 
 pub use looks::{
     a_look_splits_at_a_key, count_in_after_writes, count_in_changes_by_one,

@@ -1,4 +1,4 @@
-//! What a database is to its programs: tables within limits, helpers, the words for rows. Faults of calls that may find
+//! A database as its programs see it: tables within limits, helpers, the words for rows. Faults of calls that may find
 //! no memory stand beside them.
 #![tactic(auto)]
 

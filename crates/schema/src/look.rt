@@ -1,4 +1,4 @@
-//! What a call looks at.
+//! The keys that a call looks at.
 
 ghost use Rattle.std.specs.Prelude.{◌≡◌};
 ghost use Rattle.schema.specs.Rows.{covers};
@@ -12,7 +12,7 @@ pub struct Look {
 }
 
 impl Look {
-    /// Whether it covers a key of a table, be a row there or not.
+    /// Tells whether the look covers a key of a table, whether or not a row stands there.
     pub fn covers(self, table: u8, key: u64) -> bool
         ensures { result ≡ covers self (table, key) }
     {

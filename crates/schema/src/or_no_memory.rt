@@ -2,7 +2,7 @@
 
 use std::alloc::AllocError;
 
-/// Why a call has no answer: memory is wanting, or it has a fault of its own.
+/// The cause for which a call has no answer: memory is wanting, or the call has a fault of its own.
 #[derive(Clone, Copy, Debug, PartialEq, Eq, Drop)]
 pub enum OrNoMemory<E> {
     NoMemory,

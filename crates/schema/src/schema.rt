@@ -13,8 +13,8 @@ use std::alloc::{AllocError, Allocator, Global};
 use std::collections::BTreeMap;
 use std::marker::Model;
 
-/// Which tables there are, and how wide their rows are. Contracts see a map from a table's number
-/// to its width in bytes.
+/// The tables of a database, and the widths of their rows. Contracts see a map from a table's number to its width in
+/// bytes.
 ///
 /// ```text
 /// let schema = Schema::new(alloc, &[(1, 8), (2, 40)])?;
@@ -24,7 +24,7 @@ use std::marker::Model;
 #[derive(Debug, Drop)]
 pub struct Schema<A: Allocator = Global> {
     widths: BTreeMap<u8, u16, A>,
-    /// That of the map, for what is kept beside a copy of the schema.
+    /// The allocator of the map, for what is kept beside a copy of the schema.
     alloc: A,
 }
 
@@ -43,8 +43,7 @@ impl<A: Allocator> Model for Schema<A> {
 }
 
 impl<A: Allocator + Clone> Schema<A> {
-    /// The schema of these pairs of a table's number and its width, or the fault of the first pair
-    /// that has one.
+    /// The schema of these pairs of a table's number and its width, or the fault of the first faulty pair.
     pub fn new(alloc: A, pairs: &[(u8, u16)]) -> Result<Schema<A>, SchemaFault>
         ensures exact { IfOk result (λ schema. schema_of pairs.now ≡ Ok schema) }
         // Which pair is refused, and why, is the definition's; memory may also run out.
@@ -82,14 +81,14 @@ impl<A: Allocator + Clone> Schema<A> {
 }
 
 impl<A: Allocator> Schema<A> {
-    /// What is known of every schema. To call this does nothing.
+    /// Every schema has tables and widths within the limits. A call of this law does nothing.
     pub fn known(&self)
         ensures { AreTables self.now }
     {
         let _ = &self.widths;
     }
 
-    /// The allocator from which its memory is. Contracts see no allocator.
+    /// The allocator of the schema's memory. Contracts see no allocator.
     pub fn allocator(&self) -> &A {
         &self.alloc
     }
@@ -101,7 +100,7 @@ impl<A: Allocator> Schema<A> {
         self.widths.get(&table).copied()
     }
 
-    /// Whether these bytes may stand as a row of this table, whatever its key.
+    /// Tells whether these bytes may stand as a row of this table, whatever its key.
     pub fn fits(&self, table: u8, bytes: &[u8]) -> bool
         ensures width { IsTrue result ↔ (map.get self.now table ≡ Some (length bytes.now)) }
         ensures row { (key : ℕ) → key < 2 ^ 64 → (IsTrue result ↔ IsRow self.now table key bytes.now) }
@@ -110,7 +109,7 @@ impl<A: Allocator> Schema<A> {
             .is_some_and(|width| usize::from(width) == bytes.len())
     }
 
-    /// What is wrong with this pair, given the tables so far.
+    /// Returns the fault of this pair, given the tables so far, where there is a fault.
     fn fault(&self, table: u8, width: u16) -> Option<SchemaFault>
         ensures { result ≡ fault_of self.now table width }
     {

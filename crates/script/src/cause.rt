@@ -1,4 +1,4 @@
-//! What ends a script.
+//! The causes that end a script.
 
 ghost use Rattle.std.specs.Prelude.{◌≡◌};
 ghost use Rattle.script.specs.SettingsFault.{cause_of_line_fault};
@@ -13,14 +13,14 @@ use std::alloc::AllocError;
 use std::error::Error;
 use std::fmt;
 
-/// Why a script ends, in the order of the printed numbers.
+/// A cause for which a script ends, in the order of the printed numbers.
 #[derive(Clone, Copy, Debug)]
 pub enum FaultCause {
     /// The line says nothing.
     Line(LineFault),
     /// The line doesn't stand where it may.
     Place,
-    /// The table is none of a schema's.
+    /// The schema's rules refuse the table.
     Table(SchemaFault),
     /// The bytes of a procedure are no program.
     Program(DecodeFault),
@@ -74,10 +74,10 @@ impl From<AllocError> for FaultCause {
     }
 }
 
-/// Why a script ends, and at which of its lines.
+/// The cause for which a script ends, and the line at which it ends.
 #[derive(Clone, Copy, Debug)]
 pub struct ScriptFault {
-    /// Counted from 1; 0 stands for the script as a whole.
+    /// The line's number, counted from 1. 0 stands for the script as a whole.
     pub line: u64,
     pub cause: FaultCause,
 }

@@ -1,4 +1,4 @@
-//! Why a line says nothing.
+//! The faults of a line.
 
 ghost use Rattle.std.specs.Prelude.{◌≡◌};
 ghost use Rattle.script.specs.Fault.{number_of_line_fault};
@@ -6,12 +6,12 @@ ghost use Rattle.script.specs.declared.fault.LineFault.TheVariants.{NoMemory};
 
 use std::alloc::AllocError;
 
-/// Why a line says nothing, in the order in which a line's faults count.
+/// A fault of a line, in the order in which a line's faults count.
 #[derive(Clone, Copy, Debug, PartialEq, Eq)]
 pub enum LineFault {
     /// A byte isn't printable ASCII, or there are more bytes than a line may have.
     Bytes,
-    /// There is no such word.
+    /// The first word isn't a word of the language.
     Word,
     /// The word asks for more fields, or for fewer.
     FieldCount,

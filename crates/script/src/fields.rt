@@ -7,7 +7,7 @@ ghost use Rattle.script.specs.Text.{fields_of, is_printable, is_readable, is_ski
 use crate::input::MAX_LINE;
 use std::alloc::{AllocError, Allocator};
 
-/// A line's text, where it is one: printable, and no longer than a line may be.
+/// A line's text, where the line is one: printable, and no longer than a line may be.
 pub fn readable_text(line: &[u8]) -> Option<&str>
     ensures text { IfSome result (λ text. text.now ≡ line.now) }
     ensures readable { IfSome result (λ _. is_readable line.now ≡ true) }
@@ -46,14 +46,14 @@ fn is_printable(byte: u8) -> bool
     byte >= 0x20 && byte <= 0x7e
 }
 
-/// Whether a line is empty or a comment.
+/// Tells whether a line is empty or a comment.
 pub fn is_skipped(line: &[u8]) -> bool
     ensures { result ≡ is_skipped line.now }
 {
     line.is_empty() || line[0] == b'#'
 }
 
-/// What stands between the spaces of a text. An error is want of memory.
+/// Returns the fields between the spaces of a text. An error is want of memory.
 pub fn fields<A: Allocator>(alloc: A, text: &str) -> Result<Vec<&str, A>, AllocError>
     ensures { IfOk result (λ fields. map (λ field. field.now) fields.items ≡ fields_of text.now) }
 {

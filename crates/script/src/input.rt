@@ -1,4 +1,4 @@
-//! Reading lines, no more of one than a line may have.
+//! The reading of lines, no more of a line than it may have.
 
 ghost use Rattle.std.specs.Prelude.{◌≡◌, ◌≢◌, ◌≤◌, ◌<◌, ℕ, List, [], All, length, take, slice_index, IfOk, true, false};
 ghost use Rattle.std.specs.Prelude.{vec_len, Some};
@@ -12,31 +12,31 @@ use std::io::{BufRead, ErrorKind};
 /// The most bytes that a line has.
 pub const MAX_LINE: usize = 70_000;
 
-/// What one look at the input gave of a line.
+/// The outcome of one look at the input.
 #[derive(Clone, Copy)]
 pub enum Piece {
-    /// Some of its bytes.
+    /// A part of the line's bytes.
     More,
-    /// The rest of it, up to an LF.
+    /// The rest of the line, up to an LF.
     Ended,
-    /// Nothing: the input is at its end.
+    /// The end of the input.
     AtEnd,
-    /// More than a line may have. The input shows it still.
+    /// More bytes than a line may have. The input shows them still.
     TooLong,
 }
 
-/// What stands next on an input.
+/// The next item of an input.
 #[derive(Clone, Copy)]
 pub enum Next {
     /// A line.
     Line,
-    /// Nothing.
+    /// The end of the input.
     AtEnd,
     /// A line that is too long.
     TooLong,
 }
 
-/// How many bytes stand before the first LF, and whether there is one.
+/// Returns the number of bytes before the first LF, and whether there is an LF.
 pub fn before_lf(shown: &[u8]) -> (usize, bool)
     ensures bound { result.0 ≤ length shown.now }
     ensures front { HasNoLf (take result.0 shown.now) }
@@ -84,8 +84,8 @@ fn take_piece<R: BufRead, A: Allocator>(input: &mut R, line: &mut Vec<u8, A>) ->
     }
 }
 
-/// Reads the next line into `line`, without its LF; of one that is too long no more than a line may have is taken. An
-/// error is the input's, or want of memory; then it isn't known how much of a line was taken.
+/// Reads the next line into `line`, without its LF. No more than a line may have is taken of a line that is too long.
+/// An error is the input's, or want of memory. After an error it isn't known how much of a line was taken.
 pub fn next_line<R: BufRead, A: Allocator>(input: &mut R, line: &mut Vec<u8, A>) -> io::Result<Next>
     ensures { IfOk result (λ n. (bytes : List ℕ) → R.remaining input.old ≡ Some bytes
         → IsNext bytes (R.remaining input.new) line.new.items n) }

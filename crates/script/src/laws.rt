@@ -1,4 +1,4 @@
-//! What is known of lines, about the definitions alone.
+//! Laws about lines, from the definitions alone.
 
 ghost use Rattle.std.specs.Prelude.{◌≡◌, ◌<◌, ℕ, List, length, Err};
 ghost use Rattle.script.specs.Text.{max_line};

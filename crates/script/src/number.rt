@@ -23,7 +23,7 @@ fn read_number(field: &str, least: u64, most: u64) -> Option<u64>
     }
 }
 
-/// A number of 8 bits.
+/// Reads a number of 8 bits.
 pub fn read_u8(field: &str) -> Result<u8, LineFault>
     ensures { result ≡ ok_or (u8_of field.now) Field }
 {
@@ -31,7 +31,7 @@ pub fn read_u8(field: &str) -> Result<u8, LineFault>
     Ok(number as u8)
 }
 
-/// A number of 16 bits.
+/// Reads a number of 16 bits.
 pub fn read_u16(field: &str) -> Result<u16, LineFault>
     ensures { result ≡ ok_or (u16_of field.now) Field }
 {
@@ -39,7 +39,7 @@ pub fn read_u16(field: &str) -> Result<u16, LineFault>
     Ok(number as u16)
 }
 
-/// A number of 32 bits.
+/// Reads a number of 32 bits.
 pub fn read_u32(field: &str) -> Result<u32, LineFault>
     ensures { result ≡ ok_or (u32_of field.now) Field }
 {
@@ -47,14 +47,14 @@ pub fn read_u32(field: &str) -> Result<u32, LineFault>
     Ok(number as u32)
 }
 
-/// A number of 64 bits.
+/// Reads a number of 64 bits.
 pub fn read_u64(field: &str) -> Result<u64, LineFault>
     ensures { result ≡ ok_or (u64_of field.now) Field }
 {
     read_number(field, 0, u64::MAX).ok_or(LineFault::Field)
 }
 
-/// A number of 32 bits that isn't 0.
+/// Reads a number of 32 bits that isn't 0.
 pub fn read_count(field: &str) -> Result<u32, LineFault>
     ensures count { result ≡ ok_or (count_of field.now) Field }
     ensures limits { IfOk result (λ count. 1 ≤ count) }
@@ -71,7 +71,7 @@ pub(crate) fn read_window(field: &str) -> Result<u32, LineFault>
     Ok(window as u32)
 }
 
-/// How many replicas.
+/// Reads a number of replicas.
 pub(crate) fn read_replicas(field: &str) -> Result<u32, LineFault>
     ensures replicas { result ≡ ok_or (number_of 1 MAX_REPLICAS field.now) Field }
     ensures limits { IfOk result (λ replicas. (1 ≤ replicas) × (replicas ≤ MAX_REPLICAS)) }
@@ -80,7 +80,7 @@ pub(crate) fn read_replicas(field: &str) -> Result<u32, LineFault>
     Ok(replicas as u32)
 }
 
-/// The length of a procedure's arguments.
+/// Reads the length of a procedure's arguments.
 pub fn read_args_len(field: &str) -> Result<u16, LineFault>
     ensures args_len { result ≡ ok_or (number_of 0 MAX_ARGUMENTS field.now) Field }
     ensures limits { IfOk result (λ args_len. args_len ≤ MAX_ARGUMENTS) }

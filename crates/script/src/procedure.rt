@@ -14,8 +14,8 @@ use catalogue::{Catalogue, CatalogueFault};
 use schema::Schema;
 use std::alloc::Allocator;
 
-/// Adds a procedure behind the others: decodes its bytes, verifies the program for the catalogue's tables, and stores
-/// it.
+/// Adds a procedure behind the others. Decodes its bytes, verifies the program for the catalogue's tables, and stores
+/// the procedure.
 #[tactic(auto, unfolding(crate::specs::Settings::with_procedure))]
 pub(crate) fn add_procedure<A: Allocator + Copy>(
     alloc: A,
@@ -41,7 +41,7 @@ pub(crate) fn add_procedure<A: Allocator + Copy>(
     }
 }
 
-/// The program of some bytes.
+/// Decodes the program of some bytes.
 fn program<A: Allocator>(alloc: A, bytes: &[u8]) -> Result<Code<A>, FaultCause>
     ensures ok { IfOk result (λ code. program_of bytes.now ≡ Ok code) }
     ensures fault { IfErr result (λ cause. (cause ≡ NoMemory)
@@ -56,7 +56,7 @@ fn program<A: Allocator>(alloc: A, bytes: &[u8]) -> Result<Code<A>, FaultCause>
     }
 }
 
-/// A program that is accepted for these tables and arguments of so many bytes.
+/// Accepts a program for these tables and arguments of `args_len` bytes.
 #[tactic(auto, using(crate::proofs::AcceptanceLemmas::verified_accepted, crate::proofs::AcceptanceLemmas::verified_refused))]
 fn accepted<A: Allocator + Copy>(
     alloc: A,

@@ -1,4 +1,4 @@
-//! Reading what a line says.
+//! The reading of what a line says.
 
 ghost use Rattle.std.specs.Prelude.{◌≡◌, ◌⊎◌, map, Ok, Err, IfOk, IfErr, IfSome};
 ghost use Rattle.script.specs.Script.{setting_said, step_said, print_said, statement_of, line_says};
@@ -16,14 +16,14 @@ use crate::word::{PrintWord, SettingWord, StepWord, Word, first_word};
 use row_sets::Bytes;
 use std::alloc::{AllocError, Allocator};
 
-/// What a line, given without its LF, says: a statement, or nothing where it is empty or a comment.
+/// Reads what a line, given without its LF, says: a statement, or nothing where it is empty or a comment.
 #[tactic(auto, unfolding(crate::specs::Script::line_says))]
 pub fn statement<A: Allocator + Copy>(
     alloc: A,
     line: &[u8],
 ) -> Result<Option<Statement<Bytes<A>>>, LineFault>
     ensures exact { IfOk result (λ statement. line_says line.now ≡ Ok statement) }
-    // Of several faults the first; or memory is wanting.
+    // The fault is the first of several, or memory is wanting.
     ensures fault { IfErr result (λ fault. (fault ≡ NoMemory) ⊎ (line_says line.now ≡ Err fault)) }
     ensures limits { IfOk result (λ statement. IfSome statement IsWithinLimits) }
 {
@@ -38,7 +38,7 @@ pub fn statement<A: Allocator + Copy>(
     Ok(Some(statement))
 }
 
-/// The statement of these fields.
+/// Reads the statement of these fields.
 fn statement_of<A: Allocator + Copy>(
     alloc: A,
     fields: &[&str],
@@ -59,7 +59,7 @@ fn statement_of<A: Allocator + Copy>(
     }
 }
 
-/// What a word says of the fields behind it, where the line sets something.
+/// Reads what a word says of the fields behind it, where the line sets something.
 #[tactic(auto, unfolding(crate::specs::Script::setting_said))]
 fn setting_said<A: Allocator + Copy>(
     alloc: A,
@@ -88,7 +88,7 @@ fn setting_said<A: Allocator + Copy>(
     }
 }
 
-/// What a word says of the fields behind it, where the line takes steps.
+/// Reads what a word says of the fields behind it, where the line takes steps.
 #[tactic(auto, using(crate::proofs::SayingLemmas::begin_of_four), unfolding(crate::specs::Script::step_said))]
 fn step_said<A: Allocator + Copy>(
     alloc: A,
@@ -140,7 +140,7 @@ fn step_said<A: Allocator + Copy>(
     }
 }
 
-/// What a word says of the fields behind it, where the line prints what there is.
+/// Reads what a word says of the fields behind it, where the line prints what there is.
 #[tactic(auto, unfolding(crate::specs::Script::print_said))]
 fn print_said<A: Allocator>(word: PrintWord, fields: &[&str]) -> Result<Action<Bytes<A>>, LineFault>
     ensures said { result ≡ print_said word (map (λ field. field.now) fields.now) }

@@ -1,4 +1,4 @@
-//! What the setting lines of a script have set so far.
+//! The settings that the lines of a script have set so far.
 
 ghost use Rattle.std.specs.Prelude.{◌≡◌, ◌⊎◌, ◌≤◌, Ok, Err, IfOk, IfErr, IfSome, OnOk, OnErr};
 ghost use Rattle.schema.specs.declared.limits.TheConstants.{MAX_REPLICAS, MAX_WINDOW};
@@ -16,7 +16,8 @@ use schema::{Schema, SchemaFault};
 use std::alloc::{AllocError, Allocator, Global};
 use std::marker::Model;
 
-/// What the lines of a script have set so far. Contracts see the window, the number of replicas and the catalogue.
+/// The settings that the lines of a script have set so far. Contracts see the window, the number of replicas and the
+/// catalogue.
 #[derive(Drop)]
 pub struct Settings<A: Allocator + Copy = Global> {
     window: Option<u32>,
@@ -41,7 +42,7 @@ impl<A: Allocator + Copy> Model for Settings<A> {
 }
 
 impl<A: Allocator + Copy> Settings<A> {
-    /// Nothing is set.
+    /// Makes settings of which nothing is set.
     pub fn new(alloc: A) -> Result<Settings<A>, AllocError>
         ensures { IfOk result (λ settings. settings ≡ no_settings) }
     {
@@ -60,7 +61,7 @@ impl<A: Allocator + Copy> Settings<A> {
     /// Sets what a line says.
     #[tactic(auto, unfolding(crate::specs::Settings::setting_after))]
     pub fn set(&mut self, setting: Setting<Bytes<A>>) -> Result<(), FaultCause>
-        // As a line's setting is.
+        // The limits are those of a line's setting.
         requires { IsSettingWithinLimits setting }
         ensures ok { OnOk result (setting_after self.old setting ≡ Ok self.new) }
         ensures fault { IfErr result (λ cause. (cause ≡ NoMemory) ⊎ (setting_after self.old setting ≡ Err cause)) }
@@ -97,7 +98,7 @@ impl<A: Allocator + Copy> Settings<A> {
         self.window
     }
 
-    /// How many replicas there are, 1 to 8, where that is set.
+    /// The number of replicas, 1 to 8, where that is set.
     pub fn replicas(&self) -> Option<u32>
         ensures replicas { result ≡ self.now.replicas }
         ensures from { IfSome result (λ replicas. 1 ≤ replicas) }

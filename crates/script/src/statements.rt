@@ -1,18 +1,18 @@
-//! What a line says.
+//! The statements of lines.
 
-/// What a line says: it sets something, or it acts. Names, programs and arguments are a `B`.
+/// A statement of a line: the line sets something, or it acts. Names, programs and arguments are a `B`.
 #[derive(Drop)]
 pub enum Statement<B> {
     Setting(Setting<B>),
     Action(Action<B>),
 }
 
-/// What a line sets.
+/// A setting of a line.
 #[derive(Drop)]
 pub enum Setting<B> {
-    /// 1 to 4,096.
+    /// The window, 1 to 4,096.
     Window(u32),
-    /// 1 to 8.
+    /// The number of replicas, 1 to 8.
     Replicas(u32),
     /// The number of a table, and the width of its rows.
     Table {
@@ -22,13 +22,13 @@ pub enum Setting<B> {
     Procedure {
         name: B,
         number: u16,
-        /// 0 to 256.
+        /// The length of the arguments, 0 to 256.
         args_len: u16,
         program: B,
     },
 }
 
-/// What a line does to a world, or prints of it.
+/// An action of a line: a step of a world, or a print of it.
 #[derive(Drop)]
 pub enum Action<B> {
     Begin {
@@ -48,11 +48,11 @@ pub enum Action<B> {
     Add {
         name: B,
         number: u16,
-        /// 0 to 256.
+        /// The length of the arguments, 0 to 256.
         args_len: u16,
         program: B,
     },
-    /// At most so many instructions of a call, at least one.
+    /// A turn of at most `most` instructions of a call, which is at least 1.
     Turn {
         call: u32,
         most: u32,
@@ -63,7 +63,7 @@ pub enum Action<B> {
     Order {
         call: u32,
     },
-    /// At most so many entries to a replica, at least one.
+    /// A delivery of at most `most` entries to a replica, which is at least 1.
     Deliver {
         replica: u32,
         most: u32,

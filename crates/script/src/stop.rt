@@ -1,4 +1,4 @@
-//! Why a script ended before its end.
+//! A cause for which a script ended before its end.
 
 ghost use Rattle.std.specs.Prelude.{◌≡◌};
 ghost use Rattle.script.specs.declared.stop.Stop.TheVariants.{Fault};
@@ -7,7 +7,7 @@ ghost use Rattle.script.specs.declared.cause.FaultCause.TheVariants.{NoMemory};
 use crate::cause::{FaultCause, ScriptFault};
 use std::io;
 
-/// Why a script ended before its end.
+/// A cause for which a script ended before its end.
 #[derive(Drop)]
 pub enum Stop {
     /// A line is at fault, or memory was wanting at it.
@@ -18,14 +18,14 @@ pub enum Stop {
     Output(io::Error),
 }
 
-/// A line is at fault.
+/// Makes the stop of a line that is at fault.
 pub fn fault_at(line: u64, cause: FaultCause) -> Stop
     ensures { result ≡ Fault (record { line = line; cause = cause }) }
 {
     Stop::Fault(ScriptFault { line, cause })
 }
 
-/// Memory was wanting at a line; 0 stands for the script as a whole.
+/// Makes the stop of a line at which memory was wanting. 0 stands for the script as a whole.
 pub fn out_of_memory(line: u64) -> Stop
     ensures { result ≡ Fault (record { line = line; cause = NoMemory }) }
 {

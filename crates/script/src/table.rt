@@ -35,7 +35,7 @@ pub(crate) fn add_table<A: Allocator + Copy>(
     Ok(())
 }
 
-/// Whether a catalogue has no procedures.
+/// Tells whether a catalogue has no procedures.
 fn is_empty<A: Allocator + Copy>(catalogue: &Catalogue<A>) -> bool
     ensures { result ≡ (length catalogue.now.procedures == 0) }
 {

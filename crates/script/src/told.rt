@@ -1,4 +1,4 @@
-//! What is said of a script that ended before its end.
+//! The message about a script that ended before its end.
 
 ghost use Rattle.std.specs.Prelude.{◌≡◌, ◌⊎◌};
 ghost use Rattle.byte_output.specs.Writes.{WritesText};
@@ -12,7 +12,7 @@ use byte_output::{FAILED, put, put_error};
 use std::io;
 use std::io::Write;
 
-/// Says why a script ended before its end, as far as the writer takes it: the exit status.
+/// Says why a script ended before its end, as far as the writer takes it. Returns the exit status.
 pub fn tell<E: Write>(faults: &mut E, stop: Stop) -> u8
     ensures range { (result ≡ 1) ⊎ (result ≡ FAILED) }
     ensures said { SaysEnd (E.contents faults.old) (E.contents faults.new) stop result }
@@ -29,7 +29,7 @@ pub fn tell<E: Write>(faults: &mut E, stop: Stop) -> u8
     }
 }
 
-/// Want of memory isn't the script's fault.
+/// Returns the exit status of a cause. Want of memory isn't the script's fault.
 fn status_of(cause: FaultCause) -> u8
     ensures { result ≡ status_of_cause cause }
 {

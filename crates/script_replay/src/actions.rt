@@ -1,4 +1,4 @@
-//! Doing the actions of lines.
+//! The actions of lines.
 
 ghost use Rattle.std.specs.Prelude.{◌≡◌};
 ghost use Rattle.byte_output.specs.Pending.{output_of};
@@ -19,13 +19,13 @@ use std::io;
 use std::io::Write;
 
 /// Does an action to a world, and gives what it prints to the output. What is printed takes no memory. An error is the
-/// output's, and then a beginning of that was given.
+/// output's, and then a beginning of the print was given.
 pub fn act<A: Allocator + Copy, W: Write>(
     world: &mut World<A>,
     output: &mut PagedOutput<'_, W>,
     action: &Action<Bytes<A>>,
 ) -> io::Result<()>
-    // As a line's action is.
+    // The limits are those of a line's action.
     requires { IsActionWithinLimits action.now }
     ensures same_output { (output_of output.new).ghost_name ≡ (output_of output.old).ghost_name }
     ensures setting { setting_of world.new ≡ setting_of world.old }

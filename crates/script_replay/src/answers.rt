@@ -24,7 +24,7 @@ use std::alloc::Allocator;
 use std::io;
 use std::io::Write;
 
-/// One step, and its line.
+/// Makes one step, and prints its line.
 fn step<A: Allocator + Copy, W: Write>(
     world: &mut World<A>,
     output: &mut PagedOutput<'_, W>,
@@ -66,7 +66,7 @@ fn answer_line(step: Step<'_>, outcome: Outcome, entry: DeliveredEntry) -> Optio
     }
 }
 
-/// What is said of the delivered entry.
+/// Returns what is said of the delivered entry.
 fn delivered_entry<A: Allocator + Copy>(world: &World<A>, outcome: Outcome) -> DeliveredEntry
     ensures { result ≡ delivered_entry (setting_of world.now) (world_of world.now).log outcome }
 {
@@ -83,8 +83,8 @@ fn delivered_entry<A: Allocator + Copy>(world: &World<A>, outcome: Outcome) -> D
     }
 }
 
-/// The reply that the caller of the call at a position is told, by its verdict: its own where it commits, that of the
-/// earlier call where it is repeated.
+/// The reply that the caller of the call at a position is told, by the call's verdict. A call that commits has its own
+/// reply, and a repeated call has the earlier call's.
 fn told_reply<A: Allocator + Copy>(world: &World<A>, position: u32, verdict: Verdict) -> Option<u64>
     ensures { result ≡ told_by (setting_of world.now) (world_of world.now).log position (Some verdict) }
 {
@@ -107,7 +107,7 @@ fn reply_at<A: Allocator + Copy>(world: &World<A>, position: u32) -> Option<u64>
     }
 }
 
-/// A call begins, of the procedure of a name, with a request or without one.
+/// Begins a call of the procedure of a name, with a request or without one, and prints the answer.
 pub(crate) fn begin<A: Allocator + Copy, W: Write>(
     world: &mut World<A>,
     output: &mut PagedOutput<'_, W>,
@@ -159,7 +159,7 @@ fn begin_step<'a>(
     }
 }
 
-/// A procedure is added.
+/// Adds a procedure, and prints the answer.
 pub(crate) fn add<A: Allocator + Copy, W: Write>(
     world: &mut World<A>,
     output: &mut PagedOutput<'_, W>,
@@ -184,7 +184,7 @@ pub(crate) fn add<A: Allocator + Copy, W: Write>(
     Ok(())
 }
 
-/// Up to so many turns of a call, as long as there is more to run, and the line of the last.
+/// Makes at most `most` turns of a call, as long as there is more to run, and prints the last turn's line.
 pub(crate) fn turn<A: Allocator + Copy, W: Write>(
     world: &mut World<A>,
     output: &mut PagedOutput<'_, W>,
@@ -201,7 +201,7 @@ pub(crate) fn turn<A: Allocator + Copy, W: Write>(
     put_answer(output, call_line(call, outcome))
 }
 
-/// A call runs to its end, and the line of its last turn.
+/// Runs a call to its end, and prints its last turn's line.
 pub(crate) fn exec<A: Allocator + Copy, W: Write>(
     world: &mut World<A>,
     output: &mut PagedOutput<'_, W>,
@@ -216,7 +216,7 @@ pub(crate) fn exec<A: Allocator + Copy, W: Write>(
     put_answer(output, call_line(call, outcome))
 }
 
-/// What the last of up to so many turns of a call answers.
+/// Makes at most `most` turns of a call, and returns what the last one answers.
 fn last_turn<A: Allocator + Copy>(world: &mut World<A>, call: u32, most: u32) -> Outcome
     requires { 1 ≤ most }
     ensures setting { setting_of world.new ≡ setting_of world.old }
@@ -238,7 +238,7 @@ fn is_more(outcome: Outcome) -> bool
     matches!(outcome, Outcome::More)
 }
 
-/// A call is ordered.
+/// Orders a call, and prints the answer.
 pub(crate) fn order<A: Allocator + Copy, W: Write>(
     world: &mut World<A>,
     output: &mut PagedOutput<'_, W>,
@@ -253,7 +253,7 @@ pub(crate) fn order<A: Allocator + Copy, W: Write>(
     Ok(())
 }
 
-/// Up to so many deliveries to a replica, each with its line; the first that is refused is the last.
+/// Makes at most `most` deliveries to a replica, each with its line. The first that is refused is the last.
 pub(crate) fn deliver<A: Allocator + Copy, W: Write>(
     world: &mut World<A>,
     output: &mut PagedOutput<'_, W>,
@@ -280,7 +280,7 @@ fn is_delivery(outcome: Outcome) -> bool
     matches!(outcome, Outcome::Delivered { .. })
 }
 
-/// A replica is made anew.
+/// Makes a replica anew, and prints the answer.
 pub(crate) fn rebuild<A: Allocator + Copy, W: Write>(
     world: &mut World<A>,
     output: &mut PagedOutput<'_, W>,

@@ -13,10 +13,10 @@ use std::alloc::Allocator;
 /// The most bytes of an excerpt.
 pub(crate) const EXCERPT_BYTES: usize = 4096;
 
-/// Bytes of a text from a place on, as many as there is room for.
+/// The bytes of a text from a place on, as many as there is room for.
 #[derive(Drop)]
 struct Excerpt {
-    /// How many bytes still stand before the place.
+    /// The number of bytes that still stand before the place.
     skip: usize,
     bytes: ArrayVec<u8, EXCERPT_BYTES>,
 }

@@ -1,4 +1,4 @@
-//! What follows from what a line does.
+//! Laws about what a line does.
 
 ghost use Rattle.std.specs.Prelude.{◌≡◌, ℕ, List, slice_get, Some, false};
 ghost use Rattle.dsm_model.specs.declared.outcome.Outcome.{Outcome};
@@ -18,7 +18,7 @@ use log_model::procedures_are_never_lost;
 use replica::Replica;
 use std::alloc::Allocator;
 
-/// No program runs more instructions than it has slots, so a call that is executed comes to its end: what is printed is
+/// A call that is executed comes to its end, since no program runs more instructions than it has slots. Its line is
 /// never that there is more.
 pub fn executions_end<A: Allocator + Copy>(world: &World<A>)
     ensures { (call : ℕ) (text : List ℕ) (after : ModelWorld)
@@ -26,6 +26,7 @@ pub fn executions_end<A: Allocator + Copy>(world: &World<A>)
         → (outcome : Outcome) × (is_more outcome ≡ false)
         × (text ≡ step_text (setting_of world.now) after.log (Turn call) outcome) }
 {
+    // Laws:
     turns_follow_the_run();
     open_calls_are_sound();
     steps_keep_a_world();
@@ -35,7 +36,7 @@ pub fn executions_end<A: Allocator + Copy>(world: &World<A>)
     world.keeps_what_was_delivered();
 }
 
-/// What is known of all stored procedures holds of those of each replica.
+/// The laws of all stored procedures hold of the procedures of each replica.
 fn procedures_are_stored<A: Allocator + Copy>(replicas: &[Replica<A>])
     ensures { (k : ℕ) (r : ReplicaState) → slice_get replicas.now k ≡ Some r → AreStored r.procedures }
 {

@@ -1,4 +1,4 @@
-//! Doing a line of a script.
+//! The lines of a script, as they are done.
 
 ghost use Rattle.std.specs.Prelude.{◌≡◌, Some, Ok, IfOk, IfErr};
 ghost use Rattle.byte_output.specs.Pending.{output_of};
@@ -20,7 +20,7 @@ use script::{
 use std::alloc::Allocator;
 use std::io::Write;
 
-/// Does what a line says: the stage behind it.
+/// Does what a line says, and returns the stage behind it.
 pub(crate) fn do_line<A: Allocator + Copy, W: Write>(
     alloc: A,
     stage: Stage<A>,
@@ -102,7 +102,7 @@ fn do_action<A: Allocator + Copy, W: Write>(
     act_on(world, output, &action, number)
 }
 
-/// The world that acts: at first the one that was set up.
+/// Returns the world that acts. The first action's world is the one that was set up.
 fn acting<A: Allocator + Copy>(alloc: A, stage: Stage<A>, number: u64) -> Result<World<A>, Stop>
     ensures ok { IfOk result (λ world. (action : ScriptAction)
         → effect_of (stage_of stage) (Ok (Some (statement.Action action)))
@@ -116,7 +116,7 @@ fn acting<A: Allocator + Copy>(alloc: A, stage: Stage<A>, number: u64) -> Result
     }
 }
 
-/// The world that was set up: its window and its replicas have to be set.
+/// Returns the world that was set up. Its window and its replicas have to be set.
 fn set_up<A: Allocator + Copy>(
     alloc: A,
     settings: Settings<A>,

@@ -40,12 +40,13 @@ pub(crate) fn put_log<A: Allocator + Copy, W: Write>(
     put_line(output, &Line::Log { entries })
 }
 
-/// The line of the entry that has so many before it.
+/// The line of the entry that has `before` entries before it.
 fn logged<A: Allocator + Copy>(world: &World<A>, before: u32) -> Line<'static>
     requires { before < length world.now.entries }
     ensures { (item : Item) → slice_get (world_of world.now).log before ≡ Some item
         → line_text result ≡ logged_text (setting_of world.now) (world_of world.now) before item }
 {
+    // Laws:
     a_log_only_grows();
     entries_suffice();
     replicas_follow_the_log();
@@ -66,7 +67,7 @@ fn logged<A: Allocator + Copy>(world: &World<A>, before: u32) -> Line<'static>
     }
 }
 
-/// What its line has of the entry at a position.
+/// The columns that the line of the entry at a position has in any case.
 fn logged_entry<A: Allocator + Copy>(position: u32, entry: &Entry<A>) -> LoggedEntry
     ensures { result ≡ logged_entry position (entry_of entry.now) }
 {
@@ -86,7 +87,7 @@ fn logged_entry<A: Allocator + Copy>(position: u32, entry: &Entry<A>) -> LoggedE
     }
 }
 
-/// The first of some replicas that has come further.
+/// The first of these replicas that has come further than a position.
 fn further_than<A: Allocator + Copy>(replicas: &[Replica<A>], position: u32) -> Option<&Replica<A>>
     ensures { option_map (λ kept. kept.now) result ≡ find (λ kept. nat_lt position kept.position) replicas.now }
 {

@@ -1,4 +1,4 @@
-//! Lines that are given to an output.
+//! The giving of lines to an output.
 
 ghost use Rattle.std.specs.Prelude.{◌≡◌};
 ghost use Rattle.byte_output.specs.Pending.{output_of};
@@ -34,7 +34,7 @@ pub(crate) fn put_answer<W: Write>(
     }
 }
 
-/// Gives what stands in front of an entry's bytes to the output.
+/// Gives the label in front of an entry's bytes to the output.
 pub(crate) fn put_bytes_label<W: Write>(
     output: &mut PagedOutput<'_, W>,
     position: u32,

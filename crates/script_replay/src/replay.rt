@@ -1,4 +1,4 @@
-//! Replaying a whole script.
+//! The replay of a whole script.
 
 ghost use Rattle.std.specs.Prelude.{◌≡◌, ◌⊎◌, ℕ, List, Some, IfErr, IfSome};
 ghost use Rattle.byte_output.specs.Pending.{output_of};
@@ -22,8 +22,9 @@ use std::alloc::Allocator;
 use std::io;
 use std::io::{BufRead, ErrorKind, Write};
 
-/// Replays the script in the input: what it prints goes to the output, and what ends it before its end is said to
-/// `faults`. The exit status is 0 at its end, 1 where a line is at fault, and 3 where a stream or memory failed.
+/// Replays the script in the input. What the script prints goes to the output, and what ends it before its end is said
+/// to `faults`. The exit status is 0 at the script's end, 1 where a line is at fault, and 3 where a stream or memory
+/// failed.
 pub fn replay_over<A: Allocator + Copy, R: BufRead, W: Write, E: Write>(
     alloc: A,
     input: &mut R,
@@ -92,6 +93,7 @@ fn replay<A: Allocator + Copy, R: BufRead, W: Write>(
     ensures wanted { (bytes : List ℕ) → R.remaining input.old ≡ Some bytes
         → IfErr result (GivesUpToWant W.contents bytes (R.remaining input.new) output.old output.new) }
 {
+    // Laws:
     lines_that_are_too_long_are_at_fault();
     let Ok(mut line) = Vec::with_capacity(alloc, MAX_LINE) else {
         return Err(out_of_memory(0));

@@ -33,6 +33,7 @@ pub(crate) fn put_rows<A: Allocator + Copy, W: Write>(
         (rows_text (setting_of world.now) (world_of world.now).log replica
         (numbered (world_of world.now).replicas replica)) }
 {
+    // Laws:
     rows_fit_the_schema();
     world.keeps_what_was_delivered();
     let Some(kept) = world.replica(replica) else {
@@ -75,6 +76,7 @@ fn put_table<S: Store, W: Write>(
         → AreBefore (table, 0) listed all
         → ListsMore W.contents output.old output.new all (table + 1, 0) listed result }
 {
+    // Laws:
     first_is_least();
     looks_cover_from_lo_to_hi();
     let mut count: u128 = 0;
@@ -90,7 +92,7 @@ fn put_table<S: Store, W: Write>(
     Ok(count)
 }
 
-/// The key and the row of the least key of a table from one on, where there is one.
+/// The least key of a table from `lo` on, and its row, where there is one.
 fn first_from<S: Store>(rows: &S, table: u8, lo: u64) -> Option<(u64, &[u8])>
     requires { S.is_gone rows.now ≡ false }
     ensures found { (all : Rows) → S.answers_from rows.now all

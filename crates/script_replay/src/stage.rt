@@ -1,14 +1,14 @@
-//! How far a script has come.
+//! The stage of a script.
 
 use dsm_world::World;
 use script::Settings;
 use std::alloc::Allocator;
 
-/// How far a script has come.
+/// The stage of a script.
 #[derive(Drop)]
 pub enum Stage<A: Allocator + Copy> {
-    /// It sets things.
+    /// The script sets things.
     SettingUp(Settings<A>),
-    /// Its world acts.
+    /// The script's world acts.
     Acting(World<A>),
 }

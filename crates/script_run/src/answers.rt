@@ -1,4 +1,4 @@
-//! What all calls of a script were answered, and the longest beginning of the log that was seen.
+//! The answers to all calls of a script, and the longest beginning of the log that was seen.
 
 ghost use Rattle.std.specs.Prelude.{◌≡◌, ℕ, ◌<◌, List, All, IfOk, IfSome, Some, length, slice_get, vec_len};
 ghost use mathlib.Core.List.{IsPrefix};
@@ -43,7 +43,7 @@ fn extend_by<J: LogSetting>(log: &mut Seen<J>, seen: &Option<Seen<J>>)
     }
 }
 
-/// What calls were answered, each at its place in the script, and the longest beginning of the log that was seen.
+/// The answers to calls, each at its place in the script, and the longest beginning of the log that was seen.
 #[derive(Drop)]
 struct Found<J: LogSetting> {
     answers: Vec<Option<CallAnswer>>,
@@ -51,7 +51,7 @@ struct Found<J: LogSetting> {
 }
 
 impl<J: LogSetting> Found<J> {
-    /// None of so many calls was answered.
+    /// Makes the state in which none of `count` calls was answered.
     fn new(alloc: Global, count: usize) -> Result<Found<J>, AllocError>
         ensures len { IfOk result (λ found. vec_len found.answers ≡ count) }
         ensures none { IfOk result (λ found. (w : Setting) (replicas : ℕ) (calls : List (ScriptCall (List ℕ)))
@@ -67,7 +67,7 @@ impl<J: LogSetting> Found<J> {
         })
     }
 
-    /// Puts what a call was answered at its place.
+    /// Puts a call's answer at the call's place.
     fn put(&mut self, made: &MadeCall<J>)
         ensures found { (replicas : ℕ) (calls : List (ScriptCall (List ℕ)))
             → AreFoundOf J.setting replicas self.old.log calls self.old.answers.items
@@ -81,7 +81,7 @@ impl<J: LogSetting> Found<J> {
         }
     }
 
-    /// Puts what the calls of a share were answered at their places.
+    /// Puts the answers to the calls of a share at their places.
     fn put_share(&mut self, share: &Vec<MadeCall<J>>)
         ensures found { (replicas : ℕ) (calls : List (ScriptCall (List ℕ)))
             → AreFoundOf J.setting replicas self.old.log calls self.old.answers.items
@@ -96,7 +96,7 @@ impl<J: LogSetting> Found<J> {
 }
 
 impl<J: LogSetting + Ledgers + Send + Sync + 'static> Found<J> {
-    /// The answer to the call at a place: what was found, or what it is told now where it wasn't made.
+    /// Returns the answer to the call at a place. The call is made now where it wasn't made.
     fn answer<R: Wait>(
         &mut self,
         rt: &R,
@@ -125,7 +125,7 @@ impl<J: LogSetting + Ledgers + Send + Sync + 'static> Found<J> {
     }
 }
 
-/// What each call was answered, in the order of the script, and the longest beginning of the log that a caller had
+/// Returns the answer to each call, in the order of the script, and the longest beginning of the log that a caller had
 /// seen. A call that no thread has made is made here. The error is want of memory.
 pub(crate) fn answers_of<J: LogSetting + Ledgers + Send + Sync + 'static, R: Wait>(
     rt: &R,
@@ -152,7 +152,7 @@ pub(crate) fn answers_of<J: LogSetting + Ledgers + Send + Sync + 'static, R: Wai
     Ok((answers, found.log))
 }
 
-/// How the replicas have ended, each with a beginning of the log, which may be longer than what callers had seen.
+/// Returns the ends of the replicas, each with a beginning of the log, which may be longer than what callers had seen.
 pub(crate) fn ends_of<J: LogSetting>(
     alloc: Global,
     log: &mut Seen<J>,

@@ -27,10 +27,10 @@ use tallies::Ledgers;
 /// A call that was made.
 #[derive(Drop)]
 pub(crate) struct MadeCall<J: LogSetting> {
-    /// Its place in the script, from 0 on.
+    /// The call's place in the script, from 0 on.
     pub(crate) place: usize,
     pub(crate) answer: CallAnswer,
-    /// What its caller had seen of the log then.
+    /// The beginning of the log that the caller had seen then.
     pub(crate) seen: Option<Seen<J>>,
 }
 
@@ -38,12 +38,12 @@ pub(crate) struct MadeCall<J: LogSetting> {
 #[derive(Drop)]
 pub(crate) struct Asking<J: LogSetting> {
     pub(crate) calls: Vec<PlannedCall<J>>,
-    /// Of each replica the place of the call that is taken next, if it is one of the replica's.
+    /// The place, for each replica, of the call that is taken next, if it is one of the replica's.
     next: Vec<AtomicUsize>,
 }
 
 impl<J: LogSetting + Ledgers + Send + Sync + 'static> Asking<J> {
-    /// The calls of a script, none of which was made.
+    /// Makes the calls of a script, none of which was made.
     pub(crate) fn new(
         alloc: Global,
         catalogue: &Catalogue,
@@ -69,9 +69,10 @@ impl<J: LogSetting + Ledgers + Send + Sync + 'static> Asking<J> {
         Ok(Asking { calls, next })
     }
 
-    /// Makes the calls by so many threads for each replica, and says after each part of them how many were made, where
-    /// that is to be shown: a hundredth, but of no fewer than 1,000 calls. What each thread has made; a call may be
-    /// left, where memory was wanting or there is no such replica. The error is want of memory before any call.
+    /// Makes the calls, by `executors` threads for each replica, and returns what each thread has made. Where
+    /// `shows_progress` is true, says after each part of the calls how many were made. A part is a hundredth, but no
+    /// fewer than 1,000 calls. A call may be left, where memory was wanting or there is no such replica. The error is
+    /// want of memory before any call.
     pub(crate) fn ask_all<R: Threads + Wait + Sync, E: Write>(
         &self,
         rt: &R,
@@ -102,7 +103,7 @@ impl<J: LogSetting + Ledgers + Send + Sync + 'static> Asking<J> {
         Ok(shares)
     }
 
-    /// A share for each thread, in which nothing was made.
+    /// Makes a share for each thread, in which nothing was made.
     fn empty_shares(
         &self,
         alloc: Global,
@@ -118,7 +119,7 @@ impl<J: LogSetting + Ledgers + Send + Sync + 'static> Asking<J> {
         Ok(shares)
     }
 
-    /// Makes the calls from a place to another, that one not among them, by a thread for each share.
+    /// Makes the calls from `start` up to but not including `end`, by a thread for each share.
     fn ask_part<R: Threads + Wait + Sync>(
         &self,
         rt: &R,
@@ -147,8 +148,8 @@ impl<J: LogSetting + Ledgers + Send + Sync + 'static> Asking<J> {
         );
     }
 
-    /// Makes the calls of a thread's replica that no other thread has taken, before a place in the script, and adds
-    /// them to its share. It ends where there is no memory for one more.
+    /// Makes the calls of a thread's replica that no other thread has taken, before a place in the script. Adds the
+    /// calls to the thread's share. Ends where there is no memory for one more.
     fn ask_from<R: Wait>(
         &self,
         rt: &R,
@@ -165,7 +166,7 @@ impl<J: LogSetting + Ledgers + Send + Sync + 'static> Asking<J> {
             return;
         };
         for _ in 0..end {
-            // Room first: a call that was made and not kept would be made again.
+            // Room comes first: a call that was made and not kept would be made again.
             if share.reserve(1).is_err() {
                 break;
             }
@@ -185,7 +186,7 @@ impl<J: LogSetting + Ledgers + Send + Sync + 'static> Asking<J> {
         }
     }
 
-    /// How many calls aren't made since no procedure has the name.
+    /// Counts the calls that aren't made since no procedure has the name.
     pub(crate) fn unnamed(&self) -> u64 {
         let mut count = 0u64;
         for call in self.calls.iter() {

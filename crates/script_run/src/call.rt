@@ -6,15 +6,15 @@ ghost use Rattle.script_run.specs.Calls.{call_of};
 use log_model::RequestId;
 use script::Action;
 
-/// A call that a line asks for. Its name and its arguments are a `B`.
+/// A call that a line asks for. The name and the arguments are a `B`.
 #[derive(Drop)]
 pub struct ScriptCall<B> {
-    /// As the line has it: there may be no such replica.
+    /// The replica, as the line has it: there may be no such replica.
     pub replica: u32,
-    /// As the line has it: there may be no such procedure.
+    /// The procedure's name, as the line has it: there may be no such procedure.
     pub name: B,
     pub args: B,
-    /// Session and sequence number, both at least 1, where the line has them.
+    /// The session and the sequence number, both at least 1, where the line has them.
     pub request: Option<RequestId>,
 }
 

@@ -1,4 +1,4 @@
-//! Reading a whole script.
+//! The reading of a whole script.
 
 ghost use Rattle.std.specs.Prelude.{◌≡◌, ◌≤◌, ℕ, List, Some, Ok, IfOk, IfErr};
 ghost use Rattle.schema.specs.declared.limits.TheConstants.{MAX_REPLICAS, MAX_WINDOW};
@@ -21,12 +21,12 @@ use std::io::{BufRead, ErrorKind};
 /// A script of settings and calls.
 #[derive(Drop)]
 pub struct CallScript<A: Allocator + Copy = Global> {
-    /// 1 to 4,096.
+    /// The window, 1 to 4,096.
     pub window: u32,
-    /// 1 to 8.
+    /// The number of replicas, 1 to 8.
     pub replicas: u32,
     pub catalogue: Catalogue<A>,
-    /// In the order of their lines.
+    /// The calls, in the order of their lines.
     pub calls: Vec<ScriptCall<Bytes<A>>, A>,
 }
 
@@ -37,12 +37,13 @@ pub fn read_script<A: Allocator + Copy, R: BufRead>(
 ) -> Result<CallScript<A>, Stop>
     ensures exact { IfOk result (λ s. (bytes : List ℕ) → R.remaining input.old ≡ Some bytes
         → script_says bytes ≡ Ok (said_by s)) }
-    // The first fault; or memory is wanting, or the input failed.
+    // The stop is at the first fault, or memory is wanting, or the input failed.
     ensures stop { IfErr result (λ stop. (bytes : List ℕ) → R.remaining input.old ≡ Some bytes
         → IsStopOf (script_says bytes) stop) }
     ensures window { IfOk result (λ script. (1 ≤ script.window) × (script.window ≤ MAX_WINDOW)) }
     ensures replicas { IfOk result (λ script. (1 ≤ script.replicas) × (script.replicas ≤ MAX_REPLICAS)) }
 {
+    // Laws:
     lines_that_are_too_long_are_at_fault();
     let Ok(mut line) = Vec::with_capacity(alloc, MAX_LINE) else {
         return Err(out_of_memory(0));
@@ -66,7 +67,7 @@ pub fn read_script<A: Allocator + Copy, R: BufRead>(
     Err(Stop::Input(io::Error::from(ErrorKind::Interrupted)))
 }
 
-/// The script that was read to its end: its window and its replicas have to be set.
+/// Returns the script that was read to its end. Its window and its replicas have to be set.
 fn whole<A: Allocator + Copy>(reading: Reading<A>) -> Result<CallScript<A>, Stop>
     ensures exact { IfOk result (λ script. at_end (so_far reading) ≡ Ok (said_by script)) }
     ensures stop { IfErr result (IsStopOf (at_end (so_far reading))) }

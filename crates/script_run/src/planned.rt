@@ -9,8 +9,8 @@ use row_sets::Bytes;
 use std::alloc::Global;
 use std::marker::PhantomData;
 
-/// A call of a script, with the number that its procedure has in the log's catalogue: none where no procedure has its
-/// name.
+/// A call of a script, with the number that its procedure has in the log's catalogue. The number is none where no
+/// procedure has the call's name.
 #[derive(Drop)]
 pub(crate) struct PlannedCall<J: LogSetting> {
     pub(crate) call: ScriptCall<Bytes<Global>>,

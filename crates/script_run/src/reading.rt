@@ -1,4 +1,4 @@
-//! What the lines of a script have said so far.
+//! The statements that the lines of a script have made so far.
 
 ghost use Rattle.std.specs.Prelude.{◌≡◌, ◌⊎◌, ◌≤◌, Some, Ok, Err, IfOk, IfErr, OnOk, OnErr};
 ghost use Rattle.script.specs.Script.{IsSettingWithinLimits, line_says};
@@ -11,7 +11,7 @@ use row_sets::Bytes;
 use script::{Action, FaultCause, Setting, Settings, Statement, statement};
 use std::alloc::{AllocError, Allocator};
 
-/// What the lines of a script have said so far.
+/// The statements that the lines of a script have made so far.
 #[derive(Drop)]
 pub(crate) struct Reading<A: Allocator + Copy> {
     pub(crate) settings: Settings<A>,
@@ -19,7 +19,7 @@ pub(crate) struct Reading<A: Allocator + Copy> {
 }
 
 impl<A: Allocator + Copy> Reading<A> {
-    /// Nothing is said.
+    /// Makes a reading of no lines.
     pub(crate) fn new(alloc: A) -> Result<Reading<A>, AllocError>
         ensures { IfOk result (λ reading. so_far reading ≡ nothing_said) }
     {
@@ -55,7 +55,7 @@ impl<A: Allocator + Copy> Reading<A> {
         self.settings.set(setting)
     }
 
-    /// Takes an action: only one that begins a call may stand.
+    /// Takes an action: only an action that begins a call may stand.
     fn begin(&mut self, action: Action<Bytes<A>>) -> Result<(), FaultCause>
         ensures ok { OnOk result (with_call (so_far self.old) (call_of action) ≡ Ok (so_far self.new)) }
         ensures fault { IfErr result (λ cause. (cause ≡ NoMemory)

@@ -1,4 +1,4 @@
-//! A script is run on a node.
+//! The run of a script on a node.
 
 ghost use Rattle.std.specs.Prelude.{◌≡◌, ◌⊎◌, ◌<◌, ◌^◌, IfOk, IfSome, false, vec_len};
 ghost use Rattle.byte_output.specs.Writes.{WritesText};
@@ -32,14 +32,14 @@ use std::sync::Wait;
 use std::thread::Threads;
 use tallies::{Blanks, Counts, Ledgers};
 
-/// Why a run ends before it has printed anything.
+/// A cause for which a run ends before it has printed anything.
 #[derive(Clone, Copy, Drop)]
 enum Failure {
     NoMemory,
     Start(StartFault),
 }
 
-/// What a run comes to.
+/// The report of a run.
 #[derive(Drop)]
 struct Report {
     answers: Vec<CallAnswer>,
@@ -48,20 +48,20 @@ struct Report {
     agrees: bool,
 }
 
-/// How a script is run.
+/// The options of a script's run.
 #[derive(Clone, Copy, Debug, PartialEq, Eq)]
 pub struct RunOptions {
-    /// How many threads run the calls of each replica, 1 to 16.
+    /// The number of threads that run the calls of each replica, 1 to 16.
     pub executors: u32,
-    /// How many entries the log has at most, 1 to 1,048,576.
+    /// The most entries of the log, 1 to 1,048,576.
     pub log_limit: u32,
-    /// Whether it is said on the writer for faults how many calls of a long script were made so far.
+    /// True where the writer for faults is told how many calls of a long script were made so far.
     pub shows_progress: bool,
 }
 
-/// Runs the script in the input on a node: reads it whole, makes its calls, and prints what each was answered, and how
-/// the node has ended. The exit status is 0 where all was done; 1 where a line is at fault; 3 where memory, a stream or
-/// a thread failed.
+/// Runs the script in the input on a node. Reads the script whole, makes its calls, and prints the answer to each, and
+/// the end of the node. The exit status is 0 where all was done, and 1 where a line is at fault. The status is 3 where
+/// memory, a stream or a thread failed.
 pub fn run_over<R: Threads + Wait + Copy + Send + Sync + 'static, I: BufRead, W: Write, E: Write>(
     rt: &R,
     alloc: Global,
@@ -102,7 +102,7 @@ pub fn run_over<R: Threads + Wait + Copy + Send + Sync + 'static, I: BufRead, W:
     }
 }
 
-/// Prints what a run comes to.
+/// Prints the report of a run.
 fn print<W: Write>(alloc: Global, output: &mut W, report: &Report) -> Result<(), Stop>
     requires { vec_len report.now.replicas < 2 ^ 32 }
     ensures { PrintsReport (W.contents output.old) (W.contents output.new) (run_text (report_of report.now)) result }
@@ -234,7 +234,7 @@ fn run_on_node<
     })
 }
 
-/// Makes the calls at a node: what each was answered, and the longest beginning of the log that a caller had seen.
+/// Makes the calls at a node. Returns the answer to each, and the longest beginning of the log that a caller had seen.
 fn ask<J: LogSetting + Ledgers + Send + Sync + 'static, R: Threads + Wait + Sync, E: Write>(
     rt: &R,
     alloc: Global,
@@ -253,7 +253,7 @@ fn ask<J: LogSetting + Ledgers + Send + Sync + 'static, R: Threads + Wait + Sync
     answers_of(rt, alloc, desk, asking, shares)
 }
 
-/// Why a node didn't start, as it is told.
+/// Returns the text of the cause for which a node didn't start.
 fn start_fault_text(fault: StartFault) -> &'static str {
     match fault {
         StartFault::Replicas => "N1: replicas outside 1 to 8",

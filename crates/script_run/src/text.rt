@@ -1,4 +1,4 @@
-//! What a run prints.
+//! The text that a run prints.
 
 ghost use Rattle.std.specs.Prelude.{◌≡◌, IfOk, OnOk, ◌++◌, ◌<◌, ◌^◌, length};
 ghost use Rattle.report.specs.Lines.{line_text};
@@ -8,7 +8,7 @@ use report::{CallAnswer, Line, ReplicaReport, line};
 use std::alloc::{AllocError, Global};
 use tallies::Counts;
 
-/// How a replica has ended.
+/// The end of a replica.
 #[derive(Clone, Copy)]
 pub struct ReplicaEnd {
     pub position: u32,
@@ -69,7 +69,7 @@ fn add_replicas(
     Ok(())
 }
 
-/// All that is printed: what each call was answered, in the order of the script, and how the node has ended.
+/// The whole text that is printed: the answer to each call, in the order of the script, and the end of the node.
 pub(crate) fn text_of(
     alloc: Global,
     answers: &[CallAnswer],

@@ -1,4 +1,4 @@
-//! What a call is told, and what is printed of that.
+//! The answer to a call, and what is printed of it.
 
 ghost use Rattle.std.specs.Prelude.{◌≡◌, ◌≢◌, Some};
 ghost use Rattle.node_calls.specs.declared.answer.Answer.TheVariants.{Behind};
@@ -14,8 +14,8 @@ use report::CallAnswer;
 use std::sync::Wait;
 use tallies::Ledgers;
 
-/// What a call is told, and what its caller has seen of the log then. Where no procedure has its name the node isn't
-/// asked.
+/// Returns the answer to a call, and what its caller has seen of the log then. The node isn't asked where no procedure
+/// has the call's name.
 pub(crate) fn answer_to<J: LogSetting + Ledgers + Send + Sync + 'static, R: Wait>(
     rt: &R,
     desk: &Desk<J, OpenGate>,
@@ -35,7 +35,7 @@ pub(crate) fn answer_to<J: LogSetting + Ledgers + Send + Sync + 'static, R: Wait
     (told(answer), seen)
 }
 
-/// What a call is told whose name no procedure has.
+/// Returns the answer to a call whose name no procedure has.
 fn unnamed(replicas: usize, replica: u32) -> CallAnswer
     ensures { IsUnnamed replicas replica result }
 {
@@ -46,7 +46,7 @@ fn unnamed(replicas: usize, replica: u32) -> CallAnswer
     }
 }
 
-/// What is printed of the answer to a call that asks to see nothing, which none is behind for.
+/// Returns what is printed of the answer to a call that asks to see nothing. No replica is behind for such a call.
 fn told(answer: Answer) -> CallAnswer
     requires { answer ≢ Behind }
     ensures { told answer ≡ Some result }

@@ -54,7 +54,7 @@ pub(crate) static ADDED: Story = Story {
     fault: "",
 };
 
-/// What isn't added leaves the log as it was; settings don't stand behind an addition.
+/// A procedure that isn't added leaves the log as it was. Settings don't stand behind an addition.
 static NOT_ADDED: Story = Story {
     lines: &[
         "window 4",
@@ -76,7 +76,7 @@ static NOT_ADDED: Story = Story {
     fault: "line 8: L5",
 };
 
-/// Those of additions.
+/// Returns the stories of additions.
 pub(crate) fn of_additions() -> [&'static Story; 2] {
     [&ADDED, &NOT_ADDED]
 }

@@ -131,13 +131,13 @@ static TOLD_AGAIN: Story = Story {
     fault: "",
 };
 
-/// It puts a value where there is none, and replies with what then stands there.
+/// A procedure that puts a value where there is none, and replies with what then stands there.
 const CLAIM_LINE: &str = "proc claim 8 16 \
     79160000000000007917080000000000b701000001000000bf62000000000000bfa300000000000007030000f8\
     ffffff850000000100000055000600000000007b7af8ff00000000b701000001000000bf62000000000000bfa3\
     00000000000007030000f8ffffff850000000200000079a0f8ff000000009500000000000000";
 
-/// A call that writes nothing when it is asked again is answered by what it reads; a request of a call that was refused
+/// A call that writes nothing when it is asked again is answered by what it reads. A request of a call that was refused
 /// may be used again.
 static ASKED_AGAIN: Story = Story {
     lines: &[
@@ -189,7 +189,7 @@ static ASKED_AGAIN: Story = Story {
     fault: "",
 };
 
-/// Those of requests.
+/// Returns the stories of requests.
 pub(crate) fn of_requests() -> [&'static Story; 4] {
     [&SENT_TWICE, &SENT_AGAIN_LATE, &TOLD_AGAIN, &ASKED_AGAIN]
 }

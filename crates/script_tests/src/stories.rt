@@ -37,36 +37,37 @@ const NEXT_LINE: &str = "proc next 5 24 \
 const DELETE_LINE: &str = "proc del 6 8 \
     7912000000000000b70100000100000085000000030000009500000000000000";
 
-/// It puts a row, and cancels.
+/// A procedure that puts a row, and cancels.
 const CANCEL_LINE: &str = "proc draft 7 16 \
     791200000000000079140800000000007b4af8ff00000000bfa300000000000007030000f8ffffffb701000001\
     0000008500000002000000b70100000900000085000000060000009500000000000000";
 
 const ONE_LINE: &str = "proc one 9 0 b7000000010000009500000000000000";
 
-/// It jumps over a wide load of two slots, into its middle.
+/// A procedure that jumps over a wide load of two slots, into its middle.
 const INTO_LOAD_LINE: &str =
     "proc jump 1 0 0500010000000000180000000100000000000000000000009500000000000000";
 
 const TO_LOAD_LINE: &str =
     "proc jump 1 0 0500000000000000180000000100000000000000000000009500000000000000";
 
-/// It replies with a register that holds a number on one path and a place of the stack on the other.
+/// A procedure that replies with a register. The register holds a number on one path and a place of the stack on the
+/// other.
 const JOINED_LINE: &str = "proc join 1 8 \
     7912000000000000b7030000000000001502010000000000bfa3000000000000bf300000000000009500000000\
     000000";
 
-/// It reads its arguments where the first of them says, up to the last place that has eight bytes.
+/// A procedure that reads its arguments where the first of them says, up to the last place that has eight bytes.
 const INDEX_LINE: &str = "proc index 1 256 \
     791200000000000025020300f80000000f2100000000000079100000000000009500000000000000b700000000\
     0000009500000000000000";
 
-/// Or up to one place more.
+/// A procedure that reads its arguments up to one place more.
 const INDEX_PAST_LINE: &str = "proc index 1 256 \
     791200000000000025020300f90000000f2100000000000079100000000000009500000000000000b700000000\
     0000009500000000000000";
 
-/// What is shown of the first of two increments.
+/// The line that shows the entry of the first of two increments.
 pub(crate) const ADD_ENTRY: &str =
     "entry 1 010000000000000000010000000100100005000000000000000a000000000000000000\
     00000a00000000000000010001050000000000000005000000000000000100010500000000000000\
@@ -123,7 +124,7 @@ pub(crate) static JUMPS_INTO_A_LOAD: Story = Story {
     fault: "line 2: L7 B10 slot 0",
 };
 
-/// One to its first slot is.
+/// A jump to the first slot of a wide load is a program.
 pub(crate) static JUMPS_TO_A_LOAD: Story = Story {
     lines: &[
         "window 4",
@@ -157,7 +158,7 @@ pub(crate) static INDEXES: Story = Story {
     fault: "",
 };
 
-/// And none beyond.
+/// A place beyond the arguments may not be read.
 pub(crate) static INDEXES_PAST_THE_END: Story = Story {
     lines: &[INDEX_PAST_LINE],
     prints: &[],
@@ -212,7 +213,7 @@ pub(crate) static TWO_INCREMENTS: Story = Story {
     fault: "",
 };
 
-/// Each reads what the other writes.
+/// Two calls, each of which reads what the other writes.
 pub(crate) static SKEWED_WRITES: Story = Story {
     lines: &[
         "window 4",
@@ -324,8 +325,8 @@ static INTERVALS: Story = Story {
     fault: "",
 };
 
-/// Calls that fall more than the window behind: one is stale at its first look, taken by turns or to its end; one that
-/// had come to its end before isn't, nor is one that looks at nothing.
+/// Calls that fall more than the window behind. A call is stale at its first look, taken by turns or to its end. A call
+/// that had come to its end before isn't stale, nor is a call that looks at nothing.
 static FALLS_BEHIND: Story = Story {
     lines: &[
         "window 2",
@@ -612,7 +613,7 @@ pub(crate) static REBUILDS: Story = Story {
     fault: "",
 };
 
-/// What is asked of no replica, no procedure and no call.
+/// Steps that name no replica, no procedure or no call.
 pub(crate) static REFUSED_STEPS: Story = Story {
     lines: &[
         "window 4",
@@ -696,7 +697,7 @@ pub(crate) static STOPS: Story = Story {
     fault: "",
 };
 
-/// The stories of calls.
+/// Returns the stories of calls.
 pub(crate) fn all_stories() -> [&'static Story; 18] {
     [
         &READS,

@@ -7,7 +7,7 @@ use std::alloc::{AllocError, Allocator, Global};
 use std::process::Abort;
 use test_streams::{Full, Input, Output};
 
-/// Lines, each with an LF.
+/// Joins lines, each with an LF.
 fn joined(alloc: Global, lines: &[&str]) -> Result<Vec<u8>, AllocError> {
     let mut text = Vec::new(alloc);
     for line in lines {
@@ -17,7 +17,7 @@ fn joined(alloc: Global, lines: &[&str]) -> Result<Vec<u8>, AllocError> {
     Ok(text)
 }
 
-/// The exit status, what is printed, and what is said of faults.
+/// Replays a script. Returns the exit status, what is printed, and what is said of faults.
 fn replayed<A: Allocator + Copy>(
     alloc: A,
     global: Global,
@@ -30,8 +30,8 @@ fn replayed<A: Allocator + Copy>(
     (status, output, faults)
 }
 
-/// Whether a script prints what it should, with one line said of its fault where it has one, and with the status of
-/// that.
+/// Tells whether a script prints what it should, with one line said of its fault where it has one, and with the status
+/// of that.
 fn tells(alloc: Global, lines: &[&str], prints: &[&str], fault: &str) -> Result<bool, AllocError> {
     let script = joined(alloc, lines)?;
     let expected = joined(alloc, prints)?;
@@ -139,7 +139,7 @@ fn a_line_at_fault_ends_the_script(rt: HostRuntime) {
     }
 }
 
-/// Settings alone print nothing, and so do no lines at all; the last line may lack its LF.
+/// Settings alone print nothing, and an empty script prints nothing. The last line may lack its LF.
 #[test]
 fn scripts_may_end_anywhere(rt: HostRuntime) {
     let alloc = rt.alloc();
@@ -152,7 +152,7 @@ fn scripts_may_end_anywhere(rt: HostRuntime) {
     );
 }
 
-/// A comment of so many bytes, and a line behind it.
+/// A comment of `len` bytes, and a line behind it.
 fn long_comment(alloc: Global, len: usize) -> Result<Vec<u8>, AllocError> {
     let mut script = vec![in alloc; b'#'; len]?;
     script.extend_from_slice(b"\nwindow 4")?;
@@ -173,24 +173,24 @@ fn lines_have_at_most_70000_bytes(rt: HostRuntime) {
     );
 }
 
-/// Whether one begins with the other.
+/// Tells whether a text begins with another.
 fn begins_with(whole: &[u8], front: &[u8]) -> bool {
     whole.get(..front.len()) == Some(front)
 }
 
-/// How many lines of the long script set things. Each further one prints a line.
+/// The number of lines of the long script that set things. Each further line prints a line.
 const SETTINGS: usize = 4;
 
-/// How many lines of it show an entry, and what each of them says and prints.
+/// The number of lines of the long script that show an entry.
 const ENTRIES: usize = 25;
 
 const ENTRY_LINE: &[u8] = b"entry 1\n";
 
-/// How many bytes the page of 4,096 bytes has when it leaves: three short lines, 22 of 177 bytes, and of one more its 8
-/// bytes of words and 67 bytes in hex.
+/// The number of bytes that the page of 4,096 bytes has when it leaves. They are three short lines, 22 of 177 bytes,
+/// and a part of one more: 8 bytes of words and 67 bytes in hex.
 const FIRST_PAGE: usize = 59 + 22 * 177 + 8 + 67 * 2;
 
-/// How many bytes of the script stand behind the line that needs its room.
+/// The number of bytes of the script behind the line that needs the page's room.
 const BEHIND_FIRST_PAGE: usize = 2 * 8;
 
 /// A script that prints more than a page, and what it prints: a call, and then its entry again and again.
@@ -205,12 +205,12 @@ fn long_script(alloc: Global) -> Result<(Vec<u8>, Vec<u8>), AllocError> {
     Ok((script, prints))
 }
 
-/// How many lines end in a text.
+/// Returns the number of lines that end in a text.
 fn line_count(text: &[u8]) -> usize {
     text.iter().filter(|byte| **byte == b'\n').count()
 }
 
-/// So many lines from the front of a text.
+/// Returns the first `count` lines of a text.
 fn first_lines(text: &[u8], count: usize) -> &[u8] {
     let mut ended = 0usize;
     for (at, byte) in text.iter().enumerate() {
@@ -222,7 +222,7 @@ fn first_lines(text: &[u8], count: usize) -> &[u8] {
     text
 }
 
-/// Wherever the input fails, exactly what the lines before it print is printed, and the status is 3.
+/// An input that fails leaves printed exactly what the lines before it print, and the status is 3.
 #[test]
 fn a_failing_input_answers_3(rt: HostRuntime) {
     let alloc = rt.alloc();
@@ -243,8 +243,9 @@ fn a_failing_input_answers_3(rt: HostRuntime) {
     }
 }
 
-/// Replays a script over an output with so much room: whether the status is 3, something is said of it, the output
-/// holds what there was room for and isn't asked again, and so much of the script wasn't read.
+/// Replays a script over an output with this much room. Tells whether the status is 3 and something is said of the
+/// fault. The output has to hold what there was room for and not be asked again, and `unread` bytes of the script have
+/// to be left.
 fn ends_at(
     alloc: Global,
     script: &[u8],
@@ -262,9 +263,9 @@ fn ends_at(
     said && held && output.after_failure == 0 && input.len() == unread
 }
 
-/// Wherever the output fails, it holds what came before, and the status is 3. Where the first page can't leave, no line
-/// is read behind the one that needs its room; what is printed after it leaves at the end, when the whole script is
-/// read.
+/// An output that fails holds what came before, and the status is 3. The first page may not be able to leave: then no
+/// line is read behind the one that needs its room. What is printed after the first page leaves at the end, when the
+/// whole script is read.
 #[test]
 fn a_script_ends_where_its_output_fails(rt: HostRuntime) {
     let alloc = rt.alloc();
@@ -282,7 +283,7 @@ fn a_script_ends_where_its_output_fails(rt: HostRuntime) {
     }
 }
 
-/// An output that takes a byte at a time has all in the end. Where its flush fails then, the status is 3.
+/// An output that takes a byte at a time has all in the end. The status is 3 where its flush fails then.
 #[test]
 fn outputs_may_take_little_at_once(rt: HostRuntime) {
     let alloc = rt.alloc();
@@ -315,24 +316,24 @@ fn faults_may_find_no_room(rt: HostRuntime) {
     }
 }
 
-/// How a replay went on that found no memory once.
+/// The course of a replay that found no memory once.
 #[derive(Clone, Copy, PartialEq, Eq)]
 enum Course {
-    /// It ended there, with all that was printed before.
+    /// The script ended there, with all that was printed before.
     Ended,
     /// A step was refused, and the script went on.
     WentOn,
-    /// It came to what it comes to with memory.
+    /// The script came to what it comes to with memory.
     Same,
 }
 
-/// Whether some line says that there was no memory.
+/// Tells whether some line says that there was no memory.
 fn says_no_memory(output: &[u8]) -> bool {
     let text = str::from_utf8(output).unwrap_or("");
     text.contains(" refused P9\n") || text.contains(" no memory\n")
 }
 
-/// The course of a replay, where it is one.
+/// Returns the course of a replay, where it is one.
 fn course_of(status: u8, output: &[u8], faults: &[u8], prints: &[u8]) -> Option<Course> {
     if status == 3 {
         let told = faults.ends_with(b": L9\n") && begins_with(prints, output);
@@ -359,8 +360,8 @@ fn course_of(status: u8, output: &[u8], faults: &[u8], prints: &[u8]) -> Option<
 /// More growths than any replay of these tests makes.
 const MOST: u64 = 2_000;
 
-/// Replays a story with each growth refused in turn, up to the first that it doesn't make: whether each course is one
-/// that it may take, and some growth ends it behind what it printed, and some refuses a step.
+/// Replays a story with each growth refused in turn, up to the first that it doesn't make. Tells whether each course is
+/// one that the replay may take, some growth ends it behind what it printed, and some growth refuses a step.
 fn goes_well(rt: &impl Abort, alloc: Global, scarce: &Scarce, story: &Story) -> bool {
     let script = joined(alloc, story.lines).expect(rt, "memory");
     let prints = joined(alloc, story.prints).expect(rt, "memory");
@@ -383,7 +384,7 @@ fn goes_well(rt: &impl Abort, alloc: Global, scarce: &Scarce, story: &Story) -> 
     false
 }
 
-/// Each growth of a replay is refused in turn. Some of them end the script, and some refuse a step.
+/// Each growth of a replay is refused in turn. Several of them end the script, and several refuse a step.
 #[test]
 fn growths_are_refused_in_turn(rt: HostRuntime) {
     let scarce = Scarce::new(rt.alloc());
@@ -392,7 +393,7 @@ fn growths_are_refused_in_turn(rt: HostRuntime) {
     }
 }
 
-/// There is a growth without which the replica is stopped, and then it goes on as the story says.
+/// A growth exists without which the replica is stopped. The script then goes on as the story says.
 #[test]
 fn a_stopped_replica_is_made_anew(rt: HostRuntime) {
     let alloc = rt.alloc();

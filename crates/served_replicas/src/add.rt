@@ -5,39 +5,38 @@ ghost use Rattle.served_replicas.specs.Added.{IsAskedFor, IsNotAdded, IsAddedAns
 
 use crate::shared::Shared;
 use bpf_verify::Accepted;
-use program_checks::ProgramFault;
 use catalogue::is_name;
 use locked_replica::{LogSetting, OrderedEntries};
 use log_entry::{AddedProcedure, Entry};
 use node_calls::Gate;
 use order_log::{AppendFault, Fact, OrderLog, Seen};
-use program_checks::check_program;
+use program_checks::{ProgramFault, check_program};
 use row_sets::Bytes;
 use schema::{MAX_ARGUMENTS, OrNoMemory};
 use std::alloc::{AllocError, Allocator};
 use std::sync::{Arc, Wait};
 use tallies::Ledgers;
 
-/// Why a program isn't added.
+/// A cause for which a program isn't added.
 #[derive(Clone, Copy, Debug, PartialEq, Eq, Drop)]
 pub enum ProgramRefusal {
-    /// Its arguments would have more than 256 bytes.
+    /// The program's arguments would have more than 256 bytes.
     ArgumentsLimit,
-    /// Its bytes are no program, or the verifier refuses it.
+    /// The bytes are no program, or the verifier refuses the program.
     Fault(ProgramFault),
 }
 
-/// What an addition is answered.
+/// The answer to an addition.
 #[derive(Clone, Copy, Debug, PartialEq, Eq, Drop)]
 pub enum Added {
-    /// It is the entry at this position of the log, from 1 on.
+    /// The addition is the entry at this position of the log, from 1 on.
     Ordered(u32),
     /// The log is full.
     Full,
-    /// Memory is wanting, and it isn't ordered.
+    /// Memory is wanting, and the addition isn't ordered.
     NoMemory,
     Program(ProgramRefusal),
-    /// Its program is accepted, and its name isn't 1 to 32 letters, digits or `_`.
+    /// The program is accepted; the name isn't 1 to 32 letters, digits or `_`.
     Name,
 }
 
@@ -48,7 +47,7 @@ impl<J: LogSetting + Ledgers, A: Allocator + Copy, P: Allocator + Copy, G: Gate>
     G,
 > {
     /// Appends a procedure to the log, where its program is accepted for the tables, and wakes the delivering threads.
-    /// What was seen of the log then, where it was appended.
+    /// Returns what was seen of the log then, where the procedure was appended.
     pub fn add<R: Wait>(
         &self,
         rt: &R,
@@ -75,7 +74,7 @@ impl<J: LogSetting + Ledgers, A: Allocator + Copy, P: Allocator + Copy, G: Gate>
         }
     }
 
-    /// A procedure that may be appended, or what is answered where it may not.
+    /// Returns a procedure that may be appended, or the answer where it may not.
     fn accepted(
         &self,
         name: &[u8],
@@ -107,7 +106,7 @@ impl<J: LogSetting + Ledgers, A: Allocator + Copy, P: Allocator + Copy, G: Gate>
         }
     }
 
-    /// What a replica has delivered, so that whoever appends doesn't go through all of the log.
+    /// Returns what a replica has delivered, so that an append doesn't go through all of the log.
     fn delivered<R: Wait>(&self, rt: &R) -> Seen<J, P> {
         match self.replica(1) {
             Some(served) => served.replica.read(rt).seen(),

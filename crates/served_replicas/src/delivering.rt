@@ -10,13 +10,13 @@ use std::sync::{RwLock, Wait};
 use std::thread;
 use tallies::Ledgers;
 
-/// The most entries that are delivered under one hold of a lock, so that those who read aren't kept out for long.
+/// The most entries that are delivered under one hold of a lock, so that readers aren't kept out for long.
 const BATCH: u32 = 16;
 
-/// What came of a batch.
+/// The outcome of a batch.
 #[derive(Drop)]
 struct Batch<J: LogSetting, P: Allocator + Copy> {
-    /// What was delivered so far.
+    /// The entries that were delivered so far.
     seen: Seen<J, P>,
     stopped: bool,
 }
@@ -40,7 +40,8 @@ fn deliver_batch<J: LogSetting, A: Allocator + Copy, P: Allocator + Copy, R: Wai
     }
 }
 
-/// Delivers what the log shows after what was seen, and wakes those who wait for it. Whether the replica goes on.
+/// Delivers what the log shows after what was seen, and wakes the threads that wait for it. Returns false where there
+/// was nothing to deliver, or the replica has stopped.
 fn deliver_some<J: LogSetting, A: Allocator + Copy, P: Allocator + Copy, R: Wait>(
     rt: &R,
     served: &ServedReplica<J, A, P>,
@@ -61,8 +62,8 @@ fn deliver_some<J: LogSetting, A: Allocator + Copy, P: Allocator + Copy, R: Wait
     true
 }
 
-/// Delivers to a replica, by its number from 1 on, until the deliveries are stopped and the log shows no more, or the
-/// replica has stopped. It waits at the replica's bell while there is nothing to deliver.
+/// Delivers to a replica, by its number from 1 on. Ends when the deliveries are stopped and the log shows no more, or
+/// when the replica has stopped. Waits at the replica's bell while there is nothing to deliver.
 pub fn deliver_all<
     J: LogSetting + Ledgers,
     A: Allocator + Copy,

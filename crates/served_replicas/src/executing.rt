@@ -16,7 +16,7 @@ use std::alloc::Allocator;
 use std::sync::Wait;
 use tallies::{Counts, Ledgers, Shares};
 
-/// The answer to a call, which is counted by its kind.
+/// Answers a call, and counts the answer by its kind.
 fn answer_counted<J: LogSetting, A: Allocator + Copy, P: Allocator + Copy, G: Gate, R: Wait>(
     rt: &R,
     executor: &Executor<'_, J, A, P, G>,
@@ -33,7 +33,7 @@ fn answer_counted<J: LogSetting, A: Allocator + Copy, P: Allocator + Copy, G: Ga
     (answer, seen)
 }
 
-/// Answers requests at a replica until no caller is left. How many of each kind there were.
+/// Answers requests at a replica until no caller is left. Returns the number of answers of each kind.
 fn answer_all<J: LogSetting, A: Allocator + Copy, P: Allocator + Copy, G: Gate, R: Wait>(
     rt: &R,
     executor: &Executor<'_, J, A, P, G>,
@@ -52,8 +52,8 @@ fn answer_all<J: LogSetting, A: Allocator + Copy, P: Allocator + Copy, G: Gate, 
     counts
 }
 
-/// One of the executing threads of a replica, by its place from 0 on, the replica by its number from 1 on: it answers
-/// requests until no caller is left, and enters what it counted in its share.
+/// Runs an executing thread of a replica. The thread goes by its place from 0 on, the replica by its number from 1 on.
+/// The thread answers requests until no caller is left, and enters its counts in its share.
 pub fn serve<J: LogSetting + Ledgers, A: Allocator + Copy, P: Allocator + Copy, G: Gate, R: Wait>(
     rt: &R,
     shared: &Shared<J, A, P, G>,

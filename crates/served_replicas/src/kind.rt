@@ -1,4 +1,4 @@
-//! Which kind an answer is of.
+//! The kind of an answer.
 
 ghost use Rattle.std.specs.Prelude.{◌≡◌};
 ghost use Rattle.served_replicas.specs.Kinds.{kind_of};

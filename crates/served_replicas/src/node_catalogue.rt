@@ -36,7 +36,7 @@ impl<J: LogSetting, P: Allocator + Copy> Model for NodeCatalogue<J, P> {
 }
 
 impl<J: LogSetting, P: Allocator + Copy> NodeCatalogue<J, P> {
-    /// A catalogue and a window that are the setting.
+    /// Makes a catalogue and a window that are the setting.
     pub(crate) fn new(catalogue: Catalogue<P>, window: u32) -> NodeCatalogue<J, P>
         requires { J.setting ≡ record {
           tables = catalogue.tables;

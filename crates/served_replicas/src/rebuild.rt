@@ -13,12 +13,12 @@ use std::fmt;
 use std::sync::{RwLock, Wait};
 use tallies::Ledgers;
 
-/// Why a replica isn't rebuilt.
+/// A cause for which a replica isn't rebuilt.
 #[derive(Clone, Copy, Debug, PartialEq, Eq, Drop)]
 pub enum RebuildFault {
-    /// There is no replica of this number.
+    /// The number has no replica.
     NoReplica,
-    /// The replica is as it was.
+    /// Memory is wanting. The replica is as it was.
     NoMemory,
 }
 
@@ -38,7 +38,8 @@ fn deliver_to_the_end<J: LogSetting, A: Allocator + Copy, P: Allocator + Copy, R
     Ok(())
 }
 
-/// Puts one that was made anew in a replica's place, unless that has come farther. The position there then.
+/// Puts a replica that was made anew in a replica's place, unless the old one has come farther. Returns the position
+/// there then.
 fn put_in_place<J: LogSetting, A: Allocator + Copy, P: Allocator + Copy, R: Wait>(
     rt: &R,
     replica: &RwLock<LockedReplica<J, A, P>>,
@@ -53,8 +54,8 @@ fn put_in_place<J: LogSetting, A: Allocator + Copy, P: Allocator + Copy, R: Wait
     Some(locked.position())
 }
 
-/// Delivers all that the log shows to one that was made anew, until it takes a replica's place. The position there
-/// then.
+/// Delivers all that the log shows to a replica that was made anew, until it takes a replica's place. Returns the
+/// position there then.
 fn catch_up_and_replace<J: LogSetting, A: Allocator + Copy, P: Allocator + Copy, R: Wait>(
     rt: &R,
     replica: &RwLock<LockedReplica<J, A, P>>,
@@ -76,8 +77,8 @@ impl<J: LogSetting + Ledgers, A: Allocator + Copy, P: Allocator + Copy, G: Gate>
     P,
     G,
 > {
-    /// Makes the replica of a number anew from the log, which then delivers again where it had stopped. Calls go on at
-    /// the old one until the new one is in its place, which has come no less far. The position that it has then.
+    /// Makes the replica of a number anew from the log. It then delivers again where it had stopped. Calls go on at the
+    /// old replica until the new one, which has come no less far, is in its place. Returns the new one's position then.
     pub fn rebuild<R: Wait>(&self, rt: &R, replica: u32) -> Result<u32, RebuildFault>
         ensures none { result ≡ Err NoReplica → IsNoReplica self.now.replicas replica }
         ensures some { IfOk result (λ _. (1 ≤ replica) × (replica ≤ self.now.replicas)) }
@@ -95,7 +96,7 @@ impl<J: LogSetting + Ledgers, A: Allocator + Copy, P: Allocator + Copy, G: Gate>
         Ok(position)
     }
 
-    /// Makes one anew, and puts it in a replica's place. The old one is dropped when no lock is held.
+    /// Makes a replica anew, and puts it in a replica's place. The old one is dropped when no lock is held.
     fn exchange<R: Wait>(
         &self,
         rt: &R,

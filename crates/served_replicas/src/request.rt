@@ -1,4 +1,4 @@
-//! What a caller asks of an executing thread, and what is replied.
+//! A caller's request of an executing thread, and the reply.
 
 ghost use Rattle.std.specs.Prelude.{◌≡◌, IfSome, IsTrue};
 ghost use Rattle.node_calls.specs.Answer.{IsAnswer};
@@ -11,7 +11,7 @@ use order_log::Seen;
 use std::alloc::{Allocator, Global};
 use std::marker::Model;
 
-/// What is replied: it names what was asked, and at which replica. Contracts see all of it.
+/// A reply: it names what was asked, and at which replica. Contracts see all of it.
 #[derive(Drop)]
 pub struct Reply<J: LogSetting, P: Allocator + Copy = Global> {
     replica: u32,
@@ -34,7 +34,7 @@ impl<J: LogSetting, P: Allocator + Copy> Model for Reply<J, P> {
 }
 
 impl<J: LogSetting, P: Allocator + Copy> Reply<J, P> {
-    /// An answer to what was asked at a replica.
+    /// Makes a reply of an answer to what was asked at a replica.
     pub fn new(
         replica: u32,
         asked: Asked<P>,
@@ -52,7 +52,7 @@ impl<J: LogSetting, P: Allocator + Copy> Reply<J, P> {
         }
     }
 
-    /// The answer, where this was asked, at this replica.
+    /// Returns the answer, where this call was asked, at this replica.
     pub fn answer_to(
         self,
         replica: u32,
@@ -77,7 +77,7 @@ impl<J: LogSetting, P: Allocator + Copy> Reply<J, P> {
     }
 }
 
-/// Whether this is what was asked.
+/// Tells whether a call is the one that was asked.
 fn is_asked<P: Allocator + Copy>(
     asked: &Asked<P>,
     least: u32,
@@ -96,10 +96,10 @@ fn is_asked<P: Allocator + Copy>(
     same_args && same_request
 }
 
-/// What a caller asks of an executing thread.
+/// A caller's request of an executing thread.
 #[derive(Drop)]
 pub struct Request<J: LogSetting, P: Allocator + Copy = Global> {
     pub asked: Asked<P>,
-    /// Where the reply goes.
+    /// The channel to which the reply goes.
     pub reply: Sender<Reply<J, P>, P>,
 }

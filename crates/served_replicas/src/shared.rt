@@ -1,4 +1,4 @@
-//! What the threads of a node share.
+//! The parts that the threads of a node share.
 
 ghost use Rattle.std.specs.Prelude.{◌≡◌, ◌+◌, ◌≤◌, length, IfSome, IfNone, IfOk, OnOk};
 ghost use Rattle.served_replicas.specs.Replicas.{IsNoReplica};
@@ -17,34 +17,34 @@ use std::sync::atomic::{AtomicBool, AtomicU64};
 use std::sync::{Mutex, RwLock, Wait};
 use tallies::{Counts, Ledgers, Shares, Totals};
 
-/// A replica behind its lock, and where its executing threads wait.
+/// A replica behind its lock, and the places where its executing threads wait.
 #[derive(Drop)]
 pub struct ServedReplica<J: LogSetting, A: Allocator + Copy = Global, P: Allocator + Copy = A> {
-    /// For what the replica takes.
+    /// The allocator for what the replica takes.
     pub(crate) alloc: A,
     pub(crate) replica: RwLock<LockedReplica<J, A, P>>,
     pub(crate) waiters: Vec<CachePadded<Waiter>, P>,
 }
 
-/// What the threads of a node share: the log, the replicas behind their locks, who waits where, and the sums of
-/// answers. Contracts see how many replicas there are.
+/// The parts that the threads of a node share: the log, the replicas behind their locks, the waiting places, and the
+/// sums of answers. Contracts see the number of replicas.
 #[derive(Drop)]
 pub struct Shared<J: LogSetting + Ledgers, A: Allocator + Copy, P: Allocator + Copy, G: Gate>
 where
     OrderedEntries<J>: Fact,
 {
-    /// For what calls and entries take.
+    /// The allocator for what calls and entries take.
     pub(crate) alloc: P,
     pub(crate) log: OrderLog<J, OrderedEntries<J>, P>,
     pub(crate) catalogue: NodeCatalogue<J, P>,
     pub(crate) replicas: Vec<CachePadded<ServedReplica<J, A, P>>, P>,
-    /// Of the delivering threads.
+    /// The bells of the delivering threads.
     pub(crate) bells: Bells<P>,
     pub(crate) gate: G,
     pub(crate) totals: Mutex<Totals<J>>,
-    /// How many answers no executing thread gave.
+    /// The number of answers that no executing thread gave.
     unserved: CachePadded<AtomicU64>,
-    /// Whether the delivering threads are to end at the end of the log.
+    /// True where the delivering threads are to end at the end of the log.
     pub(crate) stopping: CachePadded<AtomicBool>,
 }
 
@@ -63,7 +63,7 @@ where
     ghost invariant = { λ s. Unit {0} };
 }
 
-/// Where so many executing threads wait.
+/// Makes waiting places for `count` executing threads.
 fn new_waiters<P: Allocator + Copy>(
     alloc: P,
     count: usize,
@@ -76,7 +76,7 @@ fn new_waiters<P: Allocator + Copy>(
 }
 
 impl<J: LogSetting, A: Allocator + Copy, P: Allocator + Copy> ServedReplica<J, A, P> {
-    /// A replica to which nothing was delivered, for so many executing threads.
+    /// Makes a replica to which nothing was delivered, for `executors` executing threads.
     fn new(
         alloc: A,
         shared: P,
@@ -99,7 +99,7 @@ impl<J: LogSetting, A: Allocator + Copy, P: Allocator + Copy> ServedReplica<J, A
         }
     }
 
-    /// Wakes all of its executing threads.
+    /// Wakes all executing threads of the replica.
     pub(crate) fn ring(&self) {
         for waiter in self.waiters.iter() {
             waiter.ring();
@@ -113,7 +113,7 @@ impl<J: LogSetting + Ledgers, A: Allocator + Copy, P: Allocator + Copy, G: Gate 
     P,
     G,
 > {
-    /// What the threads of a node with no replicas yet share, and room for so many.
+    /// Makes what the threads of a node share, with no replicas yet and a bell for each of `replicas`.
     pub fn new(
         alloc: P,
         log: OrderLog<J, OrderedEntries<J>, P>,
@@ -150,7 +150,7 @@ impl<J: LogSetting + Ledgers, A: Allocator + Copy, P: Allocator + Copy, G: Gate>
     P,
     G,
 > {
-    /// Adds a replica in the memory of its own allocator, for so many executing threads.
+    /// Adds a replica in the memory of its own allocator, for `executors` executing threads.
     pub fn add_replica(&mut self, alloc: A, executors: usize) -> Result<(), AllocError>
         ensures { OnOk result (self.new.replicas ≡ self.old.replicas + 1) }
     {
@@ -159,14 +159,14 @@ impl<J: LogSetting + Ledgers, A: Allocator + Copy, P: Allocator + Copy, G: Gate>
         Ok(())
     }
 
-    /// How many replicas there are; they are numbered from 1.
+    /// Returns the number of replicas, which are numbered from 1.
     pub fn replicas(&self) -> usize
         ensures { result ≡ self.now.replicas }
     {
         self.replicas.len()
     }
 
-    /// The log, whose entries whoever has seen them can read.
+    /// The log, whose entries everyone who has seen them can read.
     pub fn log(&self) -> &OrderLog<J, OrderedEntries<J>, P> {
         &self.log
     }
@@ -193,7 +193,7 @@ impl<J: LogSetting + Ledgers, A: Allocator + Copy, P: Allocator + Copy, G: Gate>
         }
     }
 
-    /// Where the delivering thread of the replica of a number waits.
+    /// Returns the bell at which the delivering thread of the replica of a number waits.
     pub(crate) fn bell(&self, number: u32) -> Option<&EventCount> {
         self.bells.at((number as usize).checked_sub(1)?)
     }
@@ -203,7 +203,7 @@ impl<J: LogSetting + Ledgers, A: Allocator + Copy, P: Allocator + Copy, G: Gate>
         self.unserved.fetch_add(1, SeqCst);
     }
 
-    /// Enters what no executing thread counted, and adds up what was counted in all.
+    /// Enters the answers that no executing thread counted, and returns the sums of all that was counted.
     pub fn gather<R: Wait>(&self, rt: &R, shares: &mut Shares<J>) -> Counts
         requires { shares.old.parts ≡ 129 }
         ensures totals { result ≡ shares.new.counted }

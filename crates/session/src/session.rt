@@ -49,7 +49,7 @@ impl<
     J: LogSetting + Ledgers + Send + Sync + 'static,
     G: Gate + Drop + Send + Sync + 'static,
 > Session<'a, J, G> {
-    /// A session that has seen nothing yet.
+    /// Makes a session that has seen nothing yet.
     pub fn new(desk: &'a Desk<J, G>) -> Session<'a, J, G>
         ensures replicas { result.replicas ≡ desk.now.replicas }
         ensures position { result.position ≡ 0 }
@@ -57,14 +57,15 @@ impl<
         Session { desk, position: 0 }
     }
 
-    /// The position of the log that its next call sees at least.
+    /// The position of the log up to which the session's next call sees at least.
     pub fn position(&self) -> u32
         ensures { result ≡ self.now.position }
     {
         self.position
     }
 
-    /// The answer to a call of a procedure at a replica, which sees no less of the log than the session has seen.
+    /// Makes a call of a procedure at a replica, and returns the answer. The call sees no less of the log than the
+    /// session has seen.
     pub fn call<R: Wait>(
         &mut self,
         rt: &R,
@@ -89,7 +90,8 @@ impl<
         (answer, seen)
     }
 
-    /// That to a call with a request, which may be made again at any replica: at most one of them commits.
+    /// Makes a call with a request id, and returns the answer. The call may be made again at any replica: at most one
+    /// of the calls that share a request id commits.
     pub fn call_numbered<R: Wait>(
         &mut self,
         rt: &R,
@@ -116,8 +118,8 @@ impl<
     }
 }
 
-/// The position that an answer tells: of the entry of an ordered call whose verdict is known, or of the snapshot of one
-/// that isn't ordered. Others tell none: of a call that is stale, or whose replica has stopped, and of what wasn't run.
+/// The position that an answer tells: of the entry of an ordered call whose verdict is known, or of the snapshot of
+/// another call. An answer about a stale call, about a stopped replica, or about a call that wasn't run tells none.
 fn position_told(answer: Answer) -> u32
     ensures { result ≡ position_told answer }
 {

@@ -15,7 +15,8 @@ use std::simd::prelude::*;
 #[derive(Drop)]
 pub struct Block {
     words: [[u64; 8]; 16],
-    /// The bits of all eight, and of some that stood there before: what meets none of these meets none of the eight.
+    /// The bits of all eight, and of some that stood there before: a signature that meets none of these bits meets none
+    /// of the eight.
     superset: [u64; 16],
 }
 
@@ -145,7 +146,7 @@ impl Block {
         self.set(lane, &Sig::empty());
     }
 
-    /// Which of the eight share a bit with a signature: bit j is set where signature j does.
+    /// Tells which of the eight share a bit with a signature: bit j is set where signature j does.
     #[inline(always)]
     pub fn meets(&self, signature: &Sig) -> u8
         ensures { (j : ℕ) → j < 8 → ((bit_at result j ≡ 1) ↔ Meet (signature_at self.now j) signature.now) }

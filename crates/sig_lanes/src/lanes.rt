@@ -5,7 +5,7 @@ ghost use Rattle.std.specs.Int.{bit_at};
 
 use std::simd::prelude::*;
 
-/// Which lanes aren't 0: bit j is set where lane j has some bit.
+/// Tells which lanes aren't 0: bit j is set where lane j has some bit.
 #[inline(always)]
 pub(crate) fn lanes_with_bits(lanes: u64x8) -> u8
     ensures { (j : ℕ) → j < 8

@@ -1,4 +1,4 @@
-//! What follows from the bits.
+//! The laws of the bits.
 
 ghost use Rattle.std.specs.Prelude.{◌≡◌, ◌<◌, ◌≤◌, ◌↔◌, ℕ, List, IsTrue};
 ghost use Rattle.schema.specs.declared.look.Look.{Look};
@@ -30,7 +30,7 @@ pub fn looks_set_the_bits_of_their_keys()
         → IsTrue (look_sets_bit bit look) ↔ (bit < 1024) }
 {}
 
-/// Signatures of looks and of writes meet exactly where the two share a bit, so always where they share a key.
+/// Signatures of looks and of writes meet exactly where looks and writes share a bit, so always where they share a key.
 pub fn signatures_meet_where_bits_are_shared()
     ensures bits { (looks : List Look) (writes : Writes) (reads written : List ℕ)
         → ((bit : ℕ) → bit < 1024 → has_bit reads bit ≡ looks_set_bit looks bit)
@@ -41,6 +41,7 @@ pub fn signatures_meet_where_bits_are_shared()
         → ((bit : ℕ) → bit < 1024 → has_bit written bit ≡ writes_set_bit writes bit)
         → IsTrue (shares_key looks writes) → Meet reads written }
 {
+    // Laws:
     shared_bits_are_of_both();
     sets_that_share_a_key_share_a_bit();
 }

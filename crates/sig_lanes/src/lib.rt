@@ -2,7 +2,10 @@
 #![tactic(auto)]
 
 pub use block::Block;
-pub use laws::{looks_set_the_bits_of_their_keys, sets_that_share_a_key_share_a_bit, shared_bits_are_of_both, signatures_meet_where_bits_are_shared};
+pub use laws::{
+    looks_set_the_bits_of_their_keys, sets_that_share_a_key_share_a_bit, shared_bits_are_of_both,
+    signatures_meet_where_bits_are_shared,
+};
 pub use sig::{Sig, first_meet};
 
 mod block;

@@ -36,7 +36,7 @@ fn bit_of(table: u8, key: u64) -> usize
     (of_key.wrapping_add(of_table) >> 54) as usize
 }
 
-/// Whether two sets of bits, each in two halves, have one in common.
+/// Tells whether two sets of bits, each in two halves, have a bit in common.
 #[inline(always)]
 fn halves_meet(low: u64x8, high: u64x8, other_low: u64x8, other_high: u64x8) -> bool
     ensures { IsTrue result ↔ Meet (low ++ high) (other_low ++ other_high) }
@@ -54,7 +54,7 @@ fn halves(words: &[u64; 16]) -> (u64x8, u64x8)
     (low, high)
 }
 
-/// Whether two sets of bits have one in common.
+/// Tells whether two sets of bits have a bit in common.
 #[inline(always)]
 pub(crate) fn words_meet(words: &[u64; 16], others: &[u64; 16]) -> bool
     ensures { IsTrue result ↔ Meet words.now others.now }
@@ -72,7 +72,7 @@ impl Sig {
         Sig { words: [0; 16] }
     }
 
-    /// All 1,024 bits.
+    /// Returns the set of all 1,024 bits.
     fn full() -> Sig
         ensures { (bit : ℕ) → bit < 1024 → IsTrue (has_bit result bit) }
     {
@@ -81,7 +81,7 @@ impl Sig {
         }
     }
 
-    /// One more bit.
+    /// Adds one bit.
     fn add_bit(&mut self, bit: usize)
         requires { bit < 1024 }
         ensures { (b : ℕ) → has_bit self.new b ≡ (has_bit self.old b || (bit == b)) }
@@ -89,7 +89,7 @@ impl Sig {
         self.words[bit / 64] |= 1 << (bit % 64);
     }
 
-    /// The bits of a look besides.
+    /// Adds the bits of a look.
     fn add_look(&mut self, look: Look)
         ensures { (b : ℕ) → b < 1024 → has_bit self.new b ≡ (has_bit self.old b || look_sets_bit b look) }
     {
@@ -106,7 +106,7 @@ impl Sig {
         }
     }
 
-    /// The bits of a call's looks: a look of at most 16 keys sets the bit of each, a longer one all.
+    /// The bits of a call's looks: a look of at most 16 keys sets the bit of each key, a longer look sets all bits.
     pub fn of_reads<A: Allocator>(reads: &ReadSet<A>) -> Sig
         ensures { (bit : ℕ) → bit < 1024 → has_bit result bit ≡ looks_set_bit reads.now bit }
     {
@@ -138,7 +138,7 @@ impl Sig {
         self.words
     }
 
-    /// Whether some bit is in both.
+    /// Tells whether some bit is in both.
     pub fn meets(&self, other: &Sig) -> bool
         ensures { IsTrue result ↔ Meet self.now other.now }
     {

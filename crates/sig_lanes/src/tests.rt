@@ -18,8 +18,8 @@ fn of_look(alloc: Global, lo: u64, hi: u64) -> Result<Sig, Fail> {
     Ok(Sig::of_reads(&reads))
 }
 
-/// A look from a key to a key, a written key, and whether their signatures meet. Of table 1 the keys 0 and 987 have one
-/// bit, 778, key 1 has 387, and none of the keys 2 to 17 has either (computed by a Python program).
+/// A look from a key to a key, a written key, and whether their signatures meet. The keys 0 and 987 of table 1 have one
+/// bit, 778, and key 1 has 387. None of the keys 2 to 17 has either bit (computed by a Python program).
 static CASES: [(u64, u64, u64, bool); 7] = [
     (0, 0, 0, true),
     (987, 987, 0, true),
@@ -41,7 +41,8 @@ fn signatures_meet_where_bits_are_shared(rt: HostRuntime) -> Result<(), Fail> {
     Ok(())
 }
 
-/// Of so many signatures of key 1, with one of key 0 at the end, the last is the first that meets a look at key 987.
+/// Tries signatures of key 1 with a signature of key 0 at the end. The last signature is the first that meets a look at
+/// key 987.
 #[test]
 fn the_first_that_meets_is_found(rt: HostRuntime) -> Result<(), Fail> {
     let alloc = rt.alloc();
@@ -79,8 +80,8 @@ fn keys_set_their_bits(rt: HostRuntime) -> Result<(), Fail> {
 /// Looks at keys of table 1, against which a block is held after each of the steps below.
 static LOOKS: [(u64, u64); 3] = [(987, 987), (2, 17), (0, u64::MAX)];
 
-/// What is done to the signature of a lane: it is that of a put at a key, or cleared; and which lanes each look then
-/// meets (computed by a Python program).
+/// The steps on a block: a lane, and the key of the put whose signature it takes, or none where it is cleared. The
+/// lanes that each look then meets stand behind (computed by a Python program).
 static STEPS: [(usize, Option<u64>, [u8; 3]); 24] = [
     (0, Some(2), [0b0000_0000, 0b0000_0001, 0b0000_0001]),
     (1, Some(3), [0b0000_0000, 0b0000_0011, 0b0000_0011]),

@@ -7,7 +7,7 @@ use Rattle.catalogue.specs.Stored.{ListedProcedure, AreForTables, AreStored, lis
 use Rattle.log_model.specs.declared.request.RequestId.{RequestId}
 use Rattle.log_model.specs.Log.{StoredProcedure, Catalogue, Setting, Log, by_name, by_number, first_repeated, history, procedures_after}
 use Rattle.log_model.specs.Entries.{Entry, item_of, items_of}
-use Rattle.log_entry.specs.Head.{is_whole}
+use Rattle.log_model.specs.OpenRequest.{has_zero}
 use Rattle.site_model.specs.declared.answer.CallAnswer.TheVariants.{Refused, Repeated}
 use Rattle.site_model.specs.declared.answer.CallRefusal.TheVariants.{NoProcedure, ArgumentsLength, HalfRequest}
 use Rattle.site_model.specs.Order.{reply_at}
@@ -24,23 +24,23 @@ module _ (w : Setting) (entries : List Entry) (asked : Asked) where
   no_procedure none = sym (by_found None none)
 
   module _ (p : StoredProcedure) (some : by_name (procedures_after w (items_of entries) (length entries)) asked.name ≡ Some p) where
-    by_tests : (a b : Bool) → nat_eq p.args_len (length asked.args) ≡ a → is_whole asked.request ≡ b
-        → call_answer_behind w entries asked ≡ cond (not a) (Refused ArgumentsLength) (cond (not b) (Refused HalfRequest) (unless_repeated entries (answer_of_run w (items_of entries) (asked_call (items_of entries) p asked)) (first_repeated (history w (items_of entries)).certified (asked_call (items_of entries) p asked))))
+    by_tests : (a b : Bool) → nat_eq p.args_len (length asked.args) ≡ a → has_zero asked.request ≡ b
+        → call_answer_behind w entries asked ≡ cond (not a) (Refused ArgumentsLength) (cond b (Refused HalfRequest) (unless_repeated entries (answer_of_run w (items_of entries) (asked_call (items_of entries) p asked)) (first_repeated (history w (items_of entries)).certified (asked_call (items_of entries) p asked))))
     by_tests a b as_many whole =
         by_found (Some p) some
-        ∙ (λ i. cond (not (as_many i)) (Refused ArgumentsLength) (cond (not (whole i)) (Refused HalfRequest) (unless_repeated entries (answer_of_run w (items_of entries) (asked_call (items_of entries) p asked)) (first_repeated (history w (items_of entries)).certified (asked_call (items_of entries) p asked)))))
+        ∙ (λ i. cond (not (as_many i)) (Refused ArgumentsLength) (cond (whole i) (Refused HalfRequest) (unless_repeated entries (answer_of_run w (items_of entries) (asked_call (items_of entries) p asked)) (first_repeated (history w (items_of entries)).certified (asked_call (items_of entries) p asked)))))
 
     pub other_length : nat_eq p.args_len (length asked.args) ≡ false → Refused ArgumentsLength ≡ call_answer_behind w entries asked
-    other_length a = sym (by_tests false (is_whole asked.request) a refl)
+    other_length a = sym (by_tests false (has_zero asked.request) a refl)
 
-    pub half_request : nat_eq p.args_len (length asked.args) ≡ true → is_whole asked.request ≡ false → Refused HalfRequest ≡ call_answer_behind w entries asked
-    half_request a b = sym (by_tests true false a b)
+    pub half_request : nat_eq p.args_len (length asked.args) ≡ true → has_zero asked.request ≡ true → Refused HalfRequest ≡ call_answer_behind w entries asked
+    half_request a b = sym (by_tests true true a b)
 
-    pub repeated_call : (position : ℕ) → nat_eq p.args_len (length asked.args) ≡ true → is_whole asked.request ≡ true → first_repeated (history w (items_of entries)).certified (asked_call (items_of entries) p asked) ≡ Some position → Repeated position (reply_at entries position) ≡ call_answer_behind w entries asked
-    repeated_call position a b first = sym (by_tests true true a b ∙ ap (unless_repeated entries (answer_of_run w (items_of entries) (asked_call (items_of entries) p asked))) first)
+    pub repeated_call : (position : ℕ) → nat_eq p.args_len (length asked.args) ≡ true → has_zero asked.request ≡ false → first_repeated (history w (items_of entries)).certified (asked_call (items_of entries) p asked) ≡ Some position → Repeated position (reply_at entries position) ≡ call_answer_behind w entries asked
+    repeated_call position a b first = sym (by_tests true false a b ∙ ap (unless_repeated entries (answer_of_run w (items_of entries) (asked_call (items_of entries) p asked))) first)
 
-    pub run_call : nat_eq p.args_len (length asked.args) ≡ true → is_whole asked.request ≡ true → first_repeated (history w (items_of entries)).certified (asked_call (items_of entries) p asked) ≡ None → answer_of_run w (items_of entries) (asked_call (items_of entries) p asked) ≡ call_answer_behind w entries asked
-    run_call a b first = sym (by_tests true true a b ∙ ap (unless_repeated entries (answer_of_run w (items_of entries) (asked_call (items_of entries) p asked))) first)
+    pub run_call : nat_eq p.args_len (length asked.args) ≡ true → has_zero asked.request ≡ false → first_repeated (history w (items_of entries)).certified (asked_call (items_of entries) p asked) ≡ None → answer_of_run w (items_of entries) (asked_call (items_of entries) p asked) ≡ call_answer_behind w entries asked
+    run_call a b first = sym (by_tests true false a b ∙ ap (unless_repeated entries (answer_of_run w (items_of entries) (asked_call (items_of entries) p asked))) first)
 
 -- ---- the procedure of a name
 
@@ -92,7 +92,7 @@ module _ (s : SiteReplica) (entries : List Entry) (held : List ListedProcedure) 
 pub one_program : (a b : Procedure) → Some a ≡ Some b → a ≡ b
 one_program a b e = cc
 
-pub same_call : (w : Setting) (log : Log) (procedure number : ℕ) (args : List ℕ) (snapshot position : ℕ) (request : RequestId) → procedure ≡ number → snapshot ≡ position
+pub same_call : (w : Setting) (log : Log) (procedure number : ℕ) (args : List ℕ) (snapshot position : ℕ) (request : Option RequestId) → procedure ≡ number → snapshot ≡ position
     → answer_of_run w log (record { number = 0; procedure = procedure; args = args; snapshot = snapshot; request = request }) ≡ answer_of_run w log (record { number = 0; procedure = number; args = args; snapshot = position; request = request })
 same_call w log procedure number args snapshot position request same here =
     (λ i. answer_of_run w log (record { number = 0; procedure = same i; args = args; snapshot = here i; request = request }))

@@ -1,11 +1,11 @@
 -- What stands at the next position follows the entries for which a site stands.
-use Rattle.std.proofs.Common.{◌≡◌, ℕ, ◌+◌, ◌<◌, List, [], ◌∷◌, ◌++◌, length, All, Some, None, refl, sym, ap, subst, ◌∙◌}
+use Rattle.std.proofs.Common.{◌≡◌, ℕ, ◌+◌, ◌<◌, List, [], ◌∷◌, ◌++◌, length, All, Some, None, refl, sym, ap, subst, ◌∙◌, Option}
 use Rattle.std.specs.FinMap.{empty, get-empty}
 use Rattle.std.specs.Prelude.{Result, Ok, Err, IfOk, OnOk}
 use Rattle.schema.specs.Schema.{Tables}
 use Rattle.schema.specs.Rows.{AreWrites, key_cmp}
 use Rattle.log_model.specs.declared.request.RequestId.{RequestId}
-use Rattle.log_model.specs.Log.{StoredProcedure, Call as OrderedCall, IsPlaced, no_request, verdict_of}
+use Rattle.log_model.specs.Log.{StoredProcedure, Call as OrderedCall, IsPlaced, None, verdict_of}
 use Rattle.log_model.specs.Fit.{IsSafe, FitsLog}
 use Rattle.log_model.specs.Entries.{Entry, ExecutedCall, CallEntry, AdditionEntry, item_of, items_of, IsCarried}
 use Rattle.log_entry.specs.declared.entry.Entry.{Entry as LogEntry}
@@ -39,7 +39,7 @@ alike_itself (AdditionEntry p) = refl
 same_addition : (e d : Entry) → StandsAs e ≡ StandsAs d → e ≡ d
 same_addition e d is = cc
 
-abbrev pub none_executed : ℕ → RequestId → ExecutedCall
+abbrev pub none_executed : ℕ → Option RequestId → ExecutedCall
 none_executed snapshot request = record {
   call = record { number = 0; procedure = 0; args = []; snapshot = snapshot; request = request };
   looks = [];
@@ -58,7 +58,7 @@ module _ {A : Type 0} (placed : ArePlaced) (carried : AreCarried) (fit : FitLogs
     taken = taken;
   }
 
-none_taken : {A : Type 0} (tables : Tables) (entry : LogEntry A) (snapshot : ℕ) (request : RequestId) → entry_of entry ≡ CallEntry (none_executed snapshot request) → CanBeTaken tables entry
+none_taken : {A : Type 0} (tables : Tables) (entry : LogEntry A) (snapshot : ℕ) (request : Option RequestId) → entry_of entry ≡ CallEntry (none_executed snapshot request) → CanBeTaken tables entry
 none_taken tables (Call e) snapshot request is = record {
   writes = subst (λ (x : ExecutedCall). AreWrites tables x.writes) (sym (one e (none_executed snapshot request) is)) (λ k write f. absurd (let bad : None ≡ Some write = sym (get-empty key_cmp k) ∙ f in cc));
   named = tt;
@@ -71,7 +71,7 @@ none_taken tables (Call e) snapshot request is = record {
 none_taken tables (Addition p) snapshot request is = absurd cc
 
 module _ {A : Type 0} (placed : ArePlaced) (carried : AreCarried) (fit : FitLogs) (s : SiteReplica) (entries : List Entry) (bytes : List ℕ) (are : All (λ b. b < 256) bytes) (stands : StandsForLog s entries) (entry : LogEntry A) where
-  pub follows_none : (st : Standing) (snapshot : ℕ) (request : RequestId) → standing (setting_of s) (items_of entries) bytes ≡ st → entry_of entry ≡ CallEntry (none_executed snapshot request)
+  pub follows_none : (st : Standing) (snapshot : ℕ) (request : Option RequestId) → standing (setting_of s) (items_of entries) bytes ≡ st → entry_of entry ≡ CallEntry (none_executed snapshot request)
       → AreAlike (entry_standing (setting_of s).setting (items_of entries) st) (CallEntry (none_executed snapshot request)) → ((e : Entry) → st ≡ StandsAs e → ⊥) → Follows s entries (next_entry (setting_of s) entries bytes) entry
   follows_none st snapshot request is entry_is alike other = record {
     stands = stands;
@@ -91,7 +91,7 @@ stands_true (StandsAs e) entry is = (e, refl, is)
 stands_true (IsDecided call) entry is = absurd is
 stands_true (IsNothing c) entry is = absurd is
 
-pub stands_decided : (A : Type 0) (st : Standing) (snapshot : ℕ) (request : RequestId) → IsStanding {A = A} st (Code.Decided snapshot request) → (call : OrderedCall) × (st ≡ IsDecided call) × (call.snapshot ≡ snapshot) × (call.request ≡ request)
+pub stands_decided : (A : Type 0) (st : Standing) (snapshot : ℕ) (request : Option RequestId) → IsStanding {A = A} st (Code.Decided snapshot request) → (call : OrderedCall) × (st ≡ IsDecided call) × (call.snapshot ≡ snapshot) × (call.request ≡ request)
 stands_decided A (IsDecided call) snapshot request is = (call, refl, is.0, is.1)
 stands_decided A (StandsAs e) snapshot request is = absurd is
 stands_decided A (IsNothing c) snapshot request is = absurd is
@@ -122,19 +122,19 @@ module _ {A : Type 0} (placed : ArePlaced) (carried : AreCarried) (fit : FitLogs
       ∙ ap (λ (x : EntryOutcome). outcome_by (with_bytes (setting_of r) entries bytes) x (verdict_of (setting_of r).setting (items_of (with_bytes (setting_of r) entries bytes)) (length entries + 1))) (by_entry ∙ ap committed_outcome (sym same))
       ∙ sym (outcome_at (setting_of r) entries bytes (StandsAs e) at)
 
-  pub decided_follows : (snapshot : ℕ) (request : RequestId) → IsStanding {A = A} (standing (setting_of r) (items_of entries) bytes) (Code.Decided snapshot request) → entry_of entry ≡ CallEntry (none_executed snapshot request) → Follows r entries (next_entry (setting_of r) entries bytes) entry
+  pub decided_follows : (snapshot : ℕ) (request : Option RequestId) → IsStanding {A = A} (standing (setting_of r) (items_of entries) bytes) (Code.Decided snapshot request) → entry_of entry ≡ CallEntry (none_executed snapshot request) → Follows r entries (next_entry (setting_of r) entries bytes) entry
   decided_follows snapshot request is entry_is =
       let (call, at, same, carries) = stands_decided A (standing (setting_of r) (items_of entries) bytes) snapshot request is in
       follows_none placed carried fit r entries bytes are stands entry (IsDecided call) snapshot request at entry_is (carries, same, refl, refl, refl) (λ e bad. absurd cc)
 
-  pub decided_outcome : (snapshot : ℕ) (request : RequestId) (o : EntryOutcome) → IsStanding {A = A} (standing (setting_of r) (items_of entries) bytes) (Code.Decided snapshot request) → entry_of entry ≡ CallEntry (none_executed snapshot request) → TakesFor r entry outcome.Stale o → o ≡ outcome_behind (setting_of r) entries bytes
+  pub decided_outcome : (snapshot : ℕ) (request : Option RequestId) (o : EntryOutcome) → IsStanding {A = A} (standing (setting_of r) (items_of entries) bytes) (Code.Decided snapshot request) → entry_of entry ≡ CallEntry (none_executed snapshot request) → TakesFor r entry outcome.Stale o → o ≡ outcome_behind (setting_of r) entries bytes
   decided_outcome snapshot request o is entry_is takes =
       let (call, at, same, carries) = stands_decided A (standing (setting_of r) (items_of entries) bytes) snapshot request is in
       takes entries (next_entry (setting_of r) entries bytes) (decided_follows snapshot request is entry_is) ∙ sym (outcome_at (setting_of r) entries bytes (IsDecided call) at)
 
-  pub nothing_follows : (cause : NothingCause) (position : ℕ) → IsStanding {A = A} (standing (setting_of r) (items_of entries) bytes) (Code.Nothing cause) → position ≡ r.replica.position → entry_of entry ≡ CallEntry (none_executed position no_request) → Follows r entries (next_entry (setting_of r) entries bytes) entry
+  pub nothing_follows : (cause : NothingCause) (position : ℕ) → IsStanding {A = A} (standing (setting_of r) (items_of entries) bytes) (Code.Nothing cause) → position ≡ r.replica.position → entry_of entry ≡ CallEntry (none_executed position None) → Follows r entries (next_entry (setting_of r) entries bytes) entry
   nothing_follows cause position is here entry_is =
-      follows_none placed carried fit r entries bytes are stands entry (IsNothing cause) position no_request (stands_nothing A (standing (setting_of r) (items_of entries) bytes) cause is) entry_is
+      follows_none placed carried fit r entries bytes are stands entry (IsNothing cause) position None (stands_nothing A (standing (setting_of r) (items_of entries) bytes) cause is) entry_is
       (refl, log_long r entries stands ∙ sym here, refl, refl, refl) (λ e bad. absurd cc)
 
 pub if_ok : {T E : Type 0} (P Q : T → Type 0) (r : Result T E) → IfOk r P → ((x : T) → P x → Q x) → IfOk r Q

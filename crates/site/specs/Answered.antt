@@ -1,6 +1,5 @@
 -- What is asked and answered in code, and the model's.
 use Rattle.std.specs.Prelude.{ℕ, List}
-pub use Rattle.log_entry.specs.Head.{is_whole}
 use Rattle.log_entry.specs.Head.{NamedProcedure}
 use Rattle.log_entry.specs.Bytes.{entry_bytes}
 use Rattle.log_entry.specs.declared.entry.Entry.{Entry as LogEntry}

@@ -25,7 +25,8 @@ pub struct NamedProgram<'a> {
     pub program: &'a [u8],
 }
 
-/// Checks a procedure that is to be added: what is to be ordered, or why it can't be. Nothing changes.
+/// Checks a procedure that is to be added. Returns what is to be ordered, or the cause for which the procedure can't be
+/// added. Changes nothing.
 pub fn add<A: Allocator + Copy>(
     site: &SiteReplica<A>,
     named: NamedProgram<'_>,

@@ -1,4 +1,4 @@
-//! A call that is asked for.
+//! A call that a caller asks for.
 
 ghost use Rattle.std.specs.Prelude.{◌≡◌, List, IfOk};
 ghost use Rattle.log_model.specs.Log.{Call, Setting};
@@ -6,35 +6,28 @@ ghost use Rattle.log_model.specs.Entries.{Entry as ModelEntry, items_of};
 ghost use Rattle.world_calls.specs.OpenCall.{IsCompletion};
 ghost use Rattle.site_model.specs.Answer.{answer_of_run, call_answer_behind};
 ghost use Rattle.site.specs.Replica.{StandsForLog, setting_of};
-ghost use Rattle.site.specs.Answered.{answered, asked_of, is_whole};
+ghost use Rattle.site.specs.Answered.{answered, asked_of};
 
 use crate::replies::reply_at;
 use crate::run::{NamedCall, complete};
 use crate::state::SiteReplica;
 use catalogue::{found_by_name_is_found_by_number, stored_procedures_are_consistent};
 use log_entry::Entry;
-use log_model::{RequestId, entries_suffice};
+use log_model::{RequestId, entries_suffice, has_zero};
 use site_model::{CallAnswer, CallRefusal};
 use std::alloc::{AllocError, Allocator};
 use world_calls::Completion;
 
-/// A call that is asked for, by the name of its procedure.
+/// A call that a caller asks for, by the name of its procedure.
 #[derive(Clone, Copy)]
 pub struct Asked<'a> {
     pub name: &'a [u8],
     pub args: &'a [u8],
-    /// Both of a session and its number, or neither.
-    pub request: RequestId,
+    /// The request that the call carries; a session or a number of 0 is refused.
+    pub request: Option<RequestId>,
 }
 
-/// Whether it is none, or has both a session and a number.
-fn is_whole(request: RequestId) -> bool
-    ensures { result ≡ is_whole request }
-{
-    (request.session == 0) == (request.sequence == 0)
-}
-
-/// What is answered to a call, by what comes of it.
+/// The answer to a call, by the outcome of its run.
 fn answer_of<A: Allocator + Copy>(completion: Completion<A>) -> CallAnswer<Entry<A>>
     ensures { (w : Setting) (entries : List ModelEntry) (call : Call)
         → IsCompletion w (items_of entries) call completion
@@ -53,7 +46,7 @@ fn answer_of<A: Allocator + Copy>(completion: Completion<A>) -> CallAnswer<Entry
     }
 }
 
-/// Runs a call whole on the rows at the last position: what comes of it. Nothing changes.
+/// Runs a call whole on the rows at the last position, and returns the answer. Changes nothing.
 pub fn call<A: Allocator + Copy>(
     site: &SiteReplica<A>,
     asked: Asked<'_>,
@@ -62,6 +55,7 @@ pub fn call<A: Allocator + Copy>(
     ensures { IfOk result (λ answer. (entries : List ModelEntry) → StandsForLog site.now entries
         → answered answer ≡ call_answer_behind (setting_of site.now).setting entries (asked_of asked.entry)) }
 {
+    // Laws:
     entries_suffice();
     found_by_name_is_found_by_number();
     let procedures = site.replica().procedures();
@@ -75,7 +69,7 @@ pub fn call<A: Allocator + Copy>(
     if usize::from(accepted.args_len()) != asked.args.len() {
         return Ok(CallAnswer::Refused(CallRefusal::ArgumentsLength));
     }
-    if !is_whole(asked.request) {
+    if has_zero(asked.request) {
         return Ok(CallAnswer::Refused(CallRefusal::HalfRequest));
     }
     if let Some(position) = site.repeated(asked.request) {

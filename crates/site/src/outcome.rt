@@ -1,4 +1,4 @@
-//! What became of an entry.
+//! The outcome of an entry.
 
 ghost use Rattle.std.specs.Prelude.{◌≡◌, List, map, Some};
 ghost use Rattle.log_model.specs.Entries.{Entry as ModelEntry};
@@ -12,7 +12,8 @@ use log_model::Verdict;
 use site_model::EntryOutcome;
 use std::alloc::Allocator;
 
-/// What became of an entry that has a verdict, by the replies of all positions: this, where it commits.
+/// The outcome of an entry that has a verdict, by the replies of all positions. The outcome is `committed` where the
+/// entry commits.
 pub(crate) fn outcome_by(replies: &[u64], committed: EntryOutcome, verdict: Verdict) -> EntryOutcome
     ensures { (entries : List ModelEntry) → replies.now ≡ map reply_of entries
         → result ≡ outcome_by entries committed (Some verdict) }
@@ -29,7 +30,7 @@ pub(crate) fn outcome_by(replies: &[u64], committed: EntryOutcome, verdict: Verd
     }
 }
 
-/// What becomes of an entry that commits.
+/// The outcome of an entry that commits.
 pub(crate) fn committed_outcome<A: Allocator + Copy>(entry: &Entry<A>) -> EntryOutcome
     ensures { result ≡ committed_outcome (entry_of entry.now) }
 {

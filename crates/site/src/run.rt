@@ -17,16 +17,16 @@ use world_calls::{Completion, OpenCall};
 /// A call that is to be run, on the rows of its snapshot.
 #[derive(Clone, Copy)]
 pub struct NamedCall<'a> {
-    /// Its number, as its entry has it.
+    /// The call's number, as the call's entry has it.
     pub number: u32,
     /// The procedure's number.
     pub procedure: u16,
     pub args: &'a [u8],
     pub snapshot: u32,
-    pub request: RequestId,
+    pub request: Option<RequestId>,
 }
 
-/// What comes of a call that runs whole on the rows of its snapshot, which the replica keeps.
+/// Runs a call whole on the rows of its snapshot, which the replica keeps, and returns the outcome.
 pub fn complete<A: Allocator + Copy>(
     alloc: A,
     replica: &Replica<A>,
@@ -42,6 +42,7 @@ pub fn complete<A: Allocator + Copy>(
         → CanRun w entries replica.now accepted.now (named_call call.entry)
         → IsCompletion w (items_of entries) (named_call call.entry) completion) }
 {
+    // Laws:
     fit_entries_go_on();
     logs_whose_calls_fit();
     let NamedCall {

@@ -1,4 +1,4 @@
-//! Whether an entry's bytes are these.
+//! The comparison of an entry's bytes with given bytes.
 
 ghost use Rattle.std.specs.Prelude.{◌≡◌, ◌≢◌, ◌++◌, ℕ, List, None, IfSome};
 ghost use Rattle.std.specs.Str.{bytes_eq};
@@ -9,7 +9,7 @@ use byte_output::sink::ByteSink;
 use log_entry::{Entry, append_entry};
 use std::alloc::Allocator;
 
-/// What is left of the bytes that are expected; none where others came.
+/// The expected bytes that are left, and none where other bytes came.
 #[derive(Drop)]
 struct Expected<'a> {
     left: Option<&'a [u8]>,
@@ -32,7 +32,7 @@ impl<'a> ByteSink for Expected<'a> {
     }
 }
 
-/// What is left of some bytes behind a piece, where they begin with it.
+/// Returns what is left of some bytes behind a piece, where they begin with the piece.
 fn left_behind<'a>(bytes: &'a [u8], piece: &[u8]) -> Option<&'a [u8]>
     ensures some { IfSome result (λ rest. bytes.now ≡ piece.now ++ rest.now) }
     ensures none { result ≡ None → (rest : List ℕ) → bytes.now ≢ piece.now ++ rest }
@@ -40,7 +40,7 @@ fn left_behind<'a>(bytes: &'a [u8], piece: &[u8]) -> Option<&'a [u8]>
     bytes.strip_prefix(piece)
 }
 
-/// Whether an entry has these bytes. It takes no memory.
+/// Tells whether an entry has these bytes. Takes no memory.
 pub fn has_bytes<A: Allocator + Copy>(entry: &Entry<A>, bytes: &[u8]) -> bool
     ensures { result ≡ bytes_eq bytes.now (entry_bytes (entry_of entry.now)) }
 {

@@ -22,7 +22,7 @@ use std::alloc::{AllocError, Allocator, Global};
 use std::marker::Model;
 use txn_view::Store;
 
-/// A site: it takes the byte strings of an order in, one after the other. Contracts see its replica.
+/// A site: it takes in the byte strings of an order, one after the other. Contracts see its replica.
 #[derive(Drop)]
 pub struct Site<A: Allocator + Copy = Global> {
     replica: SiteReplica<A>,
@@ -42,8 +42,8 @@ impl<A: Allocator + Copy> Model for Site<A> {
 }
 
 impl<A: Allocator + Copy> Site<A> {
-    /// One that was given nothing, with the tables and the first procedures of a catalogue. A call is stale where more
-    /// byte strings than the window came since its snapshot.
+    /// Makes a site that was given nothing, with the tables and the first procedures of a catalogue. A call is stale
+    /// where more byte strings than the window came since its snapshot.
     pub fn new(
         alloc: A,
         window: u32,
@@ -56,23 +56,25 @@ impl<A: Allocator + Copy> Site<A> {
           takes_additions = takes_additions;
         }) }
     {
+        // Laws:
         orders_grow();
         let replica = SiteReplica::new(alloc, window, catalogue, takes_additions)?;
         Ok(Site { replica })
     }
 
-    /// How many byte strings were taken in.
+    /// Returns the number of byte strings that were taken in.
     pub fn position(&self) -> u32
         ensures position { result ≡ self.now.replica.position }
         ensures count { (order : Order) → StandsForOrder self.now order → result ≡ length order }
     {
+        // Laws:
         orders_grow();
         self.replica.position()
     }
 
-    /// Takes the byte string at the next position in, and tells what became of it. A call is taken only where its run
-    /// on the rows of its snapshot gives these very bytes; what is nothing takes a position too. Where there is no
-    /// memory the site is dropped.
+    /// Takes in the byte string at the next position, and returns its outcome. A call is taken only where its run on
+    /// the rows of its snapshot gives these very bytes. A byte string that is nothing takes a position too. The site is
+    /// dropped where there is no memory.
     pub fn take(self, bytes: &[u8]) -> Result<(Site<A>, EntryOutcome), AllocError>
         requires room { self.replica.position + 1 < 2 ^ 32 }
         ensures outcome { IfOk result (λ taken. (order : Order) → StandsForOrder self order
@@ -81,6 +83,7 @@ impl<A: Allocator + Copy> Site<A> {
             → StandsForOrder taken.0 (order ++ bytes.now ∷ [])) }
         ensures setting { IfOk result (λ taken. setting_of taken.0 ≡ setting_of self) }
     {
+        // Laws:
         orders_grow();
         let Site { mut replica } = self;
         let outcome = take(&mut replica, bytes)?;
@@ -93,31 +96,33 @@ impl<A: Allocator + Copy> Site<A> {
             ≡ map.entries (rows_after (setting_of self.now).setting (order_log (setting_of self.now) order)
             (length order))) }
     {
+        // Laws:
         orders_grow();
         self.replica.rows(alloc)
     }
 
-    /// Whether there is a table of this number.
+    /// Tells whether there is a table of this number.
     pub fn has_table(&self, table: u8) -> bool
         ensures { result ≡ map.contains_key (setting_of self.now).setting.tables table }
     {
         self.replica.catalogue().schema().width(table).is_some()
     }
 
-    /// The rows at the last position, of which some are looked at.
+    /// The rows at the last position, for look-ups of single rows.
     pub fn last_rows<'a>(&'a self) -> At<'a, A>
         ensures answers { (order : Order) → StandsForOrder self.now order
             → ⟦<At<'a, A> as Store>⟧.answers_from result (rows_after (setting_of self.now).setting
             (order_log (setting_of self.now) order) (length order)) }
         ensures kept { ⟦<At<'a, A> as Store>⟧.is_gone result ≡ false }
     {
+        // Laws:
         orders_grow();
         fit_entries_go_on();
         let replica = self.replica.replica();
         replica.at(replica.position())
     }
 
-    /// Runs a call whole on the rows at the last position: what comes of it. Nothing changes.
+    /// Runs a call whole on the rows at the last position, and returns the answer. Changes nothing.
     pub fn call(&self, asked: Asked<'_>) -> Result<CallAnswer<Entry<A>>, AllocError>
         ensures { IfOk result (λ answer. (order : Order) → StandsForOrder self.now order
             → answered answer ≡ call_answer (setting_of self.now) order (asked_of asked.entry)) }
@@ -125,7 +130,8 @@ impl<A: Allocator + Copy> Site<A> {
         call(&self.replica, asked)
     }
 
-    /// Checks a procedure that is to be added: what is to be ordered, or why it can't be. Nothing changes.
+    /// Checks a procedure that is to be added. Returns what is to be ordered, or the cause for which the procedure
+    /// can't be added. Changes nothing.
     pub fn add(&self, named: NamedProgram<'_>) -> Result<AdditionAnswer<Entry<A>>, AllocError>
         requires { named.args_len ≤ MAX_ARGUMENTS }
         ensures { IfOk result (λ answer. added answer

@@ -1,4 +1,4 @@
-//! What stands at the next position.
+//! The meaning of the bytes at the next position.
 
 ghost use Rattle.std.specs.Prelude.{◌≡◌, ◌-◌, ◌≤◌, false, List, Option, option_map, IfOk};
 ghost use Rattle.std.specs.Option.{option_copied};
@@ -27,24 +27,28 @@ use std::alloc::{AllocError, Allocator};
 use std::sync::Arc;
 use world_calls::Completion;
 
-/// What stands at the next position.
+/// The meaning of the bytes at the next position.
 #[derive(Drop)]
 pub enum Standing<A: Allocator + Copy> {
     StandsAs(Entry<A>),
-    /// A call that is repeated or stale, whatever is told of its run.
-    Decided { snapshot: u32, request: RequestId },
+    /// A call that is repeated or stale, whatever its bytes tell of its run.
+    Decided {
+        snapshot: u32,
+        request: Option<RequestId>,
+    },
     Nothing(NothingCause),
 }
 
 impl<A: Allocator + Copy> SiteReplica<A> {
-    /// Whether a call is repeated or stale.
-    pub(crate) fn is_decided(&self, request: RequestId, snapshot: u32) -> bool
+    /// Tells whether a call is repeated or stale.
+    pub(crate) fn is_decided(&self, request: Option<RequestId>, snapshot: u32) -> bool
         requires { snapshot ≤ self.now.replica.position }
         ensures decided { (entries : List ModelEntry) (call : Call) → StandsForLog self.now entries
             → call.request ≡ request → call.snapshot ≡ snapshot
             → result ≡ is_decided (setting_of self.now).setting (items_of entries) call }
         ensures kept { result ≡ false → self.now.replica.position - snapshot ≤ self.now.replica.window }
     {
+        // Laws:
         entries_suffice();
         self.replica.repeated(request).is_some()
             || self.replica.position() - snapshot > self.replica.window()
@@ -57,6 +61,7 @@ impl<A: Allocator + Copy> SiteReplica<A> {
             → option_copied result ≡ option_map (accepted_of self.now.catalogue.tables)
             (by_number (procedures_after (setting_of self.now).setting (items_of entries) position) number) }
     {
+        // Laws:
         entries_suffice();
         if since(&self.additions, number) > position {
             return None;
@@ -66,7 +71,7 @@ impl<A: Allocator + Copy> SiteReplica<A> {
 }
 
 impl<A: Allocator + Copy> SiteReplica<A> {
-    /// What the bytes of a call are.
+    /// Returns what the bytes of a call stand for.
     fn call_standing(&self, head: CallHead<'_>, bytes: &[u8]) -> Result<Standing<A>, AllocError>
         requires stands { (entries : List ModelEntry) × StandsForLog self.now entries }
         ensures is { IfOk result (λ st. (entries : List ModelEntry) → StandsForLog self.now entries
@@ -102,11 +107,12 @@ impl<A: Allocator + Copy> SiteReplica<A> {
 }
 
 impl<A: Allocator + Copy> SiteReplica<A> {
-    /// What the bytes of an addition are.
+    /// Returns what the bytes of an addition stand for.
     fn addition_standing(&self, head: AdditionHead<'_>) -> Result<Standing<A>, AllocError>
         ensures is { IfOk result (IsStanding (addition_standing (setting_of self.now) (head_procedure head.entry))) }
         ensures ready { IfOk result (IsReady self.now.catalogue.tables) }
     {
+        // Laws:
         accepted_procedures_are_safe();
         each_catalogue_is_consistent(&self.catalogue);
         if !self.takes_additions || !is_name(head.name) || head.args_len > MAX_ARGUMENTS {
@@ -125,7 +131,7 @@ impl<A: Allocator + Copy> SiteReplica<A> {
         }
     }
 
-    /// What bytes are at the next position. Nothing changes.
+    /// Returns what bytes at the next position stand for. Changes nothing.
     pub fn standing(&self, bytes: &[u8]) -> Result<Standing<A>, AllocError>
         requires stands { (entries : List ModelEntry) × StandsForLog self.now entries }
         ensures is { IfOk result (λ st. (entries : List ModelEntry) → StandsForLog self.now entries
@@ -157,7 +163,7 @@ fn addition_of<A: Allocator + Copy>(
     }))
 }
 
-/// What a call that isn't decided is, by what comes of it and the bytes that tell of it.
+/// Returns what a call that isn't decided stands for, by the outcome of its run and the bytes that tell of it.
 fn standing_of_run<A: Allocator + Copy>(completion: Completion<A>, bytes: &[u8]) -> Standing<A>
     ensures is { (w : Setting) (entries : List ModelEntry) (call : Call)
         → IsCompletion w (items_of entries) call completion

@@ -14,7 +14,7 @@ use site_model::fit_entries_go_on;
 use std::alloc::{AllocError, Allocator, Global};
 use std::marker::Model;
 
-/// The replica of a site, with what else it has to know of an order. Contracts see all of it.
+/// The replica of a site, with the rest that a site has to know of an order. Contracts see all of it.
 #[derive(Drop)]
 pub struct SiteReplica<A: Allocator + Copy = Global> {
     pub(crate) alloc: A,
@@ -44,8 +44,8 @@ impl<A: Allocator + Copy> Model for SiteReplica<A> {
 }
 
 impl<A: Allocator + Copy> SiteReplica<A> {
-    /// One that was given nothing, with the tables and the first procedures of a catalogue. A call is stale where more
-    /// byte strings than the window came since its snapshot.
+    /// Makes a replica that was given nothing, with the tables and the first procedures of a catalogue. A call is stale
+    /// where more byte strings than the window came since its snapshot.
     pub fn new(
         alloc: A,
         window: u32,
@@ -70,7 +70,7 @@ impl<A: Allocator + Copy> SiteReplica<A> {
         })
     }
 
-    /// How many byte strings were taken in.
+    /// Returns the number of byte strings that were taken in.
     pub fn position(&self) -> u32
         ensures position { result ≡ self.now.replica.position }
         ensures count { (entries : List ModelEntry) → StandsForLog self.now entries → result ≡ length entries }
@@ -85,37 +85,38 @@ impl<A: Allocator + Copy> SiteReplica<A> {
         &self.replies
     }
 
-    /// What it keeps of the log of the order.
+    /// The replica of the order's log.
     pub fn replica(&self) -> &Replica<A>
         ensures { result.now ≡ self.now.replica }
     {
         &self.replica
     }
 
-    /// Its tables, and the procedures at first.
+    /// The site's tables, and the procedures at first.
     pub fn catalogue(&self) -> &Catalogue<A>
         ensures { result.now ≡ self.now.catalogue }
     {
         &self.catalogue
     }
 
-    /// Whether procedures may be added.
+    /// Tells whether procedures may be added.
     pub fn takes_additions(&self) -> bool
         ensures { result ≡ self.now.takes_additions }
     {
         self.takes_additions
     }
 
-    /// Where its memory comes from.
+    /// Returns the allocator that the replica's memory comes from.
     pub fn allocator(&self) -> A {
         self.alloc
     }
 
     /// The position of the committed call that carries a request.
-    pub fn repeated(&self, request: RequestId) -> Option<u32>
+    pub fn repeated(&self, request: Option<RequestId>) -> Option<u32>
         ensures { (entries : List ModelEntry) → StandsForLog self.now entries → result
             ≡ first_position (repeats request) 1 (history (setting_of self.now).setting (items_of entries)).certified }
     {
+        // Laws:
         entries_suffice();
         self.replica.repeated(request)
     }
@@ -125,6 +126,7 @@ impl<A: Allocator + Copy> SiteReplica<A> {
         ensures { IfOk result (λ list. (entries : List ModelEntry) → StandsForLog self.now entries → list.items
             ≡ map.entries (rows_after (setting_of self.now).setting (items_of entries) (length entries))) }
     {
+        // Laws:
         fit_entries_go_on();
         self.replica.rows(alloc)
     }

@@ -1,4 +1,4 @@
-//! Taking a byte string in.
+//! The taking in of a byte string.
 
 ghost use Rattle.std.specs.Prelude.{◌≡◌, ◌+◌, ◌<◌, ◌^◌, ◌++◌, ℕ, [], ◌∷◌, List, length, All, IfOk, OnOk};
 ghost use Rattle.std.specs.FinMap.{empty};
@@ -18,8 +18,12 @@ use row_sets::{Bytes, ReadSet, WriteSet};
 use site_model::{EntryOutcome, what_stands_is_of_the_log};
 use std::alloc::{AllocError, Allocator};
 
-/// A call that did nothing, of this snapshot and with this request. Takes no memory.
-fn entry_of_none<A: Allocator + Copy>(alloc: A, snapshot: u32, request: RequestId) -> Entry<A>
+/// Makes the entry of a call that did nothing, of this snapshot and with this request. Takes no memory.
+fn entry_of_none<A: Allocator + Copy>(
+    alloc: A,
+    snapshot: u32,
+    request: Option<RequestId>,
+) -> Entry<A>
     ensures { entry_of result ≡ CallEntry (record {
       call = record { number = 0; procedure = 0; args = []; snapshot = snapshot; request = request };
       looks = [];
@@ -39,12 +43,12 @@ fn entry_of_none<A: Allocator + Copy>(alloc: A, snapshot: u32, request: RequestI
     })
 }
 
-/// What their type says of bytes.
+/// The bytes are less than 256, as their type says.
 fn are_bytes(bytes: &[u8])
     ensures { All (λ b. b < 256) bytes.now }
 {}
 
-/// Takes an entry in: what became of it, by its verdict; this, where it commits.
+/// Takes in an entry, and returns its outcome by its verdict. The outcome is `committed` where the entry commits.
 fn take_entry<A: Allocator + Copy>(
     replica: &mut SiteReplica<A>,
     entry: &Entry<A>,
@@ -63,7 +67,7 @@ fn take_entry<A: Allocator + Copy>(
     Ok(outcome_by(replica.replies(), committed, verdict))
 }
 
-/// Takes the byte string at the next position in: what became of it.
+/// Takes in the byte string at the next position, and returns its outcome.
 pub(crate) fn take<A: Allocator + Copy>(
     replica: &mut SiteReplica<A>,
     bytes: &[u8],
@@ -76,6 +80,7 @@ pub(crate) fn take<A: Allocator + Copy>(
         → StandsForLog replica.new (with_bytes (setting_of replica.old) entries bytes.now)) }
     ensures setting { OnOk result (setting_of replica.new ≡ setting_of replica.old) }
 {
+    // Laws:
     what_stands_is_of_the_log();
     are_bytes(bytes);
     let alloc = replica.allocator();
@@ -89,11 +94,7 @@ pub(crate) fn take<A: Allocator + Copy>(
             take_entry(replica, &entry, EntryOutcome::Stale)
         }
         Standing::Nothing(cause) => {
-            let none = RequestId {
-                session: 0,
-                sequence: 0,
-            };
-            let entry = entry_of_none(alloc, replica.position(), none);
+            let entry = entry_of_none(alloc, replica.position(), None);
             take_entry(replica, &entry, EntryOutcome::Nothing(cause))?;
             Ok(EntryOutcome::Nothing(cause))
         }

@@ -1,4 +1,4 @@
-//! Taking in what stands at the next position.
+//! The taking in of what stands at the next position.
 
 ghost use Rattle.std.specs.Prelude.{◌≡◌, ◌+◌, ◌<◌, ◌^◌, ◌++◌, [], ◌∷◌, List, length, Some, IfOk, OnOk};
 ghost use Rattle.log_model.specs.Log.{verdict_of};
@@ -17,7 +17,7 @@ use replica::tables_take_the_schemas_writes;
 use site_model::fit_entries_go_on;
 use std::alloc::{AllocError, Allocator};
 
-/// The reply that an entry tells; 0 where it is an addition.
+/// The reply that an entry tells, and 0 where the entry is an addition.
 fn reply_of<A: Allocator + Copy>(entry: &Entry<A>) -> u64
     ensures { result ≡ reply_of (entry_of entry.now) }
 {
@@ -47,7 +47,8 @@ fn keep_addition<A: Allocator + Copy>(
 }
 
 impl<A: Allocator + Copy> SiteReplica<A> {
-    /// Takes an entry in at the next position: its verdict. Where there is no memory the site is of no use any more.
+    /// Takes in an entry at the next position, and returns its verdict. The site is of no use any more where there is
+    /// no memory.
     pub fn deliver(&mut self, entry: &Entry<A>) -> Result<Verdict, AllocError>
         requires room { self.old.replica.position + 1 < 2 ^ 32 }
         requires follows { (entries : List ModelEntry) × (e : ModelEntry) × Follows self.old entries e entry.now }
@@ -59,6 +60,7 @@ impl<A: Allocator + Copy> SiteReplica<A> {
             → Follows self.old entries e entry.now → StandsForLog self.new (entries ++ e ∷ [])) }
         ensures setting { setting_of self.new ≡ setting_of self.old }
     {
+        // Laws:
         a_log_only_grows();
         fit_entries_go_on();
         procedures_after_each_item();

@@ -9,7 +9,8 @@ use Rattle.schema.specs.Rows.{Rows, AreRows}
 use Rattle.bpf_semantics.specs.Fit.{IsRunOf}
 use Rattle.bpf_semantics.specs.Run.{Run, run}
 use Rattle.log_model.specs.Log.{StoredProcedure, Catalogue, Call, by_name, by_number, or_idle, run_of_call, run_of_procedure}
-use Rattle.log_entry.specs.Head.{AdditionHead, CallHead, NamedProcedure, addition_head, call_head, call_of, field, head_of, is_whole, part, procedure_of, request_of}
+use Rattle.log_model.specs.OpenRequest.{has_zero}
+use Rattle.log_entry.specs.Head.{AdditionHead, CallHead, NamedProcedure, addition_head, call_head, call_of, field, head_of, part, procedure_of, request_of}
 use Rattle.site_model.specs.Standing.{SiteSetting}
 use Rattle.site_model.specs.Order.{Order}
 use Rattle.site_laws.specs.Added.{AddsProcedure}
@@ -45,7 +46,7 @@ named_number (kind ∷ fields) n are e = by_kind (kind == 1) (kind == 2) e
     by_addition false p fits e = absurd cc
 
     by_kind : (a b : Bool) → cond a (call_head (field 14 2 fields) fields) (cond b (addition_head (field 4 1 fields) (field (5 + field 4 1 fields) 4 fields) fields) None) ≡ Some (AdditionHead n) → n.number < 2 ^ 16
-    by_kind true b e = by_call (nat_le (28 + field 14 2 fields) (length fields) && is_whole (request_of fields)) (call_of (field 14 2 fields) fields) (field (20 + field 14 2 fields) 8 fields) e
+    by_kind true b e = by_call (nat_le (28 + field 14 2 fields) (length fields) && not (has_zero (request_of fields))) (call_of (field 14 2 fields) fields) (field (20 + field 14 2 fields) 8 fields) e
     by_kind false true e =
         by_addition (9 + field 4 1 fields + field (5 + field 4 1 fields) 4 fields == length fields) (procedure_of (field 4 1 fields) (field (5 + field 4 1 fields) 4 fields) fields)
         (two_bytes (part 0 2 fields) (All-take (λ b. b < 256) 2 fields rest)) e

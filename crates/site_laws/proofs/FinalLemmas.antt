@@ -2,10 +2,11 @@
 use Rattle.std.proofs.Common.{◌≡◌, ◌≢◌, ℕ, ◌+◌, ◌==◌, Bool, true, false, not, cond, ◌&&◌, nat_le, List, [], ◌∷◌, length, Option, Some, None, refl, sym, ap, subst, ◌∙◌}
 use Rattle.std.specs.FinMap.{len}
 use Rattle.bpf_semantics.specs.Run.{Run}
+use Rattle.log_model.specs.OpenRequest.{has_zero}
 use Rattle.log_model.specs.Log.{Call, Log, Setting, StoredProcedure, by_name, first_repeated, history, procedure_of, procedures_after, run_in}
 use Rattle.log_model.specs.Entries.{Entry, CallEntry, items_of}
 use Rattle.log_entry.specs.Bytes.{entry_bytes}
-use Rattle.log_entry.specs.Head.{AdditionHead, CallHead, NamedProcedure, addition_head, call_head, call_of, field, head_of, is_whole, procedure_of as named_procedure_of, request_of}
+use Rattle.log_entry.specs.Head.{AdditionHead, CallHead, NamedProcedure, addition_head, call_head, call_of, field, head_of, procedure_of as named_procedure_of, request_of}
 use Rattle.site_model.specs.declared.answer.CallAnswer.{CallAnswer}
 use Rattle.site_model.specs.declared.answer.CallAnswer.TheVariants.{Read, Refused, Submitted}
 use Rattle.site_model.specs.declared.answer.CallRefusal.{CallRefusal}
@@ -45,7 +46,7 @@ run_answer w entries asked p =
     unless_repeated entries (answer_of_run w (items_of entries) (asked_call (items_of entries) p asked)) (first_repeated (history w (items_of entries)).certified (asked_call (items_of entries) p asked))
 
 abbrev tested : Bool → Bool → CallAnswer (List ℕ) → CallAnswer (List ℕ)
-tested a b answer = cond (not a) (Refused ArgumentsLength) (cond (not b) (Refused HalfRequest) answer)
+tested a b answer = cond (not a) (Refused ArgumentsLength) (cond b (Refused HalfRequest) answer)
 
 run_never_refused : (w : Setting) (entries : List Entry) (asked : Asked) (p : StoredProcedure) (refusal : CallRefusal) → run_answer w entries asked p ≡ Refused refusal → ⊥
 run_never_refused w entries asked p refusal =
@@ -56,38 +57,38 @@ run_never_refused w entries asked p refusal =
 -- no procedure was found
 pub unknown_by : (w : Setting) (entries : List Entry) (asked : Asked) (o : Option StoredProcedure) → answer_for w entries asked o ≡ Refused NoProcedure → o ≡ None
 unknown_by w entries asked None e = refl
-unknown_by w entries asked (Some p) e = by_tests (p.args_len == length asked.args) (is_whole asked.request) e
+unknown_by w entries asked (Some p) e = by_tests (p.args_len == length asked.args) (has_zero asked.request) e
   where
     by_tests : (a b : Bool) → tested a b (run_answer w entries asked p) ≡ Refused NoProcedure → Some p ≡ None
     by_tests false b e = absurd cc
-    by_tests true false e = absurd cc
-    by_tests true true e = absurd (run_never_refused w entries asked p NoProcedure e)
+    by_tests true true e = absurd cc
+    by_tests true false e = absurd (run_never_refused w entries asked p NoProcedure e)
 
 -- the other refusals ask only what is asked and the procedure
 pub refused_again : (w : Setting) (entries others : List Entry) (asked : Asked) (refusal : CallRefusal) (p : StoredProcedure) → answer_for w entries asked (Some p) ≡ Refused refusal → answer_for w others asked (Some p) ≡ Refused refusal
-refused_again w entries others asked refusal p = by_tests (p.args_len == length asked.args) (is_whole asked.request)
+refused_again w entries others asked refusal p = by_tests (p.args_len == length asked.args) (has_zero asked.request)
   where
     by_tests : (a b : Bool) → tested a b (run_answer w entries asked p) ≡ Refused refusal → tested a b (run_answer w others asked p) ≡ Refused refusal
     by_tests false b e = e
-    by_tests true false e = e
-    by_tests true true e = absurd (run_never_refused w entries asked p refusal e)
+    by_tests true true e = e
+    by_tests true false e = absurd (run_never_refused w entries asked p refusal e)
 
 pub wrong_length : (w : Setting) (entries : List Entry) (asked : Asked) (p : StoredProcedure) → answer_for w entries asked (Some p) ≡ Refused ArgumentsLength → (p.args_len == length asked.args) ≡ false
-wrong_length w entries asked p = by_tests (p.args_len == length asked.args) (is_whole asked.request)
+wrong_length w entries asked p = by_tests (p.args_len == length asked.args) (has_zero asked.request)
   where
     by_tests : (a b : Bool) → tested a b (run_answer w entries asked p) ≡ Refused ArgumentsLength → a ≡ false
     by_tests false b e = refl
-    by_tests true false e = absurd cc
-    by_tests true true e = absurd (run_never_refused w entries asked p ArgumentsLength e)
+    by_tests true true e = absurd cc
+    by_tests true false e = absurd (run_never_refused w entries asked p ArgumentsLength e)
 
-pub half_a_request : (w : Setting) (entries : List Entry) (asked : Asked) (o : Option StoredProcedure) → answer_for w entries asked o ≡ Refused HalfRequest → is_whole asked.request ≡ false
+pub half_a_request : (w : Setting) (entries : List Entry) (asked : Asked) (o : Option StoredProcedure) → answer_for w entries asked o ≡ Refused HalfRequest → has_zero asked.request ≡ true
 half_a_request w entries asked None e = absurd cc
-half_a_request w entries asked (Some p) e = by_tests (p.args_len == length asked.args) (is_whole asked.request) e
+half_a_request w entries asked (Some p) e = by_tests (p.args_len == length asked.args) (has_zero asked.request) e
   where
-    by_tests : (a b : Bool) → tested a b (run_answer w entries asked p) ≡ Refused HalfRequest → b ≡ false
+    by_tests : (a b : Bool) → tested a b (run_answer w entries asked p) ≡ Refused HalfRequest → b ≡ true
     by_tests false b e = absurd cc
-    by_tests true false e = refl
-    by_tests true true e = absurd (run_never_refused w entries asked p HalfRequest e)
+    by_tests true true e = refl
+    by_tests true false e = absurd (run_never_refused w entries asked p HalfRequest e)
 
 -- a procedure was found
 pub some_procedure : (w : Setting) (entries : List Entry) (asked : Asked) (o : Option StoredProcedure) (refusal : CallRefusal) → refusal ≢ NoProcedure → answer_for w entries asked o ≡ Refused refusal → (p : StoredProcedure) × (o ≡ Some p)
@@ -100,23 +101,27 @@ some_procedure w entries asked (Some p) refusal other e = (p, refl)
 -- ---- heads
 
 -- both of the session and the number of a call that bytes name are 0, or neither
-pub heads_are_whole : (bytes : List ℕ) (call : Call) (told : ℕ) → head_of bytes ≡ Some (CallHead call told) → is_whole call.request ≡ true
+pub heads_are_whole : (bytes : List ℕ) (call : Call) (told : ℕ) → head_of bytes ≡ Some (CallHead call told) → has_zero call.request ≡ false
 unfolding head_of
 heads_are_whole [] call told e = absurd cc
 heads_are_whole (kind ∷ fields) call told e = by_kind (kind == 1) (kind == 2) e
   where
-    by_call : (a b : Bool) (c : Call) (r : ℕ) → is_whole c.request ≡ b → cond (a && b) (Some (CallHead c r)) None ≡ Some (CallHead call told) → is_whole call.request ≡ true
-    by_call true true c r is e = subst (λ (x : Call). is_whole x.request ≡ true) (let same : c ≡ call = cc in same) is
+    no_zero : (b : Bool) → not b ≡ true → b ≡ false
+    no_zero true e = absurd cc
+    no_zero false e = refl
+
+    by_call : (a b : Bool) (c : Call) (r : ℕ) → not (has_zero c.request) ≡ b → cond (a && b) (Some (CallHead c r)) None ≡ Some (CallHead call told) → has_zero call.request ≡ false
+    by_call true true c r is e = subst (λ (x : Call). has_zero x.request ≡ false) (let same : c ≡ call = cc in same) (no_zero (has_zero c.request) is)
     by_call true false c r is e = absurd cc
     by_call false b c r is e = absurd cc
 
-    by_addition : (b : Bool) (p : NamedProcedure) → cond b (Some (AdditionHead p)) None ≡ Some (CallHead call told) → is_whole call.request ≡ true
+    by_addition : (b : Bool) (p : NamedProcedure) → cond b (Some (AdditionHead p)) None ≡ Some (CallHead call told) → has_zero call.request ≡ false
     by_addition true p e = absurd cc
     by_addition false p e = absurd cc
 
-    by_kind : (a b : Bool) → cond a (call_head (field 14 2 fields) fields) (cond b (addition_head (field 4 1 fields) (field (5 + field 4 1 fields) 4 fields) fields) None) ≡ Some (CallHead call told) → is_whole call.request ≡ true
+    by_kind : (a b : Bool) → cond a (call_head (field 14 2 fields) fields) (cond b (addition_head (field 4 1 fields) (field (5 + field 4 1 fields) 4 fields) fields) None) ≡ Some (CallHead call told) → has_zero call.request ≡ false
     by_kind true b e =
-        by_call (nat_le (28 + field 14 2 fields) (length fields)) (is_whole (request_of fields)) (call_of (field 14 2 fields) fields) (field (20 + field 14 2 fields) 8 fields) refl e
+        by_call (nat_le (28 + field 14 2 fields) (length fields)) (not (has_zero (request_of fields))) (call_of (field 14 2 fields) fields) (field (20 + field 14 2 fields) 8 fields) refl e
     by_kind false true e =
         by_addition (9 + field 4 1 fields + field (5 + field 4 1 fields) 4 fields == length fields) (named_procedure_of (field 4 1 fields) (field (5 + field 4 1 fields) 4 fields) fields) e
     by_kind false false e = absurd cc

@@ -157,7 +157,7 @@ module _ (s : SiteSetting) (entries : List Entry) (bytes : List ℕ) where
   left_by (verdict.Repeated n) effect rows same = refl
   left_by (verdict.Taken i) effect rows same = refl
 
-  none_runs : ProceduresGrow → (snapshot : ℕ) (request : RequestId) (rows : Rows) → snapshot ≤ length (items_of entries) → (e : Entry)
+  none_runs : ProceduresGrow → (snapshot : ℕ) (request : Option RequestId) (rows : Rows) → snapshot ≤ length (items_of entries) → (e : Entry)
       → (run_on s.setting (items_of (entries ++ e ∷ [])) (call_of_none (procedures_after s.setting (items_of entries) snapshot) snapshot request) rows).effect ≡ rows
   unfolding run_of_call
   none_runs grow snapshot request rows le e =
@@ -167,7 +167,7 @@ module _ (s : SiteSetting) (entries : List Entry) (bytes : List ℕ) where
       (ap (λ (l : Log). procedures_after s.setting l snapshot) (items_snoc entries e) ∙ grow s.setting (items_of entries) (item_of e ∷ []) snapshot le)
       ∙ none_unused ps)
 
-  pub rows_none : HaveVerdicts → RowsGrow → ProceduresGrow → RowsNext → (snapshot : ℕ) (request : RequestId) → IsLog (items_of (with_bytes s entries bytes)) → snapshot ≤ length (items_of entries) → next_entry s entries bytes ≡ entry_of_none (procedures_after s.setting (items_of entries) snapshot) snapshot request
+  pub rows_none : HaveVerdicts → RowsGrow → ProceduresGrow → RowsNext → (snapshot : ℕ) (request : Option RequestId) → IsLog (items_of (with_bytes s entries bytes)) → snapshot ≤ length (items_of entries) → next_entry s entries bytes ≡ entry_of_none (procedures_after s.setting (items_of entries) snapshot) snapshot request
       → rows_after s.setting (items_of (with_bytes s entries bytes)) (suc (length entries)) ≡ rows_after s.setting (items_of entries) (length entries)
   rows_none verdicts grow procedures next snapshot request log le is =
       let w = s.setting in

@@ -9,7 +9,7 @@ use Rattle.log_model.specs.declared.request.RequestId.{RequestId}
 use Rattle.log_model.specs.declared.verdict.Verdict.{Verdict}
 use Rattle.log_model.specs.declared.verdict.Verdict.TheVariants as verdict
 use Rattle.log_model.specs.declared.verdict.Identifier.TheVariants.{Name, Number}
-use Rattle.log_model.specs.Log.{StoredProcedure, Catalogue, CertifiedItem, Call, CallItem, Log, IsLog, by_name, by_number, first_position, history, is_commit, no_request, procedures_after, repeats, run_in, same_request, verdict_of, verdict_on_addition}
+use Rattle.log_model.specs.Log.{StoredProcedure, Catalogue, CertifiedItem, Call, CallItem, Log, IsLog, by_name, by_number, first_position, history, is_commit, None, procedures_after, repeats, run_in, same_request, verdict_of, verdict_on_addition}
 use Rattle.log_model.specs.Entries.{Entry, CallEntry, AdditionEntry, item_of, items_of}
 use Rattle.log_model.proofs.CallLemmas.{addition_is, certified_is, count_history}
 use Rattle.log_model.proofs.GrowthLemmas.{get_before, grown, run_grown}
@@ -30,14 +30,11 @@ unfolding first_position
 no_more test position [] c e = ap (λ (b : Bool). cond b (Some position) None) e
 no_more test position (x ∷ cs) c e = ap (λ (o : Option ℕ). cond (test x) (Some position) o) (no_more test (position + 1) cs c e)
 
-none_same : (r : RequestId) → same_request r no_request ≡ false
-none_same r = by_test (r.session == 0 && r.sequence == 0)
-  where
-    by_test : (b : Bool) → (b && not b) ≡ false
-    by_test true = refl
-    by_test false = refl
+none_same : (r : Option RequestId) → same_request r None ≡ false
+none_same None = refl
+none_same (Some r) = refl
 
-no_repeat : (r : RequestId) (c : CertifiedItem) → c.request ≡ no_request → repeats r c ≡ false
+no_repeat : (r : Option RequestId) (c : CertifiedItem) → c.request ≡ None → repeats r c ≡ false
 no_repeat r c e = ap (λ (b : Bool). is_commit c.verdict && b) (ap (same_request r) e ∙ none_same r) ∙ by_test (is_commit c.verdict)
   where
     by_test : (b : Bool) → (b && false) ≡ false
@@ -84,7 +81,7 @@ module _ (s : SiteSetting) (entries : List Entry) (bytes : List ℕ) (why : Noth
   whole = items_of (with_bytes s entries bytes)
 
   abbrev none : Call
-  none = call_of_none (procedures_after s.setting log (length log)) (length log) no_request
+  none = call_of_none (procedures_after s.setting log (length log)) (length log) None
 
   item_is : item_of (next_entry s entries bytes) ≡ CallItem none
   item_is = ap (λ (st : Standing). item_of (entry_standing s.setting log st)) is
@@ -93,7 +90,7 @@ module _ (s : SiteSetting) (entries : List Entry) (bytes : List ℕ) (why : Noth
   none_there = item_there entries (next_entry s entries bytes) ∙ ap Some item_is
 
   -- the one more that is certified carries no request
-  certified_there : IsLog whole → (c : CertifiedItem) × ((history s.setting whole).certified ≡ (history s.setting log).certified ++ c ∷ []) × (c.request ≡ no_request)
+  certified_there : IsLog whole → (c : CertifiedItem) × ((history s.setting whole).certified ≡ (history s.setting log).certified ++ c ∷ []) × (c.request ≡ None)
   certified_there is_log =
       let g = grown s.setting log (item_of (next_entry s entries bytes) ∷ []) in
       let long = length-map entries item_of in
@@ -107,7 +104,7 @@ module _ (s : SiteSetting) (entries : List Entry) (bytes : List ℕ) (why : Noth
       let same = last_carries (history s.setting whole).certified (history s.setting log).certified c _ (length entries) split count (certified_is s.setting whole (length entries) none is_log none_there) in
       (c, split, same)
 
-  pub request_stays : IsLog whole → (r : RequestId) → option_map (with_reply (with_bytes s entries bytes)) (first_position (repeats r) 1 (history s.setting whole).certified)
+  pub request_stays : IsLog whole → (r : Option RequestId) → option_map (with_reply (with_bytes s entries bytes)) (first_position (repeats r) 1 (history s.setting whole).certified)
       ≡ option_map (with_reply entries) (first_position (repeats r) 1 (history s.setting log).certified)
   request_stays is_log r =
       let (c, split, carries) = certified_there is_log in
@@ -125,7 +122,7 @@ module _ (s : SiteSetting) (entries : List Entry) (bytes : List ℕ) (why : Noth
 
   -- it writes nothing, however the log goes on
   pub writes_nothing : (more : Log) → (run_in s.setting (log ++ more) none).writes ≡ empty
-  writes_nothing more = ap (λ (r : Run). r.writes) (run_grown s.setting log more none (omega arith) ∙ runs_none s.setting log (length log) no_request)
+  writes_nothing more = ap (λ (r : Run). r.writes) (run_grown s.setting log more none (omega arith) ∙ runs_none s.setting log (length log) None)
 
 -- ---- what is in conflict
 
@@ -196,7 +193,7 @@ never_in_conflict s entries later all nothing bytes why verdicts means goes is_l
     ∙ append_assoc first (items_of later) (item_of (next_entry s all bytes) ∷ []) in
     let on : whole ≡ log ++ (item ∷ rest) = split ∙ ap (λ (l : Log). l ++ rest) (items_snoc entries (next_entry s entries nothing)) ∙ append_assoc log (item ∷ []) rest in
     let inside : length entries < length first = omega (arith, length-map (with_bytes s entries nothing) item_of, length-append entries (next_entry s entries nothing ∷ [])) in
-    let none = call_of_none (procedures_after w log (length log)) (length log) no_request in
+    let none = call_of_none (procedures_after w log (length log)) (length log) None in
     let none_is : slice_get whole (length entries) ≡ Some (CallItem none) = ap (λ (l : Log). slice_get l (length entries)) split ∙ get_before first rest (length entries) inside ∙ none_there s entries nothing why is in
     let same : wrote.call ≡ none = same_call wrote.call none (sym (ap (slice_get whole) (sym place) ∙ wrote.stands) ∙ none_is) in
     let writes : (run_in w whole wrote.call).writes ≡ empty =

@@ -19,7 +19,8 @@ use Rattle.log_model.specs.Name.{is_name}
 use Rattle.program_checks.specs.ProgramCheck.{Passed}
 use Rattle.program_checks.specs.Check.{check_of}
 use Rattle.log_entry.specs.Fit.{named_procedure}
-use Rattle.log_entry.specs.Head.{NamedProcedure, AdditionHead, CallHead, head_of, is_whole}
+use Rattle.log_entry.specs.Head.{NamedProcedure, AdditionHead, CallHead, head_of}
+use Rattle.log_model.specs.OpenRequest.{has_zero}
 use Rattle.site_model.specs.declared.answer.AdditionAnswer.TheVariants as addition
 use Rattle.site_model.specs.declared.answer.AdditionRefusal.TheVariants as refusal
 use Rattle.site_model.specs.declared.cause.NothingCause.{NothingCause}
@@ -38,7 +39,7 @@ use Rattle.site_laws.proofs.SettledLemmas.{by_head}
 -- a run that is to be ordered wrote something, and these are its bytes
 pub record Ordered (w : Setting) (log : Log) (p : StoredProcedure) (asked : Asked) (bytes : List ℕ) : Type 0 where
   pub takes : (p.args_len == length asked.args) ≡ true
-  pub whole : is_whole asked.request ≡ true
+  pub whole : has_zero asked.request ≡ false
   pub writes : writes_something (run_in w log (asked_call log p asked)) ≡ true
   pub are : entry_bytes (CallEntry (executed w log (asked_call log p asked))) ≡ bytes
 
@@ -47,7 +48,7 @@ same_bytes a b e = cc
 
 pub ordered_by : (w : Setting) (entries : List Entry) (asked : Asked) (p : StoredProcedure) (bytes : List ℕ) → answer_for w entries asked (Some p) ≡ call.Submitted bytes → Ordered w (items_of entries) p asked bytes
 ordered_by w entries asked p bytes =
-    by_tests (p.args_len == length asked.args) refl (is_whole asked.request) refl (first_repeated (history w (items_of entries)).certified (asked_call (items_of entries) p asked)) run.cancel_code refl (len run.writes == 0) refl
+    by_tests (p.args_len == length asked.args) refl (has_zero asked.request) refl (first_repeated (history w (items_of entries)).certified (asked_call (items_of entries) p asked)) run.cancel_code refl (len run.writes == 0) refl
   where
     log : Log
     log = items_of entries
@@ -58,8 +59,8 @@ ordered_by w entries asked p bytes =
     own : List ℕ
     own = entry_bytes (CallEntry (executed w log (asked_call log p asked)))
 
-    by_tests : (a : Bool) → (p.args_len == length asked.args) ≡ a → (b : Bool) → is_whole asked.request ≡ b → (o code : Option ℕ) → run.cancel_code ≡ code → (none : Bool) → (len run.writes == 0) ≡ none
-        → cond (not a) (call.Refused ArgumentsLength) (cond (not b) (call.Refused HalfRequest) (unless_repeated entries (unless_cancelled (length log) run own code) o)) ≡ call.Submitted bytes → Ordered w log p asked bytes
+    by_tests : (a : Bool) → (p.args_len == length asked.args) ≡ a → (b : Bool) → has_zero asked.request ≡ b → (o code : Option ℕ) → run.cancel_code ≡ code → (none : Bool) → (len run.writes == 0) ≡ none
+        → cond (not a) (call.Refused ArgumentsLength) (cond b (call.Refused HalfRequest) (unless_repeated entries (unless_cancelled (length log) run own code) o)) ≡ call.Submitted bytes → Ordered w log p asked bytes
     by_tests false ea b eb o code ec none en e = absurd cc
     by_tests true ea false eb o code ec none en e = absurd cc
     by_tests true ea true eb (Some position) code ec none en e = absurd cc

@@ -98,7 +98,7 @@ repeated_there w log call n is repeated =
     (ap (λ (past : List CertifiedItem). first_repeated past call) (past_is w log (CallItem call ∷ [])) ∙ repeated))
 
 -- a call of no procedure looks at nothing
-none_looks : (w : Setting) (log : Log) (snapshot : ℕ) (request : RequestId) → snapshot ≤ length log
+none_looks : (w : Setting) (log : Log) (snapshot : ℕ) (request : Option RequestId) → snapshot ≤ length log
     → (run_in w (log ++ CallItem (call_of_none (procedures_after w log snapshot) snapshot request) ∷ []) (call_of_none (procedures_after w log snapshot) snapshot request)).looks ≡ []
 unfolding run_of_call
 none_looks w log snapshot request le =

@@ -14,7 +14,8 @@ use Rattle.log_model.specs.declared.verdict.Verdict.TheVariants.{Commit}
 use Rattle.log_model.specs.Log.{StoredProcedure, Catalogue, Setting, Call, Item, CallItem, Log, IsLog, IsLogFrom, IsPlaced, by_name, by_number, first_repeated, history, or_idle, procedure_of, procedures_after, rows_after, run_in, run_of_call, run_of_procedure, run_on, verdict_of}
 use Rattle.log_model.specs.Entries.{Entry, ExecutedCall, CallEntry, AdditionEntry, item_of, items_of}
 use Rattle.log_entry.specs.Bytes.{entry_bytes}
-use Rattle.log_entry.specs.Head.{CallHead, head_of, is_whole}
+use Rattle.log_entry.specs.Head.{CallHead, head_of}
+use Rattle.log_model.specs.OpenRequest.{has_zero}
 use Rattle.log_model.specs.Fit.{AllFitLog, FitsLog, FitsProcedures, HasSafeProcedures, IsSafe}
 use Rattle.log_model.specs.Verdicts.{IsConflict, IsNew, WroteWhatWasRead}
 use Rattle.log_model.proofs.GrowthLemmas.{get_before, is_log_snoc, procedures_grown, rows_grown, run_grown, verdict_grown}
@@ -186,7 +187,7 @@ ordered position r bytes None is writes settled = by_count (len r.writes == 0) (
 settled_by : (w : Setting) (entries : List Entry) (asked : Asked) (p : StoredProcedure) → writes_something (run_in w (items_of entries) (asked_call (items_of entries) p asked)) ≡ true
     → IsSettled (answer_for w entries asked (Some p)) → ⊥
 settled_by w entries asked p writes =
-    by_tests (p.args_len == length asked.args) (is_whole asked.request) (first_repeated (history w (items_of entries)).certified (asked_call (items_of entries) p asked))
+    by_tests (p.args_len == length asked.args) (has_zero asked.request) (first_repeated (history w (items_of entries)).certified (asked_call (items_of entries) p asked))
   where
     log : Log
     log = items_of entries
@@ -195,11 +196,11 @@ settled_by w entries asked p writes =
     run = run_in w log (asked_call log p asked)
 
     by_tests : (a b : Bool) (o : Option ℕ)
-        → IsSettled (cond (not a) (Refused ArgumentsLength) (cond (not b) (Refused HalfRequest) (unless_repeated entries (answer_of_run w log (asked_call log p asked)) o))) → ⊥
+        → IsSettled (cond (not a) (Refused ArgumentsLength) (cond b (Refused HalfRequest) (unless_repeated entries (answer_of_run w log (asked_call log p asked)) o))) → ⊥
     by_tests false b o h = h
-    by_tests true false o h = h
-    by_tests true true (Some position) h = h
-    by_tests true true None h = ordered (length log) run (entry_bytes (CallEntry (executed w log (asked_call log p asked)))) run.cancel_code refl writes h
+    by_tests true true o h = h
+    by_tests true false (Some position) h = h
+    by_tests true false None h = ordered (length log) run (entry_bytes (CallEntry (executed w log (asked_call log p asked)))) run.cancel_code refl writes h
 
 -- ---- the run of what was asked
 

@@ -12,7 +12,7 @@ abbrev pub with_reply : List Entry → ℕ → ℕ × ℕ
 with_reply entries position = (position, reply_at entries position)
 
 -- its position behind an order, and its reply
-abbrev pub committed_request : SiteSetting → Order → RequestId → Option (ℕ × ℕ)
+abbrev pub committed_request : SiteSetting → Order → Option RequestId → Option (ℕ × ℕ)
 committed_request s order request =
     option_map (with_reply (order_entries s order))
     (first_position (repeats request) 1 (history s.setting (order_log s order)).certified)

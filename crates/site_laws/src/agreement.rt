@@ -1,4 +1,4 @@
-//! What sites of one order have in common.
+//! The outcomes that sites of one order have in common.
 
 ghost use Rattle.std.specs.Prelude.{◌≡◌, ◌++◌, length};
 ghost use Rattle.log_model.specs.Log.{procedures_after, rows_after};
@@ -11,8 +11,8 @@ use crate::laws::beginnings_have_the_same_entries;
 use log_model::a_log_only_grows;
 use site_model::orders_grow;
 
-/// What becomes of each byte string of an order is the same where more byte strings are behind that order, and so are the
-/// rows and the procedures behind it. So two sites of one setting agree on what both were given.
+/// The outcome of each byte string of an order is the same where more byte strings are behind that order. The rows and
+/// the procedures behind the order are the same too. Two sites of one setting therefore agree on what both were given.
 pub fn sites_of_one_order_agree()
     ensures answers { (s : SiteSetting) (order more : Order)
         → outcomes s (order ++ more) ≡ outcomes s order ++ outcomes_behind s order more }
@@ -21,6 +21,7 @@ pub fn sites_of_one_order_agree()
     ensures procedures { (s : SiteSetting) (order more : Order)
         → procedures_after s.setting (order_log s (order ++ more)) (length order) ≡ procedures_behind s order }
 {
+    // Laws:
     a_log_only_grows();
     beginnings_have_the_same_entries();
     orders_grow();

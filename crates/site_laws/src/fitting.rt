@@ -41,24 +41,26 @@ pub fn catalogues_make_safe_settings<A: Allocator + Copy>(catalogue: &Catalogue<
     each_catalogue_is_consistent(catalogue);
 }
 
-/// Over safe settings the entries of every order of byte strings are fit: calls fit the procedures of their snapshots and
+/// Every order of byte strings has fit entries, over safe settings. Calls fit the procedures of their snapshots and
 /// carry their runs, and what is added is safe.
 pub fn orders_of_bytes_fit()
     ensures { (s : SiteSetting) (order : Order) → IsSafeSetting s.setting → IsOfBytes order
         → AreFitEntries s.setting (order_entries s order) }
 {
+    // Laws:
     accepted_procedures_are_safe();
     fit_entries_go_on();
     programs_pass_where_they_are_accepted();
     what_stands_is_of_the_log();
 }
 
-/// Over safe settings the rows behind every order of byte strings are those that its committed calls leave, run one at a
-/// time in the order, and the reply that is told of each is that run's. Nothing is asked of whoever made the strings.
+/// The rows behind an order of byte strings, over safe settings, are those that its committed calls leave, run one at a
+/// time in order. The reply that is told of each call is that run's. Nothing is asked of whoever made the strings.
 pub fn calls_run_one_at_a_time()
     ensures { (s : SiteSetting) (order : Order) → IsSafeSetting s.setting → IsOfBytes order
         → RunInTurn s.setting (order_log s order) empty (committed_calls s order) (rows_behind s order) }
 {
+    // Laws:
     orders_grow();
     orders_of_bytes_fit();
     rows_after_each_byte_string();
@@ -66,9 +68,9 @@ pub fn calls_run_one_at_a_time()
     what_stands_is_of_the_log();
 }
 
-/// Over safe settings and every order of byte strings: where a call was answered by a read or a cancellation behind an
-/// order, or a byte string was refused for a conflict or as stale, no byte string behind it commits that asks the same, on
-/// rows that aren't newer, whatever its request.
+/// An answer settles every order of byte strings, over safe settings. The law is about calls answered by a read or a
+/// cancellation, and byte strings refused for a conflict or as stale. No byte string behind such an answer commits that
+/// asks the same, on rows that aren't newer, whatever its request.
 pub fn what_was_told_settles_every_order()
     ensures answered { (s : SiteSetting) (order more : Order) (bytes : List ℕ) (asked : Asked) (call : Call)
         (told reply : ℕ)
@@ -89,6 +91,7 @@ pub fn what_was_told_settles_every_order()
         → next_outcome s order first ≡ Stale
         → next_outcome s (order ++ first ∷ between) second ≢ Committed reply }
 {
+    // Laws:
     orders_of_bytes_fit();
     what_was_answered_commits_no_more();
     what_was_refused_commits_no_more();

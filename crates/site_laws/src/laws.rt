@@ -15,7 +15,7 @@ use log_model::{
 };
 use site_model::{orders_grow, what_stands_is_of_the_log};
 
-/// An order that goes on keeps the entries that it had: two sites of one setting, of which one was given a beginning of
+/// An order that goes on keeps the entries that it had. Two sites of one setting, of which one was given a beginning of
 /// the other's order, have come to the same that far.
 pub fn beginnings_have_the_same_entries()
     ensures { (s : SiteSetting) (order more : Order)
@@ -26,12 +26,13 @@ pub fn beginnings_have_the_same_entries()
 pub fn orders_have_logs()
     ensures { (s : SiteSetting) (order : Order) → IsLog (order_log s order) }
 {
+    // Laws:
     orders_grow();
     what_stands_is_of_the_log();
 }
 
-/// The rows after one more byte string are the effect of its call, run on the rows before it, where it commits, and the
-/// reply that is told is that run's; else they are the rows before it.
+/// A byte string that commits makes the rows the effect of its call, run on the rows before it. The reply that is told
+/// is that run's. Any other byte string leaves the rows as they were.
 pub fn rows_after_each_byte_string()
     ensures committed { (s : SiteSetting) (order : Order) (bytes : List ℕ) (e : ExecutedCall) (reply : ℕ)
         → AreFitEntries s.setting (order_entries s (order ++ bytes ∷ []))
@@ -42,6 +43,7 @@ pub fn rows_after_each_byte_string()
         → rows_after s.setting (order_log s (order ++ bytes ∷ [])) (suc (length order))
         ≡ rows_after s.setting (order_log s order) (length order) }
 {
+    // Laws:
     a_log_only_grows();
     each_call_has_a_verdict();
     entries_carry_serial_replies();
@@ -52,7 +54,7 @@ pub fn rows_after_each_byte_string()
     what_stands_is_of_the_log();
 }
 
-/// Of two byte strings with one request at most one commits.
+/// Two byte strings with one request never both commit.
 pub fn each_request_commits_once_in_an_order()
     ensures { (s : SiteSetting) (first between : Order) (a b : List ℕ) (x y : ExecutedCall) (reply other : ℕ)
         → standing s (order_log s first) a ≡ StandsAs (CallEntry x) → next_outcome s first a ≡ Committed reply
@@ -60,6 +62,7 @@ pub fn each_request_commits_once_in_an_order()
         → IsTrue (same_request x.call.request y.call.request)
         → next_outcome s (first ++ a ∷ between) b ≢ Committed other }
 {
+    // Laws:
     a_log_only_grows();
     each_call_has_a_verdict();
     each_request_commits_once();

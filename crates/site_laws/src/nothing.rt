@@ -1,4 +1,4 @@
-//! What is nothing.
+//! The byte strings that are nothing.
 
 ghost use Rattle.std.specs.Prelude.{◌≡◌, ◌≢◌, ◌++◌, suc, List, ℕ, [], ◌∷◌, length};
 ghost use Rattle.log_model.specs.declared.request.RequestId.{RequestId};
@@ -16,8 +16,8 @@ use crate::procedures::procedures_after_each_byte_string;
 use log_model::{each_call_has_a_verdict, verdicts_in_words_of_the_log};
 use site_model::orders_grow;
 
-/// A byte string that is nothing leaves the rows, the procedures, and the committed call of each request, with its reply;
-/// and no byte string behind it is in conflict with it.
+/// A byte string that is nothing leaves the rows, the procedures, and the committed call of each request, with its
+/// reply. No byte string behind it is in conflict with it.
 pub fn what_is_nothing_changes_nothing()
     ensures rows { (s : SiteSetting) (order : Order) (bytes : List ℕ) (cause : NothingCause)
         → next_outcome s order bytes ≡ Nothing cause
@@ -26,13 +26,14 @@ pub fn what_is_nothing_changes_nothing()
         → next_outcome s order bytes ≡ Nothing cause
         → procedures_behind s (order ++ bytes ∷ []) ≡ procedures_behind s order }
     ensures requests { (s : SiteSetting) (order : Order) (bytes : List ℕ) (cause : NothingCause)
-        (request : RequestId)
+        (request : Option RequestId)
         → next_outcome s order bytes ≡ Nothing cause
         → committed_request s (order ++ bytes ∷ []) request ≡ committed_request s order request }
     ensures conflicts { (s : SiteSetting) (order between : Order) (bytes later : List ℕ) (cause : NothingCause)
         → next_outcome s order bytes ≡ Nothing cause
         → next_outcome s (order ++ bytes ∷ between) later ≢ Conflict (suc (length order)) }
 {
+    // Laws:
     beginnings_have_the_same_entries();
     each_call_has_a_verdict();
     orders_grow();

@@ -1,4 +1,4 @@
-//! What a site gave to be ordered, when it comes back.
+//! The bytes that a site gave to be ordered, when they come back.
 
 ghost use Rattle.std.specs.Prelude.{◌≡◌, ◌≢◌, ◌<◌, ◌≤◌, ◌^◌, ℕ, ◌++◌, List, length};
 ghost use Rattle.bpf_code.specs.Program.{Program};
@@ -7,6 +7,7 @@ ghost use Rattle.schema.specs.declared.limits.TheConstants.{MAX_ARGUMENTS};
 ghost use Rattle.log_model.specs.Log.{run_in};
 ghost use Rattle.program_checks.specs.ProgramCheck.{Passed};
 ghost use Rattle.program_checks.specs.Check.{check_of};
+ghost use Rattle.log_entry.specs.Bytes.{sequence_of, session_of};
 ghost use Rattle.log_entry.specs.Fit.{AdditionFitsFields};
 ghost use Rattle.log_entry.specs.Head.{NamedProcedure};
 ghost use Rattle.site_model.specs.declared.answer.AdditionAnswer.TheVariants.{Submitted as AddSubmitted};
@@ -28,31 +29,34 @@ use log_model::{each_call_has_a_verdict, logs_whose_calls_fit, verdicts_in_words
 use program_checks::programs_pass_where_they_are_accepted;
 use site_model::orders_grow;
 
-/// The bytes that a call was answered behind an order, to be ordered, aren't nothing wherever that order goes on, where
-/// the procedure has a number of its own and the call's numbers and lengths fit their fields (`IsAskedOf`).
+/// The bytes that a call was answered behind an order, to be ordered, aren't nothing wherever that order goes on. The
+/// premises are that the procedure has a number of its own and the call's numbers and lengths fit their fields
+/// (`IsAskedOf`).
 pub fn own_calls_are_not_nothing()
     ensures { (s : SiteSetting) (order more : Order) (asked : Asked) (bytes : List ℕ) (cause : NothingCause)
         → IsAskedOf s order asked → call_answer s order asked ≡ Submitted bytes
         → next_outcome s (order ++ more) bytes ≢ Nothing cause }
 {
+    // Laws:
     beginnings_have_the_same_entries();
     entries_have_their_heads();
     orders_grow();
 }
 
-/// A call that was answered by bytes is as `IsAskedOf` says: its procedure has a number of its own, and its numbers and
-/// lengths fit their fields. So its bytes aren't nothing wherever the order goes on. The premises are a setting as sites
-/// have them, an order of fewer than 2^32 byte strings, arguments of bytes, and a request within its fields.
+/// A call that was answered by bytes is as `IsAskedOf` says. The call's procedure has a number of its own, and its
+/// numbers and lengths fit their fields. Its bytes therefore aren't nothing wherever the order goes on. The premises
+/// are a setting as sites have them, fewer than 2^32 byte strings, arguments of bytes, and a request within its fields.
 pub fn calls_of_sites_fit_their_fields()
     ensures asked { (s : SiteSetting) (order : Order) (asked : Asked) (bytes : List ℕ)
         → IsSiteSetting s.setting → IsOfBytes order → length order < 2 ^ 32 → IsBytes asked.args
-        → asked.request.session < 2 ^ 32 → asked.request.sequence < 2 ^ 32
+        → session_of asked.request < 2 ^ 32 → sequence_of asked.request < 2 ^ 32
         → call_answer s order asked ≡ Submitted bytes → IsAskedOf s order asked }
     ensures something { (s : SiteSetting) (order more : Order) (asked : Asked) (bytes : List ℕ) (cause : NothingCause)
         → IsSiteSetting s.setting → IsOfBytes order → length order < 2 ^ 32 → IsBytes asked.args
-        → asked.request.session < 2 ^ 32 → asked.request.sequence < 2 ^ 32
+        → session_of asked.request < 2 ^ 32 → sequence_of asked.request < 2 ^ 32
         → call_answer s order asked ≡ Submitted bytes → next_outcome s (order ++ more) bytes ≢ Nothing cause }
 {
+    // Laws:
     logs_whose_calls_fit();
     orders_grow();
     orders_of_bytes_fit();
@@ -63,8 +67,8 @@ pub fn calls_of_sites_fit_their_fields()
     states_fit();
 }
 
-/// The bytes that a call was answered, to be ordered, commit where nothing that came between stands in the call's way. The
-/// call is as `IsAskedOf` says. Wherever the bytes commit, the reply is that of the run that was answered.
+/// The bytes that a call was answered, to be ordered, commit where nothing that came between stands in the call's way.
+/// The call is as `IsAskedOf` says. The reply of bytes that commit is that of the run that was answered.
 pub fn own_calls_commit_where_nothing_stands_in_their_way()
     ensures free { (s : SiteSetting) (order between : Order) (asked : Asked) (bytes : List ℕ)
         (is : IsAskedOf s order asked)
@@ -77,6 +81,7 @@ pub fn own_calls_commit_where_nothing_stands_in_their_way()
         → call_answer s order asked ≡ Submitted bytes → next_outcome s (order ++ between) bytes ≡ Committed reply
         → reply ≡ (run_in s.setting (order_log s order) (asked_call (order_log s order) is.procedure asked)).reply }
 {
+    // Laws:
     beginnings_have_the_same_entries();
     each_call_has_a_verdict();
     entries_have_their_heads();
@@ -85,8 +90,9 @@ pub fn own_calls_commit_where_nothing_stands_in_their_way()
     verdicts_in_words_of_the_log();
 }
 
-/// The bytes that an addition was answered, to be ordered, aren't nothing behind any order, where its program is spelled
-/// by the bytes that it was read from, as a program that is decoded is, and its numbers and lengths fit their fields.
+/// The bytes that an addition was answered, to be ordered, aren't nothing behind any order. The premises are that the
+/// program is spelled by the bytes that it was read from, and that its numbers and lengths fit their fields. A program
+/// that is decoded is spelled by its bytes.
 pub fn own_additions_are_not_nothing()
     ensures { (s : SiteSetting) (order : Order) (p : NamedProcedure) (program : Program) (bytes : List ℕ)
         (cause : NothingCause)
@@ -94,16 +100,18 @@ pub fn own_additions_are_not_nothing()
         → spelling program ≡ p.bytes → AdditionFitsFields (stored_as p program)
         → addition_answer s p ≡ AddSubmitted bytes → next_outcome s order bytes ≢ Nothing cause }
 {
+    // Laws:
     entries_have_their_heads();
 }
 
-/// The bytes that an addition was answered, to be ordered, aren't nothing behind any order, where its program is given as
-/// bytes, and its number and the length of its arguments fit their fields.
+/// The bytes that an addition was answered, to be ordered, aren't nothing behind any order. The premises are that the
+/// program is given as bytes, and that its number and the length of its arguments fit their fields.
 pub fn additions_of_sites_are_not_nothing()
     ensures { (s : SiteSetting) (order : Order) (p : NamedProcedure) (bytes : List ℕ) (cause : NothingCause)
         → p.number < 2 ^ 16 → p.args_len ≤ MAX_ARGUMENTS → IsBytes p.bytes
         → addition_answer s p ≡ AddSubmitted bytes → next_outcome s order bytes ≢ Nothing cause }
 {
+    // Laws:
     own_additions_are_not_nothing();
     programs_pass_where_they_are_accepted();
 }

@@ -15,8 +15,8 @@ use log_model::{
 };
 use site_model::orders_grow;
 
-/// The procedures behind one more byte string: one more where the string adds a procedure, and else the same. It adds one
-/// exactly where it names one that is accepted, of a name and a number that none has; and so it is told.
+/// One more byte string adds one procedure, or leaves the procedures as they were. It adds a procedure exactly where it
+/// names one that is accepted, of a name and a number that none has. The outcome then tells of the addition.
 pub fn procedures_after_each_byte_string()
     ensures first { (s : SiteSetting) → procedures_behind s [] ≡ s.setting.catalogue }
     ensures told { (s : SiteSetting) (order : Order) (bytes : List ℕ) (number : ℕ)
@@ -29,6 +29,7 @@ pub fn procedures_after_each_byte_string()
         → ((number : ℕ) → next_outcome s order bytes ≢ Added number)
         → procedures_behind s (order ++ bytes ∷ []) ≡ procedures_behind s order }
 {
+    // Laws:
     a_log_only_grows();
     each_call_has_a_verdict();
     orders_grow();
@@ -37,8 +38,9 @@ pub fn procedures_after_each_byte_string()
     verdicts_on_additions_in_words_of_the_log();
 }
 
-/// Behind an order that goes on others come behind the procedures that there were, so that what is found by its name or
-/// its number stays found. Where no two have a number in common at first, what is found by its name is found by its number.
+/// An order that goes on adds procedures behind those that there were, so that what is found by its name or its number
+/// stays found. Where no two first procedures have a number in common, what is found by its name is found by its
+/// number.
 pub fn procedures_only_grow()
     ensures later { (s : SiteSetting) (order more : Order)
         → (later : Catalogue) × (procedures_behind s (order ++ more) ≡ procedures_behind s order ++ later) }
@@ -52,5 +54,6 @@ pub fn procedures_only_grow()
         → HasDistinctNumbers s.setting → by_name (procedures_behind s order) name ≡ Some p
         → by_number (procedures_behind s order) p.number ≡ Some p }
 {
+    // Laws:
     procedures_after_each_byte_string();
 }

@@ -18,14 +18,14 @@ use crate::procedures::{procedures_after_each_byte_string, procedures_only_grow}
 use log_model::procedures_are_never_lost;
 use site_model::{orders_grow, what_stands_is_of_the_log};
 
-/// How long refusals hold, and that no copy of what was refused commits.
+/// Refusals hold for good, and no copy of what was refused commits.
 ///
 /// Arguments of another length than the procedure takes, and half a request, are refused wherever the order goes on. No
-/// byte string that asks the same of the same procedure commits there, where the first procedures have distinct numbers.
-/// No head of a byte string has half a request. A name without a procedure stays without, wherever the order goes on, where
-/// no procedures are added. Where procedures are added, an addition may end that. But whoever asks behind a beginning of
-/// the order is refused too, so no copy was submitted before. An addition whose name or number was taken adds nothing
-/// wherever the order goes on.
+/// byte string that asks the same of the same procedure commits there, where the first procedures have distinct
+/// numbers. No head of a byte string has half a request. A name without a procedure stays without, wherever the order
+/// goes on, where no procedures are added. Where procedures are added, an addition may end that. But whoever asks
+/// behind a beginning of the order is refused too, so no copy was submitted before. An addition whose name or number
+/// was taken adds nothing wherever the order goes on.
 pub fn refusals_hold_for_good()
     ensures kept { (s : SiteSetting) (order more : Order) (asked : Asked) (refusal : CallRefusal)
         → refusal ≢ NoProcedure → call_answer s order asked ≡ Refused refusal
@@ -48,6 +48,7 @@ pub fn refusals_hold_for_good()
     ensures taken { (s : SiteSetting) (order more : Order) (bytes : List ℕ) (identifier : Identifier) (number : ℕ)
         → next_outcome s order bytes ≡ Taken identifier → next_outcome s (order ++ more) bytes ≢ Added number }
 {
+    // Laws:
     orders_grow();
     orders_have_logs();
     procedures_after_each_byte_string();

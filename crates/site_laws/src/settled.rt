@@ -1,4 +1,4 @@
-//! What answers rule out.
+//! The commits that answers rule out.
 
 ghost use Rattle.std.specs.Prelude.{◌≡◌, ◌≢◌, ◌<◌, ℕ, ◌∷◌, ◌++◌, List, All, Some};
 ghost use Rattle.log_model.specs.Log.{Call};
@@ -17,8 +17,8 @@ use log_model::{
 };
 use site_model::{orders_grow, what_stands_is_of_the_log};
 
-/// Where a call was answered by a read or a cancellation behind an order, no byte string that asks the same, on rows that
-/// aren't newer, commits where that order goes on, whatever its request.
+/// A call that was answered by a read or a cancellation behind an order settles what is asked. No byte string that asks
+/// the same, on rows that aren't newer, commits where that order goes on, whatever its request.
 pub fn what_was_answered_commits_no_more()
     ensures { (s : SiteSetting) (order more : Order) (bytes : List ℕ) (asked : Asked) (call : Call) (told reply : ℕ)
         → AreFitEntries s.setting (order_entries s order) → All (λ b. b < 256) bytes
@@ -26,6 +26,7 @@ pub fn what_was_answered_commits_no_more()
         → head_of bytes ≡ Some (CallHead call told) → AsksTheSame s order asked call
         → next_outcome s (order ++ more) bytes ≢ Committed reply }
 {
+    // Laws:
     each_call_has_a_verdict();
     beginnings_have_the_same_entries();
     logs_whose_calls_fit();
@@ -36,8 +37,8 @@ pub fn what_was_answered_commits_no_more()
     what_stands_is_of_the_log();
 }
 
-/// Where a byte string was refused for a conflict or as stale, none behind it commits that asks the same, on rows that
-/// aren't newer, whatever its request.
+/// A byte string that was refused for a conflict or as stale settles what is asked. No byte string behind it commits
+/// that asks the same, on rows that aren't newer, whatever its request.
 pub fn what_was_refused_commits_no_more()
     ensures conflict { (s : SiteSetting) (order between : Order) (first second : List ℕ) (a b : Call)
         (told other position reply : ℕ)
@@ -52,6 +53,7 @@ pub fn what_was_refused_commits_no_more()
         → next_outcome s order first ≡ Stale
         → next_outcome s (order ++ first ∷ between) second ≢ Committed reply }
 {
+    // Laws:
     each_call_has_a_verdict();
     beginnings_have_the_same_entries();
     logs_whose_calls_fit();

@@ -6,13 +6,14 @@ use Rattle.schema.specs.declared.limits.TheConstants.{MAX_ARGUMENTS}
 use Rattle.schema.specs.Rows.{Rows}
 use Rattle.bpf_semantics.specs.Run.{Run}
 use Rattle.log_model.specs.declared.request.RequestId.{RequestId}
-use Rattle.log_model.specs.Log.{StoredProcedure, Catalogue, Setting, Call, Log, IsPlaced, by_number, idle, no_request, or_idle, run_of_procedure, procedure_of, procedures_after, rows_after, run_in, run_of_call}
+use Rattle.log_model.specs.Log.{StoredProcedure, Catalogue, Setting, Call, Log, IsPlaced, by_number, idle, None, or_idle, run_of_procedure, procedure_of, procedures_after, rows_after, run_in, run_of_call}
 use Rattle.log_model.specs.Fit.{AreArguments, FitsProcedures, IsSafe, FitsLog}
 use Rattle.log_model.specs.Entries.{CallEntry, AdditionEntry, item_of, IsCarried}
 use Rattle.log_model.specs.Name.{is_name}
 use Rattle.program_checks.specs.ProgramCheck.{Passed, Failed}
 use Rattle.program_checks.specs.Check.{check_of}
-use Rattle.log_entry.specs.Head.{CallHead, AdditionHead, NamedProcedure, part, field, is_whole, request_of, call_of, call_head, procedure_of as named_procedure_of, addition_head, head_of}
+use Rattle.log_model.specs.OpenRequest.{has_zero}
+use Rattle.log_entry.specs.Head.{CallHead, AdditionHead, NamedProcedure, part, field, request_of, call_of, call_head, procedure_of as named_procedure_of, addition_head, head_of}
 use Rattle.site_model.specs.declared.cause.NothingCause.{NothingCause}
 use Rattle.site_model.specs.declared.cause.NothingCause.TheVariants as cause
 use Rattle.site_model.specs.Standing.{SiteSetting, Standing, StandsAs, IsDecided, IsNothing, executed, is_decided, takes_arguments, is_true, call_standing, checked_standing, addition_standing, standing_of_head, standing}
@@ -38,18 +39,18 @@ none_above (p ∷ procedures) number le =
 pub none_unused : (procedures : Catalogue) → by_number procedures (unused_number procedures) ≡ None
 none_unused procedures = none_above procedures (unused_number procedures) (omega arith)
 
-fits_none : (procedures : Catalogue) (snapshot : ℕ) (request : RequestId) → FitsProcedures procedures (call_of_none procedures snapshot request)
+fits_none : (procedures : Catalogue) (snapshot : ℕ) (request : Option RequestId) → FitsProcedures procedures (call_of_none procedures snapshot request)
 fits_none procedures snapshot request p known = absurd (let none = none_unused procedures in cc)
 
 idle_where_none : (w : Setting) (procedures : Catalogue) (call : Call) (rows : Rows) → by_number procedures call.procedure ≡ None → run_of_call w.tables procedures call rows ≡ idle rows
 unfolding run_of_call
 idle_where_none w procedures call rows none = ap (λ (o : Option StoredProcedure). or_idle rows (run_of_procedure w.tables o call.args rows)) none
 
-pub runs_none : (w : Setting) (log : Log) (snapshot : ℕ) (request : RequestId) → run_in w log (call_of_none (procedures_after w log snapshot) snapshot request) ≡ idle (rows_after w log snapshot)
+pub runs_none : (w : Setting) (log : Log) (snapshot : ℕ) (request : Option RequestId) → run_in w log (call_of_none (procedures_after w log snapshot) snapshot request) ≡ idle (rows_after w log snapshot)
 runs_none w log snapshot request =
     idle_where_none w (procedures_after w log snapshot) (call_of_none (procedures_after w log snapshot) snapshot request) (rows_after w log snapshot) (none_unused (procedures_after w log snapshot))
 
-carried_none : (w : Setting) (log : Log) (snapshot : ℕ) (request : RequestId) → IsCarried w log (entry_of_none (procedures_after w log snapshot) snapshot request)
+carried_none : (w : Setting) (log : Log) (snapshot : ℕ) (request : Option RequestId) → IsCarried w log (entry_of_none (procedures_after w log snapshot) snapshot request)
 carried_none w log snapshot request =
     let same = sym (runs_none w log snapshot request) in
     record {
@@ -150,7 +151,7 @@ carried s log bytes = standing_cases (Carried s log) s log bytes nothing
     (λ p _. addition_cases (Carried s log) s p nothing (λ q _. tt))
   where
     nothing : (c : NothingCause) → Carried s log (IsNothing c)
-    nothing c = carried_none s.setting log (length log) no_request
+    nothing c = carried_none s.setting log (length log) None
 
 -- a call that some bytes name has bytes for arguments
 part_bytes : (from count : ℕ) (bytes : List ℕ) → All (λ b. b < 256) bytes → All (λ b. b < 256) (part from count bytes)
@@ -170,7 +171,7 @@ args_bytes [] call reply are e = absurd cc
 args_bytes (kind ∷ fields) call reply are e =
     elim (kind == 1) as (λ t. cond t (call_head (field 14 2 fields) fields) (cond (kind == 2) (addition_head (field 4 1 fields) (field (5 + field 4 1 fields) 4 fields) fields) None) ≡ Some (CallHead call reply) → All (λ b. b < 256) call.args) [
       | true ↦ λ h.
-          let same = head_args (nat_le (28 + field 14 2 fields) (length fields) && is_whole (request_of fields)) (call_of (field 14 2 fields) fields) (field (20 + field 14 2 fields) 8 fields) call reply h in
+          let same = head_args (nat_le (28 + field 14 2 fields) (length fields) && not (has_zero (request_of fields))) (call_of (field 14 2 fields) fields) (field (20 + field 14 2 fields) 8 fields) call reply h in
           subst (λ args. All (λ b. b < 256) args) (sym same) (part_bytes 16 (field 14 2 fields) fields (All-tail (λ b. b < 256) kind fields are))
       | false ↦ λ h. elim (kind == 2) as (λ t. cond t (addition_head (field 4 1 fields) (field (5 + field 4 1 fields) 4 fields) fields) None ≡ Some (CallHead call reply) → All (λ b. b < 256) call.args) [
         | true ↦ λ g. absurd (no_call (9 + field 4 1 fields + field (5 + field 4 1 fields) 4 fields == length fields) (named_procedure_of (field 4 1 fields) (field (5 + field 4 1 fields) 4 fields) fields) call reply g)
@@ -197,4 +198,4 @@ item s log bytes are safe = standing_cases (IsItemOf s log) s log bytes nothing
     (λ p head. addition_cases (IsItemOf s log) s p nothing (λ q e. safe q (stands_as_addition s log bytes p head ∙ e)))
   where
     nothing : (c : NothingCause) → IsItemOf s log (IsNothing c)
-    nothing c = fits_none (procedures_after s.setting log (length log)) (length log) no_request
+    nothing c = fits_none (procedures_after s.setting log (length log)) (length log) None

@@ -8,7 +8,8 @@ use Rattle.log_model.specs.Log.{StoredProcedure, Setting, Call, Log, by_name, fi
 use Rattle.log_model.specs.Entries.{Entry, CallEntry, AdditionEntry, items_of}
 use Rattle.log_model.specs.Name.{is_name}
 use Rattle.log_entry.specs.Bytes.{entry_bytes}
-use Rattle.log_entry.specs.Head.{NamedProcedure, is_whole}
+use Rattle.log_model.specs.OpenRequest.{has_zero}
+use Rattle.log_entry.specs.Head.{NamedProcedure}
 use Rattle.program_checks.specs.ProgramCheck.{ProgramCheck, Passed, Failed}
 use Rattle.program_checks.specs.Check.{check_of}
 use Rattle.site_model.specs.declared.answer.CallAnswer.{CallAnswer}
@@ -26,7 +27,7 @@ use Rattle.site_model.specs.Order.{Order, order_entries, reply_at}
 pub record Asked : Type 0 where
   pub name : List ℕ
   pub args : List ℕ
-  pub request : RequestId
+  pub request : Option RequestId
 
 -- the call of a procedure, at the end of a log
 abbrev pub asked_call : Log → StoredProcedure → Asked → Call
@@ -51,7 +52,7 @@ abbrev pub answer_for : Setting → List Entry → Asked → Option StoredProced
 answer_for w entries asked None = Refused NoProcedure
 answer_for w entries asked (Some p) =
     if not (p.args_len == length asked.args) then Refused ArgumentsLength
-    else if not (is_whole asked.request) then Refused HalfRequest
+    else if has_zero asked.request then Refused HalfRequest
     else unless_repeated entries (answer_of_run w (items_of entries) (asked_call (items_of entries) p asked))
     (first_repeated (history w (items_of entries)).certified (asked_call (items_of entries) p asked))
 

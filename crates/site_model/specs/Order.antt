@@ -5,7 +5,7 @@ use Rattle.std.specs.FinMap.{empty}
 use Rattle.log_model.specs.declared.request.RequestId.{RequestId}
 use Rattle.log_model.specs.declared.verdict.Verdict.{Verdict}
 use Rattle.log_model.specs.declared.verdict.Verdict.TheVariants as verdict
-use Rattle.log_model.specs.Log.{Catalogue, Setting, Call, Log, procedures_after, verdict_of, no_request}
+use Rattle.log_model.specs.Log.{Catalogue, Setting, Call, Log, procedures_after, verdict_of, None}
 use Rattle.log_model.specs.Entries.{Entry, CallEntry, AdditionEntry, items_of}
 use Rattle.log_entry.specs.Head.{Head, CallHead}
 use Rattle.site_model.specs.declared.outcome.EntryOutcome.{EntryOutcome}
@@ -21,11 +21,11 @@ unused_number [] = zero
 unused_number (p ∷ procedures) = greater (suc p.number) (unused_number procedures)
 
 -- a call of no procedure: it looks at nothing, writes nothing and replies 0
-abbrev pub call_of_none : Catalogue → ℕ → RequestId → Call
+abbrev pub call_of_none : Catalogue → ℕ → Option RequestId → Call
 call_of_none procedures snapshot request =
     record { number = 0; procedure = unused_number procedures; args = []; snapshot = snapshot; request = request }
 
-abbrev pub entry_of_none : Catalogue → ℕ → RequestId → Entry
+abbrev pub entry_of_none : Catalogue → ℕ → Option RequestId → Entry
 entry_of_none procedures snapshot request =
     CallEntry (record { call = call_of_none procedures snapshot request; looks = []; writes = empty; reply = 0 })
 
@@ -34,7 +34,7 @@ entry_of_none procedures snapshot request =
 abbrev pub entry_standing : Setting → Log → Standing → Entry
 entry_standing w log (StandsAs e) = e
 entry_standing w log (IsDecided call) = entry_of_none (procedures_after w log call.snapshot) call.snapshot call.request
-entry_standing w log (IsNothing cause) = entry_of_none (procedures_after w log (length log)) (length log) no_request
+entry_standing w log (IsNothing cause) = entry_of_none (procedures_after w log (length log)) (length log) None
 
 abbrev pub next_entry : SiteSetting → List Entry → List ℕ → Entry
 next_entry s entries bytes = entry_standing s.setting (items_of entries) (standing s (items_of entries) bytes)
@@ -93,6 +93,6 @@ abbrev pub next_outcome : SiteSetting → Order → List ℕ → EntryOutcome
 next_outcome s order bytes = outcome_behind s (order_entries s order) bytes
 
 -- the request that bytes carry, where they are a call
-abbrev pub request_in : Option Head → RequestId
+abbrev pub request_in : Option Head → Option RequestId
 request_in (Some (CallHead call reply)) = call.request
-request_in _ = no_request
+request_in _ = None

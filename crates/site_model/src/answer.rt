@@ -1,50 +1,50 @@
-//! What a site answers to a caller.
+//! The answer of a site to a caller.
 
 use program_checks::ProgramFault;
 
-/// Why a call isn't run.
+/// A cause for which a call isn't run.
 #[derive(Clone, Copy, Debug, PartialEq, Eq)]
 pub enum CallRefusal {
-    /// There is no procedure of this name.
+    /// The name has no procedure.
     NoProcedure,
     /// The procedure takes arguments of another length.
     ArgumentsLength,
-    /// One alone of a session and its number is 0.
+    /// The session or the number of the request is 0.
     HalfRequest,
 }
 
-/// What comes of a call that a site runs on its rows; `E` is what is to be ordered.
+/// The outcome of a call that a site runs on its rows. `E` is what is to be ordered.
 #[derive(Clone, Copy, Debug, PartialEq, Eq)]
 pub enum CallAnswer<E> {
-    /// It can't run.
+    /// The call can't run.
     Refused(CallRefusal),
-    /// The committed call at this position carries the same request, and replied this.
+    /// The committed call at this position carries the same request, and gave this reply.
     Repeated { position: u32, reply: u64 },
-    /// It cancelled on the rows at this position, with this code.
+    /// The call cancelled on the rows at this position, with this code.
     Cancelled { position: u32, code: u64 },
-    /// It wrote nothing on the rows at this position, and replied this.
+    /// The call wrote nothing on the rows at this position, and gave this reply.
     Read { position: u32, reply: u64 },
-    /// It commits where it is ordered, unless something that it looked at is written before, it has become stale, or a
-    /// call with its request has committed.
+    /// The call commits where it is ordered, unless a key that it looked at is written before. A call that has become
+    /// stale, or whose request has committed, doesn't commit.
     Submitted(E),
 }
 
-/// Why a procedure can't be added.
+/// A cause for which a procedure can't be added.
 #[derive(Clone, Copy, Debug, PartialEq, Eq)]
 pub enum AdditionRefusal {
-    /// Its bytes aren't a program that the verifier accepts.
+    /// The procedure's bytes aren't a program that the verifier accepts.
     Program(ProgramFault),
-    /// Its name hasn't the shape of one.
+    /// The procedure's name hasn't the shape of a name.
     Name,
-    /// No procedures are added to this order.
+    /// The order takes no additions.
     NoAdditions,
 }
 
-/// What comes of a procedure that is to be added; `E` is what is to be ordered.
+/// The outcome of a procedure that is to be added. `E` is what is to be ordered.
 #[derive(Clone, Copy, Debug, PartialEq, Eq)]
 pub enum AdditionAnswer<E> {
-    /// It can't be added.
+    /// The procedure can't be added.
     Refused(AdditionRefusal),
-    /// It is added where it is ordered, unless a procedure has its name or its number by then.
+    /// The procedure is added where it is ordered, unless a procedure has its name or its number by then.
     Submitted(E),
 }

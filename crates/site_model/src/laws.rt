@@ -20,8 +20,8 @@ pub fn orders_grow()
     ensures count { (s : SiteSetting) (order : Order) → length (order_entries s order) ≡ length order }
 {}
 
-/// What stands at the next position has a snapshot before it, carries its run, and fits the log, where a procedure that
-/// is added is safe.
+/// The entry at the next position has a snapshot before it, carries its run, and fits the log. A procedure that the
+/// entry adds is safe.
 pub fn what_stands_is_of_the_log()
     ensures placed { (s : SiteSetting) (entries : List Entry) (bytes : List ℕ)
         → IsPlaced (length entries) (item_of (next_entry s entries bytes)) }
@@ -33,8 +33,8 @@ pub fn what_stands_is_of_the_log()
         → FitsLog s.setting (items_of entries) (item_of (next_entry s entries bytes)) }
 {}
 
-/// One more entry behind those of an order's log is of that log too; its verdict, and the rows after each position,
-/// are those that the entries alone give.
+/// One more entry behind the entries of an order's log is of that log too. The entry's verdict, and the rows after each
+/// position, are those that the entries alone give.
 pub fn fit_entries_go_on()
     ensures one_more { (w : Setting) (entries : List Entry) (e : Entry) → AreFitEntries w entries
         → IsPlaced (length entries) (item_of e) → FitsLog w (items_of entries) (item_of e)
@@ -48,6 +48,7 @@ pub fn fit_entries_go_on()
         → map_after (installed_from 1 (certified_entries_of w.window w.catalogue entries).certified) position
         ≡ rows_after w (items_of entries) position }
 {
+    // Laws:
     entries_suffice();
     logs_whose_calls_fit();
     one_more_entry_carries_its_run();

@@ -1,5 +1,4 @@
-//! What stands at each position of an order of byte strings, and what a site says of it. Definitions, and laws about
-//! them.
+//! The meaning of each position of an order of byte strings, and a site's answers. Definitions, and laws about them.
 #![tactic(auto)]
 
 pub use answer::{AdditionAnswer, AdditionRefusal, CallAnswer, CallRefusal};

@@ -1,23 +1,24 @@
-//! What became of a byte string of an order.
+//! The outcome of a byte string of an order.
 
 use crate::cause::NothingCause;
 use log_model::Identifier;
 
-/// What became of a byte string of an order.
+/// The outcome of a byte string of an order.
 #[derive(Clone, Copy, Debug, PartialEq, Eq)]
 pub enum EntryOutcome {
-    /// The call's writes are installed, and it replied this.
+    /// The call's writes are installed. The value is the call's reply.
     Committed(u64),
-    /// The committed call at this position, the least such since its snapshot, wrote a key that this one looked at.
+    /// The committed call at this position wrote a key that this call looked at. The position is the least such one
+    /// since this call's snapshot.
     Conflict(u32),
     /// The call's snapshot is too old.
     Stale,
-    /// The committed call at this position carries the same request, and replied this.
+    /// The committed call at this position carries the same request, and gave this reply.
     Repeated { position: u32, reply: u64 },
     /// The procedure of this number is added.
     Added(u16),
     /// An earlier procedure has what the added one has.
     Taken(Identifier),
-    /// It is nothing.
+    /// The byte string is nothing.
     Nothing(NothingCause),
 }

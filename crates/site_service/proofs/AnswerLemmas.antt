@@ -5,6 +5,7 @@ use Rattle.log_entry.specs.Head.{head_of}
 use Rattle.script.specs.declared.fault.LineFault.{LineFault}
 use Rattle.site_model.specs.declared.outcome.EntryOutcome.{EntryOutcome}
 use Rattle.site_model.specs.Standing.{SiteSetting}
+use Rattle.log_model.specs.OpenRequest.{given_request}
 use Rattle.site_model.specs.Order.{Order, next_outcome, request_in}
 use Rattle.site_service.specs.declared.line.SiteLine.TheVariants.{Call}
 use Rattle.site_service.specs.Lines.{SiteRequest}
@@ -18,7 +19,7 @@ ok_gives (Err e) P Q p f = tt
 
 -- ---- a byte string
 
-pub entry_answered : (A : List ℕ → Type 0) (s : SiteSetting) (order : Order) (bytes : List ℕ) (position : ℕ) (o : EntryOutcome) (r : RequestId) → position ≡ length order → position ≢ MAX_POSITION
+pub entry_answered : (A : List ℕ → Type 0) (s : SiteSetting) (order : Order) (bytes : List ℕ) (position : ℕ) (o : EntryOutcome) (r : Option RequestId) → position ≡ length order → position ≢ MAX_POSITION
     → o ≡ next_outcome s order bytes → r ≡ request_in (head_of bytes) → A (entry_line (position + 1) o r) → A (entry_answer s order bytes)
 entry_answered A s order bytes position o r count room told request given =
     let tested : (length order == MAX_POSITION) ≡ false = sym (ap (λ (n : ℕ). n == MAX_POSITION) count) ∙ ne_eqb position MAX_POSITION room in
@@ -33,11 +34,11 @@ stands_with P order bytes position count room stands =
 -- ---- what a line asks for
 
 pub call_answered : (s : SiteSetting) (order : Order) (r : SiteRequest) (name args given_name given_args : List ℕ) (session sequence : ℕ) (text : List ℕ) → r ≡ Call name args session sequence → given_name ≡ name → given_args ≡ args
-    → IsCallAnswer s order (record { name = given_name; args = given_args; request = record { session = session; sequence = sequence } }) text → IsAnswer s order r text
+    → IsCallAnswer s order (record { name = given_name; args = given_args; request = given_request session sequence }) text → IsAnswer s order r text
 call_answered s order r name args given_name given_args session sequence text is same_name same_args answer =
     subst (λ (q : SiteRequest). IsAnswer s order q text) (sym is)
-    (subst (λ (n : List ℕ). IsCallAnswer s order (record { name = n; args = args; request = record { session = session; sequence = sequence } }) text) same_name
-    (subst (λ (a : List ℕ). IsCallAnswer s order (record { name = given_name; args = a; request = record { session = session; sequence = sequence } }) text) same_args answer))
+    (subst (λ (n : List ℕ). IsCallAnswer s order (record { name = n; args = args; request = given_request session sequence }) text) same_name
+    (subst (λ (a : List ℕ). IsCallAnswer s order (record { name = given_name; args = a; request = given_request session sequence }) text) same_args answer))
 
 -- ---- what it says
 

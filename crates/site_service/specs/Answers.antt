@@ -1,5 +1,5 @@
 -- The lines that a site answers.
-use Rattle.std.specs.Prelude.{ℕ, ◌==◌, ◌&&◌, if◌then◌else◌, List, [], ◌++◌, codes}
+use Rattle.std.specs.Prelude.{ℕ, Option, Some, None, List, [], ◌++◌, codes}
 use Rattle.std.specs.Fmt.{decimal}
 use Rattle.hex.specs.Hex.{encode_lower}
 use Rattle.schema.specs.Rows.{Key}
@@ -46,13 +46,12 @@ outcome_words (outcome.Taken Number) = codes "taken C2"
 outcome_words (outcome.Nothing cause) = codes "nothing E" ++ decimal (number_of_nothing cause)
 
 -- the request, where there is one
-abbrev pub request_words : RequestId → List ℕ
-request_words request =
-    if request.session == 0 && request.sequence == 0 then []
-    else codes " session " ++ decimal request.session ++ codes " seq " ++ decimal request.sequence
+abbrev pub request_words : Option RequestId → List ℕ
+request_words None = []
+request_words (Some request) = codes " session " ++ decimal request.session ++ codes " seq " ++ decimal request.sequence
 
 -- as `entry 2 conflict 1 session 8 seq 1`
-abbrev pub entry_line : ℕ → EntryOutcome → RequestId → List ℕ
+abbrev pub entry_line : ℕ → EntryOutcome → Option RequestId → List ℕ
 entry_line position outcome request =
     codes "entry " ++ decimal position ++ codes " " ++ outcome_words outcome ++ request_words request ++ codes "\n"
 

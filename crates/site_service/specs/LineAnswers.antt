@@ -4,6 +4,7 @@ use Rattle.std.specs.List.{concat}
 use Rattle.std.specs.FinMap.{contains_key, entries}
 use Rattle.schema.specs.Rows.{Key}
 use Rattle.log_model.specs.Log.{rows_after}
+use Rattle.log_model.specs.OpenRequest.{given_request}
 use Rattle.log_entry.specs.Head.{NamedProcedure, head_of}
 use Rattle.script.specs.declared.fault.LineFault.{LineFault}
 use Rattle.site_model.specs.Standing.{SiteSetting}
@@ -66,7 +67,7 @@ IsAdditionAnswer s p text = (text ≡ addition_line (addition_answer s p)) ⊎ (
 abbrev pub IsAnswer : SiteSetting → Order → SiteRequest → List ℕ → Type 0
 IsAnswer s order (Call name args session sequence) text =
     IsCallAnswer s order
-    (record { name = name; args = args; request = record { session = session; sequence = sequence } }) text
+    (record { name = name; args = args; request = given_request session sequence }) text
 IsAnswer s order (Add name number args_len program) text =
     IsAdditionAnswer s (record { number = number; args_len = args_len; name = name; bytes = program }) text
 IsAnswer s order (Entry bytes) text = text ≡ entry_answer s order bytes

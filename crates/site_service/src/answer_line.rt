@@ -1,4 +1,4 @@
-//! Answering a line.
+//! The answers to lines.
 
 ghost use Rattle.std.specs.Prelude.{◌≡◌, ◌≤◌, ℕ, List, IfOk, OnErr};
 ghost use Rattle.schema.specs.declared.limits.TheConstants.{MAX_ARGUMENTS};
@@ -17,14 +17,14 @@ use crate::reading::site_line;
 use crate::rows::answer_rows;
 use crate::status::{append_fault_line, append_no_memory_line, append_position_line};
 use byte_output::sink::ByteSink;
-use log_model::RequestId;
+use log_model::given_request;
 use row_sets::Bytes;
 use script::LineFault;
 use site::{Asked, NamedProgram, Site};
 use std::alloc::{AllocError, Allocator};
 
-/// Appends what a site answers to a line, given without its LF. Where there is no memory for what the line says, for a
-/// byte string of the order or for the rows, nothing is appended and the site is dropped.
+/// Appends what a site answers to a line, given without its LF. There may be no memory for what the line says, for a
+/// byte string of the order, or for the rows. Nothing is appended then, and the site is dropped.
 pub fn answer<A: Allocator + Copy, S: ByteSink>(
     alloc: A,
     site: Site<A>,
@@ -77,10 +77,7 @@ fn answer_request<A: Allocator + Copy, S: ByteSink>(
             let asked = Asked {
                 name: name.as_slice(),
                 args: args.as_slice(),
-                request: RequestId {
-                    session: *session,
-                    sequence: *sequence,
-                },
+                request: given_request(*session, *sequence),
             };
             answer_call(&site, sink, asked);
             Ok(site)
@@ -116,7 +113,7 @@ fn answer_request<A: Allocator + Copy, S: ByteSink>(
     }
 }
 
-/// Appends the answer to a call; where it finds no memory it is refused for that.
+/// Appends the answer to a call. A call that finds no memory is refused for that.
 fn answer_call<A: Allocator + Copy, S: ByteSink>(site: &Site<A>, sink: &mut S, asked: Asked<'_>)
     ensures { (order : Order) → StandsForOrder site.now order → (text : List ℕ)
         × IsCallAnswer (setting_of site.now) order (asked_of asked.entry) text × S.appends sink.old sink.new text }
@@ -127,7 +124,7 @@ fn answer_call<A: Allocator + Copy, S: ByteSink>(site: &Site<A>, sink: &mut S, a
     }
 }
 
-/// Appends the answer to a procedure that is to be added; where it finds no memory it is refused for that.
+/// Appends the answer to a procedure that is to be added. A procedure that finds no memory is refused for that.
 fn answer_addition<A: Allocator + Copy, S: ByteSink>(
     site: &Site<A>,
     sink: &mut S,

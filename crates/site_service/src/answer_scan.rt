@@ -1,4 +1,4 @@
-//! Answering which rows of a table stand from a key to another.
+//! The answers to scans: the rows of a table from a key to another.
 
 ghost use Rattle.site_model.specs.Order.{Order};
 ghost use Rattle.site.specs.Replica.{StandsForOrder, setting_of};
@@ -11,8 +11,8 @@ use byte_output::sink::ByteSink;
 use site::Site;
 use std::alloc::Allocator;
 
-/// Appends the rows at the last position that a scan asks for, and how many they are; or that there is no such table. It
-/// takes no memory.
+/// Appends the rows at the last position that a scan asks for, and their number, or that there is no such table. Takes
+/// no memory.
 pub(crate) fn answer_scan<A: Allocator + Copy, S: ByteSink>(
     site: &Site<A>,
     sink: &mut S,

@@ -1,4 +1,4 @@
-//! The lines of what became of an entry, of a call and of an addition.
+//! The lines of outcomes: of an entry, of a call and of an addition.
 
 ghost use Rattle.log_entry.specs.Bytes.{entry_bytes};
 ghost use Rattle.log_entry.specs.Kind.{entry_of};
@@ -15,20 +15,19 @@ use log_model::RequestId;
 use site_model::{AdditionAnswer, CallAnswer, EntryOutcome};
 use std::alloc::Allocator;
 
-/// Appends what became of the byte string at a position, with the request that it carries; 0 and 0 is none. It takes no
-/// memory.
+/// Appends the outcome of the byte string at a position, with the request that it carries. Takes no memory.
 pub fn append_entry_line<S: ByteSink>(
     sink: &mut S,
     position: u32,
     outcome: EntryOutcome,
-    request: RequestId,
+    request: Option<RequestId>,
 )
     ensures { S.appends sink.old sink.new (entry_line position outcome request) }
 {
     sink.append(&entry_words(position, outcome, request));
 }
 
-/// Appends what comes of a call. It takes no memory.
+/// Appends the outcome of a call. Takes no memory.
 pub fn append_call_line<A: Allocator + Copy, S: ByteSink>(
     sink: &mut S,
     answer: &CallAnswer<Entry<A>>,
@@ -52,7 +51,7 @@ pub fn append_call_line<A: Allocator + Copy, S: ByteSink>(
     }
 }
 
-/// Appends what comes of a procedure that is to be added. It takes no memory.
+/// Appends the outcome of a procedure that is to be added. Takes no memory.
 pub fn append_addition_line<A: Allocator + Copy, S: ByteSink>(
     sink: &mut S,
     answer: &AdditionAnswer<Entry<A>>,
@@ -66,7 +65,7 @@ pub fn append_addition_line<A: Allocator + Copy, S: ByteSink>(
     }
 }
 
-/// The line of an entry that is to be ordered.
+/// Appends the line of an entry that is to be ordered.
 fn append_submission<A: Allocator + Copy, S: ByteSink>(sink: &mut S, entry: &Entry<A>)
     ensures { S.appends sink.old sink.new (submit_words (entry_bytes (entry_of entry.now)) ++ codes "\n") }
 {

@@ -1,4 +1,4 @@
-//! Answering a byte string of the order.
+//! The answer to a byte string of the order.
 
 ghost use Rattle.std.specs.Prelude.{◌≡◌, IfOk, OnErr};
 ghost use Rattle.log_entry.specs.Head.{head_of};
@@ -14,11 +14,10 @@ use log_model::RequestId;
 use site::Site;
 use std::alloc::{AllocError, Allocator};
 
-/// How many byte strings an order has at most.
+/// The most byte strings that an order has.
 pub const MAX_POSITION: u32 = u32::MAX;
 
-/// Takes the byte string at the next position in, and appends what became of it. Where the order has all that one may
-/// have nothing is taken.
+/// Takes in the byte string at the next position, and appends its outcome. Takes in nothing where the order is full.
 pub(crate) fn answer_entry<A: Allocator + Copy, S: ByteSink>(
     site: Site<A>,
     sink: &mut S,
@@ -41,15 +40,12 @@ pub(crate) fn answer_entry<A: Allocator + Copy, S: ByteSink>(
     Ok(site)
 }
 
-/// The request that bytes carry, where they are a call; 0 and 0 is none.
-fn request_in(bytes: &[u8]) -> RequestId
+/// The request that bytes carry, where they are a call with a request.
+fn request_in(bytes: &[u8]) -> Option<RequestId>
     ensures { result ≡ request_in (head_of bytes.now) }
 {
     match head_of(bytes) {
         Some(EntryHead::Call(head)) => head.request,
-        _ => RequestId {
-            session: 0,
-            sequence: 0,
-        },
+        _ => None,
     }
 }

@@ -8,7 +8,7 @@ use byte_output::sink::ByteSink;
 use log_entry::{Entry, append_entry};
 use std::alloc::Allocator;
 
-/// What bytes are appended to in hex, two digits each.
+/// A sink to which bytes are appended in hex, two digits each.
 #[derive(Drop)]
 struct HexSink<'a, S: ByteSink> {
     digits: &'a mut S,
@@ -39,7 +39,7 @@ pub(crate) fn append_digits<S: ByteSink>(sink: &mut S, bytes: &[u8])
     }
 }
 
-/// Appends the bytes of an entry in hex. It takes no memory.
+/// Appends the bytes of an entry in hex. Takes no memory.
 pub(crate) fn append_entry_digits<A: Allocator + Copy, S: ByteSink>(sink: &mut S, entry: &Entry<A>)
     ensures { S.appends sink.old sink.new (encode_lower (entry_bytes (entry_of entry.now))) }
 {

@@ -1,4 +1,4 @@
-//! Reading lines, and passing over those that are too long.
+//! The reading of lines, which passes over lines that are too long.
 
 ghost use Rattle.std.specs.Prelude.{◌≡◌, ◌+◌, ◌≤◌, ℕ, List, Some, IfOk, vec_len};
 ghost use Rattle.site_service.specs.declared.input.TheConstants.{MAX_SITE_LINE};
@@ -12,31 +12,31 @@ use std::io::{BufRead, ErrorKind};
 /// The most bytes that a line has.
 pub const MAX_SITE_LINE: usize = 1_048_576;
 
-/// What one look at the input gave of a line.
+/// The outcome of one look at the input.
 #[derive(Clone, Copy)]
 pub(crate) enum Piece {
-    /// Some of its bytes.
+    /// A part of the line's bytes.
     More,
-    /// The rest of it, up to an LF. Where `is_followed` is true, the look showed another LF behind.
+    /// The rest of the line, up to an LF. Where `is_followed` is true, the look showed another LF behind.
     Ended { is_followed: bool },
-    /// Nothing: the input is at its end.
+    /// The end of the input.
     AtEnd,
 }
 
-/// What stands next on an input.
+/// The next item of an input.
 #[derive(Clone, Copy)]
 pub enum NextLine {
-    /// A line. Where `is_followed` is true the input showed the next line too, whole, so that reading the next line
+    /// A line. Where `is_followed` is true, the input showed the whole next line too, so that reading the next line
     /// doesn't wait.
     Line { is_followed: bool },
-    /// A line that is too long. It was passed over.
+    /// A line that is too long. The line was passed over.
     TooLong,
-    /// No line: what is left, if anything, has no LF at its end.
+    /// The end of the lines: what is left, if anything, has no LF at its end.
     AtEnd,
 }
 
-/// Takes what the input shows of a line. Of all that was taken of it `line` keeps as much as a line may have, and one
-/// byte more, which says that it is too long.
+/// Takes what the input shows of a line. `line` keeps at most one byte more than a line may have. The byte more says
+/// that the line is too long.
 fn take_piece<R: BufRead, A: Allocator>(input: &mut R, line: &mut Vec<u8, A>) -> io::Result<Piece>
     requires { vec_len line.old ≤ MAX_SITE_LINE + 1 }
     ensures piece { IfOk result (λ p. (bytes : List ℕ) → R.remaining input.old ≡ Some bytes
@@ -69,8 +69,8 @@ fn take_piece<R: BufRead, A: Allocator>(input: &mut R, line: &mut Vec<u8, A>) ->
     }
 }
 
-/// Reads the next line into `line`, without its LF. One that is too long is passed over, and what has no LF at its end
-/// is none. An error is the input's, or want of memory for the line.
+/// Reads the next line into `line`, without its LF. A line that is too long is passed over, and bytes without an LF at
+/// their end are no line. An error is the input's, or want of memory for the line.
 pub fn next_line<R: BufRead, A: Allocator>(
     input: &mut R,
     line: &mut Vec<u8, A>,

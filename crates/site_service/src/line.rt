@@ -1,6 +1,6 @@
-//! What a line says.
+//! The requests of lines.
 
-/// Which rows a scan asks for.
+/// The rows that a scan asks for.
 #[derive(Clone, Copy)]
 pub struct Scan {
     pub table: u8,
@@ -8,15 +8,15 @@ pub struct Scan {
     pub lo: u64,
     /// The greatest key.
     pub hi: u64,
-    /// How many at most, at least one.
+    /// The greatest number of rows, at least one.
     pub most: u32,
 }
 
-/// What a line asks of a site. Names, arguments, programs and entries are a `B`.
+/// A request of a line to a site. Names, arguments, programs and entries are a `B`.
 #[derive(Drop)]
 pub enum SiteLine<B> {
-    /// A call, with a session and a number within it; 0 and 0 for none. That one of them alone is 0 is no fault of the
-    /// line.
+    /// A call, with a session and a number within it; 0 and 0 for none. A line where exactly one of them is 0 is not at
+    /// fault.
     Call {
         name: B,
         args: B,
@@ -27,7 +27,7 @@ pub enum SiteLine<B> {
     Add {
         name: B,
         number: u16,
-        /// 0 to 256.
+        /// The length of the arguments, 0 to 256.
         args_len: u16,
         program: B,
     },
@@ -35,7 +35,7 @@ pub enum SiteLine<B> {
     Entry {
         bytes: B,
     },
-    /// All rows.
+    /// Every row.
     Rows,
     /// The first rows of a table from a key to another.
     Scan(Scan),

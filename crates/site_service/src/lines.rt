@@ -1,4 +1,4 @@
-//! Answering line after line. A line is at hand where the input showed it whole with the line before.
+//! The answers to line after line. A line is at hand where the input showed it whole with the line before.
 
 ghost use Rattle.std.specs.Prelude.{◌≡◌, ◌+◌, ◌<◌, ◌^◌, ℕ, [], List, Some, IfOk, IfSome};
 ghost use Rattle.byte_output.specs.Taken.{HasTakenMore};
@@ -17,19 +17,19 @@ use std::alloc::Allocator;
 use std::io;
 use std::io::{BufRead, ErrorKind, Write};
 
-/// How far a site has come in the lines of its input.
+/// The progress of a site in the lines of its input.
 #[derive(Drop)]
 pub(crate) struct Progress<A: Allocator + Copy> {
     pub(crate) site: Site<A>,
     /// The number of the next line.
     pub(crate) number: u64,
-    /// True only where the input showed the next line whole, so that reading that line doesn't wait. False behind a line
-    /// that is too long.
+    /// True only where the input showed the next line whole, so that reading that line doesn't wait. False behind a
+    /// line that is too long.
     pub(crate) is_followed: bool,
 }
 
-/// Answers the lines of the input, one after another. Before a line that isn't at hand is read, all answers have left, and
-/// the output was flushed. `line` has room for a line.
+/// Answers the lines of the input, one after another. Before a line that isn't at hand is read, all answers have left,
+/// and the output was flushed. `line` has room for a line.
 pub fn answer_lines<A: Allocator + Copy, R: BufRead, W: Write>(
     alloc: A,
     site: Site<A>,
@@ -57,8 +57,8 @@ pub fn answer_lines<A: Allocator + Copy, R: BufRead, W: Write>(
     Err(Stop::Input(io::Error::from(ErrorKind::Interrupted)))
 }
 
-/// Answers the next line, which has this number, and those behind it that are at hand; then the answers leave, and the
-/// output is flushed. Where the site has come to; none where the input has no more.
+/// Answers the next line, which has this number, and those behind it that are at hand. The answers then leave, and the
+/// output is flushed. Returns the site's progress, and none where the input has no more.
 fn answer_at_hand<A: Allocator + Copy, R: BufRead, W: Write>(
     alloc: A,
     site: Site<A>,
@@ -80,7 +80,7 @@ fn answer_at_hand<A: Allocator + Copy, R: BufRead, W: Write>(
     }
 }
 
-/// Appends the answers to the next line and to those behind it that are at hand: where the site has come to, and the
+/// Appends the answers to the next line and to those behind it that are at hand. Returns the site's progress, and the
 /// output's error.
 fn append_at_hand<A: Allocator + Copy, R: BufRead, W: Write>(
     alloc: A,
@@ -133,8 +133,8 @@ fn append_answers<A: Allocator + Copy, R: BufRead, W: Write>(
     Err(Stop::Input(io::Error::from(ErrorKind::Interrupted)))
 }
 
-/// Appends the answer to the next line, which has this number: where the site has come to; none where the input has no
-/// more.
+/// Appends the answer to the next line, which has this number. Returns the site's progress, and none where the input
+/// has no more.
 fn append_next<A: Allocator + Copy, R: BufRead, W: Write>(
     alloc: A,
     site: Site<A>,

@@ -1,4 +1,4 @@
-//! Reading settings whole.
+//! The reading of settings whole.
 
 ghost use Rattle.std.specs.Prelude.{◌≡◌, ◌≤◌, ℕ, List, Some, Ok, IfOk, IfErr};
 ghost use Rattle.schema.specs.declared.limits.TheConstants.{MAX_WINDOW};
@@ -14,14 +14,14 @@ use std::alloc::{Allocator, Global};
 use std::io;
 use std::io::{BufRead, ErrorKind};
 
-/// What all sites of an order have in common.
+/// The settings that all sites of an order have in common.
 #[derive(Drop)]
 pub struct SiteSettings<A: Allocator + Copy = Global> {
-    /// 1 to 4,096.
+    /// The window, 1 to 4,096.
     pub window: u32,
     /// The tables, and the procedures that there are from the beginning.
     pub catalogue: Catalogue<A>,
-    /// Whether the order may add procedures.
+    /// True where the order may add procedures.
     pub takes_additions: bool,
 }
 
@@ -32,11 +32,12 @@ pub fn read_settings<A: Allocator + Copy, R: BufRead>(
 ) -> Result<SiteSettings<A>, Stop>
     ensures exact { IfOk result (λ s. (bytes : List ℕ) → R.remaining input.old ≡ Some bytes
         → settings_say bytes ≡ Ok (setting_read s)) }
-    // The first fault; or memory is wanting, or the input failed.
+    // The stop is at the first fault, or memory is wanting, or the input failed.
     ensures stop { IfErr result (λ stop. (bytes : List ℕ) → R.remaining input.old ≡ Some bytes
         → IsStopOf (settings_say bytes) stop) }
     ensures window { IfOk result (λ settings. (1 ≤ settings.window) × (settings.window ≤ MAX_WINDOW)) }
 {
+    // Laws:
     lines_that_are_too_long_are_at_fault();
     let Ok(mut line) = Vec::with_capacity(alloc, MAX_LINE) else {
         return Err(out_of_memory(0));
@@ -60,7 +61,7 @@ pub fn read_settings<A: Allocator + Copy, R: BufRead>(
     Err(Stop::Input(io::Error::from(ErrorKind::Interrupted)))
 }
 
-/// The settings that were read to their end: the window has to be set.
+/// Returns the settings that were read to their end. The window has to be set.
 fn whole<A: Allocator + Copy>(reading: Reading<A>) -> Result<SiteSettings<A>, Stop>
     ensures exact { IfOk result (λ settings. whole (so_far reading) ≡ Ok (setting_read settings)) }
     ensures stop { IfErr result (IsStopOf (whole (so_far reading))) }

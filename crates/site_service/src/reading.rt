@@ -1,4 +1,4 @@
-//! Reading what a line says.
+//! The reading of what a line says.
 
 ghost use Rattle.std.specs.Prelude.{◌≡◌, ◌⊎◌, map, Ok, Err, IfOk, IfErr, IfSome};
 ghost use Rattle.site_service.specs.Lines.{IsWithinLimits, line_says, request_behind, request_of, scan_of};
@@ -13,15 +13,15 @@ use script::hex_field::read_hex;
 use script::number::{read_args_len, read_count, read_u8, read_u16, read_u32, read_u64};
 use std::alloc::{AllocError, Allocator};
 
-/// What a line, given without its LF, says: a request, or nothing where it is empty or a comment. How long it may be is
-/// for whoever reads it to see to.
+/// Reads what a line, given without its LF, says: a request, or nothing where it is empty or a comment. The caller sees
+/// to the length of the line.
 #[tactic(auto, unfolding(crate::specs::Lines::line_says))]
 pub fn site_line<A: Allocator + Copy>(
     alloc: A,
     line: &[u8],
 ) -> Result<Option<SiteLine<Bytes<A>>>, LineFault>
     ensures exact { IfOk result (λ said. line_says line.now ≡ Ok said) }
-    // Of several faults the first; or memory is wanting.
+    // The fault is the first of several, or memory is wanting.
     ensures fault { IfErr result (λ fault. (fault ≡ NoMemory) ⊎ (line_says line.now ≡ Err fault)) }
     ensures limits { IfOk result (λ said. IfSome said IsWithinLimits) }
 {
@@ -36,7 +36,7 @@ pub fn site_line<A: Allocator + Copy>(
     Ok(Some(request))
 }
 
-/// What the fields of a line ask for.
+/// Reads what the fields of a line ask for.
 fn request_of<A: Allocator + Copy>(
     alloc: A,
     fields: &[&str],
@@ -55,7 +55,7 @@ fn request_of<A: Allocator + Copy>(
     }
 }
 
-/// What a word asks for with the fields behind it.
+/// Reads what a word asks for with the fields behind it.
 #[tactic(auto, unfolding(crate::specs::Lines::request_behind))]
 fn request_behind<A: Allocator + Copy>(
     alloc: A,
@@ -93,7 +93,7 @@ fn request_behind<A: Allocator + Copy>(
     }
 }
 
-/// Which rows the fields of a scan ask for.
+/// Reads which rows the fields of a scan ask for.
 fn read_scan(table: &str, lo: &str, hi: &str, most: &str) -> Result<Scan, LineFault>
     ensures { result ≡ scan_of table.now lo.now hi.now most.now }
 {

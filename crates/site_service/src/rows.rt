@@ -1,4 +1,4 @@
-//! Answering what rows there are.
+//! The answer of the rows that there are.
 
 ghost use Rattle.std.specs.Prelude.{◌≡◌, map, OnErr, OnOk};
 ghost use Rattle.std.specs.List.{concat};
@@ -13,7 +13,7 @@ use row_sets::Row;
 use site::Site;
 use std::alloc::{AllocError, Allocator};
 
-/// Appends the rows at the last position, in the order of tables and keys, and how many they are.
+/// Appends the rows at the last position, in the order of tables and keys, and their number.
 pub(crate) fn answer_rows<A: Allocator + Copy, S: ByteSink>(
     alloc: A,
     site: &Site<A>,

@@ -1,4 +1,4 @@
-//! Appending the rows that a scan asks for.
+//! The rows that a scan asks for.
 
 ghost use Rattle.std.specs.Prelude.{◌≡◌, false, length, map};
 ghost use Rattle.std.specs.List.{concat};
@@ -13,8 +13,8 @@ use byte_output::sink::ByteSink;
 use schema::Look;
 use txn_view::Store;
 
-/// Appends the rows that a scan asks for, and tells how many they are. Each is found from the key of the one before it:
-/// no other row is looked at. It takes no memory.
+/// Appends the rows that a scan asks for, and returns their number. Each row is found from the key of the row before
+/// it: no other row is looked at. Takes no memory.
 pub fn append_scanned<T: Store, S: ByteSink>(store: &T, sink: &mut S, scan: Scan) -> u32
     requires { T.is_gone store.now ≡ false }
     ensures rows { (rows : Rows) → T.answers_from store.now rows

@@ -15,9 +15,10 @@ use site::Site;
 use std::alloc::Allocator;
 use std::io::{BufRead, Write};
 
-/// A site with the settings in `settings`: it answers the lines of the input, each before it waits for the next. What
-/// ends it before the input's end is said to `faults`. The exit status is 0 at that end, 1 where the settings are at
-/// fault, before anything is read of the input, and 3 where a stream or memory failed.
+/// Runs a site with the settings in `settings`: it answers the lines of the input, each before it waits for the next.
+/// What ends the site before the input's end is said to `faults`. The exit status is 0 at that end. The status is 1
+/// where the settings are at fault, before anything is read of the input. The status is 3 where a stream or memory
+/// failed.
 pub fn site_over<A: Allocator + Copy, S: BufRead, R: BufRead, W: Write, E: Write>(
     alloc: A,
     settings: &mut S,
@@ -37,8 +38,8 @@ pub fn site_over<A: Allocator + Copy, S: BufRead, R: BufRead, W: Write, E: Write
     ensures answered { IfSome (S.remaining settings.old) (λ said. IfOk (settings_say said)
         (λ s. IfSome (R.remaining input.old)
         (λ bytes. Leaves s bytes (W.contents output.old) (W.contents output.new) result))) }
-    // Where memory was wanting at a line of the input, its number is told, and the lines before are answered. Where memory
-    // was wanting earlier, input and output are untouched. Else a stream failed, and that is told.
+    // Where memory was wanting at a line of the input, its number is told, and the lines before are answered. Where
+    // memory was wanting earlier, input and output are untouched. Else a stream failed, and that is told.
     ensures failed { result ≡ FAILED → IfSome (S.remaining settings.old) (λ said. IfOk (settings_say said)
         (λ s. IfSome (R.remaining input.old) (λ bytes. TellsFailure
         (AreUntouched input.old input.new output.old output.new) s bytes (W.contents output.old)

@@ -1,4 +1,4 @@
-//! What a line of the settings says.
+//! The meaning of a line of the settings.
 
 ghost use Rattle.std.specs.Prelude.{◌≡◌, ◌<◌, ◌⊎◌, ℕ, List, length, Ok, Err, IfOk, IfErr, IfSome};
 ghost use Rattle.script.specs.Text.{max_line};
@@ -10,16 +10,16 @@ use script::fields::{fields, readable_text};
 use script::{LineFault, Statement, statement};
 use std::alloc::Allocator;
 
-/// What a line says. Names and programs are a `B`.
+/// The meaning of a line. Names and programs are a `B`.
 #[derive(Drop)]
 pub(crate) enum SettingsLine<B> {
     /// Procedures may be added.
     Additions,
-    /// What it says in a script.
+    /// The line's meaning in a script.
     Statement(Statement<B>),
 }
 
-/// What a line, given without its LF, says: nothing where it is empty or a comment.
+/// Reads what a line, given without its LF, says: nothing where it is empty or a comment.
 #[tactic(auto, unfolding(crate::specs::Settings::line_says))]
 pub(crate) fn settings_line<A: Allocator + Copy>(
     alloc: A,

@@ -1,4 +1,4 @@
-//! What the lines of the settings have set so far.
+//! The settings that the lines have set so far.
 
 ghost use Rattle.std.specs.Prelude.{◌≡◌, ◌⊎◌, Ok, Err, IfOk, IfErr, OnOk};
 ghost use Rattle.script.specs.Script.{IsSettingWithinLimits};
@@ -11,7 +11,7 @@ use row_sets::Bytes;
 use script::{FaultCause, Setting, Settings, Statement};
 use std::alloc::{AllocError, Allocator};
 
-/// What the lines of the settings have set so far.
+/// The settings that the lines have set so far.
 #[derive(Drop)]
 pub(crate) struct Reading<A: Allocator + Copy> {
     pub(crate) settings: Settings<A>,
@@ -19,7 +19,7 @@ pub(crate) struct Reading<A: Allocator + Copy> {
 }
 
 impl<A: Allocator + Copy> Reading<A> {
-    /// Nothing is set.
+    /// Makes a reading with nothing set.
     pub(crate) fn new(alloc: A) -> Result<Reading<A>, AllocError>
         ensures { IfOk result (λ reading. so_far reading ≡ nothing_set) }
     {
@@ -55,7 +55,7 @@ impl<A: Allocator + Copy> Reading<A> {
         Ok(())
     }
 
-    /// Takes a setting of scripts. How many replicas there are isn't set, since a site has one.
+    /// Takes a setting of scripts. A number of replicas isn't taken, since a site has one replica.
     fn set(&mut self, setting: Setting<Bytes<A>>) -> Result<(), FaultCause>
         requires { IsSettingWithinLimits setting }
         ensures ok { OnOk result (with_setting (so_far self.old) setting ≡ Ok (so_far self.new)) }

@@ -11,8 +11,12 @@ use log_model::{Identifier, RequestId};
 use report::push_program_fault;
 use site_model::{AdditionRefusal, EntryOutcome};
 
-/// The line of what became of the byte string at a position.
-pub(crate) fn entry_words(position: u32, outcome: EntryOutcome, request: RequestId) -> LineBuffer
+/// The line of the outcome of the byte string at a position.
+pub(crate) fn entry_words(
+    position: u32,
+    outcome: EntryOutcome,
+    request: Option<RequestId>,
+) -> LineBuffer
     ensures { result.items ≡ entry_line position outcome request }
 {
     let mut words = LineBuffer::new();
@@ -46,20 +50,20 @@ fn push_outcome(words: &mut LineBuffer, outcome: EntryOutcome)
     }
 }
 
-/// The request, where there is one.
-fn push_request(words: &mut LineBuffer, request: RequestId)
+/// Appends the request, where there is one.
+fn push_request(words: &mut LineBuffer, request: Option<RequestId>)
     requires { array_vec_len words.old ≤ 90 }
     ensures items { words.new.items ≡ words.old.items ++ request_words request }
     ensures len { array_vec_len words.new ≤ array_vec_len words.old + 60 }
 {
-    if request.session == 0 && request.sequence == 0 {
+    let Some(request) = request else {
         return;
-    }
+    };
     push_unsigned(words, " session ", u64::from(request.session));
     push_unsigned(words, " seq ", u64::from(request.sequence));
 }
 
-/// The line of why a procedure can't be added.
+/// The line of the cause for which a procedure can't be added.
 pub(crate) fn addition_refusal_line(refusal: AdditionRefusal) -> LineBuffer
     ensures { result.items ≡ addition_refusal_words refusal ++ codes "\n" }
 {

@@ -1,4 +1,4 @@
-//! What sites are asked, and what they answer.
+//! The questions to sites, and the answers.
 
 /// Settings, lines of the input, and the lines that are answered.
 #[derive(Clone, Copy)]
@@ -8,34 +8,34 @@ pub(crate) struct Story {
     pub(crate) answers: &'static [&'static str],
 }
 
-/// Adds to a row, and replies with the sum.
+/// A procedure that adds to a row, and replies with the sum.
 const ADD: &str = "proc add 1 16 \
     79160000000000007917080000000000b701000001000000bf62000000000000bfa300000000000007030000f8\
     ffffff850000000100000079a8f8ff000000000f780000000000007b8af8ff00000000b701000001000000bf62\
     000000000000bfa300000000000007030000f8ffffff8500000002000000bf8000000000000095000000000000\
     00";
 
-/// Puts 0 where there is no row, and else cancels with 1.
+/// A procedure that puts 0 where there is no row, and else cancels with 1.
 const CLAIM: &str = "proc claim 2 8 \
     7916000000000000b701000001000000bf62000000000000bfa300000000000007030000f8ffffff8500000001\
     0000001500020000000000b7010000010000008500000006000000b701000001000000bf62000000000000bfa3\
     00000000000007030000f8ffffff8500000002000000b7000000000000009500000000000000";
 
-/// Cancels with 9.
+/// A procedure that cancels with 9.
 const NO: &str = "proc no 3 0 b70100000900000085000000060000009500000000000000";
 
-/// Replies 2.
+/// A procedure that replies 2.
 const TWO: &str = "proc two 4 0 b7000000020000009500000000000000";
 
 /// A window of 4, table 1 with rows of eight bytes, and these procedures.
 pub(crate) const SETTINGS: [&str; 7] = ["window 4", "table 1 8", "additions", ADD, CLAIM, NO, TWO];
 
-/// The same without additions.
+/// The same settings without additions.
 const FIXED: [&str; 6] = ["window 4", "table 1 8", ADD, CLAIM, NO, TWO];
 
 pub(crate) const CALL: &str = "call add 05000000000000000a00000000000000 7 1";
 
-/// What that is answered at position 0: 84 bytes.
+/// The answer to that call at position 0: 84 bytes.
 pub(crate) const SUBMITTED: &str = "submit 0107000000010000000000000001001000\
     05000000000000000a00000000000000000000000a000000000000000100010500000000000000050000000000\
     0000010001050000000000000001\
@@ -46,7 +46,7 @@ pub(crate) const ENTRY: &str = "entry 0107000000010000000000000001001000\
     0000010001050000000000000001\
     0a00000000000000";
 
-/// The bytes of both.
+/// The bytes of that answer and of that entry.
 pub(crate) const CALL_BYTES: [u8; 84] = [
     1, 7, 0, 0, 0, 1, 0, 0, 0, 0, 0, 0, 0, 1, 0, 16, 0, 5, 0, 0, 0, 0, 0, 0, 0, 10, 0, 0, 0, 0, 0,
     0, 0, 0, 0, 0, 0, 10, 0, 0, 0, 0, 0, 0, 0, 1, 0, 1, 5, 0, 0, 0, 0, 0, 0, 0, 5, 0, 0, 0, 0, 0,
@@ -77,7 +77,7 @@ const ONCE: Story = Story {
     ],
 };
 
-/// Two calls of one row, of which this site has run the second: it conflicts.
+/// Two calls of one row, of which this site has run the second. The second conflicts.
 const CONFLICT: Story = Story {
     settings: &SETTINGS,
     lines: &[
@@ -101,7 +101,7 @@ const CONFLICT: Story = Story {
     ],
 };
 
-/// The same at the site that has run the first.
+/// The same two calls at the site that has run the first.
 const CONFLICT_ELSEWHERE: Story = Story {
     settings: &SETTINGS,
     lines: &[
@@ -122,7 +122,7 @@ const CONFLICT_ELSEWHERE: Story = Story {
     ],
 };
 
-/// A procedure is added, and called; once more its name is taken, and with another name its number.
+/// A procedure is added, and called. Once more its name is taken, and with another name its number.
 const ADDED: Story = Story {
     settings: &SETTINGS,
     lines: &[
@@ -141,7 +141,7 @@ const ADDED: Story = Story {
     ],
 };
 
-/// Where the settings lack additions.
+/// An addition is refused where the settings lack additions.
 const NOT_ADDED: Story = Story {
     settings: &FIXED,
     lines: &[
@@ -171,7 +171,7 @@ const CLAIMED: Story = Story {
     ],
 };
 
-/// What is nothing counts: behind five such strings a call of position 0 is stale.
+/// A byte string that is nothing counts: behind five such strings a call of position 0 is stale.
 const STALE: Story = Story {
     settings: &SETTINGS,
     lines: &[
@@ -257,7 +257,7 @@ const SCANNED_AGAIN: Story = Story {
     ],
 };
 
-/// Faulty lines are answered, and change nothing; those that say nothing aren't answered.
+/// Faulty lines are answered, and change nothing. Lines that say nothing aren't answered.
 const FAULTY: Story = Story {
     settings: &SETTINGS,
     lines: &[
@@ -314,7 +314,7 @@ pub(crate) fn all_stories() -> [Story; 10] {
     ]
 }
 
-/// A line that is the first that a site is asked, and its answer.
+/// A line, the first that a site is asked, and its answer.
 pub(crate) const FIRST_LINES: [(&str, &str); 28] = [
     (CALL, SUBMITTED),
     ("call two - 0 0", "read 0 reply 2"),

@@ -4,21 +4,21 @@ use std::io;
 use std::io::{BufRead, ErrorKind, Read, Write};
 use std::sync::atomic::{AtomicU64, Ordering};
 
-/// Gives `at_once` lines together. The next lines come only where all answers have left; else a look fails. Each look is
-/// interrupted once before.
+/// An input that gives `at_once` lines together. The next lines come only where all answers have left; else a look
+/// fails. Each look is interrupted once before.
 #[derive(Drop)]
 pub(crate) struct PacedInput<'a> {
     pub(crate) left: &'a [u8],
     pub(crate) at_once: u64,
     pub(crate) given: u64,
     pub(crate) interrupts: bool,
-    /// Whether a look came before the answers had left.
+    /// True where a look came before the answers had left.
     pub(crate) asked_early: bool,
     pub(crate) answered: &'a AtomicU64,
 }
 
 impl PacedInput<'_> {
-    /// What is left of the lines that are given at once.
+    /// Returns what is left of the lines that are given at once.
     fn shown(&self) -> io::Result<&[u8]> {
         let begun = self.given.checked_rem(self.at_once).unwrap_or(0);
         if begun == 0
@@ -69,7 +69,7 @@ impl BufRead for PacedInput<'_> {
     }
 }
 
-/// Counts the lines that were written, the lines that were flushed, and the flushes.
+/// An output that counts the lines that were written, the lines that were flushed, and the flushes.
 #[derive(Drop)]
 pub(crate) struct WatchedOutput<'a> {
     pub(crate) written: u64,

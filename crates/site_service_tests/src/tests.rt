@@ -1,4 +1,4 @@
-//! What is tested of a site's program.
+//! The tests of a site's program.
 
 mod answers;
 mod failures;

@@ -12,32 +12,32 @@ use test_programs::{PROCEDURES, TABLES, catalogue_of};
 const ASKED: Asked<'static> = Asked {
     name: b"1",
     args: &[5, 0, 0, 0, 0, 0, 0, 0, 10, 0, 0, 0, 0, 0, 0, 0],
-    request: RequestId {
+    request: Some(RequestId {
         session: 7,
         sequence: 1,
-    },
+    }),
 };
 
-/// The same as it stands in an order, where it finds no row.
+/// The bytes of that call in an order, where it finds no row.
 static CALL: [u8; 84] = [
     1, 7, 0, 0, 0, 1, 0, 0, 0, 0, 0, 0, 0, 1, 0, 16, 0, 5, 0, 0, 0, 0, 0, 0, 0, 10, 0, 0, 0, 0, 0,
     0, 0, 0, 0, 0, 0, 10, 0, 0, 0, 0, 0, 0, 0, 1, 0, 1, 5, 0, 0, 0, 0, 0, 0, 0, 5, 0, 0, 0, 0, 0,
     0, 0, 1, 0, 1, 5, 0, 0, 0, 0, 0, 0, 0, 1, 10, 0, 0, 0, 0, 0, 0, 0,
 ];
 
-/// A site of the sample procedures with a window of 4 that was given nothing; none where memory is wanting.
+/// A site of the sample procedures with a window of 4 that was given nothing, and none where memory is wanting.
 fn site_of<A: Allocator + Copy>(alloc: A) -> Option<Site<A>> {
     Site::new(alloc, 4, catalogue_of(alloc, &TABLES, &PROCEDURES)?, true).ok()
 }
 
-/// How often the call finds no memory at a site, each growth refused in turn, until it is answered; and the site's
-/// position then.
+/// Refuses each growth of the call at a site in turn, until it is answered. Returns how often the call found no memory,
+/// and the site's position then.
 fn refusals<A: Allocator + Copy>(scarce: &Scarce, site: &Site<A>) -> (Option<u64>, u32) {
     let failed = scarce.refuse_each(|| site.call(ASKED).is_ok());
     (failed, site.position())
 }
 
-/// The same at a site that takes memory from here.
+/// Returns the same of a site that takes memory from here.
 fn refusals_over<A: Allocator + Copy>(
     rt: &impl Abort,
     scarce: &Scarce,
@@ -55,7 +55,7 @@ fn a_call_that_finds_no_memory_changes_nothing(rt: HostRuntime) {
     assert_eq!(rt; position, 0);
 }
 
-/// A site behind the call, and what becomes of this; none where memory is wanting.
+/// Takes the call in at a site, and returns the site and the outcome. Returns `None` where memory is wanting.
 fn taken<A: Allocator + Copy>(site: Site<A>) -> Option<(Site<A>, EntryOutcome)> {
     if site.position() == u32::MAX {
         None
@@ -64,8 +64,8 @@ fn taken<A: Allocator + Copy>(site: Site<A>) -> Option<(Site<A>, EntryOutcome)> 
     }
 }
 
-/// What becomes of the call at a site that is given nothing else, and the position it comes to; none where memory is
-/// wanting.
+/// Returns the outcome of the call at a site that is given nothing else, and the position it comes to. Returns `None`
+/// where memory is wanting.
 fn outcome_and_position<A: Allocator + Copy>(alloc: A) -> Option<(EntryOutcome, u32)> {
     match site_of(alloc).and_then(taken) {
         Some((site, outcome)) => Some((outcome, site.position())),

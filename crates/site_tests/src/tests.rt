@@ -1,4 +1,4 @@
-//! What is tested of sites.
+//! The tests of sites.
 
 mod answers;
 mod heads;

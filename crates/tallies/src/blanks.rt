@@ -44,7 +44,7 @@ impl Model for Blanks {
 }
 
 impl Blanks {
-    /// New ledgers, each cut into `PARTS` parts.
+    /// Makes new ledgers, each cut into `PARTS` parts.
     pub fn new() -> Blanks {
         Blanks {
             committed: Blank::new(PARTS),
@@ -57,7 +57,7 @@ impl Blanks {
         }
     }
 
-    /// The sums, all 0, and all parts of each ledger, with nothing counted in them.
+    /// Opens the ledgers. Returns the sums, all 0, and all parts of each ledger, with nothing counted in them.
     pub fn open<J: Ledgers>(self) -> (Totals<J>, Shares<J>)
         requires { J.names ≡ names_by_place self }
         ensures sums { result.0 ≡ no_counts }

@@ -3,7 +3,7 @@ ghost use Rattle.tallies.specs.Counted.{AreBelow, no_counts, one_more, sum_of};
 
 use crate::kinds::AnswerKind;
 
-/// How many answers of each kind there were.
+/// The number of answers of each kind.
 #[derive(Clone, Copy, Debug, PartialEq, Eq)]
 pub struct Counts {
     pub committed: u64,
@@ -16,7 +16,7 @@ pub struct Counts {
 }
 
 impl Counts {
-    /// Of no answers.
+    /// Returns the counts of no answers.
     pub fn new() -> Counts
         ensures { result ≡ no_counts }
     {
@@ -31,7 +31,7 @@ impl Counts {
         }
     }
 
-    /// One answer more.
+    /// Adds one answer of a kind.
     pub fn add_one(&mut self, kind: AnswerKind)
         requires { AreBelow (2 ^ 63) self.old }
         ensures one_more { self.new ≡ one_more kind self.old }
@@ -48,7 +48,7 @@ impl Counts {
         }
     }
 
-    /// Both together, unless a sum is past what 64 bits hold.
+    /// Adds two counts, unless a sum is past what 64 bits hold.
     pub fn checked_add(self, other: Counts) -> Option<Counts>
         ensures sum { IfSome result (λ sum. sum ≡ sum_of self other) }
         ensures fits { IsSome result ↔ AreBelow (2 ^ 64) (sum_of self other) }

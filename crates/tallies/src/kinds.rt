@@ -2,13 +2,13 @@
 #[derive(Clone, Copy, Debug, PartialEq, Eq)]
 pub enum AnswerKind {
     Committed,
-    /// Of a call that wrote nothing.
+    /// A call wrote nothing.
     Read,
     Cancelled,
     Conflict,
     Stale,
-    /// Of a call whose request had committed before.
+    /// The call's request had committed before.
     Repeated,
-    /// Every other, as a refusal.
+    /// Every other answer, as a refusal.
     Other,
 }

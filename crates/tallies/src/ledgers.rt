@@ -1,17 +1,18 @@
-//! Which ledger counts what. All ledgers of a node go by one type parameter, and each by a type for what it counts.
+//! The ledgers, and what each counts. All ledgers of a node go by one type parameter, and each by a type for what it
+//! counts.
 
 use std::marker::{Brand, PhantomData};
 use std::sync::ledger::Ledger;
 
-/// Into how many parts each ledger is cut: for 16 executing threads at each of 8 replicas, and one for answers that no
-/// executing thread gives.
+/// The number of parts into which each ledger is cut. Each of 16 executing threads at 8 replicas has one part, and one
+/// part is for answers that no executing thread gives.
 pub const PARTS: u64 = 129;
 
 /// The ledgers of a node. Each run of a program picks them.
 pub trait Ledgers {
     ghost use Rattle.std.specs.Prelude.{ℕ};
 
-    /// The name of each, by its place.
+    /// The name of each ledger, by the ledger's place.
     ghost names: { ℕ → ℕ };
 }
 
@@ -19,11 +20,11 @@ impl Ledgers for Brand {
     ghost names = { λ _. 0 };
 }
 
-/// What a ledger counts: answers of one kind.
+/// A kind of answers, which a ledger counts.
 pub trait Kind {
     ghost use Rattle.std.specs.Prelude.{ℕ};
 
-    /// The place of its ledger among those of a node.
+    /// The place of the kind's ledger among those of a node.
     ghost place: { ℕ };
 }
 
@@ -69,14 +70,14 @@ impl Kind for Repeated {
     ghost place = { 5 };
 }
 
-/// All other answers.
+/// The other answers.
 pub struct Other;
 
 impl Kind for Other {
     ghost place = { 6 };
 }
 
-/// The ledger that counts this at a node.
+/// The ledger that counts a kind at a node.
 pub struct LedgerOf<J, K> {
     node: PhantomData<J>,
     kind: PhantomData<K>,

@@ -1,4 +1,4 @@
-//! How many answers of each kind the threads of a node gave. Each thread keeps counts of its own and enters them all at
+//! Counts of the answers of each kind that the threads of a node gave. Each thread keeps counts of its own and enters them all at
 //! once into sums that a lock guards; ledgers say that the sums are what was counted in all shares together.
 #![tactic(auto)]
 

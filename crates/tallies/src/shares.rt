@@ -7,8 +7,8 @@ use crate::ledgers::{
 use std::marker::Model;
 use std::sync::ledger::Share;
 
-/// A thread's share of each ledger. Contracts see how many parts it has of each, at least one, and what was counted in
-/// it.
+/// A thread's share of each ledger. Contracts see the number of parts of each ledger, at least one, and what was
+/// counted in them.
 #[derive(Drop)]
 pub struct Shares<J: Ledgers> {
     pub(crate) committed: Share<LedgerOf<J, Committed>>,
@@ -46,7 +46,7 @@ impl<J: Ledgers> Model for Shares<J> {
 }
 
 impl<J: Ledgers> Shares<J> {
-    /// One part of each ledger, in which nothing was counted yet.
+    /// Takes off one part of each ledger, in which nothing was counted yet.
     pub fn split(&mut self) -> Shares<J>
         requires { 1 < self.old.parts }
         ensures part { result.parts ≡ 1 }

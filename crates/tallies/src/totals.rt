@@ -9,7 +9,8 @@ use crate::shares::Shares;
 use std::marker::Model;
 use std::sync::ledger::Book;
 
-/// The sums of what was entered, each beside the book of its ledger, for a lock to guard. Contracts see the sums.
+/// The sums of what was entered, for a lock to guard. Each sum stands beside the book of its ledger. Contracts see the
+/// sums.
 #[derive(Drop)]
 pub struct Totals<J: Ledgers> {
     pub(crate) sums: Counts,
@@ -42,8 +43,8 @@ impl<J: Ledgers> Model for Totals<J> {
 }
 
 impl<J: Ledgers> Totals<J> {
-    /// Adds what a thread has counted to its shares and to the sums, all at once, unless a sum is then past what 64
-    /// bits hold.
+    /// Adds what a thread has counted to the thread's shares and to the sums, all at once. Adds nothing, and returns
+    /// false, where a sum would be past what 64 bits hold.
     pub fn enter(&mut self, shares: &mut Shares<J>, counts: Counts) -> bool
         ensures fits { IsTrue result ↔ AreBelow (2 ^ 64) (sum_of self.old counts) }
         ensures sums { IsTrue result → self.new ≡ sum_of self.old counts }

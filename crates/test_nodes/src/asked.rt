@@ -1,10 +1,10 @@
-//! What is asked of a node, and what is told then.
+//! The questions to a node, and what is told then.
 
 use log_model::{RequestId, Verdict};
 use node::Added;
 use node_calls::Answer;
 
-/// Arguments of a call: 0 to 2 words, each given by its least byte.
+/// The arguments of a call: 0 to 2 words, each given by its least byte.
 #[derive(Clone, Copy)]
 pub struct Words {
     pub count: usize,
@@ -12,7 +12,7 @@ pub struct Words {
     pub second: u8,
 }
 
-/// What a caller asks.
+/// A question of a caller.
 #[derive(Clone, Copy)]
 pub enum Asking {
     /// A call of a procedure at a replica, which sees at least the log up to a position, with a request or without one.
@@ -37,18 +37,18 @@ pub enum Asking {
         replica: u32,
         position: u32,
     },
-    /// To wait until a call is held, as long as a loop goes.
+    /// A wait until a call is held, as long as a loop goes.
     AwaitHeld,
-    /// To let it go.
+    /// The release of the held call.
     Release,
 }
 
-/// What a caller is told.
+/// The answer that a caller is told.
 #[derive(Clone, Copy)]
 pub enum Told {
     Answer(Answer),
     Position(u32),
-    /// The verdict, where the replica has come there, and how many entries it has delivered by now.
+    /// The verdict, where the replica has come there, and the number of entries that it has delivered by now.
     Verdict(Option<(Verdict, u32)>),
     Nothing,
 }
@@ -62,31 +62,31 @@ pub struct Addition<'a> {
     pub bytes: &'a [u8],
 }
 
-/// What wasn't as it should have been.
+/// A thing that wasn't as it should have been.
 #[derive(Clone, Copy, Debug, PartialEq, Eq)]
 pub enum Stray {
-    /// The answer to the addition after so many.
+    /// The answer to the addition of an index, from 0 on.
     Addition(usize),
-    /// What the caller of a place, from 0 on, was told after so many.
+    /// The answer to the question of an index, from 0 on, of the caller of a place, from 0 on.
     Told { place: usize, index: usize },
     /// Memory was wanting.
     NoMemory,
 }
 
-/// What is asked of a node: first additions in turn, then calls of several callers at once.
+/// The questions to a node: first additions in turn, then calls of several callers at once.
 pub trait Asked {
-    /// The addition after so many. None after the last.
+    /// The addition of an index, from 0 on, and none after the last.
     fn addition(&self, index: usize) -> Option<Addition<'_>>;
 
-    /// Whether it may be answered so, where something of the log is seen then or not.
+    /// Tells whether the addition of an index may be answered so, where something of the log is seen then or not.
     fn is_added(&self, index: usize, added: &Added, seen: bool) -> bool;
 
-    /// How many callers there are.
+    /// Returns the number of callers.
     fn callers(&self) -> usize;
 
-    /// What the caller of a place, from 0 on, asks after so many. None after the last.
+    /// Returns the question of an index, from 0 on, of the caller of a place, from 0 on, and none after the last.
     fn asking(&self, place: usize, index: usize) -> Option<Asking>;
 
-    /// Whether it may be told so.
+    /// Tells whether the caller of a place may be told so.
     fn is_told(&self, place: usize, index: usize, told: &Told) -> bool;
 }

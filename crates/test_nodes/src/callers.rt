@@ -1,4 +1,4 @@
-//! Those who ask.
+//! The callers.
 
 use crate::asked::{Addition, Asked, Asking, Stray, Told, Words};
 use crate::gate::{Hold, HoldingGate};
@@ -13,16 +13,16 @@ use std::thread;
 use std::thread::Threads;
 use tallies::Ledgers;
 
-/// The most that a caller asks.
+/// The most questions of a caller.
 const MOST: usize = 10_000;
 
-/// Two words as an argument block, each least byte first.
+/// Returns two words as an argument block, each least byte first.
 fn args_of(words: Words) -> [u8; 16] {
     let Words { first, second, .. } = words;
     [first, 0, 0, 0, 0, 0, 0, 0, second, 0, 0, 0, 0, 0, 0, 0]
 }
 
-/// As many of them as there are.
+/// Returns as many of the words as there are.
 fn given(args: &[u8; 16], count: usize) -> &[u8] {
     args.get(..count.wrapping_mul(8)).unwrap_or(args)
 }
@@ -72,7 +72,7 @@ fn verdict_of<J: LogSetting + Ledgers + Send + Sync + 'static, R: Wait>(
     Some((verdict, seen.len()))
 }
 
-/// What a caller is told that asks this.
+/// Asks a question, and returns what the caller is told.
 fn told<J: LogSetting + Ledgers + Send + Sync + 'static, R: Wait>(
     rt: &R,
     desk: &Desk<J, HoldingGate>,
@@ -109,8 +109,8 @@ fn told<J: LogSetting + Ledgers + Send + Sync + 'static, R: Wait>(
     }
 }
 
-/// Has the caller of a place ask to the end, so that whoever waits for it is let go. After how many it was first told what
-/// may not be so; none where all may.
+/// Has the caller of a place ask to the end, so that whoever waits for it is let go. Returns the index of the first
+/// question that was answered as it may not be, and none where there is none.
 fn ask_as<J: LogSetting + Ledgers + Send + Sync + 'static, R: Wait, A: Asked>(
     rt: &R,
     desk: &Desk<J, HoldingGate>,
@@ -132,7 +132,7 @@ fn ask_as<J: LogSetting + Ledgers + Send + Sync + 'static, R: Wait, A: Asked>(
     Some(MOST)
 }
 
-/// The first of all callers' strays.
+/// Returns the first of all callers' strays.
 fn first_of(strays: &[Option<usize>]) -> Option<Stray> {
     for (place, stray) in strays.iter().enumerate() {
         if let Some(index) = stray {
@@ -178,7 +178,7 @@ fn added<J: LogSetting + Ledgers + Send + Sync + 'static, R: Wait>(
     (added, seen.is_some())
 }
 
-/// Makes all additions. The first that isn't answered as it should be.
+/// Makes all additions. Returns the first that isn't answered as it should be.
 fn add_all<J: LogSetting + Ledgers + Send + Sync + 'static, R: Wait, A: Asked>(
     rt: &R,
     node: &Node<J, HoldingGate>,
@@ -194,8 +194,8 @@ fn add_all<J: LogSetting + Ledgers + Send + Sync + 'static, R: Wait, A: Asked>(
     Some(Stray::Addition(MOST))
 }
 
-/// Makes all additions at a node, and then has all callers ask, who hear of held calls and let them go here. What wasn't
-/// as it should have been; none where all was.
+/// Makes all additions at a node, and then has all callers ask, who hear of held calls and let them go here. Returns
+/// what wasn't as it should have been, and none where all was.
 pub fn ask_all<
     J: LogSetting + Ledgers + Send + Sync + 'static,
     R: Threads + Wait + Sync,

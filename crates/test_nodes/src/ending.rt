@@ -1,4 +1,4 @@
-//! How a node has ended, as plain data.
+//! The end of a node, as plain data.
 
 use crate::asked::Stray;
 use crate::gate::HoldingGate;
@@ -9,30 +9,30 @@ use std::sync::Wait;
 use tallies::{Counts, Ledgers};
 use txn_view::Store;
 
-/// How a node has ended.
+/// The end of a node.
 #[derive(Drop)]
 pub struct Ending {
-    /// What wasn't as it should have been of what callers were told; none where all was.
+    /// The first thing that wasn't as it should have been, and none where all was.
     pub stray: Option<Stray>,
-    /// How many answers of each kind there were.
+    /// The number of answers of each kind.
     pub totals: Counts,
-    /// Whether of what was delivered to each two replicas one begins the other.
+    /// True where, for each two replicas, what was delivered to one is a prefix of what was delivered to the other.
     pub agreement: bool,
-    /// Each replica, in the order of their numbers.
+    /// The ends of the replicas, in the order of their numbers.
     pub replicas: Vec<ReplicaEnding>,
 }
 
-/// How a replica has ended.
+/// The end of a replica.
 #[derive(Clone, Copy, Drop)]
 pub struct ReplicaEnding {
     pub position: u32,
     pub commits: u32,
     pub stopped: bool,
-    /// The row of 8 bytes at the key of table 1 that was asked for, least byte first; 0 where there is none.
+    /// The row of 8 bytes at the key of table 1 that was asked for, least byte first, and 0 where there is none.
     pub number: u64,
 }
 
-/// The row of 8 bytes at a key of table 1, as a number; 0 where there is none.
+/// The row of 8 bytes at a key of table 1, as a number, and 0 where there is none.
 fn number_of(store: &impl Store, key: u64) -> u64 {
     match store.get(1, key) {
         Ok(Some(row)) => u64::from_le_bytes(row.try_into().unwrap_or([0u8; 8])),
@@ -40,7 +40,7 @@ fn number_of(store: &impl Store, key: u64) -> u64 {
     }
 }
 
-/// That of the replica of a number. None where there is no such replica.
+/// The row at a key of the replica of a number, as a number. Returns `None` where there is no such replica.
 fn number_at<J: LogSetting + Ledgers, R: Wait>(
     rt: &R,
     finish: &Finish<J, HoldingGate>,
@@ -52,7 +52,7 @@ fn number_at<J: LogSetting + Ledgers, R: Wait>(
     Some(number_of(&locked.at(&seen), key))
 }
 
-/// How a replica has ended, whose row this is.
+/// Returns the end of a replica, whose row this is.
 fn replica_ending<J: LogSetting>(replica: &EndedReplica<J>, number: u64) -> ReplicaEnding {
     ReplicaEnding {
         position: replica.position,
@@ -62,7 +62,7 @@ fn replica_ending<J: LogSetting>(replica: &EndedReplica<J>, number: u64) -> Repl
     }
 }
 
-/// How all replicas have ended, with their rows at a key. None where memory is wanting.
+/// Returns the ends of all replicas, with their rows at a key. Returns `None` where memory is wanting.
 fn replica_endings<J: LogSetting + Ledgers, R: Wait>(
     rt: &R,
     alloc: Global,
@@ -79,7 +79,8 @@ fn replica_endings<J: LogSetting + Ledgers, R: Wait>(
     Some(endings)
 }
 
-/// How a node has ended that answered so, with its replicas' rows at a key. None where memory is wanting.
+/// Returns the end of a node that answered so, with its replicas' rows at a key. Returns `None` where memory is
+/// wanting.
 pub(crate) fn ending_of<J: LogSetting + Ledgers, R: Wait>(
     rt: &R,
     alloc: Global,

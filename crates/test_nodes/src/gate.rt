@@ -7,19 +7,19 @@ use std::sync::atomic::Ordering::SeqCst;
 use std::sync::{Arc, Wait};
 use std::thread;
 
-/// Nobody is held.
+/// The state in which nobody is held.
 const OPEN: u32 = 0;
-/// The next call of procedure 1 is to be held.
+/// The state in which the next call of procedure 1 is to be held.
 const ARMED: u32 = 1;
-/// It is held.
+/// The state in which a call is held.
 const HELD: u32 = 2;
-/// It is let go.
+/// The state in which the call is let go.
 const RELEASED: u32 = 3;
 
-/// How often a loop yields before it gives up.
+/// The number of times that a loop yields before it gives up.
 const TURNS: u32 = 1_000_000;
 
-/// Where the gate stands: who has it hears of a held call, and lets it go.
+/// The state of the gate. The holder of it hears of a held call, and lets the call go.
 #[derive(Drop)]
 pub struct Hold {
     state: AtomicU32,
@@ -71,7 +71,7 @@ pub struct HoldingGate {
     hold: Arc<Hold>,
 }
 
-/// A gate that holds a call where it is armed, and where it stands. None where memory is wanting.
+/// Makes a gate that holds a call where it is armed, and the gate's state. Returns `None` where memory is wanting.
 pub fn gate_of(alloc: Global, armed: bool) -> Option<(HoldingGate, Arc<Hold>)> {
     let hold = Arc::new(alloc, Hold::new(armed)).ok()?;
     let gate = HoldingGate {

@@ -67,9 +67,10 @@ fn run_node<
     finish_asked(rt, alloc, started.ok()?, hold, asked, key)
 }
 
-/// Makes a node of a size, with these procedures over table 1 of rows of 8 bytes, each a number with a program and how
-/// many words that takes; has it asked, its calls of procedure 1 held where its gate is armed; and finishes it. How it
-/// ended, with its replicas' rows at a key. None where it can't be made, or memory is wanting.
+/// Makes a node of a size, with these procedures over table 1 of rows of 8 bytes. A procedure is a number, a program,
+/// and the number of words that the program takes. Has the node asked, its calls of procedure 1 held where its gate is
+/// armed, and finishes it. Returns the node's end, with its replicas' rows at a key. Returns `None` where the node
+/// can't be made, or memory is wanting.
 pub fn run_at_a_node<R: Threads + Wait + Copy + Send + Sync + 'static, A: Asked + Sync>(
     rt: &R,
     alloc: Global,

@@ -43,8 +43,8 @@ pub const INDEX_TOO_FAR: &str = "
    6 9500000000000000 exit dst 0 src 0 off 0 imm 0
 ";
 
-/// Of eight bytes of the stack that are 0 sets the one at the place that the first byte of the arguments gives, modulo
-/// 8, to 1, and replies the lowest.
+/// Sets one of eight zero bytes of the stack to 1, and replies the lowest of the eight. The first byte of the
+/// arguments, modulo 8, gives the place.
 pub const STORE_WITHIN: &str = "
    0 7112000000000000 ldx8 dst 2 src 1 off 0 imm 0
    1 5702000007000000 and64 dst 2 src 0 off 0 imm 7

@@ -2,7 +2,7 @@
 
 use std::alloc::Allocator;
 
-/// The slots of a line in hex: of a line of a listing the second word.
+/// The slots of a line in hex: the second word of a listing's line.
 fn slots_of(line: &str) -> &str {
     if line.contains(" dst ") {
         line.split_whitespace().nth(1).unwrap_or("")
@@ -11,8 +11,8 @@ fn slots_of(line: &str) -> &str {
     }
 }
 
-/// The bytes of a program that is given by its listing or by slots in hex. None where memory is wanting, or where the
-/// slots are no hex.
+/// The bytes of a program that is given by its listing or by slots in hex. The answer is none where memory is wanting,
+/// or where the slots are no hex.
 pub fn bytes_of<A: Allocator + Copy>(alloc: A, program: &str) -> Option<Vec<u8, A>> {
     let mut bytes = Vec::new(alloc);
     for line in program.lines() {

@@ -7,7 +7,8 @@ use catalogue::Catalogue;
 use schema::Schema;
 use std::alloc::{Allocator, Global};
 
-/// A program that takes so many words, as it is accepted. None, here and below, where memory is wanting or it isn't.
+/// A program that takes `words` words, as it is accepted. The answer is none, here and below, where memory is wanting
+/// or the program isn't accepted.
 pub(crate) fn accepted_of<A: Allocator + Copy>(
     alloc: A,
     schema: &Schema<A>,
@@ -30,8 +31,8 @@ fn add_to<A: Allocator + Copy>(
     catalogue.add(&digit_of(number), number, accepted).ok()
 }
 
-/// A catalogue for these tables, in which each procedure, a number with a program and how many words that takes, has
-/// its digit as its name.
+/// A catalogue for these tables, in which each procedure has its digit as its name. A procedure is given by its number,
+/// its program and the number of words that the program takes.
 pub fn catalogue_of<A: Allocator + Copy>(
     alloc: A,
     tables: &[(u8, u16)],

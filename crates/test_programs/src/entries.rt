@@ -1,7 +1,7 @@
 use crate::alone::ONE;
 use crate::catalogues::accepted_of;
 use log_entry::{AddedProcedure, Entry, ExecutedCall};
-use log_model::RequestId;
+use log_model::{RequestId, given_request};
 use row_sets::{Bytes, ReadSet, WriteSet};
 use schema::{Look, Schema};
 use std::alloc::{AllocError, Global};
@@ -10,17 +10,22 @@ use std::sync::Arc;
 /// An entry of a log that is written down.
 #[derive(Clone, Copy)]
 pub enum EntryCase {
-    /// A call: its snapshot, the keys of table 1 to which it looked, from one to another, and a key at which it puts
-    /// one byte or removes it.
+    /// A call: its snapshot, the first and the last key of table 1 to which it looked, and a written key. One byte is
+    /// put there, or the row is removed.
     Call(u32, u64, u64, u64, Option<u8>),
-    /// The same with a session and a sequence number in front.
+    /// A call in the same form, with a session and a sequence number in front.
     Numbered(u32, u32, u32, u64, u64, u64, Option<u8>),
     /// The name and the number of an addition. Its program is `ONE`.
     Addition(&'static [u8], u16),
 }
 
 /// A call without arguments, looks and writes.
-pub fn idle_call(alloc: Global, procedure: u16, snapshot: u32, request: RequestId) -> ExecutedCall {
+pub fn idle_call(
+    alloc: Global,
+    procedure: u16,
+    snapshot: u32,
+    request: Option<RequestId>,
+) -> ExecutedCall {
     ExecutedCall {
         call: 0,
         procedure,
@@ -48,7 +53,7 @@ fn fill(
     }
 }
 
-/// An addition of a program that takes so many words.
+/// An addition of a program that takes `words` words.
 pub fn addition_of(
     alloc: Global,
     schema: &Schema,
@@ -78,7 +83,7 @@ pub fn entry_of(alloc: Global, schema: &Schema, case: EntryCase) -> Option<Entry
             return addition_of(alloc, schema, name, number, ONE, 0);
         }
     };
-    let mut call = idle_call(alloc, 1, snapshot, RequestId { session, sequence });
+    let mut call = idle_call(alloc, 1, snapshot, given_request(session, sequence));
     fill(&mut call, lo, hi, key, row).ok()?;
     Some(Entry::Call(call))
 }

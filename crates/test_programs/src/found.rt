@@ -2,7 +2,7 @@ use replica::{Certification, Replica};
 use std::alloc::{Allocator, Global};
 use txn_view::Store;
 
-/// What became of the entry at a position, where it was reached.
+/// Returns the certification of the entry at a position, where the position was reached.
 pub fn certification_at<A: Allocator + Copy>(
     replica: &Replica<A, Global>,
     position: u32,

@@ -1,8 +1,8 @@
-//! Which of the test programs are there at first.
+//! The test programs that are there at first.
 
 use crate::rows::{ADD, COUNT, DELETE, NEXT, PUT, SKEW};
 
-/// The numbers of those that are there at first, each with how many words it takes.
+/// The test programs that are there at first: each with its number and the number of words that it takes.
 pub static PROCEDURES: [(u16, &str, usize); 6] = [
     (1, ADD, 2),
     (2, SKEW, 2),

@@ -178,8 +178,8 @@ pub const INCREMENT: &str = "
   14 9500000000000000 exit dst 0 src 0 off 0 imm 0
 ";
 
-/// Moves an amount from one account to another: the arguments are both keys and the amount. It cancels with 1 where the
-/// first has less, and with 2 where both are the same.
+/// Moves an amount from one account to another: the arguments are both keys and the amount. The program cancels with 1
+/// where the first account has less, and with 2 where both keys are the same.
 pub const TRANSFER: &str = "
    0 7916000000000000 ldx64 dst 6 src 1 off 0 imm 0
    1 7917080000000000 ldx64 dst 7 src 1 off 8 imm 0

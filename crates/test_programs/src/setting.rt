@@ -1,4 +1,4 @@
-//! The procedures as those that replay a log take them.
+//! The procedures in the form in which replays of a log take them.
 
 use crate::bytes::bytes_of;
 use crate::programs::PROCEDURES;
@@ -10,8 +10,8 @@ use std::alloc::Global;
 /// Table 1 has rows of 8 bytes.
 pub const TABLES: [(u8, u16); 1] = [(1, 8)];
 
-/// The words as an argument block, each least byte first. None, here and below, where memory is wanting or the program
-/// is none.
+/// The words as an argument block, each least byte first. The answer is none, here and below, where memory is wanting
+/// or the program is none.
 pub fn args_of(alloc: Global, words: &[u64]) -> Option<Vec<u8>> {
     let mut args = Vec::new(alloc);
     for word in words {
@@ -25,7 +25,7 @@ pub fn digit_of(number: u16) -> [u8; 1] {
     [u8::try_from(number).unwrap_or(0).wrapping_add(b'0')]
 }
 
-/// A procedure of so many words, in the catalogue or to be added.
+/// A procedure of `words` words, in the catalogue or to be added.
 pub fn procedure_of(
     alloc: Global,
     name: &[u8],
@@ -39,7 +39,7 @@ pub fn procedure_of(
     Some(PlainProcedure::new(name, number, code, args_len))
 }
 
-/// All of them, each with its digit as its name, under a window.
+/// Returns the setting of all test programs, each with its digit as its name, under a window.
 pub fn setting_of(alloc: Global, window: u32) -> Option<PlainSetting> {
     let mut catalogue = Vec::new(alloc);
     for (number, program, words) in &PROCEDURES {

@@ -1,4 +1,4 @@
-//! A replica, and versions, that are asked only what they may be.
+//! Replicas and versions that are asked only what they may be asked.
 
 ghost use Rattle.std.specs.Prelude.{◌≡◌};
 
@@ -32,7 +32,7 @@ impl<'a, A: Allocator + Copy, P: Allocator + Copy> Model for CheckedReplica<'a, 
 }
 
 impl<'a, A: Allocator + Copy, P: Allocator + Copy> CheckedReplica<'a, A, P> {
-    /// One to which nothing was delivered.
+    /// A replica to which nothing was delivered.
     pub fn new(
         alloc: A,
         window: u32,
@@ -44,6 +44,7 @@ impl<'a, A: Allocator + Copy, P: Allocator + Copy> CheckedReplica<'a, A, P> {
 
     /// Delivers an entry, where it may be delivered next to a replica of the catalogue.
     pub fn deliver(&mut self, entry: &Entry<P>) -> Option<Result<Verdict, Stopped>> {
+        // Laws:
         tables_take_the_schemas_writes();
         let position = self.replica.position();
         if position == u32::MAX || !entry_fits(self.catalogue.schema(), entry, position) {

@@ -1,4 +1,4 @@
-//! Whether writes are of a schema's tables, and whether entries are a log of such writes.
+//! Tests whether writes are of a schema's tables, and whether entries are a log of such writes.
 
 ghost use Rattle.std.specs.Prelude.{◌<◌, ◌^◌, All, IsTrue, length};
 ghost use Rattle.schema.specs.Rows.{AreWrites, IsWrite};
@@ -20,6 +20,7 @@ fn write_fits<A: Allocator, B: Allocator>(
 ) -> bool
     ensures { IsTrue result → IsWrite schema.now key write.now }
 {
+    // Laws:
     rows_are_of_bytes_and_words();
     match write {
         Some(row) => schema.fits(key.0, row.as_slice()),
@@ -27,7 +28,7 @@ fn write_fits<A: Allocator, B: Allocator>(
     }
 }
 
-/// Whether each write is one of the schema's.
+/// Tells whether each write is one of the schema's.
 pub fn writes_fit<A: Allocator, B: Allocator + Copy>(
     schema: &Schema<A>,
     writes: &WriteSet<B>,
@@ -42,8 +43,9 @@ pub fn writes_fit<A: Allocator, B: Allocator + Copy>(
     true
 }
 
-/// Whether an entry may be delivered where so many came before it: of a call its snapshot was reached and its writes
-/// are the schema's; of an addition its name is one, and its program was accepted for the schema's tables.
+/// Tells whether an entry may be delivered where `before` entries came before it. The snapshot of a call has to be
+/// reached, and its writes have to be the schema's. The name of an addition has to be a name, and its program accepted
+/// for the schema's tables.
 pub fn entry_fits<P: Allocator + Copy>(schema: &Schema<P>, entry: &Entry<P>, before: u32) -> bool
     ensures placed { IsTrue result → IsPlaced before (item_of (entry_of entry.now)) }
     ensures writes { IsTrue result → AreWrites schema.now (writes_in (entry_of entry.now)) }
@@ -58,7 +60,7 @@ pub fn entry_fits<P: Allocator + Copy>(schema: &Schema<P>, entry: &Entry<P>, bef
     }
 }
 
-/// Whether the entries may be delivered one after the other.
+/// Tells whether the entries may be delivered one after the other.
 pub fn entries_fit<P: Allocator + Copy>(schema: &Schema<P>, entries: &[Entry<P>]) -> bool
     requires { length entries.now < 2 ^ 32 }
     ensures log { IsTrue result → IsLog (items_of (entries_of entries.now)) }

@@ -40,6 +40,7 @@ impl<'a, A: Allocator + Copy> CheckedVersions<'a, A> {
         position: u32,
         writes: &WriteSet<B>,
     ) -> Result<bool, AllocError> {
+        // Laws:
         tables_take_the_schemas_writes();
         if !writes_fit(self.schema, writes) {
             return Ok(false);
@@ -49,12 +50,13 @@ impl<'a, A: Allocator + Copy> CheckedVersions<'a, A> {
         Ok(true)
     }
 
-    /// Drops what no position from this one on sees.
+    /// Drops the versions that no position from this one on sees.
     pub fn prune(&mut self, below: u32) {
         self.versions.prune(below);
     }
 
-    /// Drops what no position from this one on sees, of the next page of keys. Answers whether there was none.
+    /// Drops the versions that no position from this one on sees, in the next page of keys. Answers true where there
+    /// was no page.
     pub fn prune_page(&mut self, below: u32) -> bool {
         self.versions.prune_page(below)
     }

@@ -1,52 +1,53 @@
-//! What is asked of two replicas, and what is heard then.
+//! The questions to two replicas, and what is heard then.
 
 use node_calls::Answer;
 use served_replicas::RebuildFault;
 
-/// What is asked of two replicas.
+/// A question to two replicas.
 #[derive(Clone, Copy)]
 pub enum Question {
-    /// That 10 be added to row 5 at the first replica, or at the second, which sees at least the log up to a position.
+    /// An addition of 10 to row 5 at the first replica, or at the second, which sees at least the log up to a position.
     /// Meanwhile the growth of this number of the first replica's memory is refused, or none where it is 0.
     Add {
         second: bool,
         least: u32,
         growth: u64,
     },
-    /// That the replica of this number be made anew.
+    /// The rebuilding of the replica of this number.
     Rebuild {
         replica: u32,
     },
-    /// How many entries the log shows.
+    /// The number of entries that the log shows.
     Length,
-    /// How many growths of the first replica's memory were refused so far.
+    /// The number of growths of the first replica's memory that were refused so far.
     Refusals,
-    /// That no growth of the second replica's memory be refused any more.
+    /// The wish that no growth of the second replica's memory be refused any more.
     Allow,
 }
 
-/// What is heard then.
+/// The answer that is heard then.
 #[derive(Clone, Copy, Debug, PartialEq, Eq)]
 pub enum Heard {
     /// The answer to an addition.
     Answer(Answer),
-    /// It is lost for want of memory.
+    /// The answer is lost for want of memory.
     NoAnswer,
     /// An answer to something else.
     OtherAnswer,
     /// Memory for the request was wanting.
     NotAsked,
-    /// To which position a replica came that was made anew, or why it wasn't.
+    /// The position to which a replica came that was made anew, or the cause for which it wasn't made.
     Rebuilt(Result<u32, RebuildFault>),
-    /// How many entries there are.
+    /// The number of entries.
     Length(u32),
-    /// How many growths were refused.
+    /// The number of growths that were refused.
     Refusals(u64),
-    /// None is refused.
+    /// The growths are refused no more.
     Allowed,
 }
 
-/// What was heard, after so many questions, that may not be; nothing where there was no end of questions.
+/// The answer that may not be heard, and the number of questions before it. The answer is none where there was no end
+/// of questions.
 #[derive(Clone, Copy, Debug, PartialEq, Eq)]
 pub struct Mismatch {
     pub index: usize,

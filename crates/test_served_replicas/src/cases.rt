@@ -1,4 +1,4 @@
-//! What is asked of two replicas that find no memory.
+//! The questions to two replicas that find no memory.
 
 use crate::asked::{Heard, Question};
 use node_calls::Answer;
@@ -11,14 +11,14 @@ const TO_FIRST: Question = Question::Add {
     growth: 0,
 };
 
-/// One at the second, which is to have come as far as the first.
+/// An addition at the second replica, which is to have come as far as the first.
 const TO_SECOND: Question = Question::Add {
     second: true,
     least: 1,
     growth: 0,
 };
 
-/// What is asked of both, the second of which finds no memory at first.
+/// The questions to both replicas, the second of which finds no memory at first, and the answers.
 static STOPPED: [(Question, Heard); 8] = [
     (
         TO_FIRST,
@@ -48,7 +48,7 @@ static STOPPED: [(Question, Heard); 8] = [
     ),
 ];
 
-/// Where whoever refuses growths stands.
+/// The place of the case that refuses growths.
 #[derive(Clone, Copy, Debug, PartialEq, Eq)]
 enum Place {
     /// A call is asked, of which a growth is refused.
@@ -57,9 +57,9 @@ enum Place {
     Rebuilding { position: u32 },
     /// The log's length is asked for.
     Length,
-    /// Whether the call asked for that growth.
+    /// The question whether the call asked for that growth.
     Refusals { length: u32 },
-    /// It didn't: one more call comes to this position.
+    /// The call didn't ask for that growth: one more call comes to this position.
     LastCall { position: u32 },
     End,
 }
@@ -69,22 +69,22 @@ enum Place {
 #[derive(Clone, Copy, Debug, PartialEq, Eq)]
 pub struct RefusedGrowths {
     place: Place,
-    /// Which growth is refused.
+    /// The number of the growth that is refused.
     growth: u64,
-    /// How many were refused.
+    /// The number of growths that were refused.
     refused: u64,
-    /// How many calls were answered as ordered.
+    /// The number of calls that were answered as ordered.
     ordered: u32,
-    /// How many calls weren't ordered, for want of memory.
+    /// The number of calls that weren't ordered, for want of memory.
     pub wanting: u32,
-    /// How many calls were ordered, and not delivered at their replica.
+    /// The number of calls that were ordered, and not delivered at their replica.
     pub stopped: u32,
-    /// How many answers were lost.
+    /// The number of answers that were lost.
     lost: u32,
 }
 
 impl RefusedGrowths {
-    /// The first growth is refused next, and nothing was counted yet.
+    /// The first place: the first growth is refused next, and nothing was counted yet.
     pub const FIRST: RefusedGrowths = RefusedGrowths {
         place: Place::Call,
         growth: 1,
@@ -95,7 +95,7 @@ impl RefusedGrowths {
         lost: 0,
     };
 
-    /// Counts a call of which a growth was refused: where that leads.
+    /// Counts a call of which a growth was refused. Returns the place behind it.
     fn place_after(&mut self, heard: Heard) -> Place {
         match heard {
             Heard::Answer(Answer::Committed { .. }) => self.ordered = self.ordered.wrapping_add(1),
@@ -110,7 +110,7 @@ impl RefusedGrowths {
         Place::Length
     }
 
-    /// Where it leads that so many growths were refused so far, beside a log of this length.
+    /// Returns the place where `refused` growths were refused so far, beside a log of this length.
     fn place_of(&mut self, refused: u64, length: u32) -> Place {
         if refused == self.refused {
             return Place::LastCall {
@@ -137,7 +137,7 @@ impl RefusedGrowths {
         }
     }
 
-    /// Whether this may be heard where it stands; then it goes on.
+    /// Tells whether this may be heard at the place, and goes on to the next place.
     fn hear(&mut self, heard: Heard) -> bool {
         match (self.place, heard) {
             (Place::Call, Heard::OtherAnswer | Heard::NotAsked) => false,
@@ -167,17 +167,17 @@ impl RefusedGrowths {
     }
 }
 
-/// What is tried at two replicas.
+/// A case that is tried at two replicas.
 #[derive(Clone, Copy, Debug, PartialEq, Eq)]
 pub enum Case {
-    /// The second finds no memory, until it is made anew: how much of that was asked.
+    /// The second replica finds no memory, until it is made anew. The value is the number of questions so far.
     Stopped(usize),
     /// Each growth is refused in turn, at the first.
     Refused(RefusedGrowths),
 }
 
 impl Case {
-    /// What is asked next. None at the end.
+    /// Returns the next question, and none at the end.
     pub fn next(&self) -> Option<Question> {
         match self {
             Case::Stopped(index) => Some(STOPPED.get(*index)?.0),
@@ -185,7 +185,7 @@ impl Case {
         }
     }
 
-    /// Takes what is heard then: whether it may be so.
+    /// Takes what is heard then, and tells whether it may be heard.
     pub fn hear(&mut self, heard: Heard) -> bool {
         match self {
             Case::Stopped(index) => {

@@ -14,7 +14,7 @@ use std::alloc::Allocator;
 use std::sync::Wait;
 use tallies::Ledgers;
 
-/// The most that is asked.
+/// The most questions.
 const MOST: usize = 10_000;
 
 /// Row 5, and the 10 that is added to it.
@@ -23,7 +23,7 @@ const ARGS: [u8; 16] = [5, 0, 0, 0, 0, 0, 0, 0, 10, 0, 0, 0, 0, 0, 0, 0];
 /// The memory of both replicas, which may be refused.
 pub type Memories<'a> = (&'a Scarce, &'a Scarce);
 
-/// A request to add, and where its reply comes. None where memory is wanting.
+/// Makes a request to add, and the channel where its reply comes. Returns `None` where memory is wanting.
 fn addition<J: LogSetting, P: Allocator + Copy>(
     alloc: P,
     least: u32,
@@ -39,7 +39,7 @@ fn addition<J: LogSetting, P: Allocator + Copy>(
     Some((Request { asked, reply }, replies))
 }
 
-/// What comes of an addition; none where its reply is lost.
+/// Sends an addition, and returns its reply, and none where the reply is lost.
 fn reply_to<J: LogSetting, P: Allocator + Copy, R: Wait>(
     rt: &R,
     requests: &Sender<Request<J, P>, P>,
@@ -52,7 +52,7 @@ fn reply_to<J: LogSetting, P: Allocator + Copy, R: Wait>(
     }
 }
 
-/// The answer of a reply to an addition; none where it is a reply to something else.
+/// The answer of a reply to an addition, and none where it is a reply to something else.
 fn answer_of<J: LogSetting, P: Allocator + Copy>(
     reply: Reply<J, P>,
     replica: u32,
@@ -62,7 +62,8 @@ fn answer_of<J: LogSetting, P: Allocator + Copy>(
     Some(answer)
 }
 
-/// What is heard of an addition at a replica, whose requests these are, while a growth of this memory is refused.
+/// Returns what is heard of an addition at a replica, whose requests these are, while a growth of this memory is
+/// refused.
 fn add_at<J: LogSetting, P: Allocator + Copy, R: Wait>(
     rt: &R,
     alloc: P,
@@ -87,7 +88,7 @@ fn add_at<J: LogSetting, P: Allocator + Copy, R: Wait>(
     }
 }
 
-/// Has these seen all entries that the log shows.
+/// Sees all entries that the log shows.
 fn see_all<J: LogSetting + Ledgers, A: Allocator + Copy, P: Allocator + Copy>(
     shared: &Shared<J, A, P, OpenGate>,
     seen: &mut Seen<J, P>,
@@ -99,7 +100,7 @@ fn see_all<J: LogSetting + Ledgers, A: Allocator + Copy, P: Allocator + Copy>(
     }
 }
 
-/// How many entries the log shows.
+/// Returns the number of entries that the log shows.
 fn length_of<J: LogSetting + Ledgers, A: Allocator + Copy, P: Allocator + Copy>(
     shared: &Shared<J, A, P, OpenGate>,
 ) -> u32 {
@@ -108,7 +109,7 @@ fn length_of<J: LogSetting + Ledgers, A: Allocator + Copy, P: Allocator + Copy>(
     seen.len()
 }
 
-/// What is heard of a question.
+/// Returns what is heard of a question.
 fn heard<J: LogSetting + Ledgers, A: Allocator + Copy, P: Allocator + Copy, R: Wait>(
     rt: &R,
     alloc: P,
@@ -138,8 +139,8 @@ fn heard<J: LogSetting + Ledgers, A: Allocator + Copy, P: Allocator + Copy, R: W
     }
 }
 
-/// Asks two replicas, whose requests these are, all that a case asks. What was heard first that may not be; none where
-/// all may.
+/// Asks two replicas, whose requests these are, all that a case asks. Returns the first answer that may not be heard,
+/// and none where all may.
 pub fn ask_all<J: LogSetting + Ledgers, A: Allocator + Copy, P: Allocator + Copy, R: Wait>(
     rt: &R,
     alloc: P,

@@ -18,13 +18,15 @@ use std::thread;
 use std::thread::Threads;
 use tallies::{Blanks, Ledgers, Shares, Totals};
 
-/// What two replicas share, each in memory of its own of the first kind; calls and entries take memory of the second.
+/// The parts that two replicas share, each in memory of its own of the first kind. Calls and entries take memory of the
+/// second.
 type TwoReplicas<J, A, P> = Shared<J, A, P, OpenGate>;
 
-/// Where requests to both go, until nobody asks any more.
+/// The channels to which requests to both go, until nobody asks any more.
 type Callers<J, P> = Option<[Sender<Request<J, P>, P>; 2]>;
 
-/// Asks both, and lets their requests' ends go, so that nobody serves them any more. What was heard that may not be.
+/// Asks both, and lets their requests' ends go, so that nobody serves them any more. Returns the first answer that may
+/// not be heard.
 fn ask_to_the_end<J: LogSetting + Ledgers, A: Allocator + Copy, P: Allocator + Copy, R: Wait>(
     rt: &R,
     alloc: P,
@@ -59,8 +61,8 @@ fn serve_both<
     );
 }
 
-/// Has both asked, whose requests these are, and served until nobody asks any more; then stops what is delivered. What
-/// was heard that may not be.
+/// Has both asked, whose requests these are, and served until nobody asks any more. Then stops the deliveries. Returns
+/// the first answer that may not be heard.
 fn ask_and_serve<
     J: LogSetting + Ledgers + Send + Sync,
     A: Allocator + Copy + Send + Sync,
@@ -86,7 +88,7 @@ fn ask_and_serve<
     mismatch
 }
 
-/// Delivers to both until that is stopped.
+/// Delivers to both until the deliveries are stopped.
 fn deliver_to_both<
     J: LogSetting + Ledgers + Send + Sync,
     A: Allocator + Copy + Send + Sync,
@@ -101,7 +103,7 @@ fn deliver_to_both<
 }
 
 /// Has two replicas, whose requests these are, served and delivered to by threads of a scope, while both are asked.
-/// What was heard that may not be.
+/// Returns the first answer that may not be heard.
 fn run_two<
     J: LogSetting + Ledgers + Send + Sync,
     A: Allocator + Copy + Send + Sync,
@@ -137,7 +139,7 @@ fn add_both<J: LogSetting + Ledgers, A: Allocator + Copy, P: Allocator + Copy>(
     shared.add_replica(replicas.1, 1)
 }
 
-/// What two replicas share that take memory from these.
+/// Makes what two replicas share that take memory from these.
 fn shared_by<J: LogSetting + Ledgers, A: Allocator + Copy, P: Allocator + Copy>(
     global: Global,
     alloc: P,
@@ -160,8 +162,8 @@ fn shared_by<J: LogSetting + Ledgers, A: Allocator + Copy, P: Allocator + Copy>(
     Ok(shared)
 }
 
-/// Makes the ends of both replicas' requests, and has both served and asked until nobody asks any more. What was heard
-/// that may not be.
+/// Makes the ends of both replicas' requests, and has both served and asked until nobody asks any more. Returns the
+/// first answer that may not be heard.
 fn serve_two<
     J: LogSetting + Ledgers + Send + Sync,
     A: Allocator + Copy + Send + Sync,
@@ -193,8 +195,9 @@ fn serve_two<
     ))
 }
 
-/// Tries a case at two replicas, each with an allocator of its own (`replicas`), whose growths `memories` refuse. Where
-/// the case is that the second stops, it finds no memory at first. What was heard that may not be.
+/// Tries a case at two replicas, each with an allocator of its own (`replicas`), whose growths `memories` refuse. The
+/// second replica finds no memory at first, where the case is that it stops. Returns the first answer that may not be
+/// heard.
 pub fn try_two<
     J: LogSetting + Ledgers + Send + Sync,
     A: Allocator + Copy + Send + Sync,

@@ -4,7 +4,7 @@ use std::alloc::Global;
 use std::io;
 use std::io::{BufRead, ErrorKind, Read, Write};
 
-/// Gives its bytes, so many at a time, and then fails, or ends.
+/// An input that gives its bytes, at most `at_once` at a time, and then fails, or ends.
 #[derive(Drop)]
 pub struct Input<'a> {
     pub left: &'a [u8],
@@ -36,7 +36,8 @@ impl BufRead for Input<'_> {
     }
 }
 
-/// Gives its bytes, so many at a time, and then fails, or ends. Each look is interrupted once before.
+/// An input that gives its bytes, at most `at_once` at a time, and then fails, or ends. Each look is interrupted once
+/// before.
 #[derive(Drop)]
 pub struct InterruptedInput<'a> {
     pub left: &'a [u8],
@@ -46,7 +47,7 @@ pub struct InterruptedInput<'a> {
 }
 
 impl<'a> InterruptedInput<'a> {
-    /// One whose first look is interrupted.
+    /// Makes an input whose first look is interrupted.
     pub fn new(left: &'a [u8], at_once: usize, fails: bool) -> InterruptedInput<'a> {
         InterruptedInput {
             left,
@@ -80,14 +81,14 @@ impl BufRead for InterruptedInput<'_> {
     }
 }
 
-/// How an output goes on behind its room.
+/// The behaviour of an output behind its room.
 #[derive(Clone, Copy, PartialEq, Eq)]
 pub enum Full {
     Fails,
     TakesNothing,
 }
 
-/// Takes so many bytes, so many at a time, and keeps them. Its flush may fail.
+/// An output that takes at most `room` bytes, at most `at_once` at a time, and keeps them. Its flush may fail.
 #[derive(Drop)]
 pub struct Output {
     room: usize,
@@ -95,13 +96,13 @@ pub struct Output {
     full: Full,
     pub flushes: bool,
     pub held: Vec<u8>,
-    /// How often it was written to or flushed after it had failed.
+    /// The number of writes and flushes after it had failed.
     pub after_failure: u32,
     failed: bool,
 }
 
 impl Output {
-    /// One that has taken nothing, with room for so many bytes, so many at a time.
+    /// Makes an output that has taken nothing, with room for `room` bytes, `at_once` at a time.
     pub fn new(alloc: Global, room: usize, at_once: usize, full: Full) -> Output {
         Output {
             room,

@@ -1,5 +1,5 @@
 use crate::draws::{NUMBERS, begin_step, draw, draw_args, draw_listed, draw_number, request_of};
-use crate::history::{Call, History, NO_REQUEST, Ordered, UnknownProcedure, take_down};
+use crate::history::{Call, History, Ordered, UnknownProcedure, take_down};
 use crate::kinds::KINDS;
 use crate::procedures::{CANCEL_CODE, CANCEL_PLACE, PROCEDURES, READ_PLACE, program_of};
 use dsm_model::{Outcome, StepRefusal};
@@ -17,16 +17,16 @@ pub struct DrawnWorld<'s> {
     scarce: &'s Scarce,
     generator: Pcg32,
     replicas: u32,
-    /// Its window.
+    /// The window of the world.
     pub window: u32,
     /// The world itself.
     pub world: World<&'s Scarce>,
-    /// What was done to it.
+    /// The history of what was done to the world.
     pub history: History,
 }
 
-/// A new one of 2 to 8 replicas. One of eight windows is drawn among many, the others among 1 to 8. None where memory
-/// is wanting.
+/// A new world of 2 to 8 replicas. One of eight windows is drawn among many, the others among 1 to 8. The answer is
+/// none where memory is wanting.
 pub fn new_world<'s>(
     alloc: Global,
     scarce: &'s Scarce,
@@ -88,8 +88,8 @@ impl<'s> DrawnWorld<'s> {
         Some(self.world.replica(replica)?.position())
     }
 
-    /// Which request a call carries: none, a new one, one of the latest three, any that was drawn, that of a call
-    /// which was refused, or at times one with a 0.
+    /// Draws the request of a call: none, a new request, one of the latest three, or any that was drawn. The request of
+    /// a refused call is drawn too, and at times one with a 0.
     fn draw_request(&mut self) -> Option<RequestId> {
         let last = self.history.requests;
         match draw(&mut self.generator, 72) {
@@ -133,7 +133,7 @@ impl<'s> DrawnWorld<'s> {
         }
     }
 
-    /// Begins it with these arguments and this request.
+    /// Begins a call with these arguments and this request.
     fn begin_with(&mut self, at: u32, procedure: u16, args: Vec<u8>, request: Option<RequestId>) {
         let outcome = self.take(begin_step(at, procedure, &args, request));
         if let Outcome::Begun { call, snapshot } = outcome {
@@ -141,7 +141,7 @@ impl<'s> DrawnWorld<'s> {
                 procedure,
                 args,
                 snapshot,
-                request: request.unwrap_or(NO_REQUEST),
+                request,
                 reply: None,
             };
             take_down(&mut self.history.calls, begun, &mut self.history.wanting);
@@ -197,7 +197,7 @@ impl<'s> DrawnWorld<'s> {
         }
     }
 
-    /// Takes the step of an addition. None where memory is wanting.
+    /// Takes the step of an addition. The answer is none where memory is wanting.
     fn take_addition(&mut self, name: &str, number: u16, args_len: u16) -> Option<Outcome> {
         let (_words, program) = program_of(number);
         match bytes_of(self.alloc, program) {
@@ -214,7 +214,7 @@ impl<'s> DrawnWorld<'s> {
         }
     }
 
-    /// A position that was answered is that of what was ordered last.
+    /// Expects an answered position to be that of the last ordered item.
     fn expect_last(&mut self, position: u32) {
         let is_next = position as usize == self.history.ordered.len();
         let is_last = position == self.world.log_len();
@@ -288,8 +288,7 @@ impl<'s> DrawnWorld<'s> {
     /// Takes down the request of a call that was refused.
     fn see_delivered(&mut self, position: u32, verdict: Verdict) {
         if matches!(verdict, Verdict::Conflict(_) | Verdict::Stale) {
-            let request = self.history.request_at(position);
-            if request != NO_REQUEST {
+            if let Some(request) = self.history.request_at(position) {
                 take_down(
                     &mut self.history.refused,
                     request,
@@ -309,7 +308,7 @@ impl<'s> DrawnWorld<'s> {
         }
     }
 
-    /// A step of a kind that is drawn, or some turns of a call.
+    /// Takes a step of a kind that is drawn, or some turns of a call.
     fn go_on(&mut self) {
         let replica = self.draw_replica();
         match draw(&mut self.generator, 64) {

@@ -1,4 +1,4 @@
-//! What is drawn.
+//! The numbers, words and arguments that are drawn.
 
 use crate::procedures::{PROCEDURES, program_of};
 use dsm_world::Step;
@@ -7,7 +7,7 @@ use rand_core::utils::NextWord;
 use rand_pcg::Pcg32;
 use std::alloc::Global;
 
-/// The numbers of additions, and those whose digits are their names, are drawn from as many from 1 on.
+/// The greatest number that is drawn for an addition, or for the digits of its name. The least is 1.
 pub(crate) const NUMBERS: u32 = 60;
 
 /// A number below the end.
@@ -33,7 +33,7 @@ pub(crate) fn draw_word(generator: &mut Pcg32) -> u64 {
     u64::from(draw(generator, end)).wrapping_add(1)
 }
 
-/// Arguments for the procedure of a number, at times a word too many. None where memory is wanting.
+/// Arguments for the procedure of a number, at times a word too many. The answer is none where memory is wanting.
 pub(crate) fn draw_args(alloc: Global, generator: &mut Pcg32, number: u16) -> Option<Vec<u8>> {
     let (words, _program) = program_of(number);
     let more = if draw(generator, 32) == 0 { 1 } else { 0 };
@@ -45,7 +45,7 @@ pub(crate) fn draw_args(alloc: Global, generator: &mut Pcg32, number: u16) -> Op
     Some(args)
 }
 
-/// The request of a number from 1 on: of few sessions.
+/// The request of a number from 1 on; all requests are of few sessions.
 pub(crate) fn request_of(number: u32) -> RequestId {
     RequestId {
         session: 1 + number % 4,

@@ -1,4 +1,4 @@
-//! What drawn worlds have to come to often enough, besides each kind of outcome.
+//! Events that drawn worlds have to come to often enough, besides each kind of outcome.
 
 use crate::history::{Call, History, Ordered, UnknownProcedure};
 use crate::procedures::is_of_catalogue;
@@ -6,18 +6,18 @@ use log_model::{Identifier, RequestId, Verdict};
 use plain_replayer::ItemReport;
 use test_programs::digit_of;
 
-/// What is counted.
+/// An event that is counted.
 #[derive(Clone, Copy)]
 enum Event {
-    /// A call repeats one, and its snapshot is within the window.
+    /// A call repeats another, and its snapshot is within the window.
     RepeatedWithin,
-    /// It is too old.
+    /// A call repeats another, and its snapshot is too old.
     RepeatedPast,
-    /// Its own reply isn't the one that is told.
+    /// A call repeats another, and its own reply isn't the reply that is told.
     RepeatedReply,
-    /// A call commits whose request an earlier one carried that was in conflict.
+    /// A call commits whose request an earlier call carried that was in conflict.
     CommittedAfterConflict,
-    /// Or that was stale.
+    /// A call commits whose request an earlier call carried that was stale.
     CommittedAfterStale,
     /// A call of a procedure that was added commits.
     AddedCommitted,
@@ -25,7 +25,7 @@ enum Event {
     BothTaken,
     /// No call begins, as its procedure is added behind the position of its replica.
     BehindReplica,
-    /// The replica is stopped.
+    /// No call begins, as its procedure is added behind the position of its replica, which is stopped.
     BehindStoppedReplica,
     /// A replica finds no memory for an addition.
     AdditionWithoutMemory,
@@ -33,14 +33,14 @@ enum Event {
 
 const EVENTS: usize = 10;
 
-/// How often each event came that needs several steps of a world.
+/// The number of times that each event came, of those that need several steps of a world.
 #[derive(Clone, Copy, Debug)]
 pub struct Events {
     counts: [u32; EVENTS],
 }
 
 impl Events {
-    /// Nothing came yet.
+    /// Makes the counts of no events.
     pub fn new() -> Events {
         Events {
             counts: [0; EVENTS],
@@ -57,14 +57,14 @@ impl Events {
         }
     }
 
-    /// Whether each came more often than this.
+    /// Tells whether each event came more often than this.
     pub fn all_above(&self, least: u32) -> bool {
         self.counts.iter().all(|count| *count > least)
     }
 }
 
-/// Whether a call that was refused before carried this request: in conflict, and stale.
-fn refused_before(past: &[ItemReport], request: RequestId) -> (bool, bool) {
+/// Tells whether a call that was refused before carried this request: in conflict, and stale.
+fn refused_before(past: &[ItemReport], request: Option<RequestId>) -> (bool, bool) {
     let (mut conflict, mut stale) = (false, false);
     for report in past {
         if report.request() == request {
@@ -75,13 +75,10 @@ fn refused_before(past: &[ItemReport], request: RequestId) -> (bool, bool) {
             }
         }
     }
-    (
-        conflict && request.session != 0,
-        stale && request.session != 0,
-    )
+    (conflict && request.is_some(), stale && request.is_some())
 }
 
-/// Whether what was ordered is an addition that committed, and this holds of its name and its number.
+/// Tells whether an ordered item is an addition that committed, with this name and this number where they are given.
 fn is_added(
     ordered: &Ordered,
     report: &ItemReport,
@@ -101,13 +98,13 @@ fn is_added(
     }
 }
 
-/// Whether the catalogue has a number, or one of these additions committed with it.
+/// Tells whether the catalogue has a number, or one of these additions committed with it.
 fn is_number_taken(ordered: &[Ordered], past: &[ItemReport], number: u16) -> bool {
     let mut items = ordered.iter().zip(past);
     is_of_catalogue(number) || items.any(|(it, report)| is_added(it, report, None, Some(number)))
 }
 
-/// Whether name and number are those of one procedure: of one of the catalogue, whose name is its number, or of an
+/// Tells whether name and number are those of one procedure: of the catalogue's, whose name is its number, or of an
 /// addition that committed.
 fn is_one(ordered: &[Ordered], past: &[ItemReport], name: &str, number: u16) -> bool {
     let mut items = ordered.iter().zip(past);

@@ -1,4 +1,4 @@
-//! What was done to a world, and what it answered.
+//! The history of a world: what was done to it, and what it answered.
 
 use crate::kinds::{KINDS, kind_of};
 use crate::procedures::place_of;
@@ -6,37 +6,31 @@ use dsm_model::Outcome;
 use log_model::{RequestId, Verdict};
 use std::alloc::Global;
 
-/// The request of a call that carries none.
-pub const NO_REQUEST: RequestId = RequestId {
-    session: 0,
-    sequence: 0,
-};
-
 /// A call: what it was begun with, its snapshot, and its reply once it was at its end.
 #[derive(Drop)]
 pub struct Call {
-    /// The number of its procedure.
+    /// The number of the call's procedure.
     pub procedure: u16,
-    /// Its arguments, in bytes.
+    /// The arguments of the call, in bytes.
     pub args: Vec<u8>,
-    /// The position of its replica when it was begun.
+    /// The position of the call's replica when the call was begun.
     pub snapshot: u32,
-    /// The request that it carries, or `NO_REQUEST`.
-    pub request: RequestId,
-    /// What it replied.
+    /// The request that the call carries.
+    pub request: Option<RequestId>,
+    /// The reply of the call.
     pub reply: Option<u64>,
 }
 
-/// What stands in the log.
+/// An item of the log.
 #[derive(Drop)]
 pub enum Ordered {
     /// A call, by its number.
     Call(u32),
     /// A procedure, whose program its number tells.
     Addition {
-        /// Its name.
+        /// The name of the procedure.
         name: String,
-        /// Its number.
+        /// The number of the procedure.
         number: u16,
     },
 }
@@ -44,46 +38,46 @@ pub enum Ordered {
 /// A procedure that was called where its replica had none of its number.
 #[derive(Clone, Copy)]
 pub struct UnknownProcedure {
-    /// That of the procedure.
+    /// The number of the procedure.
     pub number: u16,
     /// The position of the replica.
     pub position: u32,
-    /// Whether the replica was stopped.
+    /// True where the replica was stopped.
     pub stopped: bool,
 }
 
-/// What was done to a world, and what it answered.
+/// The history of a world: what was done to it, and what it answered.
 #[derive(Drop)]
 pub struct History {
-    /// How many steps were taken.
+    /// The number of steps that were taken.
     pub(crate) steps: u32,
-    /// How many outcomes of each kind there were, in worlds before too.
+    /// The number of outcomes of each kind, in worlds before too.
     pub kinds: [u32; KINDS],
     /// The calls, in the order of their numbers.
     pub(crate) calls: Vec<Call>,
-    /// The numbers of those that came to their end and weren't drawn to be ordered since.
+    /// The numbers of calls that came to their end and weren't drawn to be ordered since.
     pub(crate) ended: Vec<u32>,
-    /// What was ordered, in the order of the log.
+    /// The items that were ordered, in the order of the log.
     pub ordered: Vec<Ordered>,
-    /// How many requests were drawn.
+    /// The number of requests that were drawn.
     pub(crate) requests: u32,
     /// The requests of calls that were told to be in conflict or stale.
     pub(crate) refused: Vec<RequestId>,
     /// Calls that didn't begin, as their replica had no procedure of the number.
     pub unknown: Vec<UnknownProcedure>,
-    /// How often a replica found no memory for an addition.
+    /// The number of times that a replica found no memory for an addition.
     pub additions_without_memory: u32,
-    /// The numbers of those that only read, and so weren't ordered.
+    /// The numbers of calls that only read, and so weren't ordered.
     pub read: Vec<u32>,
     /// The positions and verdicts that were told of deliveries.
     pub delivered: Vec<(u32, Verdict)>,
-    /// Whether some outcome had another number or position than the next one.
+    /// True where some outcome had another number or position than the next one.
     pub odd: bool,
-    /// Whether memory was wanting for what is drawn or taken down here.
+    /// True where memory was wanting for what is drawn or taken down here.
     pub wanting: bool,
 }
 
-/// Takes down one more, or that memory was wanting.
+/// Takes down one more item, or that memory was wanting.
 pub(crate) fn take_down<T: Drop>(list: &mut Vec<T>, it: T, wanting: &mut bool) {
     if list.push(it).is_err() {
         *wanting = true;
@@ -115,7 +109,7 @@ impl History {
         self.calls.get((number as usize).checked_sub(1)?)
     }
 
-    /// Whether a call was begun at a snapshot, with the program that stands at a place.
+    /// Tells whether a call was begun at a snapshot, with the program that stands at a place.
     pub(crate) fn is_of(&self, number: u32, place: usize, snapshot: u32) -> bool {
         match self.call(number) {
             Some(call) => place_of(call.procedure) == place && call.snapshot == snapshot,
@@ -132,13 +126,11 @@ impl History {
     }
 
     /// The request of the call at a position.
-    pub(crate) fn request_at(&self, position: u32) -> RequestId {
+    pub(crate) fn request_at(&self, position: u32) -> Option<RequestId> {
         let ordered = self.ordered.get((position as usize).wrapping_sub(1));
         match ordered {
-            Some(Ordered::Call(number)) => {
-                self.call(*number).map_or(NO_REQUEST, |call| call.request)
-            }
-            _ => NO_REQUEST,
+            Some(Ordered::Call(number)) => { self.call(*number).and_then(|call| call.request) }
+            _ => None,
         }
     }
 
@@ -160,7 +152,7 @@ impl History {
         self.odd = self.odd || !holds;
     }
 
-    /// Takes down the reply of a call at its end. Turns after it answer it again.
+    /// Takes down the reply of a call at its end. Turns after the end answer the reply again.
     pub(crate) fn end(&mut self, number: u32, reply: u64) {
         let place = (number as usize).wrapping_sub(1);
         let Some(call) = self.calls.get_mut(place) else {

@@ -3,10 +3,10 @@
 use dsm_model::{Outcome, StepRefusal};
 use log_model::{Identifier, Verdict};
 
-/// How many kinds of outcomes there are.
+/// The number of kinds of outcomes.
 pub const KINDS: usize = 30;
 
-/// Where an outcome is counted.
+/// Returns the place at which an outcome is counted.
 pub(crate) fn kind_of(outcome: Outcome) -> usize {
     match outcome {
         Outcome::Begun { .. } => 0,

@@ -4,7 +4,7 @@
 
 pub use drawn::{DrawnWorld, new_world};
 pub use events::Events;
-pub use history::{Call, History, NO_REQUEST, Ordered, UnknownProcedure};
+pub use history::{Call, History, Ordered, UnknownProcedure};
 pub use kinds::KINDS;
 pub use replays::{has_reads, has_verdicts, replay_of};
 

@@ -2,11 +2,11 @@
 
 use test_programs::{ADD, COUNT, DELETE, NEXT, PUT, PUT_AND_CANCEL, READ, SKEW};
 
-/// With what `PUT_AND_CANCEL` cancels.
+/// The code with which `PUT_AND_CANCEL` cancels.
 pub(crate) const CANCEL_CODE: u64 = 9;
 
-/// The procedures of the catalogue: their numbers, each with its program and how many words it takes. The last two are
-/// never ordered.
+/// The procedures of the catalogue: their numbers, each with its program and the number of words that it takes. The
+/// last two are never ordered.
 pub static PROCEDURES: [(u16, &str, usize); 8] = [
     (1, ADD, 2),
     (2, SKEW, 2),
@@ -18,10 +18,10 @@ pub static PROCEDURES: [(u16, &str, usize); 8] = [
     (9, PUT_AND_CANCEL, 2),
 ];
 
-/// The place there of the one that only reads.
+/// The place in the catalogue of the procedure that only reads.
 pub(crate) const READ_PLACE: usize = 6;
 
-/// The place there of the one that cancels.
+/// The place in the catalogue of the procedure that cancels.
 pub(crate) const CANCEL_PLACE: usize = 7;
 
 /// The place in the catalogue of the procedure of a number.
@@ -31,18 +31,18 @@ fn catalogue_place(number: u16) -> Option<usize> {
         .position(|procedure| procedure.0 == number)
 }
 
-/// Whether the catalogue has a procedure of a number.
+/// Tells whether the catalogue has a procedure of a number.
 pub fn is_of_catalogue(number: u16) -> bool {
     catalogue_place(number).is_some()
 }
 
-/// The place of the procedure whose program a number has: its own, and where the catalogue has none of it one of them
-/// in turn, so that a number tells the program of a procedure that is added too.
+/// The place of the procedure whose program a number has. A number of the catalogue has its own program, any other has
+/// one of the programs in turn. So a number tells the program of an added procedure too.
 pub(crate) fn place_of(number: u16) -> usize {
     catalogue_place(number).unwrap_or(usize::from(number % 8))
 }
 
-/// How many words the program of a number takes, and the program.
+/// Returns the number of words that the program of a number takes, and the program.
 pub fn program_of(number: u16) -> (usize, &'static str) {
     match PROCEDURES.get(place_of(number)) {
         Some((_number, program, words)) => (*words, program),

@@ -18,15 +18,15 @@ fn short(log: &[PlainItem]) -> &[PlainItem]
     if log.len() < 10_000 { log } else { &[] }
 }
 
-/// An addition as the plain replayer takes it, with the program that was asked for. None, here and below, where memory
-/// is wanting.
+/// An addition as the plain replayer takes it, with the program that was asked for. The answer is none, here and below,
+/// where memory is wanting.
 fn addition_of(alloc: Global, name: &str, number: u16) -> Option<PlainItemKind> {
     let (words, program) = program_of(number);
     let added = procedure_of(alloc, name.as_bytes(), number, program, words)?;
     Some(PlainItemKind::Addition(added))
 }
 
-/// A call as it takes it.
+/// A call as the plain replayer takes it.
 fn call_of(alloc: Global, number: u32, call: &Call) -> Option<PlainItemKind> {
     let args = Vec::from_slice(alloc, &call.args).ok()?;
     let (procedure, snapshot) = (call.procedure, call.snapshot);
@@ -34,7 +34,7 @@ fn call_of(alloc: Global, number: u32, call: &Call) -> Option<PlainItemKind> {
     Some(PlainItemKind::Call(taken))
 }
 
-/// What was ordered, as it takes it. None also where the history hasn't the call.
+/// Returns an ordered item as the plain replayer takes it. The answer is none also where the history hasn't the call.
 fn item_of(alloc: Global, history: &History, ordered: &Ordered) -> Option<PlainItemKind> {
     match ordered {
         Ordered::Addition { name, number } => addition_of(alloc, name, *number),
@@ -63,16 +63,16 @@ fn plain_setting(alloc: Global, window: u32) -> Option<PlainSetting> {
     Some(PlainSetting::new(schema, catalogue, window))
 }
 
-/// The replay of what was ordered, fewer than 10,000 items, with this window. None where memory is wanting, or the
-/// history hasn't one of the calls.
+/// The replay of what was ordered, fewer than 10,000 items, with this window. The answer is none where memory is
+/// wanting, or the history hasn't one of the calls.
 pub fn replay_of(alloc: Global, history: &History, window: u32) -> Option<CompletedReplay> {
     let log = log_of(alloc, history)?;
     let setting = plain_setting(alloc, window)?;
     replay_log(alloc, &setting, short(&log)).ok()
 }
 
-/// Whether the row at a key is this word, each in bytes with the least first; where there is none, whether the word is
-/// 0.
+/// Tells whether the row at a key is this word, each in bytes with the least first. Where there is no row, the word has
+/// to be 0.
 fn is_value_at(rows: &[Row], key: &[u8], word: u64) -> bool {
     for row in rows {
         if row.key().to_le_bytes().as_slice() == key {
@@ -82,7 +82,7 @@ fn is_value_at(rows: &[Row], key: &[u8], word: u64) -> bool {
     word == 0
 }
 
-/// Whether each call that only read replied what stands in the replay at its snapshot.
+/// Tells whether each call that only read replied what stands in the replay at its snapshot.
 pub fn has_reads(history: &History, replay: &CompletedReplay) -> bool {
     for number in &history.read {
         let (Some(call), Some(reply)) = (history.call(*number), history.reply_of(*number)) else {
@@ -96,7 +96,7 @@ pub fn has_reads(history: &History, replay: &CompletedReplay) -> bool {
     true
 }
 
-/// Whether each delivery told the verdict of the replay.
+/// Tells whether each delivery told the verdict of the replay.
 pub fn has_verdicts(history: &History, reports: &[ItemReport]) -> bool {
     for (position, verdict) in &history.delivered {
         let report = reports.get((*position as usize).wrapping_sub(1));

@@ -1,4 +1,4 @@
-//! What a call sees: rows of a store, with its own writes over them, and what it has looked at.
+//! The view of a call: rows of a store, with its own writes over them, and the rows that it has looked at.
 #![tactic(auto)]
 
 pub use read::{count_rows, next_row, read_row};

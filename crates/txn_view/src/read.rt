@@ -41,7 +41,7 @@ pub fn read_row<'a, S: Store, A: Allocator + Copy>(
     Ok(found)
 }
 
-/// How many rows a look covers, modulo 2^64. Where lo is above hi it makes no look.
+/// Counts the rows that a look covers, modulo 2^64. Where lo is above hi no look is made.
 pub fn count_rows<S: Store, A: Allocator + Copy>(
     store: &S,
     writes: &WriteSet<A>,
@@ -65,8 +65,8 @@ pub fn count_rows<S: Store, A: Allocator + Copy>(
     Ok(count)
 }
 
-/// The key and the row of the least key that a look covers, where there is one. It has looked up to
-/// that key, or at all of the look where there is none; where lo is above hi it makes no look.
+/// The key and the row of the least key that a look covers, where there is such a row. The call has looked up to that
+/// key, or at all of the look where there is no row. Where lo is above hi no look is made.
 pub fn next_row<'a, S: Store, A: Allocator + Copy>(
     store: &'a S,
     writes: &'a WriteSet<A>,

@@ -15,8 +15,7 @@ use schema::{
 };
 use std::alloc::Allocator;
 
-/// The row at a key: that of a write there, or else the store's, which isn't asked where there is a
-/// write.
+/// The row at a key: the row of a write there, or else the store's row. The store isn't asked where there is a write.
 pub fn row_seen<'a, S: Store, A: Allocator + Copy>(
     store: &'a S,
     writes: &'a WriteSet<A>,
@@ -29,6 +28,7 @@ pub fn row_seen<'a, S: Store, A: Allocator + Copy>(
     ensures gone { is_err result
         ≡ (S.is_gone store.now && not (contains_key writes.now (table, key))) }
 {
+    // Laws:
     row_at_after_writes();
     match writes.get(table, key) {
         Some(write) => Ok(write),
@@ -36,7 +36,7 @@ pub fn row_seen<'a, S: Store, A: Allocator + Copy>(
     }
 }
 
-/// How many rows a look covers, modulo 2^64; none where lo is above hi, and then the store isn't asked.
+/// Counts the rows that a look covers, modulo 2^64. Where lo is above hi there are none, and the store isn't asked.
 pub fn count_seen<S: Store, A: Allocator + Copy>(
     store: &S,
     writes: &WriteSet<A>,
@@ -46,6 +46,7 @@ pub fn count_seen<S: Store, A: Allocator + Copy>(
         → IfOk result (λ count. count ≡ count_in look (after_writes writes.now rows) % 2 ^ 64) }
     ensures gone { is_err result ≡ (nat_le look.lo look.hi && S.is_gone store.now) }
 {
+    // Laws:
     count_in_after_writes();
     count_is_zero_where_none();
     if look.lo > look.hi {
@@ -72,6 +73,7 @@ pub fn first_seen<'a, S: Store, A: Allocator + Copy>(
         ≡ first_in look (after_writes writes.now rows)) }
     ensures gone { is_err result ≡ (nat_le look.lo look.hi && S.is_gone store.now) }
 {
+    // Laws:
     first_in_after_writes();
     first_is_least();
     if look.lo > look.hi {
@@ -81,7 +83,7 @@ pub fn first_seen<'a, S: Store, A: Allocator + Copy>(
     Ok(lesser(first_put(writes, look), elsewhere))
 }
 
-/// How many writes that a look covers are at keys where the store has a row.
+/// Counts the writes that a look covers and that are at keys where the store has a row.
 fn count_under<S: Store, A: Allocator + Copy>(
     store: &S,
     writes: &WriteSet<A>,
@@ -91,6 +93,7 @@ fn count_under<S: Store, A: Allocator + Copy>(
         → IfOk result (λ count. count ≡ count_in look (rows_under writes.now rows)) }
     ensures gone { IsTrue (is_err result) → IsTrue (S.is_gone store.now) }
 {
+    // Laws:
     count_in_after_writes();
     let mut count = 0;
     for (key, _) in writes.range(look) {
@@ -101,10 +104,11 @@ fn count_under<S: Store, A: Allocator + Copy>(
     Ok(count)
 }
 
-/// How many writes that a look covers are puts.
+/// Counts the writes that a look covers and that are puts.
 fn count_puts<A: Allocator + Copy>(writes: &WriteSet<A>, look: Look) -> u64
     ensures { result ≡ count_in look (puts writes.now) }
 {
+    // Laws:
     count_in_after_writes();
     writes.range(look).filter(|write| write.1.is_some()).count() as u64
 }
@@ -113,6 +117,7 @@ fn count_puts<A: Allocator + Copy>(writes: &WriteSet<A>, look: Look) -> u64
 fn first_put<A: Allocator + Copy>(writes: &WriteSet<A>, look: Look) -> Option<(u64, &[u8])>
     ensures { row_found look.table result ≡ first_in look (puts writes.now) }
 {
+    // Laws:
     first_in_after_writes();
     let (key, write) = writes.range(look).find(|write| write.1.is_some())?;
     let bytes = write.as_ref()?;
@@ -131,6 +136,7 @@ fn first_elsewhere<'a, S: Store, A: Allocator + Copy>(
         ≡ first_in look (rows_elsewhere writes.now rows)) }
     ensures gone { is_err result ≡ S.is_gone store.now }
 {
+    // Laws:
     first_elsewhere_is_found_in_turn();
     first_is_least();
     let mut lo = look.lo;
@@ -148,7 +154,7 @@ fn first_elsewhere<'a, S: Store, A: Allocator + Copy>(
     }
 }
 
-/// Of two rows, where they are there, that of the lesser key.
+/// Returns the row of the lesser key of two rows, either of which may be missing.
 fn lesser<'a>(a: Option<(u64, &'a [u8])>, b: Option<(u64, &'a [u8])>) -> Option<(u64, &'a [u8])>
     ensures { (table : ℕ) → row_found table result
         ≡ lesser_row (row_found table a.entry) (row_found table b.entry) }

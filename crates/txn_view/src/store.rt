@@ -1,4 +1,4 @@
-//! What rows are read from.
+//! Stores, from which rows are read.
 
 ghost use Rattle.std.specs.Prelude.{◌≡◌, ℕ, ◌≤◌, ◌%◌, ◌^◌, Bool, IfOk, IfSome, is_err, option_map};
 ghost use Rattle.txn_view.specs.Found.{row_found};
@@ -6,16 +6,16 @@ ghost use Rattle.schema.specs.Rows.{Rows, row_at, count_in, first_in};
 
 use schema::Look;
 
-/// The store has what is asked for no more.
+/// The answer of a store that has no more what is asked for.
 #[derive(Clone, Copy, Debug, PartialEq, Eq, Drop)]
 pub struct Gone;
 
 /// Rows that are read, at one moment.
 pub trait Store {
-    /// Whether it answers from this map of rows.
+    /// The store answers from this map of rows.
     ghost answers_from: { Self → Rows → Type 0 };
 
-    /// Whether it has them no more.
+    /// True where the store has its rows no more.
     ghost is_gone: { Self → Bool };
 
     /// The row of a table at a key.
@@ -24,13 +24,13 @@ pub trait Store {
             → IfOk result (λ found. option_map (λ row. row.now) found ≡ row_at rows table key) }
         ensures gone { is_err result ≡ is_gone self.now };
 
-    /// How many rows a look covers, modulo 2^64.
+    /// Counts the rows that a look covers, modulo 2^64.
     fn count(&self, look: Look) -> Result<u64, Gone>
         ensures counted { (rows : Rows) → answers_from self.now rows
             → IfOk result (λ count. count ≡ count_in look rows % 2 ^ 64) }
         ensures gone { is_err result ≡ is_gone self.now };
 
-    /// The key and the row of the least key that a look covers, where there is one.
+    /// The key and the row of the least key that a look covers, where there is such a row.
     fn next(&self, look: Look) -> Result<Option<(u64, &[u8])>, Gone>
         ensures found { (rows : Rows) → answers_from self.now rows
             → IfOk result (λ found.
@@ -40,7 +40,7 @@ pub trait Store {
         ensures gone { is_err result ≡ is_gone self.now };
 }
 
-/// Rows that are gone, whatever they are: what an instruction that looks at none can do without a store.
+/// A store whose rows are gone, whatever they are. An instruction that looks at no row can run over such a store.
 #[derive(Clone, Copy, Debug, PartialEq, Eq, Drop)]
 pub struct NoStore;
 

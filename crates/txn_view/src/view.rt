@@ -12,12 +12,12 @@ use row_sets::{ReadSet, WriteSet};
 use schema::after_one_more_write;
 use std::alloc::{AllocError, Allocator, Global};
 
-/// What a call has looked at, written and cancelled.
+/// The looks, the writes and the cancel code of a call.
 #[derive(Drop)]
 pub struct Own<A: Allocator + Copy = Global> {
     pub looks: ReadSet<A>,
     pub writes: WriteSet<A>,
-    /// The last cancel code, where it cancelled.
+    /// The last cancel code, where the call cancelled.
     pub cancel_code: Option<u64>,
 }
 
@@ -36,7 +36,7 @@ pub struct View<S: Store, A: Allocator + Copy = Global> {
 }
 
 impl<A: Allocator + Copy> Own<A> {
-    /// Nothing was looked at, written or cancelled. Takes no memory.
+    /// Makes the parts of a call that has looked at nothing, written nothing and not cancelled. Takes no memory.
     pub fn new(alloc: A) -> Own<A>
         ensures { result ≡ record { looks = []; writes = empty; cancel_code = None } }
     {
@@ -47,8 +47,8 @@ impl<A: Allocator + Copy> Own<A> {
         }
     }
 
-    /// What the call has looked at, what it has written, and its cancel code. A call that cancelled has
-    /// written nothing. Takes no memory.
+    /// Returns the looks of the call, its writes, and its cancel code. A call that cancelled has written nothing. Takes
+    /// no memory.
     pub fn finish(self) -> (ReadSet<A>, WriteSet<A>, Option<u64>)
         ensures looks { result.0 ≡ self.looks }
         ensures writes { result.1 ≡ unless_cancelled self.cancel_code self.writes empty }
@@ -67,7 +67,7 @@ impl<A: Allocator + Copy> Own<A> {
 }
 
 impl<S: Store, A: Allocator + Copy> View<S, A> {
-    /// The store, seen by a call that has done so much. Takes no memory.
+    /// The view that a call has of a store, where `own` is what the call has done so far. Takes no memory.
     pub fn over(store: S, own: Own<A>) -> View<S, A>
         ensures store { result.store ≡ store }
         ensures own { result.own ≡ own }
@@ -75,7 +75,7 @@ impl<S: Store, A: Allocator + Copy> View<S, A> {
         View { store, own }
     }
 
-    /// What the call has done so far, to go on later. Takes no memory.
+    /// Returns what the call has done so far, to go on later. Takes no memory.
     pub fn pause(self) -> Own<A>
     where
         S: Drop,
@@ -84,7 +84,7 @@ impl<S: Store, A: Allocator + Copy> View<S, A> {
         self.own
     }
 
-    /// As `Own::finish`.
+    /// Finishes the call as `Own::finish` does.
     pub fn finish(self) -> (ReadSet<A>, WriteSet<A>, Option<u64>)
     where
         S: Drop,
@@ -95,7 +95,7 @@ impl<S: Store, A: Allocator + Copy> View<S, A> {
         self.pause().finish()
     }
 
-    /// The row becomes these bytes.
+    /// Writes these bytes as the row at a key.
     pub fn put(&mut self, table: u8, key: u64, bytes: &[u8]) -> Result<(), AllocError>
         ensures written { (s : State) → IsViewOf (S.answers_from self.old.store) self.old.own s
             → IfOk result (λ _. IsViewOf (S.answers_from self.old.store) self.new.own
@@ -103,11 +103,12 @@ impl<S: Store, A: Allocator + Copy> View<S, A> {
         ensures unchanged { OnErr result (self.new.own ≡ self.old.own) }
         ensures store { self.new.store ≡ self.old.store }
     {
+        // Laws:
         after_one_more_write();
         self.own.writes.put(table, key, bytes)
     }
 
-    /// The row is removed. This is a write also where there is none.
+    /// Removes the row at a key. The removal is a write also where there is no row.
     pub fn remove(&mut self, table: u8, key: u64) -> Result<(), AllocError>
         ensures written { (s : State) → IsViewOf (S.answers_from self.old.store) self.old.own s
             → IfOk result (λ _. IsViewOf (S.answers_from self.old.store) self.new.own
@@ -115,11 +116,12 @@ impl<S: Store, A: Allocator + Copy> View<S, A> {
         ensures unchanged { OnErr result (self.new.own ≡ self.old.own) }
         ensures store { self.new.store ≡ self.old.store }
     {
+        // Laws:
         after_one_more_write();
         self.own.writes.remove(table, key)
     }
 
-    /// The call is cancelled with a code, in place of an earlier one. Takes no memory.
+    /// Cancels the call with a code, in place of an earlier code. Takes no memory.
     pub fn cancel(&mut self, code: u64)
         ensures cancelled { (s : State) → IsViewOf (S.answers_from self.old.store) self.old.own s
             → IsViewOf (S.answers_from self.old.store) self.new.own

@@ -14,14 +14,14 @@ mod programs;
 mod ranges;
 mod refinements;
 
-/// Asserts that a value is the one that is wanted. It stands in a function of its own, since a proof of many
+/// Asserts that a value is the one that is wanted. The assertion stands in a function of its own, since a proof of many
 /// comparisons in one function beside values to be dropped takes long.
 fn same<T: PartialEq + Debug + Copy>(rt: &impl Abort, case: &str, found: T, wanted: T) {
     assert_eq!(rt; found, wanted, "{case}");
 }
 
-/// What a case shows, a program, how many bytes its arguments have, the tables, and what the verifier, or the decoder
-/// before it, says.
+/// A case: what it shows, a program, the number of bytes of its arguments, the tables, and the answer of the verifier,
+/// or of the decoder before it.
 struct Case {
     name: &'static str,
     program: &'static str,
@@ -30,10 +30,11 @@ struct Case {
     verdict: &'static str,
 }
 
-/// A small program, how many bytes its arguments have, and what is said of it where table 1 has rows of 8 bytes.
+/// A small program, the number of bytes of its arguments, and what is said of the program where table 1 has rows of 8
+/// bytes.
 type Cause = (&'static str, u16, &'static str);
 
-/// What is said of a program, in a line.
+/// Returns what is said of a program, in a line.
 fn verdict(
     rt: &impl Abort,
     alloc: Global,
@@ -114,9 +115,9 @@ const EXIT: [u8; 8] = [0x95, 0, 0, 0, 0, 0, 0, 0];
 
 /// The longest programs, and one that is too long: a first slot, two that follow 2,047 times, and the end.
 static LONGEST: [([u8; 8], [[u8; 8]; 2], &[[u8; 8]], &str); 3] = [
-    // It ends at once.
+    // The first of these programs ends at once.
     (SET, [EXIT, EXIT], &[EXIT], "accepted slots 4096 bound 2"),
-    // It jumps to the next instruction in every other slot.
+    // This program jumps to the next instruction in every other slot.
     (SET, [JUMP, SET], &[EXIT], "accepted slots 4096 bound 4096"),
     (SET, [EXIT, EXIT], &[EXIT, EXIT], "B2 slot 0"),
 ];
@@ -161,7 +162,7 @@ fn is_as_given(rt: &impl Abort, accepted: &Accepted, schema: &Schema) {
     same(rt, "bound", accepted.bound(), 2);
 }
 
-/// What was accepted is what was given, and the copy of the schema is its own.
+/// The accepted program is the given one, and its copy of the schema is its own.
 #[test]
 fn what_is_accepted_is_what_was_given(rt: HostRuntime) {
     let code = code_of(&rt, rt.alloc(), ONE);
@@ -170,7 +171,7 @@ fn what_is_accepted_is_what_was_given(rt: HostRuntime) {
     is_as_given(&rt, &accepted, &schema);
 }
 
-/// Whether a program is accepted. Where it isn't, memory was refused.
+/// Tells whether a program is accepted. Where it isn't, memory was refused.
 fn is_accepted(rt: &impl Abort, alloc: Global, scarce: &Scarce, schema: &Schema<&Scarce>) -> bool {
     let code = code_of(rt, alloc, ONE);
     let refusal = verify(scarce, code, schema, 0).err();
@@ -178,7 +179,7 @@ fn is_accepted(rt: &impl Abort, alloc: Global, scarce: &Scarce, schema: &Schema<
     refusal.is_none()
 }
 
-/// Verifying takes memory three times: for what is known before the slots, the copy of the schema, and the layout.
+/// A verification takes memory three times: for what is known before the slots, the copy of the schema, and the layout.
 #[test]
 fn each_refused_growth_is_want_of_memory(rt: HostRuntime) {
     let scarce = Scarce::new(rt.alloc());
@@ -190,7 +191,7 @@ fn each_refused_growth_is_want_of_memory(rt: HostRuntime) {
     }
 }
 
-/// Programs, their one byte of arguments, what they reply, and in how many steps.
+/// Programs, their one byte of arguments, what they reply, and the number of steps.
 static REPLIES: [(&str, u8, u64, usize); 3] = [
     (STORE_WITHIN, 0, 1, 8),
     (STORE_WITHIN, 3, 0, 8),
@@ -206,7 +207,7 @@ fn run_of(rt: &impl Abort, alloc: Global, program: &str, args: &[u8]) -> Option<
     run.map(|run| (run.reply(), run.steps()))
 }
 
-/// What programs that are accepted reply, by the plain runner.
+/// Accepted programs reply, by the plain runner, what is wanted.
 #[test]
 fn accepted_programs_reply(rt: HostRuntime) {
     for (program, args, reply, steps) in &REPLIES {

@@ -13,8 +13,8 @@ use bpf_code::Instruction;
 use flat_code::FlatInstruction;
 
 impl WordState {
-    /// An instruction that is no call and doesn't end the program. One of the states that this one stands for has a
-    /// step, and of each that has one it stands for what comes next.
+    /// Runs an instruction that is no call and doesn't end the program. Some state that these words stand for must have
+    /// a step. For each such state the words stand for the next state afterwards.
     #[inline(always)]
     pub fn execute(&mut self, instruction: Instruction)
         requires slot { self.old.slot < 2 ^ 32 }
@@ -30,7 +30,7 @@ impl WordState {
         }
     }
 
-    /// To the slot this far past the next one. No program jumps backwards.
+    /// Jumps to the slot this far past the next one. No program jumps backwards.
     fn long_jump(&mut self, distance: i32)
         requires { self.old.slot < 2 ^ 32 }
         ensures { (tables : Tables) (s : State) → Holds s self.old

@@ -15,10 +15,11 @@ use bpf_words::{BinaryOperation as Binary, Condition as If};
 use flat_code::{FlatInstruction, Kind};
 
 impl WordState {
-    /// The instruction at this slot: which slot is next, or none, with nothing done, where it isn't plain. The slot of
-    /// the state says nothing meanwhile.
+    /// Runs the instruction at this slot, and returns the next slot; does nothing, and returns none, where the
+    /// instruction isn't plain. The slot of the state says nothing meanwhile.
     ///
-    /// One match over all kinds is one jump, and what it leads to is copied in with width and operator as constants.
+    /// One match over all kinds is one jump, and the code that the jump leads to is copied in with width and operator
+    /// as constants.
     #[inline(always)]
     #[tactic(auto, unfolding(flat_code::specs::Flat::instruction_by))]
     pub(crate) fn execute_flat(

@@ -1,8 +1,9 @@
-//! What each kind of plain instruction does: each takes the slot and the one behind it, and answers which is next.
+//! The actions of the kinds of plain instructions. Each takes the slot and the slot behind it, and answers the next
+//! slot.
 //!
-//! They are inlined by a hint. Were they always inlined, the match over all kinds would count as too large to be, and
-//! each instruction would cost a call. Which register is set is read before its word is made, and what is stored before
-//! the address: arms that end alike are joined behind one jump more.
+//! The functions are inlined by a hint. Were they always inlined, the match over all kinds would count as too large to
+//! be inlined, and each instruction would cost a call. The register that is set is read before its word is made, and
+//! the stored value before the address: arms that end alike are joined behind one jump more.
 
 ghost use Rattle.std.specs.Prelude.{◌≡◌, ◌+◌, ◌^◌, ◌<◌};
 ghost use Rattle.bpf_code.specs.declared.instruction.Instruction.TheVariants.{Load, StoreImmediate, StoreRegister};
@@ -22,7 +23,7 @@ use bpf_words::{BinaryOperation, ByteOrder, Condition, EndWidth, Operation, end}
 use flat_code::FlatInstruction;
 
 impl WordState {
-    /// The next slot, with this word in a register.
+    /// Sets a register to this word, and returns the next slot.
     #[inline]
     fn with_result(&mut self, at: usize, next: usize, dst: Register, word: u64) -> usize
         requires slot { at < 2 ^ 32 }
@@ -142,7 +143,7 @@ impl WordState {
             .wrapping_add(i64::from(offset).cast_unsigned())
     }
 
-    /// The slot so far past the next one. No program jumps backwards.
+    /// The slot `distance` slots past the next one. No program jumps backwards.
     #[inline]
     fn target(&self, at: usize, next: usize, distance: i16) -> usize
         requires slot { at < 2 ^ 32 }

@@ -1,4 +1,4 @@
-//! What holding a state tells.
+//! The laws of words that hold a state.
 
 ghost use Rattle.std.specs.Prelude.{◌≡◌, ◌≢◌, ℕ, Some, None};
 ghost use Rattle.bpf_code.specs.declared.instruction.Register.{Register};
@@ -12,7 +12,7 @@ ghost use Rattle.bpf_semantics.specs.Helpers.{buffer_of};
 ghost use Rattle.vm_state.specs.Words.{Words, Holds, IsWordOf, word};
 ghost use Rattle.vm_state.specs.Access.{InStack};
 
-/// The word in a register is that of the state's value there, and the word of a number is the number.
+/// The word in a register is the word of the state's value there, and the word of a number is the number.
 #[tactic(auto, using(crate::proofs::Holding::word_holds))]
 pub fn registers_are_held()
     ensures register { (s : State) (m : Words) (r : Register) → Holds s m
@@ -27,12 +27,12 @@ pub fn the_reply_is_r0()
         → execute tables Exit s ≡ Ended reply t → word m R0 ≡ reply }
 {}
 
-/// Where the definition finds a buffer whole inside the stack, the word lies there too.
+/// The word of a buffer lies in the stack, where the definition finds the buffer whole inside the stack.
 pub fn buffers_lie_in_the_stack()
     ensures { (v : Value) (w count : ℕ) → IsWordOf v w → buffer_of v count ≢ None → InStack w count }
 {}
 
-/// Whether a state is held depends on its slot, registers, stack and arguments alone.
+/// The slot, the registers, the stack and the arguments alone decide whether words hold a state.
 pub fn holding_speaks_of_words_alone()
     ensures { (s t : State) (m : Words) → t.slot ≡ s.slot → t.registers ≡ s.registers
         → t.stack ≡ s.stack → t.args ≡ s.args → Holds s m → Holds t m }

@@ -15,9 +15,9 @@ use flat_code::FlatInstruction;
 use std::alloc::Allocator;
 
 impl WordState {
-    /// Runs on by the program's layout, up to the next call, long jump or end, which is left to be run, and tells how
-    /// many instructions that were. One of the states that this one stands for never gets stuck, and of each that
-    /// doesn't it stands for what is reached.
+    /// Runs on by the program's layout, up to the next call, long jump or end, and returns the number of instructions
+    /// that were run. The call, long jump or end is left to be run. Some state that these words stand for must never
+    /// get stuck. For each such state the words stand for the reached state afterwards.
     #[inline(never)]
     pub fn run_plain<A: Allocator>(&mut self, code: &Code<A>, layout: &[FlatInstruction]) -> u32
         requires layout { LaidOut code.now layout.now }
@@ -44,7 +44,8 @@ impl WordState {
         }
     }
 
-    /// The instruction at this slot of the layout: which slot is next, or none, with nothing done, if it isn't plain.
+    /// Runs the instruction at this slot of the layout, and returns the next slot; does nothing, and returns none,
+    /// where the instruction isn't plain.
     #[inline(always)]
     fn execute_at<A: Allocator>(
         &mut self,

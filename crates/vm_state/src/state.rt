@@ -25,8 +25,8 @@ const STACK_END: u64 = 1 << 40;
 /// The address of the first argument.
 const ARGS_START: u64 = 1 << 41;
 
-/// How many bytes lie behind each other: the arguments from 0 on, and the stack from 512 on. Nobody reads or writes what
-/// is between.
+/// The number of bytes of the memory, with the arguments from 0 on and the stack from 512 on. Nobody reads or writes
+/// the bytes between.
 const MEMORY_BYTES: usize = 1024;
 
 /// A run's state in bare words.
@@ -36,7 +36,7 @@ pub struct WordState {
     registers: [u64; 11],
     /// The arguments, and behind them the stack.
     memory: [u8; MEMORY_BYTES],
-    /// How many bytes of arguments there are.
+    /// The number of bytes of the arguments.
     args_len: usize,
 }
 
@@ -72,8 +72,8 @@ impl WordState {
         }
     }
 
-    /// The state in which a run on these arguments begins, in the memory of this one. What its run left in the stack
-    /// stays there: no accepted program reads a byte that its own run hasn't written.
+    /// Makes these words the state in which a run on these arguments begins, in the same memory. Bytes that an earlier
+    /// run left in the stack stay there: no accepted program reads a byte that its own run hasn't written.
     pub fn restart(&mut self, args: &[u8])
         requires { length args.now ≤ MAX_ARGUMENTS }
         ensures { (rows : Rows) → Holds (entry_state args.now rows) self.new }
@@ -91,14 +91,14 @@ impl WordState {
         self.slot
     }
 
-    /// What a register holds.
+    /// Returns the word that a register holds.
     pub fn word(&self, register: Register) -> u64
         ensures { result ≡ word self.now register }
     {
         self.registers[usize::from(register.number())]
     }
 
-    /// So many slots on.
+    /// Moves `slots` slots on.
     pub(crate) fn advance(&mut self, slots: usize)
         requires slot { self.old.slot < 2 ^ 32 }
         requires slots { slots ≤ 2 ^ 32 }
@@ -172,7 +172,7 @@ impl WordState {
         self.put(address, &bytes[..usize::from(size.bytes())]);
     }
 
-    /// The next instruction, with a call's answer in r0. What r1 to r5 hold from then on says nothing.
+    /// Moves to the next instruction, with a call's answer in r0. The words in r1 to r5 say nothing from then on.
     #[tactic(auto, using(crate::proofs::Holding::answer_holds))]
     pub fn answer(&mut self, answer: u64)
         requires { self.old.slot < 2 ^ 32 }
@@ -184,8 +184,8 @@ impl WordState {
     }
 }
 
-/// Where the byte at an address lies in the memory: its low ten bits say so. The stack's end and the first argument are
-/// 0 by them, so neither has to be told from the other, and nothing is added.
+/// Returns the index in the memory of the byte at an address, by the low ten bits of the address. The stack's end and
+/// the first argument are 0 by them, so neither has to be told from the other, and nothing is added.
 #[inline(always)]
 fn place(address: u64) -> usize
     ensures { result ≡ address % 1024 }
@@ -193,7 +193,7 @@ fn place(address: u64) -> usize
     (address % 1024) as usize
 }
 
-/// So many bytes of a memory, from an address on.
+/// The bytes of a memory, `count` of them, from an address on.
 #[inline(always)]
 fn part(memory: &[u8], address: u64, count: usize) -> &[u8]
     requires { address % 1024 + count ≤ length memory.now }
@@ -212,7 +212,7 @@ fn write(memory: &mut [u8], from: usize, bytes: &[u8])
     memory[from..from + bytes.len()].copy_from_slice(bytes);
 }
 
-/// These arguments, with zeros behind them.
+/// Returns a memory of these arguments, with zeros behind them.
 fn memory_with(args: &[u8]) -> [u8; MEMORY_BYTES]
     requires { length args.now ≤ MAX_ARGUMENTS }
     ensures { args_of (length args.now) result ≡ args.now }

@@ -1,4 +1,4 @@
-//! What operations give on words.
+//! The results of operations on words.
 
 ghost use Rattle.std.specs.Prelude.{◌≡◌, ◌≤◌, length};
 ghost use Rattle.byteorder.specs.Endian.{little_number};
@@ -22,7 +22,7 @@ pub fn arithmetic(width: Width, op: Operation, a: u64, b: u64) -> u64
     }
 }
 
-/// Whether a condition holds between two words, of which the width's bits count (RFC 9669 section 4.3).
+/// Tells whether a condition holds between two words, of which the width's bits count (RFC 9669 section 4.3).
 pub fn holds(width: Width, condition: Condition, a: u64, b: u64) -> bool
     ensures { result ≡ holds (width_bits width) condition a b }
 {

@@ -52,7 +52,7 @@ pub record CanGoOn {A : Type 0} (w : Setting) (log : Log) (accepted : Procedure)
 -- ---- its beginning
 
 -- a call that has run nothing yet
-abbrev pub call_before_its_run : (replica number procedure : ℕ) → List ℕ → (snapshot : ℕ) → RequestId → OpenCall
+abbrev pub call_before_its_run : (replica number procedure : ℕ) → List ℕ → (snapshot : ℕ) → Option RequestId → OpenCall
 call_before_its_run replica number procedure args snapshot request = record {
   replica = replica;
   call = record { number = number; procedure = procedure; args = args; snapshot = snapshot; request = request };

@@ -23,24 +23,24 @@ use txn_view::{Own, Store, View};
 /// A call that isn't over, or, once it was completed, what is left of it: another may begin in its memory.
 #[derive(Drop)]
 pub struct OpenCall<A: Allocator + Copy = Global> {
-    /// The number of its replica.
+    /// The number of the call's replica.
     pub replica: u32,
-    /// Its number among all calls of its world.
+    /// The number of the call among all calls of its world.
     pub number: u32,
     /// The procedure's number.
     pub procedure: u16,
     pub args: Bytes<A>,
-    /// The position whose rows it reads.
+    /// The position whose rows the call reads.
     pub snapshot: u32,
-    pub request: RequestId,
-    /// How many instructions it has run.
+    pub request: Option<RequestId>,
+    /// The number of instructions that the call has run.
     pub turns: u32,
     pub machine: Machine,
-    /// What it has done so far.
+    /// The looks, writes and cancel code of the call so far.
     pub own: Own<A>,
 }
 
-/// Whether a call isn't over after a turn that answered this.
+/// Tells whether a call isn't over after a turn that answered this.
 pub fn stays_open(turn: Turn) -> bool
     ensures { result ≡ stays_open turn }
 {
@@ -60,7 +60,7 @@ impl<A: Allocator + Copy> OpenCall<A> {
         accepted: &Accepted<P, Q>,
         args: &[u8],
         snapshot: u32,
-        request: RequestId,
+        request: Option<RequestId>,
     ) -> Result<OpenCall<A>, AllocError>
         requires { length args.now ≡ accepted.now.args_len }
         ensures begun { IfOk result (λ c. open_call_of c
@@ -84,7 +84,7 @@ impl<A: Allocator + Copy> OpenCall<A> {
         })
     }
 
-    /// A call as `begin` has it, in the memory of this one, which it takes the place of.
+    /// Begins a call as `begin` does, in the memory of this call, whose place it takes.
     pub fn begin_again<P: Allocator, Q: Allocator>(
         &mut self,
         alloc: A,
@@ -94,7 +94,7 @@ impl<A: Allocator + Copy> OpenCall<A> {
         accepted: &Accepted<P, Q>,
         args: &[u8],
         snapshot: u32,
-        request: RequestId,
+        request: Option<RequestId>,
     ) -> Result<(), AllocError>
         requires { length args.now ≡ accepted.now.args_len }
         ensures begun { OnOk result (open_call_of self.new
@@ -118,8 +118,8 @@ impl<A: Allocator + Copy> OpenCall<A> {
         Ok(())
     }
 
-    /// The next instruction, where there is one, on the rows of the snapshot; none after the end, which is answered
-    /// again.
+    /// Runs the next instruction, where there is one, on the rows of the snapshot. No instruction is run after the end,
+    /// which is answered again.
     pub fn turn<P: Allocator, Q: Allocator, S: Store + Drop>(
         &mut self,
         alloc: A,
@@ -139,8 +139,8 @@ impl<A: Allocator + Copy> OpenCall<A> {
         }
     }
 
-    /// Runs to the end, on the rows of the snapshot, as turns would until one doesn't answer that there is more: what
-    /// that one answers. Nothing is run after the end, which is answered again.
+    /// Runs to the end, on the rows of the snapshot, as turns would until one doesn't answer that there is more, and
+    /// gives that answer. No instruction is run after the end, which is answered again.
     pub fn run<P: Allocator, Q: Allocator, S: Store + Drop>(
         &mut self,
         alloc: A,
@@ -179,6 +179,7 @@ impl<A: Allocator + Copy> OpenCall<A> {
             → stays_open result ≡ true → CanGoOn w log accepted.now (S.answers_from store) self.new }
         ensures last { self.new.machine.last ≡ result }
     {
+        // Laws:
         accepted_programs_never_go_wrong();
         runs_are_short();
         accepted.known();
@@ -193,7 +194,7 @@ impl<A: Allocator + Copy> OpenCall<A> {
         end.last
     }
 
-    /// The next instruction.
+    /// Runs the next instruction.
     fn advance<P: Allocator, Q: Allocator, S: Store + Drop>(
         &mut self,
         alloc: A,
@@ -208,10 +209,12 @@ impl<A: Allocator + Copy> OpenCall<A> {
             → stays_open result ≡ true → CanGoOn w log accepted.now (S.answers_from store) self.new }
         ensures last { self.new.machine.last ≡ result }
     {
+        // Laws:
         accepted_programs_never_go_wrong();
         accepted.known();
         let own = mem::replace(&mut self.own, Own::new(alloc));
         let mut view = View::over(store, own);
+        // Laws:
         open_calls_can_turn(&view);
         let turn = self.machine.turn(accepted, &mut view);
         self.own = view.pause();
@@ -227,6 +230,7 @@ impl<A: Allocator + Copy> OpenCall<A> {
             → IsReplyOf w log (open_call_of self.now) result }
         ensures exit { IfSome result (λ reply. self.now.machine.last ≡ Exit reply) }
     {
+        // Laws:
         accepted_programs_never_go_wrong();
         match self.machine.last() {
             Turn::Exit(reply) => Some(reply),
@@ -234,7 +238,8 @@ impl<A: Allocator + Copy> OpenCall<A> {
         }
     }
 
-    /// What comes of a call that is at its end: its arguments, looks and writes are taken out. Takes no memory.
+    /// Returns the completion of a call that is at its end: its arguments, looks and writes are taken out. Takes no
+    /// memory.
     pub fn complete(&mut self, alloc: A) -> Completion<A>
         requires { (reply : ℕ) × (self.old.machine.last ≡ Exit reply) }
         ensures completion { (w : Setting) (log : Log) → Follows w log self.old
@@ -242,6 +247,7 @@ impl<A: Allocator + Copy> OpenCall<A> {
         ensures left { self.new
             ≡ record self.old { args = []; own = record { looks = []; writes = empty; cancel_code = None } } }
     {
+        // Laws:
         states_fit();
         let Turn::Exit(reply) = self.machine.last() else {
             unreachable!()

@@ -14,7 +14,7 @@ mod refused;
 /// Arguments by which 10 is added to the row at key 5.
 const ADD_TEN: [u8; 16] = [5, 0, 0, 0, 0, 0, 0, 0, 10, 0, 0, 0, 0, 0, 0, 0];
 
-/// Arguments by which 7 is added to it.
+/// Arguments by which 7 is added to the same row.
 const ADD_SEVEN: [u8; 16] = [5, 0, 0, 0, 0, 0, 0, 0, 7, 0, 0, 0, 0, 0, 0, 0];
 
 /// A call that adds 10, at replica 1.
@@ -31,7 +31,7 @@ const BEGIN_SEVEN: Step<'static> = Step::Begin {
     args: &ADD_SEVEN,
 };
 
-/// Asserts that a value is the one that is wanted. It stands in a function of its own, since a proof of many
+/// Asserts that a value is the one that is wanted. The assertion stands in a function of its own, since a proof of many
 /// comparisons in one function beside values to be dropped takes long.
 fn same<T: PartialEq + Debug + Copy>(rt: &impl Abort, case: &str, found: T, wanted: T) {
     assert_eq!(rt; found, wanted, "{case}");
@@ -43,7 +43,7 @@ fn two_replicas<A: Allocator + Copy>(rt: &impl Abort, alloc: A) -> World<A> {
     World::new(alloc, 2, 4, catalogue).expect(rt, "memory")
 }
 
-/// Steps, each as often as it says.
+/// Steps, each with the number of times that it is taken.
 type Script = &'static [(Step<'static>, usize)];
 
 fn steps_of(rt: &impl Abort, alloc: Global, script: Script) -> Vec<Step<'static>> {
@@ -56,7 +56,7 @@ fn steps_of(rt: &impl Abort, alloc: Global, script: Script) -> Vec<Step<'static>
     steps
 }
 
-/// Takes steps by one call, and adds what they are answered, but for turns after which there are more.
+/// Takes steps by one call, and adds their answers, but for turns after which there are more.
 fn run_script<A: Allocator + Copy>(
     rt: &impl Abort,
     alloc: Global,

@@ -12,27 +12,27 @@ use test_worlds::{
 };
 use txn_view::{Gone, Store};
 
-/// How many worlds are drawn.
+/// The number of worlds that are drawn.
 const WORLDS: u64 = 720;
 
-/// Where a world isn't what the plain replay says.
+/// The place at which a world isn't what the plain replay says.
 #[derive(Clone, Copy, Debug, PartialEq, Eq)]
 enum Difference {
     None,
     /// An outcome has another number or position than the next one.
     Numbers,
     Replies,
-    /// What a call replied that only read.
+    /// The reply of a call that only read.
     Reads,
     Verdicts,
-    /// What a replica says of the calls that were delivered to it.
+    /// The certifications that a replica has of the calls that were delivered to it.
     Certifications,
     /// The rows of a replica before it is brought to the end of the log.
     Rows,
     LastRows,
 }
 
-/// Whether what stands at a position of the world's log is what was ordered, a call with the reply that it answered,
+/// Tells whether the entry at a position of the world's log is what was ordered. A call has the reply that it answered,
 /// which is that of its run in the replay.
 fn is_logged(
     entry: Option<&Entry<&Scarce>>,
@@ -52,7 +52,7 @@ fn is_logged(
     }
 }
 
-/// Whether all that was ordered stands in the world's log.
+/// Tells whether all that was ordered stands in the world's log.
 fn has_replies(world: &World<&Scarce>, history: &History, reports: &[ItemReport]) -> bool {
     let mut position = 0u32;
     for (ordered, report) in history.ordered.iter().zip(reports) {
@@ -64,7 +64,7 @@ fn has_replies(world: &World<&Scarce>, history: &History, reports: &[ItemReport]
     history.ordered.len() == reports.len() && world.log_len() == position
 }
 
-/// Whether a replica is at the end of the log, and says of each call what the replay says.
+/// Tells whether a replica is at the end of the log, and says of each call what the replay says.
 fn says_the_same(replica: &Replica<&Scarce>, reports: &[ItemReport]) -> bool {
     let last = replica.position();
     let mut position = 0u32;
@@ -99,7 +99,7 @@ fn finds<S: Store>(store: &S, row: &Row) -> bool {
     }
 }
 
-/// Whether each of these rows is found.
+/// Tells whether each of these rows is found.
 fn finds_rows<S: Store>(store: &S, rows: &[Row]) -> bool {
     for row in rows {
         if !finds(store, row) {
@@ -109,8 +109,8 @@ fn finds_rows<S: Store>(store: &S, rows: &[Row]) -> bool {
     true
 }
 
-/// Whether a replica that has come to a position shows the rows of the replay after one before it, and none after one
-/// to which it hasn't come. Rows are gone where more than the window came since.
+/// Tells whether a replica that has come to a position shows the rows of the replay after a position before it. No rows
+/// may be shown after a position to which the replica hasn't come. Rows are gone where more than the window came since.
 fn shows_rows(
     drawn: &DrawnWorld<'_>,
     replay: &CompletedReplay,
@@ -128,8 +128,8 @@ fn shows_rows(
     shown && drawn.world.at(number, last.saturating_add(1)).is_none()
 }
 
-/// Whether these are the rows of the replay after the position of a replica, which shows those after positions before
-/// it.
+/// Tells whether these are the rows of the replay after the position of a replica, which shows the rows after positions
+/// before it.
 fn has_listed(
     drawn: &DrawnWorld<'_>,
     replay: &CompletedReplay,
@@ -144,7 +144,7 @@ fn has_listed(
         && shows_rows(drawn, replay, number, last, last)
 }
 
-/// Whether a replica has the rows of the replay after its position, and shows those after positions before it.
+/// Tells whether a replica has the rows of the replay after its position, and shows the rows after positions before it.
 fn has_rows(
     rt: &impl Abort,
     alloc: Global,
@@ -158,7 +158,7 @@ fn has_rows(
     }
 }
 
-/// Whether each replica has the rows of the replay, and there are no more replicas.
+/// Tells whether each replica has the rows of the replay, and there are no more replicas.
 fn have_rows(
     rt: &impl Abort,
     alloc: Global,
@@ -175,7 +175,8 @@ fn have_rows(
     true
 }
 
-/// Where the answers of a world, and its replicas at the end of the log, aren't what the replay says.
+/// Returns the place at which the answers of a world, and its replicas at the end of the log, aren't what the replay
+/// says.
 fn difference_of_answers(drawn: &DrawnWorld<'_>, replay: &CompletedReplay) -> Difference {
     let reports = replay.reports();
     for replica in drawn.world.replicas() {
@@ -196,7 +197,8 @@ fn difference_of_answers(drawn: &DrawnWorld<'_>, replay: &CompletedReplay) -> Di
     }
 }
 
-/// Where a world isn't what this replay of its log says, before and after its replicas are brought to the end.
+/// Returns the place at which a world isn't what this replay of its log says, before and after its replicas are brought
+/// to the end.
 fn difference_to(
     rt: &impl Abort,
     alloc: Global,
@@ -244,7 +246,7 @@ fn compare(
     found
 }
 
-/// How many kinds of outcomes came more than 100 times.
+/// Returns the number of kinds of outcomes that came more than 100 times.
 fn common(kinds: &[u32; KINDS]) -> usize {
     kinds.iter().filter(|count| **count > 100).count()
 }
@@ -257,7 +259,7 @@ fn worlds_come_to_what_the_plain_replay_says(rt: HostRuntime) {
         let found = compare(&rt, rt.alloc(), seed, &mut kinds, &mut events);
         assert_eq!(rt; found, Difference::None, "seed {seed}");
     }
-    // All but a full log and too many calls.
+    // Every kind but a full log and too many calls is common.
     assert_eq!(rt; common(&kinds), KINDS - 2, "{kinds:?}");
     assert!(rt; events.all_above(100), "{events:?}");
 }

@@ -235,7 +235,7 @@ fn test_programs_are_their_listings(rt: HostRuntime) {
     }
 }
 
-/// Takes so many bytes, then fails.
+/// An output that takes a number of bytes, then fails.
 #[derive(Drop)]
 struct Failing {
     room: usize,
@@ -266,7 +266,7 @@ fn is_written(code: &Code, room: usize) -> bool {
     listing(code, &mut Failing { room }).is_ok()
 }
 
-/// So many bytes, whether the lines are given to a page, and whether they are written.
+/// The room of an output in bytes, whether the lines are given to a page, and whether they are written.
 static ROOMS: [(usize, bool, bool); 5] = [
     (0, false, false),
     (4079, false, false),

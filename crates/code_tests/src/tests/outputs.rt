@@ -6,7 +6,7 @@ use std::io;
 use std::io::{ErrorKind, Write};
 use std::process::Abort;
 
-/// What a write answers in turn: so many bytes, an interruption or a failure.
+/// The answer of a write: a number of bytes, an interruption or a failure.
 #[derive(Clone, Copy)]
 enum Turn {
     Takes(usize),
@@ -43,7 +43,7 @@ impl Write for Scripted {
     }
 }
 
-/// The turns are given from the last to the first.
+/// Makes an output of turns, of which the last is answered first.
 fn output_of(rt: &impl Abort, alloc: Global, turns: &[Turn]) -> Scripted {
     Scripted {
         turns: turns.to_vec(alloc).expect(rt, "the turns"),
@@ -56,7 +56,7 @@ fn holds(rt: &impl Abort, output: &Scripted, wanted: &[u8]) {
     assert_eq!(rt; output.held.as_slice(), wanted);
 }
 
-/// Whether a text was written. The output then holds so much of it.
+/// Returns the answer of a write of a text. The output holds `held` then.
 fn writes(rt: &impl Abort, alloc: Global, turns: &[Turn], held: &[u8]) -> io::Result<()> {
     let mut output = output_of(rt, alloc, turns);
     let answer = put(&mut output, b"hello");
@@ -120,7 +120,7 @@ fn give(rt: &impl Abort, output: &mut Scripted, text: &[u8], times: usize) {
     pages.finish().expect(rt, "the end");
 }
 
-/// A text that is given so many times leaves so many of five writes.
+/// Asserts that a text that is given `times` times leaves `left` of five writes.
 fn leaves(rt: &impl Abort, alloc: Global, text: &[u8], times: usize, left: usize) {
     let mut output = output_of(rt, alloc, &FIVE);
     give(rt, &mut output, text, times);
@@ -134,7 +134,7 @@ fn leaves(rt: &impl Abort, alloc: Global, text: &[u8], times: usize, left: usize
     );
 }
 
-/// Small texts leave in one write, and one that is longer than a page by itself.
+/// Small texts leave in one write, and a text that is longer than a page leaves by itself.
 #[test]
 fn a_page_is_kept_in_front_of_the_output(rt: HostRuntime) {
     leaves(&rt, rt.alloc(), b"", 3, 5);

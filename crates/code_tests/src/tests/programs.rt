@@ -1,4 +1,4 @@
-// What no clause says: that the definitions are the format's, what is printed, and that each call succeeds.
+// Tests of what no clause says: that the definitions are the format's, what is printed, and that each call succeeds.
 use super::same;
 use bpf_bytes::{DecodeCause, DecodeFault, Opcode, Uses, decode, encode};
 use bpf_code::{Code, Instruction, Register, SignExtendingMove, Size, Source, Width};
@@ -306,7 +306,7 @@ fn the_longest_program(rt: HostRuntime) {
     same(&rt, "fault", (fault.cause.number(), fault.slot), (2, 0));
 }
 
-// Whether a slot of this opcode is refused since there is no such.
+// Tells whether a slot of this opcode is refused since there is no such opcode.
 fn is_unknown(alloc: Global, opcode: u8) -> bool {
     match decode(alloc, &[opcode, 0, 0, 0, 0, 0, 0, 0]) {
         Ok(_) => false,
@@ -460,7 +460,7 @@ fn instructions(rt: HostRuntime) {
     same(&rt, "no slot", code.at(usize::MAX), None);
 }
 
-// Whether the program was decoded. Where it wasn't, memory was refused.
+// Tells whether the program was decoded. Where it wasn't, memory was refused.
 fn is_decoded(rt: &impl Abort, scarce: &Scarce, bytes: &[u8]) -> bool {
     match decode(scarce, bytes) {
         Ok(code) => {

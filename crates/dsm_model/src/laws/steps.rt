@@ -1,6 +1,6 @@
-//! Laws of each step of the world: which answers it may give, when it gives which, and what it leaves. Where memory
-//! suffices, the conditions of a step's answers exclude each other, so that each is given exactly there; want of memory
-//! comes only in place of an answer that takes some.
+//! Laws of each step of the world: the answers that a step may give, the conditions of each answer, and what the step
+//! leaves. Where memory suffices, the conditions of a step's answers exclude each other, so that each is given exactly
+//! there. Want of memory comes only in place of an answer that takes memory.
 
 ghost use Rattle.std.specs.Prelude.{◌≡◌, ◌≢◌, ◌⊎◌, ◌↔◌, ◌+◌, ◌<◌, ◌≤◌, ℕ, ℤ, true, false, List, [], ◌∷◌, ◌++◌, length};
 ghost use Rattle.std.specs.Prelude.{Option, Some, None, IsSome, IsTrue};
@@ -27,13 +27,13 @@ ghost use Rattle.dsm_model.specs.World.{World, Replica, Step, Begin, Turn, Order
 ghost use Rattle.dsm_model.specs.World.{call_count, is_answer, numbered, position_of, open_call, with_open_call};
 ghost use Rattle.dsm_model.specs.World.{with_replica, IsStep};
 ghost use Rattle.log_model.specs.OpenCall.{OpenCall, makes_look, at_row_helper};
-ghost use Rattle.log_model.specs.OpenRequest.{or_none, has_zero};
+ghost use Rattle.log_model.specs.OpenRequest.{has_zero};
 ghost use Rattle.program_checks.specs.ProgramCheck.{ProgramCheck, Passed, Failed};
 
-/// A call begins as the next of the world's, at the position of its replica, with no instruction run. It doesn't where
-/// there is no such replica; else, where there is no such procedure at its position; else, where the arguments have
-/// another length than the procedure's; else, where its request has a 0; else, where the world has had all its calls
-/// and additions.
+/// A call begins as the next of the world's, at the position of its replica, with no instruction run. The call is
+/// refused where there is no such replica; else, where there is no such procedure at the replica's position; else,
+/// where the arguments have another length than the procedure's; else, where its request has a 0; else, where the world
+/// has had all its calls and additions.
 pub fn calls_begin_where_their_replica_is()
     ensures begun { (w : Setting) (before : World) (r procedure : ℕ) (args : List ℕ) (request : Option RequestId)
         (c snapshot : ℕ) (after : World)
@@ -53,7 +53,7 @@ pub fn calls_begin_where_their_replica_is()
               procedure = procedure;
               args = args;
               snapshot = snapshot;
-              request = or_none request;
+              request = request;
             };
             turns = 0;
           }) ∷ [];
@@ -87,10 +87,10 @@ pub fn calls_begin_where_their_replica_is()
         × (length args ≡ stored.args_len) × (has_zero request ≡ false) × (max_calls ≤ call_count before) }
 {}
 
-/// A turn is one instruction of the call's run on the rows of its snapshot: more, while there is a next one; else Exit
-/// with the run's reply, and so again. Before either, where the instruction looks at rows and the replica is more than
-/// the window past the snapshot, it is stale, and the call is over. Memory may be refused only where the instruction
-/// calls a helper that reads or writes rows, and the call is over too.
+/// A turn is one instruction of the call's run on the rows of its snapshot: more, while there is a next instruction;
+/// else Exit with the run's reply, and so again. The turn is stale where the instruction looks at rows and the replica
+/// is more than the window past the snapshot; the call is over then. Memory may be refused only where the instruction
+/// calls a helper that reads or writes rows; the call is over then too.
 pub fn turns_follow_the_run()
     ensures more { (w : Setting) (before : World) (c : ℕ) (after : World)
         → IsStep w before (Turn c) More after
@@ -124,9 +124,9 @@ pub fn turns_follow_the_run()
         → IsStep w before (Turn c) (Refused NoCall) after → open_call before c ≡ None }
 {}
 
-/// A call that has come to its end and is ordered is over. It is appended to the log, and its position answered, where
-/// its run wrote something and didn't cancel; where it cancelled, the code is answered, and where it wrote nothing, its
-/// reply.
+/// A call that has come to its end and is ordered is over. The call is appended to the log, and its position answered,
+/// where its run wrote something and didn't cancel. The code is answered where the run cancelled, and the reply where
+/// it wrote nothing.
 pub fn calls_are_ordered_at_their_end()
     ensures ordered { (w : Setting) (before : World) (c position : ℕ) (after : World)
         → IsStep w before (Order c) (Ordered position) after
@@ -162,8 +162,8 @@ pub fn calls_are_ordered_at_their_end()
         → IsStep w before (Order c) (Refused NoCall) after → open_call before c ≡ None }
 {}
 
-/// A replica that runs delivers the next position of the log, with its verdict; nothing, where it has delivered all of
-/// the log, and where it is stopped.
+/// A replica that runs delivers the next position of the log, with its verdict. No position is delivered where the
+/// replica has delivered all of the log, and where it is stopped.
 pub fn replicas_deliver_in_order()
     ensures delivered { (w : Setting) (before : World) (r position : ℕ) (v : Verdict) (after : World)
         → IsStep w before (Deliver r) (Delivered position v) after
@@ -191,9 +191,9 @@ pub fn rebuilt_replicas_are_at_the_end()
         → IsStep w before (Rebuild r) (Refused NoReplica) after → numbered before.replicas r ≡ None }
 {}
 
-/// An addition is appended to the log at once, and its position answered. It isn't where the world has had all its
-/// calls and additions; else, where its arguments would be longer than 256 bytes; else, where its program didn't pass
-/// the check; else, where its name isn't one.
+/// An addition is appended to the log at once, and its position answered. The addition is refused where the world has
+/// had all its calls and additions; else, where its arguments would be longer than 256 bytes; else, where its program
+/// didn't pass the check; else, where its name isn't one.
 pub fn additions_are_appended_at_once()
     ensures added { (w : Setting) (before : World) (name : List ℕ) (number args_len : ℕ) (checked : ProgramCheck)
         (position : ℕ)
@@ -233,7 +233,7 @@ pub fn each_step_has_its_answers()
         → IsStep w before step outcome after → IsTrue (is_answer step outcome) }
 {}
 
-/// Memory is wanted only in place of an answer that takes some.
+/// Memory is wanted only in place of an answer that takes memory.
 pub fn memory_is_wanted_in_place_of_an_answer()
     ensures begin { (w : Setting) (before : World) (r procedure : ℕ) (args : List ℕ) (request : Option RequestId)
         (after : World)

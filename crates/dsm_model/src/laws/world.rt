@@ -11,9 +11,9 @@ ghost use Rattle.dsm_model.specs.World.{World, Step, Turn, Order, first_world, o
 ghost use Rattle.log_model.specs.OpenCall.{OpenCall};
 ghost use Rattle.dsm_model.specs.Sound.{IsWorld, IsSound, IsSerialReply, IsGiven, AreGiven};
 
-/// Every list of steps leads from the first world to one in which the log is a log of calls of its procedures and of
-/// safe additions, no replica is past its end, and each open call is one whose replica has come as far as its
-/// snapshot.
+/// Every list of steps leads from the first world to a world of three properties. The log is a log of calls of its
+/// procedures and of safe additions. No replica is past its end, and the replica of each open call has come as far as
+/// the call's snapshot.
 pub fn steps_keep_a_world()
     ensures first { (w : Setting) (replicas : ℕ) → IsWorld w (first_world replicas) }
     ensures step { (w : Setting) (before : World) (step : Step) (outcome : Outcome) (after : World)
@@ -24,15 +24,15 @@ pub fn steps_keep_a_world()
         → IsWorld w after }
 {}
 
-/// In such a world each open call goes on well: it isn't stuck, it has run no more instructions than the longest
-/// path has, and after so many its run has ended with the reply of the run on the rows of its snapshot.
+/// Each open call of such a world goes on well: it isn't stuck, and has run no more instructions than the longest path
+/// has. After as many as the path has, its run has ended with the reply of the run on the rows of its snapshot.
 pub fn open_calls_are_sound()
     ensures { (w : Setting) (world : World) (c : ℕ) (o : OpenCall)
         → HasSafeProcedures w → IsWorld w world → open_call world c ≡ Some o → IsSound w world.log o }
 {}
 
-/// The reply that Exit answered, where the call is then ordered and commits, is that of its run on the rows just before
-/// it.
+/// The reply that Exit answered, where the call is then ordered and commits, is the reply of its run on the rows just
+/// before it.
 pub fn replies_are_serial()
     ensures { (w : Setting) (before : World) (steps : List Step) (outcomes : List Outcome)
         (after : World) (c i j position reply : ℕ)
@@ -44,7 +44,7 @@ pub fn replies_are_serial()
         → IsSerialReply w after.log position reply }
 {}
 
-/// A verdict that a delivery answered is that of the log, however much longer it has become.
+/// A verdict that a delivery answered is the log's, however much longer the log has become.
 pub fn delivered_verdicts_are_the_logs()
     ensures { (w : Setting) (before : World) (steps : List Step) (outcomes : List Outcome)
         (after : World) (j position : ℕ) (v : Verdict)

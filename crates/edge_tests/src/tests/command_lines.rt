@@ -2,7 +2,7 @@ use command_line::{Plan, PlanFault, explain, plan};
 use std::alloc::Global;
 use std::process::Abort;
 
-/// Words have to be this plan. (Who calls this has no plan to let go.)
+/// Asserts that words are this plan. (Who calls this has no plan to let go.)
 fn is_plan(rt: &impl Abort, alloc: Global, words: &[&str], expected: Plan<'_>) {
     assert!(rt;
         plan(alloc, words).expect(rt, "memory") == expected,
@@ -26,7 +26,7 @@ fn a_plan_is_read_off_the_words(rt: HostRuntime) {
     is_plan(&rt, alloc, &["dsmdb", "explain", "V5"], explain);
 }
 
-/// Words that ask for a check of `add.bpf`, how many bytes the arguments have, and the tables.
+/// Words that ask for a check of `add.bpf`, the number of bytes of the arguments, and the tables.
 const CHECKS: [(&[&str], u16, &[(u8, u16)]); 3] = [
     (&["dsmdb", "check", "add.bpf", "0"], 0, &[]),
     (&["dsmdb", "check", "add.bpf", "16", "1:8"], 16, &[(1, 8)]),
@@ -53,7 +53,7 @@ fn a_check_is_read_off_the_words(rt: HostRuntime) {
     }
 }
 
-/// Words that ask for a run of `a.dsm`, how many threads there are, and the limit of the log.
+/// Words that ask for a run of `a.dsm`, the number of threads, and the limit of the log.
 const RUNS: [(&[&str], u32, u32); 5] = [
     (&["dsmdb", "run", "a.dsm"], 4, 1_048_576),
     (
@@ -94,7 +94,7 @@ fn a_run_is_read_off_the_words(rt: HostRuntime) {
     }
 }
 
-/// How the fault of words is printed; empty where they are a plan.
+/// Returns the printed fault of words, and an empty text where they are a plan.
 fn fault_of(rt: &impl Abort, alloc: Global, words: &[&str]) -> String {
     match plan(alloc, words) {
         Ok(_) => String::new(alloc),
@@ -148,7 +148,7 @@ static REFUSALS: Unread = Unread {
     text: "NUMBER must be a refusal's, as V5; docs/REFUSALS.md has them all",
 };
 
-/// Whether a command with one of the words is refused for it, with a text that ends in it.
+/// Tells whether a command with one of the words is refused for it, with a text that ends in it.
 fn is_refused(rt: &impl Abort, alloc: Global, unread: &Unread, word: &'static str) -> bool {
     let mut words: Vec<&'static str> = Vec::from_slice(alloc, unread.before).expect(rt, "memory");
     words.push(word).expect(rt, "memory");
@@ -159,7 +159,7 @@ fn is_refused(rt: &impl Abort, alloc: Global, unread: &Unread, word: &'static st
     fault.as_str() == expected.as_str()
 }
 
-/// Commands with each of the words have to be refused.
+/// Asserts that commands with each of the words are refused.
 fn are_refused(rt: &impl Abort, alloc: Global, unread: &Unread) {
     for word in unread.words {
         assert!(rt;
@@ -177,7 +177,7 @@ fn other_numbers_are_refused(rt: HostRuntime) {
     }
 }
 
-/// Words that are no plan, their exit status, and how the text begins.
+/// Words that are no plan, their exit status, and the beginning of the text.
 const NO_PLANS: [(&[&str], i32, &str); 23] = [
     (&["dsmdb"], 2, ""),
     (&["dsmdb", "list"], 2, "error: "),
@@ -208,7 +208,7 @@ const NO_PLANS: [(&[&str], i32, &str); 23] = [
     (&["dsmdb", "--version"], 0, "dsmdb 0.1.0\n"),
 ];
 
-/// The exit status for words that are no plan, and the text; none where they are one.
+/// The exit status for words that are no plan, and the text, and none where they are a plan.
 fn refusal_of(rt: &impl Abort, alloc: Global, words: &[&str]) -> Option<(i32, String)> {
     match plan(alloc, words) {
         Err(PlanFault::CommandLine(error)) => {

@@ -8,7 +8,7 @@ use test_programs::{ADD, bytes_of};
 
 const EXIT: [u8; 8] = [0x95, 0, 0, 0, 0, 0, 0, 0];
 
-/// Gives its bytes and then fails, or ends.
+/// An input that gives its bytes and then fails, or ends.
 #[derive(Drop)]
 struct Input<'a> {
     left: &'a [u8],
@@ -24,7 +24,7 @@ impl Read for Input<'_> {
     }
 }
 
-/// Takes so many bytes, some of them at a time, and then fails; its flush may fail too.
+/// An output that takes at most `room` bytes, at most `at_once` at a time, and then fails. Its flush may fail too.
 #[derive(Drop)]
 struct Output {
     room: usize,
@@ -65,7 +65,7 @@ impl Write for Output {
     }
 }
 
-/// An exit status, where a fault is told by it and by nothing else.
+/// Returns an exit status, where a fault is told by it and by nothing else.
 fn told(status: u8, silent: bool) -> Option<u8> {
     if silent == (status != 3) {
         Some(status)
@@ -74,21 +74,21 @@ fn told(status: u8, silent: bool) -> Option<u8> {
     }
 }
 
-/// The exit status of a listing. None where a fault isn't told, or one that wasn't there.
+/// Returns the exit status of a listing. Returns `None` where a fault isn't told, or a fault is told that wasn't there.
 fn listing(alloc: Global, input: &mut Input<'_>, output: &mut Output) -> Option<u8> {
     let mut faults = Vec::new(alloc);
     let status = list_over(alloc, input, output, &mut faults);
     told(status, faults.is_empty())
 }
 
-/// Whether the listing of an input ends with this status, and the output then holds this.
+/// Tells whether the listing of an input ends with this status, and the output then holds this.
 fn lists(alloc: Global, input: Input<'_>, output: Output, status: u8, text: &[u8]) -> bool {
     let (mut input, mut output) = (input, output);
     let ended = listing(alloc, &mut input, &mut output);
     ended == Some(status) && output.held.as_slice() == text
 }
 
-/// So many instructions.
+/// A program of `count` exits.
 fn exits(rt: &impl Abort, alloc: Global, count: usize) -> Vec<u8> {
     let mut program = Vec::new(alloc);
     for _ in 0..count {
@@ -103,7 +103,7 @@ fn exit_line(rt: &impl Abort, alloc: Global, slot: usize) -> String {
     )
 }
 
-/// Their listing.
+/// The listing of `count` exits.
 fn listed_exits(rt: &impl Abort, alloc: Global, count: usize) -> String {
     let mut text = String::new(alloc);
     for slot in 0..count {
@@ -117,7 +117,7 @@ fn whole(left: &[u8]) -> Input<'_> {
     Input { left, fails: false }
 }
 
-/// Whether so many instructions are listed whole by an output that takes so many bytes at a time.
+/// Tells whether `count` instructions are listed whole by an output that takes `at_once` bytes at a time.
 fn is_listed(rt: &impl Abort, alloc: Global, count: usize, at_once: usize) -> bool {
     let program = exits(rt, alloc, count);
     let expected = listed_exits(rt, alloc, count);
@@ -126,7 +126,7 @@ fn is_listed(rt: &impl Abort, alloc: Global, count: usize, at_once: usize) -> bo
     lists(alloc, whole(&program), output, 0, expected.as_bytes())
 }
 
-/// In one write or in many, also where the listing is longer than a page.
+/// A program is listed in one write or in many, also where the listing is longer than a page.
 #[test]
 fn a_program_is_listed(rt: HostRuntime) {
     for (count, at_once) in [
@@ -141,14 +141,14 @@ fn a_program_is_listed(rt: HostRuntime) {
     }
 }
 
-/// Whether a listing leaves this in an output whose flush fails.
+/// Tells whether a listing leaves this in an output whose flush fails.
 fn leaves_unflushed(alloc: Global, program: &[u8], text: &[u8]) -> bool {
     let mut output = Output::new(alloc, usize::MAX);
     output.flushes = false;
     lists(alloc, whole(program), output, 3, text)
 }
 
-/// Wherever the output fails, it holds the text as far as it had room; and where it has room for all, the whole.
+/// An output that fails holds the text as far as it had room. An output with room for all holds the whole text.
 fn try_rooms(rt: &impl Abort, alloc: Global, program: &[u8], text: &[u8]) {
     for room in 0..=text.len() {
         let status = if room < text.len() { 3 } else { 0 };
@@ -159,7 +159,7 @@ fn try_rooms(rt: &impl Abort, alloc: Global, program: &[u8], text: &[u8]) {
     }
 }
 
-/// Wherever the output fails, it holds the text as far as it had room.
+/// An output that fails holds the text as far as it had room.
 #[test]
 fn a_failing_output_answers_3(rt: HostRuntime) {
     let program = exits(&rt, rt.alloc(), 90);
@@ -169,7 +169,7 @@ fn a_failing_output_answers_3(rt: HostRuntime) {
     assert!(rt; leaves_unflushed(rt.alloc(), &[], b"refused B1 slot 0\n"));
 }
 
-/// Whether a program is refused by this line.
+/// Tells whether a program is refused by this line.
 fn is_refused(alloc: Global, program: &[u8], line: &[u8]) -> bool {
     let output = Output::new(alloc, 1000);
     lists(alloc, whole(program), output, 1, line)
@@ -195,7 +195,7 @@ fn a_failing_input_answers_3(rt: HostRuntime) {
     assert!(rt; lists(rt.alloc(), input, output, 3, b""));
 }
 
-/// The bytes and the slots are one growth each; without one nothing is printed, and a fault is told.
+/// The bytes and the slots are one growth each. Where one is refused nothing is printed, and a fault is told.
 #[test]
 fn each_growth_refused_answers_3(rt: HostRuntime) {
     let scarce = Scarce::new(rt.alloc());
@@ -214,7 +214,7 @@ fn each_growth_refused_answers_3(rt: HostRuntime) {
     assert_eq!(rt; failed, Some(2));
 }
 
-/// The exit status of a check. None where a fault isn't told, or one that wasn't there.
+/// Returns the exit status of a check. Returns `None` where a fault isn't told, or a fault is told that wasn't there.
 fn checking(
     alloc: Global,
     input: &mut Input<'_>,
@@ -231,7 +231,7 @@ fn checking(
 /// A jump into the second half of a wide load.
 const INTO_LOAD: &str = "0500010000000000 1800000001000000 0000000000000000 9500000000000000";
 
-/// A program, how many bytes the arguments have, the tables, the exit status and the line.
+/// A program, the number of bytes of its arguments, the tables, the exit status and the line.
 type Check = (&'static str, u16, &'static [(u8, u16)], u8, &'static str);
 
 const CHECKS: [Check; 12] = [
@@ -256,7 +256,7 @@ const CHECKS: [Check; 12] = [
     ("", 0, &[(1, 129), (1, 8)], 1, "refused S2\n"),
 ];
 
-/// Whether a check over an output ends with this status, and leaves this there.
+/// Tells whether a check over an output ends with this status, and leaves this there.
 fn leaves(
     alloc: Global,
     input: Input<'_>,
@@ -269,7 +269,7 @@ fn leaves(
     ended == Some(expected.0) && output.held.as_slice() == expected.1
 }
 
-/// In one write or in many; and wherever the output fails, it holds the line as far as it had room.
+/// Checks a program in one write and in many. An output that fails has to hold the line as far as it had room.
 fn try_check(rt: &impl Abort, alloc: Global, bytes: &[u8], check: &Check) {
     let (status, line) = (check.3, check.4.as_bytes());
     for (at_once, flushes, status) in [
@@ -299,7 +299,7 @@ fn a_program_is_accepted_or_refused(rt: HostRuntime) {
     }
 }
 
-/// An input that fails, and each growth refused in turn: nothing is printed, and a fault is told.
+/// An input that fails, and each growth refused in turn, print nothing, and a fault is told.
 #[test]
 fn a_check_that_fails_answers_3(rt: HostRuntime) {
     let bytes = bytes_of(rt.alloc(), ADD).expect(&rt, ADD);

@@ -2,7 +2,7 @@ use command_line::explain;
 use std::alloc::Global;
 use std::process::Abort;
 
-/// The letters of refusals, and how many numbers each has from 1 on.
+/// The letters of refusals, and the number of numbers that each has from 1 on.
 const LETTERS: [(&str, u32); 10] = [
     ("B", 12),
     ("S", 4),
@@ -43,7 +43,7 @@ fn every_refusal_is_explained(rt: HostRuntime) {
     }
 }
 
-/// Refusals, and what is printed of them.
+/// Refusals, and the printed explanation of each.
 const PRINTED: [(&str, &str); 2] = [
     (
         "V5",

@@ -1,9 +1,9 @@
-//! Calls of helpers, on keys that meet and on buffers in what is initialised of the stack.
+//! Calls of helpers, on keys that meet and on buffers in the initialised part of the stack.
 
 use super::instruction::{NUMBERS, STACK, Slot, append, instruction};
 use super::random::Random;
 
-/// What a helper asks for in a register.
+/// The kind of value that a helper asks for in a register.
 #[derive(Clone, Copy)]
 enum Argument {
     Table,
@@ -11,7 +11,7 @@ enum Argument {
     Buffer,
 }
 
-/// What each helper asks for, in the order of their numbers, from 1 on.
+/// The values that each helper asks for, in the order of the helpers' numbers, from 1 on.
 static CALLS: [&[Argument]; 6] = [
     &[Argument::Table, Argument::Key, Argument::Buffer],
     &[Argument::Table, Argument::Key, Argument::Buffer],
@@ -30,7 +30,7 @@ static CALLS: [&[Argument]; 6] = [
 /// The helpers by their numbers, the last rarer than the others.
 const HELPERS: [u8; 20] = [1, 1, 1, 1, 2, 2, 2, 2, 2, 3, 3, 3, 4, 4, 4, 5, 5, 5, 5, 6];
 
-/// A call, and the bit of the helper's number.
+/// Appends a call, and returns the bit of the helper's number.
 pub(super) fn call(random: &mut Random, code: &mut Vec<u8>) -> u8 {
     let helper = random.pick(&HELPERS);
     let arguments = CALLS.get(usize::from(helper.saturating_sub(1)));
@@ -41,7 +41,7 @@ pub(super) fn call(random: &mut Random, code: &mut Vec<u8>) -> u8 {
     1u8.wrapping_shl(u32::from(helper))
 }
 
-/// What leaves an argument in a register.
+/// Returns the slots that leave an argument in a register.
 fn argument_value(random: &mut Random, kind: Argument, register: u8) -> [Slot; 2] {
     match kind {
         Argument::Table => table(random, register),

@@ -1,7 +1,7 @@
 //! Programs that the verifier accepts: all jumps go forward, and what is read was written before.
 //!
-//! From the beginning on r0 and r6 to r8 hold numbers, r9 the place of the arguments, and the last 64 bytes of the
-//! stack are initialised. Each block keeps that; r1 to r5 are its own.
+//! Registers r0 and r6 to r8 hold numbers from the beginning on, and r9 the place of the arguments. The last 64 bytes
+//! of the stack are initialised. Each block keeps these values; r1 to r5 are its own.
 
 use super::calls::call;
 use super::instruction::{
@@ -11,7 +11,7 @@ use super::instruction::{
 use super::random::Random;
 use std::alloc::Global;
 
-/// A program, and which helpers it calls in each run, by the bits of their numbers.
+/// A program, and the helpers that it calls in each run, by the bits of their numbers.
 #[derive(Drop)]
 pub(super) struct Program {
     pub(super) bytes: Vec<u8>,
@@ -41,7 +41,7 @@ fn end(random: &mut Random) -> [Slot; 2] {
     ]
 }
 
-/// What the registers hold from the beginning on.
+/// The slots that set the registers at the beginning.
 fn registers(random: &mut Random) -> [Slot; 5] {
     [
         instruction(0xbf, ARGUMENTS, 1, 0, 0),
@@ -61,7 +61,7 @@ fn initialised(random: &mut Random, offset: i16) -> Slot {
     }
 }
 
-/// A block that may have branches, and which helpers it calls whichever it takes.
+/// Appends a block that may have branches, and returns the helpers that it calls whichever branch it takes.
 fn block(alloc: Global, random: &mut Random, code: &mut Vec<u8>) -> u8 {
     if random.below(3) > 0 {
         return straight(random, code);
@@ -75,7 +75,7 @@ fn block(alloc: Global, random: &mut Random, code: &mut Vec<u8>) -> u8 {
     0
 }
 
-/// A condition that jumps over this body to another.
+/// Appends a condition that jumps over this body to another.
 fn branch(alloc: Global, random: &mut Random, code: &mut Vec<u8>, body: &[u8]) {
     let other = some_blocks(alloc, random);
     let first = condition(random, distance(body).saturating_add(1));
@@ -94,7 +94,7 @@ fn some_blocks(alloc: Global, random: &mut Random) -> Vec<u8> {
     code
 }
 
-/// A block with no branch, and which helper it calls.
+/// Appends a block with no branch, and returns the helper that it calls.
 fn straight(random: &mut Random, code: &mut Vec<u8>) -> u8 {
     let kind = random.below(16);
     if kind < 5 {
@@ -127,7 +127,7 @@ fn near_load(random: &mut Random) -> Slot {
 fn indexed(random: &mut Random) -> [Slot; 5] {
     let masked = random.pick(&NUMBERS);
     let mask = i32::from(random.pick(&[1, 7, 8, 15]));
-    // Which place, moved up or down, and the offsets at which each access stays in what is initialised.
+    // The place, whether it is moved up or down, and the offsets at which each access stays in what is initialised.
     let (place, moves, least, count) = match random.below(4) {
         0 => (STACK, 0x0f, -64, 42),
         1 => (STACK, 0x1f, -49, 42),

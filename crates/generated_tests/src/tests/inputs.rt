@@ -21,7 +21,7 @@ pub(super) fn random_call(alloc: Global, random: &mut Random) -> Result<Call, Al
     })
 }
 
-/// Four words of arguments. Where memory is wanting they are fewer, and no call begins.
+/// Four words of arguments. Where memory is wanting the words are fewer, and no call begins.
 fn random_arguments(alloc: Global, random: &mut Random) -> Vec<u8> {
     let mut arguments = Vec::new(alloc);
     for _ in 0..4 {
@@ -30,7 +30,7 @@ fn random_arguments(alloc: Global, random: &mut Random) -> Vec<u8> {
     arguments
 }
 
-/// Up to 15 rows, of which a later one at a key replaces an earlier one.
+/// Draws 15 rows at most, of which a later one at a key replaces an earlier one.
 fn random_rows(alloc: Global, random: &mut Random) -> Result<Vec<Row>, AllocError> {
     let mut rows = Vec::new(alloc);
     for _ in 0..random.below(16) {

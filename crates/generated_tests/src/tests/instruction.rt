@@ -55,7 +55,7 @@ pub(super) fn append(code: &mut Vec<u8>, slots: &[Slot]) {
     }
 }
 
-/// The distance of a jump over all of this.
+/// The distance of a jump over these bytes.
 pub(super) fn distance(code: &[u8]) -> i16 {
     i16::try_from(code.len() / 8).unwrap_or(0)
 }
@@ -118,7 +118,7 @@ pub(super) fn access(random: &mut Random, place: u8, offset: i16) -> Slot {
     }
 }
 
-/// A jump over so many slots where a condition holds of a register of numbers.
+/// A jump over `slots` slots where a condition holds of a register of numbers.
 pub(super) fn condition(random: &mut Random, slots: i16) -> Slot {
     let opcode = random.pick(&CONDITIONS) | random.pick(&[5, 6]);
     let dst = random.pick(&NUMBERS);
@@ -129,7 +129,7 @@ pub(super) fn condition(random: &mut Random, slots: i16) -> Slot {
     }
 }
 
-/// A jump over so many slots.
+/// A jump over `slots` slots.
 pub(super) fn jump(random: &mut Random, slots: i16) -> Slot {
     if random.below(2) == 0 {
         instruction(0x05, 0, 0, slots, 0)

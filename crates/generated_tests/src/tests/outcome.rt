@@ -1,4 +1,4 @@
-//! What a call came to, in a line: its reply and in how many turns, cancel code, looks and writes.
+//! The line of a call's outcome: its reply and the number of turns, cancel code, looks and writes.
 
 use bpf_vm::Turn;
 use plain_runner::{CompletedRun, KeyMap};
@@ -30,7 +30,7 @@ fn append_write(
     write!(line, " {table}:{key} {bytes:?}")
 }
 
-/// What a call of the machine came to.
+/// Returns what a call of the machine came to.
 pub(super) fn line_of_call(alloc: Global, call: SiteRun) -> Result<String, AllocError> {
     let turns = call.turns;
     let Turn::Exit(reply) = call.last else {
@@ -55,7 +55,7 @@ fn append_writes(line: &mut String, writes: &WriteSet<Global>) -> Result<(), All
     Ok(())
 }
 
-/// The same of a call that the machine ran at once, which doesn't say in how many turns.
+/// The line of a call that the machine ran at once, which doesn't say the number of turns.
 pub(super) fn line_of_completed(
     alloc: Global,
     call: &CompletedCall,
@@ -67,7 +67,7 @@ pub(super) fn line_of_completed(
     Ok(line)
 }
 
-/// The same of a run of the plain runner.
+/// The line of a run of the plain runner.
 pub(super) fn line_of_run(alloc: Global, run: &CompletedRun) -> Result<String, AllocError> {
     let mut line = line_of(
         alloc,

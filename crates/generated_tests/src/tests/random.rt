@@ -20,7 +20,7 @@ impl Random {
         self.generator.next_u32() % limit.max(1)
     }
 
-    /// One of so many offsets, from the least on.
+    /// One of `count` offsets, from the least on.
     pub(super) fn offset(&mut self, least: i16, count: u32) -> i16 {
         least.saturating_add(i16::try_from(self.below(count)).unwrap_or(0))
     }
@@ -32,7 +32,7 @@ impl Random {
         choices.get(chosen).copied().unwrap_or(0)
     }
 
-    /// A number of 32 bits: a small one, one next to 0 from below, the least one, or any.
+    /// A number of 32 bits: a small number, a number next to 0 from below, the least number, or any.
     pub(super) fn immediate(&mut self) -> i32 {
         let low = self.below(16).cast_signed();
         match self.below(8) {

@@ -1,4 +1,4 @@
-//! What was seen of the programs, so that a comparison of nothing doesn't pass.
+//! The tally of the programs, so that a comparison of nothing doesn't pass.
 
 use super::generator::Program;
 use plain_runner::CompletedRun;
@@ -6,7 +6,7 @@ use std::alloc::Global;
 use std::collections::BTreeSet;
 use std::process::Abort;
 
-/// In how many programs something came of a run, and what stands in any.
+/// The numbers of programs of whose runs something came, and what stands in any program.
 #[derive(Drop)]
 pub(super) struct Tally {
     looks: u32,
@@ -76,7 +76,7 @@ impl Tally {
     }
 }
 
-/// A count, and one more where it holds.
+/// Returns a count, with one more where this holds.
 fn counted(count: u32, holds: bool) -> u32 {
     count.saturating_add(u32::from(holds))
 }

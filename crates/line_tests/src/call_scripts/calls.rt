@@ -44,7 +44,7 @@ fn is_call<A: Allocator>(call: &ScriptCall<Bytes<A>>, expected: &Expected) -> bo
         && call.request == *request
 }
 
-/// Whether the script is read with its settings and its calls.
+/// Tells whether the script is read with its settings and its calls.
 fn is_read<A: Allocator + Copy>(script: &CallScript<A>) -> bool {
     script.window == 4
         && script.replicas == 2
@@ -57,7 +57,7 @@ fn is_read<A: Allocator + Copy>(script: &CallScript<A>) -> bool {
             .all(|(call, expected)| is_call(call, expected))
 }
 
-/// Whether it is read whole by an input that shows so many bytes at a time.
+/// Tells whether the script is read whole by an input that shows `shown` bytes at a time.
 fn is_read_whole(alloc: Global, shown: usize) -> bool {
     let mut input = InterruptedInput::new(SCRIPT, shown, false);
     match read_script(alloc, &mut input) {
@@ -71,7 +71,7 @@ fn a_script_of_calls_is_read_whole(rt: HostRuntime) {
     assert!(rt; is_read_whole(rt.alloc(), 7));
 }
 
-/// Scripts, and how the fault is printed.
+/// Scripts, and the printed fault of each.
 const FAULTS: [(&str, &str); 18] = [
     ("", "line 0: L5"),
     ("window 4\n\n", "line 0: L5"),
@@ -118,7 +118,7 @@ const NO_CALLS: [&str; 9] = [
     "add one 9 0 b7000000010000009500000000000000",
 ];
 
-/// How the fault of a script is printed; empty where it has none.
+/// Returns the printed fault of a script, and an empty text where the script has none.
 fn fault_of(rt: &impl Abort, alloc: Global, text: &str) -> String {
     let mut input = InterruptedInput::new(text.as_bytes(), 1000, false);
     match read_script(alloc, &mut input) {
@@ -127,13 +127,13 @@ fn fault_of(rt: &impl Abort, alloc: Global, text: &str) -> String {
     }
 }
 
-/// Whether the fault of a script is printed so.
+/// Tells whether the fault of a script is printed so.
 fn has_fault(rt: &impl Abort, alloc: Global, text: &str, printed: &str) -> bool {
     let fault = fault_of(rt, alloc, text);
     fault.as_str() == printed
 }
 
-/// Whether a line is at fault that stands where calls begin.
+/// Tells whether a line is at fault that stands where calls begin.
 fn is_no_call(rt: &impl Abort, alloc: Global, line: &str) -> bool {
     let text = format!(in alloc; "window 4\nreplicas 2\n{line}").expect(rt, "memory");
     has_fault(rt, alloc, text.as_str(), "line 3: L5")
@@ -151,8 +151,8 @@ fn faults_of_scripts_of_calls(rt: HostRuntime) {
     }
 }
 
-/// Whether the script is read; where it isn't, memory was wanting. None where another fault was told, or the script was
-/// read otherwise.
+/// Tells whether the script is read; memory was wanting where it isn't. Returns `None` where another fault was told, or
+/// the script was read otherwise.
 fn is_read_by<A: Allocator + Copy>(alloc: A) -> Option<bool> {
     let mut input = InterruptedInput::new(SCRIPT, 1000, false);
     match read_script(alloc, &mut input) {
@@ -187,7 +187,7 @@ fn is_stopped_by_its_input(alloc: Global, shown: &[u8]) -> bool {
     matches!(read_script(alloc, &mut input), Err(Stop::Input(_)))
 }
 
-/// Wherever the input fails, no script is read, also where the lines so far would be one.
+/// An input that fails gives no script, also where the lines so far would be one.
 #[test]
 fn a_script_of_calls_fails_with_its_input(rt: HostRuntime) {
     for count in 0..SCRIPT.len() {

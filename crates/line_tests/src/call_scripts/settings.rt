@@ -69,7 +69,7 @@ const FAULTS: [(&[&str], &str); 16] = [
     ),
 ];
 
-/// How the fault of lines is printed; empty where they have none.
+/// Returns the printed fault of lines, and an empty text where they have none.
 fn fault_of(rt: &impl Abort, alloc: Global, lines: &[&str]) -> String {
     let mut settings = Settings::new(alloc).expect(rt, "memory");
     match set_all(&mut settings, alloc, lines) {
@@ -78,13 +78,13 @@ fn fault_of(rt: &impl Abort, alloc: Global, lines: &[&str]) -> String {
     }
 }
 
-/// Whether the fault of lines is printed so.
+/// Tells whether the fault of lines is printed so.
 fn is_told(rt: &impl Abort, alloc: Global, lines: &[&str], text: &str) -> bool {
     let told = fault_of(rt, alloc, lines);
     told.as_str() == text
 }
 
-/// Whether a fault is printed so.
+/// Tells whether a fault is printed so.
 fn is_printed(rt: &impl Abort, alloc: Global, fault: ScriptFault, text: &str) -> bool {
     let printed = fault.to_string(alloc).expect(rt, "memory");
     printed.as_str() == text
@@ -122,7 +122,7 @@ fn set_lines<A: Allocator + Copy>(settings: &mut Settings<A>, alloc: A) -> Resul
     Ok(())
 }
 
-/// Whether what the lines set is there.
+/// Tells whether what the lines set is there.
 fn has_lines<A: Allocator + Copy>(settings: Settings<A>) -> bool {
     let limits = settings.window() == Some(4096) && settings.replicas() == Some(8);
     let catalogue = settings.into_catalogue();
@@ -130,8 +130,8 @@ fn has_lines<A: Allocator + Copy>(settings: Settings<A>) -> bool {
     limits && catalogue.by_name(b"one") == Some(9) && widths == [Some(128), Some(8)]
 }
 
-/// Whether the lines are set; where they aren't, it was for want of memory. None where another fault was told, or they
-/// were set otherwise.
+/// Tells whether the lines are set; memory was wanting where they aren't. Returns `None` where another fault was told,
+/// or they were set otherwise.
 fn are_set<A: Allocator + Copy>(alloc: A) -> Option<bool> {
     let Ok(mut settings) = Settings::new(alloc) else {
         return Some(false);

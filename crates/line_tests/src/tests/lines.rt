@@ -1,8 +1,8 @@
 use bpf_bytes::{DecodeCause, DecodeFault};
 use bpf_verify::Cause;
+use dsm_model::{Outcome, StepRefusal};
 use log_model::{Identifier, Verdict};
 use program_checks::ProgramFault;
-use dsm_model::{Outcome, StepRefusal};
 use report::{
     CallAnswer, CallReport, DeliveredEntry, Line, LoggedEntry, ReplicaReport, add_line, call_line,
     line,
@@ -12,7 +12,7 @@ use std::alloc::Global;
 use std::process::Abort;
 use tallies::Counts;
 
-/// Lines, and how each is printed.
+/// Lines, and the printed text of each.
 type Printed = (Line<'static>, &'static str);
 
 static CALLS: [Printed; 12] = [
@@ -148,8 +148,8 @@ static REPLICAS: [Printed; 5] = [
     ),
 ];
 
-/// The position of a call with one write of procedure 1 at snapshot 0, what it was compared with, its verdict, the
-/// reply that is told, and how it is printed where replica 1 delivers it and where the log is.
+/// A call with one write of procedure 1 at snapshot 0: its position, what it was compared with, its verdict, and the
+/// reply that is told. The texts are those that are printed where replica 1 delivers it and where the log is.
 type Certified = (u32, u64, Verdict, Option<u64>, &'static str, &'static str);
 
 static CALLS_OF_THE_LOG: [Certified; 4] = [
@@ -187,7 +187,7 @@ static CALLS_OF_THE_LOG: [Certified; 4] = [
     ),
 ];
 
-/// The position of an addition of procedure 9, its verdict, and how it is printed in the same two places.
+/// The position of an addition of procedure 9, its verdict, and its printed text in the same two places.
 static ADDITIONS_OF_THE_LOG: [(u32, Verdict, &str, &str); 3] = [
     (
         1,
@@ -285,7 +285,7 @@ static ADDITIONS: [Printed; 6] = [
     (Line::AddRefused(StepRefusal::NoMemory), "add refused P9\n"),
 ];
 
-/// Answers to the second call of a script, and how each is printed.
+/// Answers to the second call of a script, and the printed text of each.
 static ANSWERS: [(CallAnswer, &str); 13] = [
     (
         CallAnswer::Committed {
@@ -410,7 +410,7 @@ static ENDS: [Printed; 7] = [
     ),
 ];
 
-/// Whether the line is printed as this text.
+/// Tells whether the line is printed as this text.
 fn is_printed(rt: &impl Abort, alloc: Global, row: &Line<'_>, text: &str) -> bool {
     line(alloc, row).expect(rt, "memory").as_slice() == text.as_bytes()
 }
@@ -477,7 +477,7 @@ fn certified_entries_have_their_lines(rt: HostRuntime) {
     }
 }
 
-/// Which outcomes a line of the kind tells.
+/// Outcomes of a kind of step have lines of that kind, and other outcomes have none.
 #[test]
 fn outcomes_have_lines_of_their_kind(rt: HostRuntime) {
     assert!(rt; call_line(3, Outcome::Exit { reply: 17 }).is_some());
@@ -486,7 +486,7 @@ fn outcomes_have_lines_of_their_kind(rt: HostRuntime) {
     assert!(rt; add_line(Outcome::Rebuilt { position: 1 }).is_none());
 }
 
-/// Whatever line it is: nothing is left where a growth is refused.
+/// A line leaves nothing where a growth is refused, whatever line it is.
 #[test]
 fn each_growth_may_be_refused(rt: HostRuntime) {
     let scarce = Scarce::new(rt.alloc());

@@ -46,7 +46,7 @@ static SETTINGS_OF_OTHER_VALUES: [&[u8]; 13] = [
     b"proc x 1 257 -",
 ];
 
-/// Steps with such a field.
+/// Steps with a field that has no value that it may have.
 static STEPS_OF_OTHER_VALUES: [&[u8]; 20] = [
     b"begin 1 add 050",
     b"begin 1 add 0g",
@@ -95,7 +95,7 @@ static SOUND: [&[u8]; 21] = [
     b"# window 0",
 ];
 
-/// The number of a line's fault; 0 where it says something.
+/// The number of a line's fault, and 0 where the line says something.
 fn fault_number<A: Allocator + Copy>(alloc: A, line: &[u8]) -> u8 {
     match statement(alloc, line) {
         Ok(_) => 0,
@@ -103,7 +103,7 @@ fn fault_number<A: Allocator + Copy>(alloc: A, line: &[u8]) -> u8 {
     }
 }
 
-/// Each of these lines has a fault of this number, 0 where none.
+/// Asserts that each of these lines has a fault of this number, or none where the number is 0.
 fn have_fault(rt: &impl Abort, alloc: Global, lines: &[&[u8]], number: u8) {
     for (at, line) in lines.iter().enumerate() {
         let found = fault_number(alloc, line);
@@ -121,7 +121,7 @@ fn lines_have_their_first_fault(rt: HostRuntime) {
     have_fault(&rt, rt.alloc(), &SOUND, 0);
 }
 
-/// The number of the fault of a line of so many bytes, the first of them this.
+/// The number of the fault of a line of `len` bytes, of which the first is `first`.
 fn fault_of_long(rt: &impl Abort, alloc: Global, len: usize, first: u8) -> u8 {
     let mut line = vec![in alloc; b'0'; len].expect(rt, "memory");
     if let Some(byte) = line.first_mut() {
@@ -143,7 +143,7 @@ fn the_longest_lines(rt: HostRuntime) {
     assert!(rt; matches!(statement(rt.alloc(), b""), Ok(None)));
 }
 
-/// What a line gives: a name, bytes, and numbers.
+/// The values of a line: a name, bytes, and numbers.
 type Given<'a> = (&'a [u8], &'a [u8], [u32; 3]);
 
 const GIVEN: [(&[u8], Given<'static>); 3] = [
@@ -152,8 +152,7 @@ const GIVEN: [(&[u8], Given<'static>); 3] = [
     (b"add two 9 16 b7fF", (b"two", &[183, 255], [0, 9, 16])),
 ];
 
-/// The replica of a line that begins a call, and the request that it carries; or what a line that adds a procedure
-/// gives.
+/// The values of a line: the replica and the request of a call, or the values of an addition.
 fn given<A: Allocator>(statement: &Statement<Bytes<A>>) -> Option<Given<'_>> {
     let Statement::Action(action) = statement else {
         return None;
@@ -189,8 +188,8 @@ fn given<A: Allocator>(statement: &Statement<Bytes<A>>) -> Option<Given<'_>> {
     }
 }
 
-/// Whether the line is read as what it gives; where it isn't, it was for want of memory. None where another fault was
-/// told, or it was read as something else.
+/// Tells whether the line is read as what it gives; memory was wanting where it isn't. Returns `None` where another
+/// fault was told, or it was read as something else.
 fn is_read<A: Allocator + Copy>(alloc: A, line: &[u8], expected: &Given<'_>) -> Option<bool> {
     match statement(alloc, line) {
         Ok(Some(statement)) if given(&statement).as_ref() == Some(expected) => Some(true),
@@ -219,8 +218,8 @@ fn growths_are_refused_in_turn(rt: HostRuntime) {
     }
 }
 
-/// Inputs, the lines of one that ends, and those of one that fails at its end: a last line is known to be whole by its
-/// LF.
+/// Inputs, the lines of an input that ends, and those of an input that fails at its end. A last line is known to be
+/// whole by its LF.
 const INPUTS: [(&[u8], &[&[u8]], &[&[u8]]); 5] = [
     (b"", &[], &[]),
     (b"a", &[b"a"], &[]),
@@ -229,7 +228,7 @@ const INPUTS: [(&[u8], &[&[u8]], &[&[u8]]); 5] = [
     (b"log\nrows 1", &[b"log", b"rows 1"], &[b"log"]),
 ];
 
-/// Whether these lines come off an input, and then its end, or that it fails.
+/// Tells whether these lines come off an input, and then its end, or its failure.
 fn gives(input: &mut InterruptedInput<'_>, line: &mut Vec<u8>, lines: &[&[u8]]) -> bool {
     for expected in lines {
         let next = next_line(input, line);
@@ -244,7 +243,7 @@ fn gives(input: &mut InterruptedInput<'_>, line: &mut Vec<u8>, lines: &[&[u8]]) 
     }
 }
 
-/// The same, with a line of its own.
+/// Tells the same of an input over these bytes, with a line of its own.
 fn gives_all(alloc: Global, bytes: &[u8], shown: usize, fails: bool, lines: &[&[u8]]) -> bool {
     let mut input = InterruptedInput::new(bytes, shown, fails);
     let mut line = Vec::new(alloc);
@@ -263,7 +262,7 @@ fn lines_are_read_one_by_one(rt: HostRuntime) {
     }
 }
 
-/// Of a line that is too long no more is taken than a line may have.
+/// A line that is too long stays on the input: no more is taken than a line may have.
 #[test]
 fn long_lines_stay_on_the_input(rt: HostRuntime) {
     let bytes = vec![in rt.alloc(); b'a'; MAX_LINE + 10].expect(&rt, "memory");

@@ -144,7 +144,7 @@ static CASES: [Case; 18] = [
     },
 ];
 
-/// What the machine does, turn by turn.
+/// Returns what the machine does, turn by turn.
 fn line_of_turns(
     rt: &impl Abort,
     alloc: Global,
@@ -156,7 +156,7 @@ fn line_of_turns(
     described(rt, alloc, run.expect(rt, "it begins"))
 }
 
-/// What the machine does, to its end, which doesn't say in how many turns.
+/// Returns what the machine does, to its end. The line doesn't say the number of turns.
 fn line_of_call(
     rt: &impl Abort,
     alloc: Global,
@@ -169,7 +169,7 @@ fn line_of_call(
     described_call(rt, alloc, turns, &call)
 }
 
-/// What the definition says.
+/// Returns what the definition says.
 fn plain_run(
     rt: &impl Abort,
     alloc: Global,
@@ -204,7 +204,7 @@ fn calls_answer_what_their_runs_do(rt: HostRuntime) {
 /// A program, its arguments, the turn from which on the store is gone, and what comes of it.
 type GoneCase = (&'static str, &'static [u64], u32, &'static str);
 
-/// A look at a store that is gone is stale, at each helper that looks; puts, removals, cancels, gets of own writes and
+/// A look at a store that is gone is stale, at each helper that looks. Puts, removals, cancels, gets of own writes and
 /// empty ranges never are.
 static GONE: [GoneCase; 12] = [
     (ADD, &[5, 10], 1, "stale in 7"),
@@ -236,7 +236,7 @@ static GONE: [GoneCase; 12] = [
     (PUT_AND_GET, &[], 1, "3 in 13 put 1:5=0300000000000000"),
 ];
 
-/// What a call comes to over a store without rows, which is gone from a turn on.
+/// Returns what a call comes to over a store without rows, which is gone from a turn on.
 fn line_where_gone(
     rt: &impl Abort,
     alloc: Global,
@@ -258,7 +258,8 @@ fn looks_at_a_store_that_is_gone_are_stale(rt: HostRuntime) {
     }
 }
 
-/// Why a put on these arguments, with so many bytes behind them, and rows doesn't begin.
+/// Returns the fault for which a put doesn't begin, on these arguments and rows; the bytes `behind` stand behind the
+/// arguments.
 fn fault_of_put(
     rt: &impl Abort,
     alloc: Global,
@@ -272,7 +273,7 @@ fn fault_of_put(
     run_call(alloc, &procedure, &args, rows, NEVER).err()
 }
 
-/// Arguments that are too few or too many, a row of no table of the schema's, and one of another width.
+/// Arguments that are too few or too many, a row of no table of the schema, and a row of another width.
 #[test]
 fn calls_that_cannot_begin_say_why(rt: HostRuntime) {
     let alloc = rt.alloc();

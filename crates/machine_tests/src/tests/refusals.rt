@@ -10,8 +10,8 @@ use std::alloc::Global;
 use std::process::Abort;
 use test_programs::{ADD, COUNT, DELETE, NEXT, PUT, SKEW};
 
-/// A program, its arguments, which growth is refused, and what comes of it: what the call has looked at and written by
-/// then, nothing of the refused turn among it.
+/// A program, its arguments, the growth that is refused, and what comes of it. The outcome is what the call has looked
+/// at and written by then, nothing of the refused turn among it.
 type RefusedCase = (&'static str, &'static [u64], u64, &'static str);
 
 static REFUSED: [RefusedCase; 11] = [
@@ -28,7 +28,7 @@ static REFUSED: [RefusedCase; 11] = [
     (NEXT, &[10, 20, 101], 3, "no memory in 14 look 1:10-20"),
 ];
 
-/// What a call comes to over no rows, where a growth is refused.
+/// Returns what a call comes to over no rows, where a growth is refused.
 fn line_where_refused(
     rt: &impl Abort,
     alloc: Global,
@@ -44,7 +44,7 @@ fn line_where_refused(
     described(rt, alloc, run.expect(rt, "it begins"))
 }
 
-/// After the refused growth memory is there again, so what the call has done stays as that turn left it.
+/// Memory is there again after the refused growth, so what the call has done stays as that turn left it.
 #[test]
 fn refused_growths_end_a_call(rt: HostRuntime) {
     let alloc = rt.alloc();
@@ -56,10 +56,10 @@ fn refused_growths_end_a_call(rt: HostRuntime) {
     }
 }
 
-/// A program, its arguments, the rows before it, and how many growths its call makes.
+/// A program, its arguments, the rows before it, and the number of growths that its call makes.
 type GrowthCase = (&'static str, &'static [u64], &'static [(u8, u64, u64)], u64);
 
-/// A look takes one, and a put two: its bytes and its place. So does a row of the store.
+/// A look takes one growth, and a put two: for its bytes and its place. A row of the store takes two as well.
 static GROWTHS: [GrowthCase; 4] = [
     (ADD, &[5, 10], &[], 3),
     (ADD, &[5, 10], &[(1, 5, 1)], 5),
@@ -67,7 +67,7 @@ static GROWTHS: [GrowthCase; 4] = [
     (NEXT, &[10, 20, 101], &[(1, 12, 1)], 5),
 ];
 
-/// What the last turn of a call answers, whose rows are copied first.
+/// Returns what the last turn of a call answers, whose rows are copied first.
 fn last_turn(scarce: &Scarce, procedure: &Accepted, args: &[u8], rows: &[Row]) -> Turn {
     match run_call(scarce, procedure, args, rows, NEVER) {
         Ok(run) => run.last,

@@ -36,7 +36,7 @@ fn shares(rt: &impl Abort, reads: &ReadSet, writes: &WriteSet, place: Place) {
     same(rt, "writes", (place, writes.len()), (place, 1));
 }
 
-/// A removal and then a put, each the one write.
+/// Tries a removal and then a put, each as the one write.
 fn share(rt: &impl Abort, alloc: Global, reads: &ReadSet, place: Place) {
     let mut writes = WriteSet::new(alloc);
     assert!(rt; !shares_key(reads, &writes));

@@ -9,7 +9,7 @@ use std::alloc::{Allocator, Global};
 use std::process::Abort;
 use txn_view::{Gone, Own, Store, View, count_rows, next_row, read_row};
 
-/// The first byte of a row of table 1.
+/// Asserts the first byte of a row of table 1.
 fn has_row<S: Store, A: Allocator + Copy>(
     rt: &impl Abort,
     view: &mut View<S, A>,
@@ -37,7 +37,7 @@ fn has_count<S: Store, A: Allocator + Copy>(
     same(rt, "count", (look, found), (look, wanted));
 }
 
-/// The key of the first row, and its first byte.
+/// Asserts the key of the first row, and its first byte.
 fn has_first<S: Store, A: Allocator + Copy>(
     rt: &impl Abort,
     view: &mut View<S, A>,
@@ -187,7 +187,7 @@ fn a_refused_look_leaves_the_call_as_it_was(rt: HostRuntime) {
     is_as_it_was(&rt, &scarce, &mut view_of(&scarce, &rows, false));
 }
 
-/// What a call has after a put, paused and taken up again.
+/// Asserts what a call has after a put, paused and taken up again.
 fn has_written(rt: &impl Abort, rows: &Rows, own: Own, cancel: bool) {
     let store = PlainStore { rows, gone: false };
     let (looks, writes, code) = View::over(store, own).finish();

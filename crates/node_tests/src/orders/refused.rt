@@ -1,4 +1,4 @@
-//! What is refused: an entry past the end of a log, a snapshot that wasn't seen, and a growth.
+//! Refusals: an entry past the end of a log, a snapshot that wasn't seen, and a growth.
 
 ghost use Rattle.std.specs.Prelude.{◌≡◌};
 
@@ -9,7 +9,7 @@ use std::marker::Brand;
 use std::process::Abort;
 use std::test::Fail;
 
-/// Snapshots of calls that one thread appends to a log of two places, and what each comes to.
+/// Snapshots of calls that one thread appends to a log of two places, and the outcome of each.
 const APPENDS: [(u32, Result<u32, AppendFault>); 6] = [
     (1, Err(AppendFault::SnapshotUnseen)),
     (0, Ok(1)),
@@ -39,7 +39,7 @@ fn fill_two<J: LogIdentity>(rt: &impl Abort, alloc: Global, cells: GroupCells) -
     }
     assert_eq!(rt; shown(&log, &seen, 1), Some(10));
     assert_eq!(rt; shown(&log, &seen, 2), Some(11));
-    // Who has seen nothing yet finds the log full, and has then seen it.
+    // A thread that has seen nothing yet finds the log full, and has then seen it.
     let mut other = log.seen();
     assert!(rt; log.append(&mut other, call_of(alloc, 0, 12)) == Err(AppendFault::Full));
     assert_eq!(rt; shown(&log, &other, 2), Some(11));
@@ -53,7 +53,7 @@ fn a_log_of_two_places_takes_two(rt: HostRuntime) -> Result<(), Fail> {
     fill_two::<Brand>(&rt, rt.alloc(), cells)
 }
 
-/// Appends until so many entries are in: how often that failed for want of memory.
+/// Appends until `count` entries are in. Returns how often that failed for want of memory.
 fn append_until<J: LogIdentity>(
     rt: &impl Abort,
     log: &OrderLog<J, Nothing>,
@@ -98,8 +98,9 @@ fn append_scarcely<J: LogIdentity>(
     Ok(())
 }
 
-/// Where no growth is refused this only fills a group and begins the next. Run it with `rt try --test --fail-alloc N`,
-/// and one append finds no memory, leaves the log and what was seen as they were, and is made again.
+/// A refused growth adds nothing. Where none is refused this test only fills a group and begins the next. Run it with
+/// `rt try --test --fail-alloc N`, and one append finds no memory. The append leaves the log and what was seen as they
+/// were, and is made again.
 #[test]
 fn a_refused_growth_adds_nothing(rt: HostRuntime) -> Result<(), Fail> {
     let cells = GroupCells::new(rt.alloc())?;

@@ -12,8 +12,8 @@ use std::test::Fail;
 use std::thread;
 use std::thread::Threads;
 
-/// How many threads append, how many entries each tries, how many others read along, and how many entries the log
-/// takes.
+/// The numbers of threads that append, of entries that each tries, of threads that read along, and of entries that the
+/// log takes.
 #[derive(Clone, Copy)]
 struct Crowd {
     appending: u32,
@@ -23,24 +23,24 @@ struct Crowd {
 }
 
 impl Crowd {
-    /// How many entries go in.
+    /// Returns the number of entries that go in.
     fn entries(&self) -> u32 {
         self.limit.min(self.appending.saturating_mul(self.each))
     }
 }
 
-/// What a thread came to: of one that appends the number of each entry, 0 where the log was full; of one that reads
-/// along the replies in order.
+/// The result of a thread. A thread that appends has the number of each entry, 0 where the log was full. A thread that
+/// reads along has the replies in order.
 type Came = Result<Vec<u64>, AppendFault>;
 
-/// What tells the entry of a thread from all others.
+/// Returns the mark that tells the entry of a thread from all others.
 fn mark_of(thread: usize, index: u32) -> u64 {
     (thread as u64)
         .wrapping_mul(1_000_000)
         .wrapping_add(u64::from(index))
 }
 
-/// The number of one entry more, or 0.
+/// Appends one more entry, and returns its number, or 0.
 fn append_one<J: LogIdentity>(
     log: &OrderLog<J, Nothing>,
     seen: &mut Seen<J>,
@@ -71,7 +71,7 @@ fn append_all<J: LogIdentity>(
     Ok(numbers)
 }
 
-/// The replies of the entries that show, until there are so many.
+/// Returns the replies of the entries that show, until there are `count`.
 fn read_along<J: LogIdentity>(
     rt: &impl Wait,
     log: &OrderLog<J, Nothing>,
@@ -95,7 +95,8 @@ fn read_along<J: LogIdentity>(
     Ok(replies)
 }
 
-/// How many entries of a thread the log shows under the number that it was answered; none where it shows another.
+/// Counts the entries of a thread that the log shows under the number that was answered. Returns `None` where the log
+/// shows another entry there.
 fn shown_of(replies: &[u64], thread: usize, numbers: &[u64]) -> Option<usize> {
     let mut shown = 0usize;
     let mut index = 0u32;
@@ -112,7 +113,7 @@ fn shown_of(replies: &[u64], thread: usize, numbers: &[u64]) -> Option<usize> {
     Some(shown)
 }
 
-/// What each thread came to.
+/// Returns the result of each thread.
 fn run_threads<J: LogIdentity + Send + Sync, R: Threads + Wait + Sync>(
     rt: &R,
     alloc: Global,
@@ -136,7 +137,8 @@ fn run_threads<J: LogIdentity + Send + Sync, R: Threads + Wait + Sync>(
     )
 }
 
-/// Each appended entry stands under the number that was answered, and who reads along sees them all in one order.
+/// Asserts that each appended entry stands under the number that was answered, and that each thread that reads along
+/// sees them all in one order.
 fn check_all(rt: &impl Abort, crowd: Crowd, replies: &[u64], came: &[Came]) {
     let mut shown = 0usize;
     for (thread, came) in came.iter().enumerate() {
@@ -153,7 +155,7 @@ fn check_all(rt: &impl Abort, crowd: Crowd, replies: &[u64], came: &[Came]) {
             assert!(rt; came.as_slice() == replies);
         }
     }
-    // As many places as entries, each shown under one number: no place is named twice and none is lost.
+    // The places are as many as the entries, each shown under one number: no place is named twice and none is lost.
     assert_eq!(rt; shown, replies.len());
 }
 

@@ -1,4 +1,4 @@
-//! What callers ask, and what they have to be answered.
+//! The questions of callers, and the answers that they have to get.
 
 use log_model::{RequestId, Verdict};
 use node::{Added, ProgramRefusal};
@@ -11,7 +11,7 @@ const PUT: u16 = 3;
 
 const ONE: u16 = 9;
 
-/// How many callers there are where several call at once.
+/// The number of callers where several call at once.
 pub(crate) const CALLERS: usize = 8;
 
 const fn args_of(first: u8, second: u8) -> Words {
@@ -28,22 +28,22 @@ const NO_ARGS: Words = Words {
     second: 0,
 };
 
-/// Arguments by which 1 is added to row 5.
+/// Arguments that add 1 to row 5.
 const ADD_ONE: Words = Words {
     count: 2,
     first: 5,
     second: 1,
 };
 
-/// Arguments by which 10 is added to it.
+/// Arguments that add 10 to row 5.
 const ADD_TEN: Words = Words {
     count: 2,
     first: 5,
     second: 10,
 };
 
-/// A call: its replica, what the caller has seen, the procedure, arguments, and a request; and what it has to be
-/// answered.
+/// A call: its replica, what the caller has seen, the procedure, arguments, and a request. The last value is the answer
+/// that the call has to get.
 pub(crate) type Row = (u32, u32, u16, Words, Option<RequestId>, Answer);
 
 /// The call of a row.
@@ -58,7 +58,7 @@ fn call_of(row: &Row) -> Asking {
     }
 }
 
-/// The call after so many of these. None after the last.
+/// The call of a row, by its index from 0 on, and none after the last.
 pub(crate) fn row_at(rows: &[Row], index: usize) -> Option<Asking> {
     rows.get(index).map(call_of)
 }
@@ -70,7 +70,7 @@ fn is_answer(told: &Told, expected: Answer) -> bool {
     }
 }
 
-/// Whether it is answered as its row says.
+/// Tells whether a call is answered as its row says.
 pub(crate) fn is_as_in(rows: &[Row], index: usize, told: &Told) -> bool {
     match rows.get(index) {
         Some(row) => is_answer(told, row.5),
@@ -97,7 +97,7 @@ pub(crate) fn one_session(index: usize) -> Option<Asking> {
     }
 }
 
-/// Whether these are answered as they should be.
+/// Tells whether these are answered as they should be.
 pub(crate) fn is_one_session(index: usize, told: &Told) -> bool {
     let number = u32::try_from(index).unwrap_or(0).wrapping_add(1);
     if index < 1_000 {
@@ -124,7 +124,7 @@ fn call_at_first(procedure: u16, words: Words) -> Option<Asking> {
     })
 }
 
-/// A call of the first caller that is held at its first look, and a put that the second asks for while it is held.
+/// A call of the first caller that is held at its first look, and a put of the second caller while the call is held.
 pub(crate) fn overlap(place: usize, index: usize) -> Option<Asking> {
     match (place, index) {
         (0, 0) => call_at_first(ADD, ADD_TEN),
@@ -135,7 +135,7 @@ pub(crate) fn overlap(place: usize, index: usize) -> Option<Asking> {
     }
 }
 
-/// Whether the put is ordered first, where there is a second thread for it, and else the call that is held.
+/// Tells whether the put is ordered first, where there is a second thread for it, and else the call that is held.
 pub(crate) fn is_overlap(alone: bool, place: usize, told: &Told) -> bool {
     let (of_addition, of_put) = if alone { (1, 2) } else { (2, 1) };
     let expected = if place == 0 {
@@ -186,16 +186,16 @@ pub(crate) static TWO_PUTS: [Row; 2] = [
     ),
 ];
 
-/// How often each of several callers asks.
+/// The number of questions of each of several callers.
 const OFTEN: usize = 25;
 
-/// The replica of a caller, one of so many.
+/// The replica of a caller, one of `replicas`.
 fn replica_of(place: usize, replicas: u32) -> u32 {
     let place = u32::try_from(place).unwrap_or(0);
     (place % replicas.max(1)).wrapping_add(1)
 }
 
-/// Of several callers' sessions each adds 1 to one row.
+/// A call of one of several callers' sessions, each of which adds 1 to one row.
 pub(crate) fn often_add(replicas: u32, place: usize, index: usize) -> Option<Asking> {
     if index >= OFTEN {
         return None;
@@ -208,7 +208,7 @@ pub(crate) fn often_add(replicas: u32, place: usize, index: usize) -> Option<Ask
     })
 }
 
-/// Each of several callers puts rows of its own.
+/// A call of one of several callers, each of which puts rows of its own.
 pub(crate) fn often_put(replicas: u32, place: usize, index: usize) -> Option<Asking> {
     if index >= OFTEN {
         return None;
@@ -223,7 +223,7 @@ pub(crate) fn often_put(replicas: u32, place: usize, index: usize) -> Option<Ask
     })
 }
 
-/// Whether a put commits, as all do.
+/// Tells whether a put commits, as all do.
 pub(crate) fn is_committed(told: &Told) -> bool {
     matches!(told, Told::Answer(Answer::Committed { .. }))
 }
@@ -234,13 +234,13 @@ const FIRST: RequestId = RequestId {
     sequence: 1,
 };
 
-/// Its second.
+/// The second request of session 7.
 const SECOND: RequestId = RequestId {
     session: 7,
     sequence: 2,
 };
 
-/// The second, of a caller who has seen two entries.
+/// The call with the second request, of a caller who has seen two entries.
 static SECOND_CALL: [Row; 1] = [(
     1,
     2,
@@ -253,7 +253,7 @@ static SECOND_CALL: [Row; 1] = [(
     },
 )];
 
-/// Calls with one request, and what each has to be answered.
+/// Calls with one request, and the answer that each has to get.
 static TWICE: [Answer; 2] = [
     Answer::Committed {
         position: 1,
@@ -266,7 +266,8 @@ static TWICE: [Answer; 2] = [
     },
 ];
 
-/// A call of a session with a request, the same again, and another; and verdicts on two positions.
+/// A call of a session with a request, the same again, the session's position, another call, and verdicts on two
+/// positions.
 pub(crate) fn numbered(index: usize) -> Option<Asking> {
     match index {
         0 | 1 => in_session(ADD, ADD_TEN, Some(FIRST)),
@@ -284,7 +285,7 @@ pub(crate) fn numbered(index: usize) -> Option<Asking> {
     }
 }
 
-/// Whether these are answered as they should be.
+/// Tells whether these are answered as they should be.
 pub(crate) fn is_numbered(index: usize, told: &Told) -> bool {
     match index {
         0 | 1 => is_answer(told, TWICE[index]),
@@ -295,7 +296,7 @@ pub(crate) fn is_numbered(index: usize, told: &Told) -> bool {
     }
 }
 
-/// What is added: a name, a number, and the length of arguments in bytes. The last is a program that is cut off.
+/// The additions: a name, a number, and the length of arguments in bytes. The program of the last is cut off.
 static ADDITIONS: [([u8; 3], u16, u16); 4] = [
     (*b"one", 10, 0),
     (*b"a-b", 11, 0),
@@ -303,7 +304,7 @@ static ADDITIONS: [([u8; 3], u16, u16); 4] = [
     (*b"a-b", 11, 0),
 ];
 
-/// The program of an addition: this one, or what the cut leaves of it.
+/// The program of an addition: `program`, or what the cut leaves of it.
 fn bytes_at(program: &[u8], index: usize) -> &[u8] {
     match (index, program.get(..8)) {
         (3, Some(cut)) => cut,
@@ -311,7 +312,7 @@ fn bytes_at(program: &[u8], index: usize) -> &[u8] {
     }
 }
 
-/// The addition of a program after so many. None after the last.
+/// The addition of a program, by its index from 0 on, and none after the last.
 pub(crate) fn addition_of(program: &[u8], index: usize) -> Option<Addition<'_>> {
     let (name, number, args_len) = ADDITIONS.get(index)?;
     Some(Addition {
@@ -322,7 +323,7 @@ pub(crate) fn addition_of(program: &[u8], index: usize) -> Option<Addition<'_>> 
     })
 }
 
-/// Whether a procedure is added through the log, and what isn't accepted isn't.
+/// Tells whether a procedure is added through the log, and what isn't accepted isn't.
 pub(crate) fn is_addition(index: usize, added: &Added, seen: bool) -> bool {
     match index {
         0 => *added == Added::Ordered(1),
@@ -338,7 +339,7 @@ const NO_SESSION: RequestId = RequestId {
     sequence: 1,
 };
 
-/// What is refused, or is behind.
+/// The calls that are refused, or are behind.
 pub(crate) static REFUSALS: [Row; 7] = [
     (
         0,

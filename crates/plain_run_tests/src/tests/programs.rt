@@ -15,9 +15,8 @@ use test_programs::{
     PUT_AND_GET, PUT_AND_STICK, SKEW, SKIP, bytes_of,
 };
 
-/// A program, its arguments, the rows before it (table, key and value), and what comes of it:
-/// the reply and how many instructions were run, then the looks, the writes, the cancel code and the
-/// rows.
+/// A program, its arguments, the rows before it (table, key and value), and what comes of it. The outcome is the reply
+/// and the number of instructions that were run, then the looks, the writes, the cancel code and the rows.
 struct Case {
     program: &'static str,
     args: &'static [u64],
@@ -112,7 +111,7 @@ static RANGES: [Case; 9] = [
         rows: &[(1, 15, 9)],
         outcome: "0 in 14 put 1:100=0000000000000000 row 1:15=0900000000000000 row 1:100=0000000000000000",
     },
-    // Where nothing stands the whole range is looked at.
+    // The whole range is looked at where nothing stands.
     Case {
         program: COUNT,
         args: &[10, 20, 100],
@@ -135,7 +134,7 @@ static RANGES: [Case; 9] = [
             row 1:10=0100000000000000 row 1:20=0100000000000000 row 1:21=0100000000000000 \
             row 1:100=0200000000000000",
     },
-    // What was found ends the look.
+    // The row that was found ends the look.
     Case {
         program: NEXT,
         args: &[10, 20, 101],
@@ -192,7 +191,7 @@ static CANCELS: [Case; 6] = [
         rows: &[],
         outcome: "stuck",
     },
-    // What it looked at stays.
+    // The look of the call stays.
     Case {
         program: "7916000000000000 7917080000000000 b701000001000000 bf62000000000000 \
             bfa3000000000000 07030000f8ffffff 8500000001000000 79a8f8ff00000000 \
@@ -211,7 +210,7 @@ static CANCELS: [Case; 6] = [
         rows: &[],
         outcome: "0 in 5 cancelled 2",
     },
-    // After a cancel a get still reads what was put and is no look, and a later put is dropped too.
+    // A get after a cancel still reads what was put and is no look, and a later put is dropped too.
     Case {
         program: "7a0af8ff03000000 b702000005000000 bfa3000000000000 07030000f8ffffff \
             b701000001000000 8500000002000000 b701000009000000 8500000006000000 \
@@ -225,7 +224,7 @@ static CANCELS: [Case; 6] = [
     },
 ];
 
-/// What a run sees of its own writes.
+/// The writes of its own that a run sees.
 static OWN_WRITES: [Case; 11] = [
     // A get of a key that was put or removed before is no look.
     Case {
@@ -423,7 +422,7 @@ static TABLE_CASES: [Case; 14] = [
         rows: &[(2, 13, 1541)],
         outcome: "stuck",
     },
-    // Its key has eight bytes.
+    // The key that a next writes has eight bytes.
     Case {
         program: "b70200000a000000 b703000014000000 bfa4000000000000 07040000f8ffffff \
             bfa5000000000000 07050000f0ffffff b701000002000000 8500000005000000 \
@@ -475,7 +474,7 @@ static TABLE_CASES: [Case; 14] = [
     },
 ];
 
-/// What came of a run, in a line.
+/// Returns what came of a run, in a line.
 fn described(rt: &impl Abort, alloc: Global, run: &CompletedRun) -> String {
     let mut text = String::new(alloc);
     write!(text, "{} in {}", run.reply(), run.steps()).expect(rt, "the reply");
@@ -552,7 +551,7 @@ fn append_word(rt: &impl Abort, args: &mut Vec<u8>, word: u64) {
         .expect(rt, "a word");
 }
 
-/// What comes of a program, in a line.
+/// Returns what comes of a program, in a line.
 fn outcome_of(
     rt: &impl Abort,
     alloc: Global,
@@ -598,7 +597,7 @@ static ENDS: [(&str, u64, &str); 5] = [
     (INDEX_TOO_FAR, 250, "0 in 4"),
 ];
 
-/// What is behind the first word: each word is its number.
+/// The words behind the first word: each word is its number.
 static REST: [u64; 31] = [
     1, 2, 3, 4, 5, 6, 7, 8, 9, 10, 11, 12, 13, 14, 15, 16, 17, 18, 19, 20, 21, 22, 23, 24, 25, 26,
     27, 28, 29, 30, 31,
@@ -643,7 +642,7 @@ static WORDS: [u8; 24] = [
     10, 0, 0, 0, 0, 0, 0, 0, 20, 0, 0, 0, 0, 0, 0, 0, 101, 0, 0, 0, 0, 0, 0, 0,
 ];
 
-/// Whether the program gets to its end; none where memory was wanting.
+/// Tells whether the program gets to its end; none where memory was wanting.
 fn ends(scarce: &Scarce, code: &Code, schema: &Schema, rows: &[Row]) -> Option<bool> {
     match run_program(scarce, code, schema, &WORDS, rows) {
         Ok(run) => Some(run.is_some()),

@@ -9,8 +9,8 @@ use std::process::Abort;
 /// Table 1 of width 8, and table 2 of width 2.
 pub(super) const TABLES: [(u8, u16); 2] = [(1, 8), (2, 2)];
 
-/// The run of a program on arguments and rows, which are table, key and value: 2 bytes of it in
-/// table 2, and 8 in the others. None where it is stuck.
+/// The run of a program on arguments and rows, which are table, key and value. The value has 2 bytes in table 2, and 8
+/// in the others. The answer is none where the program is stuck.
 pub(super) fn run(
     rt: &impl Abort,
     alloc: Global,

@@ -1,4 +1,4 @@
-//! A log that is drawn: what commits in it ran alike on the rows just before it.
+//! A log that is drawn: each call that commits in it ran alike on the rows just before it.
 
 use super::{addition_of, call_of, rows_text, run_text, short};
 use log_model::{Identifier, RequestId, Verdict};
@@ -13,14 +13,14 @@ use std::alloc::Global;
 use std::process::Abort;
 use test_programs::{PROCEDURES, PUT, setting_of};
 
-/// How many items there are.
+/// The number of items.
 const ITEMS: u32 = 200;
 
-/// The names and the numbers of additions, of which each is drawn apart.
+/// The names of additions. The name and the number of each are drawn apart.
 const NAMES: [&str; 3] = ["set", "put", "3"];
 
-/// What becomes of items: a call that commits, conflicts, is stale or repeated; an addition that commits, and one whose
-/// name or number is taken; and last a call of an added procedure that commits and writes.
+/// The number of outcomes of items: a call that commits, conflicts, is stale or repeated; an addition that commits, and
+/// one whose name or number is taken; and last a call of an added procedure that commits and writes.
 const OUTCOMES: usize = 8;
 
 /// A number below the end.
@@ -33,7 +33,8 @@ fn draw_key(generator: &mut Pcg32) -> u64 {
     5 + u64::from(draw(generator, 5)).min(5)
 }
 
-/// The number of a procedure: of the sample procedures or of those that are added, with how many words it takes.
+/// The number of a procedure: of the sample procedures or of those that are added. The number of words that it takes
+/// stands beside it.
 fn draw_procedure(generator: &mut Pcg32) -> (u16, usize) {
     match PROCEDURES.get(draw(generator, 8) as usize) {
         Some((number, _program, words)) => (*number, *words),
@@ -41,23 +42,20 @@ fn draw_procedure(generator: &mut Pcg32) -> (u16, usize) {
     }
 }
 
-/// Of every third call one of a few requests, of the others none.
-fn draw_request(generator: &mut Pcg32) -> RequestId {
+/// Draws one of a few requests for every third call, and none for the others.
+fn draw_request(generator: &mut Pcg32) -> Option<RequestId> {
     let drawn = draw(generator, 3 * 16);
     if drawn < 16 {
-        RequestId {
+        Some(RequestId {
             session: 1 + drawn % 2,
             sequence: 1 + drawn / 2,
-        }
+        })
     } else {
-        RequestId {
-            session: 0,
-            sequence: 0,
-        }
+        None
     }
 }
 
-/// A call after so many, with a snapshot up to 3 positions back.
+/// A call behind `before` items, with a snapshot up to 3 positions back.
 fn draw_call(rt: &impl Abort, alloc: Global, generator: &mut Pcg32, before: u32) -> PlainItem {
     let (procedure, count) = draw_procedure(generator);
     let words = [
@@ -77,7 +75,7 @@ fn draw_addition(rt: &impl Abort, alloc: Global, generator: &mut Pcg32) -> Plain
     addition_of(rt, alloc, name, number, PUT, 2)
 }
 
-/// Of twenty items one is an addition.
+/// Draws a log. One item of twenty is an addition.
 fn drawn_log(rt: &impl Abort, alloc: Global) -> Vec<PlainItem> {
     let mut generator = Pcg32::new(2026, 15);
     let mut log = Vec::new(alloc);
@@ -92,7 +90,7 @@ fn drawn_log(rt: &impl Abort, alloc: Global) -> Vec<PlainItem> {
     log
 }
 
-/// A run of a call on rows, in a line: of the procedure that its number has at its snapshot.
+/// The run of a call on rows, in a line. The procedure is that of the call's number at its snapshot.
 fn rerun(
     rt: &impl Abort,
     alloc: Global,
@@ -114,8 +112,8 @@ fn rerun(
     }
 }
 
-/// What is kept by the item after so many, as the replay has it, and what is expected of it: where a call commits, its
-/// run on the rows just before it; else these rows.
+/// Returns what is kept by the item that has `before` items before it, as the replay has it, and what is expected of
+/// it. Where a call commits, this is its run on the rows just before it; else it is these rows.
 fn compared(
     rt: &impl Abort,
     alloc: Global,
@@ -136,7 +134,7 @@ fn compared(
     (rows_text(rt, alloc, after), rows_text(rt, alloc, rows))
 }
 
-/// Which of `OUTCOMES` became of an item.
+/// Returns which of `OUTCOMES` became of an item.
 fn outcome_of(item: &PlainItem, report: &ItemReport) -> usize {
     match (report.verdict(), &item.kind) {
         (Verdict::Commit, PlainItemKind::Addition(_)) => 4,
@@ -155,7 +153,7 @@ fn outcome_of(item: &PlainItem, report: &ItemReport) -> usize {
     }
 }
 
-/// How often each of `OUTCOMES` came.
+/// Counts how often each of `OUTCOMES` came.
 fn outcomes_of(log: &[PlainItem], replay: &CompletedReplay) -> [u32; OUTCOMES] {
     let mut outcomes = [0u32; OUTCOMES];
     for (item, report) in log.iter().zip(replay.reports()) {

@@ -1,4 +1,4 @@
-//! A queue of rows at rising keys: what was removed from it is dropped while it goes on.
+//! A queue of rows at rising keys: the rows that were removed from it are dropped while it goes on.
 
 use log_model::Verdict;
 use schema::Schema;
@@ -7,13 +7,13 @@ use std::process::Abort;
 use test_programs::{EntryCase, entry_of, small_catalogue};
 use test_replicas::CheckedReplica;
 
-/// How many rows stand in the queue.
+/// The number of rows that stand in the queue.
 const QUEUED: u64 = 50;
 
 const ENTRIES: u32 = 20_000;
 
-/// The entry at a position: one puts a row behind the others, and the next removes the first one. No key is looked at
-/// that is written.
+/// The entry at a position: one puts a row behind the others, and the next removes the first one. No written key is
+/// looked at.
 fn case_at(position: u32) -> EntryCase {
     let snapshot = position.saturating_sub(1);
     let first = u64::from(position / 2);
@@ -51,8 +51,9 @@ fn most_pages(
     most
 }
 
-/// Without dropping there would be more than 300 pages in the end. Of the 50 rows, those removed within the window and
-/// those that are removed while a pass goes on there are some 200 keys, in pages of 32 and more, and a few sparse ones.
+/// The table would have more than 300 pages in the end, if nothing were dropped. Some 200 keys are left: the 50 rows,
+/// those removed within the window and those that are removed while a pass goes on. They stand in pages of 32 and more,
+/// and a few sparse ones.
 #[test]
 fn what_left_a_queue_is_dropped(rt: HostRuntime) {
     let alloc = rt.alloc();

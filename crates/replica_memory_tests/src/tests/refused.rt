@@ -1,4 +1,4 @@
-//! What stands where a growth is refused: each growth of a rebuilding and of a list of the rows in turn.
+//! Replicas where a growth is refused: each growth of a rebuilding and of a list of the rows in turn.
 
 use super::states::{State, is_in};
 use catalogue::Catalogue;
@@ -11,7 +11,7 @@ use std::process::Abort;
 use test_programs::{EntryCase, entries_of, small_catalogue};
 use test_replicas::CheckedReplica;
 
-/// More growths than any call of these tests makes: none of them is refused that often.
+/// The most growths that are refused in turn, more than any call of these tests makes.
 const MOST: u64 = 200;
 
 /// A log of entries of each kind, of which some come to nothing.
@@ -25,7 +25,7 @@ const DELIVERIES: [EntryCase; 7] = [
     EntryCase::Numbered(7, 1, 0, 9, 9, 4, Some(60)),
 ];
 
-/// After the first entry.
+/// The state after the first entry.
 const FIRST: State = State {
     verdicts: &[Verdict::Commit],
     first: Some(10),
@@ -35,7 +35,7 @@ const FIRST: State = State {
     one: None,
 };
 
-/// After all entries.
+/// The state after all entries.
 const ALL: State = State {
     verdicts: &[
         Verdict::Commit,
@@ -53,7 +53,7 @@ const ALL: State = State {
     one: Some(9),
 };
 
-/// Whether a delivery found memory.
+/// Tells whether a delivery found memory.
 fn delivers<A: Allocator + Copy>(checked: &mut CheckedReplica<A, Global>, entry: &Entry) -> bool {
     matches!(checked.deliver(entry), Some(Ok(_)))
 }
@@ -84,8 +84,8 @@ fn rebuilt<A: Allocator + Copy>(
     rebuilt?.ok()
 }
 
-/// How many growths of a rebuilding were refused before one went through, and whether the replica was each time as it
-/// had stopped.
+/// Returns the number of growths of a rebuilding that were refused before one went through. The flag tells whether the
+/// replica was each time as it had stopped.
 fn refuse_rebuilding<A: Allocator + Copy>(
     alloc: Global,
     scarce: &Scarce,
@@ -103,7 +103,7 @@ fn refuse_rebuilding<A: Allocator + Copy>(
     (MOST, true)
 }
 
-/// Whether the rows are listed where the growth of this number is refused.
+/// Tells whether the rows are listed where the growth of this number is refused.
 fn lists<A: Allocator + Copy>(scarce: &Scarce, replica: &Replica<A, Global>, refused: u64) -> bool {
     scarce.refuse_nth(refused);
     let listed = replica.rows(scarce).is_ok();
@@ -111,7 +111,7 @@ fn lists<A: Allocator + Copy>(scarce: &Scarce, replica: &Replica<A, Global>, ref
     listed
 }
 
-/// The same of a list of the rows of a replica that has all entries.
+/// Returns the same for a list of the rows of a replica that has all entries.
 fn refuse_listing<A: Allocator + Copy>(
     alloc: Global,
     scarce: &Scarce,
@@ -128,8 +128,8 @@ fn refuse_listing<A: Allocator + Copy>(
     (MOST, true)
 }
 
-/// Of a rebuilding and of a list of the rows, how many growths were refused, and whether the replica was each time as
-/// before.
+/// Returns, for a rebuilding and for a list of the rows, the number of growths that were refused. The flag tells
+/// whether the replica was each time as before.
 fn refuse_each<A: Allocator + Copy>(
     alloc: Global,
     scarce: &Scarce,
@@ -144,7 +144,7 @@ fn refuse_each<A: Allocator + Copy>(
     [rebuilding, listing]
 }
 
-/// The same of a replica of its own.
+/// Returns the same for a replica of its own.
 fn refuse_in_turn(rt: &impl Abort, alloc: Global, catalogue: &Catalogue) -> [(u64, bool); 2] {
     let entries = entries_of(alloc, catalogue.schema(), &DELIVERIES).expect(rt, "memory");
     let scarce = Scarce::new(alloc);

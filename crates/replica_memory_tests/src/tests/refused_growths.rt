@@ -12,10 +12,10 @@ use std::process::Abort;
 use test_programs::{EntryCase, ONE, addition_of, entries_of, entry_of, small_catalogue};
 use test_replicas::CheckedReplica;
 
-/// Entries, of which the last is delivered with a growth refused, and how many growths that has: seven make room for
-/// the key of a write where there is none (its row lies beside it), four for requests or procedures where there is
-/// none, one for a name, and one at times for the verdict. And what the replica says of itself before the last and
-/// after it.
+/// Entries, of which the last is delivered with a growth refused, and the number of growths of that delivery. Seven
+/// growths make room for the key of a write where there is none (its row lies beside it). Four make room for requests
+/// or procedures where there is none. One is for a name, and one at times for the verdict. The states are what the
+/// replica says of itself before the last entry and after it.
 struct RefusedCase {
     entries: &'static [EntryCase],
     growths: u64,
@@ -23,7 +23,7 @@ struct RefusedCase {
     after: State,
 }
 
-/// Before the first entry.
+/// The state before the first entry.
 const EMPTY: State = State {
     verdicts: &[],
     first: None,
@@ -33,7 +33,7 @@ const EMPTY: State = State {
     one: None,
 };
 
-/// After a put and an addition.
+/// The state after a put and an addition.
 const TWO: State = State {
     verdicts: &[Verdict::Commit, Verdict::Commit],
     first: Some(10),
@@ -43,7 +43,7 @@ const TWO: State = State {
     one: Some(9),
 };
 
-/// After one more put.
+/// The state after one more put.
 const THREE: State = State {
     verdicts: &[Verdict::Commit, Verdict::Commit, Verdict::Commit],
     first: Some(10),
@@ -126,7 +126,7 @@ static CASES: [RefusedCase; 8] = [
         before: TWO,
         after: THREE,
     },
-    // What a repeated call wrote is prepared, though it isn't installed.
+    // The writes of a repeated call are prepared, though they aren't installed.
     RefusedCase {
         entries: &[
             EntryCase::Numbered(7, 1, 0, 5, 5, 1, Some(10)),
@@ -170,8 +170,8 @@ static CASES: [RefusedCase; 8] = [
     },
 ];
 
-/// Whether a replica that stopped before the last entry has what it had, delivers no more, and has the entry once it is
-/// made anew.
+/// Tells whether a replica that stopped before the last entry has what it had, and delivers no more. Once it is made
+/// anew it has to have the entry.
 fn stays_stopped<A: Allocator + Copy>(
     alloc: Global,
     checked: &mut CheckedReplica<A, Global>,
@@ -186,15 +186,15 @@ fn stays_stopped<A: Allocator + Copy>(
     left && again && same && rebuilt && is_in(alloc, checked.replica(), &case.after, false)
 }
 
-/// What came of a replica of a case.
+/// The outcome of a replica of a case.
 #[derive(Clone, Copy, PartialEq, Eq)]
 enum Came {
-    /// It wasn't made, for want of memory.
+    /// The replica wasn't made, for want of memory.
     Unmade,
     /// The last entry found no memory.
     Refused,
     Delivered,
-    /// Something isn't as the case says.
+    /// A part isn't as the case says.
     Unlike,
 }
 
@@ -231,7 +231,7 @@ fn came_of<A: Allocator + Copy>(
     if begun && same { came } else { Came::Unlike }
 }
 
-/// Which growth is refused: of a replica that is made, or of the last delivery.
+/// The growth that is refused: of a replica that is made, or of the last delivery.
 #[derive(Clone, Copy)]
 enum Growth {
     Making(u64),
@@ -239,7 +239,7 @@ enum Growth {
 }
 
 /// Makes a replica and delivers the entries of a case with a growth refused. One function owns the replica in all
-/// tests, since each that does takes long to be proved.
+/// tests, since each owning function takes long to be proved.
 fn attempt(
     alloc: Global,
     catalogue: &Catalogue,
@@ -260,8 +260,8 @@ fn attempt(
     came_of(alloc, &scarce, &mut checked, entries, case, delivering)
 }
 
-/// How many growths of this kind were refused, each in turn with this outcome, before all went well; none where
-/// something isn't as the case says.
+/// Returns the number of growths of this kind that were refused, each in turn with this outcome, before all went well;
+/// none where something isn't as the case says.
 fn refused_among(
     alloc: Global,
     catalogue: &Catalogue,
@@ -310,10 +310,10 @@ fn a_refused_growth_stops_the_replica(rt: HostRuntime) {
 
 // ---- growths with kept requests and without
 
-/// How many times a call with a request, one without, and an addition are delivered in turn.
+/// The number of times that a call with a request, a call without, and an addition are delivered in turn.
 const TURNS: u32 = 16;
 
-/// These in turn, with requests in the first of each three or without.
+/// Returns such entries in turn, with requests in the first of each three or without.
 fn probing_entries(rt: &impl Abort, alloc: Global, schema: &Schema, session: u32) -> Vec<Entry> {
     let mut entries = Vec::new(alloc);
     for turn in 0..TURNS {
@@ -329,7 +329,7 @@ fn probing_entries(rt: &impl Abort, alloc: Global, schema: &Schema, session: u32
     entries
 }
 
-/// Adds these once, when so many entries were added.
+/// Adds one such turn, when `before` entries were added.
 fn add_turn(
     rt: &impl Abort,
     alloc: Global,
@@ -359,7 +359,7 @@ fn push(rt: &impl Abort, entries: &mut Vec<Entry>, entry: Option<Entry>) {
     entries.push(entry).expect(rt, "memory");
 }
 
-/// How many growths each of these deliveries makes; none where one doesn't commit.
+/// Returns the number of growths that each of these deliveries makes; none where one doesn't commit.
 fn growths_in<A: Allocator + Copy>(
     scarce: &Scarce,
     checked: &mut CheckedReplica<A, Global>,
@@ -388,7 +388,8 @@ fn growths_of(
     growths_in(&scarce, &mut checked, &entries)
 }
 
-/// Growths of the first of each three together, and whether the others are as many.
+/// Returns the growths of the first of each three together, with requests and without, and whether the others are as
+/// many.
 fn compared(with: [u64; 48], without: [u64; 48]) -> (u64, u64, bool) {
     let (mut first, mut second, mut same) = (0u64, 0u64, true);
     for place in 0..48usize {
@@ -402,7 +403,7 @@ fn compared(with: [u64; 48], without: [u64; 48]) -> (u64, u64, bool) {
     (first, second, same)
 }
 
-/// Only a call with a request makes room for it, also where the room is full.
+/// A call with a request makes room for it, also where the room is full; no other entry does.
 #[test]
 fn kept_requests_cost_other_entries_no_growth(rt: HostRuntime) {
     let catalogue = small_catalogue(rt.alloc()).expect(&rt, "memory");

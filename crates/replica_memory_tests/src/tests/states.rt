@@ -1,4 +1,4 @@
-//! What a replica says of itself.
+//! The state that a replica tells of itself.
 
 use log_model::Verdict;
 use replica::Replica;
@@ -6,8 +6,8 @@ use row_sets::Row;
 use std::alloc::{Allocator, Global};
 use test_programs::{byte_at, certification_at};
 
-/// What a replica is to say of itself: what became of each entry that it has; the bytes at keys 1 and 2; how many rows
-/// there are and the sum of keys times bytes; how many procedures it has, and the number of `one`.
+/// The state that a replica is to tell of itself: the verdict on each entry that it has; the bytes at keys 1 and 2; the
+/// number of rows and the sum of keys times bytes; the number of procedures, and the number of `one`.
 #[derive(Clone, Copy)]
 pub(super) struct State {
     pub verdicts: &'static [Verdict],
@@ -37,7 +37,7 @@ fn listed_now<A: Allocator + Copy>(
     }
 }
 
-/// Whether these became of the entries, and there are no more.
+/// Tells whether the replica has these verdicts on its entries, and no more entries.
 fn has_verdicts<A: Allocator + Copy>(replica: &Replica<A, Global>, expected: &[Verdict]) -> bool {
     let mut position = 0u32;
     for verdict in expected {
@@ -50,7 +50,7 @@ fn has_verdicts<A: Allocator + Copy>(replica: &Replica<A, Global>, expected: &[V
     replica.position() == position
 }
 
-/// Whether there are so many procedures, and `one` is found by its name and by its number, or by neither.
+/// Tells whether there are `count` procedures, and `one` is found by its name and by its number, or by neither.
 fn has_procedures<A: Allocator + Copy>(
     replica: &Replica<A, Global>,
     count: usize,
@@ -63,7 +63,7 @@ fn has_procedures<A: Allocator + Copy>(
         && numbered == one.is_some()
 }
 
-/// Whether a replica, stopped or not, says this of itself.
+/// Tells whether a replica, stopped or not, is in this state.
 pub(super) fn is_in<A: Allocator + Copy>(
     alloc: Global,
     replica: &Replica<A, Global>,

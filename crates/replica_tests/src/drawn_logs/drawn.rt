@@ -1,4 +1,4 @@
-//! Logs that are drawn from a seed, and the entries that they are shipped as.
+//! Logs that are drawn from a seed, and the entries as which they are shipped.
 
 use log_entry::{Entry, ExecutedCall};
 use log_model::RequestId;
@@ -11,19 +11,20 @@ use std::alloc::Global;
 use std::process::Abort;
 use test_programs::{ONE, PROCEDURES, addition_of, args_of, idle_call, procedure_of};
 
-/// Keys are drawn from as many from 1 on.
+/// The greatest key that is drawn; the least is 1.
 pub(super) const KEYS: u32 = 40;
 
-/// The numbers of additions, and those whose digits are their names, are drawn from as many from 1 on.
+/// The greatest number that is drawn for an addition, or for the digits of its name.
 pub(super) const NUMBERS: u32 = 150;
 
-/// The name of an addition, of three digits, or of one where it is below 10: the catalogue has some of these.
+/// The name of an addition, of three digits, or of one digit where the number is below 10: the catalogue has some of
+/// these.
 pub(super) fn name_of(rt: &impl Abort, alloc: Global, number: u32) -> String {
     format!(in alloc; "{number}").expect(rt, "memory")
 }
 
-/// The program of a number, and how many words it takes: of the sample procedures' numbers their own, of the others
-/// these in turn.
+/// The program of a number, and the number of words that it takes. The sample procedures' numbers have their own
+/// programs, the others have these in turn.
 fn program_of(number: u32) -> (&'static str, usize) {
     match PROCEDURES.get((number.saturating_sub(1) % 6) as usize) {
         Some((_number, program, words)) => (program, *words),
@@ -31,11 +32,11 @@ fn program_of(number: u32) -> (&'static str, usize) {
     }
 }
 
-/// What a log is drawn from.
+/// The source from which a log is drawn.
 #[derive(Drop)]
 struct Source {
     generator: Pcg32,
-    /// How many requests were drawn.
+    /// The number of requests that were drawn.
     requests: u32,
 }
 
@@ -45,14 +46,14 @@ impl Source {
         self.generator.next_word().checked_rem(end).unwrap_or(0)
     }
 
-    /// A key; every other one of the first few, which more calls share.
+    /// A key. Every other key is one of the first few, which more calls share.
     fn draw_key(&mut self) -> u64 {
         let end = if self.draw(2) == 0 { 6 } else { KEYS };
         u64::from(self.draw(end)).wrapping_add(1)
     }
 
-    /// Which request a call carries: none, a new one, one of the latest eight, or any that was drawn.
-    fn draw_request(&mut self) -> RequestId {
+    /// Draws the request that a call carries: none, a new one, one of the latest eight, or any that was drawn.
+    fn draw_request(&mut self) -> Option<RequestId> {
         let last = self.requests;
         match self.draw(9) {
             0 => {
@@ -82,21 +83,19 @@ impl Source {
     }
 }
 
-/// The request of a number, from 1 on; none of 0. With each there is one with session and sequence number exchanged.
-fn request_of(number: u32) -> RequestId {
+/// The request of a number, from 1 on; none of 0. Beside each request there is one with session and sequence number
+/// exchanged.
+fn request_of(number: u32) -> Option<RequestId> {
     if number == 0 {
-        return RequestId {
-            session: 0,
-            sequence: 0,
-        };
+        return None;
     }
-    RequestId {
+    Some(RequestId {
         session: 1 + number % 40,
         sequence: 1 + number / 40,
-    }
+    })
 }
 
-/// A call after so many items.
+/// A call behind `before` items.
 fn draw_call(
     rt: &impl Abort,
     alloc: Global,
@@ -130,7 +129,7 @@ fn draw_addition(rt: &impl Abort, alloc: Global, source: &mut Source) -> PlainIt
     }
 }
 
-/// So many items under a window. Of twenty one is an addition.
+/// Draws `count` items under a window. One of twenty is an addition.
 pub(super) fn drawn_log(rt: &impl Abort, alloc: Global, window: u32, count: u32) -> Vec<PlainItem> {
     let mut source = Source {
         generator: Pcg32::new(u64::from(window), 16),

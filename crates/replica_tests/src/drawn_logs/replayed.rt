@@ -1,4 +1,4 @@
-//! What the plain replayer says of drawn logs, a replica comes to.
+//! Drawn logs, on which a replica comes to what the plain replayer says.
 
 ghost use Rattle.std.specs.Prelude.{◌<◌, ◌^◌, length};
 
@@ -17,7 +17,7 @@ use test_programs::{PROCEDURES, TABLES, catalogue_of, certification_at, setting_
 use test_replicas::CheckedReplica;
 use txn_view::Store;
 
-/// How many items a log has.
+/// The number of items of a log.
 const ITEMS: u32 = 5_000;
 
 /// The log, which is short in these tests.
@@ -32,7 +32,7 @@ fn short(log: &[PlainItem]) -> &[PlainItem]
 
 // ---- rows and procedures
 
-/// All keys of table 1.
+/// The look at all keys of table 1.
 const EVERYWHERE: Look = Look {
     table: 1,
     lo: 0,
@@ -46,7 +46,7 @@ fn found(rows: &[Row], key: u64) -> Option<&[u8]> {
         .map(|row| row.bytes())
 }
 
-/// Whether a store has these rows: at each key, by their number, and the first.
+/// Tells whether a store has these rows: at each key, by their number, and the first.
 fn has_rows<S: Store>(store: &S, rows: &[Row]) -> bool {
     for key in 0..u64::from(KEYS).saturating_add(2) {
         if store.get(1, key) != Ok(found(rows, key)) {
@@ -57,8 +57,8 @@ fn has_rows<S: Store>(store: &S, rows: &[Row]) -> bool {
     store.count(EVERYWHERE) == Ok(rows.len() as u64) && store.next(EVERYWHERE) == Ok(first)
 }
 
-/// Whether a replica has the rows of a replay at each position up to its own that its window keeps, and says of the one
-/// below that it is gone.
+/// Tells whether a replica has the rows of a replay at each position up to its own that its window keeps. The position
+/// below these has to be gone.
 fn keeps_rows(replica: &Replica, replay: &CompletedReplay) -> bool {
     let last = replica.position();
     let first = last.saturating_sub(replica.window());
@@ -79,7 +79,7 @@ struct Replayed<'a> {
     replay: &'a CompletedReplay,
 }
 
-/// Whether a replica finds what the replay has under a number, and under the name of its digits.
+/// Tells whether a replica finds what the replay has under a number, and under the name of its digits.
 fn finds_procedure(
     rt: &impl Abort,
     alloc: Global,
@@ -99,7 +99,7 @@ fn finds_procedure(
     replica.procedures().by_name(name.as_bytes()) == named && program == numbered
 }
 
-/// Whether a replica has the procedures of the replay at its position.
+/// Tells whether a replica has the procedures of the replay at its position.
 fn has_procedures(rt: &impl Abort, alloc: Global, replica: &Replica, replayed: &Replayed) -> bool {
     let reports = replayed.replay.reports();
     let past = reports.get(..replica.position() as usize).unwrap_or(&[]);
@@ -117,32 +117,32 @@ fn has_procedures(rt: &impl Abort, alloc: Global, replica: &Replica, replayed: &
 
 // ---- verdicts
 
-/// What became of items, by kinds.
+/// The outcomes of items, by kinds.
 #[derive(Clone, Copy)]
 enum Kind {
     Commit,
-    /// A call that commits though an earlier one with its request was refused by a conflict.
+    /// A call that commits though an earlier call with its request was refused by a conflict.
     CommitAfterConflict,
-    /// The same where the last such one was stale.
+    /// A call that commits though the last earlier call with its request was stale.
     CommitAfterStale,
     Conflict,
     Stale,
-    /// A call that repeats one within the window.
+    /// A call that repeats a call within the window.
     RepeatedNear,
-    /// One that repeats a call before the window.
+    /// A call that repeats a call before the window.
     RepeatedFar,
-    /// One that would be stale.
+    /// A call that repeats another and would be stale.
     RepeatedPastWindow,
     Addition,
     NameTaken,
     NumberTaken,
 }
 
-/// How many kinds there are.
+/// The number of kinds.
 const KINDS: usize = 11;
 
 /// The verdict on the last call with this request, where there is one.
-fn last_verdict(past: &[ItemReport], request: RequestId) -> Option<Verdict> {
+fn last_verdict(past: &[ItemReport], request: Option<RequestId>) -> Option<Verdict> {
     let mut last = None;
     for report in past {
         if report.request() == request {
@@ -153,7 +153,7 @@ fn last_verdict(past: &[ItemReport], request: RequestId) -> Option<Verdict> {
 }
 
 fn kind_of_commit(past: &[ItemReport], call: &PlainCall) -> Kind {
-    if call.request().session == 0 {
+    if call.request().is_none() {
         return Kind::Commit;
     }
     match last_verdict(past, call.request()) {
@@ -163,7 +163,7 @@ fn kind_of_commit(past: &[ItemReport], call: &PlainCall) -> Kind {
     }
 }
 
-/// The kind of a call after so many items that repeats the one at a position.
+/// The kind of a call behind `before` items that repeats the call at a position.
 fn kind_of_repeat(window: u32, before: usize, call: &PlainCall, position: u32) -> Kind {
     if before.saturating_sub(call.snapshot()) > window as usize {
         Kind::RepeatedPastWindow
@@ -189,8 +189,8 @@ fn kind_of(window: u32, past: &[ItemReport], item: &PlainItem, verdict: Verdict)
     }
 }
 
-/// What became of a drawn log: how many items of each kind, and after how many a replica doesn't come to what the plain
-/// replay says.
+/// The outcome of a drawn log: the number of items of each kind, and the number of items after which a replica differs
+/// from the plain replay.
 #[derive(Clone, Copy)]
 struct Outcome {
     counts: [u32; KINDS],
@@ -213,7 +213,7 @@ impl Outcome {
         self.counts.get(kind as usize).copied().unwrap_or(0)
     }
 
-    /// How many items there were.
+    /// Returns the number of items.
     fn items(&self) -> u32 {
         let mut items = 0u32;
         for count in self.counts {
@@ -223,7 +223,7 @@ impl Outcome {
     }
 }
 
-/// Whether a replica says of the item at a position what a replay says of it.
+/// Tells whether a replica says of the item at a position what a replay says of it.
 fn says_the_same(replica: &Replica, position: u32, report: &ItemReport) -> bool {
     match certification_at(replica, position) {
         Some(certification) => {
@@ -234,7 +234,7 @@ fn says_the_same(replica: &Replica, position: u32, report: &ItemReport) -> bool 
     }
 }
 
-/// Delivers an item as it is shipped: whether the replica says of it what the replay says.
+/// Delivers an item as it is shipped, and tells whether the replica says of it what the replay says.
 fn delivers_the_same(
     rt: &impl Abort,
     alloc: Global,
@@ -249,7 +249,7 @@ fn delivers_the_same(
     verdict == Some(Ok(report.verdict())) && says_the_same(checked.replica(), position, report)
 }
 
-/// Whether a replica, at each thousandth position, has the rows and the procedures of the replay.
+/// Tells whether a replica, at each thousandth position, has the rows and the procedures of the replay.
 fn has_the_same(rt: &impl Abort, alloc: Global, replica: &Replica, replayed: &Replayed) -> bool {
     if replica.position() % 1_000 != 0 {
         return true;
@@ -319,15 +319,15 @@ fn outcome_of(rt: &impl Abort, alloc: Global, catalogue: &Catalogue, window: u32
     outcome_of_log(rt, alloc, catalogue, &setting, &log)
 }
 
-/// Whether a log had calls of the kinds that each window has; stale ones are few where the window is nearly as long as
-/// the log.
+/// Tells whether a log had calls of the kinds that each window has. Stale calls are few where the window is nearly as
+/// long as the log.
 fn is_varied(window: u32, outcome: &Outcome) -> bool {
     outcome.of(Kind::Commit) > 1_000
         && outcome.of(Kind::Conflict) > 50
         && (outcome.of(Kind::Stale) > 0 || window == 4_096)
 }
 
-/// Compares a log under a window, and adds how many items it has of each kind.
+/// Compares a log under a window, and adds the number of its items of each kind.
 fn compare(
     rt: &impl Abort,
     alloc: Global,

@@ -9,8 +9,8 @@ use std::process::Abort;
 use test_programs::{EntryCase, byte_at, certification_at, entry_of, small_catalogue};
 use test_replicas::CheckedReplica;
 
-/// A log under a window: of each entry the verdict on it and how many comparisons that takes; positions and keys with
-/// what is found there after all entries; and the procedures then, in order of entry.
+/// A log under a window. Each entry stands with the verdict on it and the number of comparisons that this takes.
+/// Positions and keys stand with what is found there after all entries, and the procedures then in order of entry.
 struct LogCase {
     window: u32,
     steps: &'static [(EntryCase, Verdict, u64)],
@@ -19,7 +19,7 @@ struct LogCase {
 }
 
 static LOGS: [LogCase; 3] = [
-    // As a program of another language told it.
+    // A program of another language told these outcomes.
     LogCase {
         window: 2,
         steps: &[
@@ -191,7 +191,7 @@ static LOGS: [LogCase; 3] = [
     },
 ];
 
-/// Whether an entry is delivered with this verdict, by so many comparisons.
+/// Tells whether an entry is delivered with this verdict, by this number of comparisons.
 fn comes_to(checked: &mut CheckedReplica, entry: &Entry, verdict: Verdict, compared: u64) -> bool {
     let told = checked.deliver(entry);
     let replica = checked.replica();
@@ -203,7 +203,7 @@ fn comes_to(checked: &mut CheckedReplica, entry: &Entry, verdict: Verdict, compa
     }
 }
 
-/// Whether the procedures are these, in this order, and each is found by its name and by its number.
+/// Tells whether the procedures are these, in this order, and each is found by its name and by its number.
 fn has_procedures(replica: &Replica, expected: &[(&[u8], u16)]) -> bool {
     let mut listed = replica.procedures().list();
     for (name, number) in expected {
@@ -230,8 +230,8 @@ fn wrong_row(replica: &Replica, rows: &[(u32, u64, Option<Option<u8>>)]) -> Opti
     None
 }
 
-/// What a replica comes to that isn't as it is written down: the position of the first step with another verdict or
-/// count; a position and a key with another row; and whether the procedures are others.
+/// The outcomes of a replica that aren't as they are written down: the position of the first step with another verdict
+/// or count; a position and a key with another row; and whether the procedures are others.
 #[derive(Clone, Copy, Debug, PartialEq, Eq)]
 struct Difference {
     step: Option<u32>,
@@ -245,7 +245,7 @@ const NONE: Difference = Difference {
     procedures: false,
 };
 
-/// Whether a step has this verdict and count.
+/// Tells whether a step has this verdict and count.
 fn takes(
     rt: &impl Abort,
     alloc: Global,

@@ -20,8 +20,8 @@ fn value_at(replica: &Replica, position: u32) -> Result<Option<u8>, Gone> {
     }
 }
 
-/// What stands there after a position, when so many calls were delivered of which each puts its position: nothing at
-/// first, and nothing any more where more than the window were delivered since.
+/// Returns what stands at that key after a position, when `delivered` calls were delivered of which each puts its
+/// position. No row stands there at first, and the rows are gone where more than the window were delivered since.
 fn expected(window: u32, delivered: u32, position: u32) -> Result<Option<u8>, Gone> {
     if delivered.saturating_sub(position) > window {
         Err(Gone)
@@ -32,7 +32,7 @@ fn expected(window: u32, delivered: u32, position: u32) -> Result<Option<u8>, Go
     }
 }
 
-/// The first position that reads otherwise when so many calls were delivered.
+/// The first position that reads otherwise when `delivered` calls were delivered.
 fn wrong_position(replica: &Replica, delivered: u32) -> Option<u32> {
     if replica.begin() != delivered {
         return Some(delivered);
@@ -64,7 +64,7 @@ fn differs(
     }
 }
 
-/// After how many calls, and where, a replica first reads otherwise.
+/// Returns the number of calls after which, and the position at which, a replica first reads otherwise.
 fn difference_in(
     rt: &impl Abort,
     alloc: Global,

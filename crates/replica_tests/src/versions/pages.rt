@@ -20,8 +20,8 @@ fn removal_of(rt: &impl Abort, alloc: Global, key: u64) -> WriteSet {
     writes
 }
 
-/// How many pages table 1 has once so many keys were put in rising order (counted by hand: a page of 64 keys is split
-/// into 32 and 32 by the next, which goes into the upper one).
+/// The numbers of pages that table 1 has once a number of keys were put in rising order, counted by hand. A page of 64
+/// keys is split into 32 and 32 by the next key, which goes into the upper one.
 const PAGES: [(u64, usize); 7] = [
     (1, 1),
     (64, 1),
@@ -37,7 +37,7 @@ fn install(rt: &impl Abort, checked: &mut CheckedVersions, position: u32, writes
     assert!(rt; installed);
 }
 
-/// Puts the keys from 1 to 1,000 in turn: how many of the rows of `PAGES` were seen.
+/// Puts the keys from 1 to 1,000 in turn, and returns the number of rows of `PAGES` that were seen.
 fn put_all(rt: &impl Abort, alloc: Global, checked: &mut CheckedVersions) -> usize {
     let mut seen = 0usize;
     for key in 1..=1_000u64 {
@@ -58,7 +58,7 @@ fn remove_all(rt: &impl Abort, alloc: Global, checked: &mut CheckedVersions) {
     }
 }
 
-/// How many pages are left where a position is the oldest that is kept.
+/// Returns the number of pages that are left where a position is the oldest that is kept.
 fn pages_from(checked: &mut CheckedVersions, position: u32) -> usize {
     checked.prune(position);
     checked.versions().pages(1)
@@ -77,7 +77,7 @@ fn pages_are_split_when_they_are_full(rt: HostRuntime) {
     assert_eq!(rt; (seen, left), (PAGES.len(), [31, 0]));
 }
 
-/// How many pages are left after each of so many that are pruned, and how often a pass came to its end.
+/// Returns the number of pages that are left after each of 32 that are pruned, and how often a pass came to its end.
 fn pages_in_turn(checked: &mut CheckedVersions, position: u32) -> ([usize; 32], u32) {
     let mut left = [0; 32];
     let mut ends = 0u32;
@@ -110,10 +110,10 @@ fn pages_are_pruned_one_at_a_time(rt: HostRuntime) {
 
 // ---- more pages than a group has
 
-/// How many keys are put in rising order: 312 pages, of which a group has 256 at most.
+/// The number of keys that are put in rising order: 312 pages, of which a group has 256 at most.
 const MANY: u64 = 10_000;
 
-/// How many of the keys from 1 on have their own number at a position.
+/// Returns the number of keys, from 1 on, that have their own number at a position.
 fn own_numbers(rt: &impl Abort, checked: &CheckedVersions, position: u32) -> u64 {
     let mut own = 0u64;
     for key in 1..=MANY {

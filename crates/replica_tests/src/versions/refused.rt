@@ -1,4 +1,4 @@
-//! What stands of versions of rows where a growth of an install is refused: each in turn.
+//! Versions of rows where a growth of an install is refused: each in turn.
 
 use row_sets::WriteSet;
 use rows_mv::{Gone, Versions};
@@ -9,11 +9,11 @@ use std::process::Abort;
 use test_programs::TABLES;
 use test_replicas::CheckedVersions;
 
-/// The growths of the last install: one makes the pair of a second version, three the run of a third, two the upper half
-/// of a page, with room for more keys. Between these two the lower half shrinks, which can't fail.
+/// The growths of the last install. One makes the pair of a second version, three make the run of a third, two the
+/// upper half of a page, with room for more keys. The lower half shrinks between these two, which can't fail.
 const INSTALL_GROWTHS: u64 = 7;
 
-/// Of the rows of table 1 at a position: how many there are, and how many have their key's own number.
+/// The counts of the rows of table 1 at a position: how many there are, and how many have their key's own number.
 #[derive(Clone, Copy, Debug, PartialEq, Eq)]
 struct Counts {
     rows: usize,
@@ -60,7 +60,7 @@ fn numbers(rt: &impl Abort, alloc: Global, numbers: &[(u64, u64)]) -> WriteSet {
     writes
 }
 
-/// What is written at positions 1, 2 and 3.
+/// The writes at positions 1, 2 and 3.
 #[derive(Drop)]
 struct Writes {
     first: WriteSet,
@@ -80,7 +80,7 @@ impl Writes {
     }
 }
 
-/// What installs at positions 1, 2 and, with a growth refused, 3 came to, and what is counted then.
+/// The outcome of installs at positions 1, 2 and, with a growth refused, 3, and what is counted then.
 #[derive(Clone, Copy, Debug, PartialEq, Eq)]
 struct Attempt {
     first: Result<bool, AllocError>,
@@ -120,7 +120,7 @@ fn attempt_install(rt: &impl Abort, alloc: Global, writes: &Writes, refused: u64
     install_all(&scarce, &mut checked, writes, refused)
 }
 
-/// What is expected of an attempt that was refused, and of one that wasn't.
+/// Tells whether an attempt, refused or not, came to what is expected.
 fn is_expected(came: Attempt) -> bool {
     let old = Ok(Counts { rows: 64, own: 64 });
     let new = Ok(Counts { rows: 66, own: 65 });

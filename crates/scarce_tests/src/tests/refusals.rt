@@ -1,4 +1,4 @@
-// What no clause says: which growth is refused, what the counters show, and that a collection can use it.
+// Tests of what no clause says: which growth is refused, what the counters show, and that a collection can use it.
 
 use super::same;
 use scarce::Scarce;
@@ -9,7 +9,7 @@ use std::sync::atomic::{AtomicU64, Ordering};
 use std::sync::{Barrier, Wait};
 use std::thread;
 
-// Whether the list got room for 100 elements more. In any case it has its one element.
+// Tells whether the list got room for 100 elements more. In any case the list has its one element.
 fn has_grown(rt: &impl Abort, list: &mut Vec<u8, &Scarce>) -> bool {
     let is_given = list.reserve(100).is_ok();
     same(rt, "elements", list.as_slice(), [1].as_slice());
@@ -26,7 +26,7 @@ fn a_list_keeps_its_elements(rt: HostRuntime) {
     assert!(rt; list.capacity() >= 101);
 }
 
-// Whether the entry is in. If not the tree is as it was, and the entry comes back.
+// Tells whether the entry is in. If not the tree is as it was, and the entry comes back.
 fn is_inserted(rt: &impl Abort, tree: &mut BTreeMap<u32, u32, &Scarce>, key: u32) -> bool {
     let len = tree.len();
     match tree.insert(key, key) {
@@ -57,7 +57,7 @@ fn a_tree_keeps_its_entries(rt: HostRuntime) {
     assert!(rt; scarce.refused() > 1);
 }
 
-// What is asked for, and which of the next growths are refused then.
+// The refusals that are asked for, and which of the next growths are refused then.
 type Asked = (Option<u64>, Option<bool>, (bool, bool, bool));
 
 static ASKED: [Asked; 8] = [
@@ -166,7 +166,7 @@ fn boxes(scarce: &Scarce, count: u64) -> Result<(), AllocError> {
     Ok(())
 }
 
-// How many tries fail of a call that makes so many growths.
+// Returns the number of tries that fail, of a call that makes `count` growths.
 fn tries(scarce: &Scarce, count: u64) -> Option<u64> {
     scarce.refuse_each(|| boxes(scarce, count).is_ok())
 }
@@ -195,7 +195,7 @@ fn is_filled(list: &[u64], seed: u64) -> bool {
     list.len() == 20 && (0..20).all(|number| list.contains(&seed.wrapping_add(number)))
 }
 
-// How many of the lists were refused.
+// Returns the number of lists that were refused.
 fn fill_many<R: Abort>(rt: &R, scarce: &Scarce, seed: u64, count: u64) -> u64 {
     let mut refused = 0u64;
     for _ in 0..count {
@@ -207,14 +207,14 @@ fn fill_many<R: Abort>(rt: &R, scarce: &Scarce, seed: u64, count: u64) -> u64 {
     refused
 }
 
-// What a thread saw: refusals, and a list that another thread drops.
+// The parts that a thread sees: refusals, and a list that another thread drops.
 #[derive(Drop)]
 struct Seen<'a> {
     refused: u64,
     list: Option<Vec<u64, &'a Scarce>>,
 }
 
-// What the threads share. Before the first gate all growths are refused, and from the second on none.
+// The parts that threads share. Before the first gate all growths are refused, and from the second on none.
 #[derive(Drop)]
 struct Work<'a> {
     scarce: &'a Scarce,
@@ -233,7 +233,7 @@ fn fill_between<'a, R: Wait + Abort>(rt: &R, work: &Work<'a>, seed: u64) -> Seen
     Seen { refused, list }
 }
 
-// It ends also where a thread stays busy, so that no schedule makes the test run for long.
+// The switching ends also where a thread stays busy, so that no schedule makes the test run for long.
 fn switch_while_busy(work: &Work) {
     for _ in 0..1_000_000 {
         if work.busy.load(Ordering::SeqCst) == 0 {
@@ -248,7 +248,7 @@ fn switch_while_busy(work: &Work) {
     work.scarce.refuse_nth(0);
 }
 
-// How many refusals a thread saw, whose list is whole.
+// Returns the number of refusals that a thread saw, whose list is whole.
 fn refusals_of(rt: &impl Abort, seed: u64, seen: Seen<'_>) -> u64 {
     let list = seen.list.expect(rt, "nothing is refused");
     assert!(rt; is_filled(list.as_slice(), seed));

@@ -1,4 +1,4 @@
-//! What looks cover, and what they count and find first.
+//! The keys that looks cover, the rows that they count, and the row that they find first.
 
 ghost use Rattle.std.specs.Prelude.{◌≡◌, ℕ, ◌+◌, ◌≤◌, ◌&&◌, ◌||◌, ◌↔◌, Option, Some, None, is_some};
 ghost use Rattle.std.specs.Prelude.{IsTrue, IsFalse, IsSome, List, Any, find, count_by};
@@ -10,7 +10,7 @@ ghost use Rattle.schema.specs.Rows.{IsVacant};
 ghost use Rattle.schema.specs.Rows.{low_part, high_part, Writes, after_write, after_writes};
 ghost use Rattle.schema.specs.Rows.{puts, rows_under, rows_elsewhere, lesser_row};
 
-/// A look covers the keys of its table from lo to hi; a list of looks covers what one of them does.
+/// A look covers the keys of its table from lo to hi; a list of looks covers each key that one of the looks covers.
 pub fn looks_cover_from_lo_to_hi()
     ensures one { (look : Look) (k : Key)
         → IsTrue (covers look k)
@@ -19,7 +19,7 @@ pub fn looks_cover_from_lo_to_hi()
         → IsTrue (any_covers looks k) ↔ Any (λ look. IsTrue (covers look k)) looks }
 {}
 
-/// Two maps that agree on what a look covers have the same rows there, as many, and the same first.
+/// Two maps that agree on the keys of a look have the same rows there, the same count and the same first row.
 pub fn looks_agree()
     ensures rows { (look : Look) (m n : Rows)
         → AgreeOn (covers look) m n → rows_in look m ≡ rows_in look n }
@@ -29,8 +29,8 @@ pub fn looks_agree()
         → AgreeOn (covers look) m n → first_in look m ≡ first_in look n }
 {}
 
-/// The first row that a look covers is that of the least key, and there is none exactly where the
-/// look covers no row.
+/// The first row that a look covers is the row of the least key. No first row exists exactly where the look covers no
+/// row.
 pub fn first_is_least()
     ensures found { (look : Look) (rows : Rows) (k : Key) (bytes : List ℕ)
         → (first_in look rows ≡ Some (k, bytes)) ↔ IsFirst look rows k bytes }
@@ -38,13 +38,13 @@ pub fn first_is_least()
         → (first_in look rows ≡ None) ↔ IsVacant look rows }
 {}
 
-/// A look counts no rows exactly where it covers none.
+/// A look counts no rows exactly where it covers no row.
 pub fn count_is_zero_where_none()
     ensures { (look : Look) (rows : Rows) → (count_in look rows ≡ 0) ↔ IsVacant look rows }
 {}
 
-/// A look counts one more where a row is put that it covers and that didn't stand, and one less
-/// where one is removed that it covers; each other write leaves the count.
+/// A put at a covered key without a row raises a look's count by 1; a removal of a covered row lowers the count by 1.
+/// Each other write leaves the count.
 pub fn count_in_changes_by_one()
     ensures new { (look : Look) (rows : Rows) (k : Key) (bytes : List ℕ)
         → IsTrue (covers look k) → get rows k ≡ None
@@ -63,9 +63,9 @@ pub fn count_in_changes_by_one()
         → count_in look (after_write k write rows) ≡ count_in look rows }
 {}
 
-/// After writes a look counts what is put inside it and the rows there whose keys aren't written;
-/// before them it counts these and the rows whose keys are. What is put, and what stands at written
-/// keys, can be counted along the writes.
+/// A look's count after writes adds up the rows that are put inside the look, and the rows there at keys that aren't
+/// written. A look's count before the writes adds up the latter rows, and the rows there at written keys. The rows that
+/// are put, and the rows at written keys, can be counted along the writes.
 pub fn count_in_after_writes()
     ensures after { (look : Look) (writes : Writes) (rows : Rows)
         → count_in look (after_writes writes rows)
@@ -81,9 +81,9 @@ pub fn count_in_after_writes()
         ≡ count_by (λ w. covers look w.0 && is_some (get rows w.0)) (entries writes) }
 {}
 
-/// After writes the first row that a look finds is the first that is put there or the first that
-/// stands there at a key that isn't written, whichever has the lesser key; with one of them alone
-/// it is that one, and with neither there is none. The first that is put is found along the writes.
+/// The first row that a look finds after writes is the lesser of two rows. These are the first row that is put there,
+/// and the first row there at a key that isn't written. Where one of the two is missing the other is found; where both
+/// are, no row is. The first row that is put is found along the writes.
 pub fn first_in_after_writes()
     ensures after { (look : Look) (writes : Writes) (rows : Rows)
         → first_in look (after_writes writes rows)
@@ -93,8 +93,8 @@ pub fn first_in_after_writes()
         ≡ find (λ w. covers look w.0 && is_some w.1) (entries writes) }
 {}
 
-/// The first row at a key that isn't written is the first row, where its key isn't written; else it
-/// is above that; and there is none where there is no row.
+/// The first row at a key that isn't written is the look's first row, where the key of that row isn't written. Else it
+/// is the first such row above that key. Without a first row there is no such row.
 pub fn first_elsewhere_is_found_in_turn()
     ensures none { (look : Look) (writes : Writes) (rows : Rows)
         → first_in look rows ≡ None → first_in look (rows_elsewhere writes rows) ≡ None }
@@ -107,8 +107,8 @@ pub fn first_elsewhere_is_found_in_turn()
         ≡ first_in (high_part look k.1) (rows_elsewhere writes rows) }
 {}
 
-/// A look that is split at one of its keys covers what its parts do, counts what they count
-/// together, and finds first what the low part does, or else what the high part does.
+/// A look that is split at one of its keys covers the keys that its parts cover, and counts the sum of their counts.
+/// The look finds first what the low part finds, or else what the high part finds.
 pub fn a_look_splits_at_a_key()
     ensures covers { (look : Look) (key : ℕ) (k : Key)
         → look.lo ≤ key → key ≤ look.hi

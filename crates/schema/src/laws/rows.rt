@@ -1,4 +1,4 @@
-//! Keys and rows, and which are the schema's.
+//! Keys and rows of a schema.
 
 ghost use Rattle.std.specs.Prelude.{◌≡◌, ℕ, ◌≤◌, ◌↔◌, All, List, length, Option, Some, None, IsSome};
 ghost use Rattle.std.specs.Cmp.{IsTotalOrder};
@@ -13,13 +13,13 @@ pub fn keys_are_ordered()
     ensures exact { IsAntisymmetric key_cmp }
 {}
 
-/// Two maps of rows that have the same at each key are one.
+/// Two maps that have the same row, or none, at each key are equal.
 pub fn rows_are_what_stands_at_each_key()
     ensures { (m n : Rows) → ((k : Key) → get m k ≡ get n k) → m ≡ n }
 {}
 
-/// A key is of a table of the schema's and at most the greatest u64; a row at a key is as wide as
-/// its table, and each of its bytes is at most the greatest u8.
+/// A key is of a table of the schema, and at most the greatest u64. A row at a key is as wide as its table, and each of
+/// its bytes is at most the greatest u8.
 pub fn rows_are_of_bytes_and_words()
     ensures key { (tables : Tables) (table key : ℕ)
         → IsKey tables (table, key)
@@ -30,8 +30,8 @@ pub fn rows_are_of_bytes_and_words()
         × (key ≤ 18446744073709551615)) }
 {}
 
-/// In rows that are the schema's each row may stand at its key; in such writes each row that is put may,
-/// and each removal is at a key of the schema's.
+/// Each row that stands among rows of a schema may stand at its key. Each row that writes of a schema put may stand at
+/// its key, and each removal is at a key of the schema.
 pub fn each_row_is_the_schemas()
     ensures row { (tables : Tables) (rows : Rows) (table key : ℕ) (bytes : List ℕ)
         → AreRows tables rows → row_at rows table key ≡ Some bytes
@@ -44,7 +44,7 @@ pub fn each_row_is_the_schemas()
         → IsKey tables (table, key) }
 {}
 
-/// Rows stay the schema's where a fitting row is put, where one is removed, and after fitting writes.
+/// Rows stay the schema's where a fitting row is put, where a row is removed, and after fitting writes.
 pub fn rows_stay_the_schemas()
     ensures none { (tables : Tables) → AreRows tables empty }
     ensures put { (tables : Tables) (rows : Rows) (table key : ℕ) (bytes : List ℕ)

@@ -1,4 +1,4 @@
-//! What stands at a key after writes, and whether a written key was looked at.
+//! The row at a key after writes, and the test whether a written key was looked at.
 
 ghost use Rattle.std.specs.Prelude.{◌≡◌, ◌≢◌, ◌↔◌, List, ℕ, Option, Some, None, IsTrue, IsFalse, IsSome};
 ghost use Rattle.std.specs.FinMap.{get, empty};
@@ -6,7 +6,7 @@ ghost use Rattle.schema.specs.declared.look.Look.{Look};
 ghost use Rattle.schema.specs.Rows.{Key, Rows, Writes, any_covers, with_write, after_write, after_writes, puts};
 ghost use Rattle.schema.specs.Rows.{shares_key};
 
-/// After a write what was put stands at its key, or nothing where it is a removal; the others stay.
+/// A write leaves at its key the row that is put, or no row where the write is a removal; the other rows stay.
 pub fn row_at_after_write()
     ensures written { (rows : Rows) (k : Key) (write : Option (List ℕ))
         → get (after_write k write rows) k ≡ write }
@@ -14,7 +14,7 @@ pub fn row_at_after_write()
         → q ≢ k → get (after_write k write rows) q ≡ get rows q }
 {}
 
-/// The last write of a key is what stands for it among the writes, and the others stay.
+/// The last write of a key stands for that key among the writes; the writes of other keys stay.
 pub fn write_at_with_write()
     ensures written { (writes : Writes) (k : Key) (write : Option (List ℕ))
         → get (with_write writes k write) k ≡ Some write }
@@ -22,7 +22,7 @@ pub fn write_at_with_write()
         → q ≢ k → get (with_write writes k write) q ≡ get writes q }
 {}
 
-/// After writes each key has its write where there is one, and else its row.
+/// A written key has after writes what its write leaves; each other key has its row from before.
 pub fn row_at_after_writes()
     ensures written { (writes : Writes) (rows : Rows) (k : Key) (write : Option (List ℕ))
         → get writes k ≡ Some write → get (after_writes writes rows) k ≡ write }
@@ -30,7 +30,7 @@ pub fn row_at_after_writes()
         → get writes k ≡ None → get (after_writes writes rows) k ≡ get rows k }
 {}
 
-/// Writes act one after another: one more acts on the rows after those before it.
+/// Writes act one after another: one more write acts on the rows after the earlier writes.
 pub fn after_one_more_write()
     ensures none { (rows : Rows) → after_writes empty rows ≡ rows }
     ensures more { (writes : Writes) (k : Key) (write : Option (List ℕ)) (rows : Rows)
@@ -44,8 +44,8 @@ pub fn puts_are_what_is_put()
         → (get (puts writes) k ≡ Some bytes) ↔ (get writes k ≡ Some (Some bytes)) }
 {}
 
-/// Writes share a key with looks exactly where one of the looks covers a key that is put or removed,
-/// and share none exactly where no key is written that one of them covers.
+/// Writes share a key with looks exactly where a look covers a key that is put or removed. They share no key exactly
+/// where no look covers a written key.
 pub fn writes_share_a_key_with_looks()
     ensures shared { (looks : List Look) (writes : Writes)
         → IsTrue (shares_key looks writes)

@@ -64,20 +64,20 @@ pub(super) enum Part {
 #[derive(Clone, Copy)]
 pub(super) struct Form {
     pub(super) opcode: u8,
-    /// Its opcode with a source register.
+    /// The opcode of the form with a source register.
     pub(super) register: u8,
     /// The source register of a store.
     pub(super) src: u8,
     pub(super) offset: i16,
     pub(super) number: i32,
-    /// How many bytes are loaded or stored.
+    /// The number of bytes that are loaded or stored.
     pub(super) count: i16,
     pub(super) left: u64,
     pub(super) right: u64,
     pub(super) replies: [Option<u64>; 3],
 }
 
-/// Where no form is tried.
+/// The form where no form is tried.
 pub(super) const NO_FORM: Form = Form {
     opcode: 0,
     register: 0,
@@ -90,7 +90,7 @@ pub(super) const NO_FORM: Form = Form {
     replies: [None, None, None],
 };
 
-/// What comes of a program: it is stuck, replies a number, or replies what the form says in one of three places.
+/// The outcome of a program: it is stuck, replies a number, or replies what the form says in one of three places.
 pub(super) enum Wanted {
     Stuck,
     Gives(u64),
@@ -200,7 +200,7 @@ pub(super) fn replace(program: &mut [u8], at: usize, step: &Step) {
 /// Table 1 of width 8, and table 2 of width 2.
 const TABLES: [(u8, u16); 2] = [(1, 8), (2, 2)];
 
-/// What a program replies on no rows; none where it is stuck.
+/// Returns what a program replies on no rows; none where the program is stuck.
 pub(super) fn reply_of(rt: &impl Abort, alloc: Global, program: &[u8]) -> Option<u64> {
     let code = decode(alloc, program).expect(rt, "the program");
     let schema = Schema::new(alloc, &TABLES).expect(rt, "the schema");

@@ -65,10 +65,10 @@ static CALLS: [HelperCall; 5] = [
     },
 ];
 
-/// Others by name, and the slots that they take.
+/// Other steps by name, and the slots that they take.
 type Others = &'static [(&'static str, &'static [Step])];
 
-/// At entry r1 is a place in the arguments.
+/// The steps that set no table in r1. At entry r1 is a place in the arguments.
 static NO_TABLES: [(&str, &[Step]); 5] = [
     ("table 0", &[Set(1, 0)]),
     ("table 3", &[Set(1, 3)]),
@@ -113,7 +113,7 @@ const NO_BUFFERS_IN_R5: Others = &[
     ("before the stack", &[Copy(5, 10), Add(5, -513)]),
 ];
 
-/// What a call replies with others in place of some slots of it.
+/// Returns what a call replies with other steps in place of some of its slots.
 fn reply_with(
     rt: &impl Abort,
     alloc: Global,
@@ -128,7 +128,8 @@ fn reply_with(
     reply_of(rt, alloc, &program)
 }
 
-/// The call is stuck with these in place of some slots. It is told by the slot of its table.
+/// Asserts that the call is stuck with these steps in place of some of its slots. A failure tells the call by the slot
+/// of its table.
 fn is_stuck_with(
     rt: &impl Abort,
     alloc: Global,
@@ -167,7 +168,7 @@ fn asks_for_buffers(rt: &impl Abort, alloc: Global, call: &HelperCall) {
     }
 }
 
-/// The call is made, and isn't with a wrong argument in place of each.
+/// Asserts that the call is made, and isn't with a wrong argument in place of each.
 fn asks_for_its_arguments(rt: &impl Abort, alloc: Global, call: &HelperCall) {
     let made = reply_with(rt, alloc, call, 0, &[]);
     same(
@@ -283,7 +284,7 @@ fn buffers_have_the_tables_width(rt: HostRuntime) {
     replies(&rt, rt.alloc(), &NO_FORM, &BUFFERS);
 }
 
-/// After a call r1 is nothing.
+/// Calls of the cancel. After a call r1 is nothing.
 static CANCELS: [Case; 14] = [
     (&[Set(1, 9), Call(6)], Gives(0)),
     (&[Set(1, 9), Call(6), Call(6)], Stuck),

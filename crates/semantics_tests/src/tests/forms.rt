@@ -1,5 +1,5 @@
-//! Each form of instruction: states where it steps, and for each reason one where it is stuck. A wide
-//! load and both jumps have no reason to be stuck that a decoded program can reach, but for a write to r10.
+//! Each form of instruction: states where it steps, and for each reason a state where it is stuck. A wide load and both
+//! jumps have no reason to be stuck that a decoded program can reach, but for a write to r10.
 
 use super::assembly::Part::{
     HighLeft, HighRight, Immediate, Load, LoadBack, LowLeft, LowRight, Operand, Register, SetLeft,
@@ -28,7 +28,7 @@ static OF_LOADS: [Case; 13] = [
     (&[Tried(LoadBack(1, 8))], Second),
     (&[Push(-8, 1), Tried(Load(0, 10, -8))], Gives(1)),
     (&[Push(-512, 1), Tried(Load(0, 10, -512))], Gives(1)),
-    // From nothing, and from a number.
+    // Loads from nothing, and from a number.
     (&[Tried(Load(0, 2, 0))], Stuck),
     (&[Set(2, 0), Tried(Load(0, 2, 0))], Stuck),
     // Before and behind the arguments, and the stack.
@@ -36,10 +36,10 @@ static OF_LOADS: [Case; 13] = [
     (&[Tried(LoadBack(1, 9))], Stuck),
     (&[Push(-512, 1), Tried(Load(0, 10, -513))], Stuck),
     (&[Push(-8, 1), Tried(LoadBack(10, 1))], Stuck),
-    // Of bytes that were never stored.
+    // Loads of bytes that were never stored.
     (&[Tried(Load(0, 10, -8))], Stuck),
     (&[Push(-16, 1), Tried(LoadBack(10, -7))], Stuck),
-    // To r10.
+    // A load to r10.
     (&[Tried(Load(10, 1, 0)), Set(0, 1)], Stuck),
 ];
 
@@ -74,14 +74,14 @@ static OF_STORES: [Case; 10] = [
         First,
     ),
     (&[Set(3, -2), Tried(Store(10, -512)), Set(0, 1)], Gives(1)),
-    // To nothing, to a number, and to the arguments.
+    // Stores to nothing, to a number, and to the arguments.
     (&[Set(3, -2), Tried(Store(2, -8)), Set(0, 1)], Stuck),
     (&[Set(3, -2), Tried(Store(3, -8)), Set(0, 1)], Stuck),
     (&[Set(3, -2), Tried(Store(1, 0)), Set(0, 1)], Stuck),
     // Before and behind the stack.
     (&[Set(3, -2), Tried(Store(10, -513)), Set(0, 1)], Stuck),
     (&[Set(3, -2), Tried(StoreBack(1)), Set(0, 1)], Stuck),
-    // Of nothing, and of places.
+    // Stores of nothing, and of places.
     (&[Tried(Register(10, 3)), Set(0, 1)], Stuck),
     (&[Tried(Register(10, 1)), Set(0, 1)], Stuck),
     (&[Tried(Register(10, 10)), Set(0, 1)], Stuck),
@@ -184,7 +184,8 @@ fn with_five(opcode: u8, offset: i16, replies: [Option<u64>; 3]) -> Form {
     }
 }
 
-/// A move doesn't read its destination, and at 64 bits copies a place. Such an addition or subtraction moves one.
+/// A move doesn't read its destination, and at 64 bits copies a place. An addition or a subtraction at 64 bits moves a
+/// place.
 fn of_kinds(high: u8, class: u8) -> [Option<u64>; 3] {
     let is_move = high == 0xb0;
     let copies = is_move && class == 0x07;
@@ -511,7 +512,7 @@ static WIDE_AND_PLACES: [Case; 22] = [
         &[Push(-8, 1), Copy(2, 10), Add(2, -8), Slot(0x79, 0, 2, 0, 0)],
         Gives(1),
     ),
-    // As far as a place may be, and past that.
+    // Places as far as they may be, and past that.
     (
         &[Add(1, 65_536), Add(1, -65_536), Slot(0x71, 0, 1, 0, 0)],
         Gives(0x81),
@@ -605,7 +606,7 @@ fn jumps_and_exits(rt: HostRuntime) {
     replies(&rt, rt.alloc(), &NO_FORM, &JUMPS);
 }
 
-/// Conditions by the high four bits of the opcode: a pair of which it holds, and one of which it doesn't.
+/// Conditions by the high four bits of the opcode: a pair of which the condition holds, and one of which it doesn't.
 static CONDITIONS: [(u8, [i32; 2], [i32; 2]); 11] = [
     (0x10, [5, 5], [5, 6]),
     (0x20, [-1, 1], [5, 5]),
@@ -639,14 +640,14 @@ static WIDTHS: [WidthRow; 6] = [
         &[0x40, 0x50, 0xa0, 0xb0, 0xc0, 0xd0],
         &[0x20, 0x30, 0x40, 0x50, 0x60, 0x70],
     ),
-    // Of another sign at 32 bits.
+    // Numbers of another sign at 32 bits.
     (
         0xffff_ffff,
         1,
         &[0x20, 0x30, 0x40, 0x50, 0xc0, 0xd0],
         &[0x20, 0x30, 0x40, 0x50, 0x60, 0x70],
     ),
-    // Of another sign at 64 bits.
+    // Numbers of another sign at 64 bits.
     (
         0x8000_0000_0000_0005,
         5,
@@ -669,7 +670,7 @@ static WIDTHS: [WidthRow; 6] = [
     ),
 ];
 
-/// Of two numbers: the first reply says whether the jump is taken over one slot.
+/// Conditions of two numbers: the first reply says whether the jump is taken over one slot.
 static OF_NUMBERS: [Case; 2] = [
     (
         &[Set(0, 1), Tried(SetLeft(2)), Tried(Immediate(2)), Set(0, 2)],
@@ -687,7 +688,7 @@ static OF_NUMBERS: [Case; 2] = [
     ),
 ];
 
-/// Of nothing, and of places.
+/// Conditions of nothing, and of places.
 static OF_NO_NUMBERS: [Case; 9] = [
     (&[Tried(Immediate(2)), Set(0, 1), Set(0, 1)], Stuck),
     (&[Tried(Immediate(1)), Set(0, 1), Set(0, 1)], Stuck),

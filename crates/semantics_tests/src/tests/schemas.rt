@@ -1,4 +1,4 @@
-//! What no clause says: that memory suffices, what is printed, and the helpers' table as it was given.
+//! Tests of what no clause says: that memory suffices, what is printed, and the helpers' table as it was given.
 
 use super::same;
 use scarce::Scarce;
@@ -37,10 +37,10 @@ static FAULTS: [(&[(u8, u16)], SchemaFault); 11] = [
     (&[(1, 0)], SchemaFault::Width),
     (&[(1, 129)], SchemaFault::Width),
     (&[(1, 8), (2, 8), (1, 9)], SchemaFault::RepeatedTable),
-    // At one pair the lowest number counts.
+    // The lowest number counts at one pair.
     (&[(0, 0)], SchemaFault::TableNumber),
     (&[(1, 8), (1, 0)], SchemaFault::Width),
-    // Of two faulty pairs the first one counts.
+    // The first of two faulty pairs counts.
     (&[(1, 0), (0, 8)], SchemaFault::Width),
     (&[(0, 8), (1, 0)], SchemaFault::TableNumber),
     (&[(1, 8), (1, 8), (0, 8)], SchemaFault::RepeatedTable),
@@ -77,7 +77,7 @@ fn the_first_faulty_pair_decides(rt: HostRuntime) {
     }
 }
 
-/// Whether a schema was made. Where it wasn't, memory was refused.
+/// Tells whether a schema was made. Where it wasn't, memory was refused.
 fn is_made(rt: &impl Abort, scarce: &Scarce) -> bool {
     match Schema::new(scarce, &[(1, 8), (2, 16), (3, 32)]) {
         Ok(schema) => {
@@ -91,7 +91,7 @@ fn is_made(rt: &impl Abort, scarce: &Scarce) -> bool {
     }
 }
 
-/// Whether a copy was made. Where it wasn't, the schema is as it was.
+/// Tells whether a copy was made. Where it wasn't, the schema is as it was.
 fn is_copied(rt: &impl Abort, schema: &Schema<&Scarce>) -> bool {
     match schema.clone() {
         Ok(copy) => {

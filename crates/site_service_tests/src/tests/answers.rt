@@ -1,4 +1,4 @@
-//! What is answered.
+//! The answers to lines.
 
 use super::runs::{joined, run_site, tells};
 use crate::stories::{FIRST_LINES, SETTINGS, all_stories};
@@ -13,7 +13,7 @@ fn stories_are_told(rt: HostRuntime) {
     }
 }
 
-/// What is answered to a line that is the first.
+/// A line that is the first is answered as its row says.
 #[test]
 fn first_lines_are_answered(rt: HostRuntime) {
     let alloc = rt.alloc();
@@ -27,7 +27,7 @@ fn first_lines_are_answered(rt: HostRuntime) {
     }
 }
 
-/// A line of so many digits behind its front, a line that asks for the position, and that again without an LF.
+/// A line of `digits` digits behind its front, a line that asks for the position, and that line again without an LF.
 fn long_input(rt: &impl Abort, alloc: Global, front: &str, digits: usize) -> Vec<u8> {
     let mut input = Vec::from_slice(alloc, front.as_bytes()).expect(rt, "memory");
     let length = front.len().saturating_add(digits);
@@ -44,7 +44,7 @@ const TOO_LONG: &str = "fault L1\nposition 0\n";
 
 const PASSED: &str = "position 0\n";
 
-/// The front of a line, how many digits stand behind it, and what is answered to it and to the next line.
+/// The front of a line, the number of digits behind it, and the answers to it and to the next line.
 static LONG_LINES: [(&str, usize, &str); 5] = [
     ("entry ", 1_048_570, TAKEN),
     ("entry ", 1_048_571, TOO_LONG),
@@ -53,7 +53,8 @@ static LONG_LINES: [(&str, usize, &str); 5] = [
     ("#", 1_048_576, TOO_LONG),
 ];
 
-/// A line has at most 1,048,576 bytes. One that is longer is passed over, a comment too, and what has no LF is no line.
+/// A line has at most 1,048,576 bytes. A longer line is passed over, a comment too, and bytes without an LF are no
+/// line.
 #[test]
 fn lines_may_be_long(rt: HostRuntime) {
     let alloc = rt.alloc();

@@ -11,7 +11,7 @@ use std::process::Abort;
 use std::sync::atomic::AtomicU64;
 use test_streams::{Full, Input, Output};
 
-/// Lines of which each is answered by one.
+/// Lines, each of which is answered by one.
 const LINES: [&str; 8] = [
     CALL,
     ENTRY,
@@ -62,11 +62,11 @@ fn status_over<S: BufRead, I: BufRead, O: Write>(
     (status, faults.is_empty())
 }
 
-/// A line is waited for when the answer to the one before it has left, by an input that is interrupted, too.
+/// A line is waited for when the answer to the line before it has left. The input may be interrupted.
 #[test]
 fn answers_leave_before_the_next_line_is_waited_for(rt: HostRuntime) {
     let texts = texts_of(&rt, rt.alloc());
-    // eight lines leave by one flush for each time that lines are given; the end makes one more
+    // Eight lines leave by one flush for each time that lines are given. The end makes one more flush.
     for (at_once, flushes) in [(1, 9), (2, 5), (3, 4), (100, 2)] {
         let answered = AtomicU64::new(0);
         let mut input = PacedInput {
@@ -92,7 +92,7 @@ fn answers_leave_before_the_next_line_is_waited_for(rt: HostRuntime) {
     }
 }
 
-/// The first lines of a text, so many.
+/// The first `count` lines of a text.
 fn first_lines(text: &[u8], count: usize) -> &[u8] {
     let mut left = count;
     for (at, byte) in text.iter().enumerate() {
@@ -106,7 +106,8 @@ fn first_lines(text: &[u8], count: usize) -> &[u8] {
     text
 }
 
-/// Whether a site that reads so many bytes of its input, which then fails or ends, answers the lines that are whole.
+/// Tells whether a site answers the lines that are whole. The site reads `length` bytes of its input, which then fails
+/// or ends.
 fn answers_before(alloc: Global, texts: &Texts, length: usize, fails: bool) -> bool {
     let front = texts.input.get(..length).unwrap_or(&[]);
     let mut input = Input {
@@ -122,7 +123,7 @@ fn answers_before(alloc: Global, texts: &Texts, length: usize, fails: bool) -> b
     status == wanted && silent != fails && output.as_slice() == first_lines(&texts.answers, whole)
 }
 
-/// Wherever the input fails, the lines before it are answered; where it ends, the same, and nothing failed.
+/// An input that fails, or ends, has the lines before that place answered. The site fails only where the input fails.
 #[test]
 fn inputs_may_fail(rt: HostRuntime) {
     let texts = texts_of(&rt, rt.alloc());
@@ -134,7 +135,7 @@ fn inputs_may_fail(rt: HostRuntime) {
     }
 }
 
-/// Whether a site whose settings fail behind so many bytes answers nothing, and leaves its input.
+/// Tells whether a site whose settings fail behind `length` bytes answers nothing, and leaves its input.
 fn ends_at_once(alloc: Global, texts: &Texts, length: usize) -> bool {
     let mut settings = Input {
         left: texts.settings.get(..length).unwrap_or(&[]),
@@ -157,10 +158,10 @@ fn settings_may_fail(rt: HostRuntime) {
     }
 }
 
-/// How an output may go on that is full.
+/// The ways in which a full output may go on.
 const WAYS: [Full; 2] = [Full::Fails, Full::TakesNothing];
 
-/// Whether an output with room for so many bytes holds them in the end, and wasn't asked again.
+/// Tells whether an output with room for `room` bytes holds them in the end, and wasn't asked again.
 fn holds_what_came(alloc: Global, texts: &Texts, room: usize, full: Full) -> bool {
     let mut output = Output::new(alloc, room, room % 5 + 1, full);
     let mut settings = texts.settings.as_slice();
@@ -172,7 +173,7 @@ fn holds_what_came(alloc: Global, texts: &Texts, room: usize, full: Full) -> boo
         && Some(output.held.as_slice()) == texts.answers.get(..room)
 }
 
-/// Wherever the output fails, it holds what came before, and is asked no more.
+/// An output that fails holds what came before, and is asked no more.
 #[test]
 fn outputs_may_fail(rt: HostRuntime) {
     let texts = texts_of(&rt, rt.alloc());
@@ -184,8 +185,8 @@ fn outputs_may_fail(rt: HostRuntime) {
     }
 }
 
-/// Whether an output that takes a byte at a time, and whose flush may fail, has so many lines in the end. The input shows
-/// so many bytes at once.
+/// Tells whether an output that takes a byte at a time, and whose flush may fail, has `count` lines in the end. The
+/// input shows `at_once` bytes at once.
 fn takes_lines(alloc: Global, texts: &Texts, flushes: bool, at_once: usize, count: usize) -> bool {
     let mut output = Output::new(alloc, texts.answers.len(), 1, Full::Fails);
     output.flushes = flushes;
@@ -202,8 +203,8 @@ fn takes_lines(alloc: Global, texts: &Texts, flushes: bool, at_once: usize, coun
         && output.held.as_slice() == first_lines(&texts.answers, count)
 }
 
-/// An output that takes a byte at a time has all in the end. Where its flush fails, it has the answers that left together,
-/// and no more.
+/// An output that takes a byte at a time has all in the end. An output whose flush fails has the answers that left
+/// together, and no more.
 #[test]
 fn outputs_may_take_little_at_once(rt: HostRuntime) {
     let texts = texts_of(&rt, rt.alloc());
@@ -218,7 +219,7 @@ fn outputs_may_take_little_at_once(rt: HostRuntime) {
     }
 }
 
-/// The addition of a program of so many slots, and its answer, which is longer than what is written at once.
+/// The addition of a program of `slots` slots, and its answer, which is longer than what is written at once.
 fn long_addition(rt: &impl Abort, alloc: Global, slots: usize) -> (Vec<u8>, Vec<u8>) {
     let mut program = Vec::new(alloc);
     for _ in 1..slots {
@@ -238,7 +239,7 @@ fn long_addition(rt: &impl Abort, alloc: Global, slots: usize) -> (Vec<u8>, Vec<
     (input, answer)
 }
 
-/// A line with another before and behind.
+/// A line with another line before and behind.
 fn among(rt: &impl Abort, alloc: Global, line: &[u8], other: &[u8]) -> Vec<u8> {
     let mut lines = Vec::new(alloc);
     for some in [other, line, other] {
@@ -247,7 +248,7 @@ fn among(rt: &impl Abort, alloc: Global, line: &[u8], other: &[u8]) -> Vec<u8> {
     lines
 }
 
-/// Whether a site answers these lines to an output with room for so many bytes, which isn't asked again.
+/// Tells whether a site answers these lines to an output with room for `room` bytes, which isn't asked again.
 fn answers_long(
     alloc: Global,
     settings: &[u8],
@@ -265,7 +266,7 @@ fn answers_long(
         && Some(output.held.as_slice()) == answers.get(..room)
 }
 
-/// A long answer leaves whole among others, and where the output fails in its midst it is asked no more.
+/// A long answer leaves whole among others. An output that fails in its midst is asked no more.
 #[test]
 fn long_answers_leave(rt: HostRuntime) {
     let alloc = rt.alloc();
@@ -287,7 +288,7 @@ fn long_answers_leave(rt: HostRuntime) {
     }
 }
 
-/// Whether settings at fault, told to a writer with room for so many bytes, end a site as with ample room.
+/// Tells whether settings at fault, told to a writer with room for `room` bytes, end a site as with ample room.
 fn tells_with_room(alloc: Global, settings: &[u8], room: usize, full: Full) -> bool {
     let mut reader = settings;
     let mut input = b"position\n".as_slice();
@@ -315,18 +316,18 @@ fn faults_may_find_no_room(rt: HostRuntime) {
 /// More growths than the site of these tests makes.
 const MOST: u64 = 2_000;
 
-/// How a site went on that found no memory once.
+/// The course of a site that found no memory once.
 #[derive(Clone, Copy, PartialEq, Eq)]
 enum Course {
-    /// It ended at a line, with all that was answered before.
+    /// The site ended at a line, with all that was answered before.
     Ended,
     /// A call or an addition was refused.
     Refused,
     Same,
 }
 
-/// How many lines were answered, where each is as in `ANSWERS`, or says that there was no memory in place of an answer to
-/// a call or an addition; and whether one says that.
+/// Returns the number of lines that were answered, and whether one says that there was no memory. Each line has to be
+/// as in `ANSWERS`, or say that in place of an answer to a call or an addition.
 fn lines_met(answers: &[u8]) -> Option<(usize, bool)> {
     let (mut count, mut refused) = (0, false);
     for line in str::from_utf8(answers).ok()?.lines() {
@@ -341,7 +342,7 @@ fn lines_met(answers: &[u8]) -> Option<(usize, bool)> {
     Some((count, refused))
 }
 
-/// What is said of want of memory at a line, from 0.
+/// The messages about want of memory at a line, from 0.
 const WANTED_AT: [&[u8]; 9] = [
     b"line 0: L9\n",
     b"line 1: L9\n",
@@ -354,7 +355,8 @@ const WANTED_AT: [&[u8]; 9] = [
     b"line 8: L9\n",
 ];
 
-/// The course of a site, where it is one. Where nothing was answered the line may be one of the settings, or none.
+/// Returns the course of a site, where it is one. Where nothing was answered the line may be a line of the settings, or
+/// none.
 fn course_of(ended: &Ended) -> Option<Course> {
     let (count, refused) = lines_met(&ended.answers)?;
     let faults = ended.faults.as_slice();
@@ -370,14 +372,16 @@ fn course_of(ended: &Ended) -> Option<Course> {
     }
 }
 
-/// The course of a site that finds no memory at its n-th growth, and whether it answered; none where it is no course.
+/// Returns the course of a site that finds no memory at its n-th growth, and whether it answered. Returns `None` where
+/// it is no course.
 fn course_at(global: Global, scarce: &Scarce, texts: &Texts, nth: u64) -> Option<(Course, bool)> {
     scarce.refuse_nth(nth);
     let ended = run_site(scarce, global, &texts.settings, &texts.input);
     Some((course_of(&ended)?, !ended.answers.is_empty()))
 }
 
-/// Each growth is refused in turn, up to the first that isn't made: some end the site, and some refuse a call.
+/// Each growth is refused in turn, up to the first that isn't made. Several of them end the site, and several refuse a
+/// call.
 #[test]
 fn growths_are_refused_in_turn(rt: HostRuntime) {
     let alloc = rt.alloc();

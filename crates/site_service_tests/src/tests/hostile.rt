@@ -6,29 +6,30 @@ use std::alloc::Global;
 use std::io::Write;
 use std::process::Abort;
 
-/// How many bytes the head of a call has that has 16 bytes of arguments.
+/// The number of bytes of the head of a call with 16 bytes of arguments.
 const HEAD: usize = 45;
 
-/// What becomes of a byte string that is the first.
+/// The outcome of a byte string that is the first.
 #[derive(Clone, Copy)]
 enum Fate {
-    /// It commits with reply 10.
+    /// The byte string commits with reply 10.
     Commits,
-    /// It is nothing, and may carry a request.
+    /// The byte string is nothing, and may carry a request.
     Nothing { cause: u8, has_request: bool },
 }
 
-/// What becomes of a call of `add` that adds 10 to a row where none is, whose byte at a place was changed in these bits.
+/// Returns the outcome of a call of `add` that adds 10 to a row where none is. The call's byte at a place was changed
+/// in these bits.
 fn fate_of(place: usize, bits: u8) -> Fate {
     let (cause, has_request) = match place {
-        // what it is, or a sequence number of 0
+        // the kind of entry, or a sequence number of 0
         0 => (1, false),
         5 if bits == 1 => (1, false),
         // another request or call number, with the same run
         1..=12 => return Fate::Commits,
         // another procedure
         13 | 14 => (4, true),
-        // one more byte of arguments, so that the snapshot stands in the reply; or more than there are
+        // one more byte of arguments, so that the snapshot stands in the reply; or more arguments than there are bytes
         15 if bits == 1 => (3, true),
         15 | 16 => (1, false),
         // a snapshot that is yet to come
@@ -52,7 +53,7 @@ fn number_at(bytes: &[u8], place: usize) -> u32 {
     number
 }
 
-/// The line that is answered to it.
+/// The line that is answered to a byte string.
 fn line_of(rt: &impl Abort, alloc: Global, bytes: &[u8], fate: Fate) -> Vec<u8> {
     let mut line = Vec::new(alloc);
     let has_request = match fate {
@@ -105,13 +106,14 @@ fn together(rt: &impl Abort, alloc: Global, first: &[u8], second: &[u8], third: 
     all
 }
 
-/// Whether a site answers its input so.
+/// Tells whether a site answers its input so.
 fn answers(alloc: Global, settings: &[u8], input: &[u8], wanted: &[u8]) -> bool {
     let ended = run_site(alloc, alloc, settings, input);
     ended.status == 0 && ended.answers.as_slice() == wanted
 }
 
-/// Whether a site that is given the byte string answers it so, and one too that is asked something before and behind it.
+/// Tells whether a site that is given the byte string answers it so. A site that is asked something before and behind
+/// it has to answer so too.
 fn meets(rt: &impl Abort, alloc: Global, settings: &[u8], bytes: &[u8], fate: Fate) -> bool {
     let line = entry_line(rt, alloc, bytes);
     let answer = line_of(rt, alloc, bytes, fate);
@@ -140,7 +142,7 @@ fn changed_entries_commit_or_are_nothing(rt: HostRuntime) {
     }
 }
 
-/// An entry is cut at each length.
+/// An entry that is cut at any length is nothing.
 #[test]
 fn cut_entries_are_nothing(rt: HostRuntime) {
     let alloc = rt.alloc();

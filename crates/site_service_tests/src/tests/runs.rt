@@ -5,7 +5,7 @@ use site_service::site_over;
 use std::alloc::{Allocator, Global};
 use std::process::Abort;
 
-/// Lines, each with an LF.
+/// Joins lines, each with an LF.
 pub(crate) fn joined(rt: &impl Abort, alloc: Global, lines: &[&str]) -> Vec<u8> {
     let mut text = Vec::new(alloc);
     for line in lines {
@@ -15,7 +15,7 @@ pub(crate) fn joined(rt: &impl Abort, alloc: Global, lines: &[&str]) -> Vec<u8> 
     text
 }
 
-/// How a site ended: its status, what it answered, and what is said of faults.
+/// The end of a site: its status, its answers, and what is said of faults.
 #[derive(Drop)]
 pub(crate) struct Ended {
     pub(crate) status: u8,
@@ -23,7 +23,7 @@ pub(crate) struct Ended {
     pub(crate) faults: Vec<u8>,
 }
 
-/// A site that has these settings and this input.
+/// Runs a site that has these settings and this input.
 pub(crate) fn run_site<A: Allocator + Copy>(
     alloc: A,
     global: Global,
@@ -42,7 +42,7 @@ pub(crate) fn run_site<A: Allocator + Copy>(
     }
 }
 
-/// Whether a site answers its lines as a story says, and says nothing of faults.
+/// Tells whether a site answers its lines as a story says, and says nothing of faults.
 pub(crate) fn tells(rt: &impl Abort, alloc: Global, story: &Story) -> bool {
     let settings = joined(rt, alloc, story.settings);
     let input = joined(rt, alloc, story.lines);

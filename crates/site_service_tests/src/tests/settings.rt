@@ -4,7 +4,7 @@ use super::runs::joined;
 use site_service::site_over;
 use std::alloc::Global;
 
-/// Settings, and what is said of their fault.
+/// Settings, and the message about their fault.
 const FAULTS: [(&[&str], &str); 14] = [
     (&["table 1 8"], "line 0: L5"),
     (&[], "line 0: L5"),
@@ -25,7 +25,7 @@ const FAULTS: [(&[&str], &str); 14] = [
     ),
 ];
 
-/// Whether a site with these settings says this, and neither answers nor reads its input.
+/// Tells whether a site with these settings says this, and neither answers nor reads its input.
 fn says(alloc: Global, settings: &[u8], fault: &[u8]) -> bool {
     let mut reader = settings;
     let mut input = b"position\n".as_slice();

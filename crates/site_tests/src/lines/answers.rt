@@ -1,8 +1,8 @@
 use bpf_verify::Cause;
 use byte_output::sink::GrowingBytes;
+use log_entry::{Entry, ExecutedCall};
 use log_model::{Identifier, RequestId};
 use program_checks::ProgramFault;
-use log_entry::{Entry, ExecutedCall};
 use row_sets::{Bytes, ReadSet, WriteSet};
 use script::LineFault;
 use site_model::{
@@ -15,28 +15,25 @@ use site_service::{
 use std::alloc::Global;
 use std::process::Abort;
 
-const NONE: RequestId = RequestId {
-    session: 0,
-    sequence: 0,
-};
+const NONE: Option<RequestId> = None;
 
-const SEVEN: RequestId = RequestId {
+const SEVEN: Option<RequestId> = Some(RequestId {
     session: 7,
     sequence: 1,
-};
+});
 
-const EIGHT: RequestId = RequestId {
+const EIGHT: Option<RequestId> = Some(RequestId {
     session: 8,
     sequence: 1,
-};
+});
 
-const LAST: RequestId = RequestId {
+const LAST: Option<RequestId> = Some(RequestId {
     session: 4294967295,
     sequence: 4294967295,
-};
+});
 
-/// What became of the byte string at a position, its request, and the line.
-type Told = (u32, EntryOutcome, RequestId, &'static str);
+/// The outcome of the byte string at a position, its request, and the line.
+type Told = (u32, EntryOutcome, Option<RequestId>, &'static str);
 
 static CALLS: [Told; 7] = [
     (
@@ -118,7 +115,7 @@ static OTHERS: [Told; 6] = [
     ),
 ];
 
-/// Where lines are appended.
+/// Makes a sink to which lines are appended.
 fn sink(alloc: Global) -> GrowingBytes<Global> {
     GrowingBytes::new(Vec::new(alloc))
 }

@@ -2,7 +2,7 @@ use row_sets::Bytes;
 use site_service::{Scan, SiteLine, site_line};
 use std::alloc::Allocator;
 
-/// A line, and the number of its fault; 0 where it has none.
+/// A line, and the number of its fault, or 0 where it has none.
 type Faulty = (&'static [u8], u8);
 
 static BYTES_AND_WORDS: [Faulty; 10] = [
@@ -69,7 +69,7 @@ static FAULTLESS: [Faulty; 12] = [
     (b"", 0),
 ];
 
-/// The number of a line's fault; 0 where it has none.
+/// The number of a line's fault, and 0 where it has none.
 fn fault_number<A: Allocator + Copy>(alloc: A, line: &[u8]) -> u8 {
     match site_line(alloc, line) {
         Ok(_) => 0,
@@ -86,7 +86,7 @@ fn lines_have_their_first_fault(rt: HostRuntime) {
     }
 }
 
-/// What a line gives: a name, bytes, and numbers.
+/// The values of a line: a name, bytes, and numbers.
 type Given<'a> = (&'a [u8], &'a [u8], [u32; 2]);
 
 static GIVEN: [(&[u8], Given<'static>); 4] = [
@@ -96,7 +96,7 @@ static GIVEN: [(&[u8], Given<'static>); 4] = [
     (b"entry 0aFF", (b"", &[10, 255], [0, 0])),
 ];
 
-/// What a line with fields gives.
+/// Returns the values of a line with fields.
 fn given<A: Allocator>(line: &SiteLine<Bytes<A>>) -> Option<Given<'_>> {
     Some(match line {
         SiteLine::Call {
@@ -120,7 +120,7 @@ fn given<A: Allocator>(line: &SiteLine<Bytes<A>>) -> Option<Given<'_>> {
     })
 }
 
-/// Whether a line is read as what it gives.
+/// Tells whether a line is read as what it gives.
 fn gives<A: Allocator + Copy>(alloc: A, line: &[u8], expected: &Given<'_>) -> bool {
     match site_line(alloc, line) {
         Ok(Some(line)) => given(&line).as_ref() == Some(expected),

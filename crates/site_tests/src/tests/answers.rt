@@ -1,4 +1,4 @@
-//! What sites answer: to callers, and to byte strings of an order.
+//! The answers of sites: to callers, and to byte strings of an order.
 
 use super::heads::{ADDITION, CALL, HEAD};
 use super::sites::{GivenSite, answer, answer_to_addition};
@@ -10,15 +10,12 @@ use site_model::{
 use std::alloc::Global;
 use std::process::Abort;
 
-const NONE: RequestId = RequestId {
-    session: 0,
-    sequence: 0,
-};
+const NONE: Option<RequestId> = None;
 
-const SEVEN_ONE: RequestId = RequestId {
+const SEVEN_ONE: Option<RequestId> = Some(RequestId {
     session: 7,
     sequence: 1,
-};
+});
 
 /// The arguments of `add` that add 10 to row 5, 7 to row 5, and 9 to row 9.
 static TEN_TO_FIVE: [u8; 16] = [5, 0, 0, 0, 0, 0, 0, 0, 10, 0, 0, 0, 0, 0, 0, 0];
@@ -40,38 +37,38 @@ static CLAIM_OF_FIVE: [u8; 76] = [
     0, 0, 0, 1, 0, 0, 0, 0, 0, 0, 0, 0,
 ];
 
-/// What a site is given next, and what has to come of it.
+/// A step that a site is given, and what has to come of it.
 #[derive(Clone, Copy)]
 enum Step<'a> {
-    /// A byte string, which becomes this.
+    /// A byte string, and its outcome.
     Take(&'a [u8], EntryOutcome),
-    /// A call, which is answered so; the bytes that are to be ordered, if any.
+    /// A call, its answer, and the bytes that are to be ordered, if any.
     Ask(Asked<'a>, CallAnswer<usize>, &'a [u8]),
-    /// A procedure that is to be added, which is answered so; the bytes that are to be ordered, if any.
+    /// A procedure that is to be added, its answer, and the bytes that are to be ordered, if any.
     Add(NamedProgram<'a>, AdditionAnswer<usize>, &'a [u8]),
-    /// It has come to this position.
+    /// The site has come to this position.
     At(u32),
-    /// It has one row: its table, key and bytes.
+    /// The site has one row: its table, key and bytes.
     Row(u8, u64, &'a [u8]),
 }
 
-/// A byte string that becomes this. (What is made by a function takes references that live differently long.)
+/// A step of a byte string and its outcome. (What is made by a function takes references that live differently long.)
 fn take(bytes: &[u8], wanted: EntryOutcome) -> Step<'_> {
     Step::Take(bytes, wanted)
 }
 
-/// A call that is answered so, and the bytes that are to be ordered.
+/// A step of a call, its answer, and the bytes that are to be ordered.
 fn ask<'a>(asked: Asked<'a>, wanted: CallAnswer<usize>, bytes: &'a [u8]) -> Step<'a> {
     Step::Ask(asked, wanted, bytes)
 }
 
-/// A procedure that is to be added, which is answered so, and the bytes that are to be ordered.
+/// A step of a procedure that is to be added, its answer, and the bytes that are to be ordered.
 fn add<'a>(named: NamedProgram<'a>, wanted: AdditionAnswer<usize>, bytes: &'a [u8]) -> Step<'a> {
     Step::Add(named, wanted, bytes)
 }
 
 /// A call of `add`.
-fn call_of_add(args: &[u8; 16], request: RequestId) -> Asked<'_> {
+fn call_of_add(args: &[u8; 16], request: Option<RequestId>) -> Asked<'_> {
     Asked {
         name: b"add",
         args,
@@ -80,7 +77,7 @@ fn call_of_add(args: &[u8; 16], request: RequestId) -> Asked<'_> {
 }
 
 /// A call of `claim`.
-fn claim(request: RequestId) -> Asked<'static> {
+fn claim(request: Option<RequestId>) -> Asked<'static> {
     Asked {
         name: b"claim",
         args: &FIVE,
@@ -88,7 +85,7 @@ fn claim(request: RequestId) -> Asked<'static> {
     }
 }
 
-/// The call's bytes with other ones at some places.
+/// The call's bytes with other bytes at some places.
 fn with_bytes(changes: &[(usize, u8)]) -> [u8; 84] {
     let mut bytes = CALL;
     for (place, byte) in changes {
@@ -99,7 +96,7 @@ fn with_bytes(changes: &[(usize, u8)]) -> [u8; 84] {
     bytes
 }
 
-/// A call has to be answered so.
+/// Asserts that a call is answered so.
 fn is_answered(
     rt: &impl Abort,
     alloc: Global,
@@ -113,7 +110,7 @@ fn is_answered(
     assert_eq!(rt; ordered.as_slice(), bytes);
 }
 
-/// A procedure that is to be added has to be answered so.
+/// Asserts that a procedure that is to be added is answered so.
 fn addition_is_answered(
     rt: &impl Abort,
     alloc: Global,
@@ -127,7 +124,7 @@ fn addition_is_answered(
     assert_eq!(rt; ordered.as_slice(), bytes);
 }
 
-/// A site has to have this row alone.
+/// Asserts that a site has this row alone.
 fn has_one_row(rt: &impl Abort, alloc: Global, site: &Site, key: (u8, u64), bytes: &[u8]) {
     let rows = site.rows(alloc).expect(rt, "memory");
     assert_eq!(rt; rows.len(), 1);
@@ -135,7 +132,7 @@ fn has_one_row(rt: &impl Abort, alloc: Global, site: &Site, key: (u8, u64), byte
     assert_eq!(rt; rows[0].bytes(), bytes);
 }
 
-/// Checks a site against a step; what is taken, `go_on` checks.
+/// Checks a site against a step, but for what is taken, which `go_on` checks.
 fn check(rt: &impl Abort, alloc: Global, site: &Site, step: &Step<'_>) {
     match step {
         Step::Take(_, _) => {}
@@ -164,7 +161,7 @@ fn go_on_by(rt: &impl Abort, alloc: Global, given: &mut GivenSite, steps: &[Step
     }
 }
 
-/// A site goes through these steps, the first that it is given. (Who calls this has no site to let go.)
+/// Takes a site through these steps, the first that it is given. (Who calls this has no site to let go.)
 fn go_through(rt: &impl Abort, alloc: Global, takes_additions: bool, steps: &[Step<'_>]) {
     let mut given = GivenSite::new(alloc, takes_additions);
     go_on_by(rt, alloc, &mut given, steps);
@@ -206,9 +203,9 @@ fn other_bytes_are_nothing(rt: HostRuntime) {
         (&CALL[..HEAD - 1], NothingCause::Unreadable),
         (&[], NothingCause::Unreadable),
         (&with_bytes(&[(5, 0)]), NothingCause::Unreadable),
-        // Its snapshot.
+        // The call's snapshot.
         (&with_bytes(&[(33, 1)]), NothingCause::Snapshot),
-        // The number of its procedure.
+        // The number of the call's procedure.
         (&with_bytes(&[(13, 9)]), NothingCause::Procedure),
     ];
     for (bytes, cause) in &rows {
@@ -230,11 +227,11 @@ fn what_is_nothing_counts_in_the_window(rt: HostRuntime) {
 
 #[test]
 fn two_sites_come_to_the_same(rt: HostRuntime) {
-    let request = RequestId {
+    let request = Some(RequestId {
         session: 8,
         sequence: 1,
-    };
-    // Its session; what it adds, replies and writes.
+    });
+    // The call's session; what it adds, replies and writes.
     let other = with_bytes(&[(1, 8), (25, 7), (37, 7), (76, 7)]);
     let asked = [ask(
         call_of_add(&SEVEN_TO_FIVE, request),
@@ -292,10 +289,10 @@ fn a_repeated_call_isnt_run_again(rt: HostRuntime) {
         position: 1,
         code: 1,
     };
-    let next = RequestId {
+    let next = Some(RequestId {
         session: 7,
         sequence: 2,
-    };
+    });
     let steps = [
         ask(claim(SEVEN_ONE), CallAnswer::Submitted(76), &CLAIM_OF_FIVE),
         take(&CLAIM_OF_FIVE, EntryOutcome::Committed(0)),
@@ -307,10 +304,10 @@ fn a_repeated_call_isnt_run_again(rt: HostRuntime) {
 
 #[test]
 fn calls_that_cannot_run_are_refused(rt: HostRuntime) {
-    let half = RequestId {
+    let half = Some(RequestId {
         session: 7,
         sequence: 0,
-    };
+    });
     let rows: [(&[u8], CallRefusal); 3] = [
         (b"none", CallRefusal::NoProcedure),
         (b"add", CallRefusal::ArgumentsLength),

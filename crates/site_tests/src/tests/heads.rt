@@ -1,7 +1,7 @@
 //! The heads of entries: a call of 84 bytes, an addition of 29, and what is neither.
 
 use log_entry::{AdditionHead, CallHead, EntryHead, head_of};
-use log_model::RequestId;
+use log_model::given_request;
 use std::process::Abort;
 
 /// A call of procedure 1 that adds 10 to row 5 of table 1, where it finds none, by request 7 1.
@@ -11,7 +11,7 @@ pub(crate) static CALL: [u8; 84] = [
     0, 0, 1, 0, 1, 5, 0, 0, 0, 0, 0, 0, 0, 1, 10, 0, 0, 0, 0, 0, 0, 0,
 ];
 
-/// How many of its bytes are its head.
+/// The number of the call's bytes that are its head.
 pub(crate) const HEAD: usize = 45;
 
 /// Procedure 9, `one`, which has no arguments and replies 1.
@@ -20,7 +20,7 @@ pub(crate) static ADDITION: [u8; 29] = [
     0, 0, 0,
 ];
 
-/// Bytes of the call's head that are changed, and its request then; none where it has no whole one.
+/// Bytes of the call's head that are changed, and its request then, which is none where the bytes have no whole one.
 struct Request {
     session: u8,
     sequence: u8,
@@ -52,7 +52,7 @@ static REQUESTS: [Request; 4] = [
 
 fn call_of(session: u32, sequence: u32) -> EntryHead<'static> {
     EntryHead::Call(CallHead {
-        request: RequestId { session, sequence },
+        request: given_request(session, sequence),
         number: 0,
         procedure: 1,
         args: &CALL[17..33],

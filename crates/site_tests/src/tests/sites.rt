@@ -10,7 +10,7 @@ use site_model::{AdditionAnswer, CallAnswer, EntryOutcome};
 use std::alloc::Global;
 use test_programs::{ADD, bytes_of};
 
-/// Puts 0 at the key that its argument is; cancels with 1 where there is a row.
+/// A program that puts 0 at the key that its argument is, or cancels with 1 where there is a row.
 const CLAIM: &str = "
     7916000000000000 b701000001000000 bf62000000000000 bfa3000000000000
     07030000f8ffffff 8500000001000000 1500020000000000 b701000001000000
@@ -18,10 +18,10 @@ const CLAIM: &str = "
     07030000f8ffffff 8500000002000000 b700000000000000 9500000000000000
 ";
 
-/// The procedures at first: name, number, program and how many bytes its arguments have.
+/// The procedures at first: name, number, program and the number of bytes of its arguments.
 static PROCEDURES: [(&[u8], u16, &str, u16); 2] = [(b"add", 1, ADD, 16), (b"claim", 2, CLAIM, 8)];
 
-/// Adds the procedures; none where memory is wanting.
+/// Adds the procedures. Returns `None` where memory is wanting.
 fn add_procedures(alloc: Global, catalogue: &mut Catalogue) -> Option<()> {
     for (name, number, program, args_len) in &PROCEDURES {
         let code = decode(alloc, &bytes_of(alloc, program)?).ok()?;
@@ -38,12 +38,13 @@ fn catalogue_of(alloc: Global) -> Option<Catalogue> {
     added.and(Some(catalogue))
 }
 
-/// A site that was given nothing. None where memory is wanting.
+/// A site that was given nothing, and `None` where memory is wanting.
 fn site_of(alloc: Global, takes_additions: bool) -> Option<Site> {
     Site::new(alloc, 4, catalogue_of(alloc)?, takes_additions).ok()
 }
 
-/// What becomes of one byte string more, and the site then. None where memory is wanting, or no position is left.
+/// Returns the outcome of one more byte string, and the site then. Returns `None` where memory is wanting, or no
+/// position is left.
 fn taken(site: Site, bytes: &[u8]) -> Option<(Site, EntryOutcome)> {
     if site.position() == u32::MAX {
         None
@@ -59,14 +60,14 @@ pub(crate) struct GivenSite {
 }
 
 impl GivenSite {
-    /// One that was given nothing.
+    /// Makes a site that was given nothing.
     pub(crate) fn new(alloc: Global, takes_additions: bool) -> GivenSite {
         GivenSite {
             site: site_of(alloc, takes_additions),
         }
     }
 
-    /// What becomes of one byte string more.
+    /// Takes in one more byte string, and returns its outcome.
     pub(crate) fn take(&mut self, bytes: &[u8]) -> Option<EntryOutcome> {
         let (site, outcome) = taken(self.site.take()?, bytes)?;
         self.site = Some(site);
@@ -79,7 +80,7 @@ impl GivenSite {
     }
 }
 
-/// An entry that is to be ordered, by how many bytes it has, and these.
+/// Returns an entry that is to be ordered, by the number of its bytes, and the bytes.
 fn submitted(alloc: Global, entry: &Entry) -> Option<(CallAnswer<usize>, Vec<u8>)> {
     match to_bytes(alloc, entry) {
         Ok(bytes) => Some((CallAnswer::Submitted(bytes.len()), bytes)),
@@ -87,7 +88,7 @@ fn submitted(alloc: Global, entry: &Entry) -> Option<(CallAnswer<usize>, Vec<u8>
     }
 }
 
-/// What is answered to a call, by how many bytes are to be ordered, and these.
+/// Returns the answer to a call, by the number of bytes that are to be ordered, and the bytes.
 pub(crate) fn answer(
     alloc: Global,
     site: &Site,
@@ -104,7 +105,7 @@ pub(crate) fn answer(
     Some((told, Vec::new(alloc)))
 }
 
-/// The same of an addition.
+/// Returns the same of an addition.
 fn submitted_addition(alloc: Global, entry: &Entry) -> Option<(AdditionAnswer<usize>, Vec<u8>)> {
     match to_bytes(alloc, entry) {
         Ok(bytes) => Some((AdditionAnswer::Submitted(bytes.len()), bytes)),
@@ -112,8 +113,8 @@ fn submitted_addition(alloc: Global, entry: &Entry) -> Option<(AdditionAnswer<us
     }
 }
 
-/// What is answered to a procedure that is to be added, by how many bytes are to be ordered, and these. (A site may be
-/// asked for at most 256 bytes of arguments.)
+/// Returns the answer to a procedure that is to be added, by the number of bytes that are to be ordered, and the bytes.
+/// (A site may be asked for at most 256 bytes of arguments.)
 pub(crate) fn answer_to_addition(
     alloc: Global,
     site: &Site,

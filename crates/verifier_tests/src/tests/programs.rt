@@ -259,7 +259,8 @@ pub(super) static HOLDS_NOTHING: [Cause; 8] = [
     ("1d61000000000000 9500000000000000", 0, "V1 slot 0"),
 ];
 
-/// The same by loads, stores and calls, beside other causes, and after a call that took it.
+/// A register that holds nothing is read by loads, stores and calls, beside other causes, and after a call that took
+/// it.
 pub(super) static HOLDS_NOTHING_IN_MEMORY: [Cause; 7] = [
     ("7960000000000000 9500000000000000", 0, "V1 slot 0"),
     ("7206000000000000 9500000000000000", 0, "V1 slot 0"),
@@ -433,7 +434,7 @@ pub(super) static NOT_WRITTEN: [Cause; 7] = [
     ),
 ];
 
-/// A helper that there isn't, and a table that isn't one of the schema.
+/// A helper that doesn't exist, and a table that isn't one of the schema.
 pub(super) static HELPERS_AND_TABLES: [Cause; 8] = [
     ("8500000007000000 9500000000000000", 0, "V6 slot 0"),
     ("8500000000000000 9500000000000000", 0, "V6 slot 0"),

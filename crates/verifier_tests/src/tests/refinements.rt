@@ -22,7 +22,7 @@ fn edges_on_32_bits(rt: HostRuntime) {
     }
 }
 
-/// What is known of an edge: the condition, whether its jump is taken, and the ranges of its operands.
+/// An edge: the condition, whether its jump is taken, and the ranges of its operands.
 type Edge = (Condition, bool, [u64; 2], [u64; 2]);
 
 fn edge(rt: &impl Abort, case: Edge, found: Option<(Range, Range)>, along: &Option<[[u64; 2]; 2]>) {
@@ -30,7 +30,7 @@ fn edge(rt: &impl Abort, case: Edge, found: Option<(Range, Range)>, along: &Opti
     same(rt, "along the edge", (case, found), (case, wanted));
 }
 
-/// A condition, whether its jump is taken, the ranges of its operands, and those along the edge.
+/// A condition, whether its jump is taken, the ranges of its operands, and the ranges along the edge.
 type Row = (Condition, bool, [u64; 2], [u64; 2], Option<[[u64; 2]; 2]>);
 
 // The values of the tables were computed by a Python program.

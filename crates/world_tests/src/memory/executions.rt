@@ -7,7 +7,7 @@ use scarce::Scarce;
 use std::alloc::Allocator;
 use std::process::Abort;
 
-/// What a call answers that finds no memory, and then again.
+/// Returns what a call answers that finds no memory, and then again.
 fn refused<A: Allocator + Copy>(scarce: &Scarce, world: &mut World<A>) -> (Outcome, Outcome) {
     let _ = world.step(BEGIN_TEN);
     scarce.refuse_all(true);
@@ -16,7 +16,7 @@ fn refused<A: Allocator + Copy>(scarce: &Scarce, world: &mut World<A>) -> (Outco
     (answer, world.exec(1))
 }
 
-/// What a call answers of which ten turns were taken before, then again, and what comes of it.
+/// Returns what a call answers of which ten turns were taken before, then again, and what comes of it.
 fn resumed<A: Allocator + Copy>(world: &mut World<A>) -> (Outcome, Outcome, Outcome) {
     let _ = world.step(BEGIN_SEVEN);
     for _ in 0..10 {
@@ -37,7 +37,7 @@ fn execute<A: Allocator + Copy>(rt: &impl Abort, scarce: &Scarce, world: &mut Wo
     same(rt, "resumed", told, (exit, exit, ordered));
 }
 
-/// The same in a world that takes memory from here. (Who calls this has no world to let go.)
+/// Runs such calls in a world that takes memory from `taken_from`. (The caller has no world to drop.)
 fn execute_over<A: Allocator + Copy>(rt: &impl Abort, scarce: &Scarce, taken_from: A) {
     let mut world = two_replicas(rt, taken_from);
     execute(rt, scarce, &mut world);

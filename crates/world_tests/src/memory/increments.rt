@@ -23,7 +23,7 @@ static STEPS: [(Step<'static>, usize); 12] = [
     (Step::Deliver { replica: 2 }, 1),
 ];
 
-/// What is answered, but for the turns after which there are more: all but the last of each call.
+/// The answers, but for the turns after which there are more: all but the last of each call.
 static TOLD: [Outcome; 14] = [
     Outcome::Begun {
         call: 1,
@@ -65,7 +65,7 @@ static TOLD: [Outcome; 14] = [
     },
 ];
 
-/// Whether no steps are taken where there is no room for their answers.
+/// Tells whether no steps are taken where there is no room for their answers.
 fn is_refused<A: Allocator + Copy>(
     rt: &impl Abort,
     alloc: Global,
@@ -79,7 +79,7 @@ fn is_refused<A: Allocator + Copy>(
     refused && world.log_len() == 0
 }
 
-/// What is answered by the steps after they were refused, and what replica 2 is then.
+/// Returns what is answered by the steps after they were refused, and what replica 2 is then.
 fn refused_and_run<A: Allocator + Copy>(
     rt: &impl Abort,
     alloc: Global,
@@ -93,7 +93,7 @@ fn refused_and_run<A: Allocator + Copy>(
     (told, described(rt, alloc, world, 2))
 }
 
-/// The same in a world that takes memory from here.
+/// Returns the same in a world that takes memory from `taken_from`.
 fn increments<A: Allocator + Copy>(
     rt: &impl Abort,
     alloc: Global,

@@ -4,11 +4,11 @@ use super::{
     ADD_TEN, BEGIN_SEVEN, BEGIN_TEN, Script, described, run_script, same, steps_of, two_replicas,
 };
 use bpf_verify::Cause;
-use log_model::Verdict;
-use program_checks::ProgramFault;
 use catalogue::Catalogue;
 use dsm_model::{Outcome, StepRefusal};
 use dsm_world::{Step, World};
+use log_model::Verdict;
+use program_checks::ProgramFault;
 use scarce::Scarce;
 use std::alloc::{Allocator, Global};
 use std::process::Abort;
@@ -50,7 +50,7 @@ static AFTER: [(Step<'static>, usize); 7] = [
     (Step::Deliver { replica: 2 }, 1),
 ];
 
-/// What is answered to them, with a delivery between them for which there is no memory.
+/// The answers to these steps, with a delivery between them for which there is no memory.
 static TOLD: [Outcome; 16] = [
     Outcome::Begun {
         call: 1,
@@ -91,7 +91,7 @@ static TOLD: [Outcome; 16] = [
     },
 ];
 
-/// Delivers to replica 2 without memory: what is answered.
+/// Delivers to replica 2 without memory, and returns what is answered.
 fn deliver_refused<A: Allocator + Copy>(scarce: &Scarce, world: &mut World<A>) -> Outcome {
     scarce.refuse_all(true);
     let outcome = world.step(Step::Deliver { replica: 2 });
@@ -99,7 +99,8 @@ fn deliver_refused<A: Allocator + Copy>(scarce: &Scarce, world: &mut World<A>) -
     outcome
 }
 
-/// Lets replica 2 stop and be made anew: what it is while it is stopped, and at the end. What is answered is added.
+/// Lets replica 2 stop and be made anew, and returns what it is while it is stopped, and at the end. The answers are
+/// added to `told`.
 fn stop_and_rebuild<A: Allocator + Copy>(
     rt: &impl Abort,
     alloc: Global,
@@ -115,7 +116,7 @@ fn stop_and_rebuild<A: Allocator + Copy>(
     (stopped, described(rt, alloc, world, 2))
 }
 
-/// The same in a world that takes memory from here.
+/// Returns the same in a world that takes memory from `taken_from`.
 fn stopped_and_rebuilt<A: Allocator + Copy>(
     rt: &impl Abort,
     alloc: Global,
@@ -143,7 +144,7 @@ fn a_stopped_replica_is_made_anew(rt: HostRuntime) {
     same(&rt, "anew", anew.as_str(), rows);
 }
 
-/// Whether a world is made of a catalogue where the growth of this number is refused.
+/// Tells whether a world is made of a catalogue where the growth of this number is refused.
 fn is_made<A: Allocator + Copy>(
     scarce: &Scarce,
     growth: u64,
@@ -170,8 +171,8 @@ fn each_refused_growth_is_want_of_memory(rt: HostRuntime) {
     assert!(rt; refused > 4 && refused < 100, "{refused}");
 }
 
-/// A step that takes memory, in a world in which these were taken before: what it answers, and what it does where a
-/// growth is refused; and a step by which is seen what that left, with its answer.
+/// A step that takes memory, in a world in which the steps before were taken: its answer, and its answer where a growth
+/// is refused. A further step, with its answer, shows what the refusal left.
 struct Case {
     before: Script,
     step: Step<'static>,
@@ -261,7 +262,7 @@ static CASES: [Case; 11] = [
         next: Step::Deliver { replica: 1 },
         left: NOTHING_LEFT,
     },
-    // Its procedure isn't there where it found no memory.
+    // The procedure of the addition isn't there where the addition found no memory.
     Case {
         before: &[(ADD_ONE, 1)],
         step: Step::Deliver { replica: 1 },
@@ -288,7 +289,7 @@ static CASES: [Case; 11] = [
         next: Step::Turn { call: 1 },
         left: NO_CALL,
     },
-    // It begins in the memory of one that is over.
+    // The call begins in the memory of a call that is over.
     Case {
         before: &[
             (BEGIN_TEN, 1),
@@ -304,7 +305,7 @@ static CASES: [Case; 11] = [
         next: Step::Turn { call: 2 },
         left: NO_CALL,
     },
-    // Its seventh instruction gets a row.
+    // The seventh instruction of the call gets a row.
     Case {
         before: &[(BEGIN_TEN, 1), (Step::Turn { call: 1 }, 6)],
         step: Step::Turn { call: 1 },
@@ -353,7 +354,7 @@ static CASES: [Case; 11] = [
     },
 ];
 
-/// What the step of a case answers where the growth of this number is refused, and what is answered then.
+/// Returns what the step of a case answers where the growth of this number is refused, and what is answered then.
 fn answers_in<A: Allocator + Copy>(
     rt: &impl Abort,
     alloc: Global,
@@ -371,7 +372,7 @@ fn answers_in<A: Allocator + Copy>(
     (answer, world.step(case.next))
 }
 
-/// The same in a world that takes memory from here.
+/// Returns the same in a world that takes memory from `taken_from`.
 fn answers_over<A: Allocator + Copy>(
     rt: &impl Abort,
     alloc: Global,
@@ -384,7 +385,7 @@ fn answers_over<A: Allocator + Copy>(
     answers_in(rt, alloc, scarce, &mut world, case, growth)
 }
 
-/// The same with a `Scarce` of its own.
+/// Returns the same with a `Scarce` of its own.
 fn answers(rt: &impl Abort, alloc: Global, case: &Case, growth: u64) -> (Outcome, Outcome) {
     let scarce = Scarce::new(alloc);
     answers_over(rt, alloc, &scarce, &scarce, case, growth)
@@ -418,7 +419,8 @@ static FIRST_ENDS: [(Step<'static>, usize); 2] = [
     (Step::Order { call: 1 }, 1),
 ];
 
-/// How many growths the first call makes as it begins, and the second, which begins when that is over.
+/// Returns the number of growths that the first call makes as it begins, and the second, which begins when the first is
+/// over.
 fn growths_of_two<A: Allocator + Copy>(
     rt: &impl Abort,
     alloc: Global,
@@ -436,7 +438,7 @@ fn growths_of_two<A: Allocator + Copy>(
     (first, scarce.growths().wrapping_sub(before))
 }
 
-/// The same in a world that takes memory from here.
+/// Returns the same in a world that takes memory from `taken_from`.
 fn growths_over<A: Allocator + Copy>(
     rt: &impl Abort,
     alloc: Global,
@@ -447,8 +449,8 @@ fn growths_over<A: Allocator + Copy>(
     growths_of_two(rt, alloc, scarce, &mut world)
 }
 
-/// A first call takes memory for its arguments, itself and a list of calls; the next begins in the memory of that one,
-/// and takes some for its arguments alone.
+/// A first call takes memory for its arguments, itself and a list of calls. The next begins in the memory of the first,
+/// and takes memory for its arguments alone.
 #[test]
 fn calls_begin_in_the_memory_of_one_that_is_over(rt: HostRuntime) {
     let scarce = Scarce::new(rt.alloc());
@@ -479,7 +481,7 @@ fn refuse_beginnings<A: Allocator + Copy>(rt: &impl Abort, world: &mut World<A>)
     }
 }
 
-/// Neither its program nor its name would do.
+/// Asserts that an addition is refused for its arguments, where neither its program nor its name would do.
 fn refuse_an_addition<A: Allocator + Copy>(rt: &impl Abort, world: &mut World<A>) {
     let long = world.step(Step::Add {
         name: b"a-b",
@@ -495,7 +497,7 @@ fn refuse_an_addition<A: Allocator + Copy>(rt: &impl Abort, world: &mut World<A>
     );
 }
 
-/// Both in a world that takes memory from here. (Who calls this has no world to let go.)
+/// Asserts both in a world that takes memory from `alloc`. (The caller has no world to drop.)
 fn refuse_over<A: Allocator + Copy>(rt: &impl Abort, alloc: A) {
     let mut world = two_replicas(rt, alloc);
     refuse_beginnings(rt, &mut world);

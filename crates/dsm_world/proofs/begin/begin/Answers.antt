@@ -5,7 +5,6 @@ use Rattle.dsm_model.specs.declared.outcome.Outcome.TheVariants.{Begun, Refused}
 use Rattle.log_model.specs.Log.{by_number, procedures_after}
 use Rattle.log_model.specs.Entries.{items_of}
 use Rattle.dsm_model.specs.World.{Begin, IsStep}
-use Rattle.log_model.specs.OpenRequest.{or_none}
 use Rattle.catalogue.specs.Catalogue.{accepted_of}
 use Rattle.world_calls.specs.OpenCall.{open_call_of}
 use Rattle.dsm_world.specs.System.{setting_of, progress_of, world_of}
@@ -124,8 +123,7 @@ returns-in-Ok-enter-clause-step g c =
     (subst (λ xs. IsStep (setting_of s) (world_of s) (Begin c.args.replica c.args.procedure c.args.args.now c.args.request) (Begun number old.position) (world_of (with_slots s xs))) (sym c.in-Ok-enter.ensures.entered)
     (begins s slots c.args.replica at c.args.procedure c.args.args.now c.args.request old p.0 c.in-Ok.open_call.value number c.requires.together place.0 there p.1
     (c.if-args-from.false ∙ c.from.ensures ∙ c.args_len.ensures.length ∙ ap (λ (q : Procedure). q.args_len) p.2) (sym c.has_zero.ensures ∙ c.if-has_zero.false) (let additions = c.requires.additions in let counted = calls_are s slots c.requires.together in omega arith) (omega arith)
-    (subst (λ n. open_call_of c.in-Ok.open_call.value ≡ record { replica = c.args.replica; call = record { number = number; procedure = c.args.procedure; args = c.args.args.now; snapshot = n; request = or_none c.args.request }; turns = 0 }) snapshot
-    (subst (λ q. open_call_of c.in-Ok.open_call.value ≡ record { replica = c.args.replica; call = record { number = number; procedure = c.args.procedure; args = c.args.args.now; snapshot = c.begin-snapshot.result; request = q }; turns = 0 }) c.or_none-request.ensures c.in-Ok.ensures.begun))))
+    (subst (λ n. open_call_of c.in-Ok.open_call.value ≡ record { replica = c.args.replica; call = record { number = number; procedure = c.args.procedure; args = c.args.args.now; snapshot = n; request = c.args.request }; turns = 0 }) snapshot c.in-Ok.ensures.begun)))
 
 pub returns-in-Ok-enter-clause-consistent : goal.returns-in-Ok-enter-clause-consistent
 returns-in-Ok-enter-clause-consistent g c =

@@ -5,7 +5,7 @@ use Rattle.bpf_verify.specs.Flow.{Procedure}
 use Rattle.catalogue.specs.Catalogue.{accepted_of}
 use Rattle.log_model.specs.Log.{Setting, by_number, first_repeated, history, procedures_after}
 use Rattle.log_model.specs.Entries.{Entry, item_of, items_of}
-use Rattle.log_entry.specs.Head.{is_whole}
+use Rattle.log_model.specs.OpenRequest.{has_zero}
 use Rattle.replica.specs.Replica.{Replica}
 use Rattle.site_model.specs.declared.answer.CallAnswer.TheVariants.{Repeated}
 use Rattle.site_model.specs.Answer.{asked_call}
@@ -51,8 +51,8 @@ returns-then-from-asked g c entries stands =
     let other : nat_eq f.p.args_len (length asked.args) ≡ false = grind (arith, nat_tests) in
     other_length w entries asked f.p f.named other
 
-pub returns-then-not-is_whole : goal.returns-then-not-is_whole
-returns-then-not-is_whole g c entries stands =
+pub returns-then-has_zero : goal.returns-then-has_zero
+returns-then-has_zero g c entries stands =
     let s = c.args.site.now in
     let w = (setting_of s).setting in
     let asked = asked_of c.args.asked in
@@ -65,7 +65,7 @@ returns-then-not-is_whole g c entries stands =
     let wide = c.from.ensures in
     let test = c.if-from-asked.false in
     let as_many : nat_eq f.p.args_len (length asked.args) ≡ true = grind (arith, nat_tests) in
-    half_request w entries asked f.p f.named as_many (sym c.is_whole.ensures ∙ c.if-not-is_whole.true)
+    half_request w entries asked f.p f.named as_many (sym c.has_zero.ensures ∙ c.if-has_zero.true)
 
 pub returns-in-Some-repeated : goal.returns-in-Some-repeated
 returns-in-Some-repeated g c entries stands =
@@ -81,7 +81,7 @@ returns-in-Some-repeated g c entries stands =
     let wide = c.from.ensures in
     let test = c.if-from-asked.false in
     let as_many : nat_eq f.p.args_len (length asked.args) ≡ true = grind (arith, nat_tests) in
-    let whole : is_whole asked.request ≡ true = sym c.is_whole.ensures ∙ c.if-not-is_whole.false in
+    let whole : has_zero asked.request ≡ false = sym c.has_zero.ensures ∙ c.if-has_zero.false in
     let first : first_repeated (history w (items_of entries)).certified (asked_call (items_of entries) f.p asked) ≡ Some c.in-Some-repeated.position = sym (c.repeated.ensures entries stands) ∙ c.in-Some-repeated.is in
     ap (Repeated c.in-Some-repeated.position) (c.reply_at-reply.ensures entries (c.replies.ensures ∙ stands.replies))
     ∙ repeated_call w entries asked f.p f.named c.in-Some-repeated.position as_many whole first
@@ -115,7 +115,7 @@ returns g c entries stands =
     let wide = c.from.ensures in
     let test = c.if-from-asked.false in
     let as_many : nat_eq f.p.args_len (length asked.args) ≡ true = grind (arith, nat_tests) in
-    let whole : is_whole asked.request ≡ true = sym c.is_whole.ensures ∙ c.if-not-is_whole.false in
+    let whole : has_zero asked.request ≡ false = sym c.has_zero.ensures ∙ c.if-has_zero.false in
     let here : c.position.result ≡ length entries = c.position.ensures.count entries stands in
     let first : first_repeated (history w (items_of entries)).certified (asked_call (items_of entries) f.p asked) ≡ None = sym (c.repeated.ensures entries stands) ∙ c.in_default-repeated.is in
     let program : Some c.in-Some-by_number.accepted.now ≡ option_map (accepted_of s.catalogue.tables) (by_number (procedures_after w (items_of entries) c.position.result) c.in-Some.procedure) =

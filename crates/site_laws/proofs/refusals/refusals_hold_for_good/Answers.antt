@@ -2,7 +2,7 @@ use Rattle.std.proofs.Common.{◌≡◌, ◌≢◌, ℕ, ◌+◌, ◌≤◌, tru
 use Rattle.std.proofs.lemmas.List.{length-map}
 use Rattle.log_model.specs.Log.{StoredProcedure, Catalogue, IsPlaced, by_name, by_number, procedure_of, verdict_of}
 use Rattle.log_model.specs.Entries.{Entry, CallEntry, item_of, items_of}
-use Rattle.log_entry.specs.Head.{is_whole}
+use Rattle.log_model.specs.OpenRequest.{has_zero}
 use Rattle.site_model.specs.declared.outcome.EntryOutcome.{EntryOutcome}
 use Rattle.site_model.specs.declared.outcome.EntryOutcome.TheVariants as outcome
 use Rattle.site_model.specs.Answer.{answer_for}
@@ -83,7 +83,7 @@ returns-clause-arguments c s order more bytes asked p call told reply distinct r
 pub returns-clause-request : goal.returns-clause-request
 returns-clause-request c s order bytes asked call told refused head same =
     let half = half_a_request s.setting (order_entries s order) asked (by_name (procedures_behind s order) asked.name) (sym (answer_is c.orders_grow.ensures.count s order asked) ∙ refused) in
-    absurd (let x = sym (heads_are_whole bytes call told head) ∙ ap is_whole same ∙ half in cc)
+    absurd (let x = sym (heads_are_whole bytes call told head) ∙ ap has_zero same ∙ half in cc)
 
 pub returns-clause-taken : goal.returns-clause-taken
 returns-clause-taken c s order more bytes identifier number taken added =

@@ -1,5 +1,0 @@
-use Rattle.order_bench.proofs.append.Given as goal
-
--- the log whose cells were just made
-abbrev pub ghosts-append_to_log : goal.ghosts-append_to_log
-ghosts-append_to_log g a = record { groups = a.cells }
