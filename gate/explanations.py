@@ -22,7 +22,7 @@ use crate::explanation::Explanation;
 def tables():
     """Yields each row of a refusal, as its cells by the heads of their columns."""
     heads = []
-    for line in workspace.read(PAGE).decode().splitlines():
+    for line in workspace.text(PAGE).splitlines():
         cells = [it.strip() for it in line.strip("|").split("|")] if line.startswith("|") else []
         if cells and cells[0] == "Number":
             heads = cells
@@ -46,7 +46,7 @@ def constant(name, what, rows):
     return f"/// {what}, each refusal once.\npub const {name}: [Explanation; {len(rows)}] = [\n{''.join(map(row, rows))}];\n"
 
 
-def source():
+def made():
     """Two tables: the checker runs out of steps over a function that names one of some sixty rows."""
     rows = [*tables()]
     of_procedures = [it for it in rows if it["Number"][0] in "BSVC"]
@@ -55,10 +55,6 @@ def source():
             + constant("OF_RUNS", "Of what is run", of_runs))
 
 
-def is_today():
-    return workspace.read(MADE).decode() == source()
-
-
 if __name__ == "__main__":
     with open(f"{workspace.ROOT}/{MADE}", "w") as file:
-        print(f"{MADE}: {file.write(source())} characters", file=sys.stderr)
+        print(f"{MADE}: {file.write(made())} characters", file=sys.stderr)

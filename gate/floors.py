@@ -4,6 +4,7 @@ In crates.txt each block begins with a comment, `## Name: what it is`. Blocks an
 none that stands behind it. What a crate is stands at its head: the first sentence of its root file's documentation.
 `python3 gate/floors.py` writes docs/MAP.md.
 """
+import itertools
 import re
 import textwrap
 
@@ -12,15 +13,14 @@ import promises
 import workspace
 
 MADE = "docs/MAP.md"
-WIDTH = 62  # of a box
+INSIDE = 62  # the width of a box between its sides
 HEAD = """\
 # Map
 
-Every crate, by block. A crate stands above those of its block that it uses. At the right stand the blocks right below; they stand on the others. Blocks of meaning hold [definitions](DEFINITIONS.md): read these first. [The life of a call](ARCHITECTURE.md) says how the parts work together.
+Every crate, by block: the program's crates first, then what tests and measures them. A crate stands above those of its block that it uses. At the right stand the blocks right below, which stand on the others. The blocks of meaning hold definitions: [read these first](DEFINITIONS.md). [The life of a call](ARCHITECTURE.md) says how the parts work together.
 
 """
-BESIDE = "\nBeside the program, and on its blocks, stands what tests and measures:\n\n"
-SUBJECTS = "\nEach crate's subject is the first sentence of its head. `python3 gate/floors.py` makes this page from these heads and from `crates.txt`.\n"
+LISTS = "\nEach crate's subject is the first sentence of its head. This page is made by `python3 gate/floors.py`, of these heads and `crates.txt`.\n"
 
 
 def blocks():
@@ -42,11 +42,8 @@ def faults():
         yield from (f"crates.txt: {crate} lists {it}, which stands behind it" for it in workspace.direct(crate) if place[it] > place[crate])
 
 
-# ---- the picture
-
-
-def rows_of(crates):
-    """Returns the crates of a block in rows, each above those that it uses."""
+def rows(crates):
+    """Returns the crates of a block in rows, highest first, each above those that it uses."""
     depth = {}
     for crate in crates:
         depth[crate] = 1 + max((depth[it] for it in workspace.direct(crate) if it in depth), default=0)
@@ -54,27 +51,45 @@ def rows_of(crates):
 
 
 def right_below(found):
-    """Returns for each block, lowest first, the numbers of those that it uses and that are below no other of them."""
-    floor = {crate: at for at, (_, _, crates) in enumerate(found) for crate in crates}
-    below, right = {}, []
+    """Returns for each block, by its number from below, the numbers of those that it uses and that are below no other of them."""
+    floor, below, right = {crate: at for at, (_, _, crates) in enumerate(found) for crate in crates}, [], []
     for at, (_, _, crates) in enumerate(found):
         used = {floor[it] for crate in crates for it in workspace.direct(crate)} - {at}
-        below[at] = used.union(*(below[it] for it in used))
-        right.append(sorted((it for it in used if not any(it in below[other] for other in used)), reverse=True))
+        below.append(used.union(*(below[it] for it in used)))
+        right.append([it for it in sorted(used, reverse=True) if not any(it in below[other] for other in used)])
     return right
 
 
 def picture(found, chosen):
-    """Yields the lines of a picture of some of the blocks, highest first."""
-    right, edges = right_below(found), "┌┐"
-    yield "```"
-    for at in sorted(chosen, reverse=True):
+    """Returns a picture of the blocks of some numbers."""
+    lines, right = [], right_below(found)
+    for at in chosen:
         name, _, crates = found[at]
-        under = ["" if right[at] else "on nothing", *(f"on {found[it][0]}" for it in right[at])]
-        inside = [line for row in rows_of(crates) for line in textwrap.wrap(" · ".join(row), WIDTH - 4)]
-        yield f"{edges[0]}─ {name} ".ljust(WIDTH - 1, "─") + edges[1]
-        for line, beside in zip(*padded(inside, under[1:])):
-            yield f"│{line:^{WIDTH - 2}}│ {beside}".rstrip()
-        edges = "├┤"
-    yield f"└{'─' * (WIDTH - 2)}┘"
-    yield "```"
+        edges = "├┤" if lines else "┌┐"
+        lines.append(f"{edges[0]}{f'─ {name} ':─<{INSIDE}}{edges[1]}")
+        inside = [line for row in rows(crates) for line in textwrap.wrap("   ".join(row), INSIDE - 2)]
+        for line, under in itertools.zip_longest(inside, (found[it][0] for it in right[at]), fillvalue=""):
+            lines.append(f"│{line:^{INSIDE}}│ {under}".rstrip())
+    return "\n".join(["```", *lines, f"└{'─' * INSIDE}┘", "```", ""])
+
+
+def subject(crate):
+    """Returns the first sentence of a crate's head, without its full stop."""
+    return re.split(r"[.:](?: |$)", promises.head_of(crate), maxsplit=1)[0].replace("|", "\\|")
+
+
+def made():
+    found = blocks()
+    numbers = range(len(found) - 1, -1, -1)
+    of_the_program = [it for it in numbers if {*found[it][2]} & {*programs.crates()}]
+    beside = [it for it in numbers if it not in of_the_program]
+    parts = [HEAD, picture(found, of_the_program), "\n", picture(found, beside), LISTS]
+    for name, said, crates in (found[it] for it in (*of_the_program, *beside)):
+        head = ["", f"## {name}", "", f"{said[0].upper()}{said[1:]}.", "", "| Crate | Subject |", "|---|---|"]
+        parts.append("\n".join([*head, *(f"| `{crate}` | {subject(crate)} |" for crate in reversed(crates)), ""]))
+    return "".join(parts)
+
+
+if __name__ == "__main__":
+    with open(f"{workspace.ROOT}/{MADE}", "w") as file:
+        file.write(made())

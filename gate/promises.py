@@ -15,7 +15,7 @@ def head_of(crate):
     """Returns what a crate's root says of it: its first paragraph of documentation."""
     said = []
     for root in ("lib", "main"):
-        for line in workspace.read(f"crates/{crate}/src/{root}.rt").decode().splitlines():
+        for line in workspace.text(f"crates/{crate}/src/{root}.rt").splitlines():
             if not line.startswith("//!") or line == "//!":
                 break
             said.append(line.removeprefix("//!").strip())
@@ -24,7 +24,7 @@ def head_of(crate):
 
 def shown(crate):
     """Returns the names that a crate's root hands on, and the modules that are public whole."""
-    root = workspace.read(f"crates/{crate}/src/lib.rt").decode()
+    root = workspace.text(f"crates/{crate}/src/lib.rt")
     names = set()
     for it in re.findall(r"^pub use [^;]*;", root, re.M):
         names |= set(re.findall(r"\w+", it.partition("::")[2]))
@@ -51,7 +51,7 @@ def clauses_of(lines, at):
 
 def functions_of(path, names, is_public_module):
     """Yields (name, documentation, clauses) of each function of a file that callers can see."""
-    lines, said, owner, interface = workspace.read(path).decode().splitlines(), [], None, None
+    lines, said, owner, interface = workspace.text(path).splitlines(), [], None, None
     for at, line in enumerate(lines):
         if line.lstrip().startswith("///"):
             said.append(line.strip().removeprefix("///").strip())
@@ -85,7 +85,7 @@ def definitions(crate):
     """Yields (file, text) of each file of a crate's definitions, without its imports."""
     for path in workspace.files(crate):
         if path.startswith(f"crates/{crate}/specs/") and not path.endswith("/Lib.antt"):
-            lines = [it for it in workspace.read(path).decode().splitlines() if not re.match(r"(pub |unfoldable )*use ", it)]
+            lines = [it for it in workspace.text(path).splitlines() if not re.match(r"(pub |unfoldable )*use ", it)]
             yield path, "\n".join(lines).strip()
 
 

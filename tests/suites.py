@@ -1,13 +1,14 @@
-"""What `./test` runs, by name, with a program."""
+"""What `./test` runs, by name, with a program, and what `./prove` runs beside it."""
 import sys
 import traceback
 
 import command_lines
+import debian_package
 import examples
 import forms
-import launching
+import go_packages
+import launcher
 import procedures
-import server
 import servers
 
 SUITES = {
@@ -16,18 +17,22 @@ SUITES = {
     "forms": forms.run,
     "procedures": procedures.run,
     "layouts": procedures.run_layouts,
-    "launcher": launching.run,
-    "server": server.run,
+    "launcher": launcher.run,
+    "server": go_packages.run,
     "servers": servers.run,
+}
+LONGER = {
+    "transfers": servers.run_long,
+    "server, longer": go_packages.run_long,
+    "package": debian_package.run,
 }
 
 
-def run(program, tally, names=()):
-    """Runs the suites of some names, or all. One that ends in an exception has failed, and the others run."""
-    for name, suite in SUITES.items():
-        if not names or name in names:
-            try:
-                suite(program, tally)
-            except Exception as fault:
-                traceback.print_exc(file=sys.stdout)
-                tally.tell(f"suite {name}", False, f"ended in {type(fault).__name__}")
+def run(program, tally, suites):
+    """Runs some suites. One that ends in an exception has failed, and the others run."""
+    for name, suite in suites.items():
+        try:
+            suite(program, tally)
+        except Exception as fault:
+            traceback.print_exc(file=sys.stdout)
+            tally.tell(f"suite {name}", False, f"ended in {type(fault).__name__}")
