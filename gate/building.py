@@ -13,10 +13,6 @@ FOLDER = f"{ROOT}/crates/{programs.NAME}"
 MEMORY = 4 << 30  # what a check may take, in bytes
 
 
-class Failed(Exception):
-    """The program wasn't built; what was said of it stands on standard error."""
-
-
 def say(text):
     """Writes a line to standard error. Where nobody takes it, what was begun goes on."""
     with contextlib.suppress(OSError):
@@ -43,10 +39,10 @@ def jobs():
     return max(min(processors, free // MEMORY), 1)
 
 
-def run(words, folder, heard, **environment):
+def run(words, folder, heard):
     """Runs a command in a folder, hands on each line that it prints, and returns its status. It ends with this program."""
     how = {"stdin": subprocess.DEVNULL, "stdout": subprocess.PIPE, "stderr": subprocess.STDOUT, "text": True, "errors": "replace"}
-    with subprocess.Popen(words, cwd=folder, env={**os.environ, **environment}, **how) as command:
+    with subprocess.Popen(words, cwd=folder, **how) as command:
         try:
             for line in command.stdout:
                 heard(line.rstrip("\n"))
@@ -60,7 +56,7 @@ class Progress:
     """Tells of each crate when it is proved, and keeps what was said of those that weren't."""
 
     def __init__(self, count):
-        self.count, self.done, self.block, self.failed, self.killed = count, 0, [], [], False
+        self.count, self.done, self.block, self.failed = count, 0, [], []
 
     def hear(self, line):
         if line.startswith("== "):
@@ -73,11 +69,10 @@ class Progress:
 
     def end_block(self):
         """A block is what was said of one crate: nothing where it was proved before."""
-        name, said = (self.block or [""])[0].removeprefix("== "), self.block[1:]
-        proved = [it for it in said if it.startswith("logic=")][-1:]
-        if not self.block or not self.block[0].startswith("== ") or name == "summary":
+        head, *said = self.block or [""]
+        name, proved = head.removeprefix("== "), [it for it in said if it.startswith("logic=")][-1:]
+        if name in (head, "summary"):
             self.failed += self.block
-            self.killed = self.killed or any("failed (-9)" in it for it in said)
         elif not said or proved and proved[0].startswith("logic=proved"):
             self.done += 1
             if said:
@@ -95,13 +90,15 @@ def prove_all():
         progress = Progress(count)
         status = run(["rt", "all", "check", "--jobs", str(at_once)], FOLDER, progress.hear)
         progress.end_block()
-        if status == 0 or not progress.killed or at_once == 1:
+        was_killed = any("failed (-9)" in it for it in progress.failed)
+        if status == 0 or not was_killed or at_once == 1:
             return status, progress.failed
         at_once = max(at_once // 2, 1)
         say(f"memory ran out: going on with {at_once} at a time")
 
 
-def build_or_fail(reason):
+def prove_and_link(reason):
+    """Proves and builds the program. Returns why there is none, or nothing."""
     say(f"{reason}; what is proved is kept when this is interrupted")
     of_sources = programs.sources()
     status, said = prove_all()
@@ -111,10 +108,11 @@ def build_or_fail(reason):
         status = run(["rt", "run", "--jobs", str(jobs()), "--", "--help"], FOLDER, said.append)
     if status or not os.path.isfile(programs.BUILT):
         print("\n".join(said), file=sys.stderr)
-        raise Failed("the build failed")
+        return "the build failed"
     if programs.sources_of(ROOT) != of_sources:
-        raise Failed("its sources changed while it was built; what was proved is kept, and the next run goes on from there")
+        return "its sources changed while it was built; what was proved is kept, and the next run goes on from there"
     programs.write_origin(programs.BUILT, of_sources, programs.kit_here())
+    return ""
 
 
 def build(reason):
@@ -123,11 +121,9 @@ def build(reason):
         if signal.getsignal(number) == signal.SIG_DFL:
             signal.signal(number, signal.default_int_handler)
     try:
-        build_or_fail(reason)
-    except Failed as failed:
-        say(failed)
-        return 3
+        why, status = prove_and_link(reason), 3
     except KeyboardInterrupt:
-        say("interrupted: what was proved is kept, and the next run goes on from there")
-        return 130
-    return 0
+        why, status = "interrupted: what was proved is kept, and the next run goes on from there", 130
+    if why:
+        say(why)
+    return status if why else 0

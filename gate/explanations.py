@@ -3,7 +3,6 @@
 `python3 gate/explanations.py` writes them into the crate `command_line`.
 """
 import re
-import sys
 import textwrap
 
 import workspace
@@ -43,7 +42,7 @@ def row(cells):
 
 
 def constant(name, what, rows):
-    return f"/// {what}, each refusal once.\npub const {name}: [Explanation; {len(rows)}] = [\n{''.join(map(row, rows))}];\n"
+    return f"/// {what}, each once.\npub const {name}: [Explanation; {len(rows)}] = [\n{''.join(map(row, rows))}];\n"
 
 
 def made():
@@ -51,10 +50,10 @@ def made():
     rows = [*tables()]
     of_procedures = [it for it in rows if it["Number"][0] in "BSVC"]
     of_runs = [it for it in rows if it["Number"][0] not in "BSVC"]
-    return (HEAD + constant("OF_PROCEDURES", "Of programs, schemas and procedures", of_procedures) + "\n"
-            + constant("OF_RUNS", "Of what is run", of_runs))
+    return (HEAD + constant("OF_PROCEDURES", "The refusals of programs, schemas and procedures", of_procedures) + "\n"
+            + constant("OF_RUNS", "The refusals of what is run", of_runs))
 
 
 if __name__ == "__main__":
     with open(f"{workspace.ROOT}/{MADE}", "w") as file:
-        print(f"{MADE}: {file.write(made())} characters", file=sys.stderr)
+        file.write(made())

@@ -17,10 +17,9 @@ INSIDE = 62  # the width of a box between its sides
 HEAD = """\
 # Map
 
-Every crate, by block: the program's crates first, then what tests and measures them. A crate stands above those of its block that it uses. At the right stand the blocks right below, which stand on the others. The blocks of meaning hold definitions: [read these first](DEFINITIONS.md). [The life of a call](ARCHITECTURE.md) says how the parts work together.
+Every crate, by block: the program's crates first, then what tests and measures them. A crate stands above those of its block that it uses. At the right stand the blocks right below, which stand on the others. The blocks of meaning hold definitions: [read these first](DEFINITIONS.md). [The life of a call](ARCHITECTURE.md) says how the parts work together. `python3 gate/floors.py` makes this page of `crates.txt` and of the crates' heads, whose first sentence is the subject.
 
 """
-LISTS = "\nEach crate's subject is the first sentence of its head. This page is made by `python3 gate/floors.py`, of these heads and `crates.txt`.\n"
 
 
 def blocks():
@@ -83,7 +82,7 @@ def made():
     numbers = range(len(found) - 1, -1, -1)
     of_the_program = [it for it in numbers if {*found[it][2]} & {*programs.crates()}]
     beside = [it for it in numbers if it not in of_the_program]
-    parts = [HEAD, picture(found, of_the_program), "\n", picture(found, beside), LISTS]
+    parts = [HEAD, picture(found, of_the_program), "\n", picture(found, beside)]
     for name, said, crates in (found[it] for it in (*of_the_program, *beside)):
         head = ["", f"## {name}", "", f"{said[0].upper()}{said[1:]}.", "", "| Crate | Subject |", "|---|---|"]
         parts.append("\n".join([*head, *(f"| `{crate}` | {subject(crate)} |" for crate in reversed(crates)), ""]))

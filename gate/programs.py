@@ -2,13 +2,14 @@
 
 Beside each stands its origin: the sum of the sources that it was built from, its own sum, and the kit that built it.
 """
+import collections
+import contextlib
 import hashlib
 import os
 import re
 import shutil
 import subprocess
 import sys
-from typing import NamedTuple
 
 import workspace
 from workspace import ROOT
@@ -19,12 +20,7 @@ SHIPPED = f"{ROOT}/release/{NAME}"
 BACK = "`git checkout -- release` brings it back"
 PARTS = ("src", "specs", "proofs")  # what a crate is built from
 EDITORS = re.compile(r"\.#.*|#.*#|.*~|\..*\.sw[a-p]")  # what they leave beside a file that is open
-
-
-class Origin(NamedTuple):
-    sources: str
-    program: str
-    kit: str
+Origin = collections.namedtuple("Origin", "sources program kit")
 
 
 class Changed(Exception):
@@ -56,8 +52,7 @@ def sources():
 def sources_of(tree):
     """Returns the sum of the sources of another tree, or of this one as it is by now."""
     words = [sys.executable, "-B", "-c", "import programs; print(programs.sources())"]
-    ran = subprocess.run(words, cwd=f"{tree}/gate", check=True, stdout=subprocess.PIPE, text=True)
-    return ran.stdout.strip()
+    return subprocess.check_output(words, cwd=f"{tree}/gate", text=True).strip()
 
 
 def origin_path(program):
@@ -77,6 +72,13 @@ def origin_of(program):
 def write_origin(program, of_sources, kit):
     with open(origin_path(program), "w", encoding="utf-8") as file:
         file.write(f"sources {of_sources}\nprogram {sum_of(program)}\nkit {kit}\n")
+
+
+def forget_built():
+    """Removes the program that was built here, so that one which stands there later is new."""
+    for path in (BUILT, origin_path(BUILT)):
+        with contextlib.suppress(FileNotFoundError):
+            os.remove(path)
 
 
 def kit_here():

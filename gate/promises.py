@@ -25,11 +25,9 @@ def head_of(crate):
 def shown(crate):
     """Returns the names that a crate's root hands on, and the modules that are public whole."""
     root = workspace.text(f"crates/{crate}/src/lib.rt")
-    names = set()
-    for it in re.findall(r"^pub use [^;]*;", root, re.M):
-        names |= set(re.findall(r"\w+", it.partition("::")[2]))
-    modules = set(re.findall(r"^pub mod (\w+);", root, re.M))
-    return names | set(re.findall(r"^pub (?:struct|enum|trait|fn) (\w+)", root, re.M)), modules
+    names = {name for it in re.findall(r"^pub use [^;]*;", root, re.M) for name in re.findall(r"\w+", it.partition("::")[2])}
+    names |= {*re.findall(r"^pub (?:struct|enum|trait|fn) (\w+)", root, re.M)}
+    return names, {*re.findall(r"^pub mod (\w+);", root, re.M)}
 
 
 def clauses_of(lines, at):
@@ -76,9 +74,9 @@ def functions(crate):
     """Yields the public functions of a crate, as its files have them."""
     names, modules = shown(crate)
     for path in workspace.files(crate):
-        if path.endswith(".rt") and path.startswith(f"crates/{crate}/src/") and "/tests" not in path:
-            module = path.removeprefix(f"crates/{crate}/src/").removesuffix(".rt").split("/")[0]
-            yield from functions_of(path, names, module in modules or module == "lib")
+        inside = path.removeprefix(f"crates/{crate}/src/")
+        if inside != path and path.endswith(".rt") and "/tests" not in path:
+            yield from functions_of(path, names, re.split("[/.]", inside)[0] in {*modules, "lib"})
 
 
 def definitions(crate):

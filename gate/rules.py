@@ -19,13 +19,6 @@ def unnamed():
                 yield f"crates.txt: {crate} lists {it}, which no file of it names"
 
 
-def stale():
-    """Says which pages and files aren't those of their sources."""
-    for it in (floors, explanations):
-        if workspace.text(it.MADE) != it.made():
-            yield f"{it.MADE} isn't that of its sources: python3 gate/{it.__name__}.py"
-
-
 def is_there(path):
     """Whether a path of the tree, or of some crate, is there. A name in capitals stands for any."""
     pattern = re.sub(r"(?<=/)[A-Z]+(?=/|$)", "*", path.removeprefix("./"))
@@ -34,7 +27,7 @@ def is_there(path):
     return bool(found) and (not crate or crate[1] in workspace.lines() or crate[1].isupper())
 
 
-def lost():
+def lost_paths():
     """Says which paths and crates pages name, in code and in links, that aren't there."""
     tops = {*(it for it in os.listdir(ROOT) if os.path.isdir(f"{ROOT}/{it}")), *PARTS, "must-fail", "."}
     for page in ("README.md", "CONTRIBUTING.md", *(f"docs/{it}" for it in sorted(os.listdir(f"{ROOT}/docs")) if it.endswith(".md"))):
@@ -47,15 +40,18 @@ def lost():
         yield from (f"{page}: {it} isn't there" for it in sorted({*gone}))
 
 
-def untried():
+def lost_edits():
     """Says which must-fail edits TESTING's table of mistakes names that aren't there."""
     table = workspace.text("docs/TESTING.md").partition("\n| Plausible mistake |")[2].partition("\n\n")[0]
-    for crates, edits in re.findall(r"[|;] ([\w, ]+): ([\w, ]+)", table):
+    for crates, edits in re.findall(r"[|;] ([\w, ]+): ([\w, ]*\w)", table):
         for it in (f"crates/{crate}/must-fail/{edit}.edit" for crate in crates.split(", ") for edit in edits.split(", ")):
-            if not os.path.exists(f"{ROOT}/{it.strip()}"):
+            if not os.path.exists(f"{ROOT}/{it}"):
                 yield f"docs/TESTING.md: {it} isn't there"
 
 
 def run(tally):
-    found = [*unnamed(), *floors.faults(), *stale(), *lost(), *untried()]
+    found = [*unnamed(), *floors.faults(), *lost_paths(), *lost_edits()]
+    for it in (floors, explanations):
+        if workspace.text(it.MADE) != it.made():
+            found.append(f"{it.MADE} isn't that of its sources: python3 gate/{it.__name__}.py")
     tally.tell("workspace", not found, "; ".join(found))

@@ -7,6 +7,7 @@ import shutil
 import subprocess
 import tempfile
 
+import programs
 from building import say
 from workspace import ROOT
 
@@ -30,7 +31,7 @@ def missing():
 
 
 def install_line():
-    return f"apt-get install {' '.join(missing() or ['golang-go', *PACKAGES.values()])}"
+    return f"apt-get install {' '.join(missing())}"
 
 
 def sources():
@@ -40,11 +41,8 @@ def sources():
         folders.sort()
         for name in sorted(names):
             if not name.endswith("_test.go"):
-                path = f"{at}/{name}"
-                with open(path, "rb") as file:
-                    whole.update(f"{os.path.relpath(path, ROOT)} {hashlib.sha256(file.read()).hexdigest()}\n".encode())
-    with contextlib.suppress(OSError):
-        whole.update(os.path.realpath(shutil.which("go") or "").encode())
+                whole.update(f"{os.path.relpath(at, ROOT)}/{name} {programs.sum_of(f'{at}/{name}')}\n".encode())
+    whole.update(os.path.realpath(shutil.which("go") or "").encode())
     return whole.hexdigest()
 
 
@@ -80,8 +78,8 @@ def built():
     of_sources = sources()
     if is_built(of_sources):
         return BUILT
-    if lacking := missing():
-        say(f"the server is built from Go's sources, for which packages are wanting: apt-get install {' '.join(lacking)}")
+    if missing():
+        say(f"the server is built from Go's sources, for which packages are wanting: {install_line()}")
         return None
     os.makedirs(os.path.dirname(BUILT), exist_ok=True)
     with open(f"{BUILT}.lock", "w") as lock:

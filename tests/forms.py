@@ -1,5 +1,5 @@
 #!/usr/bin/env python3
-"""What a form of programs and entries is, by cases whose answers never change: gate/forms/N.cases for form N.
+"""What a form of programs and entries is, by cases whose answers never change: tests/forms/N.cases for form N.
 
 A file is blocks, each the settings of a site (`= LINE`), lines that are given to it (`> LINE`), and behind each its
 answer. A block ends in the sum of all that is above (`sum HEX`), so whoever changes an old line breaks each later sum. An
@@ -7,8 +7,8 @@ answer is that of the plain engine of server/tests, a program in Python by the d
 the verifier refuses, of which that engine knows nothing, what docs/REFUSALS.md says, by hand (`! LINE`): to `add`
 `refused P11 V..`, and to an `entry` that adds one `nothing E2`.
 
-  gate/forms.py FORM BLOCK [--program PATH]     puts a block behind the others: its settings and lines, and answers by
-                                                hand, as they stand in the file BLOCK
+  tests/forms.py FORM BLOCK [--program PATH]     puts a block behind the others: its settings and lines, and answers by
+                                                 hand, as they stand in the file BLOCK
 
 Nothing is added where the plain engine or the program answers otherwise. No command changes what stands. The sum of the
 last block stands in LAST, by hand.
@@ -24,9 +24,10 @@ import tempfile
 from typing import NamedTuple
 
 sys.dont_write_bytecode = True
+sys.path.append(f"{os.path.dirname(os.path.realpath(__file__))}/../gate")
 import workspace
 
-FOLDER = f"{workspace.ROOT}/gate/forms"
+FOLDER = f"{workspace.ROOT}/tests/forms"
 LAST = {"1": "4ca7eb40f13140964ea5960dd1eee1a8e85057d235dff36c724ad0acf237a4b2"}  # by form, the sum of its last block
 LIMIT = 120  # seconds, after which a program has failed
 
@@ -166,7 +167,7 @@ def run(program, tally):
         except ValueError as fault:
             tally.tell(f"form {form}", False, fault)
             continue
-        tally.tell(f"form {form}: its blocks", LAST.get(form) == sums[-1], "LAST of gate/forms.py has another sum")
+        tally.tell(f"form {form}: its blocks", LAST.get(form) == sums[-1], "LAST of tests/forms.py has another sum")
         for at, block in enumerate(blocks, 1):
             why = difference(program, block)
             tally.tell(f"form {form}, block {at}, {len(block.cases)} lines", not why, why)
@@ -201,7 +202,7 @@ def add(form, path, program):
 def main():
     import programs
 
-    words = argparse.ArgumentParser(prog="gate/forms.py", description=__doc__, formatter_class=argparse.RawDescriptionHelpFormatter)
+    words = argparse.ArgumentParser(prog="tests/forms.py", description=__doc__, formatter_class=argparse.RawDescriptionHelpFormatter)
     words.add_argument("form", type=int)
     words.add_argument("block")
     words.add_argument("--program", metavar="PATH")
@@ -210,7 +211,7 @@ def main():
     try:
         print(f"sum {add(asked.form, asked.block, program)}: put it into LAST")
     except (OSError, ValueError) as fault:
-        print(f"gate/forms.py: {fault}", file=sys.stderr)
+        print(f"tests/forms.py: {fault}", file=sys.stderr)
         return 1
     return 0
 

@@ -1,4 +1,4 @@
-"""Tests of the server (server/), by Debian's Go."""
+"""Tests of the server's packages (server/), by Debian's Go."""
 import json
 import tempfile
 

@@ -28,7 +28,8 @@ class Copy:
             for part in programs.PARTS:
                 if os.path.isdir(f"{ROOT}/crates/{crate}/{part}"):
                     shutil.copytree(f"{ROOT}/crates/{crate}/{part}", f"{self.folder}/crates/{crate}/{part}")
-        shutil.copytree(f"{ROOT}/gate", f"{self.folder}/gate", ignore=shutil.ignore_patterns("__pycache__"))
+        for folder in ("gate", "tests"):
+            shutil.copytree(f"{ROOT}/{folder}", f"{self.folder}/{folder}", ignore=shutil.ignore_patterns("__pycache__", "*.cases"))
         for name in ("dsmdb", "test", "crates.txt", ".gitignore"):
             shutil.copy(f"{ROOT}/{name}", self.folder)
         os.chmod(f"{self.folder}/{CHANGED}", 0o644)

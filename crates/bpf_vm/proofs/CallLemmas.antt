@@ -21,7 +21,7 @@ use Rattle.vm_state.specs.Access.{InStack}
 use Rattle.txn_view.specs.declared.view.Own.{Own}
 use Rattle.txn_view.specs.View.{IsReadOf, IsViewOf}
 use Rattle.bpf_vm.specs.Calls.{CanCall, LooksMore, AfterCall}
-use Rattle.bpf_vm.specs.declared.calls.CallAnswer.TheVariants.{Done, Stale, NoMemory}
+use Rattle.bpf_vm.specs.declared.calls.HelperAnswer.TheVariants.{Done, Stale, NoMemory}
 use Rattle.bpf_vm.proofs.PartLemmas.{GetParts, CountParts, NextParts, CancelParts, get_parts, put_parts, delete_parts, count_parts, next_parts}
 use Rattle.bpf_vm.specs.Held.{HeldLaws}
 

@@ -21,7 +21,7 @@ use Rattle.vm_state.specs.Words.{Words, IsWordOf, Holds, HoldsNext, word}
 use Rattle.txn_view.specs.declared.view.Own.{Own}
 use Rattle.txn_view.specs.View.{IsViewOf}
 use Rattle.bpf_vm.specs.Calls.{AfterCall}
-use Rattle.bpf_vm.specs.declared.calls.CallAnswer.TheVariants as answer
+use Rattle.bpf_vm.specs.declared.calls.HelperAnswer.TheVariants as answer
 use Rattle.bpf_vm.specs.declared.turn.Turn.{Turn}
 use Rattle.bpf_vm.specs.declared.turn.Turn.TheVariants.{More, Exit, Stale, NoMemory}
 use Rattle.bpf_vm.specs.Turns.{CanStep, CanExecute, FollowsMoment, FollowsInstruction, FollowsStep}

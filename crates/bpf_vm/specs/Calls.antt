@@ -9,8 +9,8 @@ use Rattle.bpf_semantics.specs.Helpers.{state_after_call}
 use Rattle.vm_state.specs.Words.{Words, Holds}
 use Rattle.txn_view.specs.declared.view.Own.{Own}
 use Rattle.txn_view.specs.View.{IsViewOf}
-use Rattle.bpf_vm.specs.declared.calls.CallAnswer.{CallAnswer}
-use Rattle.bpf_vm.specs.declared.calls.CallAnswer.TheVariants.{Done, Stale, NoMemory}
+use Rattle.bpf_vm.specs.declared.calls.HelperAnswer.{HelperAnswer}
+use Rattle.bpf_vm.specs.declared.calls.HelperAnswer.TheVariants.{Done, Stale, NoMemory}
 
 -- one of the states that the words and the view stand for can make the call
 abbrev pub CanCall : {A : Type 0} → (Rows → Type 0) → Tables → Helper → Words → Own A → Type 0
@@ -23,7 +23,7 @@ LooksMore gone s t = IsTrue gone × (length s.looks < length t.looks)
 
 -- what a call from the state s, after which the definition has this state, answers and leaves. Of what the definition
 -- doesn't do nothing is said
-abbrev pub AfterCall : {A : Type 0} → (Rows → Type 0) → Bool → Helper → State → Option State → CallAnswer → Words → Own A
+abbrev pub AfterCall : {A : Type 0} → (Rows → Type 0) → Bool → Helper → State → Option State → HelperAnswer → Words → Own A
     → Type 0
 AfterCall answers_from gone helper s None answer m own = Unit {0}
 AfterCall answers_from gone helper s (Some t) Done m own = Holds (past 1 t) m × IsViewOf answers_from own t × (LooksMore gone s t → ⊥)

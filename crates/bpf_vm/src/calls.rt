@@ -20,7 +20,7 @@ use vm_state::WordState;
 
 /// The answer of a call.
 #[derive(Clone, Copy, Debug, PartialEq, Eq)]
-pub enum CallAnswer {
+pub enum HelperAnswer {
     /// The call was made.
     Done,
     /// The store has the rows no more.
@@ -36,15 +36,15 @@ pub fn call<B: Allocator, S: Store, A: Allocator + Copy>(
     view: &mut View<S, A>,
     schema: &Schema<B>,
     helper: Helper,
-) -> CallAnswer
+) -> HelperAnswer
     requires slot { words.old.slot < 2 ^ 32 }
     requires can { CanCall (S.answers_from view.old.store) schema.now helper words.old view.old.own }
     ensures follows { (s : State) → Holds s words.old
         → IsViewOf (S.answers_from view.old.store) view.old.own s
         → AfterCall (S.answers_from view.old.store) (S.is_gone view.old.store) helper s
         (state_after_call schema.now helper s) result words.new view.new.own }
-    ensures words { result ≢ CallAnswer.Done → words.new ≡ words.old }
-    ensures own { result ≢ CallAnswer.Done → view.new.own ≡ view.old.own }
+    ensures words { result ≢ HelperAnswer.Done → words.new ≡ words.old }
+    ensures own { result ≢ HelperAnswer.Done → view.new.own ≡ view.old.own }
     ensures store { view.new.store ≡ view.old.store }
 {
     match helper {
@@ -58,9 +58,12 @@ pub fn call<B: Allocator, S: Store, A: Allocator + Copy>(
 }
 
 /// Cancels with a code.
-fn cancel<S: Store, A: Allocator + Copy>(words: &mut WordState, view: &mut View<S, A>) -> CallAnswer
+fn cancel<S: Store, A: Allocator + Copy>(
+    words: &mut WordState,
+    view: &mut View<S, A>,
+) -> HelperAnswer
     requires slot { words.old.slot < 2 ^ 32 }
-    ensures done { result ≡ CallAnswer.Done }
+    ensures done { result ≡ HelperAnswer.Done }
     ensures follows { (tables : Tables) (s : State) → Holds s words.old
         → IsViewOf (S.answers_from view.old.store) view.old.own s
         → AfterCall (S.answers_from view.old.store) (S.is_gone view.old.store) Cancel s
@@ -71,5 +74,5 @@ fn cancel<S: Store, A: Allocator + Copy>(words: &mut WordState, view: &mut View<
     held_laws();
     view.cancel(words.word(Register::R1));
     words.answer(0);
-    CallAnswer::Done
+    HelperAnswer::Done
 }

@@ -8,7 +8,7 @@ ghost use Rattle.vm_state.specs.Words.{Holds};
 ghost use Rattle.txn_view.specs.View.{IsViewOf};
 ghost use Rattle.bpf_vm.specs.Calls.{CanCall, AfterCall};
 
-use crate::calls::CallAnswer;
+use crate::calls::HelperAnswer;
 use crate::helper_laws::held_laws;
 use crate::parts::{flag, key_or_zeros, named_table, row_of, row_or_zeros};
 use bpf_code::Register;
@@ -22,15 +22,15 @@ pub fn range_count<B: Allocator, S: Store, A: Allocator + Copy>(
     words: &mut WordState,
     view: &mut View<S, A>,
     schema: &Schema<B>,
-) -> CallAnswer
+) -> HelperAnswer
     requires slot { words.old.slot < 2 ^ 32 }
     requires can { CanCall (S.answers_from view.old.store) schema.now RangeCount words.old view.old.own }
     ensures follows { (s : State) → Holds s words.old
         → IsViewOf (S.answers_from view.old.store) view.old.own s
         → AfterCall (S.answers_from view.old.store) (S.is_gone view.old.store) RangeCount s
         (state_after_call schema.now RangeCount s) result words.new view.new.own }
-    ensures words { result ≢ CallAnswer.Done → words.new ≡ words.old }
-    ensures own { result ≢ CallAnswer.Done → view.new.own ≡ view.old.own }
+    ensures words { result ≢ HelperAnswer.Done → words.new ≡ words.old }
+    ensures own { result ≢ HelperAnswer.Done → view.new.own ≡ view.old.own }
     ensures store { view.new.store ≡ view.old.store }
 {
     // Laws:
@@ -42,11 +42,11 @@ pub fn range_count<B: Allocator, S: Store, A: Allocator + Copy>(
     let look = Look { table, lo, hi };
     let count = match count_rows(&view.store, &own.writes, &mut own.looks, look) {
         Ok(count) => count,
-        Err(OrNoMemory::Fault(Gone)) => return CallAnswer::Stale,
-        Err(OrNoMemory::NoMemory) => return CallAnswer::NoMemory,
+        Err(OrNoMemory::Fault(Gone)) => return HelperAnswer::Stale,
+        Err(OrNoMemory::NoMemory) => return HelperAnswer::NoMemory,
     };
     words.answer(count);
-    CallAnswer::Done
+    HelperAnswer::Done
 }
 
 /// Reads the row of the least key of an interval into buffers, the key before the row.
@@ -54,15 +54,15 @@ pub fn range_next<B: Allocator, S: Store, A: Allocator + Copy>(
     words: &mut WordState,
     view: &mut View<S, A>,
     schema: &Schema<B>,
-) -> CallAnswer
+) -> HelperAnswer
     requires slot { words.old.slot < 2 ^ 32 }
     requires can { CanCall (S.answers_from view.old.store) schema.now RangeNext words.old view.old.own }
     ensures follows { (s : State) → Holds s words.old
         → IsViewOf (S.answers_from view.old.store) view.old.own s
         → AfterCall (S.answers_from view.old.store) (S.is_gone view.old.store) RangeNext s
         (state_after_call schema.now RangeNext s) result words.new view.new.own }
-    ensures words { result ≢ CallAnswer.Done → words.new ≡ words.old }
-    ensures own { result ≢ CallAnswer.Done → view.new.own ≡ view.old.own }
+    ensures words { result ≢ HelperAnswer.Done → words.new ≡ words.old }
+    ensures own { result ≢ HelperAnswer.Done → view.new.own ≡ view.old.own }
     ensures store { view.new.store ≡ view.old.store }
 {
     // Laws:
@@ -76,13 +76,13 @@ pub fn range_next<B: Allocator, S: Store, A: Allocator + Copy>(
     let look = Look { table, lo, hi };
     let found = match next_row(&view.store, &own.writes, &mut own.looks, look) {
         Ok(found) => found,
-        Err(OrNoMemory::Fault(Gone)) => return CallAnswer::Stale,
-        Err(OrNoMemory::NoMemory) => return CallAnswer::NoMemory,
+        Err(OrNoMemory::Fault(Gone)) => return HelperAnswer::Stale,
+        Err(OrNoMemory::NoMemory) => return HelperAnswer::NoMemory,
     };
     let key_address = words.word(Register::R4);
     let row_address = words.word(Register::R5);
     words.put_bytes(key_address, &key_or_zeros(found));
     words.put_bytes(row_address, row_or_zeros(row_of(found), width));
     words.answer(flag(found));
-    CallAnswer::Done
+    HelperAnswer::Done
 }

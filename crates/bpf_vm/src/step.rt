@@ -7,7 +7,7 @@ ghost use Rattle.vm_state.specs.Words.{Holds};
 ghost use Rattle.txn_view.specs.View.{IsViewOf};
 ghost use Rattle.bpf_vm.specs.Turns.{CanStep, CanExecute, FollowsStep, FollowsInstruction, DoesNothing};
 
-use crate::calls::CallAnswer;
+use crate::calls::HelperAnswer;
 use crate::turn::Turn;
 use bpf_code::{Instruction, Register};
 use bpf_verify::Accepted;
@@ -83,8 +83,8 @@ fn call<B: Allocator, S: Store, C: Allocator + Copy>(
         unreachable!();
     };
     match crate::calls::call(words, view, schema, helper) {
-        CallAnswer::Done => Turn::More,
-        CallAnswer::Stale => Turn::Stale,
-        CallAnswer::NoMemory => Turn::NoMemory,
+        HelperAnswer::Done => Turn::More,
+        HelperAnswer::Stale => Turn::Stale,
+        HelperAnswer::NoMemory => Turn::NoMemory,
     }
 }

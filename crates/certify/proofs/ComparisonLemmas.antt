@@ -8,7 +8,7 @@ use Rattle.sig_lanes.specs.Signature.{shares_bit}
 use Rattle.log_model.specs.Log.{Call, CertifiedItem, is_commit, conflicts, first_repeated}
 use Rattle.certify.specs.Comparisons.{comparisons_from, comparisons_after, AreRising, IsCompared}
 use Rattle.log_model.proofs.RunLemmas.{just}
-use Rattle.log_model.proofs.MeaningLemmas.{get_drop}
+use Rattle.certify.proofs.ListLemmas.{get_drop}
 
 abbrev has : ℕ → List ℕ → Bool
 has k xs = list_any (λ x. nat_eq x k) xs

@@ -141,3 +141,7 @@ no_keys r is = refl
 pub is_none_of : (o : Option ℕ) → is_some o ≡ false → o ≡ None
 is_none_of None e = refl
 is_none_of (Some x) e = absurd cc
+
+pub no_request : (o : Option RequestId) → ((r : RequestId) → o ≡ Some r → ⊥) → o ≡ None
+no_request None none = refl
+no_request (Some r) none = absurd (none r refl)

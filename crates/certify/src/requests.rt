@@ -59,9 +59,10 @@ pub(crate) fn keep_request<A: Allocator>(
     if !is_commit(verdict) {
         return;
     }
+    let key = key_of(carried);
     if repeated_in(requests, request).is_some() {
         return;
     }
-    let kept = requests.insert(key_of(carried), position);
+    let kept = requests.insert(key, position);
     prove!(kept.is_ok());
 }

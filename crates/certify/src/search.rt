@@ -68,33 +68,45 @@ pub fn search_lanes<A: Allocator + Copy, B: Allocator>(
     }
 }
 
-/// Searches the calls of one block that the signature meets. The first call has `from` others before it; the call that
-/// has `to` isn't searched.
+/// Calls in a row that stand in one block: the block's place, and the numbers of calls before the first of them and
+/// before the next behind them.
+#[derive(Clone, Copy)]
+struct Stretch {
+    at: usize,
+    from: usize,
+    to: usize,
+}
+
+/// Searches the calls of a stretch that the signature meets.
 #[inline(always)]
 fn search_block<A: Allocator + Copy, B: Allocator>(
     blocks: &[Block],
     kept: &[WriteSet<A>],
     reads: &ReadSet<B>,
     signature: &Sig,
-    at: usize,
-    from: usize,
-    to: usize,
+    stretch: Stretch,
 ) -> SearchResult
     requires places { HasPlaces (record { blocks = blocks.now; writes = kept.now }) }
-    requires within { at < length blocks.now }
-    requires at { at ≡ from / 8 % length blocks.now }
+    requires within { stretch.at < length blocks.now }
+    requires at { stretch.at ≡ stretch.from / 8 % length blocks.now }
     requires signature { (bit : ℕ) → bit < 1024 → has_bit signature.now bit ≡ looks_set_bit reads.now bit }
-    requires order { from ≤ to }
-    requires one { to ≤ (from / 8) * 8 + 8 }
-    requires few { to < 2 ^ 32 }
+    requires order { stretch.from ≤ stretch.to }
+    requires one { stretch.to ≤ (stretch.from / 8) * 8 + 8 }
+    requires few { stretch.to < 2 ^ 32 }
     ensures found { (meets : ℕ → Bool)
-        → ((before : ℕ) → from ≤ before → before < to
+        → ((before : ℕ) → stretch.from ≤ before → before < stretch.to
         → IsTrue (meets before) ↔ Meets (record { blocks = blocks.now; writes = kept.now }) reads.now before)
-        → result ≡ search meets (kept_shares kept.now reads.now) from (to - from) }
-    ensures few { result.compared ≤ to - from }
+        → result ≡ search meets (kept_shares kept.now reads.now) stretch.from (stretch.to - stretch.from) }
+    ensures few { result.compared ≤ stretch.to - stretch.from }
 {
-    let block = &blocks[at];
-    search_lanes(block.meets(signature), kept, reads, from, to)
+    let block = &blocks[stretch.at];
+    search_lanes(
+        block.meets(signature),
+        kept,
+        reads,
+        stretch.from,
+        stretch.to,
+    )
 }
 
 /// The place behind a place, of `count` places. The first place is behind the last.
@@ -132,7 +144,7 @@ pub fn search_since<A: Allocator + Copy, B: Allocator>(
     let mut at = snapshot / 8 % blocks.len();
     while from < count {
         let to = count.min(from / 8 * 8 + 8);
-        let found = search_block(blocks, kept, reads, &signature, at, from, to);
+        let found = search_block(blocks, kept, reads, &signature, Stretch { at, from, to });
         compared += found.compared;
         if found.conflict.is_some() {
             return SearchResult { compared, ..found };

@@ -2,7 +2,7 @@
 
 use crate::explanation::Explanation;
 
-/// Of programs, schemas and procedures, each refusal once.
+/// The refusals of programs, schemas and procedures, each once.
 pub const OF_PROCEDURES: [Explanation; 33] = [
     Explanation {
         number: "B1",
@@ -209,7 +209,7 @@ pub const OF_PROCEDURES: [Explanation; 33] = [
     },
 ];
 
-/// Of what is run, each refusal once.
+/// The refusals of what is run, each once.
 pub const OF_RUNS: [Explanation; 40] = [
     Explanation {
         number: "P1",
@@ -303,7 +303,7 @@ pub const OF_RUNS: [Explanation; 40] = [
     },
     Explanation {
         number: "P16",
-        cause: "at a site, a scan of a table that the settings haven't",
+        cause: "at a site, a scan of a table that isn't in the settings",
         cure: "scan a table of the settings",
         in_c: "",
     },

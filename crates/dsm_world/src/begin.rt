@@ -13,6 +13,7 @@ use log_model::{RequestId, a_log_only_grows, has_zero, rows_fit_the_schema};
 use replica::replicas_follow_the_log;
 use schema::MAX_LOG;
 use std::alloc::Allocator;
+use world_calls::CallStart;
 
 /// The most calls and additions of a world, and entries of its log.
 pub(crate) const MAX_CALLS: usize = MAX_LOG as usize;
@@ -57,17 +58,14 @@ pub(crate) fn begin<A: Allocator + Copy>(
     let alloc = world.alloc;
     let call = world.calls.len() as u32 + 1;
     let snapshot = held.begin();
-    let begun = begin_call(
-        &mut world.spare,
-        alloc,
+    let start = CallStart {
         replica,
-        call,
+        number: call,
         procedure,
-        accepted,
-        args,
         snapshot,
         request,
-    );
+    };
+    let begun = begin_call(&mut world.spare, alloc, start, accepted, args);
     let Ok(open_call) = begun else {
         return Outcome::Refused(StepRefusal::NoMemory);
     };

@@ -10,9 +10,8 @@ ghost use Rattle.dsm_model.specs.World.{flatten, numbered};
 
 use crate::numbers::index_of;
 use bpf_verify::Accepted;
-use log_model::RequestId;
 use std::alloc::{AllocError, Allocator};
-use world_calls::{Completion, OpenCall};
+use world_calls::{CallStart, Completion, OpenCall};
 
 /// Calls in the order of their numbers; none in the place of a call that is over.
 pub type Calls<A> = Vec<Option<Box<OpenCall<A>, A>>, A>;
@@ -24,28 +23,20 @@ pub type Spare<A> = Option<Box<OpenCall<A>, A>>;
 pub(crate) fn begin_call<A: Allocator + Copy, P: Allocator, Q: Allocator>(
     spare: &mut Spare<A>,
     alloc: A,
-    replica: u32,
-    number: u32,
-    procedure: u16,
+    start: CallStart,
     accepted: &Accepted<P, Q>,
     args: &[u8],
-    snapshot: u32,
-    request: Option<RequestId>,
 ) -> Result<Box<OpenCall<A>, A>, AllocError>
     requires { length args.now ≡ accepted.now.args_len }
     ensures begun { IfOk result (λ b. open_call_of b.value
-        ≡ call_before_its_run replica number procedure args.now snapshot request) }
-    ensures follows { IfOk result (λ b. FollowsInItsLogs accepted.now procedure snapshot b.value) }
+        ≡ call_before_its_run start args.now) }
+    ensures follows { IfOk result (λ b. FollowsInItsLogs accepted.now start b.value) }
 {
     let Some(mut open_call) = spare.take() else {
-        let begun = OpenCall::begin(
-            alloc, replica, number, procedure, accepted, args, snapshot, request,
-        )?;
+        let begun = OpenCall::begin(alloc, start, accepted, args)?;
         return Ok(Box::new(alloc, begun)?);
     };
-    open_call.begin_again(
-        alloc, replica, number, procedure, accepted, args, snapshot, request,
-    )?;
+    open_call.begin_again(alloc, start, accepted, args)?;
     Ok(open_call)
 }
 

@@ -1,7 +1,7 @@
 //! Laws of the log: its verdicts, and the rows after each position.
 
 ghost use Rattle.std.specs.Prelude.{◌≡◌, ◌≢◌, ◌↔◌, ◌+◌, ◌-◌, ◌<◌, ◌≤◌, ℕ, suc, List, ◌++◌, length, slice_get, Some};
-ghost use Rattle.std.specs.Prelude.{None, IsSome, ◌==◌, IsTrue, [], ◌∷◌};
+ghost use Rattle.std.specs.Prelude.{Option, None, IsSome, ◌==◌, IsTrue, [], ◌∷◌};
 ghost use Rattle.std.specs.List.{list_any};
 ghost use Rattle.schema.specs.declared.look.Look.{Look};
 ghost use Rattle.std.specs.FinMap.{empty};

@@ -1,5 +1,5 @@
 -- A call that an executing thread runs on the rows after what it has seen.
-use Rattle.std.specs.Prelude.{◌≡◌, ℕ, Bool, List, length, refl}
+use Rattle.std.specs.Prelude.{◌≡◌, ℕ, Bool, List, Option, length, refl}
 use Rattle.std.specs.Coded.{Coded, code_by, coded×, coded_list, coded_ℕ}
 use Rattle.bpf_vm.specs.declared.turn.Turn.{Turn}
 use Rattle.bpf_vm.specs.contracts.turn.Turn as turn
@@ -16,7 +16,7 @@ use Rattle.world_calls.specs.OpenCall.{Follows}
 use Rattle.world_calls.specs.declared.open_call.OpenCall.{OpenCall as OpenCallState}
 
 -- a call of a node: it has no number, and its snapshot is what it has seen
-abbrev pub node_call : ℕ → List ℕ → ℕ → RequestId → Call
+abbrev pub node_call : ℕ → List ℕ → ℕ → Option RequestId → Call
 node_call procedure args snapshot request = record { number = 0; procedure = procedure; args = args; snapshot = snapshot; request = request }
 
 pub record RunningState (A : Type 0) : Type 0 where

@@ -156,7 +156,7 @@ pub(crate) fn run<J: LogSetting, A: Allocator + Copy, P: Allocator + Copy, G: Ga
     waiter: &Waiter,
     begun: BegunCall<J, P>,
     args: &[u8],
-    request: RequestId,
+    request: Option<RequestId>,
 ) -> Ran<J, P>
     requires { length args.now ≡ begun.accepted.args_len }
     ensures { IsRan J.setting begun.entries (node_call begun.procedure args.now (length begun.entries) request) result }

@@ -17,7 +17,7 @@ use order_log::Seen;
 use std::alloc::{AllocError, Allocator, Global};
 use std::marker::Model;
 use txn_view::NoStore;
-use world_calls::{Completion, OpenCall};
+use world_calls::{CallStart, Completion, OpenCall};
 
 /// A call that runs. Contracts see what the call has seen of the log, how far it has come, and the outcome of its last
 /// turn.
@@ -65,16 +65,14 @@ impl<J: LogSetting, A: Allocator + Copy> RunningCall<J, A> {
         // Laws:
         rows_fit_the_schema();
         begun.is_of_the_log();
-        let call = OpenCall::begin(
-            alloc,
-            0,
-            0,
-            begun.procedure(),
-            begun.accepted(),
-            args,
-            begun.seen().len(),
+        let start = CallStart {
+            replica: 0,
+            number: 0,
+            procedure: begun.procedure(),
+            snapshot: begun.seen().len(),
             request,
-        )?;
+        };
+        let call = OpenCall::begin(alloc, start, begun.accepted(), args)?;
         Ok(RunningCall { begun, call })
     }
 

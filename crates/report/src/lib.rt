@@ -4,7 +4,7 @@
 pub use answers::{add_line, begin_line, call_line, replica_line};
 pub use laws::each_answer_has_a_line;
 pub use parts::row_label;
-pub use printed::{CallAnswer, CallReport, DeliveredEntry, Line, LoggedEntry, ReplicaReport};
+pub use printed::{CallReport, DeliveredEntry, Line, LoggedEntry, ReplicaReport};
 pub use printing::{put_bytes_label, put_hex, put_line};
 pub use refusal::step_refusal_number;
 pub use text::line;

@@ -2,6 +2,7 @@
 
 use dsm_model::StepRefusal;
 use log_model::Verdict;
+use node_calls::Answer;
 use tallies::Counts;
 
 /// A printed line, by its values.
@@ -54,7 +55,7 @@ pub enum Line<'a> {
     /// The answer of a node to a call of a script. The calls are counted from 1.
     Answered {
         call: u64,
-        answer: CallAnswer,
+        answer: Answer,
     },
     /// The number of calls that were answered in each way.
     Totals(Counts),
@@ -77,42 +78,6 @@ pub enum CallReport {
     Ordered { position: u32 },
     Read { snapshot: u32, reply: u64 },
     Cancelled { snapshot: u32, code: u64 },
-    Refused(StepRefusal),
-}
-
-/// The answer of a node to a call that begins with nothing seen.
-#[derive(Clone, Copy)]
-pub enum CallAnswer {
-    Committed {
-        position: u32,
-        reply: u64,
-    },
-    Read {
-        snapshot: u32,
-        reply: u64,
-    },
-    Cancelled {
-        snapshot: u32,
-        code: u64,
-    },
-    /// The call that committed at the other position wrote a key that this call had looked at.
-    Conflict {
-        position: u32,
-        other: u32,
-    },
-    Stale,
-    /// The call that committed at the earlier position carries the same request, and this is its reply.
-    Repeated {
-        position: u32,
-        earlier: u32,
-        reply: u64,
-    },
-    NoMemory,
-    Full,
-    /// The call is ordered, and its replica stopped before it.
-    Stopped {
-        position: u32,
-    },
     Refused(StepRefusal),
 }
 

@@ -7,15 +7,16 @@ ghost use Rattle.byte_output.specs.Column.{right_in};
 ghost use Rattle.report.specs.Lines.{program_fault_text, cause_words, step_refusal_words, verdict_words};
 ghost use Rattle.report.specs.Lines.{addition_words, snapshot_words, reply_words, added_words, delivered_words};
 ghost use Rattle.report.specs.Lines.{certified_words, call_words, replica_words, entry_words, line_words, read_words};
-ghost use Rattle.report.specs.Lines.{cancelled_words, answer_words, mark_words};
+ghost use Rattle.report.specs.Lines.{cancelled_words, answer_words, mark_words, same_refusal};
 ghost use Rattle.report.specs.declared.printed.Line.TheVariants as line;
 
-use crate::printed::{CallAnswer, CallReport, DeliveredEntry, LoggedEntry, ReplicaReport};
+use crate::printed::{CallReport, DeliveredEntry, LoggedEntry, ReplicaReport};
 use crate::refusal::step_refusal_number;
 use byte_output::line::{LineBuffer, push, push_column, push_right, push_unsigned};
 use dsm_model::StepRefusal;
 use itoa::Buffer;
 use log_model::{Identifier, Verdict};
+use node_calls::{Answer, CallRefusal};
 use program_checks::ProgramFault;
 use tallies::Counts;
 
@@ -93,24 +94,36 @@ fn push_cancelled(words: &mut LineBuffer, snapshot: u32, code: u64)
     push_unsigned(words, " code ", code);
 }
 
-pub(crate) fn push_answer(words: &mut LineBuffer, answer: CallAnswer)
+/// Returns the refusal of a step that has the same number.
+fn step_refusal(refusal: CallRefusal) -> StepRefusal
+    ensures { result ≡ same_refusal refusal }
+{
+    match refusal {
+        CallRefusal::NoReplica => StepRefusal::NoReplica,
+        CallRefusal::NoProcedure => StepRefusal::NoProcedure,
+        CallRefusal::ArgumentsLength => StepRefusal::ArgumentsLength,
+        CallRefusal::ZeroInRequest => StepRefusal::ZeroInRequest,
+    }
+}
+
+pub(crate) fn push_answer(words: &mut LineBuffer, answer: Answer)
     requires { array_vec_len words.old ≤ 40 }
     ensures items { words.new.items ≡ words.old.items ++ answer_words answer }
     ensures len { array_vec_len words.new ≤ 150 }
 {
     match answer {
-        CallAnswer::Committed { position, reply } => {
+        Answer::Committed { position, reply } => {
             push_unsigned(words, "committed ", u64::from(position));
             push_unsigned(words, " reply ", reply);
         }
-        CallAnswer::Read { snapshot, reply } => push_read(words, snapshot, reply),
-        CallAnswer::Cancelled { snapshot, code } => push_cancelled(words, snapshot, code),
-        CallAnswer::Conflict { position, other } => {
+        Answer::Read { snapshot, reply } => push_read(words, snapshot, reply),
+        Answer::Cancelled { snapshot, code } => push_cancelled(words, snapshot, code),
+        Answer::Conflict { position, other } => {
             push_unsigned(words, "conflict ", u64::from(position));
             push_unsigned(words, " ", u64::from(other));
         }
-        CallAnswer::Stale => push(words, b"stale"),
-        CallAnswer::Repeated {
+        Answer::Stale => push(words, b"stale"),
+        Answer::Repeated {
             position,
             earlier,
             reply,
@@ -119,10 +132,11 @@ pub(crate) fn push_answer(words: &mut LineBuffer, answer: CallAnswer)
             push_unsigned(words, " ", u64::from(earlier));
             push_unsigned(words, " reply ", reply);
         }
-        CallAnswer::NoMemory => push(words, b"no memory"),
-        CallAnswer::Full => push(words, b"full"),
-        CallAnswer::Stopped { position } => push_unsigned(words, "stopped ", u64::from(position)),
-        CallAnswer::Refused(refusal) => push_refused(words, refusal),
+        Answer::NoMemory => push(words, b"no memory"),
+        Answer::Full => push(words, b"full"),
+        Answer::Stopped { position } => push_unsigned(words, "stopped ", u64::from(position)),
+        Answer::Behind => push(words, b"behind"),
+        Answer::Refused(refusal) => push_refused(words, step_refusal(refusal)),
     }
 }
 
@@ -395,7 +409,7 @@ pub(crate) fn no_entry(position: u32) -> LineBuffer
 }
 
 #[tactic(auto, unfolding(crate::specs::Lines::line_words))]
-pub(crate) fn answered(call: u64, answer: CallAnswer) -> LineBuffer
+pub(crate) fn answered(call: u64, answer: Answer) -> LineBuffer
     ensures items { result.items ≡ line_words (line.Answered call answer) }
     ensures len { array_vec_len result ≤ 150 }
 {

@@ -5,7 +5,7 @@ use Rattle.std.proofs.lemmas.List.{append-nil}
 use Rattle.std.proofs.lemmas.Option.{get_or_from_slice_get, slice_get_within}
 use mathlib.Core.List.{IsPrefix}
 use Rattle.log_model.specs.Log.{Setting}
-use Rattle.report.specs.declared.printed.CallAnswer.{CallAnswer}
+use Rattle.node_calls.specs.declared.answer.Answer.{Answer}
 use Rattle.script_run.specs.declared.call.ScriptCall.{ScriptCall}
 use Rattle.script_run.specs.declared.text.ReplicaEnd.{ReplicaEnd}
 use Rattle.node.specs.Requests.{Entries}
@@ -22,15 +22,15 @@ seen_longer : (log longer : Entries) (seen : Option Entries) → IsPrefix log lo
 seen_longer log longer None p begins = tt
 seen_longer log longer (Some entries) p begins = prefix_trans entries log longer begins p
 
-pub told_longer : (w : Setting) (replicas : ℕ) (log longer : Entries) (call : ScriptCall (List ℕ)) (what : CallAnswer) → IsPrefix log longer
+pub told_longer : (w : Setting) (replicas : ℕ) (log longer : Entries) (call : ScriptCall (List ℕ)) (what : Answer) → IsPrefix log longer
     → IsToldOf w replicas log call what → IsToldOf w replicas longer call what
 told_longer w replicas log longer call what p t = record { seen = t.seen; told = t.told; begins = seen_longer log longer t.seen p t.begins }
 
-pub found_longer : (w : Setting) (replicas : ℕ) (log longer : Entries) (calls : List (ScriptCall (List ℕ))) (found : List (Option CallAnswer)) → IsPrefix log longer
+pub found_longer : (w : Setting) (replicas : ℕ) (log longer : Entries) (calls : List (ScriptCall (List ℕ))) (found : List (Option Answer)) → IsPrefix log longer
     → AreFoundOf w replicas log calls found → AreFoundOf w replicas longer calls found
 found_longer w replicas log longer calls found p f = record { each = λ place call what at is. told_longer w replicas log longer call what p (f.each place call what at is) }
 
-pub answers_longer : (w : Setting) (replicas : ℕ) (log longer : Entries) (calls : List (ScriptCall (List ℕ))) (answers : List CallAnswer) → IsPrefix log longer
+pub answers_longer : (w : Setting) (replicas : ℕ) (log longer : Entries) (calls : List (ScriptCall (List ℕ))) (answers : List Answer) → IsPrefix log longer
     → AreToldOf w replicas log calls answers → AreToldOf w replicas longer calls answers
 answers_longer w replicas log longer calls answers p f = record { each = λ place call what at is. told_longer w replicas log longer call what p (f.each place call what at is) }
 
@@ -71,24 +71,24 @@ slice_get_set (u ∷ xs) (suc i) x (suc j) y is = later (slice_get_set xs i x j 
 
 -- ---- one answer more
 
-pub told_more : (w : Setting) (replicas : ℕ) (log : Entries) (calls : List (ScriptCall (List ℕ))) (answers : List CallAnswer) (what : CallAnswer)
+pub told_more : (w : Setting) (replicas : ℕ) (log : Entries) (calls : List (ScriptCall (List ℕ))) (answers : List Answer) (what : Answer)
     → AreToldOf w replicas log calls answers → ((call : ScriptCall (List ℕ)) → slice_get calls (length answers) ≡ Some call → IsToldOf w replicas log call what)
     → AreToldOf w replicas log calls (answers ++ what ∷ [])
 told_more w replicas log calls answers what before here = record { each = λ place call other at is. one place call other at (slice_get_more answers what place other is) }
   where
-    one : (place : ℕ) (call : ScriptCall (List ℕ)) (other : CallAnswer) → slice_get calls place ≡ Some call
+    one : (place : ℕ) (call : ScriptCall (List ℕ)) (other : Answer) → slice_get calls place ≡ Some call
         → (slice_get answers place ≡ Some other) ⊎ ((place ≡ length answers) × (what ≡ other)) → IsToldOf w replicas log call other
     one place call other at (inl h) = before.each place call other at h
     one place call other at (inr h) = subst (IsToldOf w replicas log call) h.1 (here call (subst (λ i. slice_get calls i ≡ Some call) h.0 at))
 
 -- an answer at the place of its call
-pub found_put : (w : Setting) (replicas : ℕ) (log : Entries) (calls : List (ScriptCall (List ℕ))) (found : List (Option CallAnswer)) (i : ℕ) (what : CallAnswer) (seen : Option Entries)
+pub found_put : (w : Setting) (replicas : ℕ) (log : Entries) (calls : List (ScriptCall (List ℕ))) (found : List (Option Answer)) (i : ℕ) (what : Answer) (seen : Option Entries)
     → AreFoundOf w replicas log calls found → IsMade w replicas calls i what seen → IfSome seen (λ entries. IsPrefix entries log)
     → AreFoundOf w replicas log calls (slice_set found i (Some what))
 found_put w replicas log calls found i what seen before made begins =
     record { each = λ place call other at is. one place call other at (slice_get_set found i (Some what) place (Some other) is) }
   where
-    one : (place : ℕ) (call : ScriptCall (List ℕ)) (other : CallAnswer) → slice_get calls place ≡ Some call
+    one : (place : ℕ) (call : ScriptCall (List ℕ)) (other : Answer) → slice_get calls place ≡ Some call
         → (slice_get found place ≡ Some (Some other)) ⊎ ((place ≡ i) × (Some what ≡ Some other)) → IsToldOf w replicas log call other
     one place call other at (inl h) = before.each place call other at h
     one place call other at (inr h) =
@@ -100,7 +100,7 @@ some_none : {X : Type 0} (x : X) → Some x ≡ None → ⊥
 some_none x is = absurd (cc)
 
 -- none is there
-pub none_there : (w : Setting) (replicas : ℕ) (log : Entries) (calls : List (ScriptCall (List ℕ))) (found : List (Option CallAnswer)) → All (λ o. o ≡ None) found
+pub none_there : (w : Setting) (replicas : ℕ) (log : Entries) (calls : List (ScriptCall (List ℕ))) (found : List (Option Answer)) → All (λ o. o ≡ None) found
     → AreFoundOf w replicas log calls found
 none_there w replicas log calls found none = record {
   each = λ place call what at is.

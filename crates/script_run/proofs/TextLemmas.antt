@@ -1,11 +1,11 @@
 -- Where nothing is left, nothing is printed.
 use Rattle.std.proofs.Common.{◌≡◌, ℕ, List, [], ◌∷◌, length, refl, arith}
-use Rattle.report.specs.declared.printed.CallAnswer.{CallAnswer}
+use Rattle.node_calls.specs.declared.answer.Answer.{Answer}
 use Rattle.script_run.specs.declared.text.ReplicaEnd.{ReplicaEnd}
 use Rattle.script_run.specs.Printed as printed
 use Rattle.script_run.specs.Printed.{answers_text, replicas_text}
 
-pub no_answers : (before : ℕ) (answers : List CallAnswer) → length answers ≡ 0 → answers_text before answers ≡ []
+pub no_answers : (before : ℕ) (answers : List Answer) → length answers ≡ 0 → answers_text before answers ≡ []
 unfolding printed.answers_text
 no_answers before [] none = refl
 no_answers before (answer ∷ answers) none = absurd (omega arith)

@@ -4,7 +4,7 @@ use Rattle.std.specs.Io.KnownBytes.{Appends}
 use Rattle.byte_output.specs.Writes.{AppendsBeginning}
 use Rattle.tallies.specs.declared.counts.Counts.{Counts}
 use Rattle.report.specs.Lines.{line_text}
-use Rattle.report.specs.declared.printed.CallAnswer.{CallAnswer}
+use Rattle.node_calls.specs.declared.answer.Answer.{Answer}
 use Rattle.report.specs.declared.printed.ReplicaReport.TheVariants as replica
 use Rattle.report.specs.declared.printed.Line.TheVariants.{Answered, Totals, Replica, Agreement}
 use Rattle.log_model.specs.Log.{Setting}
@@ -23,13 +23,13 @@ use Rattle.script_run.specs.Answered.{AreToldOf, IsEndOf}
 
 -- what a run comes to
 pub record RunReport : Type 0 where
-  pub answers : List CallAnswer  -- in the order of the script's calls
+  pub answers : List Answer  -- in the order of the script's calls
   pub totals : Counts
   pub replicas : List ReplicaEnd  -- how each has ended
   pub agrees : Bool
 
 -- a line for each answer; so many calls stand before the first
-unfoldable pub answers_text : ℕ → List CallAnswer → List ℕ
+unfoldable pub answers_text : ℕ → List Answer → List ℕ
 answers_text before [] = []
 answers_text before (answer ∷ answers) = line_text (Answered (before + 1) answer) ++ answers_text (before + 1) answers
 

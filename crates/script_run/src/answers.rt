@@ -13,9 +13,8 @@ use crate::text::ReplicaEnd;
 use crate::told::answer_to;
 use locked_replica::{LogSetting, OrderedEntries};
 use node::{Desk, EndedReplica};
-use node_calls::OpenGate;
+use node_calls::{Answer, OpenGate};
 use order_log::{Fact, Seen};
-use report::CallAnswer;
 use std::alloc::{AllocError, Global};
 use std::sync::Wait;
 use tallies::Ledgers;
@@ -46,7 +45,7 @@ fn extend_by<J: LogSetting>(log: &mut Seen<J>, seen: &Option<Seen<J>>)
 /// The answers to calls, each at its place in the script, and the longest beginning of the log that was seen.
 #[derive(Drop)]
 struct Found<J: LogSetting> {
-    answers: Vec<Option<CallAnswer>>,
+    answers: Vec<Option<Answer>>,
     log: Seen<J>,
 }
 
@@ -103,7 +102,7 @@ impl<J: LogSetting + Ledgers + Send + Sync + 'static> Found<J> {
         desk: &Desk<J, OpenGate>,
         asking: &Asking<J>,
         place: usize,
-    ) -> CallAnswer
+    ) -> Answer
         requires place { place < vec_len asking.now.calls }
         requires len { vec_len self.old.answers ≡ vec_len asking.now.calls }
         requires found { AreFoundOf J.setting desk.now.replicas self.old.log
@@ -133,7 +132,7 @@ pub(crate) fn answers_of<J: LogSetting + Ledgers + Send + Sync + 'static, R: Wai
     desk: &Desk<J, OpenGate>,
     asking: &Asking<J>,
     shares: Vec<Vec<MadeCall<J>>>,
-) -> Result<(Vec<CallAnswer>, Seen<J>), AllocError>
+) -> Result<(Vec<Answer>, Seen<J>), AllocError>
     requires { All (λ share. All
         (IsMadeCall J.setting desk.now.replicas (planned_calls asking.now.calls.items)) share.items) shares.items }
     ensures len { IfOk result (λ r. vec_len r.0 ≡ vec_len asking.now.calls) }

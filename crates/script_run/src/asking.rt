@@ -10,9 +10,8 @@ use crate::told::answer_to;
 use catalogue::Catalogue;
 use locked_replica::{LogSetting, OrderedEntries};
 use node::Desk;
-use node_calls::OpenGate;
+use node_calls::{Answer, OpenGate};
 use order_log::{Fact, Seen};
-use report::CallAnswer;
 use row_sets::Bytes;
 use std::alloc::{AllocError, Global};
 use std::io::Write;
@@ -29,7 +28,7 @@ use tallies::Ledgers;
 pub(crate) struct MadeCall<J: LogSetting> {
     /// The call's place in the script, from 0 on.
     pub(crate) place: usize,
-    pub(crate) answer: CallAnswer,
+    pub(crate) answer: Answer,
     /// The beginning of the log that the caller had seen then.
     pub(crate) seen: Option<Seen<J>>,
 }

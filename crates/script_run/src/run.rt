@@ -19,9 +19,8 @@ use byte_output::{FAILED, put};
 use catalogue::Catalogue;
 use locked_replica::{LogSetting, OrderedEntries};
 use node::{Desk, Node, Size, StartFault};
-use node_calls::OpenGate;
+use node_calls::{Answer, OpenGate};
 use order_log::{Fact, GroupCells, Seen};
-use report::CallAnswer;
 use row_sets::Bytes;
 use script::{Stop, out_of_memory, tell};
 use std::alloc::{AllocError, Global};
@@ -42,7 +41,7 @@ enum Failure {
 /// The report of a run.
 #[derive(Drop)]
 struct Report {
-    answers: Vec<CallAnswer>,
+    answers: Vec<Answer>,
     totals: Counts,
     replicas: Vec<ReplicaEnd>,
     agrees: bool,
@@ -243,7 +242,7 @@ fn ask<J: LogSetting + Ledgers + Send + Sync + 'static, R: Threads + Wait + Sync
     executors: u32,
     faults: &mut E,
     shows_progress: bool,
-) -> Result<(Vec<CallAnswer>, Seen<J>), AllocError>
+) -> Result<(Vec<Answer>, Seen<J>), AllocError>
     ensures len { IfOk result (λ r. vec_len r.0 ≡ vec_len asking.now.calls) }
     ensures told { IfOk result (λ r. AreToldOf J.setting desk.now.replicas r.1
         (planned_calls asking.now.calls.items) r.0.items) }

@@ -4,7 +4,8 @@ ghost use Rattle.std.specs.Prelude.{◌≡◌, IfOk, OnOk, ◌++◌, ◌<◌, �
 ghost use Rattle.report.specs.Lines.{line_text};
 ghost use Rattle.script_run.specs.Printed.{answers_text, replicas_text, run_text};
 
-use report::{CallAnswer, Line, ReplicaReport, line};
+use node_calls::Answer;
+use report::{Line, ReplicaReport, line};
 use std::alloc::{AllocError, Global};
 use tallies::Counts;
 
@@ -25,7 +26,7 @@ fn add(alloc: Global, text: &mut Vec<u8>, printed: &Line<'_>) -> Result<(), Allo
 }
 
 /// Adds a line for each answer, in the order of the script's calls.
-fn add_answers(alloc: Global, text: &mut Vec<u8>, answers: &[CallAnswer]) -> Result<(), AllocError>
+fn add_answers(alloc: Global, text: &mut Vec<u8>, answers: &[Answer]) -> Result<(), AllocError>
     ensures { OnOk result (text.new.items ≡ text.old.items ++ answers_text 0 answers.now) }
 {
     let mut before = 0u64;
@@ -72,7 +73,7 @@ fn add_replicas(
 /// The whole text that is printed: the answer to each call, in the order of the script, and the end of the node.
 pub(crate) fn text_of(
     alloc: Global,
-    answers: &[CallAnswer],
+    answers: &[Answer],
     totals: Counts,
     replicas: &[ReplicaEnd],
     agrees: bool,

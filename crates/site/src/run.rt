@@ -12,7 +12,7 @@ use log_model::{RequestId, logs_whose_calls_fit};
 use replica::Replica;
 use site_model::fit_entries_go_on;
 use std::alloc::{AllocError, Allocator};
-use world_calls::{Completion, OpenCall};
+use world_calls::{CallStart, Completion, OpenCall};
 
 /// A call that is to be run, on the rows of its snapshot.
 #[derive(Clone, Copy)]
@@ -52,9 +52,14 @@ pub fn complete<A: Allocator + Copy>(
         snapshot,
         request,
     } = call;
-    let mut open_call = OpenCall::begin(
-        alloc, 0, number, procedure, accepted, args, snapshot, request,
-    )?;
+    let start = CallStart {
+        replica: 0,
+        number,
+        procedure,
+        snapshot,
+        request,
+    };
+    let mut open_call = OpenCall::begin(alloc, start, accepted, args)?;
     match open_call.run(alloc, accepted, replica.at(snapshot)) {
         Turn::Exit(_) => Ok(open_call.complete(alloc)),
         Turn::NoMemory => Err(AllocError),

@@ -18,7 +18,8 @@ ghost use Rattle.site_model.specs.Answer.{Asked, addition_answer, asked_call, ca
 ghost use Rattle.site_model.specs.Standing.{SiteSetting};
 ghost use Rattle.site_model.specs.Order.{Order, next_outcome, order_log};
 ghost use Rattle.site_laws.specs.Orders.{IsBytes, IsOfBytes, IsSiteSetting};
-ghost use Rattle.site_laws.specs.Own.{IsAskedOf, IsFree};
+ghost use Rattle.site_model.specs.Own.{IsAskedOf};
+ghost use Rattle.site_laws.specs.Own.{IsFree};
 
 use crate::fitting::orders_of_bytes_fit;
 use crate::laws::{beginnings_have_the_same_entries, orders_have_logs};

@@ -2,3 +2,4 @@ pub mod Standing
 pub mod Order
 pub mod Answer
 pub mod Fit
+pub mod Own

@@ -13,6 +13,7 @@ use Rattle.log_model.specs.Entries.{CarriesRun}
 use Rattle.log_model.specs.Fit.{IsCall}
 use Rattle.log_model.specs.OpenCall.{OpenCall, makes_look, at_row_helper}
 use Rattle.catalogue.specs.Catalogue.{accepted_of}
+use Rattle.world_calls.specs.declared.open_call.CallStart.{CallStart}
 use Rattle.world_calls.specs.declared.open_call.OpenCall.{OpenCall as OpenCallState}
 use Rattle.world_calls.specs.declared.completion.Completion.{Completion}
 use Rattle.world_calls.specs.declared.completion.Completion.TheVariants.{Cancelled, Read, Wrote}
@@ -52,19 +53,19 @@ pub record CanGoOn {A : Type 0} (w : Setting) (log : Log) (accepted : Procedure)
 -- ---- its beginning
 
 -- a call that has run nothing yet
-abbrev pub call_before_its_run : (replica number procedure : ℕ) → List ℕ → (snapshot : ℕ) → Option RequestId → OpenCall
-call_before_its_run replica number procedure args snapshot request = record {
-  replica = replica;
-  call = record { number = number; procedure = procedure; args = args; snapshot = snapshot; request = request };
+abbrev pub call_before_its_run : CallStart → List ℕ → OpenCall
+call_before_its_run start args = record {
+  replica = start.replica;
+  call = record { number = start.number; procedure = start.procedure; args = args; snapshot = start.snapshot; request = start.request };
   turns = 0;
 }
 
--- it follows its run in each setting and log where the procedure of this number has this program at this snapshot, and the
--- rows there fit the tables
-abbrev pub FollowsInItsLogs : {A : Type 0} → Procedure → (procedure snapshot : ℕ) → OpenCallState A → Type 0
-FollowsInItsLogs accepted procedure snapshot c =
-    (w : Setting) (log : Log) (p : StoredProcedure) → by_number (procedures_after w log snapshot) procedure ≡ Some p
-    → accepted ≡ accepted_of w.tables p → AreRows w.tables (rows_after w log snapshot) → Follows w log c
+-- it follows its run in each setting and log where its procedure has this program at its snapshot, and the rows there fit the
+-- tables
+abbrev pub FollowsInItsLogs : {A : Type 0} → Procedure → CallStart → OpenCallState A → Type 0
+FollowsInItsLogs accepted start c =
+    (w : Setting) (log : Log) (p : StoredProcedure) → by_number (procedures_after w log start.snapshot) start.procedure ≡ Some p
+    → accepted ≡ accepted_of w.tables p → AreRows w.tables (rows_after w log start.snapshot) → Follows w log c
 
 -- ---- a turn
 

@@ -20,6 +20,20 @@ use std::alloc::{AllocError, Allocator, Global};
 use std::mem;
 use txn_view::{Own, Store, View};
 
+/// The start of a call: the caller's choice, and the position whose rows the call reads.
+#[derive(Clone, Copy)]
+pub struct CallStart {
+    /// The number of the call's replica; 0 where there is no world.
+    pub replica: u32,
+    /// The call's number among all calls of its world; 0 where there is no world.
+    pub number: u32,
+    /// The procedure's number.
+    pub procedure: u16,
+    /// The position whose rows the call reads.
+    pub snapshot: u32,
+    pub request: Option<RequestId>,
+}
+
 /// A call that isn't over, or, once it was completed, what is left of it: another may begin in its memory.
 #[derive(Drop)]
 pub struct OpenCall<A: Allocator + Copy = Global> {
@@ -54,30 +68,26 @@ impl<A: Allocator + Copy> OpenCall<A> {
     /// A call that has run nothing yet. The arguments are copied.
     pub fn begin<P: Allocator, Q: Allocator>(
         alloc: A,
-        replica: u32,
-        number: u32,
-        procedure: u16,
+        start: CallStart,
         accepted: &Accepted<P, Q>,
         args: &[u8],
-        snapshot: u32,
-        request: Option<RequestId>,
     ) -> Result<OpenCall<A>, AllocError>
         requires { length args.now ≡ accepted.now.args_len }
         ensures begun { IfOk result (λ c. open_call_of c
-            ≡ call_before_its_run replica number procedure args.now snapshot request) }
-        ensures follows { IfOk result (λ c. FollowsInItsLogs accepted.now procedure snapshot c) }
+            ≡ call_before_its_run start args.now) }
+        ensures follows { IfOk result (λ c. FollowsInItsLogs accepted.now start c) }
         ensures ready { IfOk result (λ c. c.machine.last ≡ More) }
     {
         let Ok(machine) = Machine::start(accepted, args) else {
             unreachable!()
         };
         Ok(OpenCall {
-            replica,
-            number,
-            procedure,
+            replica: start.replica,
+            number: start.number,
+            procedure: start.procedure,
             args: Bytes::new(Vec::from_slice(alloc, args)?),
-            snapshot,
-            request,
+            snapshot: start.snapshot,
+            request: start.request,
             turns: 0,
             machine,
             own: Own::new(alloc),
@@ -88,18 +98,14 @@ impl<A: Allocator + Copy> OpenCall<A> {
     pub fn begin_again<P: Allocator, Q: Allocator>(
         &mut self,
         alloc: A,
-        replica: u32,
-        number: u32,
-        procedure: u16,
+        start: CallStart,
         accepted: &Accepted<P, Q>,
         args: &[u8],
-        snapshot: u32,
-        request: Option<RequestId>,
     ) -> Result<(), AllocError>
         requires { length args.now ≡ accepted.now.args_len }
         ensures begun { OnOk result (open_call_of self.new
-            ≡ call_before_its_run replica number procedure args.now snapshot request) }
-        ensures follows { OnOk result (FollowsInItsLogs accepted.now procedure snapshot self.new) }
+            ≡ call_before_its_run start args.now) }
+        ensures follows { OnOk result (FollowsInItsLogs accepted.now start self.new) }
         ensures ready { OnOk result (self.new.machine.last ≡ More) }
         ensures unchanged { OnErr result (self.new ≡ self.old) }
     {
@@ -107,12 +113,12 @@ impl<A: Allocator + Copy> OpenCall<A> {
         let Ok(()) = self.machine.restart(accepted, args) else {
             unreachable!()
         };
-        self.replica = replica;
-        self.number = number;
-        self.procedure = procedure;
+        self.replica = start.replica;
+        self.number = start.number;
+        self.procedure = start.procedure;
         self.args = Bytes::new(copied);
-        self.snapshot = snapshot;
-        self.request = request;
+        self.snapshot = start.snapshot;
+        self.request = start.request;
         self.turns = 0;
         self.own = Own::new(alloc);
         Ok(())

@@ -2,10 +2,10 @@ use bpf_bytes::{DecodeCause, DecodeFault};
 use bpf_verify::Cause;
 use dsm_model::{Outcome, StepRefusal};
 use log_model::{Identifier, Verdict};
+use node_calls::{Answer, CallRefusal};
 use program_checks::ProgramFault;
 use report::{
-    CallAnswer, CallReport, DeliveredEntry, Line, LoggedEntry, ReplicaReport, add_line, call_line,
-    line,
+    CallReport, DeliveredEntry, Line, LoggedEntry, ReplicaReport, add_line, call_line, line,
 };
 use scarce::Scarce;
 use std::alloc::Global;
@@ -286,61 +286,61 @@ static ADDITIONS: [Printed; 6] = [
 ];
 
 /// Answers to the second call of a script, and the printed text of each.
-static ANSWERS: [(CallAnswer, &str); 13] = [
+static ANSWERS: [(Answer, &str); 13] = [
     (
-        CallAnswer::Committed {
+        Answer::Committed {
             position: 1,
             reply: 10,
         },
         "call 2 committed 1 reply 10\n",
     ),
     (
-        CallAnswer::Read {
+        Answer::Read {
             snapshot: 1000,
             reply: 1,
         },
         "call 2 read 1000 reply 1\n",
     ),
     (
-        CallAnswer::Cancelled {
+        Answer::Cancelled {
             snapshot: 0,
             code: 9,
         },
         "call 2 cancelled 0 code 9\n",
     ),
     (
-        CallAnswer::Conflict {
+        Answer::Conflict {
             position: 3,
             other: 2,
         },
         "call 2 conflict 3 2\n",
     ),
-    (CallAnswer::Stale, "call 2 stale\n"),
+    (Answer::Stale, "call 2 stale\n"),
     (
-        CallAnswer::Repeated {
+        Answer::Repeated {
             position: 4,
             earlier: 1,
             reply: 18446744073709551615,
         },
         "call 2 repeat 4 1 reply 18446744073709551615\n",
     ),
-    (CallAnswer::NoMemory, "call 2 no memory\n"),
-    (CallAnswer::Full, "call 2 full\n"),
-    (CallAnswer::Stopped { position: 5 }, "call 2 stopped 5\n"),
+    (Answer::NoMemory, "call 2 no memory\n"),
+    (Answer::Full, "call 2 full\n"),
+    (Answer::Stopped { position: 5 }, "call 2 stopped 5\n"),
     (
-        CallAnswer::Refused(StepRefusal::NoReplica),
+        Answer::Refused(CallRefusal::NoReplica),
         "call 2 refused P1\n",
     ),
     (
-        CallAnswer::Refused(StepRefusal::NoProcedure),
+        Answer::Refused(CallRefusal::NoProcedure),
         "call 2 refused P2\n",
     ),
     (
-        CallAnswer::Refused(StepRefusal::ArgumentsLength),
+        Answer::Refused(CallRefusal::ArgumentsLength),
         "call 2 refused P3\n",
     ),
     (
-        CallAnswer::Refused(StepRefusal::ZeroInRequest),
+        Answer::Refused(CallRefusal::ZeroInRequest),
         "call 2 refused P13\n",
     ),
 ];

@@ -7,7 +7,7 @@ use Rattle.site_model.specs.declared.answer.CallAnswer.TheVariants.{Submitted}
 use Rattle.site_model.specs.Answer.{answer_for, asked_call}
 use Rattle.site_model.specs.Order.{order_entries, order_log}
 use Rattle.site_laws.specs.Orders.{FitsFields, procedures_behind}
-use Rattle.site_laws.specs.Own.{IsAskedOf}
+use Rattle.site_model.specs.Own.{IsAskedOf}
 use Rattle.site_laws.proofs.AskedLemmas.{fit_from, found_fits, reply_fits}
 use Rattle.site_laws.proofs.FinalLemmas.{answer_is}
 use Rattle.site_laws.proofs.OwnLemmas.{ordered_by}
@@ -36,8 +36,8 @@ returns-clause-asked c s order asked bytes is are short args session sequence su
         let count : p.args_len ≡ length asked.args = grind (arith, nat_tests) in
         record {
           procedure = p;
-          named = found;
-          numbered = numbered;
+          named = subst (λ (n : ℕ). by_name (procedures_after w log n) asked.name ≡ Some p) (sym (c.orders_grow.ensures.count s order)) found;
+          numbered = subst (λ (n : ℕ). by_number (procedures_after w log n) p.number ≡ Some p) (sym (c.orders_grow.ensures.count s order)) numbered;
           fits = record {
             number = omega arith;
             procedure = f.number;

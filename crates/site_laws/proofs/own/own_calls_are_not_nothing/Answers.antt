@@ -15,12 +15,10 @@ pub returns : goal.returns
 returns c s order more asked bytes cause is submitted nothing =
     let es = order_entries s order in
     let (later, e) = beginning s order more in
-    let count = c.orders_grow.ensures.count s order in
     let p = is.procedure in
-    let named = subst (λ (n : ℕ). by_name (procedures_after s.setting (order_log s order) n) asked.name ≡ Some p) (sym count) is.named in
-    let numbered = subst (λ (n : ℕ). by_number (procedures_after s.setting (order_log s order) n) p.number ≡ Some p) (sym (length-map es item_of ∙ count)) is.numbered in
+    let numbered = subst (λ (n : ℕ). by_number (procedures_after s.setting (order_log s order) n) p.number ≡ Some p) (sym (length-map es item_of)) is.numbered in
     own_stands s es later bytes (asked_call (order_log s order) p asked) cause
     (own_is s es later asked p bytes numbered
     (c.entries_have_their_heads.ensures.calls (executed s.setting (order_log s order) (asked_call (order_log s order) p asked)) is.fits)
-    (sym (settled_answer s order asked ∙ ap (answer_for s.setting es asked) named) ∙ submitted))
+    (sym (settled_answer s order asked ∙ ap (answer_for s.setting es asked) is.named) ∙ submitted))
     (subst (λ (xs : List Entry). outcome_behind s xs bytes ≡ Nothing cause) e nothing)

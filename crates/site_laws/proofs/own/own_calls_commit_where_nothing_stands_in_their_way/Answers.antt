@@ -13,7 +13,7 @@ use Rattle.site_model.specs.declared.outcome.EntryOutcome.TheVariants as outcome
 use Rattle.site_model.specs.Standing.{SiteSetting, executed}
 use Rattle.site_model.specs.Order.{Order, order_entries, order_log, outcome_behind, with_bytes}
 use Rattle.site_model.specs.Answer.{Asked, answer_for, asked_call, call_answer}
-use Rattle.site_laws.specs.Own.{IsAskedOf}
+use Rattle.site_model.specs.Own.{IsAskedOf}
 use Rattle.site_laws.specs.Requests.{with_reply}
 use Rattle.site_laws.proofs.LogLemmas.{beginning, commits_there}
 use Rattle.site_laws.proofs.SettledLemmas.{settled_answer}
@@ -34,10 +34,9 @@ own : Count → HaveHeads → (s : SiteSetting) (order : Order) (later : List En
 own count heads s order later asked bytes is submitted =
     let es = order_entries s order in
     let p = is.procedure in
-    let named = subst (λ (n : ℕ). by_name (procedures_after s.setting (order_log s order) n) asked.name ≡ Some p) (sym (count s order)) is.named in
-    let numbered = subst (λ (n : ℕ). by_number (procedures_after s.setting (order_log s order) n) p.number ≡ Some p) (sym (length-map es item_of ∙ count s order)) is.numbered in
+    let numbered = subst (λ (n : ℕ). by_number (procedures_after s.setting (order_log s order) n) p.number ≡ Some p) (sym (length-map es item_of)) is.numbered in
     own_is s es later asked p bytes numbered (heads (executed s.setting (order_log s order) (asked_call (order_log s order) p asked)) is.fits)
-    (sym (settled_answer s order asked ∙ ap (answer_for s.setting es asked) named) ∙ submitted)
+    (sym (settled_answer s order asked ∙ ap (answer_for s.setting es asked) is.named) ∙ submitted)
 
 none_of : (entries : List Entry) (o : Option ℕ) → option_map (with_reply entries) o ≡ None → o ≡ None
 none_of entries None e = refl
