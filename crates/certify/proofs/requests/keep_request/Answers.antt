@@ -24,7 +24,7 @@ returns-then-is_some g c = λ past x at verdict request keeps.
     kept_before c.args.requests.now.entries past x carried
     (ap is_commit verdict ∙ sym c.is_commit.ensures ∙ c.if-not-is_commit.false)
     (request ∙ c.in-Some.is) one
-    (ap is_some (keeps carried one ∙ ap (λ (r : Option RequestId). first_position (repeats r) 1 past) (sym c.in-Some.is) ∙ sym (c.repeated_in.ensures past keeps)) ∙ sym c.is_some.ensures ∙ c.if-is_some.true)
+    (ap is_some (keeps carried one ∙ sym (c.repeated_in.ensures past keeps)) ∙ sym c.is_some.ensures ∙ c.if-is_some.true)
     keeps
 
 from_ok : {T E : Type 0} (r : Result T E) (P : Type 0) → is_ok r ≡ true → OnOk r P → P
@@ -36,7 +36,7 @@ returns g c = λ past x at verdict request keeps.
     let carried = c.in-Some.carried in
     let one : IsRequest carried = record { session = c.key_of-key.ensures.session; sequence = c.key_of-key.ensures.sequence } in
     let none : lookup (nat_eq (key_of carried)) c.args.requests.now.entries ≡ None =
-    keeps carried one ∙ ap (λ (r : Option RequestId). first_position (repeats r) 1 past) (sym c.in-Some.is) ∙ sym (c.repeated_in.ensures past keeps) ∙ is_none_of c.repeated_in.result (sym c.is_some.ensures ∙ c.if-is_some.false) in
+    keeps carried one ∙ sym (c.repeated_in.ensures past keeps) ∙ is_none_of c.repeated_in.result (sym c.is_some.ensures ∙ c.if-is_some.false) in
     let key : c.key_of-key.result ≡ key_of carried = c.key_of-key.ensures.key in
     let absent : lookup (nat_eq c.key_of-key.result) c.args.requests.now.entries ≡ None = ap (λ (k : ℕ). lookup (nat_eq k) c.args.requests.now.entries) key ∙ none in
     subst (λ entries. KeepsRequests entries (past ++ x ∷ []))
