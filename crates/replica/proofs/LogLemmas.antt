@@ -10,11 +10,13 @@ use Rattle.log_model.specs.declared.verdict.Verdict.{Verdict}
 use Rattle.log_model.specs.Log.{Catalogue, Setting, CertifiedItem, IsLog, verdict_of, history, rows_after, procedures_after}
 use Rattle.log_model.specs.Fit.{HasSafeProcedures, AreItems}
 use Rattle.log_model.specs.Entries.{Entry, CallEntry, AdditionEntry, items_of, CarryRuns, CertifiedEntries, certified_entry, with_entry, certified_entries_of, installed_from}
-use Rattle.rows_mv.specs.Versions.{AnswersFrom}
-use Rattle.catalogue.specs.Stored.{stored_procedures}
+use Rattle.schema.specs.Schema.{Tables}
+use Rattle.key_table.specs.Table.{Table}
+use Rattle.rows_mv.specs.Versions.{AnswersFrom, HaveTables, width_of}
+use Rattle.catalogue.specs.Stored.{AreForTables, stored_procedures}
 use Rattle.replica.specs.Delivery.{KeepsCertified}
 use Rattle.certify.specs.declared.certification.Certification.{Certification}
-use Rattle.replica.specs.Replica.{rows_kept, certification_next, certification_of, Replica, StandsFor, AreEntriesOf}
+use Rattle.replica.specs.Replica.{rows_kept, certification_next, certification_of, Replica, StandsFor, StandsIn, AreEntriesOf, HasSameTables}
 use Rattle.replica.proofs.DeliveryLemmas.{get_left, get_end, same_some}
 
 -- ---- what became of one of many entries
@@ -104,6 +106,17 @@ procedures_follow law w r entries window stands are =
     ∙ law w entries are.log are.runs ∙ ap (procedures_after w (items_of entries)) (sym stands.position)
 
 -- ---- one delivery
+
+-- the replica stands for these now, and its tables are the same
+pub stands_after : ((schema : Tables) (old new : List Table) → ((t : ℕ) → width_of new t ≡ width_of old t) → length new ≡ length old → HaveTables schema old → HaveTables schema new)
+    → (w : Setting) (old new : Replica) (past after : List Entry) → StandsIn w old past → (StandsFor w.catalogue old past → StandsFor w.catalogue new after) → HasSameTables old new → (AreForTables w.tables old.procedures → AreForTables w.tables new.procedures)
+    → StandsIn w new after
+stands_after kept w old new past after is stands same procedures = record {
+  stands = stands is.stands;
+  window = same.window ∙ is.window;
+  tables = kept w.tables old.versions.tables new.versions.tables same.widths same.count is.tables;
+  procedures = procedures is.procedures;
+}
 
 pub delivered_verdict : ((w : Setting) (entries : List Entry) (e : Entry) → AreEntriesOf w (entries ++ e ∷ []) → verdict_of w (items_of (entries ++ e ∷ [])) (length entries + 1) ≡ Some (certified_entry w.window (certified_entries_of w.window w.catalogue entries) e).verdict)
     → (w : Setting) (old : Replica) (entries : List Entry) (e : Entry) (c : Certification) → ((past : CertifiedEntries) → KeepsCertified old.memory old.procedures past → c ≡ certification_next old.memory.window past e)

@@ -10,8 +10,8 @@ use Rattle.log_model.specs.Log.{Catalogue, Setting, Call as OrderedCall, Certifi
 use Rattle.certify.specs.Comparisons.{comparisons_after}
 use Rattle.log_model.specs.Entries.{Entry, CallEntry, AdditionEntry, items_of, CarryRuns, CertifiedEntries, certified_entry, certified_entries_of, installed_from}
 use Rattle.log_model.specs.Fit.{HasSafeProcedures, AreItems}
-use Rattle.rows_mv.specs.Versions.{Versions, AnswersFrom, AreOfTables, HaveWidths, width_of}
-use Rattle.catalogue.specs.Stored.{ListedProcedure, stored_procedures}
+use Rattle.rows_mv.specs.Versions.{Versions, AnswersFrom, AreOfTables, HaveTables, HaveWidths, width_of}
+use Rattle.catalogue.specs.Stored.{ListedProcedure, AreForTables, stored_procedures}
 use Rattle.log_model.specs.Name.{is_name}
 use Rattle.log_entry.specs.declared.entry.Entry.{Entry as LogEntry}
 use Rattle.log_entry.specs.declared.entry.Entry.TheVariants.{Call, Addition}
@@ -77,6 +77,13 @@ pub record StandsFor (base : Catalogue) (r : Replica) (entries : List Entry) : T
   pub certifications : AreCertificationsOf r.window base entries r.certifications
   pub procedures : stored_procedures r.procedures ≡ (certified_entries_of r.window base entries).procedures
 
+-- the replica stands for these entries in a setting: its window, its tables and the tables of its procedures are the setting's
+pub record StandsIn (w : Setting) (r : Replica) (entries : List Entry) : Type 0 where
+  pub stands : StandsFor w.catalogue r entries
+  pub window : r.window ≡ w.window
+  pub tables : HaveTables w.tables r.versions.tables
+  pub procedures : AreForTables w.tables r.procedures
+
 -- writes for which the tables have room: of their keys, and of their widths
 pub record FitTables (versions : Versions) (writes : Writes) : Type 0 where
   pub tables : AreOfTables writes versions.tables
@@ -90,6 +97,11 @@ pub record AreEntriesOf (w : Setting) (entries : List Entry) : Type 0 where
   pub log : IsLog (items_of entries)
   pub items : AreItems w (items_of entries)
   pub runs : CarryRuns w entries
+
+-- the replica stands for these entries, which are a log's of this setting
+pub record FollowsLog (w : Setting) (r : Replica) (entries : List Entry) : Type 0 where
+  pub of_log : AreEntriesOf w entries
+  pub stands : StandsIn w r entries
 
 -- ---- what is asked of an entry
 

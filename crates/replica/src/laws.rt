@@ -16,7 +16,7 @@ ghost use Rattle.log_model.specs.Entries.{Entry, AdditionEntry, CertifiedEntries
 ghost use Rattle.log_model.specs.Entries.{certified_entry, certified_entries_of, with_entry};
 ghost use Rattle.key_table.specs.Table.{Table};
 ghost use Rattle.certify.specs.declared.certification.Certification.{Certification};
-ghost use Rattle.replica.specs.Replica.{AreEntriesOf, FitTables, Replica, StandsFor, rows_kept};
+ghost use Rattle.replica.specs.Replica.{AreEntriesOf, FitTables, FollowsLog, Replica, StandsFor, rows_kept};
 ghost use Rattle.replica.specs.Delivery.{IsDelivered, IsRefusedDelivery, KeepsCertified};
 
 use log_model::{entries_suffice, map_after_each_write_set, one_more_entry_carries_its_run};
@@ -79,18 +79,16 @@ pub(crate) fn no_rows_at_first()
     map_after_each_write_set();
 }
 
-/// A replica's verdicts are the log's, where the delivered entries are a log's and carry their runs. The rows of the
-/// positions within the replica's window, and its procedures, are the log's too.
+/// What was delivered is kept. A replica that follows a log has the log's verdict at each delivered position, the log's
+/// rows at each position within the window, and the log's procedures.
 pub fn replicas_follow_the_log()
     ensures verdicts { (w : Setting) (r : Replica) (entries : List Entry) (before : ℕ) (c : Certification)
-        → w.window ≡ r.window → StandsFor w.catalogue r entries → AreEntriesOf w entries
-        → slice_get r.certifications before ≡ Some c → verdict_of w (items_of entries) (before + 1) ≡ Some c.verdict }
-    ensures rows { (w : Setting) (r : Replica) (entries : List Entry) (s : ℕ)
-        → w.window ≡ r.window → StandsFor w.catalogue r entries → AreEntriesOf w entries → s ≤ r.position
-        → r.position - s ≤ r.window
+        → FollowsLog w r entries → slice_get r.certifications before ≡ Some c
+        → verdict_of w (items_of entries) (before + 1) ≡ Some c.verdict }
+    ensures rows { (w : Setting) (r : Replica) (entries : List Entry) (s : ℕ) → FollowsLog w r entries
+        → s ≤ r.position → r.position - s ≤ r.window
         → AnswersFrom r.versions.tables s (rows_after w (items_of entries) s) }
-    ensures procedures { (w : Setting) (r : Replica) (entries : List Entry)
-        → w.window ≡ r.window → StandsFor w.catalogue r entries → AreEntriesOf w entries
+    ensures procedures { (w : Setting) (r : Replica) (entries : List Entry) → FollowsLog w r entries
         → stored_procedures r.procedures ≡ procedures_after w (items_of entries) r.position }
     ensures next { (w : Setting) (entries : List Entry) (e : Entry) → AreEntriesOf w (entries ++ e ∷ [])
         → verdict_of w (items_of (entries ++ e ∷ [])) (length entries + 1)

@@ -11,18 +11,19 @@ ghost use Rattle.log_model.specs.Entries.{Entry as Delivered, item_of, items_of,
 ghost use Rattle.log_entry.specs.Kind.{entry_of};
 ghost use Rattle.catalogue.specs.Stored.{AreForTables, stored_procedures};
 ghost use Rattle.rows_mv.specs.Versions.{AnswersFrom, HaveTables, slots_of, width_of};
-ghost use Rattle.replica.specs.Replica.{AreEntriesOf, FitTables, IsForTables, IsNamed, StandsFor, certification_of};
-ghost use Rattle.replica.specs.Replica.{entries_of, rows_kept, writes_in, HasDelivered, HasStopped, HasSameTables};
+ghost use Rattle.replica.specs.Replica.{AreEntriesOf, FitTables, IsForTables, IsNamed, StandsFor, StandsIn};
+ghost use Rattle.replica.specs.Replica.{certification_of, entries_of, rows_kept, writes_in};
+ghost use Rattle.replica.specs.Replica.{HasDelivered, HasStopped, HasSameTables};
 
 use crate::at::At;
 use crate::deliver::{Pruning, drop_unseen, take_entry, written_by};
-use crate::laws::{deliveries_are_kept, no_rows_at_first, replicas_follow_the_log};
+use crate::laws::{deliveries_are_kept, no_rows_at_first, tables_take_the_schemas_writes};
 use crate::rebuild::replica_of;
 use crate::stopped::Stopped;
 use catalogue::{Catalogue, StoredProcedures};
 use certify::{Certification, Certifications, Certifier};
 use log_entry::Entry;
-use log_model::{RequestId, Verdict};
+use log_model::{RequestId, Verdict, entries_suffice};
 use row_sets::Row;
 use rows_mv::{Versions, empty_versions_answer_from_no_rows};
 use std::alloc::{AllocError, Allocator, Global};
@@ -185,7 +186,8 @@ impl<A: Allocator + Copy, P: Allocator + Copy> Replica<A, P> {
     }
 
     /// Takes the next entry in and tells its verdict. Where there is no memory the replica stops, and its procedures
-    /// and the rows at each position stay as they were.
+    /// and the rows at each position stay as they were. The replica goes on standing, in each setting in which it stood,
+    /// for what was delivered.
     pub fn deliver(&mut self, entry: &Entry<P>) -> Result<Verdict, Stopped>
         requires placed { IsPlaced self.old.position (item_of (entry_of entry.now)) }
         requires room { self.old.position + 1 < 2 ^ 32 }
@@ -197,10 +199,15 @@ impl<A: Allocator + Copy, P: Allocator + Copy> Replica<A, P> {
         ensures same_tables { HasSameTables self.old self.new }
         ensures for_tables { (tables : Tables) → AreForTables tables self.old.procedures → IsForTables tables entry.now
             → AreForTables tables self.new.procedures }
+        ensures one_more { OnOk result ((w : Setting) (past : List Delivered) → StandsIn w self.old past
+            → IsForTables w.tables entry.now → StandsIn w self.new (past ++ entry_of entry.now ∷ [])) }
+        ensures no_more { OnErr result ((w : Setting) (past : List Delivered) → StandsIn w self.old past
+            → StandsIn w self.new past) }
     {
         // Laws:
         deliveries_are_kept();
-        replicas_follow_the_log();
+        entries_suffice();
+        tables_take_the_schemas_writes();
         if self.stopped {
             return Err(Stopped);
         }
@@ -266,7 +273,7 @@ impl<A: Allocator + Copy, P: Allocator + Copy> Replica<A, P> {
             → verdict_of w (items_of entries) position ≡ Some result.verdict }
     {
         // Laws:
-        replicas_follow_the_log();
+        entries_suffice();
         self.certifications.at(position as usize - 1)
     }
 }

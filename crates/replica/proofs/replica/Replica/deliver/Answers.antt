@@ -5,7 +5,7 @@ use Rattle.log_entry.specs.Kind.{entry_of}
 use Rattle.log_model.specs.Entries.{Entry, items_of}
 use Rattle.catalogue.specs.Stored.{AreForTables}
 use Rattle.replica.specs.Replica.{Replica, StandsFor, AreEntriesOf}
-use Rattle.replica.proofs.LogLemmas.{delivered_verdict}
+use Rattle.replica.proofs.LogLemmas.{delivered_verdict, next_follows, rows_follow, procedures_follow, stands_after}
 use Rattle.replica.proofs.replica.Replica.deliver.Goals as goal
 
 abbrev entries_after : List Entry → Entry → List Entry
@@ -54,15 +54,21 @@ returns-clause-delivered g c =
       verdict = search rules;
       log_verdict = λ w past. subst (λ (r : Replica). w.window ≡ r.window → StandsFor w.catalogue r past → AreEntriesOf w (entries_after past e)
           → verdict_of w (items_of (entries_after past e)) (c.self.inside.position + 1) ≡ Some c.in-Ok.certification.verdict) c.self.view_is
-          (delivered_verdict c.replicas_follow_the_log.ensures.next w old past e c.in-Ok.certification c.in-Ok.ensures.taken.certified);
+          (delivered_verdict (next_follows c.entries_suffice.ensures.verdicts) w old past e c.in-Ok.certification c.in-Ok.ensures.taken.certified);
       log_rows = λ w past window is are.
-          c.replicas_follow_the_log.ensures.rows w new (entries_after past e) (c.self.inside.position + 1)
+          rows_follow c.entries_suffice.ensures.rows w new (entries_after past e) (c.self.inside.position + 1)
           (window ∙ sym (ap (λ (r : Replica). r.window) c.self.view_is)) (stands w.catalogue past is) are (omega arith) (omega arith);
       log_procedures = λ w past window is are.
-          c.replicas_follow_the_log.ensures.procedures w new (entries_after past e)
+          procedures_follow c.entries_suffice.ensures.procedures w new (entries_after past e)
           (window ∙ sym (ap (λ (r : Replica). r.window) c.self.view_is)) (stands w.catalogue past is) are;
     }
 
 pub returns-clause-for_tables : goal.returns-clause-for_tables
 returns-clause-for_tables g c tables before added =
     c.take_entry-taken.ensures.for_tables tables (subst (λ (r : Replica). AreForTables tables r.procedures) (sym c.self.view_is) before) added
+
+pub returns-clause-one_more : goal.returns-clause-one_more
+returns-clause-one_more g c w past is added =
+    stands_after c.tables_take_the_schemas_writes.ensures.kept w c.args.self.now _ past (past ++ entry_of c.args.entry.now ∷ []) is
+    ((returns-clause-delivered g c).stands w.catalogue past) (search rules)
+    (λ before. returns-clause-for_tables g c w.tables before added)
