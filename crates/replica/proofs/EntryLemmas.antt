@@ -1,9 +1,9 @@
 -- Beginnings of the entries of a log, and one more.
-use Rattle.std.proofs.Common.{◌≡◌, ℕ, zero, suc, ◌+◌, ◌≤◌, List, [], ◌∷◌, ◌++◌, length, take, drop, slice_get, Some, refl, sym, ap, subst, arith}
+use Rattle.std.proofs.Common.{◌≡◌, ℕ, zero, suc, ◌+◌, ◌≤◌, List, [], ◌∷◌, ◌++◌, length, take, drop, slice_get, Some, refl, sym, ap, subst, ◌∙◌, arith}
 use Rattle.std.specs.List.{AllByRecursion}
-use Rattle.log_model.specs.Log.{Setting, Item, CallItem, AdditionItem, Log, IsPlaced, IsLog, IsLogFrom}
-use Rattle.log_model.specs.Fit.{IsItem, AreItems}
-use Rattle.log_model.specs.Entries.{Entry, CallEntry, AdditionEntry, item_of, items_of, IsCarried, CarryRuns}
+use Rattle.log_model.specs.Log.{Catalogue, Setting, Call, Item, CallItem, AdditionItem, Log, IsPlaced, IsLog, IsLogFrom, by_number}
+use Rattle.log_model.specs.Fit.{IsCallOf, IsCall, IsItem, AreItems}
+use Rattle.log_model.specs.Entries.{ExecutedCall, Entry, CallEntry, AdditionEntry, item_of, items_of, CarriesRun, IsCarried, CarryRuns}
 use Rattle.log_model.proofs.GrowthLemmas.{is_call_before, is_log_snoc, are_items_snoc}
 use Rattle.log_model.proofs.CarryLemmas.{carries_before}
 use Rattle.replica.specs.Replica.{AreEntriesOf}

@@ -112,7 +112,7 @@ pub stands_after : ((schema : Tables) (old new : List Table) → ((t : ℕ) → 
     → (w : Setting) (old new : Replica) (past after : List Entry) → StandsIn w old past → (StandsFor w.catalogue old past → StandsFor w.catalogue new after) → HasSameTables old new → (AreForTables w.tables old.procedures → AreForTables w.tables new.procedures)
     → StandsIn w new after
 stands_after kept w old new past after is stands same procedures = record {
-  stands = stands is.stands;
+  delivered = stands is.delivered;
   window = same.window ∙ is.window;
   tables = kept w.tables old.versions.tables new.versions.tables same.widths same.count is.tables;
   procedures = procedures is.procedures;

@@ -79,7 +79,7 @@ pub record StandsFor (base : Catalogue) (r : Replica) (entries : List Entry) : T
 
 -- the replica stands for these entries in a setting: its window, its tables and the tables of its procedures are the setting's
 pub record StandsIn (w : Setting) (r : Replica) (entries : List Entry) : Type 0 where
-  pub stands : StandsFor w.catalogue r entries
+  pub delivered : StandsFor w.catalogue r entries
   pub window : r.window ≡ w.window
   pub tables : HaveTables w.tables r.versions.tables
   pub procedures : AreForTables w.tables r.procedures
