@@ -2,14 +2,12 @@
 use Rattle.std.specs.Prelude.{◌≡◌, ◌<◌, ◌≤◌, true, false, List, [], ◌∷◌, ◌++◌, length, Some, refl}
 use Rattle.std.specs.Coded.{Coded, code_by, coded×, coded_list}
 use Rattle.schema.specs.Schema.{AreTables}
-use Rattle.rows_mv.specs.Versions.{HaveTables}
-use Rattle.catalogue.specs.Stored.{AreForTables}
 use Rattle.log_model.specs.Log.{Setting, verdict_of}
 use Rattle.log_model.specs.Entries.{items_of}
 use Rattle.log_entry.specs.declared.entry.Entry.{Entry as LogEntry}
 use Rattle.order_log.specs.Codes.{entry_code}
 use Rattle.replica.specs.Codes.{replica_code}
-use Rattle.replica.specs.Replica.{Replica, StandsFor, AreEntriesOf, entries_of}
+use Rattle.replica.specs.Replica.{Replica, AreEntriesOf, FollowsLog, entries_of}
 use Rattle.locked_replica.specs.declared.answers.Delivery.{Delivery}
 use Rattle.locked_replica.specs.declared.answers.Delivery.TheVariants.{Delivered, Nothing, Stopped}
 use Rattle.locked_replica.specs.declared.answers.Found.{Found}
@@ -23,15 +21,10 @@ abbrev pub locked_code : {A : Type 0} → Coded (LockedState A)
 locked_code {A} = code_by (Replica × List (LogEntry A)) (coded× replica_code (coded_list entry_code))
     (λ l. (l.replica, l.entries)) (λ c. record { replica = c.0; entries = c.1 }) (λ _. refl)
 
--- the entries are a log's, what the replica keeps is of them, and its window, its tables, and the tables of its procedures are the
--- setting's
+-- the replica follows the log of what was delivered, and the setting's tables are those of a schema
 pub record Keeps {A : Type 0} (w : Setting) (l : LockedState A) : Type 0 where
   pub schema : AreTables w.tables
-  pub entries : AreEntriesOf w (entries_of l.entries)
-  pub stands : StandsFor w.catalogue l.replica (entries_of l.entries)
-  pub window : l.replica.window ≡ w.window
-  pub tables : HaveTables w.tables l.replica.versions.tables
-  pub procedures : AreForTables w.tables l.replica.procedures
+  pub follows : FollowsLog w l.replica (entries_of l.entries)
 
 -- what came of a delivery: one more entry, with the verdict of the log; or the log showed none, and nothing has changed, the
 -- replica not having stopped; or it has stopped where it was, and if it had before nothing has changed

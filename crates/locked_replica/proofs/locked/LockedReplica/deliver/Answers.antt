@@ -14,7 +14,7 @@ deliver-requires-clause-fit g c =
     let me = c.self.inside in
     let e = c.in-Some.entry.now in
     let fact : HasFactAfter (IsOrdered w) me.seen e = subst (λ (xs : List (LogEntry g.row.P.Denot)). HasFactAfter (IsOrdered w) xs e) c.again-seen.ensures c.in-Some.ensures.fact in
-    c.tables_take_the_schemas_writes.ensures.fit w.tables me.replica.versions (writes_in (entry_of e)) c.self.invariant.tables (c.entries_with_facts_are_a_logs.ensures.writes w me.seen e fact)
+    c.tables_take_the_schemas_writes.ensures.fit w.tables me.replica.versions (writes_in (entry_of e)) c.self.invariant.follows.stands.tables (c.entries_with_facts_are_a_logs.ensures.writes w me.seen e fact)
 
 pub invariant_of-self : goal.invariant_of-self
 invariant_of-self g c =
@@ -24,9 +24,7 @@ invariant_of-self g c =
     let fact : HasFactAfter (IsOrdered w) me.seen e = subst (λ (xs : List (LogEntry g.row.P.Denot)). HasFactAfter (IsOrdered w) xs e) c.again-seen.ensures c.in-Some.ensures.fact in
     let now : c.get.new.seen ≡ me.seen ++ e ∷ [] = c.in-Some.ensures.entry ∙ ap (λ (xs : List (LogEntry g.row.P.Denot)). xs ++ e ∷ []) c.again-seen.ensures in
     keeps_more c.entries_with_facts_are_a_logs.ensures.of_log w me.replica c.deliver.new.self me.seen c.get.new.seen e c.self.invariant now fact
-    (c.in-Ok.ensures.delivered.stands w.catalogue (entries_of me.seen) c.self.invariant.stands) c.deliver.ensures.same_tables.window
-    (c.tables_take_the_schemas_writes.ensures.kept w.tables me.replica.versions.tables c.deliver.new.self.versions.tables c.deliver.ensures.same_tables.widths c.deliver.ensures.same_tables.count c.self.invariant.tables)
-    (c.in-Ok.ensures.for_tables w.tables c.self.invariant.procedures (c.entries_with_facts_are_a_logs.ensures.for_tables w me.seen e fact))
+    (c.in-Ok.ensures.one_more w (entries_of me.seen) c.self.invariant.follows.stands (c.entries_with_facts_are_a_logs.ensures.for_tables w me.seen e fact))
 
 pub returns-in-Ok : goal.returns-in-Ok
 returns-in-Ok g c =

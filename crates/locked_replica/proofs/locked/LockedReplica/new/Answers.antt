@@ -9,4 +9,5 @@ invariant_of-result g c =
     let r = c.in_ok-new.field-0 in
     subst (λ (w : Setting). Keeps w (with_entries r c.new-2.result)) (sym c.requires)
     (keeps_none (record { tables = c.args.catalogue.now.tables; catalogue = c.args.catalogue.now.procedures; window = c.args.window }) r c.new-2.result c.new-2.ensures
-    c.each_catalogue_is_consistent.ensures.tables (c.catalogues_are_safe.ensures c.args.window) c.in_ok-new.ensures.stands c.in_ok-new.ensures.window c.in_ok-new.ensures.tables c.in_ok-new.ensures.for_tables)
+    c.each_catalogue_is_consistent.ensures.tables (c.catalogues_are_safe.ensures c.args.window)
+    (record { delivered = c.in_ok-new.ensures.stands; window = c.in_ok-new.ensures.window; tables = c.in_ok-new.ensures.tables; procedures = c.in_ok-new.ensures.for_tables }))
