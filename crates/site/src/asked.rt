@@ -50,21 +50,6 @@ fn answer_of<A: Allocator + Copy>(completion: Completion<A>) -> CallAnswer<Entry
     }
 }
 
-/// The numbers of a call fit their fields, as their types say.
-fn numbers_fit(procedure: u16, args_len: u16, snapshot: u32, request: Option<RequestId>)
-    ensures procedure { procedure < 2 ^ 16 }
-    ensures args { args_len < 2 ^ 16 }
-    ensures snapshot { snapshot < 2 ^ 32 }
-    ensures session { session_of request < 2 ^ 32 }
-    ensures sequence { sequence_of request < 2 ^ 32 }
-{
-    let Some(request) = request else {
-        return;
-    };
-    let _session = request.session;
-    let _sequence = request.sequence;
-}
-
 /// Runs a call whole on the rows at the last position, and returns the answer. Changes nothing.
 pub fn call<A: Allocator + Copy>(
     site: &SiteReplica<A>,
