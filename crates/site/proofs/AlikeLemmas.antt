@@ -6,13 +6,13 @@ use Rattle.std.proofs.lemmas.List.Sums.{fold-append}
 use Rattle.schema.specs.declared.look.Look.{Look}
 use Rattle.schema.specs.Rows.{Rows}
 use Rattle.log_model.specs.InstalledWrites.{map_after}
-use Rattle.log_model.specs.Log.{Catalogue, Call, CertifiedItem, verdict_after, first_position, repeats, conflicts, unless_repeated, unless_conflict}
+use Rattle.log_model.specs.Log.{Catalogue, Setting, Call, CertifiedItem, verdict_after, first_position, repeats, conflicts, unless_repeated, unless_conflict}
 use Rattle.log_model.specs.declared.verdict.Verdict.TheVariants.{Stale}
 use Rattle.certify.specs.Comparisons.{comparisons_after, comparisons_from}
 use Rattle.log_model.specs.Entries.{Entry, CallEntry, AdditionEntry, CertifiedEntries, certified_entry, with_entry, certified_entries_of, installed_from}
 use Rattle.certify.specs.declared.certification.Certification.{Certification}
 use Rattle.certify.specs.Kept.{IsMemoryOf}
-use Rattle.replica.specs.Replica.{Replica, StandsFor, certification_next, certification_of, AreCertificationsOf}
+use Rattle.replica.specs.Replica.{Replica, StandsFor, StandsIn, certification_next, certification_of, AreCertificationsOf}
 use Rattle.replica.proofs.EntryLemmas.{take_first}
 use Rattle.rows_mv.specs.Versions.{AnswersFrom}
 use Rattle.site.specs.Taking.{AreAlike}
@@ -97,7 +97,7 @@ certifications_alike window base xs e d cs alike are = record {
   ];
 }
 
-pub stands_alike : (base : Catalogue) (r : Replica) (xs : List Entry) (e d : Entry) → AreAlike e d → StandsFor base r (xs ++ d ∷ []) → StandsFor base r (xs ++ e ∷ [])
+stands_alike : (base : Catalogue) (r : Replica) (xs : List Entry) (e d : Entry) → AreAlike e d → StandsFor base r (xs ++ d ∷ []) → StandsFor base r (xs ++ e ∷ [])
 stands_alike base r xs e d alike stands =
     let same = whole_alike r.window base xs e d alike in
     record {
@@ -109,3 +109,6 @@ stands_alike base r xs e d alike stands =
       certifications = certifications_alike r.window base xs e d r.certifications alike stands.certifications;
       procedures = stands.procedures ∙ ap (λ (c : CertifiedEntries). c.procedures) same;
     }
+
+pub stands_in_alike : (w : Setting) (r : Replica) (xs : List Entry) (e d : Entry) → AreAlike e d → StandsIn w r (xs ++ d ∷ []) → StandsIn w r (xs ++ e ∷ [])
+stands_in_alike w r xs e d alike is = record { delivered = stands_alike w.catalogue r xs e d alike is.delivered; window = is.window; tables = is.tables; procedures = is.procedures }

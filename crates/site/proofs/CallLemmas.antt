@@ -84,7 +84,7 @@ module _ (s : SiteReplica) (entries : List Entry) (held : List ListedProcedure) 
         number_is = of;
         numbered = ap (λ (ps : Catalogue). by_number ps number) (sym of_log) ∙ numbered;
         program =
-            is ∙ listed_stored s.catalogue.tables held number (subst (AreForTables s.catalogue.tables) (sym same) stands.for_tables) ∙ ap (option_map (accepted_of s.catalogue.tables)) numbered;
+            is ∙ listed_stored s.catalogue.tables held number (subst (AreForTables s.catalogue.tables) (sym same) stands.stands.procedures) ∙ ap (option_map (accepted_of s.catalogue.tables)) numbered;
       }
 
 -- ---- what tests say

@@ -1,11 +1,9 @@
 -- What a site is behind one more entry.
-use Rattle.std.proofs.Common.{◌≡◌, ℕ, suc, ◌+◌, ◌-◌, List, [], ◌∷◌, ◌++◌, length, map, slice_get, Some, None, refl, sym, ap, subst, ◌∙◌, arith}
+use Rattle.std.proofs.Common.{◌≡◌, ℕ, suc, ◌+◌, List, [], ◌∷◌, ◌++◌, length, map, slice_get, Some, None, refl, sym, ap, subst, ◌∙◌, arith}
 use Rattle.std.proofs.lemmas.List.{length-map, map-append}
 use Rattle.schema.specs.Schema.{Tables}
 use Rattle.schema.specs.Rows.{Writes, AreWrites}
-use Rattle.rows_mv.specs.Versions.{Versions, HaveTables, width_of}
-use Rattle.key_table.specs.Table.{Table}
-use Rattle.catalogue.specs.Stored.{AreForTables}
+use Rattle.rows_mv.specs.Versions.{Versions, HaveTables}
 use Rattle.log_model.specs.declared.verdict.Verdict.{Verdict}
 use Rattle.log_model.specs.declared.verdict.Verdict.TheVariants.{Commit, Conflict, Stale, Repeated, Taken}
 use Rattle.log_model.specs.Log.{StoredProcedure, Catalogue, Setting, Call, CallItem, AdditionItem, Log, IsLog, IsPlaced, by_name, by_number, if_commits, procedures_after, verdict_of}
@@ -13,11 +11,11 @@ use Rattle.log_model.specs.Fit.{FitsLog}
 use Rattle.log_model.specs.Entries.{Entry, CallEntry, AdditionEntry, certified_entry, certified_entries_of, item_of, items_of, IsCarried}
 use Rattle.log_entry.specs.declared.entry.Entry.{Entry as LogEntry}
 use Rattle.log_entry.specs.Kind.{entry_of}
-use Rattle.replica.specs.Replica.{Replica, FitTables, HasDelivered, HasSameTables, IsForTables, writes_in}
+use Rattle.replica.specs.Replica.{Replica, FitTables, HasDelivered, HasSameTables, IsForTables, StandsIn, writes_in}
 use Rattle.site_model.specs.Fit.{AreFitEntries}
 use Rattle.site.specs.Replica.{SiteReplica, KnowsSince, StandsForLog, reply_of, setting_of}
 use Rattle.site.specs.Taking.{AreAlike, Follows, additions_after}
-use Rattle.site.proofs.AlikeLemmas.{certified_alike, stands_alike}
+use Rattle.site.proofs.AlikeLemmas.{certified_alike, stands_in_alike}
 use Rattle.site.proofs.SinceLemmas.{ProceduresStay, NeverLost, since_same, since_added}
 
 -- what the laws of lower crates say
@@ -41,8 +39,9 @@ CommitsWhereNone = (w : Setting) (log : Log) (d : ℕ) (p : StoredProcedure) →
 abbrev pub TablesFit : Type 0
 TablesFit = (schema : Tables) (versions : Versions) (writes : Writes) → HaveTables schema versions.tables → AreWrites schema writes → FitTables versions writes
 
-abbrev pub TablesKept : Type 0
-TablesKept = (schema : Tables) (old new : List Table) → ((t : ℕ) → width_of new t ≡ width_of old t) → length new ≡ length old → HaveTables schema old → HaveTables schema new
+-- what a delivery to a replica says of what the replica stands for
+abbrev pub OneMoreIn : {A : Type 0} → Replica → LogEntry A → Replica → Type 0
+OneMoreIn old entry new = (w : Setting) (past : List Entry) → StandsIn w old past → IsForTables w.tables entry → StandsIn w new (past ++ entry_of entry ∷ [])
 
 there : {X : Type 0} (xs : List X) (x : X) → slice_get (xs ++ x ∷ []) (length xs) ≡ Some x
 there [] x = refl
@@ -56,7 +55,7 @@ module _ {A : Type 0} (s : SiteReplica) (entries : List Entry) (e : Entry) (entr
       let w = (setting_of s).setting in
       let past = certified_entries_of w.window w.catalogue entries in
       next w entries e f.stands.of_log (one w entries e f.stands.of_log f.placed f.fits f.carried)
-      ∙ ap Some (ap (λ c. c.verdict) (certified_alike w.window past e (entry_of entry) f.alike) ∙ sym (delivered.verdict w.catalogue entries f.stands.stands))
+      ∙ ap Some (ap (λ c. c.verdict) (certified_alike w.window past e (entry_of entry) f.alike) ∙ sym (delivered.verdict w.catalogue entries f.stands.stands.delivered))
 
 -- ---- procedures
 
@@ -121,10 +120,9 @@ abbrev setting_with : SiteReplica → ℕ → Setting
 setting_with s window = record { tables = s.catalogue.tables; catalogue = s.catalogue.procedures; window = window }
 
 module _ {A : Type 0} (s : SiteReplica) (entries : List Entry) (e : Entry) (entry : LogEntry A) where
-  pub delivered : OneMore → NextVerdict → ProceduresStay → NeverLost → CallsLeave → AdditionsAdd → CommitsWhereNone → TablesKept → (new : Replica) (v : Verdict) → Follows s entries e entry → HasDelivered s.replica new (entry_of entry) v → HasSameTables s.replica new
-      → ((tables : Tables) → AreForTables tables s.replica.procedures → IsForTables tables entry → AreForTables tables new.procedures)
-      → StandsForLog (site_after s new entry v) (entries ++ e ∷ [])
-  delivered one next stay never leave add where_none kept new v f is same for_tables =
+  pub delivered : OneMore → NextVerdict → ProceduresStay → NeverLost → CallsLeave → AdditionsAdd → CommitsWhereNone → (new : Replica) (v : Verdict) → Follows s entries e entry → HasDelivered s.replica new (entry_of entry) v → HasSameTables s.replica new
+      → OneMoreIn s.replica entry new → StandsForLog (site_after s new entry v) (entries ++ e ∷ [])
+  delivered one next stay never leave add where_none new v f is same more_in =
       let w = (setting_of s).setting in
       let log = items_of entries in
       let more = one w entries e f.stands.of_log f.placed f.fits f.carried in
@@ -133,14 +131,12 @@ module _ {A : Type 0} (s : SiteReplica) (entries : List Entry) (e : Entry) (entr
       let verdict = verdict_is s entries e entry one next new v f is in
       let here : verdict_of w (log ++ item_of e ∷ []) (suc (length log)) ≡ Some v =
       ap (λ (n : ℕ). verdict_of w (log ++ item_of e ∷ []) n) (let n : suc (length log) ≡ length entries + 1 = omega arith in n) ∙ ap (λ (l : Log). verdict_of w l (length entries + 1)) (sym items) ∙ verdict in
-      let position : new.position ≡ suc (length log) = let a = is.position in let b = f.stands.stands.position in omega arith in
+      let position : new.position ≡ suc (length log) = let a = is.position in let b = f.stands.stands.delivered.position in omega arith in
       let since = since_next w entries e v s.additions stay never leave add where_none more.log f.stands.of_log.log here items f.stands.since in
       record {
         running = is.running;
-        stands = stands_alike s.catalogue.procedures new entries e (entry_of entry) f.alike (is.stands s.catalogue.procedures entries f.stands.stands);
+        stands = subst (λ (n : ℕ). StandsIn (setting_with s n) new (entries ++ e ∷ [])) (sym same.window) (stands_in_alike w new entries e (entry_of entry) f.alike (more_in w entries f.stands.stands f.taken.for_tables));
         of_log = subst (λ (n : ℕ). AreFitEntries (setting_with s n) (entries ++ e ∷ [])) (sym same.window) more;
-        tables = kept s.catalogue.tables s.replica.versions.tables new.versions.tables same.widths same.count f.stands.tables;
-        for_tables = for_tables s.catalogue.tables f.stands.for_tables f.taken.for_tables;
         replies =
             ap (λ (xs : List ℕ). xs ++ reply_of (entry_of entry) ∷ []) f.stands.replies
             ∙ ap (λ n. map reply_of entries ++ n ∷ []) (sym (reply_alike e (entry_of entry) f.alike))
@@ -153,4 +149,4 @@ module _ {A : Type 0} (s : SiteReplica) (entries : List Entry) (e : Entry) (entr
       }
 
   pub fits : TablesFit → Follows s entries e entry → FitTables s.replica.versions (writes_in (entry_of entry))
-  fits fit f = fit s.catalogue.tables s.replica.versions (writes_in (entry_of entry)) f.stands.tables f.taken.writes
+  fits fit f = fit s.catalogue.tables s.replica.versions (writes_in (entry_of entry)) f.stands.stands.tables f.taken.writes

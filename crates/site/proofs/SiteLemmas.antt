@@ -8,7 +8,6 @@ use Rattle.std.specs.Prelude.{Result, Ok, Err, IfOk}
 use Rattle.schema.specs.Schema.{Tables, AreTables}
 use Rattle.schema.specs.Rows.{AreWrites, Key, key_cmp}
 use Rattle.log_model.specs.InstalledWrites.{map_after}
-use Rattle.rows_mv.specs.Versions.{HaveTables}
 use Rattle.bpf_code.specs.Program.{IsProgram}
 use Rattle.bpf_semantics.specs.Run.{Run}
 use Rattle.bpf_verify.specs.Flow.{Procedure, IsAccepted}
@@ -23,7 +22,7 @@ use Rattle.log_entry.specs.declared.entry.Entry.TheVariants.{Addition}
 use Rattle.log_entry.specs.Head.{Head, NamedProcedure, CallHead, AdditionHead, head_of}
 use Rattle.log_model.specs.Entries.{Entry, ExecutedCall, CallEntry, AdditionEntry, item_of, items_of, CarriesRun, CarryRuns, certified_entries_of, installed_from}
 use Rattle.log_entry.specs.Bytes.{entry_bytes}
-use Rattle.replica.specs.Replica.{StandsFor, rows_kept}
+use Rattle.replica.specs.Replica.{StandsFor, StandsIn, rows_kept}
 use Rattle.site_model.specs.Standing as model
 use Rattle.site_model.specs.declared.cause.NothingCause.TheVariants as cause
 use Rattle.site_model.specs.Standing.{SiteSetting, standing, standing_of_head, addition_standing, IsDecided, IsNothing, call_standing, executed, is_decided, is_true, run_standing, takes_arguments, writes_something}
@@ -42,7 +41,7 @@ ProceduresSuffice = (w : Setting) (entries : List Entry) → IsLog (items_of ent
 -- ---- repeated and stale calls
 
 pub log_long : (s : SiteReplica) (entries : List Entry) → StandsForLog s entries → length (items_of entries) ≡ s.replica.position
-log_long s entries stands = length-map entries item_of ∙ sym stands.stands.position
+log_long s entries stands = length-map entries item_of ∙ sym stands.stands.delivered.position
 
 behind : (a b : ℕ) → not (nat_le a b) ≡ nat_lt b a
 behind a b = elim (nat_lt b a) as (λ t. nat_lt b a ≡ t → not (nat_le a b) ≡ t) [ true ↦ λ e. grind (arith, nat_tests) | false ↦ λ e. grind (arith, nat_tests) ] refl
@@ -72,7 +71,7 @@ listed_stored tables (l ∷ held) number are = elim (nat_eq l.number number) as 
 
 pub held_procedures : (s : SiteReplica) (entries : List Entry) → ProceduresSuffice → StandsForLog s entries → stored_procedures s.replica.procedures ≡ procedures_after (setting_of s).setting (items_of entries) (length (items_of entries))
 held_procedures s entries law stands =
-    stands.stands.procedures
+    stands.stands.delivered.procedures
     ∙ law (setting_of s).setting entries stands.of_log.log stands.of_log.runs
     ∙ ap (λ n. procedures_after (setting_of s).setting (items_of entries) n) (sym (length-map entries item_of))
 
@@ -82,7 +81,7 @@ pub found_at : (s : SiteReplica) (entries : List Entry) (number position : ℕ) 
 found_at s entries number position found law stands reached from is =
     let long = log_long s entries stands in
     is
-    ∙ listed_stored s.catalogue.tables s.replica.procedures number stands.for_tables
+    ∙ listed_stored s.catalogue.tables s.replica.procedures number stands.stands.procedures
     ∙ ap (λ (ps : Catalogue). option_map (accepted_of s.catalogue.tables) (by_number ps number)) (held_procedures s entries law stands)
     ∙ ap (option_map (accepted_of s.catalogue.tables)) (sym (stands.since.from number position from (omega arith)))
 
@@ -163,7 +162,7 @@ found_one tables accepted (Some p) e = (p, refl, same accepted (accepted_of tabl
 pub can_run : (s : SiteReplica) (entries : List Entry) (accepted : Procedure) (call : Call) → StandsForLog s entries → Some accepted ≡ option_map (accepted_of s.catalogue.tables) (procedure_of (setting_of s).setting (items_of entries) call) → CanRun (setting_of s).setting entries s.replica accepted call
 can_run s entries accepted call stands is =
     let (p, known, program) = found_one s.catalogue.tables accepted (procedure_of (setting_of s).setting (items_of entries) call) is in
-    record { stands = stands.stands; window = refl; of_log = stands.of_log; procedure = p; known = known; program = program }
+    record { stands = stands.stands.delivered; window = refl; of_log = stands.of_log; procedure = p; known = known; program = program }
 
 -- ---- any bytes
 
@@ -214,13 +213,11 @@ first_since w = record {
   before = λ number position lt. absurd (omega arith);
 }
 
-pub stands_at_first : (s : SiteReplica) → s.replies ≡ [] → s.additions ≡ [] → s.replica.stopped ≡ false → StandsFor s.catalogue.procedures s.replica [] → HasSafeProcedures (setting_of s).setting → HaveTables s.catalogue.tables s.replica.versions.tables → AreForTables s.catalogue.tables s.replica.procedures → StandsForLog s []
-stands_at_first s replies additions running stands safe tables for_tables = record {
+pub stands_at_first : (s : SiteReplica) → s.replies ≡ [] → s.additions ≡ [] → s.replica.stopped ≡ false → StandsIn (setting_of s).setting s.replica [] → HasSafeProcedures (setting_of s).setting → StandsForLog s []
+stands_at_first s replies additions running stands safe = record {
   running = running;
   stands = stands;
   of_log = record { procedures = safe; log = tt; items = tt; runs = tt };
-  tables = tables;
-  for_tables = for_tables;
   replies = replies;
   since = subst (λ (xs : List (ℕ × ℕ)). KnowsSince (setting_of s).setting [] xs) (sym additions) (first_since (setting_of s).setting);
 }
@@ -237,6 +234,6 @@ rows_listed s items (Err e) law h = tt
 rows_listed s items (Ok list) law h = λ entries stands.
     let w = (setting_of s).setting in
     let are = stands.of_log in
-    h s.catalogue.procedures entries stands.stands
-    ∙ ap (λ (n : ℕ). map_entries (rows_kept w.window w.catalogue entries n)) stands.stands.position
+    h s.catalogue.procedures entries stands.stands.delivered
+    ∙ ap (λ (n : ℕ). map_entries (rows_kept w.window w.catalogue entries n)) stands.stands.delivered.position
     ∙ ap map_entries (law w entries (length entries) are (omega arith))

@@ -3,11 +3,9 @@ use Rattle.std.specs.Prelude.{◌≡◌, ℕ, ◌<◌, ◌≤◌, ◌==◌, find
 use Rattle.std.specs.Coded.{Coded, code_by, coded×, coded_ℕ, coded_bool, coded_list}
 use Rattle.catalogue.specs.Catalogue.{SystemCatalogue}
 use Rattle.catalogue.specs.Held.{catalogue_code}
-use Rattle.rows_mv.specs.Versions.{HaveTables}
-use Rattle.catalogue.specs.Stored.{AreForTables}
 use Rattle.log_model.specs.Log.{Setting, Log, by_number, procedures_after}
 use Rattle.log_model.specs.Entries.{Entry, items_of}
-use Rattle.replica.specs.Replica.{Replica, StandsFor}
+use Rattle.replica.specs.Replica.{Replica, StandsIn}
 use Rattle.replica.specs.Codes.{replica_code}
 use Rattle.site_model.specs.Fit.{AreFitEntries}
 use Rattle.site_model.specs.Standing.{SiteSetting}
@@ -54,10 +52,8 @@ reply_of e = reply_in (Some e)
 -- what it keeps is of the log of this order
 pub record StandsForLog (s : SiteReplica) (entries : List Entry) : Type 0 where
   pub running : s.replica.stopped ≡ false
-  pub stands : StandsFor s.catalogue.procedures s.replica entries
+  pub stands : StandsIn (setting_of s).setting s.replica entries
   pub of_log : AreFitEntries (setting_of s).setting entries
-  pub tables : HaveTables s.catalogue.tables s.replica.versions.tables
-  pub for_tables : AreForTables s.catalogue.tables s.replica.procedures
   pub replies : s.replies ≡ map reply_of entries
   pub since : KnowsSince (setting_of s).setting (items_of entries) s.additions
 

@@ -31,8 +31,8 @@ returns-clause-stands g c entries e f =
     } in
     let inner : Follows s entries e c.args.entry.now = subst (λ (x : SiteReplica). Follows x entries e c.args.entry.now) (sym c.self.view_is) f in
     let stands = delivered s entries e c.args.entry.now c.fit_entries_go_on.ensures.one_more c.fit_entries_go_on.ensures.next c.a_log_only_grows.ensures.procedures c.procedures_are_never_lost.ensures c.procedures_after_each_item.ensures.call
-    c.procedures_after_each_item.ensures.addition c.verdicts_on_additions_in_words_of_the_log.ensures.commit c.tables_take_the_schemas_writes.ensures.kept c.deliver.new.self c.in-Ok.verdict inner
-    c.in-Ok.ensures.delivered c.in-Ok.ensures.same_tables c.in-Ok.ensures.for_tables in
+    c.procedures_after_each_item.ensures.addition c.verdicts_on_additions_in_words_of_the_log.ensures.commit c.deliver.new.self c.in-Ok.verdict inner
+    c.in-Ok.ensures.delivered c.in-Ok.ensures.same_tables c.in-Ok.ensures.one_more in
     let replies : c.push.new.self.items ≡ c.self.inside.replies.items ++ reply_of (entry_of c.args.entry.now) ∷ [] = search rules in
     let additions : c.keep_addition.new.additions.items ≡ additions_after c.self.inside.additions.items (entry_of c.args.entry.now) c.in-Ok.verdict c.deliver.new.self.position = search rules in
     subst (λ (xs : List (ℕ × ℕ)). StandsForLog (record {
