@@ -5,7 +5,7 @@ use Rattle.std.specs.Prelude.{Result, Ok, Err, IfOk, OnOk}
 use Rattle.schema.specs.Schema.{Tables}
 use Rattle.schema.specs.Rows.{AreWrites, key_cmp}
 use Rattle.log_model.specs.declared.request.RequestId.{RequestId}
-use Rattle.log_model.specs.Log.{StoredProcedure, Call as OrderedCall, IsPlaced, None, verdict_of}
+use Rattle.log_model.specs.Log.{StoredProcedure, Call as OrderedCall, IsPlaced, verdict_of}
 use Rattle.log_model.specs.Fit.{IsSafe, FitsLog}
 use Rattle.log_model.specs.Entries.{Entry, ExecutedCall, CallEntry, AdditionEntry, item_of, items_of, IsCarried}
 use Rattle.log_entry.specs.declared.entry.Entry.{Entry as LogEntry}

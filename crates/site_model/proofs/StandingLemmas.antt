@@ -6,7 +6,7 @@ use Rattle.schema.specs.declared.limits.TheConstants.{MAX_ARGUMENTS}
 use Rattle.schema.specs.Rows.{Rows}
 use Rattle.bpf_semantics.specs.Run.{Run}
 use Rattle.log_model.specs.declared.request.RequestId.{RequestId}
-use Rattle.log_model.specs.Log.{StoredProcedure, Catalogue, Setting, Call, Log, IsPlaced, by_number, idle, None, or_idle, run_of_procedure, procedure_of, procedures_after, rows_after, run_in, run_of_call}
+use Rattle.log_model.specs.Log.{StoredProcedure, Catalogue, Setting, Call, Log, IsPlaced, by_number, idle, or_idle, run_of_procedure, procedure_of, procedures_after, rows_after, run_in, run_of_call}
 use Rattle.log_model.specs.Fit.{AreArguments, FitsProcedures, IsSafe, FitsLog}
 use Rattle.log_model.specs.Entries.{CallEntry, AdditionEntry, item_of, IsCarried}
 use Rattle.log_model.specs.Name.{is_name}

@@ -1,11 +1,11 @@
 -- The log of an order of byte strings, and what a site says of each of them (this product's own rules).
-use Rattle.std.specs.Prelude.{ℕ, zero, suc, ◌+◌, ◌-◌, nat_le, not, if◌then◌else◌, List, [], ◌∷◌, ◌++◌, length, slice_get, Option, Some}
+use Rattle.std.specs.Prelude.{ℕ, zero, suc, ◌+◌, ◌-◌, nat_le, not, if◌then◌else◌, List, [], ◌∷◌, ◌++◌, length, slice_get, Option, Some, None}
 use Rattle.std.specs.List.{fold}
 use Rattle.std.specs.FinMap.{empty}
 use Rattle.log_model.specs.declared.request.RequestId.{RequestId}
 use Rattle.log_model.specs.declared.verdict.Verdict.{Verdict}
 use Rattle.log_model.specs.declared.verdict.Verdict.TheVariants as verdict
-use Rattle.log_model.specs.Log.{Catalogue, Setting, Call, Log, procedures_after, verdict_of, None}
+use Rattle.log_model.specs.Log.{Catalogue, Setting, Call, Log, procedures_after, verdict_of}
 use Rattle.log_model.specs.Entries.{Entry, CallEntry, AdditionEntry, items_of}
 use Rattle.log_entry.specs.Head.{Head, CallHead}
 use Rattle.site_model.specs.declared.outcome.EntryOutcome.{EntryOutcome}
