@@ -3,7 +3,7 @@ use Rattle.std.proofs.Common.{◌≡◌, ◌≢◌, ◌⊎◌, get_or, ℕ, zero
 use Rattle.std.specs.FinMap.{len}
 use Rattle.schema.specs.Rows.{Rows, AreWrites}
 use Rattle.log_model.specs.InstalledWrites.{map_after}
-use Rattle.replica.specs.Replica.{Replica, StandsFor, IsForTables, IsNamed, entries_of, rows_kept, writes_in}
+use Rattle.replica.specs.Replica.{Replica, StandsFor, FollowsLog, IsForTables, IsNamed, entries_of, rows_kept, writes_in}
 use Rattle.bpf_vm.specs.declared.turn.Turn.{Turn as TurnAnswer}
 use Rattle.bpf_vm.specs.declared.turn.Turn.TheVariants as answer
 use Rattle.dsm_model.specs.declared.outcome.StepRefusal.TheVariants.{NoReplica, NoProcedure, ArgumentsLength, NoCall, NotAtExit, NothingToDeliver, ReplicaStopped, LogFull, TooManyCalls, ArgumentsLimit, ProgramRefused, NameShape, ZeroInRequest}
@@ -133,7 +133,7 @@ open_facts s slots n k c h place at =
       reached = omega arith;
       follows = h.open_calls k c at;
       is_open = is_open;
-      gone = ap (λ (x : Option model.Replica). nat_lt s.window (position_of x - c.snapshot)) known.stands ∙ ap (λ p. nat_lt s.window (p - c.snapshot)) (sym position) ∙ ap (λ w. nat_lt w (r.position - c.snapshot)) (sym is.same_window);
+      gone = ap (λ (x : Option model.Replica). nat_lt s.window (position_of x - c.snapshot)) known.stands ∙ ap (λ p. nat_lt s.window (p - c.snapshot)) (sym position) ∙ ap (λ w. nat_lt w (r.position - c.snapshot)) (sym is.stands.window);
     }
 
 -- the rows that its replica keeps of its snapshot
@@ -146,7 +146,7 @@ rows_held s slots r position law h is reached within =
     let are = entries_taken w s.entries r.position h.entries in
     let count = take_count s.entries r.position reached in
     let calls = items_count past in
-    ap (λ window. rows_kept window s.catalogue.procedures past position) is.same_window
+    ap (λ window. rows_kept window s.catalogue.procedures past position) is.stands.window
     ∙ law w past position are.procedures are.log are.items are.runs (omega arith)
     ∙ sym (ap (λ (log : Log). rows_after w log position) (ap items_of (sym (take_drop s.entries r.position)) ∙ items_append past more) ∙ rows_grown w (items_of past) (items_of more) position (omega arith))
 
@@ -235,12 +235,7 @@ replica_grown s slots j r e h at =
     let is = h.replicas j r at in
     let far = h.world.positions (j + 1) (progress_of r) (numbered_at (map progress_of s.replicas) (j + 1) j refl ∙ get_map progress_of s.replicas j ∙ ap (option_map progress_of) at) in
     let count = log_count s in
-    record {
-      stands = subst (StandsFor s.catalogue.procedures r) (sym (take_first s.entries (e ∷ []) r.position (omega arith))) is.stands;
-      same_window = is.same_window;
-      have = is.have;
-      for_tables = is.for_tables;
-    }
+    subst (FollowsLog (setting_of s) r) (sym (take_first s.entries (e ∷ []) r.position (omega arith))) is
 
 pub entry_entered : {A : Type 0} (s : SystemWorld) (slots : List (Option (OpenCallState A))) (n k : ℕ) (c : OpenCallState A) (e : ExecutedCall) → OneMore → IsTogether s slots → n ≡ k + 1 → (f : OpenFacts s n c) → IsToAppend s c e
     → IsWorld (setting_of s) (world_of (with_entry (with_slots s (slice_set slots k None)) (CallEntry e))) → IsTogether (with_entry (with_slots s (slice_set slots k None)) (CallEntry e)) (slice_set slots k None)
@@ -334,7 +329,7 @@ can_go_on s slots n c f accepted answers_from law follow h e answers =
     record {
       follows = f.follows;
       program = p.2 ∙ ap (accepted_of s.catalogue.tables) (some_is p.0 f.follows.is_call.procedure (sym p.1 ∙ procedure_there s n c f h));
-      answers = subst answers_from (rows_held s slots f.r c.snapshot law h f.is f.reached f.begun) (answers s.catalogue.procedures (take f.r.position s.entries) f.is.stands);
+      answers = subst answers_from (rows_held s slots f.r c.snapshot law h f.is f.reached f.begun) (answers s.catalogue.procedures (take f.r.position s.entries) f.is.stands.delivered);
     }
 
 pub set_count : {X : Type 0} (xs : List X) (k : ℕ) (x : X) → length (slice_set xs k x) ≡ length xs

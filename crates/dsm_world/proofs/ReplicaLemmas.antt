@@ -1,15 +1,13 @@
 -- Steps of a replica: what they answer by the definitions, and that all still fits together.
 use Rattle.std.proofs.Common.{◌≡◌, ◌⊎◌, get_or, nat_lt, ℕ, zero, suc, ◌+◌, ◌<◌, ◌≤◌, true, false, List, [], ◌∷◌, ◌++◌, length, map, take, drop, slice_get, slice_set, Option, Some, None, IsSome, option_map, refl, sym, ap, subst, ◌∙◌, arith, inl, inr}
 use Rattle.std.proofs.lemmas.Bool.Decides.{nat_tests}
-use Rattle.schema.specs.Schema.{Tables}
 use Rattle.schema.specs.Rows.{AreWrites}
-use Rattle.key_table.specs.Table.{Table}
-use Rattle.rows_mv.specs.Versions.{HaveTables, width_of}
+use Rattle.rows_mv.specs.Versions.{HaveTables}
 use Rattle.catalogue.specs.Stored.{ListedProcedure, AreForTables, listed_by_number, stored_procedures}
 use Rattle.std.specs.List.{AllByRecursion}
 use Rattle.log_entry.specs.declared.entry.Entry.{Entry as LogEntry}
 use Rattle.log_entry.specs.Kind.{entry_of}
-use Rattle.replica.specs.Replica.{Replica, StandsFor, AreEntriesOf, IsNamed, entries_of, writes_in, HasSameTables, HasDelivered, HasStopped}
+use Rattle.replica.specs.Replica.{Replica, StandsFor, StandsIn, AreEntriesOf, FollowsLog, IsNamed, entries_of, writes_in, HasDelivered, HasStopped}
 use Rattle.log_model.specs.declared.verdict.Verdict.{Verdict}
 use Rattle.dsm_model.specs.declared.outcome.StepRefusal.TheVariants.{NothingToDeliver, ReplicaStopped, NoMemory}
 use Rattle.dsm_model.specs.declared.outcome.Outcome.{Outcome}
@@ -42,9 +40,6 @@ HaveVerdicts = (w : Setting) (log : Log) (d : ℕ) → d < length log → IsSome
 
 abbrev pub NoneBeyond : Type 0
 NoneBeyond = (w : Setting) (log : Log) (d : ℕ) → length log ≤ d → verdict_of w log (suc d) ≡ None
-
-abbrev pub TablesKept : Type 0
-TablesKept = (schema : Tables) (old new : List Table) → ((t : ℕ) → width_of new t ≡ width_of old t) → length new ≡ length old → HaveTables schema old → HaveTables schema new
 
 -- ---- one replica among the others
 
@@ -115,7 +110,7 @@ verdict_is s slots k old new e v verdicts h at next d =
     let first = take_next s.entries p e next in
     let is = h.replicas k old at in
     let are = subst (λ (xs : List Entry). AreEntriesOf w xs) (sym first) (entries_taken w s.entries (suc p) h.entries) in
-    let there = d.log_verdict w (take p s.entries) (sym is.same_window) is.stands are in
+    let there = d.log_verdict w (take p s.entries) (sym is.stands.window) is.stands.delivered are in
     let at_next : new.position ≡ suc p = (let position = d.position in omega arith) in
     let count : length (items_of (take (suc p) s.entries)) ≡ suc p = items_count (take (suc p) s.entries) ∙ take_count s.entries (suc p) (omega arith) in
     let log : (world_of s).log ≡ items_of (take (suc p) s.entries) ++ items_of (drop (suc p) s.entries) =
@@ -131,21 +126,18 @@ delivered s slots r k old new e v verdicts h is at next going d =
     subst (λ (x : World). IsStep (setting_of s) (world_of s) (Deliver r) (Delivered (old.position + 1) v) x) (world_with s r k new _ is progress)
     (deliver_new (setting_of s) (world_of s) r (progress_of old) v (replica_at s r k old is at) (verdict_is s slots k old new e v verdicts h at next d) going)
 
-same_tables : (tables : Tables) (old new : Replica) → TablesKept → HasSameTables old new → HaveTables tables old.versions.tables → HaveTables tables new.versions.tables
-same_tables tables old new kept same have = kept tables old.versions.tables new.versions.tables same.widths same.count have
+-- a replica that has delivered so many of the entries
+has_delivered : {A : Type 0} (s : SystemWorld) (slots : List (Option (OpenCallState A))) (r : Replica) (past : List Entry) → IsTogether s slots → past ≡ take r.position s.entries → StandsIn (setting_of s) r past → IsReplicaOf s.catalogue s.window s.entries r
+has_delivered s slots r past h is stands = record {
+  of_log = entries_taken (setting_of s) s.entries r.position h.entries;
+  stands = subst (StandsIn (setting_of s) r) is stands;
+}
 
-pub delivered_replica : {A : Type 0} (s : SystemWorld) (slots : List (Option (OpenCallState A))) (k : ℕ) (old new : Replica) (e : Entry) (v : Verdict) → TablesKept → IsTogether s slots → slice_get s.replicas k ≡ Some old → slice_get s.entries old.position ≡ Some e → HasDelivered old new e v
-    → HasSameTables old new → (AreForTables s.catalogue.tables old.procedures → AreForTables s.catalogue.tables new.procedures)
-    → IsReplicaOf s.catalogue s.window s.entries new
-delivered_replica s slots k old new e v kept h at next d same for_tables =
-    let is = h.replicas k old at in
+pub delivered_replica : {A : Type 0} (s : SystemWorld) (slots : List (Option (OpenCallState A))) (k : ℕ) (old new : Replica) (e : Entry) (v : Verdict) → IsTogether s slots → slice_get s.replicas k ≡ Some old → slice_get s.entries old.position ≡ Some e → HasDelivered old new e v
+    → ((past : List Entry) → StandsIn (setting_of s) old past → StandsIn (setting_of s) new (past ++ e ∷ [])) → IsReplicaOf s.catalogue s.window s.entries new
+delivered_replica s slots k old new e v h at next d one_more =
     let position : suc old.position ≡ new.position = (let p = d.position in omega arith) in
-    record {
-      stands = subst (StandsFor s.catalogue.procedures new) (take_next s.entries old.position e next ∙ ap (λ n. take n s.entries) position) (d.stands s.catalogue.procedures (take old.position s.entries) is.stands);
-      same_window = same.window ∙ is.same_window;
-      have = same_tables s.catalogue.tables old new kept same is.have;
-      for_tables = for_tables is.for_tables;
-    }
+    has_delivered s slots new (take old.position s.entries ++ e ∷ []) h (take_next s.entries old.position e next ∙ ap (λ n. take n s.entries) position) (one_more (take old.position s.entries) (h.replicas k old at).stands)
 
 pub stops : {A : Type 0} (s : SystemWorld) (slots : List (Option (OpenCallState A))) (r k : ℕ) (old new : Replica) (e : Entry) → HaveVerdicts → IsTogether s slots → r ≡ k + 1 → slice_get s.replicas k ≡ Some old → slice_get s.entries old.position ≡ Some e → old.stopped ≡ false → HasStopped old new
     → IsStep (setting_of s) (world_of s) (Deliver r) (Refused NoMemory) (world_of (with_one s k new))
@@ -155,15 +147,10 @@ stops s slots r k old new e have h is at next going d =
     subst (λ (x : World). IsStep (setting_of s) (world_of s) (Deliver r) (Refused NoMemory) x) (world_with s r k new _ is progress)
     (deliver_without_memory (setting_of s) (world_of s) r (progress_of old) v.0 (replica_at s r k old is at) v.1 going)
 
-pub stopped_replica : {A : Type 0} (s : SystemWorld) (slots : List (Option (OpenCallState A))) (k : ℕ) (old new : Replica) → TablesKept → IsTogether s slots → slice_get s.replicas k ≡ Some old → HasStopped old new → HasSameTables old new → IsReplicaOf s.catalogue s.window s.entries new
-stopped_replica s slots k old new kept h at d same =
-    let is = h.replicas k old at in
-    record {
-      stands = subst (StandsFor s.catalogue.procedures new) (ap (λ n. take n s.entries) (sym d.position)) (d.stands s.catalogue.procedures (take old.position s.entries) is.stands);
-      same_window = same.window ∙ is.same_window;
-      have = same_tables s.catalogue.tables old new kept same is.have;
-      for_tables = subst (AreForTables s.catalogue.tables) (sym d.procedures) is.for_tables;
-    }
+pub stopped_replica : {A : Type 0} (s : SystemWorld) (slots : List (Option (OpenCallState A))) (k : ℕ) (old new : Replica) → IsTogether s slots → slice_get s.replicas k ≡ Some old → HasStopped old new
+    → ((past : List Entry) → StandsIn (setting_of s) old past → StandsIn (setting_of s) new past) → IsReplicaOf s.catalogue s.window s.entries new
+stopped_replica s slots k old new h at d no_more =
+    has_delivered s slots new (take old.position s.entries) h (ap (λ n. take n s.entries) (sym d.position)) (no_more (take old.position s.entries) (h.replicas k old at).stands)
 
 -- what may be delivered next
 pub next_entry_fits : {A : Type 0} (s : SystemWorld) (slots : List (Option (OpenCallState A))) (k : ℕ) (old : Replica) (e : Entry) → IsTogether s slots → slice_get s.replicas k ≡ Some old → slice_get s.entries old.position ≡ Some e
@@ -175,7 +162,7 @@ next_entry_fits s slots k old e h at next =
     let calls = h.world.calls_limit in (
       subst (λ (n : ℕ). IsPlaced n (item_of e)) (let same : 0 + old.position ≡ old.position = omega arith in same) (placed_at 0 s.entries old.position e h.entries.log next),
       all_at (λ x. AreWrites s.catalogue.tables (writes_in x)) s.entries old.position e h.writes next,
-      (h.replicas k old at).have,
+      (h.replicas k old at).stands.tables,
       omega arith,
       all_at IsNamed s.entries old.position e h.named next,
     )
@@ -194,12 +181,9 @@ rebuilt s r k old new is at stands going =
 
 pub rebuilt_replica : {A : Type 0} (s : SystemWorld) (slots : List (Option (OpenCallState A))) (k : ℕ) (old new : Replica) → IsTogether s slots → slice_get s.replicas k ≡ Some old → StandsFor s.catalogue.procedures new s.entries → new.window ≡ old.window → HaveTables s.catalogue.tables new.versions.tables → AreForTables s.catalogue.tables new.procedures
     → IsReplicaOf s.catalogue s.window s.entries new
-rebuilt_replica s slots k old new h at stands window have for_tables = record {
-  stands = subst (StandsFor s.catalogue.procedures new) (sym (take_all s.entries new.position (let p = stands.position in omega arith))) stands;
-  same_window = window ∙ (h.replicas k old at).same_window;
-  have = have;
-  for_tables = for_tables;
-}
+rebuilt_replica s slots k old new h at stands window have for_tables =
+    has_delivered s slots new s.entries h (sym (take_all s.entries new.position (let p = stands.position in omega arith)))
+    (record { delivered = stands; window = window ∙ (h.replicas k old at).stands.window; tables = have; procedures = for_tables })
 
 pub entries_are_few : {A : Type 0} (s : SystemWorld) (slots : List (Option (OpenCallState A))) → IsTogether s slots → length s.entries ≤ max_calls
 entries_are_few s slots h = let count = log_count s in let log = h.world.log_limit in let calls = h.world.calls_limit in omega arith
@@ -241,8 +225,7 @@ known f (Some x) y e = (x, refl, cc)
 
 -- what the law of replicas says of procedures
 abbrev pub ProceduresFollow : Type 0
-ProceduresFollow = (w : Setting) (r : Replica) (entries : List Entry) → w.window ≡ r.window → StandsFor w.catalogue r entries → AreEntriesOf w entries
-    → stored_procedures r.procedures ≡ procedures_after w (items_of entries) r.position
+ProceduresFollow = (w : Setting) (r : Replica) (entries : List Entry) → FollowsLog w r entries → stored_procedures r.procedures ≡ procedures_after w (items_of entries) r.position
 
 -- a replica's procedures are those of the log at its position
 pub procedures_held : {A : Type 0} (s : SystemWorld) (slots : List (Option (OpenCallState A))) (k : ℕ) (r : Replica) → ProceduresFollow → IsTogether s slots → slice_get s.replicas k ≡ Some r
@@ -256,14 +239,14 @@ procedures_held s slots k r law h at =
     let count = take_count s.entries r.position reached in
     let items = items_count past in
     let log = ap items_of (sym (take_drop s.entries r.position)) ∙ items_append past more in
-    law w r past (sym is.same_window) is.stands (entries_taken w s.entries r.position h.entries)
+    law w r past is
     ∙ sym (ap (λ (l : Log). procedures_after w l r.position) log ∙ procedures_grown w (items_of past) (items_of more) r.position (omega arith))
 
 -- what is found among them under a number
 pub found_at : {A : Type 0} (s : SystemWorld) (slots : List (Option (OpenCallState A))) (k number : ℕ) (r : Replica) → ProceduresFollow → IsTogether s slots → slice_get s.replicas k ≡ Some r
     → option_map (λ l. l.accepted) (listed_by_number r.procedures number) ≡ option_map (accepted_of s.catalogue.tables) (by_number (procedures_after (setting_of s) (world_of s).log r.position) number)
 found_at s slots k number r law h at =
-    numbered_for s.catalogue.tables number r.procedures (h.replicas k r at).for_tables
+    numbered_for s.catalogue.tables number r.procedures (h.replicas k r at).stands.procedures
     ∙ ap (λ (ps : Catalogue). option_map (accepted_of s.catalogue.tables) (by_number ps number)) (procedures_held s slots k r law h at)
 
 pub in_procedures : (number : ℕ) (a b : List ListedProcedure) → a ≡ b → option_map (λ l. l.accepted) (listed_by_number a number) ≡ option_map (λ l. l.accepted) (listed_by_number b number)

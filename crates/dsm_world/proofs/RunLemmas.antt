@@ -1,10 +1,9 @@
 -- Steps, one after another.
 use Rattle.std.proofs.Common.{◌≡◌, ◌≤◌, ◌+◌, ◌-◌, ℕ, zero, suc, false, List, [], ◌∷◌, ◌++◌, length, replicate, map, take, drop, slice_get, Some, Option, refl, sym, ap, subst, ◌∙◌, arith, inl, inr}
 use Rattle.std.proofs.lemmas.List.{length-append}
-use Rattle.rows_mv.specs.Versions.{AnswersFrom, HaveTables}
-use Rattle.catalogue.specs.Stored.{AreForTables}
+use Rattle.rows_mv.specs.Versions.{AnswersFrom}
 use Rattle.log_model.proofs.GrowthLemmas.{rows_grown}
-use Rattle.replica.specs.Replica.{Replica, StandsFor, AreEntriesOf}
+use Rattle.replica.specs.Replica.{Replica, StandsFor, StandsIn, FollowsLog}
 use Rattle.dsm_model.specs.declared.outcome.Outcome.{Outcome}
 use Rattle.log_model.specs.Log.{Catalogue, Setting, Log, rows_after}
 use Rattle.log_model.specs.Entries.{Entry, items_of}
@@ -17,7 +16,7 @@ use Rattle.dsm_world.specs.declared.step.Step.{Step as GivenStep}
 use Rattle.dsm_world.specs.System.{SystemWorld, setting_of, world_of, step_of, progress_of, KeepsDelivered}
 use Rattle.dsm_world.specs.Holdings.{IsReplicaOf, IsTogether}
 use Rattle.dsm_world.proofs.Numbered.{get_snoc}
-use Rattle.replica.proofs.EntryLemmas.{take_drop, take_count, items_append, items_count, entries_taken}
+use Rattle.replica.proofs.EntryLemmas.{take_drop, take_count, items_append, items_count}
 use Rattle.dsm_world.proofs.CallLemmas.{append_map}
 use Rattle.dsm_world.proofs.ReplicaLemmas.{has_reached, ProceduresFollow, procedures_held}
 
@@ -34,7 +33,7 @@ no_steps w world = refl
 
 -- what the law of replicas says of rows
 abbrev pub RowsFollow : Type 0
-RowsFollow = (w : Setting) (r : Replica) (entries : List Entry) (s : ℕ) → w.window ≡ r.window → StandsFor w.catalogue r entries → AreEntriesOf w entries → s ≤ r.position → r.position - s ≤ r.window
+RowsFollow = (w : Setting) (r : Replica) (entries : List Entry) (s : ℕ) → FollowsLog w r entries → s ≤ r.position → r.position - s ≤ r.window
     → AnswersFrom r.versions.tables s (rows_after w (items_of entries) s)
 
 pub keeps_delivered : {A : Type 0} (s : SystemWorld) (slots : List (Option (OpenCallState A))) (n : ℕ) (r : Replica) → RowsFollow → ProceduresFollow → IsTogether s slots → numbered s.replicas n ≡ Some r → KeepsDelivered s r
@@ -49,17 +48,17 @@ keeps_delivered s slots n r law procedures h e = go n e
         let past = take r.position s.entries in
         let more = drop r.position s.entries in
         record {
-          delivered = is.stands;
-          window = is.same_window;
+          delivered = is.stands.delivered;
+          window = is.stands.window;
           entries = h.entries;
           rows = λ position within near.
-              let window = is.same_window in
+              let window = is.stands.window in
               let count = take_count s.entries r.position reached in
               let calls = items_count past in
               let log = ap items_of (sym (take_drop s.entries r.position)) ∙ items_append past more in
               subst (AnswersFrom r.versions.tables position)
               (sym (ap (λ (l : Log). rows_after w l position) log ∙ rows_grown w (items_of past) (items_of more) position (omega arith)))
-              (law w r past position (sym window) is.stands (entries_taken w s.entries r.position h.entries) within (omega arith));
+              (law w r past position is within (omega arith));
           procedures = procedures_held s slots k r procedures h e;
         }
 
@@ -94,13 +93,11 @@ one_more_answer w steps n item outcomes more outcome taken answered count =
 abbrev the_empty : List Entry
 the_empty = []
 
-pub first_replica : (catalogue : SystemCatalogue) (window : ℕ) (r : Replica) → StandsFor catalogue.procedures r [] → r.window ≡ window → HaveTables catalogue.tables r.versions.tables → AreForTables catalogue.tables r.procedures → IsReplicaOf catalogue window [] r
-first_replica catalogue window r stands same have for_tables = record {
-  stands = subst (StandsFor catalogue.procedures r) (nothing r.position) stands;
-  same_window = same;
-  have = have;
-  for_tables = for_tables;
-}
+pub first_replica : (catalogue : SystemCatalogue) (window : ℕ) (r : Replica) → HasSafeProcedures (record { tables = catalogue.tables; catalogue = catalogue.procedures; window = window })
+    → StandsIn (record { tables = catalogue.tables; catalogue = catalogue.procedures; window = window }) r [] → IsReplicaOf catalogue window [] r
+first_replica catalogue window r safe stands =
+    subst (FollowsLog (record { tables = catalogue.tables; catalogue = catalogue.procedures; window = window }) r) (nothing r.position)
+    (record { of_log = record { procedures = safe; log = tt; items = tt; runs = tt }; stands = stands })
   where
     nothing : (n : ℕ) → the_empty ≡ take n the_empty
     nothing zero = refl

@@ -2,10 +2,8 @@
 use Rattle.std.specs.Prelude.{◌≡◌, ℕ, List, map, take, slice_get, Option, Some, option_map}
 use Rattle.std.specs.List.{AllByRecursion}
 use Rattle.schema.specs.Rows.{AreWrites}
-use Rattle.rows_mv.specs.Versions.{HaveTables}
-use Rattle.catalogue.specs.Stored.{AreForTables}
 use Rattle.catalogue.specs.Catalogue.{SystemCatalogue}
-use Rattle.replica.specs.Replica.{Replica, StandsFor, AreEntriesOf, IsForTables, IsNamed, entries_of, writes_in}
+use Rattle.replica.specs.Replica.{Replica, AreEntriesOf, FollowsLog, IsForTables, IsNamed, entries_of, writes_in}
 use Rattle.log_model.specs.Entries.{Entry, items_of}
 use Rattle.dsm_model.specs.World.{addition_count}
 use Rattle.log_model.specs.OpenCall.{OpenCall}
@@ -15,12 +13,10 @@ use Rattle.world_calls.specs.declared.open_call.OpenCall.{OpenCall as OpenCallSt
 use Rattle.dsm_world.specs.declared.holdings.Holdings.{Holdings}
 use Rattle.dsm_world.specs.System.{SystemWorld, setting_of, world_of}
 
--- a replica of this catalogue has delivered a beginning of the entries
-pub record IsReplicaOf (catalogue : SystemCatalogue) (window : ℕ) (entries : List Entry) (r : Replica) : Type 0 where
-  pub stands : StandsFor catalogue.procedures r (take r.position entries)
-  pub same_window : r.window ≡ window
-  pub have : HaveTables catalogue.tables r.versions.tables
-  pub for_tables : AreForTables catalogue.tables r.procedures
+-- a replica of this catalogue has delivered a beginning of the entries, and follows the log of that beginning
+abbrev pub IsReplicaOf : SystemCatalogue → ℕ → List Entry → Replica → Type 0
+IsReplicaOf catalogue window entries r =
+    FollowsLog (record { tables = catalogue.tables; catalogue = catalogue.procedures; window = window }) r (take r.position entries)
 
 abbrev pub open_calls_of : {A : Type 0} → List (Option (OpenCallState A)) → List (Option OpenCall)
 open_calls_of slots = map (λ slot. option_map open_call_of slot) slots

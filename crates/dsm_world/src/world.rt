@@ -83,6 +83,7 @@ fn replicas_of<A: Allocator + Copy>(
     ensures running { IfOk result (λ v. (k : ℕ) (r : ReplicaState) → slice_get v.items k ≡ Some r
         → progress_of r ≡ record { position = 0; stopped = false }) }
 {
+    catalogues_are_safe(catalogue);
     let mut replicas = Vec::new(alloc);
     for _ in 0..count {
         replicas.push(Replica::new(alloc, window, catalogue)?)?;

@@ -4,7 +4,6 @@ use Rattle.log_entry.specs.Kind.{entry_of}
 use Rattle.std.proofs.lemmas.List.{length-map}
 use Rattle.replica.proofs.EntryLemmas.{all_at}
 use Rattle.dsm_model.specs.World.{Deliver, IsStep}
-use Rattle.catalogue.specs.Stored.{AreForTables}
 use Rattle.replica.specs.Replica.{Replica, IsForTables, writes_in}
 use Rattle.dsm_world.specs.System.{setting_of, world_of}
 use Rattle.dsm_world.specs.Holdings.{system_of, call_slots}
@@ -131,10 +130,10 @@ returns-in-Ok-clause-consistent g c =
     let lookup = c.in-Some-get.ensures.lookup in
     let x = next_of c.args.world.now c.in-Some.at c.position-position.result c.index-replica.result.now old c.deref.result.now e (omega arith) c.index-replica.ensures c.index_mut.ensures.value c.deref.ensures.value c.position-position.ensures lookup.3.0 lookup.1 in
     let new = c.deliver.new.self in
-    let for_tables : AreForTables s.catalogue.tables old.procedures → AreForTables s.catalogue.tables new.procedures = λ before. c.deliver.ensures.for_tables s.catalogue.tables before (all_at (λ y. IsForTables s.catalogue.tables y) c.args.world.now.entries.items old.position e c.requires.for_tables x.logged) in
+    let own = all_at (λ y. IsForTables s.catalogue.tables y) c.args.world.now.entries.items old.position e c.requires.for_tables x.logged in
     record {
       together = one_changed s (call_slots c.args.world.now) c.in-Some.at new c.requires.together
-          (delivered_replica s (call_slots c.args.world.now) c.in-Some.at old new (entry_of e) c.in-Ok.verdict c.tables_take_the_schemas_writes.ensures.kept c.requires.together x.at x.next c.in-Ok.ensures.delivered c.deliver.ensures.same_tables for_tables)
+          (delivered_replica s (call_slots c.args.world.now) c.in-Some.at old new (entry_of e) c.in-Ok.verdict c.requires.together x.at x.next c.in-Ok.ensures.delivered (λ past is. c.in-Ok.ensures.one_more (setting_of s) past is own))
           (c.steps_keep_a_world.ensures.step (setting_of s) (world_of s) (Deliver c.args.replica) _ (world_of (with_one s c.in-Some.at new)) tt (returns-in-Ok-clause-step g c) c.requires.together.world);
       for_tables = c.requires.for_tables;
       additions = c.requires.additions;
@@ -166,7 +165,7 @@ returns-in-Err-clause-consistent g c =
     let new = c.deliver.new.self in
     record {
       together = one_changed s (call_slots c.args.world.now) c.in-Some.at new c.requires.together
-          (stopped_replica s (call_slots c.args.world.now) c.in-Some.at old new c.tables_take_the_schemas_writes.ensures.kept c.requires.together x.at c.in-Err.ensures.stopped c.deliver.ensures.same_tables)
+          (stopped_replica s (call_slots c.args.world.now) c.in-Some.at old new c.requires.together x.at c.in-Err.ensures.stopped (c.in-Err.ensures.no_more (setting_of s)))
           (c.steps_keep_a_world.ensures.step (setting_of s) (world_of s) (Deliver c.args.replica) _ (world_of (with_one s c.in-Some.at new)) tt (returns-in-Err-clause-step g c) c.requires.together.world);
       for_tables = c.requires.for_tables;
       additions = c.requires.additions;

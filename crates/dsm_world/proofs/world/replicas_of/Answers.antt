@@ -23,6 +23,7 @@ loop-preserved g c =
     record {
       counted = (let count = ap (λ (xs : List Replica). length xs) more ∙ length-append c.loop.replicas.items (new ∷ []) in let before = c.loop.invariant.counted in omega arith);
       each = one_more_replica (λ r. IsReplicaOf c.args.catalogue.now c.args.window [] r) c.loop.replicas.items c.push.new.self.items new more
-          (first_replica c.args.catalogue.now c.args.window new stands c.in_ok-new.ensures.window c.in_ok-new.ensures.tables c.in_ok-new.ensures.for_tables) c.loop.invariant.each;
+          (first_replica c.args.catalogue.now c.args.window new (c.catalogues_are_safe.ensures c.args.window)
+          (record { delivered = stands; window = c.in_ok-new.ensures.window; tables = c.in_ok-new.ensures.tables; procedures = c.in_ok-new.ensures.for_tables })) c.loop.invariant.each;
       fresh = one_more_replica (λ r. progress_of r ≡ record { position = 0; stopped = false }) c.loop.replicas.items c.push.new.self.items new more (first_progress c.args.catalogue.now.procedures new stands c.in_ok-new.ensures.running) c.loop.invariant.fresh;
     }
