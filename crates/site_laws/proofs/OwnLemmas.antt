@@ -170,8 +170,8 @@ added_by s p program bytes = by_tests (is_name p.name) refl s.takes_additions re
     by_tests : (a : Bool) → is_name p.name ≡ a → (b : Bool) → s.takes_additions ≡ b
         → cond (not a) (addition.Refused refusal.Name) (cond (not b) (addition.Refused refusal.NoAdditions) (addition.Submitted own)) ≡ addition.Submitted bytes → AddedAs s p program bytes
     by_tests false ea b eb e = absurd cc
-    by_tests true ea true eb e = absurd cc
-    by_tests true ea false eb e = record { named = ea; takes = eb; are = same_added own bytes e }
+    by_tests true ea false eb e = absurd cc
+    by_tests true ea true eb e = record { named = ea; takes = eb; are = same_added own bytes e }
 
 added_is_something : (number : ℕ) (why : NothingCause) → outcome.Added number ≡ outcome.Nothing why → ⊥
 added_is_something number why e = absurd cc

@@ -22,3 +22,7 @@ pub returns-clause-reports : goal.returns-clause-reports
 returns-clause-reports g c = report_of_history c.args.setting.now c.args.log.now c.loop-item.reports.items c.loop-item.rows.items
     (whole_log c.args.setting.now c.args.log.now c.loop-item.item-index c.loop-item.reports.items c.loop-item.rows.items (omega arith) c.loop-item.invariant)
     c.verdicts_in_words_of_the_log.ensures.repeated
+
+pub returns-clause-count : goal.returns-clause-count
+returns-clause-count g c =
+    (whole_log c.args.setting.now c.args.log.now c.loop-item.item-index c.loop-item.reports.items c.loop-item.rows.items (omega arith) c.loop-item.invariant).count
