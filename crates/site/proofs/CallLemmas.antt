@@ -1,17 +1,23 @@
 -- What a call that is asked for comes to, test by test.
-use Rattle.std.proofs.Common.{◌≡◌, ℕ, nat_eq, Bool, true, false, not, cond, List, length, Option, Some, None, option_map, refl, sym, ap, subst, ◌∙◌}
+use Rattle.std.proofs.Common.{◌≡◌, ℕ, ◌<◌, ◌^◌, nat_eq, Bool, true, false, not, cond, List, length, Option, Some, None, option_map, refl, sym, ap, subst, ◌∙◌}
 use Rattle.std.proofs.lemmas.List.{length-map}
 use Rattle.bpf_verify.specs.Flow.{Procedure}
 use Rattle.catalogue.specs.Catalogue.{accepted_of}
 use Rattle.catalogue.specs.Stored.{ListedProcedure, AreForTables, AreStored, listed_by_number, stored_procedures}
 use Rattle.log_model.specs.declared.request.RequestId.{RequestId}
-use Rattle.log_model.specs.Log.{StoredProcedure, Catalogue, Setting, Log, by_name, by_number, first_repeated, history, procedures_after}
-use Rattle.log_model.specs.Entries.{Entry, item_of, items_of}
+use Rattle.log_model.specs.Log.{StoredProcedure, Call, Catalogue, Setting, Log, by_name, by_number, first_repeated, history, procedures_after, run_in}
+use Rattle.log_model.specs.Entries.{Entry, CallEntry, item_of, items_of}
+use Rattle.log_entry.specs.Bytes.{entry_bytes}
 use Rattle.log_model.specs.OpenRequest.{has_zero}
-use Rattle.site_model.specs.declared.answer.CallAnswer.TheVariants.{Refused, Repeated}
+use Rattle.site_model.specs.declared.answer.CallAnswer.TheVariants.{Refused, Repeated, Cancelled, Submitted}
 use Rattle.site_model.specs.declared.answer.CallRefusal.TheVariants.{NoProcedure, ArgumentsLength, HalfRequest}
 use Rattle.site_model.specs.Order.{reply_at}
-use Rattle.site_model.specs.Answer.{Asked, answer_for, answer_of_run, asked_call, call_answer_behind, unless_repeated}
+use Rattle.site_model.specs.Answer.{Asked, answer_for, answer_of_run, asked_call, call_answer_behind, unless_cancelled, unless_repeated}
+use Rattle.site_model.specs.Standing.{executed}
+use Rattle.world_calls.specs.declared.completion.Completion.{Completion}
+use Rattle.world_calls.specs.declared.completion.Completion.TheVariants as completion
+use Rattle.world_calls.specs.OpenCall.{IsCompletion}
+use Rattle.site.specs.Answered.{HasShortReply}
 use Rattle.site.specs.Replica.{SiteReplica, StandsForLog, setting_of}
 use Rattle.site.proofs.SiteLemmas.{ProceduresSuffice, held_procedures, listed_stored}
 
@@ -96,3 +102,14 @@ pub same_call : (w : Setting) (log : Log) (procedure number : ℕ) (args : List 
     → answer_of_run w log (record { number = 0; procedure = procedure; args = args; snapshot = snapshot; request = request }) ≡ answer_of_run w log (record { number = 0; procedure = number; args = args; snapshot = position; request = request })
 same_call w log procedure number args snapshot position request same here =
     (λ i. answer_of_run w log (record { number = 0; procedure = same i; args = args; snapshot = here i; request = request }))
+
+-- ---- the reply of what is to be ordered
+
+pub reply_fits : {A : Type 0} (w : Setting) (log : Log) (call : Call) (c : Completion A) (bytes : List ℕ)
+    → IsCompletion w log call c → HasShortReply c → answer_of_run w log call ≡ Submitted bytes → (run_in w log call).reply < 2 ^ 64
+reply_fits w log call (completion.Cancelled snapshot code) bytes (cancelled, at) short told =
+    absurd (let e : Cancelled call.snapshot code ≡ Submitted bytes =
+    sym (ap (unless_cancelled call.snapshot (run_in w log call) (entry_bytes (CallEntry (executed w log call)))) cancelled) ∙ told in cc)
+reply_fits w log call (completion.Read snapshot reply) bytes (none, no_writes, at, same) short told = subst (λ (n : ℕ). n < 2 ^ 64) same short
+reply_fits w log call (completion.Wrote e) bytes (none, writes, is_call, carries, fit) short told =
+    subst (λ (n : ℕ). n < 2 ^ 64) (carries.reply ∙ ap (λ (x : Call). (run_in w log x).reply) is_call) short

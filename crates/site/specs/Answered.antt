@@ -1,5 +1,7 @@
 -- What is asked and answered in code, and the model's.
-use Rattle.std.specs.Prelude.{ℕ, List}
+use Rattle.std.specs.Prelude.{ℕ, ◌<◌, ◌^◌, List}
+use Rattle.world_calls.specs.declared.completion.Completion.{Completion}
+use Rattle.world_calls.specs.declared.completion.Completion.TheVariants as completion
 use Rattle.log_entry.specs.Head.{NamedProcedure}
 use Rattle.log_entry.specs.Bytes.{entry_bytes}
 use Rattle.log_entry.specs.declared.entry.Entry.{Entry as LogEntry}
@@ -22,6 +24,12 @@ answered (Repeated position reply) = Repeated position reply
 answered (Cancelled position code) = Cancelled position code
 answered (Read position reply) = Read position reply
 answered (Submitted entry) = Submitted (entry_bytes (entry_of entry))
+
+-- its reply, where it has one, has 64 bits
+abbrev pub HasShortReply : {A : Type 0} → Completion A → Type 0
+HasShortReply (completion.Cancelled snapshot code) = Unit {0}
+HasShortReply (completion.Read snapshot reply) = reply < 2 ^ 64
+HasShortReply (completion.Wrote e) = e.reply < 2 ^ 64
 
 abbrev pub named_of : NamedProgram → NamedProcedure
 named_of named =

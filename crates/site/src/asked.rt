@@ -1,12 +1,15 @@
 //! A call that a caller asks for.
 
-ghost use Rattle.std.specs.Prelude.{◌≡◌, List, IfOk};
+ghost use Rattle.std.specs.Prelude.{◌≡◌, ◌<◌, ◌^◌, ℕ, List, IfOk};
 ghost use Rattle.log_model.specs.Log.{Call, Setting};
 ghost use Rattle.log_model.specs.Entries.{Entry as ModelEntry, items_of};
 ghost use Rattle.world_calls.specs.OpenCall.{IsCompletion};
+ghost use Rattle.log_entry.specs.Bytes.{sequence_of, session_of};
 ghost use Rattle.site_model.specs.Answer.{answer_of_run, call_answer_behind};
+ghost use Rattle.site_model.specs.declared.answer.CallAnswer.TheVariants.{Submitted};
+ghost use Rattle.site_model.specs.Own.{IsAskedBehind};
 ghost use Rattle.site.specs.Replica.{StandsForLog, setting_of};
-ghost use Rattle.site.specs.Answered.{answered, asked_of};
+ghost use Rattle.site.specs.Answered.{HasShortReply, answered, asked_of};
 
 use crate::replies::reply_at;
 use crate::run::{NamedCall, complete};
@@ -27,11 +30,12 @@ pub struct Asked<'a> {
     pub request: Option<RequestId>,
 }
 
-/// The answer to a call, by the outcome of its run.
+/// Returns the answer to a call, by the completion of its run.
 fn answer_of<A: Allocator + Copy>(completion: Completion<A>) -> CallAnswer<Entry<A>>
-    ensures { (w : Setting) (entries : List ModelEntry) (call : Call)
+    ensures answer { (w : Setting) (entries : List ModelEntry) (call : Call)
         → IsCompletion w (items_of entries) call completion
         → answered result ≡ answer_of_run w (items_of entries) call }
+    ensures short { HasShortReply completion }
 {
     match completion {
         Completion::Cancelled { snapshot, code } => CallAnswer::Cancelled {
@@ -50,14 +54,32 @@ fn answer_of<A: Allocator + Copy>(completion: Completion<A>) -> CallAnswer<Entry
     }
 }
 
+/// The numbers of a call fit their fields, as their types say.
+fn numbers_fit(procedure: u16, args_len: u16, snapshot: u32, request: Option<RequestId>)
+    ensures procedure { procedure < 2 ^ 16 }
+    ensures args { args_len < 2 ^ 16 }
+    ensures snapshot { snapshot < 2 ^ 32 }
+    ensures session { session_of request < 2 ^ 32 }
+    ensures sequence { sequence_of request < 2 ^ 32 }
+{
+    let Some(request) = request else {
+        return;
+    };
+    let _session = request.session;
+    let _sequence = request.sequence;
+}
+
 /// Runs a call whole on the rows at the last position, and returns the answer. Changes nothing.
 pub fn call<A: Allocator + Copy>(
     site: &SiteReplica<A>,
     asked: Asked<'_>,
 ) -> Result<CallAnswer<Entry<A>>, AllocError>
     requires stands { (entries : List ModelEntry) × StandsForLog site.now entries }
-    ensures { IfOk result (λ answer. (entries : List ModelEntry) → StandsForLog site.now entries
+    ensures answer { IfOk result (λ answer. (entries : List ModelEntry) → StandsForLog site.now entries
         → answered answer ≡ call_answer_behind (setting_of site.now).setting entries (asked_of asked.entry)) }
+    ensures fits { IfOk result (λ answer. (entries : List ModelEntry) (bytes : List ℕ) → StandsForLog site.now entries
+        → answered answer ≡ Submitted bytes
+        → IsAskedBehind (setting_of site.now).setting entries (asked_of asked.entry)) }
 {
     // Laws:
     entries_suffice();
@@ -80,11 +102,13 @@ pub fn call<A: Allocator + Copy>(
         let reply = reply_at(site.replies(), position);
         return Ok(CallAnswer::Repeated { position, reply });
     }
+    let snapshot = site.position();
+    numbers_fit(procedure, accepted.args_len(), snapshot, asked.request);
     let named = NamedCall {
         number: 0,
         procedure,
         args: asked.args,
-        snapshot: site.position(),
+        snapshot,
         request: asked.request,
     };
     let completion = complete(site.allocator(), site.replica(), accepted, named)?;

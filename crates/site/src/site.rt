@@ -1,11 +1,13 @@
 //! A site.
 
-ghost use Rattle.std.specs.Prelude.{◌≡◌, ◌+◌, ◌<◌, ◌≤◌, ◌^◌, ◌++◌, [], ◌∷◌, false, length, IfOk};
+ghost use Rattle.std.specs.Prelude.{◌≡◌, ◌+◌, ◌<◌, ◌≤◌, ◌^◌, ◌++◌, [], ◌∷◌, ℕ, List, false, length, IfOk};
 ghost use Rattle.std.specs.FinMap as map;
 ghost use Rattle.log_model.specs.Log.{rows_after};
 ghost use Rattle.site_model.specs.Order.{Order, next_outcome, order_log};
 ghost use Rattle.schema.specs.declared.limits.TheConstants.{MAX_ARGUMENTS};
 ghost use Rattle.site_model.specs.Answer.{addition_answer, call_answer};
+ghost use Rattle.site_model.specs.declared.answer.CallAnswer.TheVariants.{Submitted};
+ghost use Rattle.site_model.specs.Own.{IsAskedOf};
 ghost use Rattle.site.specs.Replica.{StandsForOrder, setting_of};
 ghost use Rattle.site.specs.Answered.{added, answered, asked_of, named_of};
 
@@ -124,8 +126,10 @@ impl<A: Allocator + Copy> Site<A> {
 
     /// Runs a call whole on the rows at the last position, and returns the answer. Changes nothing.
     pub fn call(&self, asked: Asked<'_>) -> Result<CallAnswer<Entry<A>>, AllocError>
-        ensures { IfOk result (λ answer. (order : Order) → StandsForOrder self.now order
+        ensures answer { IfOk result (λ answer. (order : Order) → StandsForOrder self.now order
             → answered answer ≡ call_answer (setting_of self.now) order (asked_of asked.entry)) }
+        ensures fits { IfOk result (λ answer. (order : Order) (bytes : List ℕ) → StandsForOrder self.now order
+            → answered answer ≡ Submitted bytes → IsAskedOf (setting_of self.now) order (asked_of asked.entry)) }
     {
         call(&self.replica, asked)
     }

@@ -9,7 +9,7 @@ use Rattle.log_model.specs.declared.request.RequestId.{RequestId}
 use Rattle.log_model.specs.declared.verdict.Verdict.{Verdict}
 use Rattle.log_model.specs.declared.verdict.Verdict.TheVariants as verdict
 use Rattle.log_model.specs.declared.verdict.Identifier.TheVariants.{Name, Number}
-use Rattle.log_model.specs.Log.{StoredProcedure, Catalogue, CertifiedItem, Call, CallItem, Log, IsLog, by_name, by_number, first_position, history, is_commit, None, procedures_after, repeats, run_in, same_request, verdict_of, verdict_on_addition}
+use Rattle.log_model.specs.Log.{StoredProcedure, Catalogue, CertifiedItem, Call, CallItem, Log, IsLog, by_name, by_number, first_position, history, is_commit, procedures_after, repeats, run_in, same_request, verdict_of, verdict_on_addition}
 use Rattle.log_model.specs.Entries.{Entry, CallEntry, AdditionEntry, item_of, items_of}
 use Rattle.log_model.proofs.CallLemmas.{addition_is, certified_is, count_history}
 use Rattle.log_model.proofs.GrowthLemmas.{get_before, grown, run_grown}

@@ -62,15 +62,15 @@ ordered_by w entries asked p bytes =
     by_tests : (a : Bool) → (p.args_len == length asked.args) ≡ a → (b : Bool) → has_zero asked.request ≡ b → (o code : Option ℕ) → run.cancel_code ≡ code → (none : Bool) → (len run.writes == 0) ≡ none
         → cond (not a) (call.Refused ArgumentsLength) (cond b (call.Refused HalfRequest) (unless_repeated entries (unless_cancelled (length log) run own code) o)) ≡ call.Submitted bytes → Ordered w log p asked bytes
     by_tests false ea b eb o code ec none en e = absurd cc
-    by_tests true ea false eb o code ec none en e = absurd cc
-    by_tests true ea true eb (Some position) code ec none en e = absurd cc
-    by_tests true ea true eb None (Some code) ec none en e = absurd cc
-    by_tests true ea true eb None None ec true en e =
+    by_tests true ea true eb o code ec none en e = absurd cc
+    by_tests true ea false eb (Some position) code ec none en e = absurd cc
+    by_tests true ea false eb None (Some code) ec none en e = absurd cc
+    by_tests true ea false eb None None ec true en e =
         absurd (not_read (length log) run.reply bytes (sym (ap (λ (b : Bool). cond b (call.Read (length log) run.reply) (call.Submitted own)) en) ∙ e))
       where
         not_read : (position reply : ℕ) (xs : List ℕ) → call.Read position reply ≡ call.Submitted xs → ⊥
         not_read position reply xs f = absurd cc
-    by_tests true ea true eb None None ec false en e = record {
+    by_tests true ea false eb None None ec false en e = record {
       takes = ea;
       whole = eb;
       writes = λ i. not (is_some (ec i)) && not (en i);
@@ -170,8 +170,8 @@ added_by s p program bytes = by_tests (is_name p.name) refl s.takes_additions re
     by_tests : (a : Bool) → is_name p.name ≡ a → (b : Bool) → s.takes_additions ≡ b
         → cond (not a) (addition.Refused refusal.Name) (cond (not b) (addition.Refused refusal.NoAdditions) (addition.Submitted own)) ≡ addition.Submitted bytes → AddedAs s p program bytes
     by_tests false ea b eb e = absurd cc
-    by_tests true ea false eb e = absurd cc
-    by_tests true ea true eb e = record { named = ea; takes = eb; are = same_added own bytes e }
+    by_tests true ea true eb e = absurd cc
+    by_tests true ea false eb e = record { named = ea; takes = eb; are = same_added own bytes e }
 
 added_is_something : (number : ℕ) (why : NothingCause) → outcome.Added number ≡ outcome.Nothing why → ⊥
 added_is_something number why e = absurd cc

@@ -1,6 +1,6 @@
 //! The byte strings that are nothing.
 
-ghost use Rattle.std.specs.Prelude.{◌≡◌, ◌≢◌, ◌++◌, suc, List, ℕ, [], ◌∷◌, length};
+ghost use Rattle.std.specs.Prelude.{◌≡◌, ◌≢◌, ◌++◌, suc, List, Option, ℕ, [], ◌∷◌, length};
 ghost use Rattle.log_model.specs.declared.request.RequestId.{RequestId};
 ghost use Rattle.site_model.specs.declared.cause.NothingCause.{NothingCause};
 ghost use Rattle.site_model.specs.declared.outcome.EntryOutcome.TheVariants.{Conflict, Nothing};

@@ -1,9 +1,9 @@
-use Rattle.std.proofs.Common.{◌≡◌, ◌∙◌, ℕ, true, false, nat_eq, List, length, Some, None, option_map, sym, ap, subst, arith}
+use Rattle.std.proofs.Common.{◌≡◌, ◌<◌, ◌^◌, ◌∙◌, ℕ, true, false, nat_eq, List, length, Some, None, option_map, sym, ap, subst, arith}
 use Rattle.std.specs.Option.{option_copied}
 use Rattle.std.proofs.lemmas.Bool.Decides.{nat_tests}
 use Rattle.bpf_verify.specs.Flow.{Procedure}
 use Rattle.catalogue.specs.Catalogue.{accepted_of}
-use Rattle.log_model.specs.Log.{Setting, by_number, first_repeated, history, procedures_after}
+use Rattle.log_model.specs.Log.{Call, Setting, by_number, first_repeated, history, procedures_after, run_in}
 use Rattle.log_model.specs.Entries.{Entry, item_of, items_of}
 use Rattle.log_model.specs.OpenRequest.{has_zero}
 use Rattle.replica.specs.Replica.{Replica}
@@ -13,12 +13,12 @@ use Rattle.site.specs.Run.{CanRun}
 use Rattle.site.specs.Replica.{setting_of}
 use Rattle.site.proofs.SiteLemmas.{can_run}
 use Rattle.site.specs.Answered.{asked_of}
-use Rattle.site.proofs.CallLemmas.{no_procedure, other_length, half_request, repeated_call, run_call, none_found_in, found_in, one_program, same_call}
+use Rattle.site.proofs.CallLemmas.{no_procedure, other_length, half_request, repeated_call, run_call, none_found_in, found_in, one_program, same_call, reply_fits}
 use Rattle.std.proofs.lemmas.List.{length-map}
 use Rattle.site.proofs.asked.call.Goals as goal
 
-pub returns-in_default : goal.returns-in_default
-returns-in_default g c entries stands =
+pub returns-in_default-clause-answer : goal.returns-in_default-clause-answer
+returns-in_default-clause-answer g c entries stands =
     let s = c.args.site.now in
     no_procedure (setting_of s).setting entries (asked_of c.args.asked)
     (none_found_in s entries c.procedures-procedures.result.now c.entries_suffice.ensures.procedures stands (c.procedures-procedures.ensures ∙ ap (λ (r : Replica). r.procedures) c.replica.ensures) c.args.asked.name.now (sym c.in_default.is ∙ c.by_name.ensures))
@@ -35,8 +35,8 @@ unreachable-requires g c =
     let none = ap option_copied (sym c.in_default-by_number.is) ∙ f.program in
     cc
 
-pub returns-then-from-asked : goal.returns-then-from-asked
-returns-then-from-asked g c entries stands =
+pub returns-then-from-asked-clause-answer : goal.returns-then-from-asked-clause-answer
+returns-then-from-asked-clause-answer g c entries stands =
     let s = c.args.site.now in
     let w = (setting_of s).setting in
     let asked = asked_of c.args.asked in
@@ -51,8 +51,8 @@ returns-then-from-asked g c entries stands =
     let other : nat_eq f.p.args_len (length asked.args) ≡ false = grind (arith, nat_tests) in
     other_length w entries asked f.p f.named other
 
-pub returns-then-has_zero : goal.returns-then-has_zero
-returns-then-has_zero g c entries stands =
+pub returns-then-has_zero-clause-answer : goal.returns-then-has_zero-clause-answer
+returns-then-has_zero-clause-answer g c entries stands =
     let s = c.args.site.now in
     let w = (setting_of s).setting in
     let asked = asked_of c.args.asked in
@@ -67,8 +67,8 @@ returns-then-has_zero g c entries stands =
     let as_many : nat_eq f.p.args_len (length asked.args) ≡ true = grind (arith, nat_tests) in
     half_request w entries asked f.p f.named as_many (sym c.has_zero.ensures ∙ c.if-has_zero.true)
 
-pub returns-in-Some-repeated : goal.returns-in-Some-repeated
-returns-in-Some-repeated g c entries stands =
+pub returns-in-Some-repeated-clause-answer : goal.returns-in-Some-repeated-clause-answer
+returns-in-Some-repeated-clause-answer g c entries stands =
     let s = c.args.site.now in
     let w = (setting_of s).setting in
     let asked = asked_of c.args.asked in
@@ -95,14 +95,14 @@ complete-requires-clause-can g c =
     let held : c.procedures-procedures.result.now ≡ s.replica.procedures = c.procedures-procedures.ensures ∙ ap (λ (r : Replica). r.procedures) c.replica.ensures in
     let f = found_in s entries c.procedures-procedures.result.now c.entries_suffice.ensures.procedures stands held asked.name c.in-Some.procedure (option_copied c.by_number.result) c.found_by_name_is_found_by_number.ensures c.stored_procedures_are_consistent.ensures
     (sym c.in-Some.is ∙ c.by_name.ensures) c.by_number.ensures in
-    let here : c.position.result ≡ length entries = c.position.ensures.count entries stands in
-    let program : Some c.in-Some-by_number.accepted.now ≡ option_map (accepted_of s.catalogue.tables) (by_number (procedures_after w (items_of entries) c.position.result) c.in-Some.procedure) =
+    let here : c.position-snapshot.result ≡ length entries = c.position-snapshot.ensures.count entries stands in
+    let program : Some c.in-Some-by_number.accepted.now ≡ option_map (accepted_of s.catalogue.tables) (by_number (procedures_after w (items_of entries) c.position-snapshot.result) c.in-Some.procedure) =
     ap option_copied (sym c.in-Some-by_number.is) ∙ f.program ∙ ap (option_map (accepted_of s.catalogue.tables)) (sym (ap (λ (n : ℕ). by_number (procedures_after w (items_of entries) n) c.in-Some.procedure) here ∙ f.numbered)) in
-    subst (λ (r : Replica). (x : Setting) × (es : List Entry) × CanRun x es r c.in-Some-by_number.accepted.now (record { number = 0; procedure = c.in-Some.procedure; args = c.args.asked.args.now; snapshot = c.position.result; request = c.args.asked.request }))
-    (sym c.replica-2.ensures) (w, entries, can_run s entries c.in-Some-by_number.accepted.now (record { number = 0; procedure = c.in-Some.procedure; args = c.args.asked.args.now; snapshot = c.position.result; request = c.args.asked.request }) stands program)
+    subst (λ (r : Replica). (x : Setting) × (es : List Entry) × CanRun x es r c.in-Some-by_number.accepted.now (record { number = 0; procedure = c.in-Some.procedure; args = c.args.asked.args.now; snapshot = c.position-snapshot.result; request = c.args.asked.request }))
+    (sym c.replica-2.ensures) (w, entries, can_run s entries c.in-Some-by_number.accepted.now (record { number = 0; procedure = c.in-Some.procedure; args = c.args.asked.args.now; snapshot = c.position-snapshot.result; request = c.args.asked.request }) stands program)
 
-pub returns : goal.returns
-returns g c entries stands =
+pub returns-clause-answer : goal.returns-clause-answer
+returns-clause-answer g c entries stands =
     let s = c.args.site.now in
     let w = (setting_of s).setting in
     let asked = asked_of c.args.asked in
@@ -116,12 +116,56 @@ returns g c entries stands =
     let test = c.if-from-asked.false in
     let as_many : nat_eq f.p.args_len (length asked.args) ≡ true = grind (arith, nat_tests) in
     let whole : has_zero asked.request ≡ false = sym c.has_zero.ensures ∙ c.if-has_zero.false in
-    let here : c.position.result ≡ length entries = c.position.ensures.count entries stands in
+    let here : c.position-snapshot.result ≡ length entries = c.position-snapshot.ensures.count entries stands in
     let first : first_repeated (history w (items_of entries)).certified (asked_call (items_of entries) f.p asked) ≡ None = sym (c.repeated.ensures entries stands) ∙ c.in_default-repeated.is in
-    let program : Some c.in-Some-by_number.accepted.now ≡ option_map (accepted_of s.catalogue.tables) (by_number (procedures_after w (items_of entries) c.position.result) c.in-Some.procedure) =
+    let program : Some c.in-Some-by_number.accepted.now ≡ option_map (accepted_of s.catalogue.tables) (by_number (procedures_after w (items_of entries) c.position-snapshot.result) c.in-Some.procedure) =
     ap option_copied (sym c.in-Some-by_number.is) ∙ f.program ∙ ap (option_map (accepted_of s.catalogue.tables)) (sym (ap (λ (n : ℕ). by_number (procedures_after w (items_of entries) n) c.in-Some.procedure) here ∙ f.numbered)) in
-    let can = subst (λ (r : Replica). CanRun w entries r c.in-Some-by_number.accepted.now (record { number = 0; procedure = c.in-Some.procedure; args = c.args.asked.args.now; snapshot = c.position.result; request = c.args.asked.request }))
-    (sym c.replica-2.ensures) (can_run s entries c.in-Some-by_number.accepted.now (record { number = 0; procedure = c.in-Some.procedure; args = c.args.asked.args.now; snapshot = c.position.result; request = c.args.asked.request }) stands program) in
-    c.answer_of.ensures w entries (record { number = 0; procedure = c.in-Some.procedure; args = c.args.asked.args.now; snapshot = c.position.result; request = c.args.asked.request }) (c.in_ok-completion.ensures w entries can)
-    ∙ same_call w (items_of entries) c.in-Some.procedure f.p.number c.args.asked.args.now c.position.result (length (items_of entries)) c.args.asked.request (sym f.number_is) (here ∙ sym (length-map entries item_of))
+    let can = subst (λ (r : Replica). CanRun w entries r c.in-Some-by_number.accepted.now (record { number = 0; procedure = c.in-Some.procedure; args = c.args.asked.args.now; snapshot = c.position-snapshot.result; request = c.args.asked.request }))
+    (sym c.replica-2.ensures) (can_run s entries c.in-Some-by_number.accepted.now (record { number = 0; procedure = c.in-Some.procedure; args = c.args.asked.args.now; snapshot = c.position-snapshot.result; request = c.args.asked.request }) stands program) in
+    c.answer_of.ensures.answer w entries (record { number = 0; procedure = c.in-Some.procedure; args = c.args.asked.args.now; snapshot = c.position-snapshot.result; request = c.args.asked.request }) (c.in_ok-completion.ensures w entries can)
+    ∙ same_call w (items_of entries) c.in-Some.procedure f.p.number c.args.asked.args.now c.position-snapshot.result (length (items_of entries)) c.args.asked.request (sym f.number_is) (here ∙ sym (length-map entries item_of))
     ∙ run_call w entries asked f.p f.named as_many whole first
+
+pub returns-clause-fits : goal.returns-clause-fits
+returns-clause-fits g c entries bytes stands told =
+    let s = c.args.site.now in
+    let w = (setting_of s).setting in
+    let log = items_of entries in
+    let asked = asked_of c.args.asked in
+    let held : c.procedures-procedures.result.now ≡ s.replica.procedures = c.procedures-procedures.ensures ∙ ap (λ (r : Replica). r.procedures) c.replica.ensures in
+    let f = found_in s entries c.procedures-procedures.result.now c.entries_suffice.ensures.procedures stands held asked.name c.in-Some.procedure (option_copied c.by_number.result) c.found_by_name_is_found_by_number.ensures c.stored_procedures_are_consistent.ensures
+    (sym c.in-Some.is ∙ c.by_name.ensures) c.by_number.ensures in
+    let here : c.position-snapshot.result ≡ length entries = c.position-snapshot.ensures.count entries stands in
+    let long : length log ≡ length entries = length-map entries item_of in
+    let program : Some c.in-Some-by_number.accepted.now ≡ option_map (accepted_of s.catalogue.tables) (by_number (procedures_after w log c.position-snapshot.result) c.in-Some.procedure) =
+    ap option_copied (sym c.in-Some-by_number.is) ∙ f.program ∙ ap (option_map (accepted_of s.catalogue.tables)) (sym (ap (λ (n : ℕ). by_number (procedures_after w log n) c.in-Some.procedure) here ∙ f.numbered)) in
+    let can = subst (λ (r : Replica). CanRun w entries r c.in-Some-by_number.accepted.now (record { number = 0; procedure = c.in-Some.procedure; args = c.args.asked.args.now; snapshot = c.position-snapshot.result; request = c.args.asked.request }))
+    (sym c.replica-2.ensures) (can_run s entries c.in-Some-by_number.accepted.now (record { number = 0; procedure = c.in-Some.procedure; args = c.args.asked.args.now; snapshot = c.position-snapshot.result; request = c.args.asked.request }) stands program) in
+    let completed = c.in_ok-completion.ensures w entries can in
+    let same : record { number = 0; procedure = c.in-Some.procedure; args = c.args.asked.args.now; snapshot = c.position-snapshot.result; request = c.args.asked.request } ≡ asked_call log f.p asked =
+    λ i. record { number = 0; procedure = sym f.number_is i; args = c.args.asked.args.now; snapshot = (here ∙ sym long) i; request = c.args.asked.request } in
+    let count : f.p.args_len ≡ c.in-Some-by_number.accepted.now.args_len = ap (λ (q : Procedure). q.args_len) (sym (one_program c.in-Some-by_number.accepted.now (accepted_of s.catalogue.tables f.p) (ap option_copied (sym c.in-Some-by_number.is) ∙ f.program))) in
+    let args_len = c.args_len-2.ensures.length in
+    let args = c.numbers_fit.ensures.args in
+    let first_len = c.args_len.ensures.length in
+    let wide = c.from.ensures in
+    let test = c.if-from-asked.false in
+    let snapshot = c.numbers_fit.ensures.snapshot in
+    let procedure = c.numbers_fit.ensures.procedure in
+    let number = f.number_is in
+    record {
+      procedure = f.p;
+      named = f.named;
+      numbered = subst (λ (n : ℕ). by_number (procedures_after w log (length entries)) n ≡ Some f.p) (sym f.number_is) f.numbered;
+      fits = record {
+        number = omega arith;
+        procedure = omega arith;
+        args = omega arith;
+        snapshot = omega arith;
+        session = c.numbers_fit.ensures.session;
+        sequence = c.numbers_fit.ensures.sequence;
+        whole = sym c.has_zero.ensures ∙ c.if-has_zero.false;
+        reply = subst (λ (x : Call). (run_in w log x).reply < 2 ^ 64) same
+            (reply_fits w log _ c.in_ok-completion.completion bytes completed c.answer_of.ensures.short (sym (c.answer_of.ensures.answer w entries _ completed) ∙ told));
+      };
+    }
