@@ -13,7 +13,7 @@ use Rattle.dsm_world.proofs.Numbered.{get_map}
 use Rattle.report.specs.declared.printed.Line.TheVariants as line
 use Rattle.report.specs.Lines.{line_text}
 use Rattle.script_replay.specs.Printed.{entry_of, logged_entry, compared_count, is_delivered, certified_line, logged_text}
-use Rattle.script_replay.proofs.PrintedLemmas.{drop_next, is_entry, carries, VerdictsGrow, VerdictsFollow, VerdictsSuffice, verdict_there, compared_there}
+use Rattle.script_replay.proofs.PrintedLemmas.{drop_next, is_entry, carries, VerdictsGrow, HasLogVerdict, VerdictsSuffice, verdict_there, compared_there}
 
 -- ---- whether some replica has come further
 
@@ -87,7 +87,7 @@ open_line s before e item are at there none =
 
 -- where one has
 pub delivered_line : (s : SystemWorld) (r : Replica) (before : ℕ) (e : Entry) (item : Item) (keeps : KeepsDelivered s r) → r.position ≤ length s.entries → before < r.position → slice_get s.entries before ≡ Some e → slice_get (items_of s.entries) before ≡ Some item
-    → is_delivered (world_of s) before ≡ true → VerdictsGrow → VerdictsFollow → VerdictsSuffice
+    → is_delivered (world_of s) before ≡ true → VerdictsGrow → HasLogVerdict r (before + 1) (certification_of r.window s.catalogue.procedures (take r.position s.entries) before e).verdict → VerdictsSuffice
     → line_text (line.Certified (logged_entry (before + 1) e) (certification_of r.window s.catalogue.procedures (take r.position s.entries) before e).compared (certification_of r.window s.catalogue.procedures (take r.position s.entries) before e).verdict)
     ≡ logged_text (setting_of s) (world_of s) before item
 delivered_line s r before e item keeps within delivered at there some grow follow suffice =

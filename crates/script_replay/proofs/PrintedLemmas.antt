@@ -4,6 +4,7 @@ use Rattle.std.proofs.lemmas.List.{append-nil}
 use Rattle.schema.specs.declared.look.Look.{Look}
 use Rattle.schema.specs.Rows.{Writes}
 use Rattle.log_model.specs.InstalledWrites.{map_after}
+use Rattle.log_model.specs.declared.verdict.Verdict.{Verdict}
 use Rattle.log_model.specs.Log.{StoredProcedure, Setting, Catalogue, Item, Log, CertifiedItem, IsLog, rows_after, run_in, verdict_of, history}
 use Rattle.certify.specs.Comparisons.{comparisons_after}
 use Rattle.log_model.specs.Entries.{ExecutedCall, Entry, CallEntry, AdditionEntry, item_of, items_of, IsCarried, CarryRuns, CertifiedEntries, certified_entry, certified_entries_of, installed_from}
@@ -91,12 +92,11 @@ certified_taken window base entries n le =
 abbrev pub VerdictsSuffice : Type 0
 VerdictsSuffice = (w : Setting) (entries : List Entry) → IsLog (items_of entries) → CarryRuns w entries → (certified_entries_of w.window w.catalogue entries).certified ≡ (history w (items_of entries)).certified
 
--- what the law of replicas says of verdicts
-abbrev pub VerdictsFollow : Type 0
-VerdictsFollow = (w : Setting) (r : Replica) (entries : List Entry) (before : ℕ) (c : Certification) → w.window ≡ r.window → StandsFor w.catalogue r entries → AreEntriesOf w entries → slice_get r.certifications before ≡ Some c
-    → verdict_of w (items_of entries) (before + 1) ≡ Some c.verdict
+-- what a replica says of the verdict at a position
+abbrev pub HasLogVerdict : Replica → ℕ → Verdict → Type 0
+HasLogVerdict r position v = (w : Setting) (entries : List Entry) → w.window ≡ r.window → StandsFor w.catalogue r entries → AreEntriesOf w entries → verdict_of w (items_of entries) position ≡ Some v
 
--- and that of growing logs
+-- what the law of growing logs says
 abbrev pub VerdictsGrow : Type 0
 VerdictsGrow = (w : Setting) (log more : Log) (d : ℕ) → d < length log → verdict_of w (log ++ more) (suc d) ≡ verdict_of w log (suc d)
 
@@ -119,14 +119,14 @@ module _ (s : SystemWorld) (r : Replica) (before : ℕ) (e : Entry) (keeps : Kee
   pub stands_there : slice_get (take r.position s.entries) before ≡ Some e
   stands_there = get_taken s.entries r.position before delivered ∙ at
 
-  pub verdict_there : VerdictsGrow → VerdictsFollow → verdict_of (setting_of s) (items_of s.entries) (before + 1) ≡ Some certification_there.verdict
+  pub verdict_there : VerdictsGrow → HasLogVerdict r (before + 1) certification_there.verdict → verdict_of (setting_of s) (items_of s.entries) (before + 1) ≡ Some certification_there.verdict
   verdict_there grow follow =
       let w = setting_of s in
       let past = take r.position s.entries in
       let count = take_count s.entries r.position within in
       let calls = items_count past in
       let next : before + 1 ≡ suc before = omega arith in
-      let here = follow w r past before certification_there (sym keeps.window) keeps.delivered (entries_taken w s.entries r.position keeps.entries) (keeps.delivered.certifications.each before e stands_there) in
+      let here = follow w past (sym keeps.window) keeps.delivered (entries_taken w s.entries r.position keeps.entries) in
       ap (λ (l : Log). verdict_of w l (before + 1)) (log_is s r.position)
       ∙ ap (verdict_of w (items_of past ++ items_of (drop r.position s.entries))) next
       ∙ grow w (items_of past) (items_of (drop r.position s.entries)) before (omega arith)

@@ -17,7 +17,7 @@ use byte_output::paged::PagedOutput;
 use dsm_world::World;
 use log_entry::Entry;
 use log_model::{a_log_only_grows, entries_suffice};
-use replica::{Replica, replicas_follow_the_log};
+use replica::Replica;
 use report::{Line, LoggedEntry};
 use std::alloc::Allocator;
 use std::io;
@@ -49,7 +49,6 @@ fn logged<A: Allocator + Copy>(world: &World<A>, before: u32) -> Line<'static>
     // Laws:
     a_log_only_grows();
     entries_suffice();
-    replicas_follow_the_log();
     world.keeps_what_was_delivered();
     let position = before + 1;
     let Some(entry) = world.entry(position) else {

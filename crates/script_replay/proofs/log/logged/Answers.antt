@@ -10,7 +10,7 @@ use Rattle.report.specs.Lines.{line_text}
 use Rattle.log_entry.specs.Kind.{entry_of}
 use Rattle.script_replay.specs.Printed.{logged_entry}
 use Rattle.dsm_world.proofs.RowLemmas.{position_within}
-use Rattle.script_replay.proofs.PrintedLemmas.{stands_there}
+use Rattle.script_replay.proofs.PrintedLemmas.{HasLogVerdict, stands_there}
 use Rattle.script_replay.proofs.LogLemmas.{further, found, none_found, open_line, delivered_line}
 use Rattle.script_replay.proofs.log.logged.Goals as goal
 
@@ -45,7 +45,8 @@ returns g c = λ item there.
     (c.verdict_at-certification.ensures.kept base past e keeps.delivered (subst (λ n. slice_get past n ≡ Some e) (sym same) stands)) in
     ap (λ (x : LoggedEntry). line_text (line.Certified x k.compared k.verdict)) c.logged_entry-entry.ensures
     ∙ ap (λ (x : Certification). line_text (line.Certified (logged_entry (before + 1) e) x.compared x.verdict)) is
-    ∙ delivered_line s r before e item keeps within delivered at there f.some c.a_log_only_grows.ensures.verdicts c.replicas_follow_the_log.ensures.verdicts c.entries_suffice.ensures.verdicts
+    ∙ delivered_line s r before e item keeps within delivered at there f.some c.a_log_only_grows.ensures.verdicts
+    (subst (λ (x : Certification). HasLogVerdict r (before + 1) x.verdict) is c.verdict_at-certification.ensures.log_verdict) c.entries_suffice.ensures.verdicts
 
 pub verdict_at-certification-requires-clause-to : goal.verdict_at-certification-requires-clause-to
 verdict_at-certification-requires-clause-to g c =
