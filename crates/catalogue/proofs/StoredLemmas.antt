@@ -1,5 +1,5 @@
 -- What is held by number, against the stored procedures that contracts see.
-use Rattle.std.proofs.Common.{◌≡◌, ◌<◌, ◌^◌, ℕ, List, [], ◌∷◌, ◌++◌, map, refl, sym, ap, subst, ◌∙◌, Bool, true, false, cond}
+use Rattle.std.proofs.Common.{◌≡◌, ℕ, List, [], ◌∷◌, ◌++◌, map, refl, sym, ap, subst, ◌∙◌, Bool, true, false, cond}
 use Rattle.std.specs.Prelude.{Option, Some, None, is_some, find, nat_eq}
 use Rattle.std.specs.Option.{option_map}
 use Rattle.std.specs.Map.{lookup}
@@ -115,17 +115,16 @@ one_more_distinct eq key (q ∷ procedures) p none distinct =
 
 pub none_stored : AreStored []
 unfolding IsDistinct
-none_stored = record { accepted = tt; numbers = tt; fits = tt; names = tt; shapes = tt }
+none_stored = record { accepted = tt; numbers = tt; names = tt; shapes = tt }
 
 pub one_more_stored : (procedures : Procedures) (name : List ℕ) (number : ℕ) (accepted : Procedure)
-    → AreStored procedures → WasAccepted accepted → number < 2 ^ 16 → is_name name ≡ true
+    → AreStored procedures → WasAccepted accepted → is_name name ≡ true
     → by_name (stored_procedures procedures) name ≡ None → by_number (stored_procedures procedures) number ≡ None
     → AreStored (procedures ++ record { name = name; number = number; accepted = accepted } ∷ [])
-one_more_stored procedures name number accepted known was fits shape unnamed unnumbered =
+one_more_stored procedures name number accepted known was shape unnamed unnumbered =
     let l : ListedProcedure = record { name = name; number = number; accepted = accepted } in record {
       accepted = one_more (λ q. WasAccepted q.accepted) procedures l known.accepted was;
       numbers = one_more_distinct nat_eq (λ q. q.number) procedures l (none_listed number procedures unnumbered) known.numbers;
-      fits = one_more (λ q. q.number < 2 ^ 16) procedures l known.fits fits;
       names = one_more_distinct bytes_eq (λ q. q.name) procedures l (none_named name procedures unnamed) known.names;
       shapes = one_more (λ q. is_name q.name ≡ true) procedures l known.shapes shape;
     }
@@ -184,13 +183,6 @@ by_own_number name (q ∷ procedures) p distinct found =
 pub found_is_numbered : (procedures : Procedures) (name : List ℕ) (p : StoredProcedure) → AreStored procedures
     → by_name (stored_procedures procedures) name ≡ Some p → by_number (stored_procedures procedures) p.number ≡ Some p
 found_is_numbered procedures name p known found = by_own_number name procedures p known.numbers found
-
-fits_stored : (procedures : Procedures) → AllByRecursion (λ l. l.number < 2 ^ 16) procedures → AllByRecursion (λ p. p.number < 2 ^ 16) (stored_procedures procedures)
-fits_stored [] all = tt
-fits_stored (l ∷ procedures) all = (all.0, fits_stored procedures all.1)
-
-pub found_fits : (procedures : Procedures) (number : ℕ) (p : StoredProcedure) → AreStored procedures → by_number (stored_procedures procedures) number ≡ Some p → p.number < 2 ^ 16
-found_fits procedures number p known found = found_among (λ q. q.number < 2 ^ 16) (λ q. nat_eq q.number number) (stored_procedures procedures) p (fits_stored procedures known.fits) found
 
 -- ---- the verdict on an addition
 

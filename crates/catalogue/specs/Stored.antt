@@ -1,5 +1,5 @@
 -- Stored procedures in order of entry, and what is held of them: from a number to a name and an accepted program.
-use Rattle.std.specs.Prelude.{◌≡◌, ◌<◌, ◌^◌, ℕ, List, Option, find, map, refl, nat_eq, true}
+use Rattle.std.specs.Prelude.{◌≡◌, ℕ, List, Option, find, map, refl, nat_eq, true}
 use Rattle.std.specs.Coded.{Coded, code_by, coded×, coded_ℕ, coded_list}
 use Rattle.std.specs.List.{AllByRecursion, IsDistinct}
 use Rattle.std.specs.Str.{bytes_eq}
@@ -32,12 +32,10 @@ pub record WasAccepted (p : Procedure) : Type 0 where
   pub program : IsProgram p.program
   pub accepted : IsAccepted p
 
--- what is known of stored procedures: each was accepted, no two have a number or a name in common, each number has 16 bits,
--- and each name is one
+-- what is known of stored procedures: each was accepted, no two have a number or a name in common, and each name is one
 pub record AreStored (procedures : List ListedProcedure) : Type 0 where
   pub accepted : AllByRecursion (λ l. WasAccepted l.accepted) procedures
   pub numbers : IsDistinct nat_eq (map (λ l. l.number) procedures)
-  pub fits : AllByRecursion (λ l. l.number < 2 ^ 16) procedures
   pub names : IsDistinct bytes_eq (map (λ l. l.name) procedures)
   pub shapes : AllByRecursion (λ l. is_name l.name ≡ true) procedures
 

@@ -1,6 +1,6 @@
 //! The laws of stored procedures.
 
-ghost use Rattle.std.specs.Prelude.{◌≡◌, ◌<◌, ◌^◌, ℕ, List, [], ◌∷◌, ◌++◌, true, Some, None};
+ghost use Rattle.std.specs.Prelude.{◌≡◌, ℕ, List, [], ◌∷◌, ◌++◌, true, Some, None};
 ghost use Rattle.bpf_verify.specs.Flow.{Procedure};
 ghost use Rattle.log_model.specs.Log.{StoredProcedure, by_number, by_name};
 ghost use Rattle.log_model.specs.Name.{is_name};
@@ -10,8 +10,7 @@ use crate::procedures::StoredProcedures;
 use bpf_verify::Accepted;
 use std::alloc::Allocator;
 
-/// Stored procedures are consistent: each was accepted, no two have a number or a name in common, each
-/// number has 16 bits, and each name is one.
+/// Stored procedures are consistent: each was accepted, no two have a number or a name in common, and each name is one.
 pub fn stored_procedures_are_consistent<A: Allocator + Copy, P: Allocator>(
     procedures: &StoredProcedures<A, P>,
 )
@@ -27,16 +26,10 @@ pub fn found_by_name_is_found_by_number()
         → by_number (stored_procedures procedures) p.number ≡ Some p }
 {}
 
-/// The number of a stored procedure has 16 bits.
-pub fn numbers_of_stored_procedures_fit()
-    ensures { (procedures : List ListedProcedure) (number : ℕ) (p : StoredProcedure) → AreStored procedures
-        → by_number (stored_procedures procedures) number ≡ Some p → p.number < 2 ^ 16 }
-{}
-
 /// A procedure that was accepted, of a name and a number that no other has, is stored with the others.
 pub(crate) fn one_more_is_stored()
     ensures { (procedures : List ListedProcedure) (name : List ℕ) (number : ℕ) (accepted : Procedure)
-        → AreStored procedures → WasAccepted accepted → number < 2 ^ 16 → is_name name ≡ true
+        → AreStored procedures → WasAccepted accepted → is_name name ≡ true
         → by_name (stored_procedures procedures) name ≡ None
         → by_number (stored_procedures procedures) number ≡ None
         → AreStored (procedures ++ record { name = name; number = number; accepted = accepted } ∷ []) }

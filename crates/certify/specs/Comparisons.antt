@@ -28,8 +28,8 @@ AreRising [] = Unit {0}
 AreRising (n ∷ []) = Unit {0}
 AreRising (n ∷ m ∷ later) = (n < m) × AreRising (m ∷ later)
 
--- in words of the positions: the call is neither repeated nor stale, and one since its snapshot committed, shares a bit with the looks, and
--- comes after no conflict
+-- in words of the positions: the call is neither repeated nor stale, and one since its snapshot committed, shares a bit with
+-- the looks, and comes after no conflict
 pub record IsCompared (window : ℕ) (past : List CertifiedItem) (call : Call) (looks : List Look) (position : ℕ) : Type 0 where
   pub new : first_repeated past call ≡ None
   pub recent : length past - call.snapshot ≤ window

@@ -124,8 +124,8 @@ impl<J: LogSetting, A: Allocator + Copy, P: Allocator + Copy> LockedReplica<J, A
         if self.replica.stopped() {
             return Delivery::Stopped;
         }
-        entries_with_facts_are_a_logs::<P>();
         // Laws:
+        entries_with_facts_are_a_logs::<P>();
         tables_take_the_schemas_writes();
         let mut seen = self.seen.again();
         let Some(entry) = log.get(&mut seen) else {
@@ -149,8 +149,8 @@ impl<J: LogSetting, A: Allocator + Copy, P: Allocator + Copy> LockedReplica<J, A
         ensures gone { ⟦<At<'a, A> as Store>⟧.is_gone result
             ≡ nat_lt J.setting.window (length self.now.entries - length seen.now) }
     {
-        beginnings_say_the_same::<P>();
         // Laws:
+        beginnings_say_the_same::<P>();
         entries_suffice();
         seen.agrees(&self.seen);
         self.replica.at(seen.len())
@@ -203,6 +203,7 @@ impl<J: LogSetting, A: Allocator + Copy, P: Allocator + Copy> LockedReplica<J, A
         requires { 1 ≤ length seen.now }
         ensures { Finds J.setting self.now seen.now result }
     {
+        // Laws:
         beginnings_say_the_same::<P>();
         if seen.len() <= self.seen.len() {
             seen.agrees(&self.seen);

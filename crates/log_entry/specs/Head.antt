@@ -36,8 +36,8 @@ call_of args_len fields = record {
   request = request_of fields;
 }
 
--- session 4, sequence 4, both 0 or none, number of the call 4, procedure 2, length of the arguments 2 and these, snapshot 4, reply 8. Any
--- bytes may stand behind it
+-- session 4 and sequence 4, both 0 or neither; number of the call 4, procedure 2, length of the arguments 2 and these,
+-- snapshot 4, reply 8. Any bytes may stand behind it
 abbrev pub call_head : ℕ → List ℕ → Option Head
 call_head args_len fields =
     if nat_le (28 + args_len) (length fields) && not (has_zero (request_of fields))

@@ -11,7 +11,8 @@ use std::sync::Arc;
 /// see the model's executed call.
 #[derive(Drop)]
 pub struct ExecutedCall<A: Allocator + Copy = Global> {
-    /// The call's number among all of its world; 0 where there is no world.
+    /// The call's number among all of its world; 0 at a node, and in what a site submits. A byte string of a
+    /// site's order may have any.
     pub call: u32,
     /// The procedure's number.
     pub procedure: u16,

@@ -9,8 +9,8 @@ use byteorder::{ByteOrder, LittleEndian};
 use log_model::{given_request, has_zero};
 
 /// Reads what the bytes of an entry name: the head of a call, behind which any run may be told, or a whole addition.
-/// The answer is none where the bytes are neither. They are neither where they are too short, longer than an addition's
-/// lengths say, or where a session or its number alone is 0. Takes no memory.
+/// The answer is none where the bytes are neither. They are neither where they begin with another byte than 1 or 2, are
+/// too short, are longer than an addition's lengths say, or where a session or its number alone is 0. Takes no memory.
 #[tactic(auto, unfolding(crate::specs::Head::head_of))]
 pub fn head_of(bytes: &[u8]) -> Option<EntryHead<'_>>
     ensures { option_map named result ≡ head_of bytes.now }

@@ -6,7 +6,7 @@ use Rattle.log_model.specs.declared.request.RequestId.{RequestId}
 abbrev pub given_request : ℕ → ℕ → Option RequestId
 given_request session sequence = if session == 0 && sequence == 0 then None else Some (record { session = session; sequence = sequence })
 
--- half of one
+-- its session or its number is 0
 abbrev pub has_zero : Option RequestId → Bool
 has_zero None = false
 has_zero (Some request) = request.session == 0 || request.sequence == 0

@@ -13,10 +13,15 @@ ghost use Rattle.log_model.specs.declared.request.RequestId.{RequestId};
 ghost use Rattle.log_model.specs.Log.{StoredProcedure, Setting, Log, moment_at};
 ghost use Rattle.log_model.specs.Fit.{IsCall};
 ghost use Rattle.log_model.specs.OpenCall.{OpenCall, makes_look, at_row_helper};
-ghost use Rattle.log_model.specs.OpenRequest.{has_zero};
+ghost use Rattle.log_model.specs.OpenRequest.{given_request, has_zero};
 
-/// A request has a 0 where its session or its sequence number is 0.
+/// A session and a number give no request where both are 0, and else the request of both. A request has a 0 where its
+/// session or its number is 0.
 pub fn requests_may_have_a_zero()
+    ensures none { (session sequence : ℕ)
+        → (given_request session sequence ≡ None) ↔ ((session ≡ 0) × (sequence ≡ 0)) }
+    ensures given { (session sequence : ℕ) (request : RequestId) → given_request session sequence ≡ Some request
+        → request ≡ record { session = session; sequence = sequence } }
     ensures zero { (request : RequestId)
         → IsTrue (has_zero (Some request)) ↔ ((request.session ≡ 0) ⊎ (request.sequence ≡ 0)) }
     ensures without { has_zero None ≡ false }

@@ -23,7 +23,7 @@ use Rattle.node_calls.specs.declared.answer.CallRefusal.TheVariants.{NoProcedure
 
 -- the call that is asked for, on the rows after so many entries
 abbrev pub asked_call : AskedCall → ℕ → Call
-asked_call a snapshot = node_call a.procedure a.args snapshot (a.request)
+asked_call a snapshot = node_call a.procedure a.args snapshot a.request
 
 -- the entry is the last that was seen, at this position; its call saw so many of those before it
 pub record IsAppended {A : Type 0} (w : Setting) (e : ExecutedCall) (position : ℕ) (seen : List (LogEntry A)) : Type 0 where

@@ -77,7 +77,8 @@ pub record StandsFor (base : Catalogue) (r : Replica) (entries : List Entry) : T
   pub certifications : AreCertificationsOf r.window base entries r.certifications
   pub procedures : stored_procedures r.procedures ≡ (certified_entries_of r.window base entries).procedures
 
--- the replica stands for these entries in a setting: its window, its tables and the tables of its procedures are the setting's
+-- the replica stands for these entries in a setting: its window, its tables and the tables of its procedures are the
+-- setting's
 pub record StandsIn (w : Setting) (r : Replica) (entries : List Entry) : Type 0 where
   pub delivered : StandsFor w.catalogue r entries
   pub window : r.window ≡ w.window

@@ -79,8 +79,8 @@ pub(crate) fn no_rows_at_first()
     map_after_each_write_set();
 }
 
-/// A replica that follows a log keeps what was delivered: the log's verdict at each delivered position, the log's rows
-/// at each position within the window, and the log's procedures.
+/// A replica that follows a log keeps the log's verdict at each delivered position, the log's rows at each position
+/// within the window, and the log's procedures. The verdict on the next entry is that of the entries before it.
 pub fn replicas_follow_the_log()
     ensures verdicts { (w : Setting) (r : Replica) (entries : List Entry) (before : ℕ) (c : Certification)
         → FollowsLog w r entries → slice_get r.certifications before ≡ Some c

@@ -18,7 +18,7 @@ use Rattle.script_run.specs.declared.text.ReplicaEnd.{ReplicaEnd}
 abbrev pub number_named : Catalogue → List ℕ → Option ℕ
 number_named procedures name = option_map (λ p. p.number) (by_name procedures name)
 
--- what a node is asked for a call whose procedure has this number
+-- what a node is asked for a call whose procedure has this number. It asks to see nothing, so no answer is `Behind`
 abbrev pub asked_for : ScriptCall (List ℕ) → ℕ → AskedCall
 asked_for call number = record { least = 0; procedure = number; args = call.args; request = call.request }
 
@@ -28,7 +28,7 @@ IsUnnamed replicas replica what =
     (IsNoReplica replicas replica × (what ≡ Refused NoReplica))
     ⊎ ((IsNoReplica replicas replica → ⊥) × (what ≡ Refused NoProcedure))
 
--- the same, by whether there is such a procedure, and which number it has
+-- what a call is told, by whether there is such a procedure, and which number it has
 abbrev pub IsToldUnder : Setting → ℕ → ScriptCall (List ℕ) → Option ℕ → Answer → Option Entries → Type 0
 IsToldUnder w replicas call (Some number) what seen = IsHeard w replicas call.replica (asked_for call number) what seen
 IsToldUnder w replicas call None what seen = (seen ≡ None) × IsUnnamed replicas call.replica what

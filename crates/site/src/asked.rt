@@ -47,7 +47,7 @@ fn answer_of<A: Allocator + Copy>(completion: Completion<A>) -> CallAnswer<Entry
             reply,
         },
         Completion::Wrote(executed) => {
-            // The number is read, so that its range is known.
+            // The reply is read, so that its range is known.
             let _reply = executed.reply;
             CallAnswer::Submitted(Entry::Call(executed))
         }

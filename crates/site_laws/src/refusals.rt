@@ -18,7 +18,7 @@ use crate::procedures::{procedures_after_each_byte_string, procedures_only_grow}
 use log_model::procedures_are_never_lost;
 use site_model::{orders_grow, what_stands_is_of_the_log};
 
-/// Refusals hold for good, and no copy of what was refused commits.
+/// The refusals P3 and P13 hold for good, P2 up to the next addition. No copy of what was refused commits.
 ///
 /// Arguments of another length than the procedure takes, and half a request, are refused wherever the order goes on. No
 /// byte string that asks the same of the same procedure commits there, where the first procedures have distinct

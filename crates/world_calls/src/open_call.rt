@@ -25,7 +25,8 @@ use txn_view::{Own, Store, View};
 pub struct CallStart {
     /// The number of the call's replica; 0 where there is no world.
     pub replica: u32,
-    /// The call's number among all calls of its world; 0 where there is no world.
+    /// The call's number among all calls of its world; 0 at a node, and in what a site submits. A byte string of a site's
+    /// order may have any.
     pub number: u32,
     /// The procedure's number.
     pub procedure: u16,
