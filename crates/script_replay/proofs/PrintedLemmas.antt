@@ -3,21 +3,19 @@ use Rattle.std.proofs.Common.{◌≡◌, ℕ, zero, suc, ◌+◌, ◌<◌, ◌�
 use Rattle.std.proofs.lemmas.List.{append-nil}
 use Rattle.schema.specs.declared.look.Look.{Look}
 use Rattle.schema.specs.Rows.{Writes}
-use Rattle.log_model.specs.InstalledWrites.{map_after}
 use Rattle.log_model.specs.declared.verdict.Verdict.{Verdict}
-use Rattle.log_model.specs.Log.{StoredProcedure, Setting, Catalogue, Item, Log, CertifiedItem, IsLog, rows_after, run_in, verdict_of, history}
+use Rattle.log_model.specs.Log.{StoredProcedure, Setting, Catalogue, Item, Log, CertifiedItem, IsLog, run_in, verdict_of, history}
 use Rattle.certify.specs.Comparisons.{comparisons_after}
-use Rattle.log_model.specs.Entries.{ExecutedCall, Entry, CallEntry, AdditionEntry, item_of, items_of, IsCarried, CarryRuns, CertifiedEntries, certified_entry, certified_entries_of, installed_from}
-use Rattle.log_model.specs.Fit.{HasSafeProcedures, AreItems}
+use Rattle.log_model.specs.Entries.{ExecutedCall, Entry, CallEntry, AdditionEntry, item_of, items_of, IsCarried, CarryRuns, CertifiedEntries, certified_entry, certified_entries_of}
 use Rattle.dsm_model.specs.World.{numbered}
 use Rattle.dsm_model.specs.Sound.{reply_of}
 use Rattle.certify.specs.declared.certification.Certification.{Certification}
-use Rattle.replica.specs.Replica.{Replica, AreEntriesOf, StandsFor, rows_kept, certification_of}
+use Rattle.replica.specs.Replica.{Replica, AreEntriesOf, StandsFor, certification_of}
 use Rattle.replica.proofs.KeepsLemmas.{certified_more, certified_count}
 use Rattle.dsm_world.specs.System.{SystemWorld, setting_of, world_of, KeepsDelivered}
 use Rattle.dsm_world.proofs.Numbered.{numbered_map}
-use Rattle.dsm_world.proofs.RowLemmas.{log_is, position_within}
-use Rattle.replica.proofs.EntryLemmas.{take_all, take_first, take_drop, items_append, items_count, take_count, all_at, entries_taken}
+use Rattle.dsm_world.proofs.RowLemmas.{log_is}
+use Rattle.replica.proofs.EntryLemmas.{take_all, take_first, take_drop, items_count, take_count, all_at, entries_taken}
 use Rattle.byte_output.specs.declared.paged.PagedOutput.{PagedOutput}
 use Rattle.byte_output.specs.Pending.{Passes}
 use Rattle.byte_output.proofs.PendingLemmas.{Passes-then}
