@@ -33,12 +33,13 @@ stands_with P order bytes position count room stands =
 
 -- ---- what a line asks for
 
-pub call_answered : (s : SiteSetting) (order : Order) (r : SiteRequest) (name args given_name given_args : List ℕ) (session sequence : ℕ) (text : List ℕ) → r ≡ Call name args session sequence → given_name ≡ name → given_args ≡ args
-    → IsCallAnswer s order (record { name = given_name; args = given_args; request = given_request session sequence }) text → IsAnswer s order r text
-call_answered s order r name args given_name given_args session sequence text is same_name same_args answer =
+pub call_answered : (s : SiteSetting) (order : Order) (r : SiteRequest) (name args given_name given_args : List ℕ) (session sequence : ℕ) (given : Option RequestId) (text : List ℕ) → r ≡ Call name args session sequence → given_name ≡ name → given_args ≡ args
+    → given ≡ given_request session sequence → IsCallAnswer s order (record { name = given_name; args = given_args; request = given }) text → IsAnswer s order r text
+call_answered s order r name args given_name given_args session sequence given text is same_name same_args same_request answer =
     subst (λ (q : SiteRequest). IsAnswer s order q text) (sym is)
     (subst (λ (n : List ℕ). IsCallAnswer s order (record { name = n; args = args; request = given_request session sequence }) text) same_name
-    (subst (λ (a : List ℕ). IsCallAnswer s order (record { name = given_name; args = a; request = given_request session sequence }) text) same_args answer))
+    (subst (λ (a : List ℕ). IsCallAnswer s order (record { name = given_name; args = a; request = given_request session sequence }) text) same_args
+    (subst (λ (q : Option RequestId). IsCallAnswer s order (record { name = given_name; args = given_args; request = q }) text) same_request answer)))
 
 -- ---- what it says
 

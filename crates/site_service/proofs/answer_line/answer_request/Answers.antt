@@ -9,7 +9,7 @@ pub returns-in-Call-clause-answered : goal.returns-in-Call-clause-answered
 returns-in-Call-clause-answered g c = λ order stands.
     let a = c.answer_call.ensures order stands in (
       a.0,
-      call_answered (setting_of c.args.site) order c.args.request.now c.in-Call.name c.in-Call.args c.as_slice.result.now c.as_slice-in-Call.result.now c.in-Call.session c.in-Call.sequence a.0 c.in-Call.is c.as_slice.ensures c.as_slice-in-Call.ensures a.1,
+      call_answered (setting_of c.args.site) order c.args.request.now c.in-Call.name c.in-Call.args c.as_slice.result.now c.as_slice-in-Call.result.now c.in-Call.session c.in-Call.sequence c.given_request.result a.0 c.in-Call.is c.as_slice.ensures c.as_slice-in-Call.ensures c.given_request.ensures a.1,
       a.2,
     )
 
