@@ -12,6 +12,8 @@ use anyhow::bail;
 use std::alloc::{AllocError, Global};
 use std::env;
 use std::process::ExitCode;
+use std::sync::Wait;
+use std::thread::Threads;
 
 /// The words of a little work of each kind.
 const SAMPLES: [&str; 5] = [
@@ -23,12 +25,16 @@ const SAMPLES: [&str; 5] = [
 ];
 
 /// Does the work of a kind, the first word, as the further words say.
-fn run(rt: &HostRuntime, words: &[String]) -> anyhow::Result<()> {
+fn run<R: Threads + Wait + Sync>(
+    rt: &HostRuntime,
+    threads: &R,
+    words: &[String],
+) -> anyhow::Result<()> {
     match words.first().map(|word| word.as_str()) {
         Some("rows") => rows::run(rt, words),
         Some("machine") => machine::run(rt, words),
         Some("replica") => replicas::run(rt, words),
-        Some("order") => order::run(rt, words),
+        Some("order") => order::run(rt, threads, words),
         Some("world") => world::run(rt, words),
         _ => bail!("the first word is rows, machine, replica, order, world, or samples"),
     }
@@ -44,25 +50,25 @@ fn words_of(alloc: Global, line: &str) -> Result<Vec<String>, AllocError> {
 }
 
 /// Does a little work of each kind.
-fn run_samples(rt: &HostRuntime) -> anyhow::Result<()> {
+fn run_samples<R: Threads + Wait + Sync>(rt: &HostRuntime, threads: &R) -> anyhow::Result<()> {
     for line in SAMPLES {
-        run(rt, &words_of(rt.alloc(), line)?)?;
+        run(rt, threads, &words_of(rt.alloc(), line)?)?;
     }
     Ok(())
 }
 
 /// Does the work that the words of the command line name.
-fn run_as_asked(rt: &HostRuntime) -> anyhow::Result<()> {
+fn run_as_asked<R: Threads + Wait + Sync>(rt: &HostRuntime, threads: &R) -> anyhow::Result<()> {
     let words: Vec<String> = env::args(rt)?.collect(rt.alloc())?;
     let words = words.get(1..).unwrap_or(&[]);
     if words.first().is_some_and(|word| word.as_str() == "samples") {
-        return run_samples(rt);
+        return run_samples(rt, threads);
     }
-    run(rt, words)
+    run(rt, threads, words)
 }
 
 fn main(rt: HostRuntime) -> ExitCode {
-    match run_as_asked(&rt) {
+    match run_as_asked(&rt, &rt) {
         Ok(()) => ExitCode::SUCCESS,
         Err(error) => {
             let _ = eprintln!(rt; "bench: {error}");

@@ -174,8 +174,12 @@ fn append<R: Threads + Wait + Sync>(
 }
 
 /// Appends entries as the words say, and tells the number that went in.
-pub(crate) fn run(rt: &HostRuntime, words: &[String]) -> anyhow::Result<()> {
+pub(crate) fn run<R: Threads + Wait + Sync>(
+    rt: &HostRuntime,
+    threads: &R,
+    words: &[String],
+) -> anyhow::Result<()> {
     let request = request_of(words)?;
-    println!(rt; "entries {}", append(rt, rt.alloc(), request)?)?;
+    println!(rt; "entries {}", append(threads, rt.alloc(), request)?)?;
     Ok(())
 }
