@@ -282,6 +282,8 @@ class Client:
             raise Unsettled(f"an earlier call isn't settled: {self.unsettled}")
         if not NAME.fullmatch(name):
             raise ValueError(f"{name!r} is no procedure's name")
+        if args is not None and (fields or not isinstance(args, (bytes, bytearray))):
+            raise TypeError("arguments are bytes, or values by name as in call('pay', account=7, amount=100)")
         until = time.monotonic() + self._patience
         if args is None:
             args = self._pack(name, fields, until)

@@ -200,6 +200,11 @@ class Library(ServerTest):
             for name in ("a\nposition", "a b", "", "a\t"):
                 with self.assertRaises(ValueError):
                     client.call(name, b"")
+            with self.assertRaises(TypeError):
+                client.call("add", {"key": 9, "value": 1})
+            with self.assertRaises(TypeError):
+                client.call("add", bytes.fromhex(words(9, 1)), key=9)
+            self.assertEqual(client.call("add", bytes.fromhex(words(9, 1))).value, 4)
 
     def test_its_file_is_its_owners(self):
         path = f"{self.folder}/mine"
