@@ -2,6 +2,7 @@
 //! measurements from outside: it says how many instructions were run, or slots were read, and the time is taken by
 //! whoever starts it (bench/machine does).
 
+use crate::number_at;
 use anyhow::Context;
 use bpf_bytes::decode;
 use bpf_verify::{Accepted, verify};
@@ -31,6 +32,30 @@ enum Kind {
     Nexts,
 }
 
+/// r1 is 1, the table.
+const TABLE: [u8; 8] = [0xb7, 0x01, 0, 0, 1, 0, 0, 0];
+
+/// r2 is 5, a key.
+const KEY: [u8; 8] = [0xb7, 0x02, 0, 0, 5, 0, 0, 0];
+
+/// r2 is 2, the first key of an interval, and r3 is 5, the last.
+const FIRST_KEY: [u8; 8] = [0xb7, 0x02, 0, 0, 2, 0, 0, 0];
+
+const LAST_KEY: [u8; 8] = [0xb7, 0x03, 0, 0, 5, 0, 0, 0];
+
+/// r3 is the end of the stack, and then the place of its last eight bytes.
+const STACK_END: [u8; 8] = [0xbf, 0xa3, 0, 0, 0, 0, 0, 0];
+
+const LAST_WORD: [u8; 8] = [0x07, 0x03, 0, 0, 0xf8, 0xff, 0xff, 0xff];
+
+/// r6 is stored in the last eight bytes of the stack.
+const STORE: [u8; 8] = [0x7b, 0x6a, 0xf8, 0xff, 0, 0, 0, 0];
+
+/// The calls that get a row and put a row.
+const GET: [u8; 8] = [0x85, 0, 0, 0, 1, 0, 0, 0];
+
+const PUT: [u8; 8] = [0x85, 0, 0, 0, 2, 0, 0, 0];
+
 impl Kind {
     fn from_word(word: &str) -> Option<Kind> {
         match word {
@@ -55,10 +80,7 @@ impl Kind {
                 [0x27, 0x06, 0, 0, 3, 0, 0, 0],
                 [0x77, 0x07, 0, 0, 1, 0, 0, 0],
             ],
-            Kind::Memory => &[
-                [0x7b, 0x6a, 0xf8, 0xff, 0, 0, 0, 0],
-                [0x79, 0xa7, 0xf8, 0xff, 0, 0, 0, 0],
-            ],
+            Kind::Memory => &[STORE, [0x79, 0xa7, 0xf8, 0xff, 0, 0, 0, 0]],
             Kind::Mixed => &[
                 [0x0f, 0x76, 0, 0, 0, 0, 0, 0],
                 [0xa7, 0x08, 0, 0, 5, 0, 0, 0],
@@ -71,36 +93,14 @@ impl Kind {
                 [0x4f, 0x21, 0, 0, 0, 0, 0, 0],
                 [0x77, 0x02, 0, 0, 1, 0, 0, 0],
             ],
-            Kind::Gets => &[
-                [0xb7, 0x01, 0, 0, 1, 0, 0, 0],
-                [0xb7, 0x02, 0, 0, 5, 0, 0, 0],
-                [0xbf, 0xa3, 0, 0, 0, 0, 0, 0],
-                [0x07, 0x03, 0, 0, 0xf8, 0xff, 0xff, 0xff],
-                [0x85, 0, 0, 0, 1, 0, 0, 0],
-            ],
-            Kind::Puts => &[
-                [0x7b, 0x6a, 0xf8, 0xff, 0, 0, 0, 0],
-                [0xb7, 0x01, 0, 0, 1, 0, 0, 0],
-                [0xb7, 0x02, 0, 0, 5, 0, 0, 0],
-                [0xbf, 0xa3, 0, 0, 0, 0, 0, 0],
-                [0x07, 0x03, 0, 0, 0xf8, 0xff, 0xff, 0xff],
-                [0x85, 0, 0, 0, 2, 0, 0, 0],
-            ],
-            Kind::Removals => &[
-                [0xb7, 0x01, 0, 0, 1, 0, 0, 0],
-                [0xb7, 0x02, 0, 0, 5, 0, 0, 0],
-                [0x85, 0, 0, 0, 3, 0, 0, 0],
-            ],
-            Kind::Counts => &[
-                [0xb7, 0x01, 0, 0, 1, 0, 0, 0],
-                [0xb7, 0x02, 0, 0, 2, 0, 0, 0],
-                [0xb7, 0x03, 0, 0, 5, 0, 0, 0],
-                [0x85, 0, 0, 0, 4, 0, 0, 0],
-            ],
+            Kind::Gets => &[TABLE, KEY, STACK_END, LAST_WORD, GET],
+            Kind::Puts => &[STORE, TABLE, KEY, STACK_END, LAST_WORD, PUT],
+            Kind::Removals => &[TABLE, KEY, [0x85, 0, 0, 0, 3, 0, 0, 0]],
+            Kind::Counts => &[TABLE, FIRST_KEY, LAST_KEY, [0x85, 0, 0, 0, 4, 0, 0, 0]],
             Kind::Nexts => &[
-                [0xb7, 0x01, 0, 0, 1, 0, 0, 0],
-                [0xb7, 0x02, 0, 0, 2, 0, 0, 0],
-                [0xb7, 0x03, 0, 0, 5, 0, 0, 0],
+                TABLE,
+                FIRST_KEY,
+                LAST_KEY,
                 [0xbf, 0xa4, 0, 0, 0, 0, 0, 0],
                 [0x07, 0x04, 0, 0, 0xf8, 0xff, 0xff, 0xff],
                 [0xbf, 0xa5, 0, 0, 0, 0, 0, 0],
@@ -187,8 +187,7 @@ fn turns(alloc: Global, kind: Kind, calls: u32, by_turns: bool) -> Option<u64> {
 /// slots read.
 pub(crate) fn run(rt: &HostRuntime, words: &[String]) -> anyhow::Result<()> {
     let what = words.get(1).context("the first word is what is measured")?;
-    let times = words.get(2).and_then(|word| word.parse().ok());
-    let times = times.context("the second word is how often")?;
+    let times = number_at(words, 2, "the second word is how often")?;
     let how = words.get(3).map(|word| word.as_str());
     if let Ok(instructions) = what.parse() {
         let slots = slots_read(rt.alloc(), instructions, times, how == Some("verify"));

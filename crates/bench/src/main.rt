@@ -8,10 +8,11 @@ mod replicas;
 mod rows;
 mod world;
 
-use anyhow::bail;
+use anyhow::{Context, bail};
 use std::alloc::{AllocError, Global};
 use std::env;
 use std::process::ExitCode;
+use std::str::FromStr;
 use std::sync::Wait;
 use std::thread::Threads;
 
@@ -23,6 +24,15 @@ const SAMPLES: [&str; 5] = [
     "order log 4 1000",
     "world run 10 2100",
 ];
+
+/// Reads the word at a place as a number. Where there is none, the error says what the word is.
+fn number_at<T: FromStr>(words: &[String], place: usize, what: &'static str) -> anyhow::Result<T>
+where
+    <T as FromStr>::Err: Drop,
+{
+    let number = words.get(place).and_then(|word| word.parse().ok());
+    number.context(what)
+}
 
 /// Does the work of a kind, the first word, as the further words say.
 fn run<R: Threads + Wait + Sync>(

@@ -3,16 +3,16 @@
 
 ghost use Rattle.std.specs.Prelude.{◌≡◌};
 
+use crate::number_at;
 use anyhow::Context;
-use log_entry::{Entry, ExecutedCall};
-use log_model::RequestId;
+use log_entry::Entry;
 use order_log::{AppendFault, Fact, GroupCells, LogIdentity, OrderLog};
-use row_sets::{Bytes, ReadSet, WriteSet};
 use std::alloc::{AllocError, Global};
 use std::marker::Brand;
 use std::sync::{Mutex, Wait};
 use std::thread;
 use std::thread::Threads;
+use test_programs::idle_call;
 
 /// A fact that says nothing of an entry.
 struct Nothing;
@@ -42,18 +42,11 @@ impl Target {
     }
 }
 
-/// A call with a look and without arguments and writes.
+/// A call without arguments, looks and writes, which its reply tells from others.
 fn call(alloc: Global, reply: u64) -> Entry {
-    Entry::Call(ExecutedCall {
-        call: 0,
-        procedure: 1,
-        args: Bytes::new(Vec::new(alloc)),
-        snapshot: 0,
-        request: None,
-        reads: ReadSet::new(alloc),
-        writes: WriteSet::new(alloc),
-        reply,
-    })
+    let mut call = idle_call(alloc, 1, 0, None);
+    call.reply = reply;
+    Entry::Call(call)
 }
 
 /// Appends `count` entries to a log by one thread, and returns the number that went in.
@@ -145,14 +138,10 @@ struct Request {
 fn request_of(words: &[String]) -> anyhow::Result<Request> {
     let target = words.get(1).and_then(|word| Target::from_word(word));
     let target = target.context("the first word is log, vector or nowhere")?;
-    let threads = words.get(2).and_then(|word| word.parse().ok());
-    let threads = threads.context("the second word is how many threads there are")?;
-    let each = words.get(3).and_then(|word| word.parse().ok());
-    let each = each.context("the third word is how many entries each appends")?;
     Ok(Request {
         target,
-        threads,
-        each,
+        threads: number_at(words, 2, "the second word is how many threads there are")?,
+        each: number_at(words, 3, "the third word is how many entries each appends")?,
     })
 }
 

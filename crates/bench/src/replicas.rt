@@ -9,6 +9,7 @@ mod delivering;
 mod requesting;
 mod timing;
 
+use crate::number_at;
 use crate::replicas::adding::{additions, stored, taken};
 use crate::replicas::certifying::{Looks, sum_words, verdicts};
 use crate::replicas::delivering::{deliveries, reads};
@@ -103,10 +104,9 @@ fn report_longest(rt: &HostRuntime, keys: u64, times: u64) -> anyhow::Result<()>
 
 /// Reads the three words: the work, the number of keys, and the number of times.
 pub(crate) fn run(rt: &HostRuntime, words: &[String]) -> anyhow::Result<()> {
-    let keys = words.get(2).and_then(|word| word.parse().ok());
-    let keys = keys.context("the second word is how many keys, procedures or requests there are")?;
-    let times = words.get(3).and_then(|word| word.parse().ok());
-    let times = times.context("the third word is how many times it is done")?;
+    let keys = "the second word is how many keys, procedures or requests there are";
+    let keys = number_at(words, 2, keys)?;
+    let times = number_at(words, 3, "the third word is how many times it is done")?;
     if words.get(1).is_some_and(|word| word.as_str() == "longest") {
         return report_longest(rt, keys, times);
     }

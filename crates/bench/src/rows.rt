@@ -3,8 +3,8 @@
 
 mod row_table;
 
+use crate::number_at;
 use crate::rows::row_table::RowTable;
-use anyhow::Context;
 use std::alloc::{AllocError, Global};
 
 /// A drawn key: each number has another key.
@@ -54,12 +54,9 @@ fn read(table: &RowTable, keys: u64, reads: u64) -> u64 {
 
 pub(crate) fn run(rt: &HostRuntime, words: &[String]) -> anyhow::Result<()> {
     let alloc = rt.alloc();
-    let keys = words.get(1).and_then(|word| word.parse().ok());
-    let keys = keys.context("the number of keys")?;
-    let reads = words.get(2).and_then(|word| word.parse().ok());
-    let reads = reads.context("the number of reads")?;
-    let versions = words.get(3).and_then(|word| word.parse().ok());
-    let versions = versions.context("the number of versions more")?;
+    let keys = number_at(words, 1, "the number of keys")?;
+    let reads = number_at(words, 2, "the number of reads")?;
+    let versions = number_at(words, 3, "the number of versions more")?;
     let mut table = RowTable::new(alloc);
     fill(&mut table, alloc, keys)?;
     fill_again(&mut table, alloc, keys, versions)?;

@@ -4,6 +4,7 @@
 mod steps;
 mod worlds;
 
+use crate::number_at;
 use crate::world::steps::{arguments_of, calls_of, steps_of};
 use crate::world::worlds::{commits, commits_of_calls, new_world};
 use anyhow::Context;
@@ -80,9 +81,11 @@ fn report(rt: &HostRuntime, work: Work, keys: u64, count: u32) -> anyhow::Result
 pub(crate) fn run(rt: &HostRuntime, words: &[String]) -> anyhow::Result<()> {
     let work = words.get(1).and_then(|word| Work::from_word(word));
     let work = work.context("the first word is run, make, call or begin")?;
-    let keys = words.get(2).and_then(|word| word.parse().ok());
-    let keys = keys.context("the second word is how many keys there are")?;
-    let count = words.get(3).and_then(|word| word.parse().ok());
-    let count = count.context("the third word is how many steps or calls there are")?;
+    let keys = number_at(words, 2, "the second word is how many keys there are")?;
+    let count = number_at(
+        words,
+        3,
+        "the third word is how many steps or calls there are",
+    )?;
     report(rt, work, keys, count)
 }

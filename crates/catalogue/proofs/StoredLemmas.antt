@@ -69,6 +69,26 @@ stored_by_number number (l ∷ procedures) = by (nat_eq l.number number) (stored
     by true rest = refl
     by false rest = rest
 
+-- a program that is listed under a number is that of a stored procedure
+pub stored_under : (number : ℕ) (procedures : Procedures) (accepted : Procedure) → Some accepted ≡ option_map (λ l. l.accepted) (listed_by_number procedures number)
+    → (p : StoredProcedure) × (by_number (stored_procedures procedures) number ≡ Some p) × (accepted.args_len ≡ p.args_len)
+stored_under number procedures accepted e = go (listed_by_number procedures number) e (stored_by_number number procedures)
+  where
+    one : (a b : Procedure) → Some a ≡ Some b → a ≡ b
+    one a b e = cc
+
+    go : (o : Option ListedProcedure) → Some accepted ≡ option_map (λ l. l.accepted) o → by_number (stored_procedures procedures) number ≡ option_map stored o
+        → (p : StoredProcedure) × (by_number (stored_procedures procedures) number ≡ Some p) × (accepted.args_len ≡ p.args_len)
+    go None e f = absurd cc
+    go (Some l) e f = (stored l, f, ap (λ (p : Procedure). p.args_len) (one accepted l.accepted e))
+
+pub none_under : (number : ℕ) (procedures : Procedures) → None ≡ option_map (λ l. l.accepted) (listed_by_number procedures number) → by_number (stored_procedures procedures) number ≡ None
+none_under number procedures e = go (listed_by_number procedures number) e (stored_by_number number procedures)
+  where
+    go : (o : Option ListedProcedure) → None ≡ option_map (λ l. l.accepted) o → by_number (stored_procedures procedures) number ≡ option_map stored o → by_number (stored_procedures procedures) number ≡ None
+    go None e f = f
+    go (Some l) e f = absurd cc
+
 none_mapped : {X Y : Type 0} (f : X → Y) (o : Option X) → option_map f o ≡ None → o ≡ None
 none_mapped f None e = refl
 none_mapped f (Some x) e = absurd cc

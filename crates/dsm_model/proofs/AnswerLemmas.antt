@@ -1,5 +1,5 @@
 -- Which answers a step may give, and where memory is wanted.
-use Rattle.std.proofs.Common.{◌≡◌, inl, inr, ℕ, ◌+◌, ◌<◌, ◌≤◌, Bool, true, false, not, List, length, nat_eq, nat_le, nat_lt, Option, Some, None, IsTrue, refl, sym, ap, ◌∙◌}
+use Rattle.std.proofs.Common.{◌≡◌, inl, inr, ℕ, ◌+◌, ◌<◌, ◌≤◌, Bool, true, false, not, List, length, nat_eq, nat_le, nat_lt, Option, Some, None, Result, Ok, Err, IsTrue, refl, sym, ap, ◌∙◌}
 use Rattle.std.specs.FinMap.{len}
 use Rattle.bpf_semantics.specs.Run.{Run}
 use Rattle.log_model.specs.declared.verdict.Verdict.{Verdict}
@@ -10,9 +10,11 @@ use Rattle.dsm_model.specs.declared.outcome.Outcome.{Outcome}
 use Rattle.dsm_model.specs.declared.outcome.Outcome.TheVariants.{Begun, More, Exit, Stale, NoMemory, Ordered, Read, Cancelled, Delivered, Rebuilt, Added, Refused}
 use Rattle.log_model.specs.Log.{StoredProcedure, Setting, Call, by_number, procedures_after, run_in, verdict_of}
 use Rattle.log_model.specs.Name.{is_name}
-use Rattle.dsm_model.specs.World.{World, Replica, Step, Begin, Turn, Order, Deliver, Rebuild, Add, max_calls, call_count, position_of, numbered, open_call, without_call, with_replica, with_begun, new_call, after_begin, is_stale, with_turns, after_turn, with_ordered, after_order_by_run, after_order, after_deliver_next, after_deliver, after_rebuild, with_added, after_add_checked, after_add, after_step, with_stopped, after_refused_memory, after_step_without_memory, IsStep, is_answer}
+use Rattle.dsm_model.specs.World.{World, Replica, Step, Begin, Turn, Order, Deliver, Rebuild, Add, max_calls, call_count, position_of, numbered, open_call, without_call, with_replica, with_begun, new_call, after_begin, after_admission, is_stale, with_turns, after_turn, with_ordered, after_order_by_run, after_order, after_deliver_next, after_deliver, after_rebuild, with_added, after_add_checked, after_add, after_step, with_stopped, after_refused_memory, after_step_without_memory, IsStep, is_answer}
 use Rattle.log_model.specs.OpenCall.{OpenCall}
-use Rattle.log_model.specs.OpenRequest.{has_zero}
+use Rattle.log_model.specs.declared.refusal.CallRefusal.{CallRefusal}
+use Rattle.log_model.specs.declared.refusal.CallRefusal.TheVariants as call_refusal
+use Rattle.log_model.specs.Admission.{admission}
 use Rattle.program_checks.specs.ProgramCheck.{ProgramCheck, Passed, Failed}
 use Rattle.log_model.proofs.RunLemmas.{just}
 use Rattle.dsm_model.proofs.Cases.{Done, done, fst, either_if, begin_refused, order_refused, deliver_refused, rebuild_refused, add_refused}
@@ -24,17 +26,16 @@ is_given step given outcome leaves after is e = ap (is_answer step) (sym (fst (g
 
 begin_given : (before after : World) (r procedure : ℕ) (args : List ℕ) (request : Option RequestId) (outcome : Outcome) (o : Option Replica) (p : Option StoredProcedure) → after_begin before r procedure args request o p ≡ done outcome after → is_answer (Begin r procedure args request) outcome ≡ true
 begin_given before after r procedure args request outcome None p e = is_given (Begin r procedure args request) (Refused NoReplica) outcome before after refl e
-begin_given before after r procedure args request outcome (Some replica) None e = is_given (Begin r procedure args request) (Refused NoProcedure) outcome before after refl e
-begin_given before after r procedure args request outcome (Some replica) (Some p) e = elim (either_if (not (nat_eq (length args) p.args_len)) _ _ (outcome, after) e) [
-  | inl (t, d) ↦ is_given (Begin r procedure args request) (Refused ArgumentsLength) outcome before after refl d
-  | inr (t, d) ↦ elim (either_if (has_zero request) _ _ (outcome, after) d) [
-    | inl (t, h) ↦ is_given (Begin r procedure args request) (Refused ZeroInRequest) outcome before after refl h
-    | inr (t, h) ↦ elim (either_if (nat_le max_calls (call_count before)) _ _ (outcome, after) h) [
+begin_given before after r procedure args request outcome (Some replica) p e = by_answer (admission args request p) e
+  where
+    by_answer : (answer : Result StoredProcedure CallRefusal) → after_admission before r procedure args request replica answer ≡ done outcome after → is_answer (Begin r procedure args request) outcome ≡ true
+    by_answer (Err call_refusal.NoProcedure) d = is_given (Begin r procedure args request) (Refused NoProcedure) outcome before after refl d
+    by_answer (Err call_refusal.ArgumentsLength) d = is_given (Begin r procedure args request) (Refused ArgumentsLength) outcome before after refl d
+    by_answer (Err call_refusal.ZeroInRequest) d = is_given (Begin r procedure args request) (Refused ZeroInRequest) outcome before after refl d
+    by_answer (Ok stored) d = elim (either_if (nat_le max_calls (call_count before)) _ _ (outcome, after) d) [
       | inl (t, k) ↦ is_given (Begin r procedure args request) (Refused TooManyCalls) outcome before after refl k
       | inr (t, k) ↦ is_given (Begin r procedure args request) (Begun (length before.calls + 1) replica.position) outcome (with_begun before r (new_call before procedure args request replica.position)) after refl k
     ]
-  ]
-]
 
 turn_given : (w : Setting) (before after : World) (c : ℕ) (outcome : Outcome) (found : Option OpenCall) → after_turn w before c found ≡ done outcome after → is_answer (Turn c) outcome ≡ true
 turn_given w before after c outcome None e = is_given (Turn c) (Refused NoCall) outcome before after refl e
@@ -128,17 +129,16 @@ is_other given outcome leaves after is e = ap is_met (sym (fst (given, leaves) (
 
 begin_other : (before after : World) (r procedure : ℕ) (args : List ℕ) (request : Option RequestId) (outcome : Outcome) (o : Option Replica) (p : Option StoredProcedure) → after_begin before r procedure args request o p ≡ done outcome after → is_met outcome ≡ true
 begin_other before after r procedure args request outcome None p e = is_other (Refused NoReplica) outcome before after refl e
-begin_other before after r procedure args request outcome (Some replica) None e = is_other (Refused NoProcedure) outcome before after refl e
-begin_other before after r procedure args request outcome (Some replica) (Some p) e = elim (either_if (not (nat_eq (length args) p.args_len)) _ _ (outcome, after) e) [
-  | inl (t, d) ↦ is_other (Refused ArgumentsLength) outcome before after refl d
-  | inr (t, d) ↦ elim (either_if (has_zero request) _ _ (outcome, after) d) [
-    | inl (t, h) ↦ is_other (Refused ZeroInRequest) outcome before after refl h
-    | inr (t, h) ↦ elim (either_if (nat_le max_calls (call_count before)) _ _ (outcome, after) h) [
+begin_other before after r procedure args request outcome (Some replica) p e = by_answer (admission args request p) e
+  where
+    by_answer : (answer : Result StoredProcedure CallRefusal) → after_admission before r procedure args request replica answer ≡ done outcome after → is_met outcome ≡ true
+    by_answer (Err call_refusal.NoProcedure) d = is_other (Refused NoProcedure) outcome before after refl d
+    by_answer (Err call_refusal.ArgumentsLength) d = is_other (Refused ArgumentsLength) outcome before after refl d
+    by_answer (Err call_refusal.ZeroInRequest) d = is_other (Refused ZeroInRequest) outcome before after refl d
+    by_answer (Ok stored) d = elim (either_if (nat_le max_calls (call_count before)) _ _ (outcome, after) d) [
       | inl (t, k) ↦ is_other (Refused TooManyCalls) outcome before after refl k
       | inr (t, k) ↦ is_other (Begun (length before.calls + 1) replica.position) outcome (with_begun before r (new_call before procedure args request replica.position)) after refl k
     ]
-  ]
-]
 
 by_run_other : (before after : World) (c : ℕ) (outcome : Outcome) (call : Call) (code : Option ℕ) (r : Run) → after_order_by_run before c call code r ≡ done outcome after → is_met outcome ≡ true
 by_run_other before after c outcome call (Some code) r e = is_other (Cancelled call.snapshot code) outcome (without_call before c) after refl e

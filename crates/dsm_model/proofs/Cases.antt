@@ -1,5 +1,5 @@
 -- The ways in which a step may go.
-use Rattle.std.proofs.Common.{◌≡◌, ◌⊎◌, inl, inr, ℕ, ◌+◌, ◌≤◌, ◌<◌, Bool, true, false, not, cond, List, length, nat_eq, nat_le, nat_lt, Option, Some, None, refl, sym, ap, ◌∙◌, arith}
+use Rattle.std.proofs.Common.{◌≡◌, ◌⊎◌, inl, inr, ℕ, ◌+◌, ◌≤◌, ◌<◌, Bool, true, false, not, cond, List, length, nat_eq, nat_le, nat_lt, Option, Some, None, Result, Ok, Err, refl, sym, ap, ◌∙◌, arith}
 use Rattle.std.specs.FinMap.{len}
 use Rattle.std.proofs.lemmas.Bool.Decides.{nat_tests}
 use Rattle.bpf_code.specs.Program.{Program}
@@ -12,9 +12,12 @@ use Rattle.log_model.specs.declared.request.RequestId.{RequestId}
 use Rattle.dsm_model.specs.declared.outcome.Outcome.{Outcome}
 use Rattle.dsm_model.specs.declared.outcome.Outcome.TheVariants.{Begun, More, Exit, Stale, NoMemory, Ordered, Read, Cancelled, Delivered, Rebuilt, Refused, Added}
 use Rattle.log_model.specs.Log.{StoredProcedure, Setting, by_number, run_in, verdict_of, moment_at, procedures_after, procedure_of}
-use Rattle.dsm_model.specs.World.{World, Replica, Step, Begin, Turn, Order, Deliver, Rebuild, max_calls, numbered, open_call, without_call, with_replica, with_begun, new_call, after_begin, is_stale, with_turns, after_turn, with_ordered, after_order_by_run, after_order, after_deliver_next, after_deliver, after_rebuild, after_refused, after_step, with_stopped, after_turn_without_memory, after_refused_memory, after_step_without_memory, IsStep, Add, call_count, position_of, with_added, after_add_checked, after_add}
+use Rattle.dsm_model.specs.World.{World, Replica, Step, Begin, Turn, Order, Deliver, Rebuild, max_calls, numbered, open_call, without_call, with_replica, with_begun, new_call, after_begin, after_admission, is_stale, with_turns, after_turn, with_ordered, after_order_by_run, after_order, after_deliver_next, after_deliver, after_rebuild, after_refused, after_step, with_stopped, after_turn_without_memory, after_refused_memory, after_step_without_memory, IsStep, Add, call_count, position_of, with_added, after_add_checked, after_add}
 use Rattle.log_model.specs.OpenCall.{OpenCall, at_row_helper}
-use Rattle.log_model.specs.OpenRequest.{has_zero}
+use Rattle.log_model.specs.declared.refusal.CallRefusal.{CallRefusal}
+use Rattle.log_model.specs.declared.refusal.CallRefusal.TheVariants as call_refusal
+use Rattle.log_model.specs.Admission.{admission}
+use Rattle.log_model.proofs.AdmissionLemmas.{is_admitted}
 use Rattle.program_checks.specs.ProgramCheck.{ProgramCheck, Passed, Failed}
 use Rattle.log_model.specs.Name.{is_name}
 use Rattle.log_model.proofs.RunLemmas.{just}
@@ -157,37 +160,35 @@ same_case before after step outcome refusal not_full order memory deliver e = re
 begin_case : (w : Setting) (before after : World) (r procedure : ℕ) (args : List ℕ) (request : Option RequestId) (outcome : Outcome) (o : Option Replica) (p : Option StoredProcedure) → numbered before.replicas r ≡ o → by_number (procedures_after w before.log (position_of (numbered before.replicas r))) procedure ≡ p
     → after_begin before r procedure args request o p ≡ (outcome, after) → Case w before (Begin r procedure args request) outcome after
 begin_case w before after r procedure args request outcome None p f g e = Same (same_case before after (Begin r procedure args request) outcome NoReplica (λ x. cc) (λ c x. absurd cc) (λ x. absurd cc) (λ r x y. cc) e)
-begin_case w before after r procedure args request outcome (Some replica) None f g e = Same (same_case before after (Begin r procedure args request) outcome NoProcedure (λ x. cc) (λ c x. absurd cc) (λ x. absurd cc) (λ r x y. cc) e)
-begin_case w before after r procedure args request outcome (Some replica) (Some p) f g e = elim (either_if (not (nat_eq (length args) p.args_len)) _ _ (outcome, after) e) [
-  | inl (t, d) ↦ Same (same_case before after (Begin r procedure args request) outcome ArgumentsLength (λ x. cc) (λ c x. absurd cc) (λ x. absurd cc) (λ r x y. cc) d)
-  | inr (fits, d) ↦ elim (either_if (has_zero request) _ _ (outcome, after) d) [
-    | inl (t, h) ↦ Same (same_case before after (Begin r procedure args request) outcome ZeroInRequest (λ x. cc) (λ c x. absurd cc) (λ x. absurd cc) (λ r x y. cc) h)
-    | inr (one, h) ↦ elim (either_if (nat_le max_calls (call_count before)) _ _ (outcome, after) h) [
-      | inl (t, k) ↦ Same (same_case before after (Begin r procedure args request) outcome TooManyCalls (λ x. cc) (λ c x. absurd cc) (λ x. absurd cc) (λ r x y. cc) k)
-      | inr (few, k) ↦ New (record {
-        r = r;
-        procedure = procedure;
-        args = args;
-        request = request;
-        is = refl;
-        replica = replica;
-        stands = f;
-        stored = p;
-        known = ap (λ (o : Option Replica). by_number (procedures_after w before.log (position_of o)) procedure) (sym f) ∙ g;
-        count = same_length (length args) p.args_len fits;
-        few = less max_calls (call_count before) few;
-        answer = sym (fst (Begun (length before.calls + 1) replica.position, with_begun before r (new_call before procedure args request replica.position)) (outcome, after) k);
-        leaves = sym (snd (Begun (length before.calls + 1) replica.position, with_begun before r (new_call before procedure args request replica.position)) (outcome, after) k);
-      })
-    ]
-  ]
-]
+begin_case w before after r procedure args request outcome (Some replica) p f g e = by_answer (admission args request p) refl e
   where
-    same_length : (m n : ℕ) → not (nat_eq m n) ≡ false → m ≡ n
-    same_length m n e = grind arith
-
     less : (m n : ℕ) → nat_le m n ≡ false → n < m
     less m n e = grind (arith, nat_tests)
+
+    by_answer : (answer : Result StoredProcedure CallRefusal) → admission args request p ≡ answer → after_admission before r procedure args request replica answer ≡ (outcome, after) → Case w before (Begin r procedure args request) outcome after
+    by_answer (Err call_refusal.NoProcedure) h d = Same (same_case before after (Begin r procedure args request) outcome NoProcedure (λ x. cc) (λ c x. absurd cc) (λ x. absurd cc) (λ r x y. cc) d)
+    by_answer (Err call_refusal.ArgumentsLength) h d = Same (same_case before after (Begin r procedure args request) outcome ArgumentsLength (λ x. cc) (λ c x. absurd cc) (λ x. absurd cc) (λ r x y. cc) d)
+    by_answer (Err call_refusal.ZeroInRequest) h d = Same (same_case before after (Begin r procedure args request) outcome ZeroInRequest (λ x. cc) (λ c x. absurd cc) (λ x. absurd cc) (λ r x y. cc) d)
+    by_answer (Ok stored) h d =
+        let is = is_admitted args request p stored h in
+        elim (either_if (nat_le max_calls (call_count before)) _ _ (outcome, after) d) [
+          | inl (t, k) ↦ Same (same_case before after (Begin r procedure args request) outcome TooManyCalls (λ x. cc) (λ c x. absurd cc) (λ x. absurd cc) (λ r x y. cc) k)
+          | inr (few, k) ↦ New (record {
+            r = r;
+            procedure = procedure;
+            args = args;
+            request = request;
+            is = refl;
+            replica = replica;
+            stands = f;
+            stored = stored;
+            known = ap (λ (o : Option Replica). by_number (procedures_after w before.log (position_of o)) procedure) (sym f) ∙ g ∙ is.found;
+            count = is.fits;
+            few = less max_calls (call_count before) few;
+            answer = sym (fst (Begun (length before.calls + 1) replica.position, with_begun before r (new_call before procedure args request replica.position)) (outcome, after) k);
+            leaves = sym (snd (Begun (length before.calls + 1) replica.position, with_begun before r (new_call before procedure args request replica.position)) (outcome, after) k);
+          })
+        ]
 
 -- ---- Turn
 

@@ -1,17 +1,16 @@
 -- Each open call goes on well.
-use Rattle.std.proofs.Common.{◌≡◌, ◌≢◌, ℕ, ◌+◌, ◌≤◌, Some, Option, ap, ◌∙◌, ◌⊎◌, inl, inr, arith}
+use Rattle.std.proofs.Common.{◌≡◌, ◌≢◌, ℕ, ◌+◌, ◌≤◌, Some, ◌∙◌, ◌⊎◌, inl, inr, arith}
 use Rattle.std.proofs.lemmas.Bool.{cases_lt}
-use Rattle.bpf_semantics.specs.State.{State, entry_state}
+use Rattle.bpf_semantics.specs.State.{State}
 use Rattle.bpf_semantics.specs.Step.{Going, Ended, Stuck}
-use Rattle.bpf_semantics.specs.Run.{moment}
 use Rattle.bpf_semantics.specs.Path.{longest_path}
 use Rattle.bpf_semantics.proofs.MomentLemmas.{before_its_length, from_its_length_on}
-use Rattle.log_model.specs.Log.{StoredProcedure, Setting, Call, Log, rows_after, run_in, moment_of, moment_at, procedures_after, procedure_of}
+use Rattle.log_model.specs.Log.{Setting, Call, Log, rows_after, run_in, moment_at, procedures_after}
 use Rattle.log_model.specs.Fit.{HasSafeProcedures, IsCall}
 use Rattle.dsm_model.specs.World.{World, open_call}
 use Rattle.log_model.specs.OpenCall.{OpenCall}
 use Rattle.dsm_model.specs.Sound.{IsOpenCall, IsWorld, IsSound}
-use Rattle.log_model.proofs.RunLemmas.{just, HasRun, has_run}
+use Rattle.log_model.proofs.RunLemmas.{HasRun, has_run}
 use Rattle.log_model.proofs.GrowthLemmas.{rows_fit, procedures_safe}
 use Rattle.log_model.proofs.NextLemmas.{at_procedure}
 use Rattle.dsm_model.proofs.WorldLemmas.{begun_within}

@@ -1,5 +1,5 @@
 -- What each answer of a step says, and what it leaves.
-use Rattle.std.proofs.Common.{◌≡◌, ◌⊎◌, ◌↔◌, ◌||◌, IsTrue, inl, inr, ℕ, zero, suc, ◌+◌, ◌-◌, ◌≤◌, ◌<◌, Bool, true, false, not, ◌&&◌, List, length, nat_eq, nat_le, nat_lt, Option, Some, None, IsSome, IsTrue, refl, sym, ap, ◌∙◌, arith}
+use Rattle.std.proofs.Common.{◌≡◌, ◌⊎◌, IsTrue, inl, inr, ℕ, zero, suc, ◌+◌, ◌-◌, ◌≤◌, ◌<◌, Bool, true, false, not, ◌&&◌, List, length, nat_eq, nat_le, nat_lt, Option, Some, None, Result, Ok, Err, IsSome, IsTrue, refl, sym, ap, ◌∙◌, arith}
 use Rattle.std.specs.FinMap.{len}
 use Rattle.std.proofs.lemmas.Bool.Decides.{nat_tests}
 use Rattle.bpf_code.specs.Program.{Program}
@@ -13,9 +13,13 @@ use Rattle.dsm_model.specs.declared.outcome.StepRefusal.TheVariants as step_refu
 use Rattle.dsm_model.specs.declared.outcome.Outcome.{Outcome}
 use Rattle.dsm_model.specs.declared.outcome.Outcome.TheVariants.{Begun, More, Exit, Stale, NoMemory, Ordered, Read, Cancelled, Delivered, Rebuilt, Refused, Added}
 use Rattle.log_model.specs.Log.{StoredProcedure, Setting, Call, Log, by_number, run_in, verdict_of, moment_at, procedures_after, procedure_of}
-use Rattle.dsm_model.specs.World.{World, Replica, Step, Begin, Turn, Order, Deliver, Rebuild, max_calls, numbered, position_of, open_call, without_call, with_replica, with_begun, after_begin, is_stale, with_turns, after_turn, with_ordered, after_order_by_run, after_order, after_deliver_next, after_deliver, after_rebuild, after_step, with_stopped, after_turn_without_memory, after_refused_memory, after_step_without_memory, IsStep, Add, call_count, with_added, after_add_checked, after_add}
+use Rattle.dsm_model.specs.World.{World, Replica, Step, Begin, Turn, Order, Deliver, Rebuild, max_calls, numbered, position_of, open_call, without_call, with_replica, with_begun, after_begin, after_admission, is_stale, with_turns, after_turn, with_ordered, after_order_by_run, after_order, after_deliver_next, after_deliver, after_rebuild, after_step, with_stopped, after_turn_without_memory, after_refused_memory, after_step_without_memory, IsStep, Add, call_count, with_added, after_add_checked, after_add}
 use Rattle.log_model.specs.OpenCall.{OpenCall, makes_look, at_row_helper}
 use Rattle.log_model.specs.OpenRequest.{has_zero}
+use Rattle.log_model.specs.declared.refusal.CallRefusal.{CallRefusal}
+use Rattle.log_model.specs.declared.refusal.CallRefusal.TheVariants as call_refusal
+use Rattle.log_model.specs.Admission.{admission}
+use Rattle.log_model.proofs.AdmissionLemmas.{is_unknown, is_unfit, has_a_zero, is_admitted}
 use Rattle.program_checks.specs.ProgramCheck.{ProgramCheck, Passed, Failed}
 use Rattle.log_model.specs.Name.{is_name}
 use Rattle.log_model.proofs.RunLemmas.{just}
@@ -68,12 +72,6 @@ with_memory w before after step outcome f g (inr e) = absurd (elim (memory_answe
 
 -- ---- Begin
 
-same_length : (m n : ℕ) → not (nat_eq m n) ≡ false → m ≡ n
-same_length m n e = grind arith
-
-other_length : (m n : ℕ) → not (nat_eq m n) ≡ true → m ≡ n → ⊥
-other_length m n e f = grind arith
-
 less : (m n : ℕ) → nat_le m n ≡ false → n < m
 less m n e = grind (arith, nat_tests)
 
@@ -102,22 +100,23 @@ data BeginWay (w : Setting) (before : World) (r procedure : ℕ) (args : List �
 begin_way : (w : Setting) (before : World) (r procedure : ℕ) (args : List ℕ) (request : Option RequestId) (outcome : Outcome) (after : World) (o : Option Replica) (p : Option StoredProcedure) → numbered before.replicas r ≡ o → by_number (procedures_after w before.log (position_of (numbered before.replicas r))) procedure ≡ p
     → after_begin before r procedure args request o p ≡ done outcome after → BeginWay w before r procedure args request outcome after
 begin_way w before r procedure args request outcome after None p f g e = Nowhere f (sym (fst (Refused NoReplica, before) (outcome, after) e))
-begin_way w before r procedure args request outcome after (Some replica) None f g e =
-    Unknown replica f (ap (λ (o : Option Replica). by_number (procedures_after w before.log (position_of o)) procedure) (sym f) ∙ g) (sym (fst (Refused NoProcedure, before) (outcome, after) e))
-begin_way w before r procedure args request outcome after (Some replica) (Some p) f g e =
-    let known : by_number (procedures_after w before.log replica.position) procedure ≡ just p = ap (λ (o : Option Replica). by_number (procedures_after w before.log (position_of o)) procedure) (sym f) ∙ g in
-    elim (either_if (not (nat_eq (length args) p.args_len)) _ _ (outcome, after) e) [
-      | inl (t, d) ↦ Unfit replica p f known (other_length (length args) p.args_len t) (sym (fst (Refused ArgumentsLength, before) (outcome, after) d))
-      | inr (fits, d) ↦ elim (either_if (has_zero request) _ _ (outcome, after) d) [
-        | inl (t, h) ↦ Zero replica p f known (same_length (length args) p.args_len fits) t (sym (fst (Refused ZeroInRequest, before) (outcome, after) h))
-        | inr (one, h) ↦ elim (either_if (nat_le max_calls (call_count before)) _ _ (outcome, after) h) [
-          | inl (t, k) ↦ Many replica p f known (same_length (length args) p.args_len fits) one (at_most max_calls (call_count before) t) (sym (fst (Refused TooManyCalls, before) (outcome, after) k))
-          | inr (few, k) ↦ Begins replica p f known (same_length (length args) p.args_len fits) one (less max_calls (call_count before) few)
+begin_way w before r procedure args request outcome after (Some replica) p f g e = by_answer (admission args request p) refl e
+  where
+    known : by_number (procedures_after w before.log replica.position) procedure ≡ p
+    known = ap (λ (o : Option Replica). by_number (procedures_after w before.log (position_of o)) procedure) (sym f) ∙ g
+
+    by_answer : (answer : Result StoredProcedure CallRefusal) → admission args request p ≡ answer → after_admission before r procedure args request replica answer ≡ done outcome after → BeginWay w before r procedure args request outcome after
+    by_answer (Err call_refusal.NoProcedure) h d = Unknown replica f (known ∙ is_unknown args request p h) (sym (fst (Refused NoProcedure, before) (outcome, after) d))
+    by_answer (Err call_refusal.ArgumentsLength) h d = let no = is_unfit args request p h in Unfit replica no.0 f (known ∙ no.1) no.2 (sym (fst (Refused ArgumentsLength, before) (outcome, after) d))
+    by_answer (Err call_refusal.ZeroInRequest) h d = let no = has_a_zero args request p h in Zero replica no.0 f (known ∙ no.1) no.2 no.3 (sym (fst (Refused ZeroInRequest, before) (outcome, after) d))
+    by_answer (Ok stored) h d =
+        let is = is_admitted args request p stored h in
+        elim (either_if (nat_le max_calls (call_count before)) _ _ (outcome, after) d) [
+          | inl (t, k) ↦ Many replica stored f (known ∙ is.found) is.fits is.whole (at_most max_calls (call_count before) t) (sym (fst (Refused TooManyCalls, before) (outcome, after) k))
+          | inr (few, k) ↦ Begins replica stored f (known ∙ is.found) is.fits is.whole (less max_calls (call_count before) few)
               (sym (fst (Begun (length before.calls + 1) replica.position, begun_world before r procedure args request (length before.calls + 1) replica.position) (outcome, after) k))
               (sym (snd (Begun (length before.calls + 1) replica.position, begun_world before r procedure args request (length before.calls + 1) replica.position) (outcome, after) k))
         ]
-      ]
-    ]
 
 way_of_begin : (w : Setting) (before : World) (r procedure : ℕ) (args : List ℕ) (request : Option RequestId) (outcome : Outcome) (after : World) → (outcome ≡ Refused step_refusal.NoMemory → ⊥) → (outcome ≡ NoMemory → ⊥) → IsStep w before (Begin r procedure args request) outcome after → BeginWay w before r procedure args request outcome after
 unfolding after_step

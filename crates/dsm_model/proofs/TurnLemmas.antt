@@ -1,6 +1,5 @@
 -- Enough turns bring an open call to its end.
 use Rattle.std.proofs.Common.{◌≡◌, ◌⊎◌, inl, inr, ℕ, zero, suc, ◌+◌, ◌≤◌, ◌<◌, Bool, true, false, ◌&&◌, List, [], ◌∷◌, ◌++◌, length, slice_get, cond, nat_eq, Option, Some, None, is_some, refl, sym, ap, subst, ◌∙◌, arith}
-use Rattle.bpf_semantics.specs.State.{State}
 use Rattle.bpf_semantics.specs.Step.{Ended}
 use Rattle.bpf_semantics.specs.Run.{Run, moment}
 use Rattle.bpf_semantics.specs.Path.{longest_path}
@@ -15,7 +14,7 @@ use Rattle.log_model.specs.Fit.{HasSafeProcedures}
 use Rattle.dsm_model.specs.World.{World, Step, Begin, Turn, Order, Deliver, Rebuild, numbered, with_numbered, flatten, open_call, without_call, with_turns, IsStep, AreSteps, is_answer, Add}
 use Rattle.log_model.specs.OpenCall.{OpenCall}
 use Rattle.dsm_model.specs.Sound.{IsWorld, IsSound, AreGiven}
-use Rattle.dsm_model.specs.Worlds.{HasExited, IsBegun, IsCallNumbered, is_turn_of, runs_further, turns_of}
+use Rattle.dsm_model.specs.Worlds.{HasExited, IsCallNumbered, is_turn_of, runs_further, turns_of}
 use Rattle.log_model.proofs.GrowthLemmas.{procedures_grown, run_grown}
 use Rattle.log_model.proofs.RunLemmas.{just}
 use Rattle.dsm_model.proofs.Numbered.{some_is, numbered_there, numbered_gone, numbered_first, flat_is}

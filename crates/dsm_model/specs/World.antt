@@ -1,13 +1,18 @@
 -- A world of replicas that share one log: what it is made of, and what each step answers and leaves.
-use Rattle.std.specs.Prelude.{◌≡◌, ◌⊎◌, ℕ, zero, suc, ◌+◌, ◌-◌, ◌==◌, nat_le, nat_lt, Bool, true, false, not, ◌&&◌, ◌||◌, if◌then◌else◌, List, [], ◌∷◌, ◌++◌, length, replicate, slice_get, slice_set, Option, Some, None}
+use Rattle.std.specs.Prelude.{◌≡◌, ◌⊎◌, ℕ, zero, suc, ◌+◌, ◌-◌, ◌==◌, nat_le, nat_lt, Bool, true, false, not, ◌&&◌, if◌then◌else◌, List, [], ◌∷◌, ◌++◌, length, replicate, slice_get, slice_set, Option, Some, None, Result, Ok, Err}
 use Rattle.std.specs.FinMap.{len}
 use Rattle.schema.specs.declared.limits.TheConstants.{MAX_ARGUMENTS, MAX_LOG}
 use Rattle.bpf_semantics.specs.Run.{Run}
 use Rattle.log_model.specs.declared.verdict.Verdict.{Verdict}
 use Rattle.log_model.specs.declared.request.RequestId.{RequestId}
 use Rattle.log_model.specs.OpenCall.{OpenCall, makes_look, at_row_helper}
-use Rattle.log_model.specs.OpenRequest.{has_zero}
+use Rattle.log_model.specs.declared.refusal.CallRefusal.{CallRefusal}
+use Rattle.log_model.specs.declared.refusal.CallRefusal.TheVariants as call_refusal
+use Rattle.log_model.specs.Admission.{admission}
 use Rattle.program_checks.specs.ProgramCheck.{ProgramCheck, Passed, Failed}
+use Rattle.program_checks.specs.declared.fault.AdditionFault.{AdditionFault}
+use Rattle.program_checks.specs.declared.fault.AdditionFault.TheVariants as addition_fault
+use Rattle.dsm_model.specs.declared.outcome.StepRefusal.{StepRefusal}
 use Rattle.dsm_model.specs.declared.outcome.StepRefusal.TheVariants.{NoReplica, NoProcedure, ArgumentsLength, NoCall, NotAtExit, NothingToDeliver, ReplicaStopped, LogFull, TooManyCalls, ArgumentsLimit, ProgramRefused, NameShape, ZeroInRequest}
 use Rattle.dsm_model.specs.declared.outcome.StepRefusal.TheVariants as step_refusal
 use Rattle.dsm_model.specs.declared.outcome.Outcome.{Outcome}
@@ -94,14 +99,22 @@ abbrev pub new_call : World → ℕ → List ℕ → Option RequestId → ℕ �
 new_call world procedure args request snapshot =
     record { number = length world.calls + 1; procedure = procedure; args = args; snapshot = snapshot; request = request }
 
-abbrev pub after_begin : World → ℕ → ℕ → List ℕ → Option RequestId → Option Replica → Option StoredProcedure → Outcome × World
-after_begin world r procedure args request None _ = (Refused NoReplica, world)
-after_begin world r procedure args request (Some replica) None = (Refused NoProcedure, world)
-after_begin world r procedure args request (Some replica) (Some p) =
-    if not (length args == p.args_len) then (Refused ArgumentsLength, world)
-    else if has_zero request then (Refused ZeroInRequest, world)
-    else if is_full world then (Refused TooManyCalls, world)
+-- why a call doesn't begin, as a step is refused for that
+abbrev pub refusal_of_call : CallRefusal → StepRefusal
+refusal_of_call call_refusal.NoProcedure = NoProcedure
+refusal_of_call call_refusal.ArgumentsLength = ArgumentsLength
+refusal_of_call call_refusal.ZeroInRequest = ZeroInRequest
+
+abbrev pub after_admission : World → ℕ → ℕ → List ℕ → Option RequestId → Replica → Result StoredProcedure CallRefusal → Outcome × World
+after_admission world r procedure args request replica (Err cause) = (Refused (refusal_of_call cause), world)
+after_admission world r procedure args request replica (Ok p) =
+    if is_full world then (Refused TooManyCalls, world)
     else (Begun (length world.calls + 1) replica.position, with_begun world r (new_call world procedure args request replica.position))
+
+abbrev pub after_begin : World → ℕ → ℕ → List ℕ → Option RequestId → Option Replica → Option StoredProcedure → Outcome × World
+after_begin world r procedure args request None p = (Refused NoReplica, world)
+after_begin world r procedure args request (Some replica) p =
+    after_admission world r procedure args request replica (admission args request p)
 
 -- ---- Turn
 
@@ -162,6 +175,11 @@ after_rebuild world r (Some replica) = (Rebuilt (length world.log), with_replica
 
 abbrev pub with_added : World → StoredProcedure → World
 with_added world p = record world { log = world.log ++ AdditionItem p ∷ [] }
+
+-- why a procedure isn't added, as a step is refused for that
+abbrev pub refusal_of_addition : AdditionFault → StepRefusal
+refusal_of_addition (addition_fault.Program fault) = ProgramRefused fault
+refusal_of_addition addition_fault.Name = NameShape
 
 abbrev pub after_add_checked : World → List ℕ → ℕ → ℕ → ProgramCheck → Outcome × World
 after_add_checked world name number args_len (Failed fault) = (Refused (ProgramRefused fault), world)

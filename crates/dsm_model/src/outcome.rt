@@ -1,6 +1,10 @@
 //! The answers of the world's steps.
-use log_model::Verdict;
-use program_checks::ProgramFault;
+
+ghost use Rattle.std.specs.Prelude.{◌≡◌};
+ghost use Rattle.dsm_model.specs.World.{refusal_of_addition, refusal_of_call};
+
+use log_model::{CallRefusal, Verdict};
+use program_checks::{AdditionFault, ProgramFault};
 
 /// A cause for which a step is refused. The causes stand in the order of their printed numbers.
 #[derive(Clone, Copy, Debug, PartialEq, Eq)]
@@ -25,6 +29,29 @@ pub enum StepRefusal {
     NameShape,
     /// The session or the number of a request is 0.
     ZeroInRequest,
+}
+
+impl From<CallRefusal> for StepRefusal {
+    ghost from_gives = { λ refusal step. step ≡ refusal_of_call refusal };
+
+    fn from(refusal: CallRefusal) -> StepRefusal {
+        match refusal {
+            CallRefusal::NoProcedure => StepRefusal::NoProcedure,
+            CallRefusal::ArgumentsLength => StepRefusal::ArgumentsLength,
+            CallRefusal::ZeroInRequest => StepRefusal::ZeroInRequest,
+        }
+    }
+}
+
+impl From<AdditionFault> for StepRefusal {
+    ghost from_gives = { λ fault step. step ≡ refusal_of_addition fault };
+
+    fn from(fault: AdditionFault) -> StepRefusal {
+        match fault {
+            AdditionFault::Program(fault) => StepRefusal::ProgramRefused(fault),
+            AdditionFault::Name => StepRefusal::NameShape,
+        }
+    }
 }
 
 /// The answer of a step.

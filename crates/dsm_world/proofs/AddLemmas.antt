@@ -15,9 +15,13 @@ use Rattle.log_entry.specs.declared.entry.Entry.{Entry as LogEntry}
 use Rattle.log_entry.specs.declared.entry.Entry.TheVariants.{Call as LogCall, Addition as LogAddition}
 use Rattle.log_entry.specs.Kind.{entry_of}
 use Rattle.program_checks.specs.declared.fault.ProgramFault.{ProgramFault}
+use Rattle.program_checks.specs.declared.fault.AdditionFault.{AdditionFault}
+use Rattle.program_checks.specs.declared.fault.AdditionFault.TheVariants as fault
+use Rattle.program_checks.specs.Fault.{IsAdditionFault}
+use Rattle.schema.specs.declared.or_no_memory.OrNoMemory.TheVariants.{Fault}
 use Rattle.dsm_model.specs.declared.outcome.StepRefusal.TheVariants.{NoMemory, TooManyCalls, ArgumentsLimit, ProgramRefused, NameShape}
 use Rattle.dsm_model.specs.declared.outcome.Outcome.TheVariants.{Added, Refused}
-use Rattle.dsm_model.specs.World.{World, Add, max_calls, call_count, addition_count, with_added, after_add_checked, after_step, after_refused_memory, after_step_without_memory, IsStep}
+use Rattle.dsm_model.specs.World.{World, Add, max_calls, call_count, addition_count, with_added, refusal_of_addition, after_add_checked, after_step, after_refused_memory, after_step_without_memory, IsStep}
 use Rattle.program_checks.specs.ProgramCheck.{ProgramCheck, Passed, Failed}
 use Rattle.dsm_model.specs.Sound.{IsWorld}
 use Rattle.replica.specs.Replica.{IsForTables, IsNamed, entries_of, writes_in}
@@ -44,7 +48,7 @@ adds_checked : (w : Setting) (world : World) (name : List ℕ) (number args_len 
 unfolding after_step
 adds_checked w world name number args_len checked few short = no (nat_le max_calls (call_count world)) _ _ (not_le max_calls (call_count world) few) ∙ no (nat_lt 256 args_len) _ _ (not_lt 256 args_len short)
 
-pub add_failed : (w : Setting) (world : World) (name : List ℕ) (number args_len : ℕ) (checked : ProgramCheck) (fault : ProgramFault) → call_count world < max_calls → args_len ≤ 256 → checked ≡ Failed fault
+add_failed : (w : Setting) (world : World) (name : List ℕ) (number args_len : ℕ) (checked : ProgramCheck) (fault : ProgramFault) → call_count world < max_calls → args_len ≤ 256 → checked ≡ Failed fault
     → IsStep w world (Add name number args_len checked) (Refused (ProgramRefused fault)) world
 add_failed w world name number args_len checked fault few short failed = inl (adds_checked w world name number args_len checked few short ∙ ap (after_add_checked world name number args_len) failed)
 
@@ -53,9 +57,14 @@ adds_passed : (w : Setting) (world : World) (name : List ℕ) (number args_len :
     ≡ cond (not (is_name name)) (Refused NameShape, world) (Added (length world.log + 1), with_added world (record { name = name; number = number; program = program; args_len = args_len }))
 adds_passed w world name number args_len checked program few short passed = adds_checked w world name number args_len checked few short ∙ ap (after_add_checked world name number args_len) passed
 
-pub add_no_name : (w : Setting) (world : World) (name : List ℕ) (number args_len : ℕ) (checked : ProgramCheck) (program : Program) → call_count world < max_calls → args_len ≤ 256 → checked ≡ Passed program → is_name name ≡ false
+add_no_name : (w : Setting) (world : World) (name : List ℕ) (number args_len : ℕ) (checked : ProgramCheck) (program : Program) → call_count world < max_calls → args_len ≤ 256 → checked ≡ Passed program → is_name name ≡ false
     → IsStep w world (Add name number args_len checked) (Refused NameShape) world
 add_no_name w world name number args_len checked program few short passed shape = inl (adds_passed w world name number args_len checked program few short passed ∙ yes (not (is_name name)) _ _ (ap not shape))
+
+pub add_faulty : (w : Setting) (world : World) (name : List ℕ) (number args_len : ℕ) (checked : ProgramCheck) (fault : AdditionFault) → call_count world < max_calls → args_len ≤ 256 → IsAdditionFault name checked (Fault fault)
+    → IsStep w world (Add name number args_len checked) (Refused (refusal_of_addition fault)) world
+add_faulty w world name number args_len checked (fault.Program fault) few short failed = add_failed w world name number args_len checked fault few short failed
+add_faulty w world name number args_len checked fault.Name few short ((program, passed), shape) = add_no_name w world name number args_len checked program few short passed shape
 
 pub add_new : (w : Setting) (world : World) (name : List ℕ) (number args_len : ℕ) (checked : ProgramCheck) (program : Program) → call_count world < max_calls → args_len ≤ 256 → checked ≡ Passed program → is_name name ≡ true
     → IsStep w world (Add name number args_len checked) (Added (length world.log + 1)) (with_added world (record { name = name; number = number; program = program; args_len = args_len }))

@@ -1,5 +1,5 @@
 -- Steps of a call: what they answer by the definitions, and that all still fits together.
-use Rattle.std.proofs.Common.{◌≡◌, ◌≢◌, ◌⊎◌, get_or, ℕ, zero, suc, ◌+◌, ◌-◌, ◌<◌, ◌≤◌, Bool, false, cond, List, [], ◌∷◌, ◌++◌, length, map, take, drop, slice_get, slice_set, nat_lt, Option, Some, None, option_map, refl, sym, ap, subst, ◌∙◌, arith, inl, inr}
+use Rattle.std.proofs.Common.{◌≡◌, ◌≢◌, ◌⊎◌, get_or, ℕ, zero, suc, ◌+◌, ◌-◌, ◌<◌, ◌≤◌, Bool, cond, List, [], ◌∷◌, ◌++◌, length, map, take, drop, slice_get, slice_set, nat_lt, Option, Some, None, Ok, option_map, refl, sym, ap, subst, ◌∙◌, arith, inl, inr}
 use Rattle.std.specs.FinMap.{len}
 use Rattle.schema.specs.Rows.{Rows, AreWrites}
 use Rattle.log_model.specs.InstalledWrites.{map_after}
@@ -23,7 +23,7 @@ use Rattle.log_entry.specs.declared.entry.Entry.TheVariants.{Call as LogCall, Ad
 use Rattle.dsm_model.specs.World as model
 use Rattle.dsm_model.specs.World.{World, Begin, Order, numbered, with_numbered, flatten, open_call, with_open_call, without_call, with_ordered, with_begun, new_call, position_of, max_calls, addition_count, call_count, IsStep}
 use Rattle.log_model.specs.OpenCall.{OpenCall}
-use Rattle.log_model.specs.OpenRequest.{has_zero}
+use Rattle.log_model.specs.Admission.{admission}
 use Rattle.dsm_model.specs.Sound.{IsWorld}
 use Rattle.bpf_verify.specs.Flow.{Procedure}
 use Rattle.catalogue.specs.Catalogue.{accepted_of}
@@ -32,7 +32,8 @@ use Rattle.world_calls.specs.declared.open_call.OpenCall.{OpenCall as OpenCallSt
 use Rattle.dsm_world.specs.System.{SystemWorld, setting_of, progress_of, world_of}
 use Rattle.dsm_world.specs.Execution.{IsExecution}
 use Rattle.dsm_world.specs.Turned.{outcome_of, IsAppended}
-use Rattle.dsm_world.specs.Holdings.{IsReplicaOf, IsTogether, open_calls_of}
+use Rattle.dsm_world.specs.declared.holdings.Holdings.{Holdings}
+use Rattle.dsm_world.specs.Holdings.{AreConsistentHoldings, IsReplicaOf, IsTogether, call_slots, open_calls_of, system_of}
 use Rattle.dsm_world.proofs.Numbered.{get_map, set_map, set_same, set_twice, get_set, get_snoc, numbered_map, numbered_at, with_numbered_at}
 use Rattle.dsm_world.proofs.StepLemmas.{is_gone, execution_on, order_early, order_cancelled, order_read, order_full, order_new, order_without_memory, begin_new}
 use Rattle.replica.proofs.EntryLemmas.{OneMore, take_first, take_drop, take_count, items_append, items_count, all_snoc, entries_taken, entries_snoc}
@@ -278,10 +279,18 @@ map_count f (x ∷ xs) = ap suc (map_count f xs)
 pub calls_are : {A : Type 0} (s : SystemWorld) (slots : List (Option (OpenCallState A))) → IsTogether s slots → length s.calls ≡ length slots
 calls_are s slots h = ap (λ (x : List (Option OpenCall)). length x) h.calls ∙ map_count (λ (slot : Option (OpenCallState _)). option_map open_call_of slot) slots
 
-pub begins : {A : Type 0} (s : SystemWorld) (slots : List (Option (OpenCallState A))) (r k p : ℕ) (args : List ℕ) (request : Option RequestId) (old : Replica) (q : StoredProcedure) (c : OpenCallState A) (number : ℕ) → IsTogether s slots → r ≡ k + 1 → slice_get s.replicas k ≡ Some old → by_number (procedures_after (setting_of s) (world_of s).log old.position) p ≡ Some q
-    → length args ≡ q.args_len → has_zero request ≡ false → call_count (world_of s) < max_calls → number ≡ length slots + 1 → open_call_of c ≡ record { replica = r; call = record { number = number; procedure = p; args = args; snapshot = old.position; request = request }; turns = 0 }
+-- how many calls and additions a world has had, in code
+pub calls_counted : {A : Type 0} (h : Holdings A) → AreConsistentHoldings h → call_count (world_of (system_of h)) ≡ length h.calls.items + h.additions
+calls_counted h is =
+    let slots = map_count (λ slot. option_map (λ b. b.value) slot) h.calls.items in
+    let calls = calls_are (system_of h) (call_slots h) is.together in
+    let additions = is.additions in
+    omega arith
+
+pub begins : {A : Type 0} (s : SystemWorld) (slots : List (Option (OpenCallState A))) (r k p : ℕ) (args : List ℕ) (request : Option RequestId) (old : Replica) (q : StoredProcedure) (c : OpenCallState A) (number : ℕ) → IsTogether s slots → r ≡ k + 1 → slice_get s.replicas k ≡ Some old → admission args request (by_number (procedures_after (setting_of s) (world_of s).log old.position) p) ≡ Ok q
+    → call_count (world_of s) < max_calls → number ≡ length slots + 1 → open_call_of c ≡ record { replica = r; call = record { number = number; procedure = p; args = args; snapshot = old.position; request = request }; turns = 0 }
     → IsStep (setting_of s) (world_of s) (Begin r p args request) (Begun number old.position) (world_of (with_slots s (slots ++ Some c ∷ [])))
-begins s slots r k p args request old q c number h place at known long some few is same =
+begins s slots r k p args request old q c number h place at admitted few is same =
     let count = calls_are s slots h in
     let n : length s.calls + 1 ≡ number = omega arith in
     let entered : s.calls ++ Some (record { replica = r; call = new_call (world_of s) p args request old.position; turns = 0 }) ∷ [] ≡ open_calls_of (slots ++ Some c ∷ []) =
@@ -290,7 +299,7 @@ begins s slots r k p args request old q c number h place at known long some few 
     let leaves = ap (λ (calls : List (Option OpenCall)). record { log = items_of s.entries; replicas = map progress_of s.replicas; calls = calls }) entered in
     subst (λ (x : World). IsStep (setting_of s) (world_of s) (Begin r p args request) (Begun number old.position) x) leaves
     (subst (λ (m : ℕ). IsStep (setting_of s) (world_of s) (Begin r p args request) (Begun m old.position) (with_begun (world_of s) r (new_call (world_of s) p args request old.position))) n
-    (begin_new (setting_of s) (world_of s) r p args request (progress_of old) q (numbered_at (map progress_of s.replicas) r k place ∙ get_map progress_of s.replicas k ∙ ap (option_map progress_of) at) known long some few))
+    (begin_new (setting_of s) (world_of s) r p args request (progress_of old) q (numbered_at (map progress_of s.replicas) r k place ∙ get_map progress_of s.replicas k ∙ ap (option_map progress_of) at) admitted few))
 
 pub call_entered : {A : Type 0} (s : SystemWorld) (slots : List (Option (OpenCallState A))) (c : OpenCallState A) → IsTogether s slots → Follows (setting_of s) (items_of s.entries) c → IsWorld (setting_of s) (world_of (with_slots s (slots ++ Some c ∷ []))) → IsTogether (with_slots s (slots ++ Some c ∷ [])) (slots ++ Some c ∷ [])
 call_entered s slots c h follows world = record {

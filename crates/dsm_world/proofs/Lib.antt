@@ -5,4 +5,5 @@ mod StepLemmas
 mod EntryLemmas
 pub mod ReplicaLemmas
 pub mod CallLemmas
+mod BeginLemmas
 mod AddLemmas

@@ -1,18 +1,19 @@
 -- When a step of the definitions answers what, and what it leaves.
-use Rattle.std.proofs.Common.{◌≡◌, ◌≢◌, inl, inr, ℕ, zero, suc, ◌+◌, ◌-◌, ◌≤◌, ◌<◌, Bool, true, false, not, cond, List, length, nat_eq, nat_le, nat_lt, Option, Some, None, refl, sym, ap, subst, ◌∙◌, arith}
+use Rattle.std.proofs.Common.{◌≡◌, ◌≢◌, inl, inr, ℕ, zero, suc, ◌+◌, ◌-◌, ◌≤◌, ◌<◌, Bool, true, false, cond, List, length, nat_eq, nat_le, nat_lt, Option, Some, None, Ok, Err, refl, sym, ap, subst, ◌∙◌, arith}
 use Rattle.std.proofs.lemmas.Bool.Decides.{nat_tests}
 use Rattle.std.specs.FinMap.{len}
 use Rattle.bpf_vm.specs.declared.turn.Turn.{Turn as TurnAnswer}
 use Rattle.bpf_vm.specs.declared.turn.Turn.TheVariants as answer
 use Rattle.log_model.specs.declared.verdict.Verdict.{Verdict}
-use Rattle.dsm_model.specs.declared.outcome.StepRefusal.TheVariants.{NoReplica, NoProcedure, ArgumentsLength, NoCall, NotAtExit, NothingToDeliver, ReplicaStopped, LogFull, NoMemory, TooManyCalls, ZeroInRequest}
+use Rattle.dsm_model.specs.declared.outcome.StepRefusal.TheVariants.{NoReplica, NoCall, NotAtExit, NothingToDeliver, ReplicaStopped, LogFull, NoMemory, TooManyCalls}
 use Rattle.dsm_model.specs.declared.outcome.Outcome.{Outcome}
 use Rattle.dsm_model.specs.declared.outcome.Outcome.TheVariants.{Begun, More, Exit, Ordered, Read, Cancelled, Delivered, Rebuilt, Refused}
 use Rattle.log_model.specs.declared.request.RequestId.{RequestId}
 use Rattle.log_model.specs.Log.{StoredProcedure, Setting, by_number, procedures_after, procedure_of, run_in, verdict_of, moment_at}
-use Rattle.dsm_model.specs.World.{World, Replica, Step, Begin, Turn, Order, Deliver, Rebuild, max_calls, call_count, numbered, position_of, open_call, without_call, with_open_call, with_replica, with_begun, new_call, after_begin, is_stale, after_turn_by_run, after_turn, with_ordered, after_order_by_run, after_order, after_deliver_next, after_deliver, after_rebuild, after_step, after_turn_without_memory, after_refused_memory, after_step_without_memory, with_stopped, IsStep}
+use Rattle.dsm_model.specs.World.{World, Replica, Step, Begin, Turn, Order, Deliver, Rebuild, max_calls, call_count, numbered, position_of, open_call, without_call, with_open_call, with_replica, with_begun, new_call, refusal_of_call, after_admission, after_begin, is_stale, after_turn_by_run, after_turn, with_ordered, after_order_by_run, after_order, after_deliver_next, after_deliver, after_rebuild, after_step, after_turn_without_memory, after_refused_memory, after_step_without_memory, with_stopped, IsStep}
 use Rattle.log_model.specs.OpenCall.{OpenCall, at_row_helper}
-use Rattle.log_model.specs.OpenRequest.{has_zero}
+use Rattle.log_model.specs.declared.refusal.CallRefusal.{CallRefusal}
+use Rattle.log_model.specs.Admission.{admission}
 use Rattle.dsm_model.specs.Sound.{IsGiven, IsWorld}
 use Rattle.world_calls.specs.OpenCall.{IsTurn, AreTurns, further, stays_open}
 use Rattle.dsm_world.specs.Execution.{IsExecution}
@@ -45,12 +46,6 @@ is_lt m n lt = grind (arith, nat_tests)
 pub not_lt : (m n : ℕ) → n ≤ m → nat_lt m n ≡ false
 not_lt m n le = grind (arith, nat_tests)
 
-same_number : (m n : ℕ) → m ≡ n → not (nat_eq m n) ≡ false
-same_number m n e = grind (arith, nat_tests)
-
-other_number : (m n : ℕ) → m ≢ n → not (nat_eq m n) ≡ true
-other_number m n e = grind (arith, nat_tests)
-
 no_number : (m n : ℕ) → m ≢ n → nat_eq m n ≡ false
 no_number m n e = grind (arith, nat_tests)
 
@@ -66,41 +61,30 @@ begins w world r p args request o q e f = ap (λ x. after_begin world r p args r
 pub begin_no_replica : (w : Setting) (world : World) (r p : ℕ) (args : List ℕ) (request : Option RequestId) → numbered world.replicas r ≡ None → IsStep w world (Begin r p args request) (Refused NoReplica) world
 begin_no_replica w world r p args request e = inl (begins w world r p args request None _ e refl)
 
-pub begin_no_procedure : (w : Setting) (world : World) (r p : ℕ) (args : List ℕ) (request : Option RequestId) (k : Replica) → numbered world.replicas r ≡ Some k → by_number (procedures_after w world.log k.position) p ≡ None → IsStep w world (Begin r p args request) (Refused NoProcedure) world
-begin_no_procedure w world r p args request k e f = inl (begins w world r p args request (just k) None e f)
+pub begin_refused : (w : Setting) (world : World) (r p : ℕ) (args : List ℕ) (request : Option RequestId) (k : Replica) (cause : CallRefusal) → numbered world.replicas r ≡ Some k → admission args request (by_number (procedures_after w world.log k.position) p) ≡ Err cause
+    → IsStep w world (Begin r p args request) (Refused (refusal_of_call cause)) world
+begin_refused w world r p args request k cause e refused = inl (begins w world r p args request (just k) _ e refl ∙ ap (after_admission world r p args request k) refused)
 
-pub begin_other_length : (w : Setting) (world : World) (r p : ℕ) (args : List ℕ) (request : Option RequestId) (k : Replica) (q : StoredProcedure) → numbered world.replicas r ≡ Some k → by_number (procedures_after w world.log k.position) p ≡ Some q → length args ≢ q.args_len
-    → IsStep w world (Begin r p args request) (Refused ArgumentsLength) world
-begin_other_length w world r p args request k q e f other = inl (begins w world r p args request (just k) (just q) e f ∙ yes (not (nat_eq (length args) q.args_len)) _ _ (other_number (length args) q.args_len other))
-
-begun_or_zero : (w : Setting) (world : World) (r p : ℕ) (args : List ℕ) (request : Option RequestId) (k : Replica) (q : StoredProcedure) → numbered world.replicas r ≡ just k → by_number (procedures_after w world.log k.position) p ≡ just q → length args ≡ q.args_len → after_step w world (Begin r p args request)
-    ≡ cond (has_zero request) (Refused ZeroInRequest, world) (cond (nat_le max_calls (call_count world)) (Refused TooManyCalls, world) (Begun (length world.calls + 1) k.position, with_begun world r (new_call world p args request k.position)))
-begun_or_zero w world r p args request k q e f long = begins w world r p args request (just k) (just q) e f ∙ no (not (nat_eq (length args) q.args_len)) _ _ (same_number (length args) q.args_len long)
-
-pub begin_zero : (w : Setting) (world : World) (r p : ℕ) (args : List ℕ) (request : Option RequestId) (k : Replica) (q : StoredProcedure) → numbered world.replicas r ≡ Some k → by_number (procedures_after w world.log k.position) p ≡ Some q → length args ≡ q.args_len → has_zero request ≡ true
-    → IsStep w world (Begin r p args request) (Refused ZeroInRequest) world
-begin_zero w world r p args request k q e f long has = inl (begun_or_zero w world r p args request k q e f long ∙ yes (has_zero request) _ _ has)
-
-begun_or_many : (w : Setting) (world : World) (r p : ℕ) (args : List ℕ) (request : Option RequestId) (k : Replica) (q : StoredProcedure) → numbered world.replicas r ≡ just k → by_number (procedures_after w world.log k.position) p ≡ just q → length args ≡ q.args_len → has_zero request ≡ false → after_step w world (Begin r p args request)
+begun_or_many : (w : Setting) (world : World) (r p : ℕ) (args : List ℕ) (request : Option RequestId) (k : Replica) (q : StoredProcedure) → numbered world.replicas r ≡ just k → admission args request (by_number (procedures_after w world.log k.position) p) ≡ Ok q → after_step w world (Begin r p args request)
     ≡ cond (nat_le max_calls (call_count world)) (Refused TooManyCalls, world) (Begun (length world.calls + 1) k.position, with_begun world r (new_call world p args request k.position))
-begun_or_many w world r p args request k q e f long some = begun_or_zero w world r p args request k q e f long ∙ no (has_zero request) _ _ some
+begun_or_many w world r p args request k q e admitted = begins w world r p args request (just k) _ e refl ∙ ap (after_admission world r p args request k) admitted
 
-pub begin_too_many : (w : Setting) (world : World) (r p : ℕ) (args : List ℕ) (request : Option RequestId) (k : Replica) (q : StoredProcedure) → numbered world.replicas r ≡ Some k → by_number (procedures_after w world.log k.position) p ≡ Some q → length args ≡ q.args_len → has_zero request ≡ false → max_calls ≤ call_count world
+pub begin_too_many : (w : Setting) (world : World) (r p : ℕ) (args : List ℕ) (request : Option RequestId) (k : Replica) (q : StoredProcedure) → numbered world.replicas r ≡ Some k → admission args request (by_number (procedures_after w world.log k.position) p) ≡ Ok q → max_calls ≤ call_count world
     → IsStep w world (Begin r p args request) (Refused TooManyCalls) world
-begin_too_many w world r p args request k q e f long some many = inl (begun_or_many w world r p args request k q e f long some ∙ yes (nat_le max_calls (call_count world)) _ _ (is_le max_calls (call_count world) many))
+begin_too_many w world r p args request k q e admitted many = inl (begun_or_many w world r p args request k q e admitted ∙ yes (nat_le max_calls (call_count world)) _ _ (is_le max_calls (call_count world) many))
 
-begins_new : (w : Setting) (world : World) (r p : ℕ) (args : List ℕ) (request : Option RequestId) (k : Replica) (q : StoredProcedure) → numbered world.replicas r ≡ just k → by_number (procedures_after w world.log k.position) p ≡ just q → length args ≡ q.args_len → has_zero request ≡ false → call_count world < max_calls
+begins_new : (w : Setting) (world : World) (r p : ℕ) (args : List ℕ) (request : Option RequestId) (k : Replica) (q : StoredProcedure) → numbered world.replicas r ≡ just k → admission args request (by_number (procedures_after w world.log k.position) p) ≡ Ok q → call_count world < max_calls
     → after_step w world (Begin r p args request) ≡ (Begun (length world.calls + 1) k.position, with_begun world r (new_call world p args request k.position))
-begins_new w world r p args request k q e f long some few = begun_or_many w world r p args request k q e f long some ∙ no (nat_le max_calls (call_count world)) _ _ (not_le max_calls (call_count world) few)
+begins_new w world r p args request k q e admitted few = begun_or_many w world r p args request k q e admitted ∙ no (nat_le max_calls (call_count world)) _ _ (not_le max_calls (call_count world) few)
 
-pub begin_new : (w : Setting) (world : World) (r p : ℕ) (args : List ℕ) (request : Option RequestId) (k : Replica) (q : StoredProcedure) → numbered world.replicas r ≡ Some k → by_number (procedures_after w world.log k.position) p ≡ Some q → length args ≡ q.args_len → has_zero request ≡ false → call_count world < max_calls
+pub begin_new : (w : Setting) (world : World) (r p : ℕ) (args : List ℕ) (request : Option RequestId) (k : Replica) (q : StoredProcedure) → numbered world.replicas r ≡ Some k → admission args request (by_number (procedures_after w world.log k.position) p) ≡ Ok q → call_count world < max_calls
     → IsStep w world (Begin r p args request) (Begun (length world.calls + 1) k.position) (with_begun world r (new_call world p args request k.position))
-begin_new w world r p args request k q e f long some few = inl (begins_new w world r p args request k q e f long some few)
+begin_new w world r p args request k q e admitted few = inl (begins_new w world r p args request k q e admitted few)
 
-pub begin_without_memory : (w : Setting) (world : World) (r p : ℕ) (args : List ℕ) (request : Option RequestId) (k : Replica) (q : StoredProcedure) → numbered world.replicas r ≡ Some k → by_number (procedures_after w world.log k.position) p ≡ Some q → length args ≡ q.args_len → has_zero request ≡ false → call_count world < max_calls
+pub begin_without_memory : (w : Setting) (world : World) (r p : ℕ) (args : List ℕ) (request : Option RequestId) (k : Replica) (q : StoredProcedure) → numbered world.replicas r ≡ Some k → admission args request (by_number (procedures_after w world.log k.position) p) ≡ Ok q → call_count world < max_calls
     → IsStep w world (Begin r p args request) (Refused NoMemory) world
 unfolding after_step_without_memory
-begin_without_memory w world r p args request k q e f long some few = inr (ap (λ (d : Done). after_refused_memory world (Begin r p args request) d.0) (begins_new w world r p args request k q e f long some few))
+begin_without_memory w world r p args request k q e admitted few = inr (ap (λ (d : Done). after_refused_memory world (Begin r p args request) d.0) (begins_new w world r p args request k q e admitted few))
 
 -- ---- Turn
 

@@ -9,7 +9,7 @@ use crate::calls::{begin_call, enter};
 use crate::holdings::Holdings;
 use crate::numbers::index_of;
 use dsm_model::{Outcome, StepRefusal, steps_keep_a_world};
-use log_model::{RequestId, a_log_only_grows, has_zero, rows_fit_the_schema};
+use log_model::{RequestId, a_log_only_grows, rows_fit_the_schema};
 use replica::replicas_follow_the_log;
 use schema::MAX_LOG;
 use std::alloc::Allocator;
@@ -43,15 +43,10 @@ pub(crate) fn begin<A: Allocator + Copy>(
         return Outcome::Refused(StepRefusal::NoReplica);
     };
     let held = &world.replicas[at];
-    let Some(accepted) = held.procedures().by_number(procedure) else {
-        return Outcome::Refused(StepRefusal::NoProcedure);
+    let accepted = match held.procedures().admit(procedure, args, request) {
+        Ok(accepted) => accepted,
+        Err(refusal) => return Outcome::Refused(StepRefusal::from(refusal)),
     };
-    if args.len() != usize::from(accepted.args_len()) {
-        return Outcome::Refused(StepRefusal::ArgumentsLength);
-    }
-    if has_zero(request) {
-        return Outcome::Refused(StepRefusal::ZeroInRequest);
-    }
     if world.calls.len() + world.additions as usize >= MAX_CALLS {
         return Outcome::Refused(StepRefusal::TooManyCalls);
     }

@@ -4,4 +4,6 @@
 #[cfg(test)]
 mod call_scripts;
 #[cfg(test)]
+mod growths;
+#[cfg(test)]
 mod tests;

@@ -13,10 +13,10 @@ use Rattle.catalogue.specs.Stored.{ListedProcedure, stored}
 use Rattle.log_entry.specs.declared.entry.Entry.{Entry as LogEntry}
 use Rattle.log_entry.specs.declared.entry.Entry.TheVariants.{Call, Addition}
 use Rattle.log_entry.specs.Kind.{entry_of}
-use Rattle.order_log.specs.Facts.{HasFactAfter, snapshot_of}
+use Rattle.order_log.specs.Facts.{HasFactAfter}
 use Rattle.replica.specs.Replica.{AreEntriesOf, IsForTables, IsNamed, entries_of, writes_in}
 use Rattle.replica.proofs.EntryLemmas.{take_drop, take_count, items_append, items_count}
-use Rattle.locked_replica.specs.Ordered.{IsOrderedCall, IsOrderedAddition, IsOrdered}
+use Rattle.locked_replica.specs.Ordered.{IsOrderedAddition, IsOrdered}
 
 -- what the laws of lower crates say
 abbrev pub OneMore : Type 0

@@ -1,5 +1,6 @@
 use crate::begun::BegunCall;
 use crate::fact::LogSetting;
+use log_model::CallRefusal;
 use order_log::Seen;
 use std::alloc::{Allocator, Global};
 
@@ -8,9 +9,7 @@ use std::alloc::{Allocator, Global};
 pub enum Begin<J: LogSetting, P: Allocator + Copy = Global> {
     /// The replica hasn't come as far as the call asks for.
     Behind,
-    /// The procedure's number has no procedure after what was seen.
-    NoProcedure(Seen<J, P>),
-    /// The procedure takes arguments of another length.
-    ArgumentsLength(Seen<J, P>),
+    /// The call may not begin after what was seen.
+    Refused(CallRefusal, Seen<J, P>),
     Begun(BegunCall<J, P>),
 }

@@ -21,7 +21,7 @@ use crate::fact::{LogSetting, OrderedEntries};
 use crate::laws::beginnings_say_the_same;
 use crate::ordered_laws::entries_with_facts_are_a_logs;
 use catalogue::{Catalogue, StoredProcedures, catalogues_are_safe, each_catalogue_is_consistent};
-use log_model::{Verdict, each_call_has_a_verdict, entries_suffice};
+use log_model::{RequestId, Verdict, each_call_has_a_verdict, entries_suffice};
 use order_log::{OrderLog, Seen};
 use replica::{At, Replica, replicas_follow_the_log, tables_take_the_schemas_writes};
 use std::alloc::{AllocError, Allocator, Global};
@@ -158,20 +158,27 @@ impl<J: LogSetting, A: Allocator + Copy, P: Allocator + Copy> LockedReplica<J, A
 
     /// Begins a call of a procedure, unless fewer entries than `least` were delivered. The call sees what was
     /// delivered.
-    pub fn begin(&self, least: u32, procedure: u16, args: &[u8]) -> Result<Begin<J, P>, AllocError>
-        ensures { IfOk result (λ begin. Begins J.setting self.now least procedure args.now begin) }
+    pub fn begin(
+        &self,
+        least: u32,
+        procedure: u16,
+        args: &[u8],
+        request: Option<RequestId>,
+    ) -> Result<Begin<J, P>, AllocError>
+        ensures { IfOk result (λ begin. Begins J.setting self.now least procedure args.now request begin) }
     {
         if self.position() < least {
             return Ok(Begin::Behind);
         }
         self.keeps_what_was_delivered();
         let seen = self.seen();
-        let Some(accepted) = self.procedures().shared(procedure)? else {
-            return Ok(Begin::NoProcedure(seen));
-        };
-        if args.len() != usize::from(accepted.args_len()) {
-            return Ok(Begin::ArgumentsLength(seen));
+        let procedures = self.procedures();
+        if let Err(refusal) = procedures.admit(procedure, args, request) {
+            return Ok(Begin::Refused(refusal, seen));
         }
+        let Some(accepted) = procedures.shared(procedure)? else {
+            unreachable!()
+        };
         Ok(Begin::Begun(BegunCall::new(seen, procedure, accepted)))
     }
 

@@ -11,7 +11,7 @@ use Rattle.log_model.specs.Log.{Call, StoredProcedure}
 use Rattle.log_model.specs.OpenRequest.{given_request, has_zero}
 use Rattle.log_model.specs.Entries.{ExecutedCall, CallEntry, AdditionEntry}
 use Rattle.log_entry.specs.Bytes.{entry_bytes, session_of, sequence_of, executed_bytes, head_bytes, looks_bytes, writes_bytes}
-use Rattle.log_entry.specs.Head.{Head, CallHead, AdditionHead, part, field, request_of, call_of, call_head, procedure_of, addition_head, head_of}
+use Rattle.log_entry.specs.Head.{CallHead, AdditionHead, part, field, request_of, call_of, call_head, procedure_of, addition_head, head_of}
 use Rattle.log_entry.specs.Fit.{CallFitsFields, AdditionFitsFields, named_procedure}
 
 -- what stands in front, and behind

@@ -1,5 +1,5 @@
 -- Entries whose numbers and lengths fit their fields.
-use Rattle.std.specs.Prelude.{◌≡◌, ℕ, ◌<◌, ◌^◌, false, length}
+use Rattle.std.specs.Prelude.{◌≡◌, ◌<◌, ◌^◌, false, length}
 use Rattle.bpf_bytes.specs.Spelling.{spelling}
 use Rattle.log_model.specs.Log.{StoredProcedure}
 use Rattle.log_model.specs.OpenRequest.{has_zero}

@@ -1,5 +1,5 @@
 -- An entry in code, and the model's.
-use Rattle.catalogue.specs.Stored.{ListedProcedure, stored}
+use Rattle.catalogue.specs.Stored.{stored}
 use Rattle.log_entry.specs.declared.entry.Entry.{Entry as LogEntry}
 use Rattle.log_entry.specs.declared.entry.Entry.TheVariants.{Call, Addition}
 use Rattle.log_model.specs.Entries.{Entry, CallEntry, AdditionEntry}

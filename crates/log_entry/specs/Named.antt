@@ -1,7 +1,12 @@
 -- A head in code, and the definition's.
 use Rattle.log_entry.specs.declared.head.EntryHead.{EntryHead}
 use Rattle.log_entry.specs.declared.head.EntryHead.TheVariants.{Call, Addition}
-use Rattle.log_entry.specs.Head.{Head, CallHead, AdditionHead}
+use Rattle.log_entry.specs.declared.addition.NamedProgram.{NamedProgram}
+use Rattle.log_entry.specs.Head.{Head, NamedProcedure, CallHead, AdditionHead}
+
+abbrev pub named_of : NamedProgram → NamedProcedure
+named_of named =
+    record { number = named.number; args_len = named.args_len; name = named.name.now; bytes = named.program.now }
 
 abbrev pub named : EntryHead → Head
 named (Call head) = CallHead (record {
@@ -11,9 +16,4 @@ named (Call head) = CallHead (record {
   snapshot = head.snapshot;
   request = head.request;
 }) head.reply
-named (Addition head) = AdditionHead (record {
-  number = head.number;
-  args_len = head.args_len;
-  name = head.name.now;
-  bytes = head.program.now;
-})
+named (Addition program) = AdditionHead (named_of program)

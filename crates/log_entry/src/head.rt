@@ -1,5 +1,6 @@
 //! The heads of entries, which are what their bytes name.
 
+use crate::addition::NamedProgram;
 use log_model::RequestId;
 
 /// A call as the bytes of its entry name it, and the reply that they tell.
@@ -14,19 +15,9 @@ pub struct CallHead<'a> {
     pub reply: u64,
 }
 
-/// A procedure that is to be added, as the bytes of its entry say it.
-#[derive(Clone, Copy, Debug, PartialEq, Eq)]
-pub struct AdditionHead<'a> {
-    pub number: u16,
-    pub args_len: u16,
-    pub name: &'a [u8],
-    /// The bytes of the program, which may be no program.
-    pub program: &'a [u8],
-}
-
 /// The head of an entry: what the bytes of the entry name.
 #[derive(Clone, Copy, Debug, PartialEq, Eq)]
 pub enum EntryHead<'a> {
     Call(CallHead<'a>),
-    Addition(AdditionHead<'a>),
+    Addition(NamedProgram<'a>),
 }

@@ -4,7 +4,8 @@ ghost use Rattle.std.specs.Prelude.{◌≡◌, ◌+◌, ◌≤◌, ◌<◌, leng
 ghost use Rattle.log_entry.specs.Head.{addition_head, call_head, field, head_of, part};
 ghost use Rattle.log_entry.specs.Named.{named};
 
-use crate::head::{AdditionHead, CallHead, EntryHead};
+use crate::addition::NamedProgram;
+use crate::head::{CallHead, EntryHead};
 use byteorder::{ByteOrder, LittleEndian};
 use log_model::{given_request, has_zero};
 
@@ -93,7 +94,7 @@ fn addition_head(fields: &[u8]) -> Option<EntryHead<'_>>
     if fields.len() - 9 - name_len != program_len {
         return None;
     }
-    Some(EntryHead::Addition(AdditionHead {
+    Some(EntryHead::Addition(NamedProgram {
         number: u16_at(fields, 0),
         args_len: u16_at(fields, 2),
         name: part(fields, 5, name_len),

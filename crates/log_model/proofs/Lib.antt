@@ -13,3 +13,4 @@ pub mod CarryLemmas
 mod InstalledLemmas
 pub mod NextLemmas
 mod OpenRequestLemmas
+pub mod AdmissionLemmas

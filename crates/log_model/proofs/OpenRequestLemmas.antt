@@ -1,5 +1,5 @@
 -- The request that a call is begun with.
-use Rattle.std.proofs.Common.{◌≡◌, ◌⊎◌, inl, inr, ◌↔◌, ℕ, Bool, true, false, ◌&&◌, ◌||◌, cond, nat_eq, Option, Some, None, IsTrue, refl, ap, ◌∙◌, arith}
+use Rattle.std.proofs.Common.{◌≡◌, ◌⊎◌, inl, inr, ◌↔◌, ℕ, Bool, true, false, ◌&&◌, ◌||◌, cond, nat_eq, Some, None, IsTrue, refl, ap, ◌∙◌, arith}
 use Rattle.std.proofs.lemmas.Bool.Decides.{nat_tests}
 use Rattle.log_model.specs.declared.request.RequestId.{RequestId}
 use Rattle.log_model.specs.OpenRequest.{given_request, has_zero}

@@ -1,5 +1,5 @@
 -- The rows after each position, by write sets that were installed at positions.
-use Rattle.std.specs.Prelude.{ℕ, nat_le, nat_lt, if◌then◌else◌, List}
+use Rattle.std.specs.Prelude.{ℕ, nat_le, if◌then◌else◌, List}
 use Rattle.std.specs.List.{fold}
 use Rattle.std.specs.FinMap.{empty}
 use Rattle.schema.specs.Rows.{Rows, Writes, after_writes}

@@ -6,4 +6,5 @@ pub mod Entries
 pub mod InstalledWrites
 pub mod OpenCall
 pub mod OpenRequest
+pub mod Admission
 pub mod Codes

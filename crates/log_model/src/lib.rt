@@ -11,11 +11,13 @@ pub use laws::{
     procedures_stay_safe, requests_are_the_same_where_they_are_equal, rows_are_installed_writes,
     rows_fit_the_schema, verdicts_in_words_of_the_log, verdicts_on_additions_in_words_of_the_log,
 };
+pub use refusal::CallRefusal;
 pub use request::{RequestId, given_request, has_zero};
 pub use verdict::{Identifier, Verdict};
 
 mod call_laws;
 mod fitting;
 mod laws;
+mod refusal;
 mod request;
 mod verdict;

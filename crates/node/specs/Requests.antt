@@ -10,15 +10,14 @@ use Rattle.locked_replica.specs.Commits.{commits_of}
 use Rattle.node_calls.specs.Asked.{AskedCall}
 use Rattle.node_calls.specs.Answer.{IsAnswer}
 use Rattle.node_calls.specs.declared.answer.Answer.{Answer}
-use Rattle.node_calls.specs.declared.answer.Answer.TheVariants.{Refused}
-use Rattle.node_calls.specs.declared.answer.CallRefusal.TheVariants.{NoReplica}
+use Rattle.node_calls.specs.declared.answer.Answer.TheVariants.{NoReplica}
 pub use Rattle.served_replicas.specs.Replicas.{IsNoReplica}
 
 -- what a caller hears: that there is no such replica exactly where there is none, and else an answer to what was asked
 pub record IsHeard {A : Type 0} (w : Setting) (replicas replica : ℕ) (a : AskedCall) (said : Answer) (seen : Option (List (LogEntry A))) : Type 0 where
-  pub no_replica : (said ≡ Refused NoReplica) ↔ IsNoReplica replicas replica
-  pub none : said ≡ Refused NoReplica → seen ≡ None
-  pub answer : said ≢ Refused NoReplica → IsAnswer w a said seen
+  pub no_replica : (said ≡ NoReplica) ↔ IsNoReplica replicas replica
+  pub none : said ≡ NoReplica → seen ≡ None
+  pub answer : said ≢ NoReplica → IsAnswer w a said seen
 
 -- what is seen of a node's log
 abbrev pub Entries : Type 0

@@ -7,7 +7,7 @@ ghost use Rattle.node.specs.Requests.{IsHeard, IsVerdictAt};
 use crossbeam_channel::{Sender, bounded};
 use locked_replica::{LogSetting, OrderedEntries};
 use log_model::{RequestId, Verdict};
-use node_calls::{Answer, Asked, CallRefusal, Gate};
+use node_calls::{Answer, Asked, Gate};
 use order_log::{Fact, Seen};
 use row_sets::Bytes;
 use served_replicas::{Reply, Request, Shared};
@@ -108,10 +108,10 @@ impl<J: LogSetting + Ledgers + Send + Sync + 'static, G: Gate + Drop + Send + Sy
             (record { least = least; procedure = procedure; args = args.now; request = request }) result.0 result.1 }
     {
         let Some(place) = (replica as usize).checked_sub(1) else {
-            return self.unserved(Answer::Refused(CallRefusal::NoReplica));
+            return self.unserved(Answer::NoReplica);
         };
         let Some(requests) = self.requests.get(place) else {
-            return self.unserved(Answer::Refused(CallRefusal::NoReplica));
+            return self.unserved(Answer::NoReplica);
         };
         match self.reply_from(rt, requests, replica, least, procedure, args, request) {
             Some(answered) => answered,

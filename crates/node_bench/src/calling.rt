@@ -56,6 +56,8 @@ pub(crate) struct Load {
     /// The number of executing threads a replica, and of callers a replica.
     pub(crate) executors: u32,
     pub(crate) calls: u32,
+    /// The number of entries that are kept, few in a soak, so that some calls are stale.
+    pub(crate) window: u32,
     pub(crate) seed: u64,
 }
 

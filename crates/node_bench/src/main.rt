@@ -51,7 +51,6 @@ fn use_node<
     cells: GroupCells,
     blanks: Blanks,
     catalogue: Catalogue,
-    window: u32,
     load: Load,
 ) -> Option<Outcome>
     requires cells { cells ≡ J.groups }
@@ -59,13 +58,14 @@ fn use_node<
     requires setting { J.setting ≡ record {
       tables = catalogue.tables;
       catalogue = catalogue.procedures;
-      window = window;
+      window = load.window;
     } }
 {
     let Load {
         work,
         replicas,
         executors,
+        window,
         ..
     } = load;
     let started = Node::<J, OpenGate>::start(
@@ -89,7 +89,7 @@ fn use_node<
     })
 }
 
-/// Makes a run of this size. Few entries are kept where it is a soak, so that some calls are stale.
+/// Makes a run of this size.
 fn run<R: Threads + Wait + Copy + Send + Sync + 'static>(
     rt: &R,
     alloc: Global,
@@ -97,8 +97,7 @@ fn run<R: Threads + Wait + Copy + Send + Sync + 'static>(
 ) -> Option<Outcome> {
     let catalogue = catalogue(alloc)?;
     let cells = GroupCells::new(alloc).ok()?;
-    let window = if load.work == Work::Soak { 16 } else { 4_096 };
-    use_node::<Brand, R>(rt, alloc, cells, Blanks::new(), catalogue, window, load)
+    use_node::<Brand, R>(rt, alloc, cells, Blanks::new(), catalogue, load)
 }
 
 fn yes(found: bool) -> &'static str {
@@ -156,8 +155,10 @@ fn print(rt: &HostRuntime, outcome: &Outcome) -> anyhow::Result<bool> {
 fn asked(words: &[String]) -> anyhow::Result<Load> {
     let number = |place: usize| words.get(place).and_then(|word| word.parse::<u32>().ok());
     let work = words.get(1).and_then(|word| Work::from_word(word));
+    let work = work.context("the first word is soak, write, read or start")?;
     Ok(Load {
-        work: work.context("the first word is soak, write, read or start")?,
+        work,
+        window: if work == Work::Soak { 16 } else { 4_096 },
         replicas: number(2).context("the second word is how many replicas there are")?,
         executors: number(3).context("the third word is how many threads each has")?,
         calls: number(4).context("the fourth word is how many calls are made")?,

@@ -3,10 +3,9 @@
 
 use catalogue::Catalogue;
 use plain_replayer::PlainSetting;
-use schema::Schema;
 use std::alloc::Global;
 use test_programs::{
-    ADD, COUNT, NEXT, ONE, PUT, READ, TABLES, TRANSFER, catalogue_of, digit_of, procedure_of,
+    ADD, COUNT, NEXT, ONE, PUT, READ, TABLES, TRANSFER, catalogue_of, setting_with,
 };
 
 /// The number of accounts.
@@ -47,11 +46,5 @@ pub(crate) fn catalogue(alloc: Global) -> Option<Catalogue> {
 
 /// The same procedures for the plain replay, under a window.
 pub(crate) fn setting(alloc: Global, window: u32) -> Option<PlainSetting> {
-    let mut procedures = Vec::new(alloc);
-    for (number, program, words) in &PROCEDURES {
-        let procedure = procedure_of(alloc, &digit_of(*number), *number, program, *words)?;
-        procedures.push(procedure).ok()?;
-    }
-    let schema = Schema::new(alloc, &TABLES).ok()?;
-    Some(PlainSetting::new(schema, procedures, window))
+    setting_with(alloc, &PROCEDURES, window)
 }

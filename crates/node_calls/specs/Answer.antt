@@ -1,14 +1,14 @@
 -- What a call is answered, and what was seen of the log then.
-use Rattle.std.specs.Prelude.{◌≡◌, ◌≢◌, ◌⊎◌, ℕ, ◌-◌, ◌≤◌, true, List, [], ◌∷◌, ◌++◌, length, take, slice_get, Option, Some, None}
+use Rattle.std.specs.Prelude.{◌≡◌, ◌⊎◌, ℕ, ◌-◌, ◌≤◌, List, [], ◌∷◌, ◌++◌, length, take, slice_get, Option, Some, None, Err}
 use Rattle.std.specs.FinMap.{len}
 use Rattle.log_model.specs.declared.verdict.Verdict.{Verdict}
 use Rattle.log_model.specs.declared.verdict.Verdict.TheVariants as verdict
-use Rattle.log_model.specs.Log.{Setting, Call, StoredProcedure, verdict_of, run_in}
+use Rattle.log_model.specs.Log.{Setting, Call, verdict_of, run_in}
 use Rattle.log_model.specs.Fit.{IsCall}
 use Rattle.log_model.specs.Entries.{ExecutedCall}
 use Rattle.log_entry.specs.declared.entry.Entry.{Entry as LogEntry}
 use Rattle.log_entry.specs.declared.entry.Entry.TheVariants as entry
-use Rattle.log_model.specs.OpenRequest.{has_zero}
+use Rattle.log_model.specs.Admission.{admission}
 use Rattle.replica.specs.Replica.{AreEntriesOf, entries_of}
 use Rattle.locked_replica.specs.Ordered.{IsOrderedCall}
 use Rattle.locked_replica.specs.Begun.{procedure_now}
@@ -19,7 +19,6 @@ use Rattle.node_calls.specs.Asked.{AskedCall}
 use Rattle.node_calls.specs.Ran.{LooksTooLate}
 use Rattle.node_calls.specs.declared.answer.Answer.{Answer}
 use Rattle.node_calls.specs.declared.answer.Answer.TheVariants.{Committed, Read, Cancelled, Conflict, Stale, Repeated, Behind, NoMemory, Full, Stopped, Refused}
-use Rattle.node_calls.specs.declared.answer.CallRefusal.TheVariants.{NoProcedure, ArgumentsLength, ZeroInRequest}
 
 -- the call that is asked for, on the rows after so many entries
 abbrev pub asked_call : AskedCall → ℕ → Call
@@ -81,10 +80,8 @@ IsAnswer w a (Read snapshot reply) (Some seen) =
     × (len (run_in w (log_seen seen) (asked_call a snapshot)).writes ≡ 0) × (reply ≡ (run_in w (log_seen seen) (asked_call a snapshot)).reply)
 IsAnswer w a (Cancelled snapshot code) (Some seen) = IsCallAfter w a seen snapshot × ((run_in w (log_seen seen) (asked_call a snapshot)).cancel_code ≡ Some code)
 IsAnswer w a Behind None = 1 ≤ a.least
-IsAnswer w a (Refused NoProcedure) (Some seen) = IsBegunAfter w a seen × (procedure_now w seen a.procedure ≡ None)
-IsAnswer w a (Refused ArgumentsLength) (Some seen) =
-    IsBegunAfter w a seen × ((p : StoredProcedure) × (procedure_now w seen a.procedure ≡ Some p) × (length a.args ≢ p.args_len))
-IsAnswer w a (Refused ZeroInRequest) None = has_zero a.request ≡ true
+IsAnswer w a (Refused refusal) (Some seen) =
+    IsBegunAfter w a seen × (admission a.args a.request (procedure_now w seen a.procedure) ≡ Err refusal)
 IsAnswer w a NoMemory None = Unit {0}
 IsAnswer w a Full None = Unit {0}
 IsAnswer w a answer seen = ⊥

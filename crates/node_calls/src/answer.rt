@@ -1,16 +1,6 @@
 //! The answer to a call.
 
-/// A cause for which a call doesn't begin.
-#[derive(Clone, Copy, Debug, PartialEq, Eq, Drop)]
-pub enum CallRefusal {
-    NoReplica,
-    /// The procedure's number has no procedure after what was seen.
-    NoProcedure,
-    /// The procedure takes arguments of another length.
-    ArgumentsLength,
-    /// The session or the number of its request is 0.
-    ZeroInRequest,
-}
+use log_model::CallRefusal;
 
 /// The answer to a call. Positions are those of the log, from 1 on. A snapshot is the position after which the call
 /// read the rows.
@@ -54,5 +44,8 @@ pub enum Answer {
     Stopped {
         position: u32,
     },
+    /// The node has no such replica.
+    NoReplica,
+    /// The call may not begin after what was seen.
     Refused(CallRefusal),
 }

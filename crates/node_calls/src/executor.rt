@@ -3,14 +3,12 @@
 ghost use Rattle.std.specs.Prelude.{◌≡◌, ◌≤◌, length};
 ghost use Rattle.log_model.specs.Fit.{IsCall};
 ghost use Rattle.replica.specs.Replica.{entries_of};
-ghost use Rattle.log_model.specs.OpenRequest.{has_zero};
 ghost use Rattle.locked_replica.specs.Ordered.{IsOrderedCall};
 ghost use Rattle.node_calls.specs.Running.{log_seen};
 ghost use Rattle.world_calls.specs.OpenCall.{IsCompletion};
 ghost use Rattle.node_calls.specs.Answer.{IsAnswer, IsBegunAfter, asked_call};
-ghost use Rattle.node_calls.specs.declared.answer.Answer.TheVariants.{Refused};
 
-use crate::answer::{Answer, CallRefusal};
+use crate::answer::Answer;
 use crate::asked::Asked;
 use crate::bells::{Bells, Waiter};
 use crate::gate::Gate;
@@ -18,7 +16,6 @@ use crate::order::{answer_by, await_verdict, order};
 use crate::run::{Ran, run};
 use locked_replica::{Begin, BegunCall, LockedReplica, LogSetting, OrderedEntries};
 use log_entry::ExecutedCall;
-use log_model::has_zero;
 use order_log::{AppendFault, Fact, OrderLog, Seen};
 use std::alloc::Allocator;
 use std::sync::{RwLock, Wait};
@@ -52,23 +49,19 @@ impl<'a, J: LogSetting, A: Allocator + Copy, P: Allocator + Copy, G: Gate> Execu
     pub fn answer<R: Wait>(&self, rt: &R, asked: &Asked<P>) -> (Answer, Option<Seen<J, P>>)
         ensures { IsAnswer J.setting asked.now result.0 result.1 }
     {
-        let begin = self
-            .replica
-            .read(rt)
-            .begin(asked.least, asked.procedure, asked.args.as_slice());
+        let begin = self.replica.read(rt).begin(
+            asked.least,
+            asked.procedure,
+            asked.args.as_slice(),
+            asked.request,
+        );
         let Ok(begin) = begin else {
             return (Answer::NoMemory, None);
         };
         match begin {
             Begin::Behind => (Answer::Behind, None),
-            Begin::NoProcedure(seen) => refused(CallRefusal::NoProcedure, Some(seen)),
-            Begin::ArgumentsLength(seen) => refused(CallRefusal::ArgumentsLength, Some(seen)),
-            Begin::Begun(begun) => {
-                if has_zero(asked.request) {
-                    return refused(CallRefusal::ZeroInRequest, None);
-                }
-                self.answer_begun(rt, asked, begun)
-            }
+            Begin::Refused(refusal, seen) => (Answer::Refused(refusal), Some(seen)),
+            Begin::Begun(begun) => self.answer_begun(rt, asked, begun),
         }
     }
 
@@ -157,11 +150,4 @@ fn reply_of<P: Allocator + Copy>(entry: &ExecutedCall<P>) -> u64
     ensures { result ≡ entry.now.reply }
 {
     entry.reply
-}
-
-/// Refuses a call that doesn't begin.
-fn refused<S>(why: CallRefusal, seen: Option<S>) -> (Answer, Option<S>)
-    ensures { (result.0 ≡ Refused why) × (result.1 ≡ seen) }
-{
-    (Answer::Refused(why), seen)
 }

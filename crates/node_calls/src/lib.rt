@@ -3,7 +3,7 @@
 //! its verdict.
 #![tactic(auto)]
 
-pub use answer::{Answer, CallRefusal};
+pub use answer::Answer;
 pub use asked::Asked;
 pub use bells::{Bells, Waiter};
 pub use executor::Executor;

@@ -11,7 +11,7 @@ use std::sync::Wait;
 use std::thread::Threads;
 use tallies::Blanks;
 use test_programs::{PROCEDURES, TABLES, catalogue_of};
-use test_served_replicas::{Case, Memories, Mismatch, RefusedGrowths, try_two};
+use test_served_replicas::{Case, LogStart, Memories, Mismatch, RefusedGrowths, try_two};
 
 /// Tries a case at replicas of the sample procedures. Returns the first answer that may not be heard.
 fn try_case<P: Allocator + Copy + Send + Sync, R: Threads + Wait + Abort + Copy + Sync>(
@@ -22,15 +22,17 @@ fn try_case<P: Allocator + Copy + Send + Sync, R: Threads + Wait + Abort + Copy 
     case: &mut Case,
 ) -> Option<Mismatch> {
     let cells = GroupCells::<P>::new(global).expect(rt, "memory");
-    let catalogue = catalogue_of(alloc, &TABLES, &PROCEDURES).expect(rt, "a catalogue");
+    let start = LogStart {
+        catalogue: catalogue_of(alloc, &TABLES, &PROCEDURES).expect(rt, "a catalogue"),
+        window: 4,
+    };
     let heard = try_two::<Brand, &Scarce, P, R>(
         rt,
         global,
         alloc,
         cells,
         Blanks::new(),
-        catalogue,
-        4,
+        start,
         memories,
         memories,
         case,

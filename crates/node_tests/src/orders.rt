@@ -1,8 +1,7 @@
-use log_entry::{Entry, ExecutedCall};
-use log_model::RequestId;
+use log_entry::Entry;
 use order_log::Fact;
-use row_sets::{Bytes, ReadSet, WriteSet};
 use std::alloc::Global;
+use test_programs::idle_call;
 
 mod refused;
 mod threads;
@@ -16,16 +15,9 @@ impl Fact for Nothing {
 
 /// A call at a snapshot, which its reply tells from others.
 fn call_of(alloc: Global, snapshot: u32, reply: u64) -> Entry {
-    Entry::Call(ExecutedCall {
-        call: 0,
-        procedure: 1,
-        args: Bytes::new(Vec::new(alloc)),
-        snapshot,
-        request: None,
-        reads: ReadSet::new(alloc),
-        writes: WriteSet::new(alloc),
-        reply,
-    })
+    let mut call = idle_call(alloc, 1, snapshot, None);
+    call.reply = reply;
+    Entry::Call(call)
 }
 
 /// The reply of an entry, which tells it from others, and none of an addition.

@@ -38,6 +38,36 @@ struct End {
     position: Option<u32>,
 }
 
+impl End {
+    fn new(answers: u64, committed: Option<u64>, position: Option<u32>) -> End {
+        End {
+            answers,
+            committed,
+            position,
+        }
+    }
+}
+
+impl Case {
+    /// The end of a node after the case.
+    fn end(self) -> End {
+        match self {
+            Case::OneSession => End::new(1_001, Some(1_000), Some(1_000)),
+            Case::Overlap => End::new(2, Some(2), Some(2)),
+            Case::TwoPuts => End::new(2, Some(1), Some(1)),
+            Case::Adds => End::new(200, None, None),
+            Case::Puts => End::new(200, Some(200), Some(200)),
+            Case::Numbered => End::new(3, Some(2), Some(3)),
+            Case::Refusals => End::new(7, Some(0), Some(0)),
+            Case::Added => End::new(0, Some(0), Some(1)),
+        }
+    }
+}
+
+/// The numbers of replicas and of threads that execute at each, the window, and the number of entries that the log
+/// takes.
+type NodeSize = (u32, u32, u32, u32);
+
 /// The procedures of the node, with their numbers and the number of words that each takes.
 static PROCEDURES: [(u16, &str, usize); 3] = [(1, ADD, 2), (3, PUT, 2), (9, ONE, 0)];
 
@@ -142,9 +172,8 @@ fn check_end(rt: &impl Abort, ending: &Ending, trial: Trial<'_>, end: End) {
 fn try_at_a_node<R: Threads + Wait + Abort + Copy + Send + Sync + 'static>(
     rt: &R,
     alloc: Global,
-    size: (u32, u32, u32, u32),
+    size: NodeSize,
     case: Case,
-    end: (u64, Option<u64>, Option<u32>),
 ) {
     let (replicas, executors, window, limit) = size;
     let size = Size {
@@ -152,12 +181,6 @@ fn try_at_a_node<R: Threads + Wait + Abort + Copy + Send + Sync + 'static>(
         executors,
         window,
         limit,
-    };
-    let (answers, committed, position) = end;
-    let end = End {
-        answers,
-        committed,
-        position,
     };
     let program = bytes_of(alloc, ONE).expect(rt, "a program");
     let trial = Trial {
@@ -167,74 +190,38 @@ fn try_at_a_node<R: Threads + Wait + Abort + Copy + Send + Sync + 'static>(
     };
     let armed = matches!(case, Case::Overlap);
     let ending = run_at_a_node(rt, alloc, size, armed, &PROCEDURES, &trial, 5);
-    check_end(rt, &ending.expect(rt, "a node"), trial, end);
+    check_end(rt, &ending.expect(rt, "a node"), trial, case.end());
 }
 
 const LIMIT: u32 = 1_048_576;
 
+/// Cases of one caller, each at a node of a size.
+static ONE_CALLER: [(NodeSize, Case); 5] = [
+    ((2, 4, 4, LIMIT), Case::OneSession),
+    ((2, 4, 4, LIMIT), Case::Numbered),
+    ((2, 2, 4, LIMIT), Case::Refusals),
+    ((2, 2, 4, LIMIT), Case::Added),
+    ((2, 2, 4, 1), Case::TwoPuts),
+];
+
+/// Cases of several callers.
+static SEVERAL_CALLERS: [(NodeSize, Case); 4] = [
+    ((1, 2, 4, LIMIT), Case::Overlap),
+    ((1, 1, 4, LIMIT), Case::Overlap),
+    ((8, 16, 4, LIMIT), Case::Adds),
+    ((2, 16, 4_096, LIMIT), Case::Puts),
+];
+
 #[test]
 fn one_caller(rt: HostRuntime) {
-    let alloc = rt.alloc();
-    try_at_a_node(
-        &rt,
-        alloc,
-        (2, 4, 4, LIMIT),
-        Case::OneSession,
-        (1_001, Some(1_000), Some(1_000)),
-    );
-    try_at_a_node(
-        &rt,
-        alloc,
-        (2, 4, 4, LIMIT),
-        Case::Numbered,
-        (3, Some(2), Some(3)),
-    );
-    try_at_a_node(
-        &rt,
-        alloc,
-        (2, 2, 4, LIMIT),
-        Case::Refusals,
-        (7, Some(0), Some(0)),
-    );
-    try_at_a_node(
-        &rt,
-        alloc,
-        (2, 2, 4, LIMIT),
-        Case::Added,
-        (0, Some(0), Some(1)),
-    );
-    try_at_a_node(
-        &rt,
-        alloc,
-        (2, 2, 4, 1),
-        Case::TwoPuts,
-        (2, Some(1), Some(1)),
-    );
+    for (size, case) in &ONE_CALLER {
+        try_at_a_node(&rt, rt.alloc(), *size, *case);
+    }
 }
 
 #[test]
 fn several_callers(rt: HostRuntime) {
-    let alloc = rt.alloc();
-    try_at_a_node(
-        &rt,
-        alloc,
-        (1, 2, 4, LIMIT),
-        Case::Overlap,
-        (2, Some(2), Some(2)),
-    );
-    try_at_a_node(
-        &rt,
-        alloc,
-        (1, 1, 4, LIMIT),
-        Case::Overlap,
-        (2, Some(2), Some(2)),
-    );
-    try_at_a_node(&rt, alloc, (8, 16, 4, LIMIT), Case::Adds, (200, None, None));
-    try_at_a_node(
-        &rt,
-        alloc,
-        (2, 16, 4_096, LIMIT),
-        Case::Puts,
-        (200, Some(200), Some(200)),
-    );
+    for (size, case) in &SEVERAL_CALLERS {
+        try_at_a_node(&rt, rt.alloc(), *size, *case);
+    }
 }

@@ -30,13 +30,17 @@ from_place reports i report d lt is =
 
 -- ---- the first that passes a test
 
-pub found_here : (test : CertifiedItem → Bool) (position : ℕ) (c : CertifiedItem) (later : List CertifiedItem) → test c ≡ true → first_position test position (c ∷ later) ≡ Some position
+pub found_here : (test : CertifiedItem → Bool) (position : ℕ) (reports : List Report) (i : ℕ) (report d : Report) → i < length reports → report ≡ get_or reports i d → test (certified_of report) ≡ true → first_position test position (map certified_of (drop i reports)) ≡ Some position
 unfolding first_position
-found_here test position c later is = ap (λ b. cond b (Some position) (first_position test (position + 1) later)) is
+found_here test position reports i report d lt is passes =
+    ap (first_position test position) (from_place reports i report d lt is)
+    ∙ ap (λ b. cond b (Some position) (first_position test (position + 1) (map certified_of (drop (i + 1) reports)))) passes
 
-pub found_later : (test : CertifiedItem → Bool) (position : ℕ) (c : CertifiedItem) (later : List CertifiedItem) → test c ≡ false → first_position test position (c ∷ later) ≡ first_position test (position + 1) later
+pub found_later : (test : CertifiedItem → Bool) (position : ℕ) (reports : List Report) (i : ℕ) (report d : Report) → i < length reports → report ≡ get_or reports i d → test (certified_of report) ≡ false → first_position test position (map certified_of (drop i reports)) ≡ first_position test (position + 1) (map certified_of (drop (i + 1) reports))
 unfolding first_position
-found_later test position c later is = ap (λ b. cond b (Some position) (first_position test (position + 1) later)) is
+found_later test position reports i report d lt is fails =
+    ap (first_position test position) (from_place reports i report d lt is)
+    ∙ ap (λ b. cond b (Some position) (first_position test (position + 1) (map certified_of (drop (i + 1) reports)))) fails
 
 pub not_found : (test : CertifiedItem → Bool) (position : ℕ) (reports : List Report) (i : ℕ) → length reports ≤ i → first_position test position (map certified_of (drop i reports)) ≡ None
 unfolding first_position

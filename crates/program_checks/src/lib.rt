@@ -2,7 +2,7 @@
 #![tactic(auto)]
 
 pub use check::check_program;
-pub use fault::ProgramFault;
+pub use fault::{AdditionFault, ProgramFault};
 pub use laws::programs_pass_where_they_are_accepted;
 
 mod check;

@@ -10,6 +10,7 @@ use schema::{Look, Schema};
 use std::alloc::Global;
 use std::process::Abort;
 use std::sync::Arc;
+use test_programs::increment_call;
 
 /// A procedure that replies 1.
 fn addition(rt: &impl Abort, alloc: Global) -> Entry {
@@ -32,25 +33,11 @@ fn addition(rt: &impl Abort, alloc: Global) -> Entry {
     })
 }
 
-/// An increment of key 5 of table 1 by 10 at snapshot 0, which found no row there.
+/// The increment as call 1 of a world.
 fn increment(rt: &impl Abort, alloc: Global) -> Entry {
-    let mut args = Vec::from_slice(alloc, &5u64.to_le_bytes()).expect(rt, "memory");
-    args.extend_from_slice(&10u64.to_le_bytes())
-        .expect(rt, "memory");
-    let mut reads = ReadSet::new(alloc);
-    reads.add_point(1, 5).expect(rt, "memory");
-    let mut writes = WriteSet::new(alloc);
-    writes.put(1, 5, &10u64.to_le_bytes()).expect(rt, "memory");
-    Entry::Call(ExecutedCall {
-        call: 1,
-        procedure: 1,
-        args: Bytes::new(args),
-        snapshot: 0,
-        request: None,
-        reads,
-        writes,
-        reply: 10,
-    })
+    let mut call = increment_call(alloc).expect(rt, "memory");
+    call.call = 1;
+    Entry::Call(call)
 }
 
 /// A range, a removal, and a row of two bytes in another table.

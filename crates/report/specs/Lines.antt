@@ -19,8 +19,7 @@ use Rattle.report.specs.declared.printed.CallReport.{CallReport}
 use Rattle.report.specs.declared.printed.CallReport.TheVariants as call
 use Rattle.node_calls.specs.declared.answer.Answer.{Answer}
 use Rattle.node_calls.specs.declared.answer.Answer.TheVariants as answer
-use Rattle.node_calls.specs.declared.answer.CallRefusal.{CallRefusal}
-use Rattle.node_calls.specs.declared.answer.CallRefusal.TheVariants as cause
+use Rattle.dsm_model.specs.World.{refusal_of_call}
 use Rattle.report.specs.declared.printed.ReplicaReport.{ReplicaReport}
 use Rattle.report.specs.declared.printed.ReplicaReport.TheVariants as replica
 use Rattle.report.specs.declared.printed.DeliveredEntry.{DeliveredEntry}
@@ -76,13 +75,6 @@ call_words (call.Read snapshot reply) = read_words snapshot reply
 call_words (call.Cancelled snapshot code) = cancelled_words snapshot code
 call_words (call.Refused refusal) = step_refusal_words refusal
 
--- the refusal of a step that has the same number
-abbrev pub same_refusal : CallRefusal → StepRefusal
-same_refusal cause.NoReplica = NoReplica
-same_refusal cause.NoProcedure = NoProcedure
-same_refusal cause.ArgumentsLength = ArgumentsLength
-same_refusal cause.ZeroInRequest = ZeroInRequest
-
 -- as `committed 1 reply 10`
 abbrev pub answer_words : Answer → List ℕ
 answer_words (answer.Committed position reply) = codes "committed " ++ decimal position ++ codes " reply " ++ decimal reply
@@ -96,7 +88,8 @@ answer_words answer.NoMemory = codes "no memory"
 answer_words answer.Full = codes "full"
 answer_words (answer.Stopped position) = codes "stopped " ++ decimal position
 answer_words answer.Behind = codes "behind"
-answer_words (answer.Refused refusal) = step_refusal_words (same_refusal refusal)
+answer_words answer.NoReplica = step_refusal_words NoReplica
+answer_words (answer.Refused refusal) = step_refusal_words (refusal_of_call refusal)
 
 abbrev pub verdict_words : Verdict → List ℕ
 verdict_words verdict.Commit = codes "commit"

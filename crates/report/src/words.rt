@@ -7,7 +7,7 @@ ghost use Rattle.byte_output.specs.Column.{right_in};
 ghost use Rattle.report.specs.Lines.{program_fault_text, cause_words, step_refusal_words, verdict_words};
 ghost use Rattle.report.specs.Lines.{addition_words, snapshot_words, reply_words, added_words, delivered_words};
 ghost use Rattle.report.specs.Lines.{certified_words, call_words, replica_words, entry_words, line_words, read_words};
-ghost use Rattle.report.specs.Lines.{cancelled_words, answer_words, mark_words, same_refusal};
+ghost use Rattle.report.specs.Lines.{cancelled_words, answer_words, mark_words};
 ghost use Rattle.report.specs.declared.printed.Line.TheVariants as line;
 
 use crate::printed::{CallReport, DeliveredEntry, LoggedEntry, ReplicaReport};
@@ -16,7 +16,7 @@ use byte_output::line::{LineBuffer, push, push_column, push_right, push_unsigned
 use dsm_model::StepRefusal;
 use itoa::Buffer;
 use log_model::{Identifier, Verdict};
-use node_calls::{Answer, CallRefusal};
+use node_calls::Answer;
 use program_checks::ProgramFault;
 use tallies::Counts;
 
@@ -94,18 +94,6 @@ fn push_cancelled(words: &mut LineBuffer, snapshot: u32, code: u64)
     push_unsigned(words, " code ", code);
 }
 
-/// Returns the refusal of a step that has the same number.
-fn step_refusal(refusal: CallRefusal) -> StepRefusal
-    ensures { result ≡ same_refusal refusal }
-{
-    match refusal {
-        CallRefusal::NoReplica => StepRefusal::NoReplica,
-        CallRefusal::NoProcedure => StepRefusal::NoProcedure,
-        CallRefusal::ArgumentsLength => StepRefusal::ArgumentsLength,
-        CallRefusal::ZeroInRequest => StepRefusal::ZeroInRequest,
-    }
-}
-
 pub(crate) fn push_answer(words: &mut LineBuffer, answer: Answer)
     requires { array_vec_len words.old ≤ 40 }
     ensures items { words.new.items ≡ words.old.items ++ answer_words answer }
@@ -136,7 +124,8 @@ pub(crate) fn push_answer(words: &mut LineBuffer, answer: Answer)
         Answer::Full => push(words, b"full"),
         Answer::Stopped { position } => push_unsigned(words, "stopped ", u64::from(position)),
         Answer::Behind => push(words, b"behind"),
-        Answer::Refused(refusal) => push_refused(words, step_refusal(refusal)),
+        Answer::NoReplica => push_refused(words, StepRefusal::NoReplica),
+        Answer::Refused(refusal) => push_refused(words, StepRefusal::from(refusal)),
     }
 }
 

@@ -5,3 +5,4 @@ mod SayingLemmas
 mod AcceptanceLemmas
 mod TableLemmas
 pub mod SaidLemmas
+pub mod TellingLemmas

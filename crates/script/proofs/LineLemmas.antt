@@ -1,12 +1,17 @@
 -- The first line of some bytes.
-use Rattle.std.proofs.Common.{◌≡◌, ◌≢◌, ℕ, suc, ◌+◌, ◌<◌, ◌≤◌, Bool, List, [], ◌∷◌, ◌++◌, Option, Some, None, IfSome, length, take, drop, get_or, get_or-take, refl, sym, ap, subst, ◌∙◌, arith, cond, ne_eqb, take-take, take-append-drop, drop-cons, add-one, append_assoc, length-append}
+use Rattle.std.proofs.Common.{◌≡◌, ◌≢◌, ℕ, suc, ◌+◌, ◌<◌, ◌≤◌, nat_le, Bool, true, false, List, [], ◌∷◌, ◌++◌, Option, Some, None, IfSome, Result, Ok, Err, length, take, drop, get_or, get_or-take, refl, sym, ap, subst, ◌∙◌, arith, cond, ne_eqb, take-take, take-append-drop, drop-cons, add-one, append_assoc, length-append}
 use Rattle.std.proofs.lemmas.List.{append-nil}
 use Rattle.std.proofs.lemmas.List.Elements.{All-head, All-tail, All-append}
-use Rattle.std.specs.List.{onto_first}
+use Rattle.std.proofs.lemmas.Bool.Decides.{nat_tests}
+use Rattle.std.specs.Prelude.{◌&&◌, not}
+use Rattle.std.specs.List.{list_all, onto_first}
 use Rattle.std.specs.Io.{StartsWith}
 use Rattle.std.specs.Io.KnownBytes.{Keeps}
 use Rattle.std.specs.Io.BufRead.{DropsConsumable}
-use Rattle.script.specs.Text.{lines_of, max_line}
+use Rattle.script.specs.declared.fault.LineFault.{LineFault}
+use Rattle.script.specs.declared.fault.LineFault.TheVariants as fault
+use Rattle.script.specs.Line.{said_by_fields, says}
+use Rattle.script.specs.Text.{fields_of, is_printable, is_skipped, lines_of, max_line}
 use Rattle.script.specs.Reading.{HasNoLf, IsNext, IsPiece}
 use Rattle.script.specs.declared.input.Next.TheVariants as next
 use Rattle.script.specs.declared.input.Piece.TheVariants as piece
@@ -50,6 +55,21 @@ lines_of-long (b ∷ c ∷ p) rest none some =
 pub too_long : (p rest : List ℕ) → HasNoLf p → max_line < length p → (long : List ℕ) × (more : List (List ℕ)) × (lines_of (p ++ rest) ≡ long ∷ more) × (max_line < length long)
 unfolding IsLong
 too_long p rest none long = let l = lines_of-long p rest none (omega arith) in (l.0, l.1, l.2, omega (arith, l.3))
+
+-- ---- a line that is too long
+
+too_many : (most : ℕ) (line : List ℕ) → most < length line → nat_le (length line) most ≡ false
+too_many most line long = by_test (nat_le (length line) most) refl
+  where
+    by_test : (b : Bool) → nat_le (length line) most ≡ b → nat_le (length line) most ≡ false
+    by_test true is = absurd (grind (arith, nat_tests))
+    by_test false is = is
+
+-- it is at fault for its bytes, whatever they are
+pub says-too_long : {X : Type 0} (say : List (List ℕ) → Result X LineFault) (most : ℕ) (line : List ℕ) → most < length line → says say most line ≡ Err fault.Bytes
+unfolding says
+says-too_long say most line long =
+    ap (λ (b : Bool). said_by_fields say (cond (not (b && list_all is_printable line)) (Err fault.Bytes) (cond (is_skipped line) (Ok None) (Ok (Some (fields_of line)))))) (too_many most line long)
 
 -- ---- what an input shows
 

@@ -1,6 +1,7 @@
 pub mod Text
 pub mod Reading
 pub mod Fault
+pub mod Line
 pub mod Script
 pub mod SettingsFault
 pub mod Acceptance

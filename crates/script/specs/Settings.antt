@@ -90,8 +90,8 @@ setting_after s (setting.Window window) = then_with (once s.window window) (λ w
 setting_after s (setting.Replicas replicas) = then_with (once s.replicas replicas) (λ replicas. Ok (record s { replicas = replicas }))
 setting_after s (setting.Table table width) =
     then_with (with_table s.catalogue table width) (λ catalogue. Ok (record s { catalogue = catalogue }))
-setting_after s (setting.Procedure name number args_len program) =
-    then_with (with_procedure s.catalogue name number args_len program) (λ catalogue. Ok (record s { catalogue = catalogue }))
+setting_after s (setting.Procedure p) =
+    then_with (with_procedure s.catalogue p.name p.number p.args_len p.program) (λ catalogue. Ok (record s { catalogue = catalogue }))
 
 -- what is known of all settings
 pub record AreWithinLimits (window replicas : Option ℕ) : Type 0 where

@@ -21,8 +21,9 @@ max_line = 70000
 abbrev pub is_printable : ℕ → Bool
 is_printable b = nat_le 0x20 b && nat_le b 0x7e
 
-abbrev pub is_readable : List ℕ → Bool
-is_readable line = nat_le (length line) max_line && list_all is_printable line
+-- a line that may have so many bytes
+abbrev pub is_readable : ℕ → List ℕ → Bool
+is_readable most line = nat_le (length line) most && list_all is_printable line
 
 -- an empty line, or a comment
 abbrev pub is_skipped : List ℕ → Bool

@@ -73,18 +73,13 @@ impl<A: Allocator + Copy> Settings<A> {
             Setting::Table { table, width } => {
                 add_table(&mut self.pairs, &mut self.catalogue, table, width)
             }
-            Setting::Procedure {
-                name,
-                number,
-                args_len,
-                program,
-            } => add_procedure(
+            Setting::Procedure(procedure) => add_procedure(
                 *self.pairs.allocator(),
                 &mut self.catalogue,
-                name.as_slice(),
-                number,
-                args_len,
-                program.as_slice(),
+                procedure.name.as_slice(),
+                procedure.number,
+                procedure.args_len,
+                procedure.program.as_slice(),
             ),
         }
     }

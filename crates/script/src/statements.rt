@@ -1,5 +1,7 @@
 //! The statements of lines.
 
+use crate::procedure_fields::ProcedureFields;
+
 /// A statement of a line: the line sets something, or it acts. Names, programs and arguments are a `B`.
 #[derive(Drop)]
 pub enum Statement<B> {
@@ -15,17 +17,8 @@ pub enum Setting<B> {
     /// The number of replicas, 1 to 8.
     Replicas(u32),
     /// The number of a table, and the width of its rows.
-    Table {
-        table: u8,
-        width: u16,
-    },
-    Procedure {
-        name: B,
-        number: u16,
-        /// The length of the arguments, 0 to 256.
-        args_len: u16,
-        program: B,
-    },
+    Table { table: u8, width: u16 },
+    Procedure(ProcedureFields<B>),
 }
 
 /// An action of a line: a step of a world, or a print of it.
@@ -45,13 +38,7 @@ pub enum Action<B> {
         sequence: u32,
     },
     /// A procedure for the log.
-    Add {
-        name: B,
-        number: u16,
-        /// The length of the arguments, 0 to 256.
-        args_len: u16,
-        program: B,
-    },
+    Add(ProcedureFields<B>),
     /// A turn of at most `most` instructions of a call, which is at least 1.
     Turn {
         call: u32,

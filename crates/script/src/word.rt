@@ -1,28 +1,27 @@
 //! The words with which lines begin.
 
 ghost use Rattle.std.specs.Prelude.{◌≡◌};
-ghost use Rattle.script.specs.Script.{setting_word_of, step_word_of, print_word_of, word_of};
+ghost use Rattle.script.specs.Script.{action_word_of, setting_word_of, word_of};
 
 /// A line's first word.
 #[derive(Clone, Copy)]
-pub(crate) enum Word {
+pub enum Word {
     Setting(SettingWord),
-    Step(StepWord),
-    Print(PrintWord),
+    Action(ActionWord),
 }
 
 /// The word of a line that sets something.
 #[derive(Clone, Copy)]
-pub(crate) enum SettingWord {
+pub enum SettingWord {
     Window,
     Replicas,
     Table,
     Proc,
 }
 
-/// The word of a line that takes steps.
+/// The word of a line that acts.
 #[derive(Clone, Copy)]
-pub(crate) enum StepWord {
+pub enum ActionWord {
     Begin,
     Add,
     Turn,
@@ -30,30 +29,23 @@ pub(crate) enum StepWord {
     Order,
     Deliver,
     Rebuild,
-}
-
-/// The word of a line that prints what there is.
-#[derive(Clone, Copy)]
-pub(crate) enum PrintWord {
     Rows,
     Log,
     Entry,
 }
 
-pub(crate) fn first_word(text: &str) -> Option<Word>
+/// Finds a line's first word.
+pub fn first_word(text: &str) -> Option<Word>
     ensures { result ≡ word_of text.now }
 {
     if let Some(word) = setting_word(text) {
         return Some(Word::Setting(word));
     }
-    if let Some(word) = step_word(text) {
-        return Some(Word::Step(word));
-    }
-    let word = print_word(text)?;
-    Some(Word::Print(word))
+    let word = action_word(text)?;
+    Some(Word::Action(word))
 }
 
-fn setting_word(text: &str) -> Option<SettingWord>
+pub(crate) fn setting_word(text: &str) -> Option<SettingWord>
     ensures { result ≡ setting_word_of text.now }
 {
     Some(if text == "window" {
@@ -69,37 +61,29 @@ fn setting_word(text: &str) -> Option<SettingWord>
     })
 }
 
-fn step_word(text: &str) -> Option<StepWord>
-    ensures { result ≡ step_word_of text.now }
+pub(crate) fn action_word(text: &str) -> Option<ActionWord>
+    ensures { result ≡ action_word_of text.now }
 {
     Some(if text == "begin" {
-        StepWord::Begin
+        ActionWord::Begin
     } else if text == "add" {
-        StepWord::Add
+        ActionWord::Add
     } else if text == "turn" {
-        StepWord::Turn
+        ActionWord::Turn
     } else if text == "exec" {
-        StepWord::Exec
+        ActionWord::Exec
     } else if text == "order" {
-        StepWord::Order
+        ActionWord::Order
     } else if text == "deliver" {
-        StepWord::Deliver
+        ActionWord::Deliver
     } else if text == "rebuild" {
-        StepWord::Rebuild
-    } else {
-        return None;
-    })
-}
-
-fn print_word(text: &str) -> Option<PrintWord>
-    ensures { result ≡ print_word_of text.now }
-{
-    Some(if text == "rows" {
-        PrintWord::Rows
+        ActionWord::Rebuild
+    } else if text == "rows" {
+        ActionWord::Rows
     } else if text == "log" {
-        PrintWord::Log
+        ActionWord::Log
     } else if text == "entry" {
-        PrintWord::Entry
+        ActionWord::Entry
     } else {
         return None;
     })

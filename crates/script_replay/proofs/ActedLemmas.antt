@@ -1,5 +1,5 @@
 -- What lines do, by what was done.
-use Rattle.std.proofs.Common.{◌≡◌, ◌≢◌, ◌<◌, inl, ℕ, List, Option, Some, None, Result, refl, sym, ap, subst, ◌∙◌}
+use Rattle.std.proofs.Common.{◌≡◌, ◌≢◌, ◌<◌, inl, ℕ, List, Option, Some, None, Result, Ok, Err, refl, sym, ap, subst, ◌∙◌}
 use Rattle.std.specs.Prelude.{option_map}
 use Rattle.std.specs.List.{concat}
 use Rattle.byte_output.specs.declared.paged.PagedOutput.{PagedOutput}
@@ -13,20 +13,33 @@ use Rattle.dsm_world.specs.Execution.{IsExecution}
 use Rattle.replica.specs.Replica.{Replica as ReplicaState}
 use Rattle.log_model.specs.Log.{Setting, by_number, by_name, procedures_after}
 use Rattle.dsm_model.specs.World.{World, Replica, Begin, Turn, Order, Deliver, Rebuild, Add, IsStep, after_begin, after_step, numbered, position_of}
+use Rattle.script.specs.declared.procedure_fields.ProcedureFields.{ProcedureFields}
 use Rattle.script.specs.declared.statements.Action.TheVariants as action
+use Rattle.script.specs.Script.{ScriptAction}
 use Rattle.script_replay.specs.Printed.{step_text, rows_text, log_text, entry_text}
-use Rattle.script_replay.specs.Actions.{Repeats, Begins, Does, begin_action, is_more, is_delivery, longest_run, number_of_name}
-use Rattle.script_replay.specs.Acting.{Gives, HasDone}
+use Rattle.script_replay.specs.Actions.{Repeats, OneStep, Begins, Does, begin_action, is_more, is_delivery, longest_run, number_of_name}
+use Rattle.script_replay.specs.Acting.{Gives, HasDone, HasPrinted}
 use Rattle.script_replay.proofs.GivenLemmas.{gives_done}
 use Rattle.script_replay.proofs.RepeatLemmas.{AllRan, ran_at_once}
 
-pub orders : (w : Setting) (before : World) (call : ℕ) (outcome : Outcome) (after : World) → IsStep w before (Order call) outcome after → Does w before (action.Order call) (step_text w after.log (Order call) outcome) after
-unfolding Does
-orders w before call outcome after is = (outcome, is, refl)
+-- what may be printed by one may be printed by another
+pub printed_so : {W T E : Type 0} (contents : W → Option (List ℕ)) (One Other : List ℕ → World → Type 0) (old new : PagedOutput W) (result : Result T E) (now : World) → ((text : List ℕ) (after : World) → One text after → Other text after)
+    → HasPrinted contents One old new result now → HasPrinted contents Other old new result now
+printed_so contents One Other old new (Ok x) now so (text, one, given) = (text, so text now one, given)
+printed_so contents One Other old new (Err x) now so (text, after, one, given) = (text, after, so text after one, given)
 
-pub rebuilds : (w : Setting) (before : World) (r : ℕ) (outcome : Outcome) (after : World) → IsStep w before (Rebuild r) outcome after → Does w before (action.Rebuild r) (step_text w after.log (Rebuild r) outcome) after
+-- an action was done, by what it is
+pub done_as : {W T E : Type 0} (contents : W → Option (List ℕ)) (w : Setting) (before : World) (is this : ScriptAction) (old new : PagedOutput W) (result : Result T E) (now : World) → is ≡ this
+    → HasDone contents w before this old new result now → HasDone contents w before is old new result now
+done_as contents w before is this old new result now same done = subst (λ (k : ScriptAction). HasDone contents w before k old new result now) (sym same) done
+
+pub orders : (w : Setting) (before : World) (call : ℕ) (text : List ℕ) (after : World) → OneStep w before (Order call) text after → Does w before (action.Order call) text after
 unfolding Does
-rebuilds w before r outcome after is = (outcome, is, refl)
+orders w before call text after one = one
+
+pub rebuilds : (w : Setting) (before : World) (r : ℕ) (text : List ℕ) (after : World) → OneStep w before (Rebuild r) text after → Does w before (action.Rebuild r) text after
+unfolding Does
+rebuilds w before r text after one = one
 
 -- a line that begins a call with a request, or without one, is done by cases of that
 does_begin : (w : Setting) (before : World) (r : ℕ) (name args : List ℕ) (request : Option RequestId) (text : List ℕ) (after : World) → Begins w before r args request (number_of_name w before r name) text after
@@ -35,10 +48,10 @@ unfolding Does
 does_begin w before r name args None text after begins = begins
 does_begin w before r name args (Some request) text after begins = begins
 
-pub begins : (w : Setting) (before : World) (r : ℕ) (name args : List ℕ) (request : Option RequestId) (procedure : ℕ) (outcome : Outcome) (after : World) → number_of_name w before r name ≡ Some procedure → IsStep w before (Begin r procedure args request) outcome after
-    → Does w before (begin_action r name args request) (step_text w after.log (Begin r procedure args request) outcome) after
-begins w before r name args request procedure outcome after named is = does_begin w before r name args request _ after
-    (subst (λ (o : Option ℕ). Begins w before r args request o (step_text w after.log (Begin r procedure args request) outcome) after) (sym named) (outcome, is, refl))
+pub begins : (w : Setting) (before : World) (r : ℕ) (name args : List ℕ) (request : Option RequestId) (procedure : ℕ) (text : List ℕ) (after : World) → number_of_name w before r name ≡ Some procedure → OneStep w before (Begin r procedure args request) text after
+    → Does w before (begin_action r name args request) text after
+begins w before r name args request procedure text after named one = does_begin w before r name args request text after
+    (subst (λ (o : Option ℕ). Begins w before r args request o text after) (sym named) one)
 
 pub begins_unnamed : (w : Setting) (before : World) (r : ℕ) (name args : List ℕ) (request : Option RequestId) (kept : Replica) → number_of_name w before r name ≡ None → numbered before.replicas r ≡ Some kept
     → Does w before (begin_action r name args request) (step_text w before.log (Begin r 0 args request) (Refused NoProcedure)) before
@@ -65,10 +78,12 @@ begins_nowhere w before r name args request none = does_begin w before r name ar
     go None = (ap (λ (k : Option Replica). step_text w before.log (Begin r 0 args request) (after_begin before r 0 args request k None).0) (sym none), refl)
     go (Some p) = (Refused NoReplica, inl (nowhere w before r p args request none), refl)
 
-pub adds : (w : Setting) (before : World) (name : List ℕ) (number args_len : ℕ) (program : List ℕ) (outcome : Outcome) (after : World) → IsStep w before (Add name number args_len (check_of w.tables args_len program)) outcome after
-    → Does w before (action.Add name number args_len program) (step_text w after.log (Add name number args_len (check_of w.tables args_len program)) outcome) after
+pub adds : (w : Setting) (before : World) (p : ProcedureFields (List ℕ)) (name program : List ℕ) → name ≡ p.name → program ≡ p.program → (text : List ℕ) (after : World)
+    → OneStep w before (Add name p.number p.args_len (check_of w.tables p.args_len program)) text after → Does w before (action.Add p) text after
 unfolding Does
-adds w before name number args_len program outcome after is = (outcome, is, refl)
+adds w before p name program same_name same_program text after one =
+    subst (λ (n : List ℕ). OneStep w before (Add n p.number p.args_len (check_of w.tables p.args_len p.program)) text after) same_name
+    (subst (λ (b : List ℕ). OneStep w before (Add name p.number p.args_len (check_of w.tables p.args_len b)) text after) same_program one)
 
 pub delivers : (w : Setting) (before : World) (r most : ℕ) (lines : List (List ℕ)) (after : World) → Repeats w (Deliver r) is_delivery most before lines after → Does w before (action.Deliver r most) (concat lines) after
 unfolding Does

@@ -39,7 +39,7 @@ unfolding Does
 can_do w before (action.Begin r name args) = begin_can w before r args None (number_of_name w before r name)
 can_do w before (action.BeginNumbered r name args session sequence) =
     begin_can w before r args (Some (record { session = session; sequence = sequence })) (number_of_name w before r name)
-can_do w before (action.Add name number args_len program) = one_can w before _
+can_do w before (action.Add p) = one_can w before _
 can_do w before (action.Turn call most) = turns_can w before call most
 can_do w before (action.Exec call) = turns_can w before call longest_run
 can_do w before (action.Order call) = one_can w before (Order call)

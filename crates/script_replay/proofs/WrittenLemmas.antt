@@ -9,6 +9,7 @@ use Rattle.byte_output.proofs.PendingLemmas.{Writes-finished}
 use Rattle.script.specs.Telling.{FAILED, SaysEnd, SaysStream, fault_line, status_of_cause}
 use Rattle.script.specs.declared.cause.FaultCause.{FaultCause}
 use Rattle.script.specs.declared.cause.FaultCause.TheVariants.{Line, Place, Table, Program, Refused, Procedure, NoMemory}
+use Rattle.script.proofs.TellingLemmas.{memory_or_not}
 use Rattle.script_replay.specs.Acting.{PassesBeginning}
 use Rattle.script.specs.declared.stop.Stop.{Stop}
 use Rattle.script.specs.declared.stop.Stop.TheVariants.{Fault, Input, Output}
@@ -118,16 +119,6 @@ failed old new old_faults new_faults status P e (text, ending, prints, q) = (tex
 pub told_finished : (old new faults : Option (List ℕ)) (P : List ℕ → Ending → Type 0) → (text : List ℕ) × P text Finished × Appends old new text → SomeTold old new faults faults 0 P
 told_finished old new faults P (text, prints, q) = (text, Finished, prints, inr (refl, q, ([], [], refl, Appends-nothing faults)))
 
--- a fault is a want of memory, or the script's
-memory_or_not : (cause : FaultCause) (status : ℕ) → status ≡ status_of_cause cause → (status ≡ FAILED) ⊎ (status ≡ 1)
-memory_or_not (Line fault) status e = inr e
-memory_or_not Place status e = inr e
-memory_or_not (Table fault) status e = inr e
-memory_or_not (Program fault) status e = inr e
-memory_or_not (Refused refusal) status e = inr e
-memory_or_not (Procedure fault) status e = inr e
-memory_or_not NoMemory status e = inl e
-
 pub told_stopped : (old new old_faults new_faults : Option (List ℕ)) (P : List ℕ → Ending → Type 0) (stop : Stop) (status : ℕ) → WritesReplay {T = ℕ} old new P (Err stop) → SaysEnd old_faults new_faults stop status
     → SomeTold old new old_faults new_faults status P
 told_stopped old new old_faults new_faults P (Fault fault) status (inl (memory, h)) (e, said) =
@@ -139,10 +130,6 @@ told_stopped old new old_faults new_faults P (Fault fault) status (inr (text, pr
     by_cases (inr f) = (text, Faulty fault, prints, inr (f, q, said))
 told_stopped old new old_faults new_faults P (Input error) status h (e, said) = failed old new old_faults new_faults status P e h
 told_stopped old new old_faults new_faults P (Output error) status h (e, said) = failed old new old_faults new_faults status P e h
-
-pub if_known : (a : Option (List ℕ)) (P : List ℕ → Type 0) → ((bytes : List ℕ) → a ≡ Some bytes → P bytes) → IfSome a P
-if_known None P h = tt
-if_known (Some bytes) P h = h bytes refl
 
 -- ---- where something failed
 

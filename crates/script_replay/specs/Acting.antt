@@ -17,9 +17,14 @@ PassesBeginning contents old new text = (front rest : List ℕ) × (pending_of o
 abbrev pub Gives : {W T E : Type 0} → (W → Option (List ℕ)) → PagedOutput W → PagedOutput W → Result T E → List ℕ → Type 0
 Gives contents old new result text = MatchResult result (λ _. Passes contents old new text) (λ _. PassesBeginning contents old new text)
 
--- at `Ok` the line was done and its text given, at `Err` a beginning of a text that it may print
+-- at `Ok` a text that may be printed was given, with the world behind it; at `Err` a beginning of such a text
+abbrev pub HasPrinted : {W T E : Type 0} → (W → Option (List ℕ)) → (List ℕ → World → Type 0) → PagedOutput W → PagedOutput W
+    → Result T E → World → Type 0
+HasPrinted contents MayPrint old new (Ok _) after = (text : List ℕ) × MayPrint text after × Passes contents old new text
+HasPrinted contents MayPrint old new (Err _) now =
+    (text : List ℕ) × (after : World) × MayPrint text after × PassesBeginning contents old new text
+
+-- the line was done
 abbrev pub HasDone : {W T E : Type 0} → (W → Option (List ℕ)) → Setting → World → ScriptAction → PagedOutput W → PagedOutput W
     → Result T E → World → Type 0
-HasDone contents w before c old new (Ok _) after = (text : List ℕ) × Does w before c text after × Passes contents old new text
-HasDone contents w before c old new (Err _) now =
-    (text : List ℕ) × (after : World) × Does w before c text after × PassesBeginning contents old new text
+HasDone contents w before c old new result now = HasPrinted contents (Does w before c) old new result now

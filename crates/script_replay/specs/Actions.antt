@@ -85,8 +85,7 @@ unfoldable pub Does : Setting → World → ScriptAction → List ℕ → World 
 Does w before (action.Begin r name args) text after = Begins w before r args None (number_of_name w before r name) text after
 Does w before (action.BeginNumbered r name args session sequence) text after =
     Begins w before r args (Some (record { session = session; sequence = sequence })) (number_of_name w before r name) text after
-Does w before (action.Add name number args_len program) text after =
-    OneStep w before (Add name number args_len (check_of w.tables args_len program)) text after
+Does w before (action.Add p) text after = OneStep w before (Add p.name p.number p.args_len (check_of w.tables p.args_len p.program)) text after
 Does w before (action.Turn call most) text after = Turns w before call most text after
 Does w before (action.Exec call) text after = Turns w before call longest_run text after
 Does w before (action.Order call) text after = OneStep w before (Order call) text after

@@ -6,11 +6,11 @@ ghost use Rattle.dsm_world.specs.System.{setting_of, world_of};
 ghost use Rattle.script.specs.Script.{IsActionWithinLimits};
 ghost use Rattle.script_replay.specs.Acting.{HasDone};
 
-use crate::answers::{add, begin, deliver, exec, order, rebuild, turn};
+use crate::answers::{begin, deliver, exec, take_step, turn};
 use crate::log::{put_entry, put_log};
 use crate::rows::put_rows;
 use byte_output::paged::PagedOutput;
-use dsm_world::World;
+use dsm_world::{Step, World};
 use log_model::RequestId;
 use row_sets::Bytes;
 use script::Action;
@@ -52,23 +52,27 @@ pub fn act<A: Allocator + Copy, W: Write>(
             let (name, args) = (name.as_slice(), args.as_slice());
             begin(world, output, *replica, name, args, request)
         }
-        Action::Add {
-            name,
-            number,
-            args_len,
-            program,
-        } => {
-            let (name, bytes) = (name.as_slice(), program.as_slice());
-            add(world, output, name, *number, *args_len, bytes)
+        Action::Add(procedure) => {
+            let add = Step::Add {
+                name: procedure.name.as_slice(),
+                number: procedure.number,
+                args_len: procedure.args_len,
+                bytes: procedure.program.as_slice(),
+            };
+            take_step(world, output, add)
         }
         Action::Turn { call, most } => turn(world, output, *call, *most),
         Action::Exec { call } => exec(world, output, *call),
-        Action::Order { call } => order(world, output, *call),
+        Action::Order { call } => take_step(world, output, Step::Order { call: *call }),
         Action::Deliver { replica, most } => deliver(world, output, *replica, *most),
         Action::Rows { replica } => put_rows(world, output, *replica),
         Action::Log => put_log(world, output),
         Action::Entry { position } => put_entry(world, output, *position),
-        Action::Rebuild { replica } => rebuild(world, output, *replica),
+        Action::Rebuild { replica } => take_step(
+            world,
+            output,
+            Step::Rebuild { replica: *replica },
+        ),
     }
 }
 

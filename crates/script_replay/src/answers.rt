@@ -10,8 +10,8 @@ ghost use Rattle.dsm_world.specs.System.{setting_of, world_of, step_of};
 ghost use Rattle.report.specs.Answers.{answer_line};
 ghost use Rattle.script.specs.declared.statements.Action.TheVariants as action;
 ghost use Rattle.script_replay.specs.Printed.{delivered_entry, step_text};
-ghost use Rattle.script_replay.specs.Actions.{begin_action, is_more, is_delivery, Turns};
-ghost use Rattle.script_replay.specs.Acting.{PassesBeginning, HasDone};
+ghost use Rattle.script_replay.specs.Actions.{begin_action, is_more, is_delivery, OneStep, Turns};
+ghost use Rattle.script_replay.specs.Acting.{PassesBeginning, HasDone, HasPrinted};
 
 use crate::output::put_answer;
 use byte_output::paged::PagedOutput;
@@ -24,7 +24,7 @@ use std::alloc::Allocator;
 use std::io;
 use std::io::Write;
 
-/// Makes one step, and prints its line.
+/// Makes one step, and prints its line. Returns the step's outcome.
 fn step<A: Allocator + Copy, W: Write>(
     world: &mut World<A>,
     output: &mut PagedOutput<'_, W>,
@@ -49,6 +49,22 @@ fn step<A: Allocator + Copy, W: Write>(
     let entry = delivered_entry(world, outcome);
     put_answer(output, answer_line(step, outcome, entry))?;
     Ok(outcome)
+}
+
+/// Makes one step, and prints its line.
+pub(crate) fn take_step<A: Allocator + Copy, W: Write>(
+    world: &mut World<A>,
+    output: &mut PagedOutput<'_, W>,
+    taken: Step<'_>,
+) -> io::Result<()>
+    ensures same_output { (output_of output.new).ghost_name ≡ (output_of output.old).ghost_name }
+    ensures setting { setting_of world.new ≡ setting_of world.old }
+    ensures done { HasPrinted W.contents
+        (OneStep (setting_of world.old) (world_of world.old) (step_of (setting_of world.old) taken.entry))
+        output.old output.new result (world_of world.new) }
+{
+    step(world, output, taken)?;
+    Ok(())
 }
 
 /// The line of a step's answer.
@@ -129,9 +145,7 @@ pub(crate) fn begin<A: Allocator + Copy, W: Write>(
         };
         return put_answer(output, begin_line(replica, Outcome::Refused(refusal)));
     };
-    let begin = begin_step(replica, procedure, args, request);
-    step(world, output, begin)?;
-    Ok(())
+    take_step(world, output, begin_step(replica, procedure, args, request))
 }
 
 /// The step of a call that begins.
@@ -157,31 +171,6 @@ fn begin_step<'a>(
             sequence,
         },
     }
-}
-
-/// Adds a procedure, and prints the answer.
-pub(crate) fn add<A: Allocator + Copy, W: Write>(
-    world: &mut World<A>,
-    output: &mut PagedOutput<'_, W>,
-    name: &[u8],
-    number: u16,
-    args_len: u16,
-    bytes: &[u8],
-) -> io::Result<()>
-    ensures same_output { (output_of output.new).ghost_name ≡ (output_of output.old).ghost_name }
-    ensures setting { setting_of world.new ≡ setting_of world.old }
-    ensures done { HasDone W.contents (setting_of world.old) (world_of world.old)
-        (action.Add name.now number args_len bytes.now)
-        output.old output.new result (world_of world.new) }
-{
-    let add = Step::Add {
-        name,
-        number,
-        args_len,
-        bytes,
-    };
-    step(world, output, add)?;
-    Ok(())
 }
 
 /// Makes at most `most` turns of a call, as long as there is more to run, and prints the last turn's line.
@@ -238,21 +227,6 @@ fn is_more(outcome: Outcome) -> bool
     matches!(outcome, Outcome::More)
 }
 
-/// Orders a call, and prints the answer.
-pub(crate) fn order<A: Allocator + Copy, W: Write>(
-    world: &mut World<A>,
-    output: &mut PagedOutput<'_, W>,
-    call: u32,
-) -> io::Result<()>
-    ensures same_output { (output_of output.new).ghost_name ≡ (output_of output.old).ghost_name }
-    ensures setting { setting_of world.new ≡ setting_of world.old }
-    ensures done { HasDone W.contents (setting_of world.old) (world_of world.old) (action.Order call)
-        output.old output.new result (world_of world.new) }
-{
-    step(world, output, Step::Order { call })?;
-    Ok(())
-}
-
 /// Makes at most `most` deliveries to a replica, each with its line. The first that is refused is the last.
 pub(crate) fn deliver<A: Allocator + Copy, W: Write>(
     world: &mut World<A>,
@@ -278,19 +252,4 @@ fn is_delivery(outcome: Outcome) -> bool
     ensures { result ≡ is_delivery outcome }
 {
     matches!(outcome, Outcome::Delivered { .. })
-}
-
-/// Makes a replica anew, and prints the answer.
-pub(crate) fn rebuild<A: Allocator + Copy, W: Write>(
-    world: &mut World<A>,
-    output: &mut PagedOutput<'_, W>,
-    replica: u32,
-) -> io::Result<()>
-    ensures same_output { (output_of output.new).ghost_name ≡ (output_of output.old).ghost_name }
-    ensures setting { setting_of world.new ≡ setting_of world.old }
-    ensures done { HasDone W.contents (setting_of world.old) (world_of world.old) (action.Rebuild replica)
-        output.old output.new result (world_of world.new) }
-{
-    step(world, output, Step::Rebuild { replica })?;
-    Ok(())
 }

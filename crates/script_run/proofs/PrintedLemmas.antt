@@ -2,6 +2,7 @@
 use Rattle.std.proofs.Common.{◌≡◌, ℕ, inr, List, Option, Some, None, IfSome, Ok, Err, refl}
 use Rattle.std.specs.Io.KnownBytes.{Appends}
 use Rattle.byte_output.specs.Writes.{AppendsBeginning}
+use Rattle.script.proofs.TellingLemmas.{if_known}
 use Rattle.script_run.specs.Calls.{Said, script_says}
 use Rattle.script.specs.declared.stop.Stop.{Stop}
 use Rattle.script.specs.declared.stop.Stop.TheVariants.{Fault, Input, Output}
@@ -15,11 +16,7 @@ begun old new r (Output error) printed = printed
 pub some_printed : (remaining old new : Option (List ℕ)) (said : Said) (r : RunReport) (stop : Stop)
     → ((bytes : List ℕ) → remaining ≡ Some bytes → script_says bytes ≡ Ok said) → IsReportOf said r → PrintsReport old new (run_text r) (Err stop)
     → PrintsNoMore remaining old new
-some_printed remaining old new said r stop says is printed = inr (said, r, if_known remaining says, is, begun old new r stop printed)
-  where
-    if_known : (known : Option (List ℕ)) → ((bytes : List ℕ) → known ≡ Some bytes → script_says bytes ≡ Ok said) → IfSome known (λ bytes. script_says bytes ≡ Ok said)
-    if_known None h = tt
-    if_known (Some bytes) h = h bytes refl
+some_printed remaining old new said r stop says is printed = inr (said, r, if_known remaining _ says, is, begun old new r stop printed)
 
 pub all_printed : (remaining old new : Option (List ℕ)) (said : Said) (r : RunReport) → ((bytes : List ℕ) → remaining ≡ Some bytes → script_says bytes ≡ Ok said)
     → IsReportOf said r → Appends old new (run_text r) → IfSome remaining (λ bytes. PrintsRun bytes old new)

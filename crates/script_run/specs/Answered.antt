@@ -5,8 +5,8 @@ use mathlib.Core.List.{IsPrefix}
 use Rattle.log_model.specs.Log.{Setting, Catalogue, by_name}
 use Rattle.node_calls.specs.Asked.{AskedCall}
 use Rattle.node_calls.specs.declared.answer.Answer.{Answer}
-use Rattle.node_calls.specs.declared.answer.Answer.TheVariants.{Refused}
-use Rattle.node_calls.specs.declared.answer.CallRefusal.TheVariants.{NoReplica, NoProcedure}
+use Rattle.node_calls.specs.declared.answer.Answer.TheVariants.{NoReplica, Refused}
+use Rattle.log_model.specs.declared.refusal.CallRefusal.TheVariants.{NoProcedure}
 use Rattle.node.specs.Requests.{Entries, IsEndAt, IsHeard, IsNoReplica}
 use Rattle.script_run.specs.declared.call.ScriptCall.{ScriptCall}
 use Rattle.script_run.specs.declared.asking.MadeCall.{MadeCall}
@@ -25,7 +25,7 @@ asked_for call number = record { least = 0; procedure = number; args = call.args
 -- no procedure has the call's name, and nothing is asked. That there is no such replica goes first
 abbrev pub IsUnnamed : ℕ → ℕ → Answer → Type 0
 IsUnnamed replicas replica what =
-    (IsNoReplica replicas replica × (what ≡ Refused NoReplica))
+    (IsNoReplica replicas replica × (what ≡ NoReplica))
     ⊎ ((IsNoReplica replicas replica → ⊥) × (what ≡ Refused NoProcedure))
 
 -- what a call is told, by whether there is such a procedure, and which number it has

@@ -10,13 +10,9 @@ use crate::call::ScriptCall;
 use crate::reading::Reading;
 use catalogue::Catalogue;
 use row_sets::Bytes;
-use script::{
-    FaultCause, LineFault, MAX_LINE, Next, Stop, fault_at, lines_that_are_too_long_are_at_fault,
-    next_line, out_of_memory,
-};
+use script::{FaultCause, Stop, fault_at, out_of_memory, read_lines};
 use std::alloc::{Allocator, Global};
-use std::io;
-use std::io::{BufRead, ErrorKind};
+use std::io::BufRead;
 
 /// A script of settings and calls.
 #[derive(Drop)]
@@ -43,28 +39,11 @@ pub fn read_script<A: Allocator + Copy, R: BufRead>(
     ensures window { IfOk result (λ script. (1 ≤ script.window) × (script.window ≤ MAX_WINDOW)) }
     ensures replicas { IfOk result (λ script. (1 ≤ script.replicas) × (script.replicas ≤ MAX_REPLICAS)) }
 {
-    // Laws:
-    lines_that_are_too_long_are_at_fault();
-    let Ok(mut line) = Vec::with_capacity(alloc, MAX_LINE) else {
+    let Ok(reading) = Reading::new(alloc) else {
         return Err(out_of_memory(0));
     };
-    let Ok(mut reading) = Reading::new(alloc) else {
-        return Err(out_of_memory(0));
-    };
-    for number in 1..u64::MAX {
-        match next_line(input, &mut line) {
-            Ok(Next::Line) => {}
-            Ok(Next::AtEnd) => return whole(reading),
-            Ok(Next::TooLong) => {
-                return Err(fault_at(number, FaultCause::Line(LineFault::Bytes)));
-            }
-            Err(error) => return Err(Stop::Input(error)),
-        }
-        if let Err(cause) = reading.take_line(alloc, &line) {
-            return Err(fault_at(number, cause));
-        }
-    }
-    Err(Stop::Input(io::Error::from(ErrorKind::Interrupted)))
+    let reading = read_lines(alloc, input, reading)?;
+    whole(reading)
 }
 
 /// Returns the script that was read to its end. Its window and its replicas have to be set.

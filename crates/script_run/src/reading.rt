@@ -1,14 +1,14 @@
 //! The statements that the lines of a script have made so far.
 
 ghost use Rattle.std.specs.Prelude.{◌≡◌, ◌⊎◌, ◌≤◌, Some, Ok, Err, IfOk, IfErr, OnOk, OnErr};
-ghost use Rattle.script.specs.Script.{IsSettingWithinLimits, line_says};
+ghost use Rattle.script.specs.Script.{IsSettingWithinLimits};
 ghost use Rattle.script.specs.declared.cause.FaultCause.TheVariants.{NoMemory};
-ghost use Rattle.script_run.specs.Calls.{after_line, call_of, nothing_said, with_call, with_setting};
+ghost use Rattle.script_run.specs.Calls.{call_of, nothing_said, with_call, with_setting};
 ghost use Rattle.script_run.specs.Reading.{so_far};
 
 use crate::call::{ScriptCall, call_of};
 use row_sets::Bytes;
-use script::{Action, FaultCause, Setting, Settings, Statement, statement};
+use script::{Action, FaultCause, LineReader, Setting, Settings, Statement, statement};
 use std::alloc::{AllocError, Allocator};
 
 /// The statements that the lines of a script have made so far.
@@ -27,19 +27,6 @@ impl<A: Allocator + Copy> Reading<A> {
             settings: Settings::new(alloc)?,
             calls: Vec::new(alloc),
         })
-    }
-
-    /// Takes one more line.
-    pub(crate) fn take_line(&mut self, alloc: A, line: &[u8]) -> Result<(), FaultCause>
-        ensures ok { OnOk result (after_line (so_far self.old) (line_says line.now) ≡ Ok (so_far self.new)) }
-        ensures fault { IfErr result (λ cause. (cause ≡ NoMemory)
-            ⊎ (after_line (so_far self.old) (line_says line.now) ≡ Err cause)) }
-    {
-        match statement(alloc, line)? {
-            None => Ok(()),
-            Some(Statement::Setting(setting)) => self.set(setting),
-            Some(Statement::Action(action)) => self.begin(action),
-        }
     }
 
     /// Takes a setting.
@@ -79,6 +66,33 @@ impl<A: Allocator + Copy> Reading<A> {
         match self.calls.push(call) {
             Ok(()) => Ok(()),
             Err(_) => Err(FaultCause::NoMemory),
+        }
+    }
+}
+
+impl<A: Allocator + Copy> LineReader<A> for Reading<A> {
+    ghost use Rattle.std.proofs.Common.{ap};
+    ghost use Rattle.script.proofs.LineLemmas.{says-too_long};
+    ghost use Rattle.script.specs.Line.{fields_say};
+    ghost use Rattle.script.specs.Script.{said_behind, word_of};
+    ghost use Rattle.script.specs.Text.{max_line};
+    ghost use Rattle.script_run.specs.Calls.{Said, after_line, with_line};
+    ghost use Rattle.script_run.specs.Reading.{so_far};
+
+    ghost Meaning = { Said };
+
+    ghost read_so_far = { so_far };
+
+    ghost with_next = { with_line };
+
+    ghost too_long = { λ said line long.
+        ap (after_line said) (says-too_long (fields_say word_of said_behind) max_line line long) };
+
+    fn take_line(&mut self, alloc: A, line: &[u8]) -> Result<(), FaultCause> {
+        match statement(alloc, line)? {
+            None => Ok(()),
+            Some(Statement::Setting(setting)) => self.set(setting),
+            Some(Statement::Action(action)) => self.begin(action),
         }
     }
 }

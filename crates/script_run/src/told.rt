@@ -4,8 +4,9 @@ ghost use Rattle.script_run.specs.Answered.{IsTold, IsUnnamed};
 
 use crate::planned::PlannedCall;
 use locked_replica::{LogSetting, OrderedEntries};
+use log_model::CallRefusal;
 use node::Desk;
-use node_calls::{Answer, CallRefusal, OpenGate};
+use node_calls::{Answer, OpenGate};
 use order_log::{Fact, Seen};
 use std::sync::Wait;
 use tallies::Ledgers;
@@ -35,7 +36,7 @@ fn unnamed(replicas: usize, replica: u32) -> Answer
     ensures { IsUnnamed replicas replica result }
 {
     if replica == 0 || replica as usize > replicas {
-        Answer::Refused(CallRefusal::NoReplica)
+        Answer::NoReplica
     } else {
         Answer::Refused(CallRefusal::NoProcedure)
     }

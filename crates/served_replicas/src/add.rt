@@ -1,20 +1,17 @@
 //! A procedure is added through the log.
 
-ghost use Rattle.std.specs.Prelude.{◌≡◌, IfOk, IfErr};
+ghost use Rattle.std.specs.Prelude.{IfOk, IfErr};
 ghost use Rattle.served_replicas.specs.Added.{IsAskedFor, IsNotAdded, IsAddedAnswer};
 
 use crate::shared::Shared;
-use bpf_verify::Accepted;
-use catalogue::is_name;
 use locked_replica::{LogSetting, OrderedEntries};
-use log_entry::{AddedProcedure, Entry};
+use log_entry::{AddedProcedure, Entry, NamedProgram, check_addition};
 use node_calls::Gate;
 use order_log::{AppendFault, Fact, OrderLog, Seen};
-use program_checks::{ProgramFault, check_program};
-use row_sets::Bytes;
+use program_checks::{AdditionFault, ProgramFault};
 use schema::{MAX_ARGUMENTS, OrNoMemory};
-use std::alloc::{AllocError, Allocator};
-use std::sync::{Arc, Wait};
+use std::alloc::Allocator;
+use std::sync::Wait;
 use tallies::Ledgers;
 
 /// A cause for which a program isn't added.
@@ -90,19 +87,19 @@ impl<J: LogSetting + Ledgers, A: Allocator + Copy, P: Allocator + Copy, G: Gate>
         if args_len > MAX_ARGUMENTS {
             return Err(Added::Program(ProgramRefusal::ArgumentsLimit));
         }
-        let accepted = match check_program(self.alloc, bytes, self.catalogue.schema(), args_len) {
-            Ok(accepted) => accepted,
-            Err(OrNoMemory::NoMemory) => return Err(Added::NoMemory),
-            Err(OrNoMemory::Fault(fault)) => {
-                return Err(Added::Program(ProgramRefusal::Fault(fault)));
-            }
+        let named = NamedProgram {
+            number,
+            args_len,
+            name,
+            program: bytes,
         };
-        if !is_name(name) {
-            return Err(Added::Name);
-        }
-        match named(self.alloc, name, number, accepted) {
+        match check_addition(self.alloc, named, self.catalogue.schema()) {
             Ok(addition) => Ok(addition),
-            Err(_) => Err(Added::NoMemory),
+            Err(OrNoMemory::NoMemory) => Err(Added::NoMemory),
+            Err(OrNoMemory::Fault(AdditionFault::Program(fault))) => {
+                Err(Added::Program(ProgramRefusal::Fault(fault)))
+            }
+            Err(OrNoMemory::Fault(AdditionFault::Name)) => Err(Added::Name),
         }
     }
 
@@ -113,20 +110,4 @@ impl<J: LogSetting + Ledgers, A: Allocator + Copy, P: Allocator + Copy, G: Gate>
             None => self.log.seen(),
         }
     }
-}
-
-/// An accepted program under a name and a number.
-fn named<P: Allocator + Copy>(
-    alloc: P,
-    name: &[u8],
-    number: u16,
-    accepted: Accepted<P, P>,
-) -> Result<AddedProcedure<P>, AllocError>
-    ensures { IfOk result (λ p. p ≡ record { name = name.now; number = number; accepted = accepted }) }
-{
-    Ok(AddedProcedure {
-        name: Bytes::new(Vec::from_slice(alloc, name)?),
-        number,
-        accepted: Arc::new(alloc, accepted)?,
-    })
 }

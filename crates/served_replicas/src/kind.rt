@@ -20,6 +20,7 @@ pub fn kind_of(answer: Answer) -> AnswerKind
         Answer::Behind
         | Answer::NoMemory
         | Answer::Full
+        | Answer::NoReplica
         | Answer::Stopped { .. }
         | Answer::Refused(_) => AnswerKind::Other,
     }

@@ -132,6 +132,7 @@ fn position_told(answer: Answer) -> u32
         | Answer::Behind
         | Answer::NoMemory
         | Answer::Full
+        | Answer::NoReplica
         | Answer::Stopped { .. }
         | Answer::Refused(_) => 0,
     }

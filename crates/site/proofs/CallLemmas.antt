@@ -1,5 +1,5 @@
 -- What a call that is asked for comes to, test by test.
-use Rattle.std.proofs.Common.{◌≡◌, ℕ, ◌<◌, ◌^◌, nat_eq, Bool, true, false, not, cond, List, length, Option, Some, None, option_map, refl, sym, ap, subst, ◌∙◌}
+use Rattle.std.proofs.Common.{◌≡◌, ℕ, ◌<◌, ◌^◌, List, length, Option, Some, None, Result, Ok, Err, option_map, refl, sym, ap, subst, ◌∙◌}
 use Rattle.std.proofs.lemmas.List.{length-map}
 use Rattle.bpf_verify.specs.Flow.{Procedure}
 use Rattle.catalogue.specs.Catalogue.{accepted_of}
@@ -8,11 +8,12 @@ use Rattle.log_model.specs.declared.request.RequestId.{RequestId}
 use Rattle.log_model.specs.Log.{StoredProcedure, Call, Catalogue, Setting, Log, by_name, by_number, first_repeated, history, procedures_after, run_in}
 use Rattle.log_model.specs.Entries.{Entry, CallEntry, item_of, items_of}
 use Rattle.log_entry.specs.Bytes.{entry_bytes}
-use Rattle.log_model.specs.OpenRequest.{has_zero}
+use Rattle.log_model.specs.declared.refusal.CallRefusal.{CallRefusal}
+use Rattle.log_model.specs.declared.refusal.CallRefusal.TheVariants.{NoProcedure}
+use Rattle.log_model.specs.Admission.{admission}
 use Rattle.site_model.specs.declared.answer.CallAnswer.TheVariants.{Refused, Repeated, Cancelled, Submitted}
-use Rattle.site_model.specs.declared.answer.CallRefusal.TheVariants.{NoProcedure, ArgumentsLength, HalfRequest}
 use Rattle.site_model.specs.Order.{reply_at}
-use Rattle.site_model.specs.Answer.{Asked, answer_for, answer_of_run, asked_call, call_answer_behind, unless_cancelled, unless_repeated}
+use Rattle.site_model.specs.Answer.{Asked, answer_for, answer_of_admission, answer_of_run, asked_call, call_answer_behind, unless_cancelled, unless_repeated}
 use Rattle.site_model.specs.Standing.{executed}
 use Rattle.world_calls.specs.declared.completion.Completion.{Completion}
 use Rattle.world_calls.specs.declared.completion.Completion.TheVariants as completion
@@ -30,35 +31,30 @@ module _ (w : Setting) (entries : List Entry) (asked : Asked) where
   no_procedure none = sym (by_found None none)
 
   module _ (p : StoredProcedure) (some : by_name (procedures_after w (items_of entries) (length entries)) asked.name ≡ Some p) where
-    by_tests : (a b : Bool) → nat_eq p.args_len (length asked.args) ≡ a → has_zero asked.request ≡ b
-        → call_answer_behind w entries asked ≡ cond (not a) (Refused ArgumentsLength) (cond b (Refused HalfRequest) (unless_repeated entries (answer_of_run w (items_of entries) (asked_call (items_of entries) p asked)) (first_repeated (history w (items_of entries)).certified (asked_call (items_of entries) p asked))))
-    by_tests a b as_many whole =
-        by_found (Some p) some
-        ∙ (λ i. cond (not (as_many i)) (Refused ArgumentsLength) (cond (whole i) (Refused HalfRequest) (unless_repeated entries (answer_of_run w (items_of entries) (asked_call (items_of entries) p asked)) (first_repeated (history w (items_of entries)).certified (asked_call (items_of entries) p asked)))))
+    by_admission : (answer : Result StoredProcedure CallRefusal) → admission asked.args asked.request (Some p) ≡ answer → call_answer_behind w entries asked ≡ answer_of_admission w entries asked answer
+    by_admission answer e = by_found (Some p) some ∙ ap (answer_of_admission w entries asked) e
 
-    pub other_length : nat_eq p.args_len (length asked.args) ≡ false → Refused ArgumentsLength ≡ call_answer_behind w entries asked
-    other_length a = sym (by_tests false (has_zero asked.request) a refl)
+    pub refused_call : (refusal : CallRefusal) → admission asked.args asked.request (Some p) ≡ Err refusal → Refused refusal ≡ call_answer_behind w entries asked
+    refused_call refusal e = sym (by_admission (Err refusal) e)
 
-    pub half_request : nat_eq p.args_len (length asked.args) ≡ true → has_zero asked.request ≡ true → Refused HalfRequest ≡ call_answer_behind w entries asked
-    half_request a b = sym (by_tests true true a b)
+    pub repeated_call : (position : ℕ) → admission asked.args asked.request (Some p) ≡ Ok p → first_repeated (history w (items_of entries)).certified (asked_call (items_of entries) p asked) ≡ Some position → Repeated position (reply_at entries position) ≡ call_answer_behind w entries asked
+    repeated_call position e first = sym (by_admission (Ok p) e ∙ ap (unless_repeated entries (answer_of_run w (items_of entries) (asked_call (items_of entries) p asked))) first)
 
-    pub repeated_call : (position : ℕ) → nat_eq p.args_len (length asked.args) ≡ true → has_zero asked.request ≡ false → first_repeated (history w (items_of entries)).certified (asked_call (items_of entries) p asked) ≡ Some position → Repeated position (reply_at entries position) ≡ call_answer_behind w entries asked
-    repeated_call position a b first = sym (by_tests true false a b ∙ ap (unless_repeated entries (answer_of_run w (items_of entries) (asked_call (items_of entries) p asked))) first)
-
-    pub run_call : nat_eq p.args_len (length asked.args) ≡ true → has_zero asked.request ≡ false → first_repeated (history w (items_of entries)).certified (asked_call (items_of entries) p asked) ≡ None → answer_of_run w (items_of entries) (asked_call (items_of entries) p asked) ≡ call_answer_behind w entries asked
-    run_call a b first = sym (by_tests true false a b ∙ ap (unless_repeated entries (answer_of_run w (items_of entries) (asked_call (items_of entries) p asked))) first)
+    pub run_call : admission asked.args asked.request (Some p) ≡ Ok p → first_repeated (history w (items_of entries)).certified (asked_call (items_of entries) p asked) ≡ None → answer_of_run w (items_of entries) (asked_call (items_of entries) p asked) ≡ call_answer_behind w entries asked
+    run_call e first = sym (by_admission (Ok p) e ∙ ap (unless_repeated entries (answer_of_run w (items_of entries) (asked_call (items_of entries) p asked))) first)
 
 -- ---- the procedure of a name
 
 abbrev pub FoundByNumber : Type 0
 FoundByNumber = (procedures : List ListedProcedure) (name : List ℕ) (p : StoredProcedure) → AreStored procedures → by_name (stored_procedures procedures) name ≡ Some p → by_number (stored_procedures procedures) p.number ≡ Some p
 
-pub record IsFound (s : SiteReplica) (entries : List Entry) (name : List ℕ) (number : ℕ) (found : Option Procedure) : Type 0 where
+pub record IsFound (s : SiteReplica) (entries : List Entry) (held : List ListedProcedure) (name : List ℕ) (number : ℕ) : Type 0 where
   pub p : StoredProcedure
   pub named : by_name (procedures_after (setting_of s).setting (items_of entries) (length entries)) name ≡ Some p
   pub number_is : p.number ≡ number
   pub numbered : by_number (procedures_after (setting_of s).setting (items_of entries) (length entries)) number ≡ Some p
-  pub program : found ≡ Some (accepted_of s.catalogue.tables p)
+  pub program : (accepted : Procedure) → Some accepted ≡ option_map (λ (l : ListedProcedure). l.accepted) (listed_by_number held number) → accepted ≡ accepted_of s.catalogue.tables p
+  pub answered : (args : List ℕ) (request : Option RequestId) (answer : Result StoredProcedure CallRefusal) → admission args request (by_number (stored_procedures held) number) ≡ answer → admission args request (Some p) ≡ answer
 
 some_named : (o : Option StoredProcedure) (number : ℕ) → Some number ≡ option_map (λ p. p.number) o → (p : StoredProcedure) × (o ≡ Some p) × (p.number ≡ number)
 some_named None number e = absurd cc
@@ -80,8 +76,8 @@ module _ (s : SiteReplica) (entries : List Entry) (held : List ListedProcedure) 
   pub none_found_in : (name : List ℕ) → None ≡ option_map (λ p. p.number) (by_name (stored_procedures held) name) → by_name (procedures_after (setting_of s).setting (items_of entries) (length entries)) name ≡ None
   none_found_in name none = ap (λ (ps : Catalogue). by_name ps name) (sym of_log) ∙ none_named (by_name (stored_procedures held) name) none
 
-  pub found_in : (name : List ℕ) (number : ℕ) (found : Option Procedure) → FoundByNumber → AreStored held → Some number ≡ option_map (λ p. p.number) (by_name (stored_procedures held) name) → found ≡ option_map (λ (l : ListedProcedure). l.accepted) (listed_by_number held number) → IsFound s entries name number found
-  found_in name number found law are named is =
+  pub found_in : (name : List ℕ) (number : ℕ) → FoundByNumber → AreStored held → Some number ≡ option_map (λ p. p.number) (by_name (stored_procedures held) name) → IsFound s entries held name number
+  found_in name number law are named =
       let (p, there, of) = some_named (by_name (stored_procedures held) name) number named in
       let numbered : by_number (stored_procedures held) number ≡ Some p = ap (by_number (stored_procedures held)) (sym of) ∙ law held name p are there in
       record {
@@ -89,14 +85,16 @@ module _ (s : SiteReplica) (entries : List Entry) (held : List ListedProcedure) 
         named = ap (λ (ps : Catalogue). by_name ps name) (sym of_log) ∙ there;
         number_is = of;
         numbered = ap (λ (ps : Catalogue). by_number ps number) (sym of_log) ∙ numbered;
-        program =
-            is ∙ listed_stored s.catalogue.tables held number (subst (AreForTables s.catalogue.tables) (sym same) stands.stands.procedures) ∙ ap (option_map (accepted_of s.catalogue.tables)) numbered;
+        program = λ accepted is.
+            one_program accepted (accepted_of s.catalogue.tables p)
+            (is ∙ listed_stored s.catalogue.tables held number (subst (AreForTables s.catalogue.tables) (sym same) stands.stands.procedures) ∙ ap (option_map (accepted_of s.catalogue.tables)) numbered);
+        answered = λ args request answer e. ap (admission args request) (sym numbered) ∙ e;
       }
+    where
+      one_program : (a b : Procedure) → Some a ≡ Some b → a ≡ b
+      one_program a b e = cc
 
--- ---- what tests say
-
-pub one_program : (a b : Procedure) → Some a ≡ Some b → a ≡ b
-one_program a b e = cc
+-- ---- the call that is run
 
 pub same_call : (w : Setting) (log : Log) (procedure number : ℕ) (args : List ℕ) (snapshot position : ℕ) (request : Option RequestId) → procedure ≡ number → snapshot ≡ position
     → answer_of_run w log (record { number = 0; procedure = procedure; args = args; snapshot = snapshot; request = request }) ≡ answer_of_run w log (record { number = 0; procedure = number; args = args; snapshot = position; request = request })

@@ -176,18 +176,16 @@ AcceptedAreSafe = (tables : Tables) (p : StoredProcedure) → IsProgram p.progra
 nothing_written : (tables : Tables) → AreWrites tables empty
 nothing_written tables k write e = absurd (let bad : None ≡ Some write = sym (get-empty key_cmp k) ∙ e in cc)
 
-pub addition_taken : {A : Type 0} (tables : Tables) (name : List ℕ) (number : ℕ) (accepted : Procedure) (entry : LogEntry A) → AcceptedAreSafe → AreTables tables → is_name name ≡ true → accepted.tables ≡ tables → IsProgram accepted.program → IsAccepted accepted
-    → entry ≡ Addition (record { name = name; number = number; accepted = accepted }) → CanBeTaken tables entry
-addition_taken tables name number accepted entry law are named for_tables program is e =
-    subst (CanBeTaken tables) (sym e) (record {
-      writes = nothing_written tables;
-      named = named;
-      for_tables = for_tables;
-      safe = λ p same.
-          subst (IsSafe tables) (one (stored (record { name = name; number = number; accepted = accepted })) p same)
-          (law tables (stored (record { name = name; number = number; accepted = accepted })) program are
-          (subst (λ (ts : Tables). IsAccepted (record { program = accepted.program; tables = ts; args_len = accepted.args_len })) for_tables is));
-    })
+pub addition_taken : {A : Type 0} (tables : Tables) (added : ListedProcedure) → AcceptedAreSafe → AreTables tables → is_name added.name ≡ true → added.accepted.tables ≡ tables → IsProgram added.accepted.program → IsAccepted added.accepted
+    → CanBeTaken {A = A} tables (Addition added)
+addition_taken tables added law are named for_tables program is = record {
+  writes = nothing_written tables;
+  named = named;
+  for_tables = for_tables;
+  safe = λ p same.
+      subst (IsSafe tables) (one (stored added) p same)
+      (law tables (stored added) program are (subst (λ (ts : Tables). IsAccepted (record { program = added.accepted.program; tables = ts; args_len = added.accepted.args_len })) for_tables is));
+}
   where
     one : (p q : StoredProcedure) → AdditionEntry p ≡ AdditionEntry q → p ≡ q
     one p q e = cc

@@ -2,7 +2,6 @@
 use Rattle.std.specs.Prelude.{ℕ, ◌<◌, ◌^◌, List}
 use Rattle.world_calls.specs.declared.completion.Completion.{Completion}
 use Rattle.world_calls.specs.declared.completion.Completion.TheVariants as completion
-use Rattle.log_entry.specs.Head.{NamedProcedure}
 use Rattle.log_entry.specs.Bytes.{entry_bytes}
 use Rattle.log_entry.specs.declared.entry.Entry.{Entry as LogEntry}
 use Rattle.log_entry.specs.Kind.{entry_of}
@@ -12,7 +11,6 @@ use Rattle.site_model.specs.declared.answer.AdditionAnswer.{AdditionAnswer}
 use Rattle.site_model.specs.declared.answer.AdditionAnswer.TheVariants as addition
 use Rattle.site_model.specs.Answer.{Asked}
 use Rattle.site.specs.declared.asked.Asked.{Asked as AskedCall}
-use Rattle.site.specs.declared.addition.NamedProgram.{NamedProgram}
 
 abbrev pub asked_of : AskedCall → Asked
 asked_of asked = record { name = asked.name.now; args = asked.args.now; request = asked.request }
@@ -30,10 +28,6 @@ abbrev pub HasShortReply : {A : Type 0} → Completion A → Type 0
 HasShortReply (completion.Cancelled snapshot code) = Unit {0}
 HasShortReply (completion.Read snapshot reply) = reply < 2 ^ 64
 HasShortReply (completion.Wrote e) = e.reply < 2 ^ 64
-
-abbrev pub named_of : NamedProgram → NamedProcedure
-named_of named =
-    record { number = named.number; args_len = named.args_len; name = named.name.now; bytes = named.program.now }
 
 abbrev pub added : {A : Type 0} → AdditionAnswer (LogEntry A) → AdditionAnswer (List ℕ)
 added (addition.Refused refusal) = addition.Refused refusal

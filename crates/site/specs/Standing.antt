@@ -7,9 +7,7 @@ use Rattle.log_model.specs.Fit.{IsSafe}
 use Rattle.log_model.specs.Entries.{AdditionEntry}
 use Rattle.log_entry.specs.declared.entry.Entry.{Entry as LogEntry}
 use Rattle.log_entry.specs.Kind.{entry_of}
-use Rattle.log_entry.specs.declared.head.AdditionHead.{AdditionHead}
 use Rattle.log_entry.specs.declared.head.CallHead.{CallHead}
-use Rattle.log_entry.specs.Head.{NamedProcedure}
 use Rattle.replica.specs.Replica.{IsForTables, IsNamed, writes_in}
 use Rattle.site_model.specs.Standing as model
 use Rattle.site.specs.declared.standing.Standing.{Standing}
@@ -24,11 +22,6 @@ head_call head = record {
   snapshot = head.snapshot;
   request = head.request;
 }
-
--- and a procedure
-abbrev pub head_procedure : AdditionHead → NamedProcedure
-head_procedure head =
-    record { number = head.number; args_len = head.args_len; name = head.name.now; bytes = head.program.now }
 
 abbrev pub IsStanding : {A : Type 0} → model.Standing → Standing A → Type 0
 IsStanding (model.StandsAs e) (StandsAs entry) = e ≡ entry_of entry

@@ -16,8 +16,8 @@ use crate::run::{NamedCall, complete};
 use crate::state::SiteReplica;
 use catalogue::{found_by_name_is_found_by_number, stored_procedures_are_consistent};
 use log_entry::Entry;
-use log_model::{RequestId, entries_suffice, has_zero};
-use site_model::{CallAnswer, CallRefusal};
+use log_model::{CallRefusal, RequestId, entries_suffice};
+use site_model::CallAnswer;
 use std::alloc::{AllocError, Allocator};
 use world_calls::Completion;
 
@@ -89,15 +89,10 @@ pub fn call<A: Allocator + Copy>(
     let Some(procedure) = procedures.by_name(asked.name) else {
         return Ok(CallAnswer::Refused(CallRefusal::NoProcedure));
     };
-    let Some(accepted) = procedures.by_number(procedure) else {
-        unreachable!()
+    let accepted = match procedures.admit(procedure, asked.args, asked.request) {
+        Ok(accepted) => accepted,
+        Err(refusal) => return Ok(CallAnswer::Refused(refusal)),
     };
-    if usize::from(accepted.args_len()) != asked.args.len() {
-        return Ok(CallAnswer::Refused(CallRefusal::ArgumentsLength));
-    }
-    if has_zero(asked.request) {
-        return Ok(CallAnswer::Refused(CallRefusal::HalfRequest));
-    }
     if let Some(position) = site.repeated(asked.request) {
         let reply = reply_at(site.replies(), position);
         return Ok(CallAnswer::Repeated { position, reply });

@@ -2,7 +2,6 @@
 #![tactic(auto)]
 
 pub use crate::site::Site;
-pub use addition::NamedProgram;
 pub use asked::Asked;
 
 mod addition;

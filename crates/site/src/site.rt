@@ -9,14 +9,15 @@ ghost use Rattle.site_model.specs.Answer.{addition_answer, call_answer};
 ghost use Rattle.site_model.specs.declared.answer.CallAnswer.TheVariants.{Submitted};
 ghost use Rattle.site_model.specs.Own.{IsAskedOf};
 ghost use Rattle.site.specs.Replica.{StandsForOrder, setting_of};
-ghost use Rattle.site.specs.Answered.{added, answered, asked_of, named_of};
+ghost use Rattle.log_entry.specs.Named.{named_of};
+ghost use Rattle.site.specs.Answered.{added, answered, asked_of};
 
-use crate::addition::{NamedProgram, add};
+use crate::addition::add;
 use crate::asked::{Asked, call};
 use crate::state::SiteReplica;
 use crate::take::take;
 use catalogue::Catalogue;
-use log_entry::Entry;
+use log_entry::{Entry, NamedProgram};
 use replica::At;
 use row_sets::Row;
 use site_model::{AdditionAnswer, CallAnswer, EntryOutcome, fit_entries_go_on, orders_grow};

@@ -7,24 +7,21 @@ ghost use Rattle.log_model.specs.Entries.{Entry as ModelEntry, items_of};
 ghost use Rattle.catalogue.specs.Catalogue.{accepted_of};
 ghost use Rattle.world_calls.specs.OpenCall.{IsCompletion};
 ghost use Rattle.site_model.specs.Standing.{addition_standing, call_standing, is_decided, run_standing, standing};
-ghost use Rattle.log_entry.specs.declared.entry.Entry.TheVariants.{Addition};
+ghost use Rattle.log_entry.specs.Named.{named_of};
 ghost use Rattle.site.specs.Replica.{StandsForLog, setting_of};
-ghost use Rattle.site.specs.Standing.{IsReady, IsStanding, head_call, head_procedure};
+ghost use Rattle.site.specs.Standing.{IsReady, IsStanding, head_call};
 
 use crate::additions::since;
 use crate::run::{NamedCall, complete};
 use crate::same_bytes::has_bytes;
 use crate::state::SiteReplica;
 use bpf_verify::Accepted;
-use catalogue::{accepted_procedures_are_safe, each_catalogue_is_consistent, is_name};
-use log_entry::{AddedProcedure, AdditionHead, CallHead, Entry, EntryHead, head_of};
+use catalogue::{accepted_procedures_are_safe, each_catalogue_is_consistent};
+use log_entry::{CallHead, Entry, EntryHead, NamedProgram, check_addition, head_of};
 use log_model::{RequestId, entries_suffice};
-use program_checks::check_program;
-use row_sets::Bytes;
 use schema::{MAX_ARGUMENTS, OrNoMemory};
 use site_model::NothingCause;
 use std::alloc::{AllocError, Allocator};
-use std::sync::Arc;
 use world_calls::Completion;
 
 /// The meaning of the bytes at the next position.
@@ -108,24 +105,18 @@ impl<A: Allocator + Copy> SiteReplica<A> {
 
 impl<A: Allocator + Copy> SiteReplica<A> {
     /// Returns what the bytes of an addition stand for.
-    fn addition_standing(&self, head: AdditionHead<'_>) -> Result<Standing<A>, AllocError>
-        ensures is { IfOk result (IsStanding (addition_standing (setting_of self.now) (head_procedure head.entry))) }
+    fn addition_standing(&self, head: NamedProgram<'_>) -> Result<Standing<A>, AllocError>
+        ensures is { IfOk result (IsStanding (addition_standing (setting_of self.now) (named_of head.entry))) }
         ensures ready { IfOk result (IsReady self.now.catalogue.tables) }
     {
         // Laws:
         accepted_procedures_are_safe();
         each_catalogue_is_consistent(&self.catalogue);
-        if !self.takes_additions || !is_name(head.name) || head.args_len > MAX_ARGUMENTS {
+        if !self.takes_additions || head.args_len > MAX_ARGUMENTS {
             return Ok(Standing::Nothing(NothingCause::Addition));
         }
-        let schema = self.catalogue.schema();
-        match check_program(self.alloc, head.program, schema, head.args_len) {
-            Ok(accepted) => Ok(Standing::StandsAs(addition_of(
-                self.alloc,
-                head.name,
-                head.number,
-                accepted,
-            )?)),
+        match check_addition(self.alloc, head, self.catalogue.schema()) {
+            Ok(added) => Ok(Standing::StandsAs(Entry::Addition(added))),
             Err(OrNoMemory::NoMemory) => Err(AllocError),
             Err(OrNoMemory::Fault(_)) => Ok(Standing::Nothing(NothingCause::Addition)),
         }
@@ -144,23 +135,6 @@ impl<A: Allocator + Copy> SiteReplica<A> {
             Some(EntryHead::Addition(head)) => self.addition_standing(head),
         }
     }
-}
-
-/// The entry that adds a procedure.
-fn addition_of<A: Allocator + Copy>(
-    alloc: A,
-    name: &[u8],
-    number: u16,
-    accepted: Accepted<A, A>,
-) -> Result<Entry<A>, AllocError>
-    ensures { IfOk result (λ entry. entry
-        ≡ Addition (record { name = name.now; number = number; accepted = accepted })) }
-{
-    Ok(Entry::Addition(AddedProcedure {
-        name: Bytes::new(Vec::from_slice(alloc, name)?),
-        number,
-        accepted: Arc::new(alloc, accepted)?,
-    }))
 }
 
 /// Returns what a call that isn't decided stands for, by the outcome of its run and the bytes that tell of it.

@@ -1,6 +1,7 @@
 -- Refusals that hold for good.
-use Rattle.std.proofs.Common.{◌≡◌, ◌≢◌, ℕ, ◌+◌, ◌==◌, Bool, true, false, not, cond, ◌&&◌, nat_le, List, [], ◌∷◌, length, Option, Some, None, refl, sym, ap, subst, ◌∙◌}
+use Rattle.std.proofs.Common.{◌≡◌, ◌≢◌, ℕ, ◌+◌, ◌==◌, Bool, true, false, not, cond, ◌&&◌, nat_le, List, [], ◌∷◌, length, Option, Some, None, Result, Ok, Err, nat_eq, refl, sym, ap, subst, ◌∙◌, arith}
 use Rattle.std.specs.FinMap.{len}
+use Rattle.std.proofs.lemmas.Bool.Decides.{nat_tests}
 use Rattle.bpf_semantics.specs.Run.{Run}
 use Rattle.log_model.specs.OpenRequest.{has_zero}
 use Rattle.log_model.specs.Log.{Call, Log, Setting, StoredProcedure, by_name, first_repeated, history, procedure_of, procedures_after, run_in}
@@ -9,11 +10,13 @@ use Rattle.log_entry.specs.Bytes.{entry_bytes}
 use Rattle.log_entry.specs.Head.{AdditionHead, CallHead, NamedProcedure, addition_head, call_head, call_of, field, head_of, procedure_of as named_procedure_of, request_of}
 use Rattle.site_model.specs.declared.answer.CallAnswer.{CallAnswer}
 use Rattle.site_model.specs.declared.answer.CallAnswer.TheVariants.{Read, Refused, Submitted}
-use Rattle.site_model.specs.declared.answer.CallRefusal.{CallRefusal}
-use Rattle.site_model.specs.declared.answer.CallRefusal.TheVariants.{ArgumentsLength, HalfRequest, NoProcedure}
+use Rattle.log_model.specs.declared.refusal.CallRefusal.{CallRefusal}
+use Rattle.log_model.specs.declared.refusal.CallRefusal.TheVariants.{ArgumentsLength, NoProcedure, ZeroInRequest}
+use Rattle.log_model.specs.Admission.{admission}
+use Rattle.log_model.proofs.AdmissionLemmas.{has_a_zero, is_unfit, is_unknown}
 use Rattle.site_model.specs.Standing.{SiteSetting, executed, takes_arguments}
 use Rattle.site_model.specs.Order.{Order, order_entries, order_log}
-use Rattle.site_model.specs.Answer.{Asked, answer_for, answer_of_run, asked_call, call_answer, unless_cancelled, unless_repeated}
+use Rattle.site_model.specs.Answer.{Asked, answer_for, answer_of_admission, answer_of_run, asked_call, call_answer, unless_cancelled, unless_repeated}
 use Rattle.site_laws.specs.Orders.{procedures_behind}
 use Rattle.site_laws.proofs.SettledLemmas.{settled_answer}
 
@@ -31,6 +34,9 @@ answer_is count s order asked =
 abbrev as_answer : CallRefusal → CallAnswer (List ℕ)
 as_answer r = Refused r
 
+abbrev as_error : CallRefusal → Result StoredProcedure CallRefusal
+as_error r = Err r
+
 -- what comes of a run is no refusal
 never_refused : (entries : List Entry) (position : ℕ) (r : Run) (bytes : List ℕ) (code o : Option ℕ) (refusal : CallRefusal) → unless_repeated entries (unless_cancelled position r bytes code) o ≡ Refused refusal → ⊥
 never_refused entries position r bytes code (Some n) refusal e = absurd cc
@@ -45,58 +51,53 @@ abbrev run_answer : Setting → List Entry → Asked → StoredProcedure → Cal
 run_answer w entries asked p =
     unless_repeated entries (answer_of_run w (items_of entries) (asked_call (items_of entries) p asked)) (first_repeated (history w (items_of entries)).certified (asked_call (items_of entries) p asked))
 
-abbrev tested : Bool → Bool → CallAnswer (List ℕ) → CallAnswer (List ℕ)
-tested a b answer = cond (not a) (Refused ArgumentsLength) (cond b (Refused HalfRequest) answer)
-
 run_never_refused : (w : Setting) (entries : List Entry) (asked : Asked) (p : StoredProcedure) (refusal : CallRefusal) → run_answer w entries asked p ≡ Refused refusal → ⊥
 run_never_refused w entries asked p refusal =
     let log = items_of entries in
     let call = asked_call log p asked in
     never_refused entries call.snapshot (run_in w log call) (entry_bytes (CallEntry (executed w log call))) (run_in w log call).cancel_code (first_repeated (history w log).certified call) refusal
 
--- no procedure was found
-pub unknown_by : (w : Setting) (entries : List Entry) (asked : Asked) (o : Option StoredProcedure) → answer_for w entries asked o ≡ Refused NoProcedure → o ≡ None
-unknown_by w entries asked None e = refl
-unknown_by w entries asked (Some p) e = by_tests (p.args_len == length asked.args) (has_zero asked.request) e
+-- what is refused wasn't admitted
+refused_by : (w : Setting) (entries : List Entry) (asked : Asked) (answer : Result StoredProcedure CallRefusal) (refusal : CallRefusal) → answer_of_admission w entries asked answer ≡ Refused refusal → answer ≡ Err refusal
+refused_by w entries asked (Err r) refusal e = ap Err (refusal_is r refusal e)
   where
-    by_tests : (a b : Bool) → tested a b (run_answer w entries asked p) ≡ Refused NoProcedure → Some p ≡ None
-    by_tests false b e = absurd cc
-    by_tests true true e = absurd cc
-    by_tests true false e = absurd (run_never_refused w entries asked p NoProcedure e)
+    refusal_is : (a b : CallRefusal) → as_answer a ≡ as_answer b → a ≡ b
+    refusal_is a b e = cc
+refused_by w entries asked (Ok p) refusal e = absurd (run_never_refused w entries asked p refusal e)
 
--- the other refusals ask only what is asked and the procedure
-pub refused_again : (w : Setting) (entries others : List Entry) (asked : Asked) (refusal : CallRefusal) (p : StoredProcedure) → answer_for w entries asked (Some p) ≡ Refused refusal → answer_for w others asked (Some p) ≡ Refused refusal
-refused_again w entries others asked refusal p = by_tests (p.args_len == length asked.args) (has_zero asked.request)
-  where
-    by_tests : (a b : Bool) → tested a b (run_answer w entries asked p) ≡ Refused refusal → tested a b (run_answer w others asked p) ≡ Refused refusal
-    by_tests false b e = e
-    by_tests true true e = e
-    by_tests true false e = absurd (run_never_refused w entries asked p refusal e)
+module _ (w : Setting) (entries : List Entry) (asked : Asked) where
+  refused_for : (o : Option StoredProcedure) (refusal : CallRefusal) → answer_for w entries asked o ≡ Refused refusal → admission asked.args asked.request o ≡ Err refusal
+  refused_for o refusal e = refused_by w entries asked (admission asked.args asked.request o) refusal e
 
-pub wrong_length : (w : Setting) (entries : List Entry) (asked : Asked) (p : StoredProcedure) → answer_for w entries asked (Some p) ≡ Refused ArgumentsLength → (p.args_len == length asked.args) ≡ false
-wrong_length w entries asked p = by_tests (p.args_len == length asked.args) (has_zero asked.request)
-  where
-    by_tests : (a b : Bool) → tested a b (run_answer w entries asked p) ≡ Refused ArgumentsLength → a ≡ false
-    by_tests false b e = refl
-    by_tests true true e = absurd cc
-    by_tests true false e = absurd (run_never_refused w entries asked p ArgumentsLength e)
+  -- no procedure was found
+  pub unknown_by : (o : Option StoredProcedure) → answer_for w entries asked o ≡ Refused NoProcedure → o ≡ None
+  unknown_by o e = is_unknown asked.args asked.request o (refused_for o NoProcedure e)
 
-pub half_a_request : (w : Setting) (entries : List Entry) (asked : Asked) (o : Option StoredProcedure) → answer_for w entries asked o ≡ Refused HalfRequest → has_zero asked.request ≡ true
-half_a_request w entries asked None e = absurd cc
-half_a_request w entries asked (Some p) e = by_tests (p.args_len == length asked.args) (has_zero asked.request) e
-  where
-    by_tests : (a b : Bool) → tested a b (run_answer w entries asked p) ≡ Refused HalfRequest → b ≡ true
-    by_tests false b e = absurd cc
-    by_tests true true e = refl
-    by_tests true false e = absurd (run_never_refused w entries asked p HalfRequest e)
+  -- a refusal asks only what is asked and the procedure
+  pub refused_again : (others : List Entry) (refusal : CallRefusal) (o : Option StoredProcedure) → answer_for w entries asked o ≡ Refused refusal → answer_for w others asked o ≡ Refused refusal
+  refused_again others refusal o e = ap (answer_of_admission w others asked) (refused_for o refusal e)
 
--- a procedure was found
-pub some_procedure : (w : Setting) (entries : List Entry) (asked : Asked) (o : Option StoredProcedure) (refusal : CallRefusal) → refusal ≢ NoProcedure → answer_for w entries asked o ≡ Refused refusal → (p : StoredProcedure) × (o ≡ Some p)
-some_procedure w entries asked None refusal other e = absurd (other (refusal_is refusal e))
-  where
-    refusal_is : (r : CallRefusal) → as_answer NoProcedure ≡ as_answer r → r ≡ NoProcedure
-    refusal_is r e = cc
-some_procedure w entries asked (Some p) refusal other e = (p, refl)
+  pub wrong_length : (p : StoredProcedure) → answer_for w entries asked (Some p) ≡ Refused ArgumentsLength → (p.args_len == length asked.args) ≡ false
+  wrong_length p e =
+      let (q, same, other) = is_unfit asked.args asked.request (Some p) (refused_for (Some p) ArgumentsLength e) in
+      apart p.args_len (length asked.args) (λ f. other (f ∙ ap (λ (x : StoredProcedure). x.args_len) (some_is p q same)))
+    where
+      apart : (m n : ℕ) → (n ≡ m → ⊥) → nat_eq m n ≡ false
+      apart m n other = grind (arith, nat_tests)
+
+      some_is : (a b : StoredProcedure) → Some a ≡ Some b → a ≡ b
+      some_is a b e = cc
+
+  pub zero_in_request : (o : Option StoredProcedure) → answer_for w entries asked o ≡ Refused ZeroInRequest → has_zero asked.request ≡ true
+  zero_in_request o e = let (p, found, fits, zero) = has_a_zero asked.args asked.request o (refused_for o ZeroInRequest e) in zero
+
+  -- a procedure was found
+  pub some_procedure : (o : Option StoredProcedure) (refusal : CallRefusal) → refusal ≢ NoProcedure → answer_for w entries asked o ≡ Refused refusal → (p : StoredProcedure) × (o ≡ Some p)
+  some_procedure None refusal other e = absurd (other (refusal_is refusal (refused_for None refusal e)))
+    where
+      refusal_is : (r : CallRefusal) → as_error NoProcedure ≡ as_error r → r ≡ NoProcedure
+      refusal_is r e = cc
+  some_procedure (Some p) refusal other e = (p, refl)
 
 -- ---- heads
 

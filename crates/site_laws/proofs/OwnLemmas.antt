@@ -1,5 +1,5 @@
 -- What a site gave to be ordered stands, or is decided.
-use Rattle.std.proofs.Common.{◌≡◌, ℕ, ◌+◌, ◌==◌, ◌≤◌, Bool, true, false, not, ◌&&◌, nat_le, cond, is_some, List, ◌++◌, length, Option, Some, None, refl, sym, ap, ◌∙◌, arith}
+use Rattle.std.proofs.Common.{◌≡◌, ℕ, ◌+◌, ◌==◌, ◌≤◌, Bool, true, false, not, ◌&&◌, nat_le, cond, is_some, List, ◌++◌, length, Option, Some, None, Result, Ok, Err, refl, sym, ap, ◌∙◌, arith}
 use Rattle.std.specs.FinMap.{len}
 use Rattle.std.specs.Str.{bytes_eq}
 use Rattle.std.proofs.lemmas.Bool.Decides.{nat_tests}
@@ -28,10 +28,12 @@ use Rattle.site_model.specs.declared.cause.NothingCause.TheVariants as cause
 use Rattle.site_model.specs.declared.outcome.EntryOutcome.{EntryOutcome}
 use Rattle.site_model.specs.declared.outcome.EntryOutcome.TheVariants as outcome
 use Rattle.site_model.specs.declared.answer.CallAnswer.TheVariants as call
-use Rattle.site_model.specs.declared.answer.CallRefusal.TheVariants.{ArgumentsLength, HalfRequest}
+use Rattle.log_model.specs.declared.refusal.CallRefusal.{CallRefusal}
+use Rattle.log_model.specs.Admission.{admission}
+use Rattle.log_model.proofs.AdmissionLemmas.{is_admitted}
 use Rattle.site_model.specs.Standing.{SiteSetting, Standing, StandsAs, IsDecided, IsNothing, call_standing, executed, is_decided, is_true, takes_arguments, writes_something, addition_standing, checked_standing, standing, standing_of_head}
 use Rattle.site_model.specs.Order.{outcome_behind, outcome_by, outcome_of, with_bytes}
-use Rattle.site_model.specs.Answer.{Asked, answer_for, asked_call, unless_cancelled, unless_repeated, addition_answer, answer_of_check, stored_as}
+use Rattle.site_model.specs.Answer.{Asked, answer_for, answer_of_admission, asked_call, unless_cancelled, unless_repeated, addition_answer, answer_of_check, stored_as}
 use Rattle.site_laws.proofs.SettledLemmas.{by_head}
 
 -- ---- what was submitted
@@ -47,8 +49,7 @@ same_bytes : (a b : List ℕ) → call.Submitted a ≡ call.Submitted b → a �
 same_bytes a b e = cc
 
 pub ordered_by : (w : Setting) (entries : List Entry) (asked : Asked) (p : StoredProcedure) (bytes : List ℕ) → answer_for w entries asked (Some p) ≡ call.Submitted bytes → Ordered w (items_of entries) p asked bytes
-ordered_by w entries asked p bytes =
-    by_tests (p.args_len == length asked.args) refl (has_zero asked.request) refl (first_repeated (history w (items_of entries)).certified (asked_call (items_of entries) p asked)) run.cancel_code refl (len run.writes == 0) refl
+ordered_by w entries asked p bytes = by_answer (admission asked.args asked.request (Some p)) refl
   where
     log : Log
     log = items_of entries
@@ -59,23 +60,35 @@ ordered_by w entries asked p bytes =
     own : List ℕ
     own = entry_bytes (CallEntry (executed w log (asked_call log p asked)))
 
-    by_tests : (a : Bool) → (p.args_len == length asked.args) ≡ a → (b : Bool) → has_zero asked.request ≡ b → (o code : Option ℕ) → run.cancel_code ≡ code → (none : Bool) → (len run.writes == 0) ≡ none
-        → cond (not a) (call.Refused ArgumentsLength) (cond b (call.Refused HalfRequest) (unless_repeated entries (unless_cancelled (length log) run own code) o)) ≡ call.Submitted bytes → Ordered w log p asked bytes
-    by_tests false ea b eb o code ec none en e = absurd cc
-    by_tests true ea true eb o code ec none en e = absurd cc
-    by_tests true ea false eb (Some position) code ec none en e = absurd cc
-    by_tests true ea false eb None (Some code) ec none en e = absurd cc
-    by_tests true ea false eb None None ec true en e =
+    by_run : (p.args_len == length asked.args) ≡ true → has_zero asked.request ≡ false → (o code : Option ℕ) → run.cancel_code ≡ code → (none : Bool) → (len run.writes == 0) ≡ none
+        → unless_repeated entries (unless_cancelled (length log) run own code) o ≡ call.Submitted bytes → Ordered w log p asked bytes
+    by_run ea eb (Some position) code ec none en e = absurd cc
+    by_run ea eb None (Some code) ec none en e = absurd cc
+    by_run ea eb None None ec true en e =
         absurd (not_read (length log) run.reply bytes (sym (ap (λ (b : Bool). cond b (call.Read (length log) run.reply) (call.Submitted own)) en) ∙ e))
       where
         not_read : (position reply : ℕ) (xs : List ℕ) → call.Read position reply ≡ call.Submitted xs → ⊥
         not_read position reply xs f = absurd cc
-    by_tests true ea false eb None None ec false en e = record {
+    by_run ea eb None None ec false en e = record {
       takes = ea;
       whole = eb;
       writes = λ i. not (is_some (ec i)) && not (en i);
       are = same_bytes own bytes (sym (ap (λ (b : Bool). cond b (call.Read (length log) run.reply) (call.Submitted own)) en) ∙ e);
     }
+
+    some_is : (a b : StoredProcedure) → Some a ≡ Some b → a ≡ b
+    some_is a b e = cc
+
+    as_long : (m n : ℕ) → n ≡ m → (m == n) ≡ true
+    as_long m n e = grind (arith, nat_tests)
+
+    by_answer : (answer : Result StoredProcedure CallRefusal) → admission asked.args asked.request (Some p) ≡ answer → answer_of_admission w entries asked answer ≡ call.Submitted bytes → Ordered w log p asked bytes
+    by_answer (Err refusal) h e = absurd cc
+    by_answer (Ok q) h e =
+        let is = is_admitted asked.args asked.request (Some p) q h in
+        let same : p ≡ q = some_is p q is.found in
+        by_run (as_long p.args_len (length asked.args) (is.fits ∙ ap (λ (x : StoredProcedure). x.args_len) (sym same))) is.whole
+        (first_repeated (history w log).certified (asked_call log p asked)) run.cancel_code refl (len run.writes == 0) refl (ap (λ (x : StoredProcedure). answer_of_admission w entries asked (Ok x)) same ∙ e)
 
 -- ---- behind entries that go on
 

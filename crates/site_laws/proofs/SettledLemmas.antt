@@ -1,5 +1,5 @@
 -- A call that commits would have written the same at each position from its snapshot on.
-use Rattle.std.proofs.Common.{◌≡◌, ℕ, zero, suc, ◌+◌, ◌-◌, ◌==◌, ◌≤◌, ◌<◌, Bool, true, false, not, ◌&&◌, nat_le, cond, is_some, List, [], ◌∷◌, ◌++◌, All, length, slice_get, Option, Some, None, IsSome, refl, sym, ap, subst, ◌∙◌, arith, append_assoc}
+use Rattle.std.proofs.Common.{◌≡◌, ℕ, zero, suc, ◌+◌, ◌-◌, ◌==◌, ◌≤◌, ◌<◌, Bool, true, false, not, ◌&&◌, nat_le, cond, is_some, List, [], ◌∷◌, ◌++◌, All, length, slice_get, Option, Some, None, IsSome, Result, Ok, Err, refl, sym, ap, subst, ◌∙◌, arith, append_assoc}
 use Rattle.std.specs.Prelude.{◌↔◌}
 use Rattle.std.specs.FinMap.{get, len}
 use Rattle.std.proofs.lemmas.List.{length-append, length-map, map-append}
@@ -15,19 +15,20 @@ use Rattle.log_model.specs.Log.{StoredProcedure, Catalogue, Setting, Call, Item,
 use Rattle.log_model.specs.Entries.{Entry, ExecutedCall, CallEntry, AdditionEntry, item_of, items_of}
 use Rattle.log_entry.specs.Bytes.{entry_bytes}
 use Rattle.log_entry.specs.Head.{CallHead, head_of}
-use Rattle.log_model.specs.OpenRequest.{has_zero}
 use Rattle.log_model.specs.Fit.{AllFitLog, FitsLog, FitsProcedures, HasSafeProcedures, IsSafe}
 use Rattle.log_model.specs.Verdicts.{IsConflict, IsNew, WroteWhatWasRead}
 use Rattle.log_model.proofs.GrowthLemmas.{get_before, is_log_snoc, procedures_grown, rows_grown, run_grown, verdict_grown}
 use Rattle.site_model.specs.declared.outcome.EntryOutcome.TheVariants as outcome
 use Rattle.site_model.specs.declared.cause.NothingCause.{NothingCause}
 use Rattle.site_model.specs.declared.cause.NothingCause.TheVariants as cause
-use Rattle.site_model.specs.declared.answer.CallAnswer.TheVariants.{Refused, Read, Submitted}
-use Rattle.site_model.specs.declared.answer.CallRefusal.TheVariants.{ArgumentsLength, HalfRequest}
+use Rattle.site_model.specs.declared.answer.CallAnswer.TheVariants.{Read, Submitted}
+use Rattle.log_model.specs.declared.refusal.CallRefusal.{CallRefusal}
+use Rattle.log_model.specs.Admission.{admission}
+use Rattle.log_model.proofs.AdmissionLemmas.{is_admitted}
 use Rattle.site_model.specs.Fit.{AreFitEntries}
 use Rattle.site_model.specs.Standing.{SiteSetting, Standing, StandsAs, IsDecided, IsNothing, call_standing, executed, is_decided, is_true, standing, standing_of_head, takes_arguments, writes_something}
 use Rattle.site_model.specs.Order.{Order, entry_standing, next_entry, order_entries, order_log, outcome_behind, outcome_by, outcome_of, with_bytes}
-use Rattle.site_model.specs.Answer.{Asked, answer_for, answer_of_run, asked_call, call_answer, call_answer_behind, unless_cancelled, unless_repeated}
+use Rattle.site_model.specs.Answer.{Asked, answer_for, answer_of_admission, answer_of_run, asked_call, call_answer, call_answer_behind, unless_cancelled, unless_repeated}
 use Rattle.site_laws.specs.Settled.{IsSettled}
 use Rattle.site_laws.proofs.LogLemmas.{HaveVerdicts, RunsAlike, commits_there}
 
@@ -186,8 +187,7 @@ ordered position r bytes None is writes settled = by_count (len r.writes == 0) (
 -- an answer that is settled comes of a run that isn't
 settled_by : (w : Setting) (entries : List Entry) (asked : Asked) (p : StoredProcedure) → writes_something (run_in w (items_of entries) (asked_call (items_of entries) p asked)) ≡ true
     → IsSettled (answer_for w entries asked (Some p)) → ⊥
-settled_by w entries asked p writes =
-    by_tests (p.args_len == length asked.args) (has_zero asked.request) (first_repeated (history w (items_of entries)).certified (asked_call (items_of entries) p asked))
+settled_by w entries asked p writes = by_answer (admission asked.args asked.request (Some p)) refl
   where
     log : Log
     log = items_of entries
@@ -195,12 +195,18 @@ settled_by w entries asked p writes =
     run : Run
     run = run_in w log (asked_call log p asked)
 
-    by_tests : (a b : Bool) (o : Option ℕ)
-        → IsSettled (cond (not a) (Refused ArgumentsLength) (cond b (Refused HalfRequest) (unless_repeated entries (answer_of_run w log (asked_call log p asked)) o))) → ⊥
-    by_tests false b o h = h
-    by_tests true true o h = h
-    by_tests true false (Some position) h = h
-    by_tests true false None h = ordered (length log) run (entry_bytes (CallEntry (executed w log (asked_call log p asked)))) run.cancel_code refl writes h
+    by_run : (o : Option ℕ) → IsSettled (unless_repeated entries (answer_of_run w log (asked_call log p asked)) o) → ⊥
+    by_run (Some position) h = h
+    by_run None h = ordered (length log) run (entry_bytes (CallEntry (executed w log (asked_call log p asked)))) run.cancel_code refl writes h
+
+    some_is : (a b : StoredProcedure) → Some a ≡ Some b → a ≡ b
+    some_is a b e = cc
+
+    by_answer : (answer : Result StoredProcedure CallRefusal) → admission asked.args asked.request (Some p) ≡ answer → IsSettled (answer_of_admission w entries asked answer) → ⊥
+    by_answer (Err refusal) h settled = settled
+    by_answer (Ok q) h settled =
+        by_run (first_repeated (history w log).certified (asked_call log p asked))
+        (subst (λ (x : StoredProcedure). IsSettled (answer_of_admission w entries asked (Ok x))) (sym (some_is p q (is_admitted asked.args asked.request (Some p) q h).found)) settled)
 
 -- ---- the run of what was asked
 

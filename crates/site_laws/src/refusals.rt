@@ -1,12 +1,12 @@
 //! Refusals, and how long they hold.
 
 ghost use Rattle.std.specs.Prelude.{◌≡◌, ◌≢◌, ℕ, ◌++◌, List, Some, false};
+ghost use Rattle.log_model.specs.declared.refusal.CallRefusal.{CallRefusal};
+ghost use Rattle.log_model.specs.declared.refusal.CallRefusal.TheVariants.{ArgumentsLength, NoProcedure, ZeroInRequest};
 ghost use Rattle.log_model.specs.declared.verdict.Identifier.{Identifier};
 ghost use Rattle.log_model.specs.Log.{Call, StoredProcedure, by_name};
 ghost use Rattle.log_entry.specs.Head.{CallHead, head_of};
 ghost use Rattle.site_model.specs.declared.answer.CallAnswer.TheVariants.{Refused};
-ghost use Rattle.site_model.specs.declared.answer.CallRefusal.{CallRefusal};
-ghost use Rattle.site_model.specs.declared.answer.CallRefusal.TheVariants.{ArgumentsLength, HalfRequest, NoProcedure};
 ghost use Rattle.site_model.specs.declared.outcome.EntryOutcome.TheVariants.{Added, Committed, Taken};
 ghost use Rattle.site_model.specs.Answer.{Asked, call_answer};
 ghost use Rattle.site_model.specs.Standing.{SiteSetting};
@@ -43,7 +43,7 @@ pub fn refusals_hold_for_good()
         → head_of bytes ≡ Some (CallHead call told) → call.procedure ≡ p.number → call.args ≡ asked.args
         → next_outcome s (order ++ more) bytes ≢ Committed reply }
     ensures request { (s : SiteSetting) (order : Order) (bytes : List ℕ) (asked : Asked) (call : Call) (told : ℕ)
-        → call_answer s order asked ≡ Refused HalfRequest → head_of bytes ≡ Some (CallHead call told)
+        → call_answer s order asked ≡ Refused ZeroInRequest → head_of bytes ≡ Some (CallHead call told)
         → call.request ≢ asked.request }
     ensures taken { (s : SiteSetting) (order more : Order) (bytes : List ℕ) (identifier : Identifier) (number : ℕ)
         → next_outcome s order bytes ≡ Taken identifier → next_outcome s (order ++ more) bytes ≢ Added number }

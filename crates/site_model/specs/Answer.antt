@@ -1,5 +1,5 @@
 -- What a site answers to a caller, at the position that it has come to (this product's own rules).
-use Rattle.std.specs.Prelude.{ℕ, ◌==◌, not, if◌then◌else◌, List, length, Option, Some, None}
+use Rattle.std.specs.Prelude.{ℕ, ◌==◌, not, if◌then◌else◌, List, length, Option, Some, None, Result, Ok, Err}
 use Rattle.std.specs.FinMap.{len}
 use Rattle.bpf_code.specs.Program.{Program}
 use Rattle.bpf_semantics.specs.Run.{Run}
@@ -8,13 +8,13 @@ use Rattle.log_model.specs.Log.{StoredProcedure, Setting, Call, Log, by_name, fi
 use Rattle.log_model.specs.Entries.{Entry, CallEntry, AdditionEntry, items_of}
 use Rattle.log_model.specs.Name.{is_name}
 use Rattle.log_entry.specs.Bytes.{entry_bytes}
-use Rattle.log_model.specs.OpenRequest.{has_zero}
+use Rattle.log_model.specs.declared.refusal.CallRefusal.{CallRefusal}
+use Rattle.log_model.specs.Admission.{admission}
 use Rattle.log_entry.specs.Head.{NamedProcedure}
 use Rattle.program_checks.specs.ProgramCheck.{ProgramCheck, Passed, Failed}
 use Rattle.program_checks.specs.Check.{check_of}
 use Rattle.site_model.specs.declared.answer.CallAnswer.{CallAnswer}
 use Rattle.site_model.specs.declared.answer.CallAnswer.TheVariants.{Refused, Repeated, Cancelled, Read, Submitted}
-use Rattle.site_model.specs.declared.answer.CallRefusal.TheVariants.{NoProcedure, ArgumentsLength, HalfRequest}
 use Rattle.site_model.specs.declared.answer.AdditionAnswer.{AdditionAnswer}
 use Rattle.site_model.specs.declared.answer.AdditionAnswer.TheVariants as addition
 use Rattle.site_model.specs.declared.answer.AdditionRefusal.TheVariants as refusal
@@ -48,13 +48,15 @@ abbrev pub unless_repeated : List Entry → CallAnswer (List ℕ) → Option ℕ
 unless_repeated entries answer (Some position) = Repeated position (reply_at entries position)
 unless_repeated entries answer None = answer
 
-abbrev pub answer_for : Setting → List Entry → Asked → Option StoredProcedure → CallAnswer (List ℕ)
-answer_for w entries asked None = Refused NoProcedure
-answer_for w entries asked (Some p) =
-    if not (p.args_len == length asked.args) then Refused ArgumentsLength
-    else if has_zero asked.request then Refused HalfRequest
-    else unless_repeated entries (answer_of_run w (items_of entries) (asked_call (items_of entries) p asked))
+-- by its admission
+abbrev pub answer_of_admission : Setting → List Entry → Asked → Result StoredProcedure CallRefusal → CallAnswer (List ℕ)
+answer_of_admission w entries asked (Err refusal) = Refused refusal
+answer_of_admission w entries asked (Ok p) =
+    unless_repeated entries (answer_of_run w (items_of entries) (asked_call (items_of entries) p asked))
     (first_repeated (history w (items_of entries)).certified (asked_call (items_of entries) p asked))
+
+abbrev pub answer_for : Setting → List Entry → Asked → Option StoredProcedure → CallAnswer (List ℕ)
+answer_for w entries asked p = answer_of_admission w entries asked (admission asked.args asked.request p)
 
 -- what comes of what is asked for, behind these entries
 unfoldable pub call_answer_behind : Setting → List Entry → Asked → CallAnswer (List ℕ)

@@ -1,17 +1,7 @@
 //! The answer of a site to a caller.
 
+use log_model::CallRefusal;
 use program_checks::ProgramFault;
-
-/// A cause for which a call isn't run.
-#[derive(Clone, Copy, Debug, PartialEq, Eq)]
-pub enum CallRefusal {
-    /// The name has no procedure.
-    NoProcedure,
-    /// The procedure takes arguments of another length.
-    ArgumentsLength,
-    /// The session or the number of the request is 0.
-    HalfRequest,
-}
 
 /// The outcome of a call that a site runs on its rows. `E` is what is to be ordered.
 #[derive(Clone, Copy, Debug, PartialEq, Eq)]

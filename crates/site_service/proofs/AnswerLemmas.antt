@@ -1,5 +1,5 @@
 -- Answers, by what the code's values stand for.
-use Rattle.std.proofs.Common.{◌≡◌, ◌⊎◌, inl, inr, ◌≢◌, ne_eqb, ℕ, ◌+◌, ◌==◌, Bool, false, cond, List, [], ◌∷◌, ◌++◌, length, Option, Result, Ok, Err, IfOk, sym, ap, subst, ◌∙◌}
+use Rattle.std.proofs.Common.{◌≡◌, ◌⊎◌, inl, inr, ◌≢◌, ne_eqb, ℕ, ◌+◌, ◌==◌, Bool, false, cond, List, [], ◌∷◌, ◌++◌, length, Option, Result, Ok, Err, sym, ap, subst, ◌∙◌}
 use Rattle.log_model.specs.declared.request.RequestId.{RequestId}
 use Rattle.log_entry.specs.Head.{head_of}
 use Rattle.script.specs.declared.fault.LineFault.{LineFault}
@@ -12,10 +12,6 @@ use Rattle.site_service.specs.Lines.{SiteRequest}
 use Rattle.site_service.specs.Answers.{entry_line, order_full_line}
 use Rattle.site_service.specs.declared.entry.TheConstants.{MAX_POSITION}
 use Rattle.site_service.specs.LineAnswers.{IsAnswer, IsCallAnswer, entry_answer, order_with_bytes}
-
-pub ok_gives : {X E : Type 0} (r : Result X E) (P Q : X → Type 0) → IfOk r P → ((x : X) → P x → Q x) → IfOk r Q
-ok_gives (Ok x) P Q p f = f x p
-ok_gives (Err e) P Q p f = tt
 
 -- ---- a byte string
 

@@ -5,11 +5,11 @@ use Rattle.std.proofs.lemmas.List.Sums.{fold-append}
 use Rattle.script.specs.declared.fault.LineFault.{LineFault}
 use Rattle.site_model.specs.Standing.{SiteSetting}
 use Rattle.site_model.specs.Order.{Order}
-use Rattle.site_service.specs.Lines.{SiteRequest}
+use Rattle.site_service.specs.Lines.{SiteRequest, line_says}
 use Rattle.site_service.specs.declared.line.SiteLine.TheVariants.{Call, Add, Entry, Rows, Scan, Position}
 use Rattle.site_service.specs.Answers.{fault_line}
 use Rattle.site_service.specs.LineAnswers.{IsAnswer, IsLineAnswer, order_behind}
-use Rattle.site_service.specs.Answering.{AreAnswers, order_after, says_within_limits}
+use Rattle.site_service.specs.Answering.{AreAnswers, order_after}
 
 pub nothing_answered : (s : SiteSetting) (order : Order) → AreAnswers s order [] []
 unfolding AreAnswers
@@ -19,8 +19,8 @@ pub nothing_answered_of : (s : SiteSetting) (order : Order) (lines : List (List 
 nothing_answered_of s order lines none = subst (λ ls. AreAnswers s order ls []) (sym none) (nothing_answered s order)
 
 pub first_answered : (s : SiteSetting) (order : Order) (line : List ℕ) (lines : List (List ℕ)) (here rest : List ℕ)
-    → IsLineAnswer s order (says_within_limits line) here
-    → AreAnswers s (order_behind order (says_within_limits line)) lines rest → AreAnswers s order (line ∷ lines) (here ++ rest)
+    → IsLineAnswer s order (line_says line) here
+    → AreAnswers s (order_behind order (line_says line)) lines rest → AreAnswers s order (line ∷ lines) (here ++ rest)
 unfolding AreAnswers
 first_answered s order line lines here rest answer behind = (here, rest, answer, refl, behind)
 
@@ -34,17 +34,17 @@ answered_behind s order (line ∷ lines) others text more (here, rest, answer, s
   rest ++ more,
   answer,
   ap (λ (t : List ℕ). t ++ more) split ∙ append_assoc here rest more,
-  answered_behind s (order_behind order (says_within_limits line)) lines others rest more then behind,
+  answered_behind s (order_behind order (line_says line)) lines others rest more then behind,
 )
 
 pub order_after_more : (order : Order) (lines more : List (List ℕ)) → order_after order (lines ++ more) ≡ order_after (order_after order lines) more
-order_after_more order lines more = fold-append (λ so_far l. order_behind so_far (says_within_limits l)) order lines more
+order_after_more order lines more = fold-append (λ so_far l. order_behind so_far (line_says l)) order lines more
 
 -- ---- whatever is asked there is an answer
 
 can_answer : (s : SiteSetting) (order : Order) (request : SiteRequest) → (text : List ℕ) × IsAnswer s order request text
 can_answer s order (Call name args session sequence) = (_, inl refl)
-can_answer s order (Add name number args_len program) = (_, inl refl)
+can_answer s order (Add p) = (_, inl refl)
 can_answer s order (Entry bytes) = (_, refl)
 can_answer s order Rows = (_, refl)
 can_answer s order (Scan scan) = (_, refl)
@@ -58,6 +58,6 @@ can_answer_line s order (Err fault) = (fault_line fault, refl)
 pub can_answer_lines : (s : SiteSetting) (order : Order) (lines : List (List ℕ)) → (text : List ℕ) × AreAnswers s order lines text
 can_answer_lines s order [] = ([], nothing_answered s order)
 can_answer_lines s order (line ∷ lines) =
-    let here = can_answer_line s order (says_within_limits line) in
-    let rest = can_answer_lines s (order_behind order (says_within_limits line)) lines in
+    let here = can_answer_line s order (line_says line) in
+    let rest = can_answer_lines s (order_behind order (line_says line)) lines in
     (here.0 ++ rest.0, first_answered s order line lines here.0 rest.0 here.1 rest.1)

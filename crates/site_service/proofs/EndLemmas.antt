@@ -3,12 +3,13 @@ use Rattle.std.proofs.Common.{◌≡◌, ◌⊎◌, inl, inr, ℕ, ◌+◌, List
 use Rattle.byte_output.specs.Writes.{AppendsBeginning}
 use Rattle.byte_output.proofs.TakenLemmas.{Appends-nothing}
 use Rattle.script.specs.declared.cause.FaultCause.{FaultCause}
-use Rattle.script.specs.declared.cause.FaultCause.TheVariants.{Line, Place, Table, Program, Refused, Procedure, NoMemory}
+use Rattle.script.specs.declared.cause.FaultCause.TheVariants.{NoMemory}
 use Rattle.script.specs.declared.cause.ScriptFault.{ScriptFault}
 use Rattle.script.specs.declared.stop.Stop.{Stop}
 use Rattle.script.specs.declared.stop.Stop.TheVariants.{Fault, Input, Output}
 use Rattle.script.specs.Said.{IsStopOf}
 use Rattle.script.specs.Telling.{FAILED, SaysEnd, fault_line, status_of_cause}
+use Rattle.script.proofs.TellingLemmas.{memory_or_not}
 use Rattle.site_service.specs.InputLines.{whole_lines}
 use Rattle.site_model.specs.Standing.{SiteSetting}
 use Rattle.site_service.specs.Answering.{AnswersFirst, AreAnswers, LeavesAnswers, order_after}
@@ -60,10 +61,6 @@ by_lines U s t bytes old new (Err (Output error)) same h = subst (λ u. LeavesEn
 
 -- ---- what is told
 
-pub if_known : (a : Option (List ℕ)) (P : List ℕ → Type 0) → ((bytes : List ℕ) → a ≡ Some bytes → P bytes) → IfSome a P
-if_known None P h = tt
-if_known (Some bytes) P h = h bytes refl
-
 pub if_ok : {X E : Type 0} (r : Result X E) (P : X → Type 0) → ((x : X) → r ≡ Ok x → P x) → IfOk r P
 if_ok (Ok x) P h = h x refl
 if_ok (Err e) P h = tt
@@ -71,15 +68,6 @@ if_ok (Err e) P h = tt
 pub if_err : {X E : Type 0} (r : Result X E) (P : E → Type 0) → ((e : E) → r ≡ Err e → P e) → IfErr r P
 if_err (Ok x) P h = tt
 if_err (Err e) P h = h e refl
-
-memory_or_not : (cause : FaultCause) (status : ℕ) → status ≡ status_of_cause cause → (status ≡ FAILED) ⊎ (status ≡ 1)
-memory_or_not (Line fault) status e = inr e
-memory_or_not Place status e = inr e
-memory_or_not (Table fault) status e = inr e
-memory_or_not (Program fault) status e = inr e
-memory_or_not (Refused refusal) status e = inr e
-memory_or_not (Procedure fault) status e = inr e
-memory_or_not NoMemory status e = inl e
 
 pub tells_fault : (old_faults new_faults : Option (List ℕ)) (fault : ScriptFault) (stop : Stop) (status : ℕ) → StopsAtSettings {T = ℕ} fault (Err stop) → SaysEnd old_faults new_faults stop status
     → TellsFault old_faults new_faults status fault

@@ -1,7 +1,6 @@
 -- A site that has answered some of the lines of its input.
-use Rattle.std.proofs.Common.{◌≡◌, ℕ, ◌+◌, ◌≤◌, ◌<◌, nat_le, Bool, true, false, cond, List, [], ◌∷◌, ◌++◌, length, Option, Some, None, Result, Ok, Err, refl, sym, ap, subst, ◌∙◌, append_assoc, arith, length-append}
+use Rattle.std.proofs.Common.{◌≡◌, ℕ, ◌+◌, ◌≤◌, ◌<◌, Bool, List, [], ◌∷◌, ◌++◌, length, Option, Some, None, Result, Ok, Err, refl, sym, ap, subst, ◌∙◌, append_assoc, arith, length-append}
 use Rattle.std.proofs.lemmas.List.{append-nil}
-use Rattle.std.proofs.lemmas.Bool.Decides.{nat_tests}
 use Rattle.std.specs.Io.KnownBytes.{Appends}
 use Rattle.byte_output.specs.Writes.{AppendsBeginning}
 use Rattle.byte_output.proofs.WritesLemmas.{Appends-then, AppendsBeginning-then, AppendsBeginning-more}
@@ -16,12 +15,14 @@ use Rattle.site_service.specs.declared.input.TheConstants.{MAX_SITE_LINE}
 use Rattle.site_service.specs.InputLines.{IsNextLine, whole_lines}
 use Rattle.site_service.specs.LineAnswers.{IsLineAnswer, order_behind}
 use Rattle.site_service.specs.Answers.{fault_line}
-use Rattle.site_service.specs.Lines.{line_says}
+use Rattle.script.proofs.LineLemmas.{says-too_long}
+use Rattle.script.specs.Line.{fields_say}
+use Rattle.site_service.specs.Lines.{line_says, request_behind, word_of}
 use Rattle.site_model.specs.Standing.{SiteSetting}
 use Rattle.site_model.specs.Order.{Order}
 use Rattle.site.specs.Replica.{SiteReplica, StandsForOrder}
 use Rattle.site_service.specs.declared.lines.Progress.{Progress}
-use Rattle.site_service.specs.Answering.{AnswersSome, AreAnswers, ComesTo, GivesLines, IsNoText, LeavesAnswers, LeavesLines, order_after, says_within_limits}
+use Rattle.site_service.specs.Answering.{AnswersSome, AreAnswers, ComesTo, GivesLines, IsNoText, LeavesAnswers, LeavesLines, order_after}
 use Rattle.site_service.proofs.AnswersLemmas.{nothing_answered, answered_behind, first_answered, order_after_more, can_answer_lines}
 
 pub at_start : (s : SiteSetting) (order : Order) (bytes : List ℕ) (left : Option (List ℕ)) (IsPutOut : List ℕ → Type 0) (site : SiteReplica) (number : ℕ)
@@ -186,27 +187,11 @@ leaves_err A s bytes left old new (Fault fault) given = given
 leaves_err A s bytes left old new (Input error) given = given
 leaves_err A s bytes left old new (Output error) given = given
 
--- ---- what a line says
-
-within : (line : List ℕ) → length line ≤ MAX_SITE_LINE → says_within_limits line ≡ line_says line
-within line short = by_test (nat_le (length line) MAX_SITE_LINE) refl
-  where
-    by_test : (b : Bool) → nat_le (length line) MAX_SITE_LINE ≡ b → says_within_limits line ≡ line_says line
-    by_test true is = ap (λ (b : Bool). cond b (line_says line) (Err Bytes)) is
-    by_test false is = absurd (grind (arith, nat_tests))
-
-too_long : (line : List ℕ) → MAX_SITE_LINE < length line → says_within_limits line ≡ Err Bytes
-too_long line long = by_test (nat_le (length line) MAX_SITE_LINE) refl
-  where
-    by_test : (b : Bool) → nat_le (length line) MAX_SITE_LINE ≡ b → says_within_limits line ≡ Err Bytes
-    by_test true is = absurd (grind (arith, nat_tests))
-    by_test false is = ap (λ (b : Bool). cond b (line_says line) (Err Bytes)) is
-
 -- ---- the next line, by what it is
 
 module _ (s : SiteSetting) (order : Order) (bytes : List ℕ) (left : Option (List ℕ)) (number : ℕ) (IsPutOut : List ℕ → Type 0) where
-  one : (line rest text : List ℕ) (next_site : SiteReplica) → left ≡ Some rest → whole_lines bytes ≡ line ∷ whole_lines rest → IsLineAnswer s order (says_within_limits line) text
-      → IsPutOut text → StandsForOrder next_site (order_behind order (says_within_limits line)) → ComesTo s order bytes left number IsPutOut next_site (number + 1)
+  one : (line rest text : List ℕ) (next_site : SiteReplica) → left ≡ Some rest → whole_lines bytes ≡ line ∷ whole_lines rest → IsLineAnswer s order (line_says line) text
+      → IsPutOut text → StandsForOrder next_site (order_behind order (line_says line)) → ComesTo s order bytes left number IsPutOut next_site (number + 1)
   one line rest text next_site known split answer put_out stands = record {
     lines = line ∷ [];
     rest = rest;
@@ -222,14 +207,15 @@ module _ (s : SiteSetting) (order : Order) (bytes : List ℕ) (left : Option (Li
   pub line_goes : (line shown text : List ℕ) (next_site : SiteReplica) (is_followed : Bool) → IsNextLine bytes left line (next.Line is_followed) → shown ≡ line
       → IsLineAnswer s order (line_says shown) text → IsPutOut text → StandsForOrder next_site (order_behind order (line_says shown)) → ComesTo s order bytes left number IsPutOut next_site (number + 1)
   line_goes line shown text next_site is_followed (rest, known, split, short, more) same answer put_out stands =
-      let says : line_says shown ≡ says_within_limits line = ap line_says same ∙ sym (within line short) in
+      let says : line_says shown ≡ line_says line = ap line_says same in
       one line rest text next_site known split (subst (λ t. IsLineAnswer s order t text) says answer) put_out (subst (λ t. StandsForOrder next_site (order_behind order t)) says stands)
 
   pub long_goes : (line : List ℕ) (site : SiteReplica) → IsNextLine bytes left line next.TooLong → IsPutOut (fault_line Bytes) → StandsForOrder site order
       → ComesTo s order bytes left number IsPutOut site (number + 1)
   long_goes line site (long, rest, known, split, is) put_out stands =
-      one long rest (fault_line Bytes) site known split (subst (λ t. IsLineAnswer s order t (fault_line Bytes)) (sym (too_long long is)) refl) put_out
-      (subst (λ t. StandsForOrder site (order_behind order t)) (sym (too_long long is)) stands)
+      let says : line_says long ≡ Err Bytes = says-too_long (fields_say word_of request_behind) MAX_SITE_LINE long is in
+      one long rest (fault_line Bytes) site known split (subst (λ t. IsLineAnswer s order t (fault_line Bytes)) (sym says) refl) put_out
+      (subst (λ t. StandsForOrder site (order_behind order t)) (sym says) stands)
 
   none_answered : IsPutOut [] → AnswersSome s order bytes 0 IsPutOut
   none_answered nothing = record {

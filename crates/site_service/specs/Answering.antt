@@ -1,39 +1,32 @@
 -- What a site answers to the lines of its input, one after another.
-use Rattle.std.specs.Prelude.{◌≡◌, ℕ, ◌+◌, nat_le, if◌then◌else◌, List, [], ◌∷◌, ◌++◌, length, Option, Some, None, Result, Ok, Err}
+use Rattle.std.specs.Prelude.{◌≡◌, ℕ, ◌+◌, List, [], ◌∷◌, ◌++◌, length, Option, Some, None, Result, Ok, Err}
 use Rattle.std.specs.List.{fold}
 use Rattle.std.specs.Io.KnownBytes.{Appends}
 use Rattle.byte_output.specs.Writes.{AppendsBeginning}
 use Rattle.byte_output.specs.declared.paged.PagedOutput.{PagedOutput}
 use Rattle.byte_output.specs.Pending.{output_of}
 use Rattle.byte_output.specs.Taken.{HasPassed, HasTaken}
-use Rattle.script.specs.declared.fault.LineFault.{LineFault}
-use Rattle.script.specs.declared.fault.LineFault.TheVariants.{Bytes}
 use Rattle.script.specs.declared.cause.FaultCause.TheVariants.{NoMemory}
 use Rattle.script.specs.declared.stop.Stop.{Stop}
 use Rattle.script.specs.declared.stop.Stop.TheVariants.{Fault, Input, Output}
-use Rattle.site_service.specs.declared.input.TheConstants.{MAX_SITE_LINE}
 use Rattle.site_service.specs.InputLines.{whole_lines}
 use Rattle.site_model.specs.Standing.{SiteSetting}
 use Rattle.site_model.specs.Order.{Order}
 use Rattle.site.specs.Replica.{SiteReplica, StandsForOrder}
-use Rattle.site_service.specs.Lines.{SiteRequest, line_says}
+use Rattle.site_service.specs.Lines.{line_says}
 use Rattle.site_service.specs.declared.lines.Progress.{Progress}
 use Rattle.site_service.specs.LineAnswers.{IsLineAnswer, order_behind}
 
--- what a line says; one that is too long is at fault for its bytes
-abbrev pub says_within_limits : List ℕ → Result (Option SiteRequest) LineFault
-says_within_limits line = if nat_le (length line) MAX_SITE_LINE then line_says line else Err Bytes
-
 -- the order behind these lines: the byte strings that were given in them
 abbrev pub order_after : Order → List (List ℕ) → Order
-order_after order lines = fold (λ so_far line. order_behind so_far (says_within_limits line)) order lines
+order_after order lines = fold (λ so_far line. order_behind so_far (line_says line)) order lines
 
 -- what is answered to lines behind an order, one after another
 unfoldable pub AreAnswers : SiteSetting → Order → List (List ℕ) → List ℕ → Type 0
 AreAnswers s order [] text = text ≡ []
 AreAnswers s order (line ∷ lines) text =
-    (here rest : List ℕ) × IsLineAnswer s order (says_within_limits line) here × (text ≡ here ++ rest)
-    × AreAnswers s (order_behind order (says_within_limits line)) lines rest
+    (here rest : List ℕ) × IsLineAnswer s order (line_says line) here × (text ≡ here ++ rest)
+    × AreAnswers s (order_behind order (line_says line)) lines rest
 
 -- to all of the lines of an input of these bytes
 abbrev pub AreAllAnswers : SiteSetting → List ℕ → List ℕ → Type 0

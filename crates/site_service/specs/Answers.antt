@@ -12,8 +12,8 @@ use Rattle.site_model.specs.declared.cause.NothingCause.{NothingCause}
 use Rattle.site_model.specs.declared.cause.NothingCause.TheVariants as nothing
 use Rattle.site_model.specs.declared.outcome.EntryOutcome.{EntryOutcome}
 use Rattle.site_model.specs.declared.outcome.EntryOutcome.TheVariants as outcome
-use Rattle.site_model.specs.declared.answer.CallRefusal.{CallRefusal}
-use Rattle.site_model.specs.declared.answer.CallRefusal.TheVariants.{NoProcedure, ArgumentsLength, HalfRequest}
+use Rattle.log_model.specs.declared.refusal.CallRefusal.{CallRefusal}
+use Rattle.log_model.specs.declared.refusal.CallRefusal.TheVariants.{NoProcedure, ArgumentsLength, ZeroInRequest}
 use Rattle.site_model.specs.declared.answer.CallAnswer.{CallAnswer}
 use Rattle.site_model.specs.declared.answer.CallAnswer.TheVariants as call
 use Rattle.site_model.specs.declared.answer.AdditionRefusal.{AdditionRefusal}
@@ -61,7 +61,7 @@ entry_line position outcome request =
 abbrev pub number_of_call_refusal : CallRefusal → ℕ
 number_of_call_refusal NoProcedure = 2
 number_of_call_refusal ArgumentsLength = 3
-number_of_call_refusal HalfRequest = 13
+number_of_call_refusal ZeroInRequest = 13
 
 -- the bytes that are to be ordered
 abbrev pub submit_words : List ℕ → List ℕ

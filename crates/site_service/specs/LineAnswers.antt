@@ -68,8 +68,8 @@ abbrev pub IsAnswer : SiteSetting → Order → SiteRequest → List ℕ → Typ
 IsAnswer s order (Call name args session sequence) text =
     IsCallAnswer s order
     (record { name = name; args = args; request = given_request session sequence }) text
-IsAnswer s order (Add name number args_len program) text =
-    IsAdditionAnswer s (record { number = number; args_len = args_len; name = name; bytes = program }) text
+IsAnswer s order (Add p) text =
+    IsAdditionAnswer s (record { number = p.number; args_len = p.args_len; name = p.name; bytes = p.program }) text
 IsAnswer s order (Entry bytes) text = text ≡ entry_answer s order bytes
 IsAnswer s order RowsLine text = text ≡ rows_answer s order
 IsAnswer s order (ScanLine scan) text = text ≡ scan_answer s order scan

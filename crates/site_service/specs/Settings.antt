@@ -1,15 +1,16 @@
 -- What the settings of sites say: lines that set something in scripts, but for the number of replicas, and once the line
 -- `additions`.
-use Rattle.std.specs.Prelude.{ℕ, ◌==◌, Bool, true, false, not, if◌then◌else◌, List, [], ◌∷◌, length, codes, Option, Some, None, Result, Ok, Err}
+use Rattle.std.specs.Prelude.{ℕ, Bool, true, false, if◌then◌else◌, List, [], codes, Option, Some, None, Result, Ok, Err}
 use Rattle.std.specs.Option.{option_map}
 use Rattle.std.specs.Str.{bytes_eq}
 use Rattle.script.specs.declared.fault.LineFault.{LineFault}
 use Rattle.script.specs.declared.fault.LineFault.TheVariants as fault
 use Rattle.script.specs.declared.statements.Statement.TheVariants as statement
 use Rattle.script.specs.declared.statements.Setting.TheVariants.{Replicas}
-use Rattle.script.specs.Text.{lines_of, is_readable, fields_of}
+use Rattle.script.specs.Text.{lines_of, max_line}
+use Rattle.script.specs.Line.{made_of, fields_say, says}
 use Rattle.script.specs.Script as script
-use Rattle.script.specs.Script.{ScriptSetting, made_of}
+use Rattle.script.specs.Script.{ScriptSetting}
 use Rattle.script.specs.declared.cause.FaultCause.{FaultCause}
 use Rattle.script.specs.declared.cause.FaultCause.TheVariants.{Place}
 use Rattle.script.specs.declared.cause.ScriptFault.{ScriptFault}
@@ -17,6 +18,8 @@ use Rattle.script.specs.SettingsFault.{cause_of_line_fault}
 use Rattle.script.specs.Settings.{ScriptSettings, no_settings, setting_after, then_with}
 use Rattle.script.specs.Said.{fault_at, said_from}
 use Rattle.site_model.specs.Standing.{SiteSetting}
+use Rattle.site_service.specs.declared.settings_line.SettingsWord.{SettingsWord}
+use Rattle.site_service.specs.declared.settings_line.SettingsWord.TheVariants as word
 use Rattle.site_service.specs.declared.settings_line.SettingsLine.{SettingsLine}
 use Rattle.site_service.specs.declared.settings_line.SettingsLine.TheVariants.{Additions, Statement}
 
@@ -26,16 +29,19 @@ use Rattle.site_service.specs.declared.settings_line.SettingsLine.TheVariants.{A
 abbrev pub SettingsRequest : Type 0
 SettingsRequest = SettingsLine (List ℕ)
 
--- `additions` has no fields; a line with another word says what it says in a script
-abbrev pub said_by : List (List ℕ) → List ℕ → Result (Option SettingsRequest) LineFault
-said_by [] line = made_of (option_map Statement) (script.line_says line)
-said_by (first ∷ fields) line =
-    if bytes_eq first (codes "additions") then (if length fields == 0 then Ok (Some Additions) else Err fault.FieldCount)
-    else made_of (option_map Statement) (script.line_says line)
+-- `additions`, or a word of scripts
+abbrev pub word_of : List ℕ → Option SettingsWord
+word_of text = if bytes_eq text (codes "additions") then Some word.Additions else option_map word.Script (script.word_of text)
+
+-- `additions` has no fields; another word says what it says in a script
+abbrev pub said_behind : SettingsWord → List (List ℕ) → Result SettingsRequest LineFault
+said_behind word.Additions [] = Ok Additions
+said_behind word.Additions fields = Err fault.FieldCount
+said_behind (word.Script word) fields = made_of Statement (script.said_behind word fields)
 
 -- what a line says, or the first of its faults
-unfoldable pub line_says : List ℕ → Result (Option SettingsRequest) LineFault
-line_says line = if not (is_readable line) then Err fault.Bytes else said_by (fields_of line) line
+abbrev pub line_says : List ℕ → Result (Option SettingsRequest) LineFault
+line_says line = says (fields_say word_of said_behind) max_line line
 
 -- what is known of its numbers
 abbrev pub IsWithinLimits : SettingsRequest → Type 0

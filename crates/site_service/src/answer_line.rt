@@ -5,7 +5,8 @@ ghost use Rattle.schema.specs.declared.limits.TheConstants.{MAX_ARGUMENTS};
 ghost use Rattle.site_service.specs.Lines.{IsWithinLimits, line_says};
 ghost use Rattle.site_model.specs.Order.{Order};
 ghost use Rattle.site.specs.Replica.{StandsForOrder, setting_of};
-ghost use Rattle.site.specs.Answered.{asked_of, named_of};
+ghost use Rattle.log_entry.specs.Named.{named_of};
+ghost use Rattle.site.specs.Answered.{asked_of};
 ghost use Rattle.site_service.specs.LineAnswers.{IsAdditionAnswer, IsAnswer, IsCallAnswer, IsLineAnswer};
 ghost use Rattle.site_service.specs.LineAnswers.{order_behind, order_with};
 
@@ -17,10 +18,11 @@ use crate::reading::site_line;
 use crate::rows::answer_rows;
 use crate::status::{append_fault_line, append_no_memory_line, append_position_line};
 use byte_output::sink::ByteSink;
+use log_entry::NamedProgram;
 use log_model::given_request;
 use row_sets::Bytes;
 use script::LineFault;
-use site::{Asked, NamedProgram, Site};
+use site::{Asked, Site};
 use std::alloc::{AllocError, Allocator};
 
 /// Appends what a site answers to a line, given without its LF. There may be no memory for what the line says, for a
@@ -82,17 +84,12 @@ fn answer_request<A: Allocator + Copy, S: ByteSink>(
             answer_call(&site, sink, asked);
             Ok(site)
         }
-        SiteLine::Add {
-            name,
-            number,
-            args_len,
-            program,
-        } => {
+        SiteLine::Add(procedure) => {
             let named = NamedProgram {
-                name: name.as_slice(),
-                number: *number,
-                args_len: *args_len,
-                program: program.as_slice(),
+                name: procedure.name.as_slice(),
+                number: procedure.number,
+                args_len: procedure.args_len,
+                program: procedure.program.as_slice(),
             };
             answer_addition(&site, sink, named);
             Ok(site)

@@ -1,5 +1,7 @@
 //! The requests of lines.
 
+use script::ProcedureFields;
+
 /// The rows that a scan asks for.
 #[derive(Clone, Copy)]
 pub struct Scan {
@@ -24,13 +26,7 @@ pub enum SiteLine<B> {
         sequence: u32,
     },
     /// A procedure that is to be added.
-    Add {
-        name: B,
-        number: u16,
-        /// The length of the arguments, 0 to 256.
-        args_len: u16,
-        program: B,
-    },
+    Add(ProcedureFields<B>),
     /// The byte string at the next position of the order.
     Entry {
         bytes: B,

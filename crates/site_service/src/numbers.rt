@@ -3,7 +3,8 @@
 ghost use Rattle.std.specs.Prelude.{◌≡◌};
 ghost use Rattle.site_service.specs.Answers.{number_of_call_refusal, number_of_nothing};
 
-use site_model::{CallRefusal, NothingCause};
+use log_model::CallRefusal;
+use site_model::NothingCause;
 
 /// The number after the letter E in printed answers, 1 to 5.
 pub fn nothing_number(cause: NothingCause) -> u8
@@ -25,6 +26,6 @@ pub fn call_refusal_number(refusal: CallRefusal) -> u8
     match refusal {
         CallRefusal::NoProcedure => 2,
         CallRefusal::ArgumentsLength => 3,
-        CallRefusal::HalfRequest => 13,
+        CallRefusal::ZeroInRequest => 13,
     }
 }

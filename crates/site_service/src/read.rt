@@ -6,13 +6,11 @@ ghost use Rattle.script.specs.Said.{IsStopOf};
 ghost use Rattle.site_service.specs.Settings.{settings_say, whole};
 ghost use Rattle.site_service.specs.Reading.{so_far, setting_read};
 
-use crate::settings_line::lines_that_are_too_long_are_at_fault;
 use crate::settings_reading::Reading;
 use catalogue::Catalogue;
-use script::{FaultCause, LineFault, MAX_LINE, Next, Stop, fault_at, next_line, out_of_memory};
+use script::{FaultCause, Stop, fault_at, out_of_memory, read_lines};
 use std::alloc::{Allocator, Global};
-use std::io;
-use std::io::{BufRead, ErrorKind};
+use std::io::BufRead;
 
 /// The settings that all sites of an order have in common.
 #[derive(Drop)]
@@ -37,28 +35,11 @@ pub fn read_settings<A: Allocator + Copy, R: BufRead>(
         → IsStopOf (settings_say bytes) stop) }
     ensures window { IfOk result (λ settings. (1 ≤ settings.window) × (settings.window ≤ MAX_WINDOW)) }
 {
-    // Laws:
-    lines_that_are_too_long_are_at_fault();
-    let Ok(mut line) = Vec::with_capacity(alloc, MAX_LINE) else {
+    let Ok(reading) = Reading::new(alloc) else {
         return Err(out_of_memory(0));
     };
-    let Ok(mut reading) = Reading::new(alloc) else {
-        return Err(out_of_memory(0));
-    };
-    for number in 1..u64::MAX {
-        match next_line(input, &mut line) {
-            Ok(Next::Line) => {}
-            Ok(Next::AtEnd) => return whole(reading),
-            Ok(Next::TooLong) => {
-                return Err(fault_at(number, FaultCause::Line(LineFault::Bytes)));
-            }
-            Err(error) => return Err(Stop::Input(error)),
-        }
-        if let Err(cause) = reading.take_line(alloc, &line) {
-            return Err(fault_at(number, cause));
-        }
-    }
-    Err(Stop::Input(io::Error::from(ErrorKind::Interrupted)))
+    let reading = read_lines(alloc, input, reading)?;
+    whole(reading)
 }
 
 /// Returns the settings that were read to their end. The window has to be set.

@@ -1,14 +1,16 @@
 //! The meaning of a line of the settings.
 
-ghost use Rattle.std.specs.Prelude.{◌≡◌, ◌<◌, ◌⊎◌, ℕ, List, length, Ok, Err, IfOk, IfErr, IfSome};
-ghost use Rattle.script.specs.Text.{max_line};
-ghost use Rattle.script.specs.declared.fault.LineFault.TheVariants.{Bytes as BytesFault, NoMemory};
-ghost use Rattle.site_service.specs.Settings.{line_says, IsWithinLimits};
-
 use row_sets::Bytes;
-use script::fields::{fields, readable_text};
-use script::{LineFault, Statement, statement};
+use script::{LineFault, LineMeaning, Statement, Word, first_word};
 use std::alloc::Allocator;
+
+/// The first word of a line.
+#[derive(Clone, Copy)]
+pub(crate) enum SettingsWord {
+    Additions,
+    /// A word of scripts.
+    Script(Word),
+}
 
 /// The meaning of a line. Names and programs are a `B`.
 #[derive(Drop)]
@@ -19,32 +21,33 @@ pub(crate) enum SettingsLine<B> {
     Statement(Statement<B>),
 }
 
-/// Reads what a line, given without its LF, says: nothing where it is empty or a comment.
-#[tactic(auto, unfolding(crate::specs::Settings::line_says))]
-pub(crate) fn settings_line<A: Allocator + Copy>(
-    alloc: A,
-    line: &[u8],
-) -> Result<Option<SettingsLine<Bytes<A>>>, LineFault>
-    ensures exact { IfOk result (λ said. line_says line.now ≡ Ok said) }
-    ensures fault { IfErr result (λ fault. (fault ≡ NoMemory) ⊎ (line_says line.now ≡ Err fault)) }
-    ensures limits { IfOk result (λ said. IfSome said IsWithinLimits) }
-{
-    let Some(text) = readable_text(line) else {
-        return Err(LineFault::Bytes);
-    };
-    let fields = fields(alloc, text)?;
-    match fields.as_slice() {
-        [first] if *first == "additions" => Ok(Some(SettingsLine::Additions)),
-        [first, ..] if *first == "additions" => Err(LineFault::FieldCount),
-        _ => match statement(alloc, line)? {
-            Some(statement) => Ok(Some(SettingsLine::Statement(statement))),
-            None => Ok(None),
-        },
+impl<A: Allocator + Copy> LineMeaning<A> for SettingsLine<Bytes<A>> {
+    ghost use Rattle.site_service.specs.Settings.{IsWithinLimits, said_behind as said, word_of as spelled};
+
+    type Word = SettingsWord;
+
+    ghost word_of = { spelled };
+
+    ghost said_behind = { said };
+
+    ghost IsWithin = { IsWithinLimits };
+
+    fn word(text: &str) -> Option<SettingsWord> {
+        if text == "additions" {
+            return Some(SettingsWord::Additions);
+        }
+        let word = first_word(text)?;
+        Some(SettingsWord::Script(word))
+    }
+
+    fn read_behind(alloc: A, word: SettingsWord, fields: &[&str]) -> Result<Self, LineFault> {
+        match word {
+            SettingsWord::Additions if fields.is_empty() => Ok(SettingsLine::Additions),
+            SettingsWord::Additions => Err(LineFault::FieldCount),
+            SettingsWord::Script(word) => {
+                let statement = Statement::read_behind(alloc, word, fields)?;
+                Ok(SettingsLine::Statement(statement))
+            }
+        }
     }
 }
-
-/// A line that is too long is at fault for its bytes, whatever they are.
-#[tactic(auto, unfolding(crate::specs::Settings::line_says))]
-pub(crate) fn lines_that_are_too_long_are_at_fault()
-    ensures { (line : List ℕ) → max_line < length line → line_says line ≡ Err BytesFault }
-{}

@@ -3,12 +3,12 @@
 ghost use Rattle.std.specs.Prelude.{◌≡◌, ◌⊎◌, Ok, Err, IfOk, IfErr, OnOk};
 ghost use Rattle.script.specs.Script.{IsSettingWithinLimits};
 ghost use Rattle.script.specs.declared.cause.FaultCause.TheVariants.{NoMemory};
-ghost use Rattle.site_service.specs.Settings.{after_line, line_says, nothing_set, with_additions, with_setting};
+ghost use Rattle.site_service.specs.Settings.{nothing_set, with_additions, with_setting};
 ghost use Rattle.site_service.specs.Reading.{so_far};
 
-use crate::settings_line::{SettingsLine, settings_line};
+use crate::settings_line::SettingsLine;
 use row_sets::Bytes;
-use script::{FaultCause, Setting, Settings, Statement};
+use script::{FaultCause, LineReader, MAX_LINE, Setting, Settings, Statement, read_line};
 use std::alloc::{AllocError, Allocator};
 
 /// The settings that the lines have set so far.
@@ -27,20 +27,6 @@ impl<A: Allocator + Copy> Reading<A> {
             settings: Settings::new(alloc)?,
             takes_additions: false,
         })
-    }
-
-    /// Takes one more line.
-    pub(crate) fn take_line(&mut self, alloc: A, line: &[u8]) -> Result<(), FaultCause>
-        ensures ok { OnOk result (after_line (so_far self.old) (line_says line.now) ≡ Ok (so_far self.new)) }
-        ensures fault { IfErr result (λ cause. (cause ≡ NoMemory)
-            ⊎ (after_line (so_far self.old) (line_says line.now) ≡ Err cause)) }
-    {
-        match settings_line(alloc, line)? {
-            None => Ok(()),
-            Some(SettingsLine::Additions) => self.let_procedures_be_added(),
-            Some(SettingsLine::Statement(Statement::Setting(setting))) => self.set(setting),
-            Some(SettingsLine::Statement(Statement::Action(_))) => Err(FaultCause::Place),
-        }
     }
 
     /// Takes the line by which procedures may be added, which stands once.
@@ -65,6 +51,33 @@ impl<A: Allocator + Copy> Reading<A> {
         match setting {
             Setting::Replicas(_) => Err(FaultCause::Place),
             setting => self.settings.set(setting),
+        }
+    }
+}
+
+impl<A: Allocator + Copy> LineReader<A> for Reading<A> {
+    ghost use Rattle.std.proofs.Common.{ap};
+    ghost use Rattle.script.proofs.LineLemmas.{says-too_long};
+    ghost use Rattle.script.specs.Line.{fields_say};
+    ghost use Rattle.script.specs.Text.{max_line};
+    ghost use Rattle.site_service.specs.Settings.{SettingsSoFar, after_line, said_behind, with_line, word_of};
+    ghost use Rattle.site_service.specs.Reading.{so_far};
+
+    ghost Meaning = { SettingsSoFar };
+
+    ghost read_so_far = { so_far };
+
+    ghost with_next = { with_line };
+
+    ghost too_long = { λ set line long.
+        ap (after_line set) (says-too_long (fields_say word_of said_behind) max_line line long) };
+
+    fn take_line(&mut self, alloc: A, line: &[u8]) -> Result<(), FaultCause> {
+        match read_line(alloc, line, MAX_LINE)? {
+            None => Ok(()),
+            Some(SettingsLine::Additions) => self.let_procedures_be_added(),
+            Some(SettingsLine::Statement(Statement::Setting(setting))) => self.set(setting),
+            Some(SettingsLine::Statement(Statement::Action(_))) => Err(FaultCause::Place),
         }
     }
 }

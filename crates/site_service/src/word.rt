@@ -5,7 +5,7 @@ ghost use Rattle.site_service.specs.Lines.{word_of};
 
 /// A line's first word.
 #[derive(Clone, Copy)]
-pub(crate) enum Word {
+pub enum Word {
     Call,
     Add,
     Entry,

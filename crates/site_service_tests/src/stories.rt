@@ -53,6 +53,12 @@ pub(crate) const CALL_BYTES: [u8; 84] = [
     0, 0, 1, 0, 1, 5, 0, 0, 0, 0, 0, 0, 0, 1, 10, 0, 0, 0, 0, 0, 0, 0,
 ];
 
+/// An addition of 7 to the same row at position 0, by request 8 1.
+const SEVEN_ENTRY: &str = "entry 0108000000010000000000000001001000\
+    0500000000000000070000000000000000000000070000000000000001000105000000000000000500000000\
+    00000001000105000000000000000107\
+    00000000000000";
+
 const COMMITTED: &str = "entry 1 commit reply 10 session 7 seq 1";
 
 /// A call commits once, whatever it is asked for.
@@ -83,10 +89,7 @@ const CONFLICT: Story = Story {
     lines: &[
         "call add 05000000000000000700000000000000 8 1",
         ENTRY,
-        "entry 0108000000010000000000000001001000\
-        0500000000000000070000000000000000000000070000000000000001000105000000000000000500000000\
-        00000001000105000000000000000107\
-        00000000000000",
+        SEVEN_ENTRY,
         "rows",
     ],
     answers: &[
@@ -104,15 +107,7 @@ const CONFLICT: Story = Story {
 /// The same two calls at the site that has run the first.
 const CONFLICT_ELSEWHERE: Story = Story {
     settings: &SETTINGS,
-    lines: &[
-        CALL,
-        ENTRY,
-        "entry 0108000000010000000000000001001000\
-        0500000000000000070000000000000000000000070000000000000001000105000000000000000500000000\
-        00000001000105000000000000000107\
-        00000000000000",
-        "rows",
-    ],
+    lines: &[CALL, ENTRY, SEVEN_ENTRY, "rows"],
     answers: &[
         SUBMITTED,
         COMMITTED,

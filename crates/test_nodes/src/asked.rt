@@ -12,23 +12,37 @@ pub struct Words {
     pub second: u8,
 }
 
+/// A call as a caller asks for it: a procedure, its arguments, and a request or none.
+#[derive(Clone, Copy)]
+pub struct AskedCall {
+    pub procedure: u16,
+    pub words: Words,
+    pub request: Option<RequestId>,
+}
+
+impl AskedCall {
+    pub fn new(procedure: u16, words: Words, request: Option<RequestId>) -> AskedCall {
+        AskedCall {
+            procedure,
+            words,
+            request,
+        }
+    }
+}
+
 /// A question of a caller.
 #[derive(Clone, Copy)]
 pub enum Asking {
-    /// A call of a procedure at a replica, which sees at least the log up to a position, with a request or without one.
+    /// A call at a replica, which sees at least the log up to a position.
     Call {
         replica: u32,
         least: u32,
-        procedure: u16,
-        words: Words,
-        request: Option<RequestId>,
+        call: AskedCall,
     },
     /// A call of the caller's session.
     InSession {
         replica: u32,
-        procedure: u16,
-        words: Words,
-        request: Option<RequestId>,
+        call: AskedCall,
     },
     /// The position of the log that the session's next call sees at least.
     Position,

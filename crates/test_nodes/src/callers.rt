@@ -1,9 +1,9 @@
 //! The callers.
 
-use crate::asked::{Addition, Asked, Asking, Stray, Told, Words};
+use crate::asked::{Addition, Asked, AskedCall, Asking, Stray, Told, Words};
 use crate::gate::{Hold, HoldingGate};
 use locked_replica::LogSetting;
-use log_model::{RequestId, Verdict};
+use log_model::Verdict;
 use node::{Added, Desk, Node};
 use node_calls::Answer;
 use session::Session;
@@ -16,15 +16,30 @@ use tallies::Ledgers;
 /// The most questions of a caller.
 const MOST: usize = 10_000;
 
-/// Returns two words as an argument block, each least byte first.
-fn args_of(words: Words) -> [u8; 16] {
-    let Words { first, second, .. } = words;
-    [first, 0, 0, 0, 0, 0, 0, 0, second, 0, 0, 0, 0, 0, 0, 0]
+/// The argument block of as many words as there are, each least byte first.
+#[derive(Clone, Copy)]
+struct Block {
+    bytes: [u8; 16],
+    count: usize,
 }
 
-/// Returns as many of the words as there are.
-fn given(args: &[u8; 16], count: usize) -> &[u8] {
-    args.get(..count.wrapping_mul(8)).unwrap_or(args)
+impl Block {
+    fn new(words: Words) -> Block {
+        let Words {
+            count,
+            first,
+            second,
+        } = words;
+        Block {
+            bytes: [first, 0, 0, 0, 0, 0, 0, 0, second, 0, 0, 0, 0, 0, 0, 0],
+            count,
+        }
+    }
+
+    fn args(&self) -> &[u8] {
+        let len = self.count.wrapping_mul(8);
+        self.bytes.get(..len).unwrap_or(&self.bytes)
+    }
 }
 
 fn answer_of<J: LogSetting + Ledgers + Send + Sync + 'static, R: Wait>(
@@ -32,15 +47,12 @@ fn answer_of<J: LogSetting + Ledgers + Send + Sync + 'static, R: Wait>(
     desk: &Desk<J, HoldingGate>,
     replica: u32,
     least: u32,
-    procedure: u16,
-    words: Words,
-    request: Option<RequestId>,
+    call: AskedCall,
 ) -> Answer {
-    let args = args_of(words);
-    let args = given(&args, words.count);
-    let (answer, _) = match request {
-        None => desk.execute(rt, replica, least, procedure, args),
-        Some(it) => desk.execute_numbered(rt, replica, least, procedure, args, it),
+    let (procedure, block) = (call.procedure, Block::new(call.words));
+    let (answer, _) = match call.request {
+        None => desk.execute(rt, replica, least, procedure, block.args()),
+        Some(it) => desk.execute_numbered(rt, replica, least, procedure, block.args(), it),
     };
     answer
 }
@@ -49,15 +61,12 @@ fn answer_in<J: LogSetting + Ledgers + Send + Sync + 'static, R: Wait>(
     rt: &R,
     session: &mut Session<'_, J, HoldingGate>,
     replica: u32,
-    procedure: u16,
-    words: Words,
-    request: Option<RequestId>,
+    call: AskedCall,
 ) -> Answer {
-    let args = args_of(words);
-    let args = given(&args, words.count);
-    let (answer, _) = match request {
-        None => session.call(rt, replica, procedure, args),
-        Some(it) => session.call_numbered(rt, replica, procedure, args, it),
+    let (procedure, block) = (call.procedure, Block::new(call.words));
+    let (answer, _) = match call.request {
+        None => session.call(rt, replica, procedure, block.args()),
+        Some(it) => session.call_numbered(rt, replica, procedure, block.args(), it),
     };
     answer
 }
@@ -84,16 +93,11 @@ fn told<J: LogSetting + Ledgers + Send + Sync + 'static, R: Wait>(
         Asking::Call {
             replica,
             least,
-            procedure,
-            words,
-            request,
-        } => Told::Answer(answer_of(rt, desk, replica, least, procedure, words, request)),
-        Asking::InSession {
-            replica,
-            procedure,
-            words,
-            request,
-        } => Told::Answer(answer_in(rt, session, replica, procedure, words, request)),
+            call,
+        } => Told::Answer(answer_of(rt, desk, replica, least, call)),
+        Asking::InSession { replica, call } => {
+            Told::Answer(answer_in(rt, session, replica, call))
+        }
         Asking::Position => Told::Position(session.position()),
         Asking::Verdict { replica, position } => {
             Told::Verdict(verdict_of(rt, desk, replica, position))

@@ -18,22 +18,19 @@ use std::thread::Threads;
 use tallies::{Blanks, Ledgers};
 use test_programs::{TABLES, catalogue_of};
 
-/// Has a node asked, and finishes it.
-fn finish_asked<
-    J: LogSetting + Ledgers + Send + Sync + 'static,
-    R: Threads + Wait + Copy + Send + Sync + 'static,
-    A: Asked + Sync,
->(
-    rt: &R,
-    alloc: Global,
-    node: Node<J, HoldingGate>,
-    hold: &Hold,
-    asked: &A,
+/// The parts of a node that is to be started.
+#[derive(Drop)]
+struct Parts {
+    size: Size,
+    catalogue: Catalogue,
+    gate: HoldingGate,
+}
+
+/// The questions to a node, the hold of its gate, and the key whose rows its end tells.
+struct Inquiry<'a, A> {
+    asked: &'a A,
+    hold: &'a Hold,
     key: u64,
-) -> Option<Ending> {
-    let stray = ask_all(rt, alloc, &node, hold, asked);
-    let finish = node.finish(rt);
-    ending_of(rt, alloc, &finish, key, stray)
 }
 
 /// Starts a node of these parts, has it asked, and finishes it.
@@ -46,25 +43,30 @@ fn run_node<
     alloc: Global,
     cells: GroupCells,
     blanks: Blanks,
-    size: Size,
-    catalogue: Catalogue,
-    gate: HoldingGate,
-    hold: &Hold,
-    asked: &A,
-    key: u64,
+    parts: Parts,
+    inquiry: Inquiry<'_, A>,
 ) -> Option<Ending>
     requires cells { cells ≡ J.groups }
     requires ledgers { J.names ≡ names_by_place blanks }
     requires setting { J.setting ≡ record {
-      tables = catalogue.tables;
-      catalogue = catalogue.procedures;
-      window = size.window;
+      tables = parts.catalogue.tables;
+      catalogue = parts.catalogue.procedures;
+      window = parts.size.window;
     } }
 {
+    let Parts {
+        size,
+        catalogue,
+        gate,
+    } = parts;
+    let Inquiry { asked, hold, key } = inquiry;
     let started = Node::<J, HoldingGate>::start_sized(
         rt, alloc, cells, blanks, size, catalogue, gate,
     );
-    finish_asked(rt, alloc, started.ok()?, hold, asked, key)
+    let node = started.ok()?;
+    let stray = ask_all(rt, alloc, &node, hold, asked);
+    let finish = node.finish(rt);
+    ending_of(rt, alloc, &finish, key, stray)
 }
 
 /// Makes a node of a size, with these procedures over table 1 of rows of 8 bytes. A procedure is a number, a program,
@@ -82,17 +84,12 @@ pub fn run_at_a_node<R: Threads + Wait + Copy + Send + Sync + 'static, A: Asked 
 ) -> Option<Ending> {
     let (gate, hold) = gate_of(alloc, armed)?;
     let cells = GroupCells::new(alloc).ok()?;
-    let catalogue = catalogue_of(alloc, &TABLES, procedures)?;
-    run_node::<Brand, R, A>(
-        rt,
-        alloc,
-        cells,
-        Blanks::new(),
+    let parts = Parts {
         size,
-        catalogue,
+        catalogue: catalogue_of(alloc, &TABLES, procedures)?,
         gate,
-        &hold,
-        asked,
-        key,
-    )
+    };
+    let hold = &hold;
+    let inquiry = Inquiry { asked, hold, key };
+    run_node::<Brand, R, A>(rt, alloc, cells, Blanks::new(), parts, inquiry)
 }

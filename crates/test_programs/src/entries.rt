@@ -1,5 +1,6 @@
 use crate::alone::ONE;
 use crate::catalogues::accepted_of;
+use crate::setting::args_of;
 use log_entry::{AddedProcedure, Entry, ExecutedCall};
 use log_model::{RequestId, given_request};
 use row_sets::{Bytes, ReadSet, WriteSet};
@@ -36,6 +37,16 @@ pub fn idle_call(
         writes: WriteSet::new(alloc),
         reply: 0,
     }
+}
+
+/// An increment of key 5 of table 1 by 10 at snapshot 0, which found no row there.
+pub fn increment_call(alloc: Global) -> Option<ExecutedCall> {
+    let mut call = idle_call(alloc, 1, 0, None);
+    call.args = Bytes::new(args_of(alloc, &[5, 10])?);
+    call.reads.add_point(1, 5).ok()?;
+    call.writes.put(1, 5, &10u64.to_le_bytes()).ok()?;
+    call.reply = 10;
+    Some(call)
 }
 
 /// Adds one look at table 1 and one write.

@@ -5,14 +5,14 @@
 pub use alone::{INDEX, INDEX_TOO_FAR, JUMP_ON, ONE, SKIP, STACK_WORD, STORE_WITHIN};
 pub use bytes::bytes_of;
 pub use catalogues::{catalogue_of, small_catalogue};
-pub use entries::{EntryCase, addition_of, entries_of, entry_of, idle_call};
+pub use entries::{EntryCase, addition_of, entries_of, entry_of, idle_call, increment_call};
 pub use found::{byte_at, certification_at};
 pub use programs::PROCEDURES;
 pub use rows::{
     ADD, COUNT, DELETE, INCREMENT, NEXT, PUT, PUT_AND_CANCEL, PUT_AND_GET, PUT_AND_STICK, READ,
     SKEW, TRANSFER,
 };
-pub use setting::{TABLES, args_of, digit_of, procedure_of, setting_of};
+pub use setting::{TABLES, args_of, digit_of, procedure_of, setting_of, setting_with};
 
 mod alone;
 mod bytes;

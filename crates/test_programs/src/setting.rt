@@ -41,8 +41,17 @@ pub fn procedure_of(
 
 /// Returns the setting of all test programs, each with its digit as its name, under a window.
 pub fn setting_of(alloc: Global, window: u32) -> Option<PlainSetting> {
+    setting_with(alloc, &PROCEDURES, window)
+}
+
+/// Returns the setting of these programs, each with its number and the number of words that it takes.
+pub fn setting_with(
+    alloc: Global,
+    procedures: &[(u16, &str, usize)],
+    window: u32,
+) -> Option<PlainSetting> {
     let mut catalogue = Vec::new(alloc);
-    for (number, program, words) in &PROCEDURES {
+    for (number, program, words) in procedures {
         let name = digit_of(*number);
         let procedure = procedure_of(alloc, &name, *number, program, *words)?;
         catalogue.push(procedure).ok()?;

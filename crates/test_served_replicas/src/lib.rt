@@ -4,7 +4,7 @@
 pub use asked::{Heard, Mismatch};
 pub use cases::{Case, RefusedGrowths};
 pub use requests::Memories;
-pub use serving::try_two;
+pub use serving::{LogStart, try_two};
 
 mod asked;
 mod cases;

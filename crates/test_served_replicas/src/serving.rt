@@ -22,6 +22,13 @@ use tallies::{Blanks, Ledgers, Shares, Totals};
 /// second.
 type TwoReplicas<J, A, P> = Shared<J, A, P, OpenGate>;
 
+/// The beginning of a log: the catalogue and the window.
+#[derive(Drop)]
+pub struct LogStart<P: Allocator + Copy> {
+    pub catalogue: Catalogue<P>,
+    pub window: u32,
+}
+
 /// The channels to which requests to both go, until nobody asks any more.
 type Callers<J, P> = Option<[Sender<Request<J, P>, P>; 2]>;
 
@@ -145,18 +152,18 @@ fn shared_by<J: LogSetting + Ledgers, A: Allocator + Copy, P: Allocator + Copy>(
     alloc: P,
     cells: GroupCells<P>,
     totals: Totals<J>,
-    catalogue: Catalogue<P>,
-    window: u32,
+    start: LogStart<P>,
     replicas: (A, A),
 ) -> Result<TwoReplicas<J, A, P>, AllocError>
     requires cells { cells ≡ J.groups }
     requires setting { J.setting ≡ record {
-      tables = catalogue.tables;
-      catalogue = catalogue.procedures;
-      window = window;
+      tables = start.catalogue.tables;
+      catalogue = start.catalogue.procedures;
+      window = start.window;
     } }
 {
     let log = OrderLog::new(global, cells)?;
+    let LogStart { catalogue, window } = start;
     let mut shared = Shared::new(alloc, log, catalogue, window, totals, OpenGate, 2)?;
     add_both(&mut shared, replicas)?;
     Ok(shared)
@@ -209,8 +216,7 @@ pub fn try_two<
     alloc: P,
     cells: GroupCells<P>,
     blanks: Blanks,
-    catalogue: Catalogue<P>,
-    window: u32,
+    start: LogStart<P>,
     replicas: (A, A),
     memories: Memories<'_>,
     case: &mut Case,
@@ -218,16 +224,14 @@ pub fn try_two<
     requires cells { cells ≡ J.groups }
     requires ledgers { J.names ≡ names_by_place blanks }
     requires setting { J.setting ≡ record {
-      tables = catalogue.tables;
-      catalogue = catalogue.procedures;
-      window = window;
+      tables = start.catalogue.tables;
+      catalogue = start.catalogue.procedures;
+      window = start.window;
     } }
 {
     let (totals, mut one) = blanks.open();
     let mut other = one.split();
-    let shared: TwoReplicas<J, A, P> = shared_by(
-        global, alloc, cells, totals, catalogue, window, replicas,
-    )?;
+    let shared: TwoReplicas<J, A, P> = shared_by(global, alloc, cells, totals, start, replicas)?;
     memories.1.refuse_all(matches!(case, Case::Stopped(_)));
     serve_two(rt, alloc, &shared, memories, &mut one, &mut other, case)
 }

@@ -1,7 +1,7 @@
 use crate::draws::{NUMBERS, begin_step, draw, draw_args, draw_listed, draw_number, request_of};
 use crate::history::{Call, History, Ordered, UnknownProcedure, take_down};
 use crate::kinds::KINDS;
-use crate::procedures::{CANCEL_CODE, CANCEL_PLACE, PROCEDURES, READ_PLACE, program_of};
+use crate::procedures::{CANCEL_CODE, CANCEL_PLACE, READ_PLACE, procedures, program_of};
 use dsm_model::{Outcome, StepRefusal};
 use dsm_world::{Step, World};
 use log_model::{RequestId, Verdict};
@@ -40,7 +40,7 @@ pub fn new_world<'s>(
     let window = draw(&mut generator, windows)
         .wrapping_add(1)
         .clamp(1, 4_096);
-    let catalogue = catalogue_of(scarce, &TABLES, &PROCEDURES)?;
+    let catalogue = catalogue_of(scarce, &TABLES, &procedures())?;
     let world = World::new(scarce, replicas, window, catalogue).ok()?;
     Some(DrawnWorld {
         alloc,

@@ -1,6 +1,6 @@
 //! The numbers, words and arguments that are drawn.
 
-use crate::procedures::{PROCEDURES, program_of};
+use crate::procedures::{procedures, program_of};
 use dsm_world::Step;
 use log_model::RequestId;
 use rand_core::utils::NextWord;
@@ -17,8 +17,9 @@ pub(crate) fn draw(generator: &mut Pcg32, end: u32) -> u32 {
 
 /// The number of a procedure of the catalogue.
 pub(crate) fn draw_listed(generator: &mut Pcg32) -> u16 {
-    let place = draw(generator, PROCEDURES.len() as u32) as usize;
-    PROCEDURES.get(place).map_or(0, |procedure| procedure.0)
+    let procedures = procedures();
+    let place = draw(generator, procedures.len() as u32) as usize;
+    procedures.get(place).map_or(0, |procedure| procedure.0)
 }
 
 /// A number that the catalogue may have or not.

@@ -1,22 +1,17 @@
 //! The procedures that calls of drawn worlds are of, and the programs of those that are added.
 
-use test_programs::{ADD, COUNT, DELETE, NEXT, PUT, PUT_AND_CANCEL, READ, SKEW};
+use test_programs::{PROCEDURES, PUT_AND_CANCEL, READ};
 
 /// The code with which `PUT_AND_CANCEL` cancels.
 pub(crate) const CANCEL_CODE: u64 = 9;
 
-/// The procedures of the catalogue: their numbers, each with its program and the number of words that it takes. The
-/// last two are never ordered.
-pub static PROCEDURES: [(u16, &str, usize); 8] = [
-    (1, ADD, 2),
-    (2, SKEW, 2),
-    (3, PUT, 2),
-    (4, COUNT, 3),
-    (5, NEXT, 3),
-    (6, DELETE, 1),
-    (8, READ, 1),
-    (9, PUT_AND_CANCEL, 2),
-];
+/// The procedures of the catalogue: their numbers, each with its program and the number of words that it takes. Those
+/// of `test_programs` come first. The last two are never ordered.
+pub fn procedures() -> [(u16, &'static str, usize); 8] {
+    let [add, skew, put, count, next, delete] = PROCEDURES;
+    let (read, cancel) = ((8, READ, 1), (9, PUT_AND_CANCEL, 2));
+    [add, skew, put, count, next, delete, read, cancel]
+}
 
 /// The place in the catalogue of the procedure that only reads.
 pub(crate) const READ_PLACE: usize = 6;
@@ -26,7 +21,7 @@ pub(crate) const CANCEL_PLACE: usize = 7;
 
 /// The place in the catalogue of the procedure of a number.
 fn catalogue_place(number: u16) -> Option<usize> {
-    PROCEDURES
+    procedures()
         .iter()
         .position(|procedure| procedure.0 == number)
 }
@@ -44,8 +39,8 @@ pub(crate) fn place_of(number: u16) -> usize {
 
 /// Returns the number of words that the program of a number takes, and the program.
 pub fn program_of(number: u16) -> (usize, &'static str) {
-    match PROCEDURES.get(place_of(number)) {
-        Some((_number, program, words)) => (*words, program),
+    match procedures().get(place_of(number)) {
+        Some((_number, program, words)) => (*words, *program),
         None => (0, ""),
     }
 }

@@ -3,13 +3,12 @@
 ghost use Rattle.std.specs.Prelude.{◌<◌, ◌^◌, length};
 
 use crate::history::{Call, History, Ordered};
-use crate::procedures::{PROCEDURES, program_of};
+use crate::procedures::{procedures, program_of};
 use plain_replayer::{
-    CompletedReplay, ItemReport, PlainCall, PlainItem, PlainItemKind, PlainSetting, Row, replay_log,
+    CompletedReplay, ItemReport, PlainCall, PlainItem, PlainItemKind, Row, replay_log,
 };
-use schema::Schema;
 use std::alloc::Global;
-use test_programs::{TABLES, digit_of, procedure_of};
+use test_programs::{procedure_of, setting_with};
 
 /// The log, which is short: a drawn world takes at most 2,000 steps.
 fn short(log: &[PlainItem]) -> &[PlainItem]
@@ -51,23 +50,11 @@ fn log_of(alloc: Global, history: &History) -> Option<Vec<PlainItem>> {
     Some(log)
 }
 
-/// The catalogue and the window as the plain replayer takes them.
-fn plain_setting(alloc: Global, window: u32) -> Option<PlainSetting> {
-    let mut catalogue = Vec::new(alloc);
-    for (number, program, words) in &PROCEDURES {
-        let name = digit_of(*number);
-        let procedure = procedure_of(alloc, &name, *number, program, *words)?;
-        catalogue.push(procedure).ok()?;
-    }
-    let schema = Schema::new(alloc, &TABLES).ok()?;
-    Some(PlainSetting::new(schema, catalogue, window))
-}
-
 /// The replay of what was ordered, fewer than 10,000 items, with this window. The answer is none where memory is
 /// wanting, or the history hasn't one of the calls.
 pub fn replay_of(alloc: Global, history: &History, window: u32) -> Option<CompletedReplay> {
     let log = log_of(alloc, history)?;
-    let setting = plain_setting(alloc, window)?;
+    let setting = setting_with(alloc, &procedures(), window)?;
     replay_log(alloc, &setting, short(&log)).ok()
 }
 

@@ -2,6 +2,7 @@
 
 use dsm_model::Outcome;
 use dsm_world::{Step, World};
+use log_model::Verdict;
 use std::alloc::{Allocator, Global};
 use std::fmt::{Debug, Write as _};
 use std::process::Abort;
@@ -70,6 +71,54 @@ fn run_script<A: Allocator + Copy>(
             told.push(*outcome).expect(rt, "memory");
         }
     }
+}
+
+/// Call 3 adds 7 at replica 2, to its end.
+static THIRD_CALL: [(Step<'static>, usize); 4] = [
+    (BEGIN_SEVEN, 1),
+    (Step::Turn { call: 3 }, 17),
+    (Step::Order { call: 3 }, 1),
+    (Step::Deliver { replica: 2 }, 1),
+];
+
+fn begun(call: u32, snapshot: u32) -> Outcome {
+    Outcome::Begun { call, snapshot }
+}
+
+fn delivered(position: u32, verdict: Verdict) -> Outcome {
+    Outcome::Delivered { position, verdict }
+}
+
+/// The answers of calls 1 and 2, which begin when nothing is delivered, come to these replies and are ordered.
+fn two_ordered(first: u64, second: u64) -> [Outcome; 6] {
+    [
+        begun(1, 0),
+        begun(2, 0),
+        Outcome::Exit { reply: first },
+        Outcome::Exit { reply: second },
+        Outcome::Ordered { position: 1 },
+        Outcome::Ordered { position: 2 },
+    ]
+}
+
+/// The answers of call 3, behind the two, where the row was 10.
+fn third_delivered() -> [Outcome; 4] {
+    [
+        begun(3, 2),
+        Outcome::Exit { reply: 17 },
+        Outcome::Ordered { position: 3 },
+        delivered(3, Verdict::Commit),
+    ]
+}
+
+/// Asserts that these are the answers of two calls, of what came between, and of the third call.
+fn are_told(rt: &impl Abort, told: &[Outcome], two: &[Outcome], between: &[Outcome]) {
+    let third = third_delivered();
+    let (first, rest) = told.split_at(two.len().min(told.len()));
+    let (second, last) = rest.split_at(between.len().min(rest.len()));
+    same(rt, "two calls", first, two);
+    same(rt, "between", second, between);
+    same(rt, "the third call", last, &third);
 }
 
 /// A replica in a line: its position, whether it is stopped, and its rows, each as table, key and bytes in hex.

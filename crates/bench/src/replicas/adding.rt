@@ -9,6 +9,7 @@ use log_model::Verdict;
 use row_sets::Bytes;
 use schema::Schema;
 use std::alloc::Global;
+use std::ops::Range;
 use std::sync::Arc;
 use test_replicas::CheckedReplica;
 
@@ -32,22 +33,27 @@ fn addition_of(alloc: Global, schema: &Schema, named: u64, number: u64) -> Optio
     }))
 }
 
-/// Delivers additions of the numbers from one to another, and returns the number that commit.
-fn deliver_new(
+/// Delivers additions under the names of these numbers, each under its remainder by `numbers`. Returns the number that
+/// commit, and the number that are refused because their number is taken.
+fn deliver_additions(
     alloc: Global,
     checked: &mut CheckedReplica,
     schema: &Schema,
-    from: u64,
-    to: u64,
-) -> Option<u64> {
+    names: Range<u64>,
+    numbers: u64,
+) -> Option<(u64, u64)> {
     let mut commits = 0u64;
-    for number in from..to {
-        let entry = addition_of(alloc, schema, number, number)?;
-        if matches!(deliver(checked, &entry)?, Verdict::Commit) {
-            commits = commits.wrapping_add(1);
+    let mut taken = 0u64;
+    for named in names {
+        let number = named.checked_rem(numbers).unwrap_or(0);
+        let entry = addition_of(alloc, schema, named, number)?;
+        match deliver(checked, &entry)? {
+            Verdict::Commit => commits = commits.wrapping_add(1),
+            Verdict::Taken(_) => taken = taken.wrapping_add(1),
+            _ => (),
         }
     }
-    Some(commits)
+    Some((commits, taken))
 }
 
 /// Adds `stored` procedures, and then `times` others. Returns the number that are stored.
@@ -55,29 +61,12 @@ pub(crate) fn additions(alloc: Global, stored: u64, times: u64) -> Option<u64> {
     let catalogue = catalogue_of(alloc)?;
     let mut checked = CheckedReplica::new(alloc, 4_096, &catalogue).ok()?;
     let to = stored.saturating_add(times);
-    deliver_new(alloc, &mut checked, catalogue.schema(), 0, to)
+    let (commits, _) = deliver_additions(alloc, &mut checked, catalogue.schema(), 0..to, to)?;
+    Some(commits)
 }
 
-/// Delivers `times` additions under new names and numbers that are taken. Returns the number that are refused for that.
-fn deliver_taken(
-    alloc: Global,
-    checked: &mut CheckedReplica,
-    schema: &Schema,
-    stored: u64,
-    times: u64,
-) -> Option<u64> {
-    let mut taken = 0u64;
-    for time in 0..times {
-        let number = time.checked_rem(stored).unwrap_or(0);
-        let entry = addition_of(alloc, schema, stored.saturating_add(time), number)?;
-        if matches!(deliver(checked, &entry)?, Verdict::Taken(_)) {
-            taken = taken.wrapping_add(1);
-        }
-    }
-    Some(taken)
-}
-
-/// Adds `stored` procedures, and then `times` under numbers that are taken.
+/// Adds `stored` procedures, and then `times` under new names and numbers that are taken. Returns how many were refused
+/// for that.
 fn add_and_take(
     alloc: Global,
     checked: &mut CheckedReplica,
@@ -85,8 +74,10 @@ fn add_and_take(
     stored: u64,
     times: u64,
 ) -> Option<u64> {
-    let _added = deliver_new(alloc, checked, schema, 0, stored)?;
-    deliver_taken(alloc, checked, schema, stored, times)
+    deliver_additions(alloc, checked, schema, 0..stored, stored)?;
+    let names = stored..stored.saturating_add(times);
+    let (_, taken) = deliver_additions(alloc, checked, schema, names, stored)?;
+    Some(taken)
 }
 
 /// Adds `stored` procedures, and then `times` times one whose number is taken. Returns how often it was.

@@ -67,23 +67,12 @@ pub(crate) fn catalogue_of(alloc: Global) -> Option<Catalogue> {
     Some(Catalogue::new(alloc, schema))
 }
 
-/// Puts a row at each key, and then `times` again.
-fn fill_and_deliver(
-    alloc: Global,
-    checked: &mut CheckedReplica,
-    keys: u64,
-    times: u64,
-) -> Option<u32> {
-    deliver_puts(alloc, checked, keys, keys)?;
-    deliver_puts(alloc, checked, keys, times)?;
-    Some(checked.replica().position())
-}
-
 /// Puts a row at each key, and then `times` again. Returns the position that is reached.
 pub(crate) fn deliveries(alloc: Global, keys: u64, times: u64) -> Option<u32> {
     let catalogue = catalogue_of(alloc)?;
     let mut checked = CheckedReplica::new(alloc, 4_096, &catalogue).ok()?;
-    fill_and_deliver(alloc, &mut checked, keys, times)
+    deliver_puts(alloc, &mut checked, keys, keys.saturating_add(times))?;
+    Some(checked.replica().position())
 }
 
 /// Tells whether a row is found at a key.

@@ -1,68 +1,15 @@
 use program_commands::{check_over, list_over, number_in, table};
 use scarce::Scarce;
 use std::alloc::Global;
-use std::io;
-use std::io::{ErrorKind, Read, Write};
 use std::process::Abort;
 use test_programs::{ADD, bytes_of};
+use test_streams::{Full, Input, Output};
 
 const EXIT: [u8; 8] = [0x95, 0, 0, 0, 0, 0, 0, 0];
 
-/// An input that gives its bytes and then fails, or ends.
-#[derive(Drop)]
-struct Input<'a> {
-    left: &'a [u8],
-    fails: bool,
-}
-
-impl Read for Input<'_> {
-    fn read(&mut self, buf: &mut [u8]) -> io::Result<usize> {
-        if self.left.is_empty() && self.fails {
-            return Err(io::Error::from(ErrorKind::Other));
-        }
-        self.left.read(buf)
-    }
-}
-
-/// An output that takes at most `room` bytes, at most `at_once` at a time, and then fails. Its flush may fail too.
-#[derive(Drop)]
-struct Output {
-    room: usize,
-    at_once: usize,
-    flushes: bool,
-    held: Vec<u8>,
-}
-
-impl Output {
-    fn new(alloc: Global, room: usize) -> Output {
-        Output {
-            room,
-            at_once: usize::MAX,
-            flushes: true,
-            held: Vec::new(alloc),
-        }
-    }
-}
-
-impl Write for Output {
-    fn write(&mut self, buf: &[u8]) -> io::Result<usize> {
-        if self.room == 0 {
-            return Err(io::Error::from(ErrorKind::Other));
-        }
-        let taken = buf.len().min(self.room).min(self.at_once);
-        let (front, _) = buf.split_at(taken);
-        self.held.extend_from_slice(front)?;
-        self.room -= taken;
-        Ok(taken)
-    }
-
-    fn flush(&mut self) -> io::Result<()> {
-        if self.flushes {
-            Ok(())
-        } else {
-            Err(io::Error::from(ErrorKind::Other))
-        }
-    }
+/// Makes an output with room for `room` bytes, which fails then.
+fn output_of(alloc: Global, room: usize) -> Output {
+    Output::new(alloc, room, usize::MAX, Full::Fails)
 }
 
 /// Returns an exit status, where a fault is told by it and by nothing else.
@@ -113,16 +60,25 @@ fn listed_exits(rt: &impl Abort, alloc: Global, count: usize) -> String {
     text
 }
 
+/// Makes an input that gives its bytes, and then fails, or ends.
+fn input_of(left: &[u8], fails: bool) -> Input<'_> {
+    let at_once = usize::MAX;
+    Input {
+        left,
+        at_once,
+        fails,
+    }
+}
+
 fn whole(left: &[u8]) -> Input<'_> {
-    Input { left, fails: false }
+    input_of(left, false)
 }
 
 /// Tells whether `count` instructions are listed whole by an output that takes `at_once` bytes at a time.
 fn is_listed(rt: &impl Abort, alloc: Global, count: usize, at_once: usize) -> bool {
     let program = exits(rt, alloc, count);
     let expected = listed_exits(rt, alloc, count);
-    let mut output = Output::new(alloc, usize::MAX);
-    output.at_once = at_once;
+    let output = Output::new(alloc, usize::MAX, at_once, Full::Fails);
     lists(alloc, whole(&program), output, 0, expected.as_bytes())
 }
 
@@ -143,7 +99,7 @@ fn a_program_is_listed(rt: HostRuntime) {
 
 /// Tells whether a listing leaves this in an output whose flush fails.
 fn leaves_unflushed(alloc: Global, program: &[u8], text: &[u8]) -> bool {
-    let mut output = Output::new(alloc, usize::MAX);
+    let mut output = output_of(alloc, usize::MAX);
     output.flushes = false;
     lists(alloc, whole(program), output, 3, text)
 }
@@ -153,7 +109,7 @@ fn try_rooms(rt: &impl Abort, alloc: Global, program: &[u8], text: &[u8]) {
     for room in 0..=text.len() {
         let status = if room < text.len() { 3 } else { 0 };
         let (front, _) = text.split_at(room);
-        let output = Output::new(alloc, room);
+        let output = output_of(alloc, room);
         let met = lists(alloc, whole(program), output, status, front);
         assert!(rt; met, "{room}");
     }
@@ -171,7 +127,7 @@ fn a_failing_output_answers_3(rt: HostRuntime) {
 
 /// Tells whether a program is refused by this line.
 fn is_refused(alloc: Global, program: &[u8], line: &[u8]) -> bool {
-    let output = Output::new(alloc, 1000);
+    let output = output_of(alloc, 1000);
     lists(alloc, whole(program), output, 1, line)
 }
 
@@ -187,12 +143,20 @@ fn a_refusal_is_one_line(rt: HostRuntime) {
 
 #[test]
 fn a_failing_input_answers_3(rt: HostRuntime) {
-    let input = Input {
-        left: &EXIT,
-        fails: true,
-    };
-    let output = Output::new(rt.alloc(), 1000);
+    let input = input_of(&EXIT, true);
+    let output = output_of(rt.alloc(), 1000);
     assert!(rt; lists(rt.alloc(), input, output, 3, b""));
+}
+
+/// Tells whether a command goes well. A command that doesn't ends with 3, prints nothing, and tells a fault.
+fn goes_well(rt: &impl Abort, status: u8, output: &Output, faults: &[u8]) -> bool {
+    if status == 0 {
+        return true;
+    }
+    assert_eq!(rt; status, 3);
+    assert!(rt; output.held.is_empty());
+    assert!(rt; !faults.is_empty());
+    false
 }
 
 /// The bytes and the slots are one growth each. Where one is refused nothing is printed, and a fault is told.
@@ -200,16 +164,10 @@ fn a_failing_input_answers_3(rt: HostRuntime) {
 fn each_growth_refused_answers_3(rt: HostRuntime) {
     let scarce = Scarce::new(rt.alloc());
     let failed = scarce.refuse_each(|| {
-        let mut output = Output::new(rt.alloc(), 1000);
+        let mut output = output_of(rt.alloc(), 1000);
         let mut faults = Vec::new(rt.alloc());
         let status = list_over(&scarce, &mut whole(&EXIT), &mut output, &mut faults);
-        if status == 0 {
-            return true;
-        }
-        assert_eq!(rt; status, 3);
-        assert!(rt; output.held.is_empty());
-        assert!(rt; !faults.is_empty());
-        false
+        goes_well(&rt, status, &output, &faults)
     });
     assert_eq!(rt; failed, Some(2));
 }
@@ -277,14 +235,13 @@ fn try_check(rt: &impl Abort, alloc: Global, bytes: &[u8], check: &Check) {
         (1, true, status),
         (usize::MAX, false, 3),
     ] {
-        let mut output = Output::new(alloc, usize::MAX);
-        output.at_once = at_once;
+        let mut output = Output::new(alloc, usize::MAX, at_once, Full::Fails);
         output.flushes = flushes;
         let met = leaves(alloc, whole(bytes), check, output, (status, line));
         assert!(rt; met, "{at_once} {flushes}");
     }
     for room in 0..line.len() {
-        let output = Output::new(alloc, room);
+        let output = output_of(alloc, room);
         let (beginning, _) = line.split_at(room);
         let met = leaves(alloc, whole(bytes), check, output, (3, beginning));
         assert!(rt; met, "{room}");
@@ -303,26 +260,17 @@ fn a_program_is_accepted_or_refused(rt: HostRuntime) {
 #[test]
 fn a_check_that_fails_answers_3(rt: HostRuntime) {
     let bytes = bytes_of(rt.alloc(), ADD).expect(&rt, ADD);
-    let input = Input {
-        left: &bytes,
-        fails: true,
-    };
-    let output = Output::new(rt.alloc(), 1000);
+    let input = input_of(&bytes, true);
+    let output = output_of(rt.alloc(), 1000);
     assert!(rt; leaves(rt.alloc(), input, &CHECKS[0], output, (3, b"")));
     let scarce = Scarce::new(rt.alloc());
     let failed = scarce.refuse_each(|| {
-        let mut output = Output::new(rt.alloc(), 1000);
+        let mut output = output_of(rt.alloc(), 1000);
         let mut faults = Vec::new(rt.alloc());
         let mut input = whole(&bytes);
         let tables = [(1, 8)];
         let status = check_over(&scarce, &mut input, &mut output, &mut faults, 16, &tables);
-        if status == 0 {
-            return true;
-        }
-        assert_eq!(rt; status, 3);
-        assert!(rt; output.held.is_empty());
-        assert!(rt; !faults.is_empty());
-        false
+        goes_well(&rt, status, &output, &faults)
     });
     assert_eq!(rt; failed, Some(6));
 }
@@ -347,13 +295,6 @@ const NUMBERS: [(&str, Option<u32>); 16] = [
     ("", None),
 ];
 
-#[test]
-fn numbers_are_words(rt: HostRuntime) {
-    for (word, number) in &NUMBERS {
-        assert_eq!(rt; number_in(word, 0, 256), *number, "{word}");
-    }
-}
-
 /// Words, and the table with its width that they are.
 const PAIRS: [(&str, Option<(u8, u16)>); 16] = [
     ("1:8", Some((1, 8))),
@@ -375,7 +316,10 @@ const PAIRS: [(&str, Option<(u8, u16)>); 16] = [
 ];
 
 #[test]
-fn tables_are_words(rt: HostRuntime) {
+fn numbers_and_tables_are_words(rt: HostRuntime) {
+    for (word, number) in &NUMBERS {
+        assert_eq!(rt; number_in(word, 0, 256), *number, "{word}");
+    }
     for (word, pair) in &PAIRS {
         assert_eq!(rt; table(word), *pair, "{word}");
     }

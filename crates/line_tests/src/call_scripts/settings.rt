@@ -1,3 +1,4 @@
+use crate::growths::refuse_in_turn;
 use scarce::Scarce;
 use script::{FaultCause, ScriptFault, Settings, Statement, statement};
 use std::alloc::{Allocator, Global};
@@ -147,17 +148,5 @@ fn are_set<A: Allocator + Copy>(alloc: A) -> Option<bool> {
 #[test]
 fn growths_are_refused_in_turn(rt: HostRuntime) {
     let scarce = Scarce::new(rt.alloc());
-    let mut failed = 0;
-    for growth in 1..500 {
-        scarce.refuse_nth(growth);
-        let set = are_set(&scarce);
-        assert!(rt; set.is_some(), "{growth}");
-        if set == Some(false) {
-            failed = growth;
-        }
-        if scarce.refused() < growth {
-            break;
-        }
-    }
-    assert!(rt; failed > 0 && failed < 499, "{failed}");
+    refuse_in_turn(&rt, &scarce, 500, || are_set(&scarce));
 }

@@ -1,8 +1,8 @@
 use bpf_bytes::{DecodeCause, DecodeFault};
 use bpf_verify::Cause;
 use dsm_model::{Outcome, StepRefusal};
-use log_model::{Identifier, Verdict};
-use node_calls::{Answer, CallRefusal};
+use log_model::{CallRefusal, Identifier, Verdict};
+use node_calls::Answer;
 use program_checks::ProgramFault;
 use report::{
     CallReport, DeliveredEntry, Line, LoggedEntry, ReplicaReport, add_line, call_line, line,
@@ -327,10 +327,7 @@ static ANSWERS: [(Answer, &str); 13] = [
     (Answer::NoMemory, "call 2 no memory\n"),
     (Answer::Full, "call 2 full\n"),
     (Answer::Stopped { position: 5 }, "call 2 stopped 5\n"),
-    (
-        Answer::Refused(CallRefusal::NoReplica),
-        "call 2 refused P1\n",
-    ),
+    (Answer::NoReplica, "call 2 refused P1\n"),
     (
         Answer::Refused(CallRefusal::NoProcedure),
         "call 2 refused P2\n",
@@ -437,43 +434,56 @@ fn lines_are_printed(rt: HostRuntime) {
     }
 }
 
+/// Asserts that the delivery of an entry at replica 1 is printed as the first text, and the certified entry as the
+/// second. The verdict stands behind the number of comparisons that it took.
+fn has_lines(
+    rt: &impl Abort,
+    alloc: Global,
+    delivered: DeliveredEntry,
+    logged: LoggedEntry,
+    verdict: (u64, Verdict),
+    texts: (&str, &str),
+) {
+    let (compared, verdict) = verdict;
+    let report = ReplicaReport::Delivered {
+        position: logged.position,
+        verdict,
+        entry: delivered,
+    };
+    let row = Line::Replica { replica: 1, report };
+    assert!(rt; is_printed(rt, alloc, &row, texts.0), "{}", texts.0);
+    let row = Line::Certified {
+        entry: logged,
+        compared,
+        verdict,
+    };
+    assert!(rt; is_printed(rt, alloc, &row, texts.1), "{}", texts.1);
+}
+
 #[test]
 fn certified_entries_have_their_lines(rt: HostRuntime) {
     for (position, compared, verdict, reply, delivered, logged) in &CALLS_OF_THE_LOG {
-        let report = ReplicaReport::Delivered {
-            position: *position,
-            verdict: *verdict,
-            entry: DeliveredEntry::Call { reply: *reply },
-        };
-        let row = Line::Replica { replica: 1, report };
-        assert!(rt; is_printed(&rt, rt.alloc(), &row, delivered), "{delivered}");
-        let row = Line::Certified {
-            entry: LoggedEntry {
-                position: *position,
-                ..CALL
-            },
-            compared: *compared,
-            verdict: *verdict,
-        };
-        assert!(rt; is_printed(&rt, rt.alloc(), &row, logged), "{logged}");
+        let entry = DeliveredEntry::Call { reply: *reply };
+        let position = *position;
+        let call = LoggedEntry { position, ..CALL };
+        let verdict = (*compared, *verdict);
+        has_lines(&rt, rt.alloc(), entry, call, verdict, (delivered, logged));
     }
     for (position, verdict, delivered, logged) in &ADDITIONS_OF_THE_LOG {
-        let report = ReplicaReport::Delivered {
-            position: *position,
-            verdict: *verdict,
-            entry: DeliveredEntry::Addition { procedure: 9 },
+        let entry = DeliveredEntry::Addition { procedure: 9 };
+        let position = *position;
+        let added = LoggedEntry {
+            position,
+            ..ADDITION
         };
-        let row = Line::Replica { replica: 1, report };
-        assert!(rt; is_printed(&rt, rt.alloc(), &row, delivered), "{delivered}");
-        let row = Line::Certified {
-            entry: LoggedEntry {
-                position: *position,
-                ..ADDITION
-            },
-            compared: 0,
-            verdict: *verdict,
-        };
-        assert!(rt; is_printed(&rt, rt.alloc(), &row, logged), "{logged}");
+        has_lines(
+            &rt,
+            rt.alloc(),
+            entry,
+            added,
+            (0, *verdict),
+            (delivered, logged),
+        );
     }
 }
 

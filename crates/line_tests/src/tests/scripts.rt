@@ -1,3 +1,4 @@
+use crate::growths::refuse_in_turn;
 use row_sets::Bytes;
 use scarce::Scarce;
 use script::{Action, LineFault, MAX_LINE, Next, Statement, next_line, statement};
@@ -174,15 +175,14 @@ fn given<A: Allocator>(statement: &Statement<Bytes<A>>) -> Option<Given<'_>> {
             args.as_slice(),
             [*replica, *session, *sequence],
         )),
-        Action::Add {
-            name,
-            number,
-            args_len,
-            program,
-        } => Some((
-            name.as_slice(),
-            program.as_slice(),
-            [0, u32::from(*number), u32::from(*args_len)],
+        Action::Add(procedure) => Some((
+            procedure.name.as_slice(),
+            procedure.program.as_slice(),
+            [
+                0,
+                u32::from(procedure.number),
+                u32::from(procedure.args_len),
+            ],
         )),
         _ => None,
     }
@@ -202,19 +202,7 @@ fn is_read<A: Allocator + Copy>(alloc: A, line: &[u8], expected: &Given<'_>) -> 
 fn growths_are_refused_in_turn(rt: HostRuntime) {
     for (line, expected) in &GIVEN {
         let scarce = Scarce::new(rt.alloc());
-        let mut failed = 0;
-        for growth in 1..100 {
-            scarce.refuse_nth(growth);
-            let read = is_read(&scarce, line, expected);
-            assert!(rt; read.is_some(), "{growth}");
-            if read == Some(false) {
-                failed = growth;
-            }
-            if scarce.refused() < growth {
-                break;
-            }
-        }
-        assert!(rt; failed > 0 && failed < 99, "{failed}");
+        refuse_in_turn(&rt, &scarce, 100, || is_read(&scarce, line, expected));
     }
 }
 

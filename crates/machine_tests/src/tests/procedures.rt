@@ -21,7 +21,7 @@ struct Case {
     outcome: &'static str,
 }
 
-static CASES: [Case; 18] = [
+static CASES: [Case; 16] = [
     Case {
         program: ONE,
         args: &[],
@@ -106,24 +106,6 @@ static CASES: [Case; 18] = [
         rows: &[(1, 5, 1)],
         outcome: "3 in 13 put 1:5=0300000000000000",
     },
-    Case {
-        program: INDEX,
-        args: &[
-            248, 1, 2, 3, 4, 5, 6, 7, 8, 9, 10, 11, 12, 13, 14, 15, 16, 17, 18, 19, 20, 21, 22, 23,
-            24, 25, 26, 27, 28, 29, 30, 31,
-        ],
-        rows: &[],
-        outcome: "31 in 5",
-    },
-    Case {
-        program: INDEX,
-        args: &[
-            249, 1, 2, 3, 4, 5, 6, 7, 8, 9, 10, 11, 12, 13, 14, 15, 16, 17, 18, 19, 20, 21, 22, 23,
-            24, 25, 26, 27, 28, 29, 30, 31,
-        ],
-        rows: &[],
-        outcome: "0 in 4",
-    },
     // A row of two bytes, the last of the stack.
     Case {
         program: INCREMENT,
@@ -182,22 +164,53 @@ fn plain_run(
 }
 
 /// Asserts that a call comes to its outcome on the machine, both ways, and by the definition.
-fn assert_outcome(rt: &impl Abort, alloc: Global, case: &Case) {
-    let rows = rows_of(rt, alloc, case.rows);
-    let (procedure, args) = procedure_of(rt, alloc, case.program, case.args);
+fn assert_outcome(
+    rt: &impl Abort,
+    alloc: Global,
+    program: &str,
+    args: &[u64],
+    rows: &[(u8, u64, u64)],
+    outcome: &str,
+) {
+    let rows = rows_of(rt, alloc, rows);
+    let (procedure, args) = procedure_of(rt, alloc, program, args);
     let run = plain_run(rt, alloc, &procedure, &args, &rows);
     let turns = line_of_turns(rt, alloc, &procedure, &args, &rows);
     let call = line_of_call(rt, alloc, &procedure, &args, &rows, run.steps());
     let plain = described_run(rt, alloc, &run);
     for line in [&turns, &call, &plain] {
-        same(rt, case.program, line.as_str(), case.outcome);
+        same(rt, program, line.as_str(), outcome);
     }
 }
 
 #[test]
 fn calls_answer_what_their_runs_do(rt: HostRuntime) {
     for case in &CASES {
-        assert_outcome(&rt, rt.alloc(), case);
+        let Case {
+            program,
+            args,
+            rows,
+            outcome,
+        } = case;
+        assert_outcome(&rt, rt.alloc(), program, args, rows, outcome);
+    }
+}
+
+/// The first word of the arguments of `INDEX`, the last place that has eight bytes and the next, and what comes of it.
+static INDEX_ENDS: [(u64, &str); 2] = [(248, "31 in 5"), (249, "0 in 4")];
+
+/// Words of which each is its number.
+static WORDS: [u64; 32] = [
+    0, 1, 2, 3, 4, 5, 6, 7, 8, 9, 10, 11, 12, 13, 14, 15, 16, 17, 18, 19, 20, 21, 22, 23, 24, 25,
+    26, 27, 28, 29, 30, 31,
+];
+
+#[test]
+fn arguments_end_at_their_last_byte(rt: HostRuntime) {
+    for (first, outcome) in &INDEX_ENDS {
+        let mut words = WORDS;
+        words[0] = *first;
+        assert_outcome(&rt, rt.alloc(), INDEX, &words, &[], outcome);
     }
 }
 

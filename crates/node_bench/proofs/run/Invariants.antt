@@ -3,7 +3,7 @@ use Rattle.node_bench.proofs.run.Given as goal
 
 -- the node whose log's cells and ledgers were just made, of this catalogue and window
 abbrev pub ghosts-use_node-J-LogSetting : goal.ghosts-use_node-J-LogSetting
-ghosts-use_node-J-LogSetting g a = record { setting = record { tables = a.catalogue.tables; catalogue = a.catalogue.procedures; window = a.window } }
+ghosts-use_node-J-LogSetting g a = record { setting = record { tables = a.catalogue.tables; catalogue = a.catalogue.procedures; window = a.load.window } }
 
 abbrev pub ghosts-use_node-J-LogIdentity : goal.ghosts-use_node-J-LogIdentity
 ghosts-use_node-J-LogIdentity g a = record { groups = a.cells }

@@ -23,6 +23,17 @@ struct Crowd {
 }
 
 impl Crowd {
+    fn new(appending: u32, each: u32, reading: u32, limit: u32) -> Crowd
+        ensures { result.limit ≡ limit }
+    {
+        Crowd {
+            appending,
+            each,
+            reading,
+            limit,
+        }
+    }
+
     /// Returns the number of entries that go in.
     fn entries(&self) -> u32 {
         self.limit.min(self.appending.saturating_mul(self.each))
@@ -178,38 +189,29 @@ fn try_crowd<J: LogIdentity + Send + Sync, R: Threads + Wait + Abort + Sync>(
     Ok(())
 }
 
+/// Makes a log of the crowd's limit, and has the crowd append to the log and read along.
+fn run_crowd<R: Threads + Wait + Abort + Sync>(
+    rt: &R,
+    alloc: Global,
+    crowd: Crowd,
+) -> Result<(), Fail>
+    requires limit { (1 ≤ crowd.limit) × (crowd.limit ≤ 1048576) }
+{
+    let cells = GroupCells::new(alloc)?;
+    try_crowd::<Brand, _>(rt, alloc, cells, crowd)
+}
+
 #[test]
 fn four_threads_append_while_two_read(rt: HostRuntime) -> Result<(), Fail> {
-    let cells = GroupCells::new(rt.alloc())?;
-    let crowd = Crowd {
-        appending: 4,
-        each: 1_000,
-        reading: 2,
-        limit: 1_048_576,
-    };
-    try_crowd::<Brand, _>(&rt, rt.alloc(), cells, crowd)
+    run_crowd(&rt, rt.alloc(), Crowd::new(4, 1_000, 2, 1_048_576))
 }
 
 #[test]
 fn a_full_log_refuses_the_rest(rt: HostRuntime) -> Result<(), Fail> {
-    let cells = GroupCells::new(rt.alloc())?;
-    let crowd = Crowd {
-        appending: 4,
-        each: 1_000,
-        reading: 2,
-        limit: 3_000,
-    };
-    try_crowd::<Brand, _>(&rt, rt.alloc(), cells, crowd)
+    run_crowd(&rt, rt.alloc(), Crowd::new(4, 1_000, 2, 3_000))
 }
 
 #[test]
 fn sixteen_threads_append(rt: HostRuntime) -> Result<(), Fail> {
-    let cells = GroupCells::new(rt.alloc())?;
-    let crowd = Crowd {
-        appending: 16,
-        each: 6_250,
-        reading: 0,
-        limit: 1_048_576,
-    };
-    try_crowd::<Brand, _>(&rt, rt.alloc(), cells, crowd)
+    run_crowd(&rt, rt.alloc(), Crowd::new(16, 6_250, 0, 1_048_576))
 }

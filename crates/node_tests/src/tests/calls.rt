@@ -1,9 +1,9 @@
 //! The questions of callers, and the answers that they have to get.
 
-use log_model::{RequestId, Verdict};
+use log_model::{CallRefusal, RequestId, Verdict};
 use node::{Added, ProgramRefusal};
-use node_calls::{Answer, CallRefusal};
-use test_nodes::{Addition, Asking, Told, Words};
+use node_calls::Answer;
+use test_nodes::{Addition, AskedCall, Asking, Told, Words};
 
 const ADD: u16 = 1;
 
@@ -14,26 +14,13 @@ const ONE: u16 = 9;
 /// The number of callers where several call at once.
 pub(crate) const CALLERS: usize = 8;
 
-const fn args_of(first: u8, second: u8) -> Words {
+fn args_of(first: u8, second: u8) -> Words {
     Words {
         count: 2,
         first,
         second,
     }
 }
-
-const NO_ARGS: Words = Words {
-    count: 0,
-    first: 0,
-    second: 0,
-};
-
-/// Arguments that add 1 to row 5.
-const ADD_ONE: Words = Words {
-    count: 2,
-    first: 5,
-    second: 1,
-};
 
 /// Arguments that add 10 to row 5.
 const ADD_TEN: Words = Words {
@@ -52,9 +39,7 @@ fn call_of(row: &Row) -> Asking {
     Asking::Call {
         replica,
         least,
-        procedure,
-        words,
-        request,
+        call: AskedCall::new(procedure, words, request),
     }
 }
 
@@ -80,19 +65,22 @@ pub(crate) fn is_as_in(rows: &[Row], index: usize, told: &Told) -> bool {
 
 /// A call of a session at the first replica.
 fn in_session(procedure: u16, words: Words, request: Option<RequestId>) -> Option<Asking> {
-    Some(Asking::InSession {
-        replica: 1,
-        procedure,
-        words,
-        request,
-    })
+    let call = AskedCall::new(procedure, words, request);
+    Some(Asking::InSession { replica: 1, call })
 }
 
 /// A thousand additions of 1 at one replica by one session, and then a call that only replies.
 pub(crate) fn one_session(index: usize) -> Option<Asking> {
     match index {
-        0..=999 => in_session(ADD, ADD_ONE, None),
-        1_000 => in_session(ONE, NO_ARGS, None),
+        0..=999 => in_session(ADD, args_of(5, 1), None),
+        1_000 => {
+            let none = Words {
+                count: 0,
+                first: 0,
+                second: 0,
+            };
+            in_session(ONE, none, None)
+        }
         _ => None,
     }
 }
@@ -118,9 +106,7 @@ fn call_at_first(procedure: u16, words: Words) -> Option<Asking> {
     Some(Asking::Call {
         replica: 1,
         least: 0,
-        procedure,
-        words,
-        request: None,
+        call: AskedCall::new(procedure, words, None),
     })
 }
 
@@ -202,9 +188,7 @@ pub(crate) fn often_add(replicas: u32, place: usize, index: usize) -> Option<Ask
     }
     Some(Asking::InSession {
         replica: replica_of(place, replicas),
-        procedure: ADD,
-        words: ADD_ONE,
-        request: None,
+        call: AskedCall::new(ADD, args_of(5, 1), None),
     })
 }
 
@@ -214,12 +198,11 @@ pub(crate) fn often_put(replicas: u32, place: usize, index: usize) -> Option<Ask
         return None;
     }
     let key = place.wrapping_mul(OFTEN).wrapping_add(index);
+    let words = args_of(u8::try_from(key).unwrap_or(0), 1);
     Some(Asking::Call {
         replica: replica_of(place, replicas),
         least: 0,
-        procedure: PUT,
-        words: args_of(u8::try_from(key).unwrap_or(0), 1),
-        request: None,
+        call: AskedCall::new(PUT, words, None),
     })
 }
 
@@ -341,22 +324,8 @@ const NO_SESSION: RequestId = RequestId {
 
 /// The calls that are refused, or are behind.
 pub(crate) static REFUSALS: [Row; 7] = [
-    (
-        0,
-        0,
-        ADD,
-        ADD_TEN,
-        None,
-        Answer::Refused(CallRefusal::NoReplica),
-    ),
-    (
-        3,
-        9,
-        77,
-        ADD_TEN,
-        None,
-        Answer::Refused(CallRefusal::NoReplica),
-    ),
+    (0, 0, ADD, ADD_TEN, None, Answer::NoReplica),
+    (3, 9, 77, ADD_TEN, None, Answer::NoReplica),
     (
         1,
         0,

@@ -1,6 +1,6 @@
 //! Replicas where a growth is refused: each growth of a rebuilding and of a list of the rows in turn.
 
-use super::states::{State, is_in};
+use super::states::{ONE_PUT, State, is_in};
 use catalogue::Catalogue;
 use log_entry::Entry;
 use log_model::Verdict;
@@ -24,16 +24,6 @@ const DELIVERIES: [EntryCase; 7] = [
     EntryCase::Numbered(7, 1, 4, 9, 9, 3, Some(50)),
     EntryCase::Numbered(7, 1, 0, 9, 9, 4, Some(60)),
 ];
-
-/// The state after the first entry.
-const FIRST: State = State {
-    verdicts: &[Verdict::Commit],
-    first: Some(10),
-    second: None,
-    listed: (1, 10),
-    procedures: 1,
-    one: None,
-};
 
 /// The state after all entries.
 const ALL: State = State {
@@ -93,7 +83,7 @@ fn refuse_rebuilding<A: Allocator + Copy>(
     entries: &[Entry],
 ) -> (u64, bool) {
     for growth in 1..MOST {
-        if !is_in(alloc, checked.replica(), &FIRST, true) {
+        if !is_in(alloc, checked.replica(), &ONE_PUT, true) {
             return (growth, false);
         }
         if rebuilt(scarce, checked, entries, growth) == Some(7) {

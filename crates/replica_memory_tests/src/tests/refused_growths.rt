@@ -1,6 +1,6 @@
 //! A replica that finds no memory for an entry: each growth of a delivery is refused in turn.
 
-use super::states::{State, is_in};
+use super::states::{ONE_PUT, State, is_in};
 use catalogue::Catalogue;
 use log_entry::Entry;
 use log_model::{Identifier, Verdict};
@@ -12,12 +12,13 @@ use std::process::Abort;
 use test_programs::{EntryCase, ONE, addition_of, entries_of, entry_of, small_catalogue};
 use test_replicas::CheckedReplica;
 
-/// Entries, of which the last is delivered with a growth refused, and the number of growths of that delivery. Seven
+/// Entries, then one that is delivered with a growth refused, and the number of growths of that delivery. Seven
 /// growths make room for the key of a write where there is none (its row lies beside it). Four make room for requests
 /// or procedures where there is none. One is for a name, and one at times for the verdict. The states are what the
 /// replica says of itself before the last entry and after it.
 struct RefusedCase {
     entries: &'static [EntryCase],
+    last: EntryCase,
     growths: u64,
     before: State,
     after: State,
@@ -53,22 +54,23 @@ const THREE: State = State {
     one: Some(9),
 };
 
+/// A put of 10 at key 1 and the addition of `one`, after which the state is `TWO`.
+const PUT_AND_ADDITION: [EntryCase; 2] = [
+    EntryCase::Numbered(7, 1, 0, 5, 5, 1, Some(10)),
+    EntryCase::Addition(b"one", 9),
+];
+
 static CASES: [RefusedCase; 8] = [
     RefusedCase {
-        entries: &[EntryCase::Call(0, 5, 5, 1, Some(10))],
+        entries: &[],
+        last: EntryCase::Call(0, 5, 5, 1, Some(10)),
         growths: 7,
         before: EMPTY,
-        after: State {
-            verdicts: &[Verdict::Commit],
-            first: Some(10),
-            second: None,
-            listed: (1, 10),
-            procedures: 1,
-            one: None,
-        },
+        after: ONE_PUT,
     },
     RefusedCase {
-        entries: &[EntryCase::Numbered(7, 1, 0, 5, 5, 2, Some(10))],
+        entries: &[],
+        last: EntryCase::Numbered(7, 1, 0, 5, 5, 2, Some(10)),
         growths: 11,
         before: EMPTY,
         after: State {
@@ -81,7 +83,8 @@ static CASES: [RefusedCase; 8] = [
         },
     },
     RefusedCase {
-        entries: &[EntryCase::Addition(b"one", 9)],
+        entries: &[],
+        last: EntryCase::Addition(b"one", 9),
         growths: 2,
         before: EMPTY,
         after: State {
@@ -94,7 +97,8 @@ static CASES: [RefusedCase; 8] = [
         },
     },
     RefusedCase {
-        entries: &[EntryCase::Addition(b"one", 1)],
+        entries: &[],
+        last: EntryCase::Addition(b"one", 1),
         growths: 1,
         before: EMPTY,
         after: State {
@@ -107,32 +111,23 @@ static CASES: [RefusedCase; 8] = [
         },
     },
     RefusedCase {
-        entries: &[
-            EntryCase::Numbered(7, 1, 0, 5, 5, 1, Some(10)),
-            EntryCase::Addition(b"one", 9),
-            EntryCase::Call(2, 5, 5, 2, Some(20)),
-        ],
+        entries: &PUT_AND_ADDITION,
+        last: EntryCase::Call(2, 5, 5, 2, Some(20)),
         growths: 1,
         before: TWO,
         after: THREE,
     },
     RefusedCase {
-        entries: &[
-            EntryCase::Numbered(7, 1, 0, 5, 5, 1, Some(10)),
-            EntryCase::Addition(b"one", 9),
-            EntryCase::Numbered(7, 2, 2, 5, 5, 2, Some(20)),
-        ],
+        entries: &PUT_AND_ADDITION,
+        last: EntryCase::Numbered(7, 2, 2, 5, 5, 2, Some(20)),
         growths: 1,
         before: TWO,
         after: THREE,
     },
     // The writes of a repeated call are prepared, though they aren't installed.
     RefusedCase {
-        entries: &[
-            EntryCase::Numbered(7, 1, 0, 5, 5, 1, Some(10)),
-            EntryCase::Addition(b"one", 9),
-            EntryCase::Numbered(7, 1, 0, 5, 5, 2, Some(20)),
-        ],
+        entries: &PUT_AND_ADDITION,
+        last: EntryCase::Numbered(7, 1, 0, 5, 5, 2, Some(20)),
         growths: 1,
         before: TWO,
         after: State {
@@ -148,8 +143,8 @@ static CASES: [RefusedCase; 8] = [
         entries: &[
             EntryCase::Numbered(7, 1, 0, 5, 5, 1, Some(10)),
             EntryCase::Addition(b"two", 10),
-            EntryCase::Addition(b"one", 9),
         ],
+        last: EntryCase::Addition(b"one", 9),
         growths: 1,
         before: State {
             verdicts: &[Verdict::Commit, Verdict::Commit],
@@ -293,7 +288,9 @@ fn refused_of(
     case: &RefusedCase,
     outcome: Came,
 ) -> Option<u64> {
-    let entries = entries_of(alloc, catalogue.schema(), case.entries).expect(rt, "memory");
+    let schema = catalogue.schema();
+    let mut entries = entries_of(alloc, schema, case.entries).expect(rt, "memory");
+    push(rt, &mut entries, entry_of(alloc, schema, case.last));
     refused_among(alloc, catalogue, &entries, case, outcome)
 }
 

@@ -18,6 +18,16 @@ pub(super) struct State {
     pub one: Option<u16>,
 }
 
+/// The state after one put of 10 at key 1.
+pub(super) const ONE_PUT: State = State {
+    verdicts: &[Verdict::Commit],
+    first: Some(10),
+    second: None,
+    listed: (1, 10),
+    procedures: 1,
+    one: None,
+};
+
 fn counted(rows: &[Row]) -> (usize, u64) {
     let mut sum = 0u64;
     for row in rows {

@@ -18,6 +18,10 @@ struct LogCase {
     procedures: &'static [(&'static [u8], u16)],
 }
 
+const NAME_TAKEN: Verdict = Verdict::Taken(Identifier::Name);
+
+const NUMBER_TAKEN: Verdict = Verdict::Taken(Identifier::Number);
+
 static LOGS: [LogCase; 3] = [
     // A program of another language told these outcomes.
     LogCase {
@@ -55,51 +59,19 @@ static LOGS: [LogCase; 3] = [
     LogCase {
         window: 2,
         steps: &[
-            (
-                EntryCase::Addition(b"1", 1),
-                Verdict::Taken(Identifier::Name),
-                0,
-            ),
-            (
-                EntryCase::Addition(b"1", 9),
-                Verdict::Taken(Identifier::Name),
-                0,
-            ),
-            (
-                EntryCase::Addition(b"one", 1),
-                Verdict::Taken(Identifier::Number),
-                0,
-            ),
+            (EntryCase::Addition(b"1", 1), NAME_TAKEN, 0),
+            (EntryCase::Addition(b"1", 9), NAME_TAKEN, 0),
+            (EntryCase::Addition(b"one", 1), NUMBER_TAKEN, 0),
             (EntryCase::Addition(b"one", 9), Verdict::Commit, 0),
-            (
-                EntryCase::Addition(b"one", 9),
-                Verdict::Taken(Identifier::Name),
-                0,
-            ),
-            (
-                EntryCase::Addition(b"two", 9),
-                Verdict::Taken(Identifier::Number),
-                0,
-            ),
-            (
-                EntryCase::Addition(b"one", 10),
-                Verdict::Taken(Identifier::Name),
-                0,
-            ),
+            (EntryCase::Addition(b"one", 9), NAME_TAKEN, 0),
+            (EntryCase::Addition(b"two", 9), NUMBER_TAKEN, 0),
+            (EntryCase::Addition(b"one", 10), NAME_TAKEN, 0),
             (EntryCase::Addition(b"two", 10), Verdict::Commit, 0),
-            (
-                EntryCase::Addition(b"1", 10),
-                Verdict::Taken(Identifier::Name),
-                0,
-            ),
+            (EntryCase::Addition(b"1", 10), NAME_TAKEN, 0),
             (EntryCase::Addition(b"One", 65_535), Verdict::Commit, 0),
             (EntryCase::Call(7, 5, 5, 5, Some(1)), Verdict::Stale, 0),
             (EntryCase::Call(9, 5, 5, 5, Some(2)), Verdict::Commit, 0),
-            (
-                EntryCase::Addition(b"Two", 1),
-                Verdict::Taken(Identifier::Number),
-                0,
-            ),
+            (EntryCase::Addition(b"Two", 1), NUMBER_TAKEN, 0),
         ],
         rows: &[(10, 5, None), (11, 5, Some(None)), (13, 5, Some(Some(2)))],
         procedures: &[(b"1", 1), (b"one", 9), (b"two", 10), (b"One", 65_535)],

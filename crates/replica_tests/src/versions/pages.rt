@@ -58,6 +58,13 @@ fn remove_all(rt: &impl Abort, alloc: Global, checked: &mut CheckedVersions) {
     }
 }
 
+/// Puts all keys and removes them again, and returns what putting them returned.
+fn put_and_remove_all(rt: &impl Abort, alloc: Global, checked: &mut CheckedVersions) -> usize {
+    let seen = put_all(rt, alloc, checked);
+    remove_all(rt, alloc, checked);
+    seen
+}
+
 /// Returns the number of pages that are left where a position is the oldest that is kept.
 fn pages_from(checked: &mut CheckedVersions, position: u32) -> usize {
     checked.prune(position);
@@ -68,8 +75,7 @@ fn pages_from(checked: &mut CheckedVersions, position: u32) -> usize {
 fn pages_are_split_when_they_are_full(rt: HostRuntime) {
     let schema = Schema::new(rt.alloc(), &TABLES).expect(&rt, "memory");
     let mut checked = CheckedVersions::new(rt.alloc(), &schema).expect(&rt, "memory");
-    let seen = put_all(&rt, rt.alloc(), &mut checked);
-    remove_all(&rt, rt.alloc(), &mut checked);
+    let seen = put_and_remove_all(&rt, rt.alloc(), &mut checked);
     let left = [
         pages_from(&mut checked, 1_000),
         pages_from(&mut checked, 1_001),
@@ -94,8 +100,7 @@ fn pages_in_turn(checked: &mut CheckedVersions, position: u32) -> ([usize; 32], 
 fn pages_are_pruned_one_at_a_time(rt: HostRuntime) {
     let schema = Schema::new(rt.alloc(), &TABLES).expect(&rt, "memory");
     let mut checked = CheckedVersions::new(rt.alloc(), &schema).expect(&rt, "memory");
-    let seen = put_all(&rt, rt.alloc(), &mut checked);
-    remove_all(&rt, rt.alloc(), &mut checked);
+    let seen = put_and_remove_all(&rt, rt.alloc(), &mut checked);
     let kept = pages_in_turn(&mut checked, 1_000);
     let (left, ends) = pages_in_turn(&mut checked, 1_001);
     let expected: [usize; 32] = [

@@ -242,6 +242,20 @@ pub(super) fn replies(rt: &impl Abort, alloc: Global, form: &Form, cases: &[Case
     }
 }
 
+/// Asserts that steps where no form is tried come to what is wanted. A failure tells a name and a number.
+pub(super) fn comes_to(
+    rt: &impl Abort,
+    alloc: Global,
+    case: (&str, usize),
+    steps: &[Step],
+    wanted: &Wanted,
+) {
+    let (name, number) = case;
+    let found = try_steps(rt, alloc, &NO_FORM, steps);
+    let wanted = wanted_of(wanted, &NO_FORM);
+    same(rt, name, (number, found), (number, wanted));
+}
+
 fn try_steps(rt: &impl Abort, alloc: Global, form: &Form, steps: &[Step]) -> Option<u64> {
     let program = program_of(rt, alloc, form, steps);
     reply_of(rt, alloc, &program)

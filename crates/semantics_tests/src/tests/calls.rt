@@ -2,26 +2,28 @@
 
 use super::assembly::Step::{Add, Call, Copy, Push, Set};
 use super::assembly::Wanted::{Gives, Stuck};
-use super::assembly::{Case, NO_FORM, Step, program_of, replace, replies, reply_of};
+use super::assembly::{
+    Case, NO_FORM, Step, Wanted, comes_to, program_of, replace, replies, reply_of,
+};
 use super::same;
 use std::alloc::Global;
 use std::process::Abort;
 
 /// A call with all that leads to it, and where in it the arguments are set: the table in one slot,
-/// each number in one, and each buffer of the stack in two.
+/// each number in one, and each buffer of the stack in two. A number and a buffer stand with their registers.
 struct HelperCall {
     slots: &'static [Step],
     table: usize,
-    numbers: &'static [(usize, Others)],
-    buffers: &'static [(usize, Others)],
+    numbers: &'static [(usize, u8)],
+    buffers: &'static [(usize, u8)],
 }
 
 static CALLS: [HelperCall; 5] = [
     HelperCall {
         slots: &[Set(2, 5), Copy(3, 10), Add(3, -8), Set(1, 1), Call(1)],
         table: 3,
-        numbers: &[(0, NO_NUMBERS_IN_R2)],
-        buffers: &[(1, NO_BUFFERS_IN_R3)],
+        numbers: &[(0, 2)],
+        buffers: &[(1, 3)],
     },
     HelperCall {
         slots: &[
@@ -33,19 +35,19 @@ static CALLS: [HelperCall; 5] = [
             Call(2),
         ],
         table: 4,
-        numbers: &[(1, NO_NUMBERS_IN_R2)],
-        buffers: &[(2, NO_BUFFERS_IN_R3)],
+        numbers: &[(1, 2)],
+        buffers: &[(2, 3)],
     },
     HelperCall {
         slots: &[Set(2, 5), Set(1, 1), Call(3)],
         table: 1,
-        numbers: &[(0, NO_NUMBERS_IN_R2)],
+        numbers: &[(0, 2)],
         buffers: &[],
     },
     HelperCall {
         slots: &[Set(2, 5), Set(3, 9), Set(1, 1), Call(4)],
         table: 2,
-        numbers: &[(0, NO_NUMBERS_IN_R2), (1, NO_NUMBERS_IN_R3)],
+        numbers: &[(0, 2), (1, 3)],
         buffers: &[],
     },
     HelperCall {
@@ -60,58 +62,42 @@ static CALLS: [HelperCall; 5] = [
             Call(5),
         ],
         table: 6,
-        numbers: &[(0, NO_NUMBERS_IN_R2), (1, NO_NUMBERS_IN_R3)],
-        buffers: &[(2, NO_BUFFERS_IN_R4), (4, NO_BUFFERS_IN_R5)],
+        numbers: &[(0, 2), (1, 3)],
+        buffers: &[(2, 4), (4, 5)],
     },
 ];
 
-/// Other steps by name, and the slots that they take.
-type Others = &'static [(&'static str, &'static [Step])];
-
 /// The steps that set no table in r1. At entry r1 is a place in the arguments.
-static NO_TABLES: [(&str, &[Step]); 5] = [
-    ("table 0", &[Set(1, 0)]),
-    ("table 3", &[Set(1, 3)]),
-    ("table 257", &[Set(1, 257)]),
-    ("a place on the stack", &[Copy(1, 10)]),
-    ("nothing", &[Set(9, 0)]),
+static NO_TABLES: [(&str, [Step; 1]); 5] = [
+    ("table 0", [Set(1, 0)]),
+    ("table 3", [Set(1, 3)]),
+    ("table 257", [Set(1, 257)]),
+    ("a place on the stack", [Copy(1, 10)]),
+    ("nothing", [Set(9, 0)]),
 ];
 
-const NO_NUMBERS_IN_R2: Others = &[
-    ("nothing", &[Set(9, 0)]),
-    ("a place in the arguments", &[Copy(2, 1)]),
-    ("a place on the stack", &[Copy(2, 10)]),
-];
+/// The steps that set no number in a register.
+fn no_numbers(register: u8) -> [(&'static str, [Step; 1]); 3] {
+    [
+        ("nothing", [Set(9, 0)]),
+        ("a place in the arguments", [Copy(register, 1)]),
+        ("a place on the stack", [Copy(register, 10)]),
+    ]
+}
 
-const NO_NUMBERS_IN_R3: Others = &[
-    ("nothing", &[Set(9, 0)]),
-    ("a place in the arguments", &[Copy(3, 1)]),
-    ("a place on the stack", &[Copy(3, 10)]),
-];
-
-const NO_BUFFERS_IN_R3: Others = &[
-    ("nothing", &[Set(9, 0), Set(9, 0)]),
-    ("a number", &[Set(3, 0), Set(9, 0)]),
-    ("a place in the arguments", &[Copy(3, 1), Set(9, 0)]),
-    ("past the stack", &[Copy(3, 10), Add(3, -7)]),
-    ("before the stack", &[Copy(3, 10), Add(3, -513)]),
-];
-
-const NO_BUFFERS_IN_R4: Others = &[
-    ("nothing", &[Set(9, 0), Set(9, 0)]),
-    ("a number", &[Set(4, 0), Set(9, 0)]),
-    ("a place in the arguments", &[Copy(4, 1), Set(9, 0)]),
-    ("past the stack", &[Copy(4, 10), Add(4, -7)]),
-    ("before the stack", &[Copy(4, 10), Add(4, -513)]),
-];
-
-const NO_BUFFERS_IN_R5: Others = &[
-    ("nothing", &[Set(9, 0), Set(9, 0)]),
-    ("a number", &[Set(5, 0), Set(9, 0)]),
-    ("a place in the arguments", &[Copy(5, 1), Set(9, 0)]),
-    ("past the stack", &[Copy(5, 10), Add(5, -7)]),
-    ("before the stack", &[Copy(5, 10), Add(5, -513)]),
-];
+/// The steps that set no buffer in a register.
+fn no_buffers(register: u8) -> [(&'static str, [Step; 2]); 5] {
+    [
+        ("nothing", [Set(9, 0), Set(9, 0)]),
+        ("a number", [Set(register, 0), Set(9, 0)]),
+        ("a place in the arguments", [Copy(register, 1), Set(9, 0)]),
+        ("past the stack", [Copy(register, 10), Add(register, -7)]),
+        (
+            "before the stack",
+            [Copy(register, 10), Add(register, -513)],
+        ),
+    ]
+}
 
 /// Returns what a call replies with other steps in place of some of its slots.
 fn reply_with(
@@ -135,35 +121,31 @@ fn is_stuck_with(
     alloc: Global,
     call: &HelperCall,
     at: usize,
-    others: &(&str, &[Step]),
+    name: &str,
+    others: &[Step],
 ) {
-    let found = reply_with(rt, alloc, call, at, others.1);
-    same(
-        rt,
-        others.0,
-        (call.table, at, found),
-        (call.table, at, None),
-    );
+    let found = reply_with(rt, alloc, call, at, others);
+    same(rt, name, (call.table, at, found), (call.table, at, None));
 }
 
 fn asks_for_a_table(rt: &impl Abort, alloc: Global, call: &HelperCall) {
-    for other in &NO_TABLES {
-        is_stuck_with(rt, alloc, call, call.table, other);
+    for (name, others) in &NO_TABLES {
+        is_stuck_with(rt, alloc, call, call.table, name, others);
     }
 }
 
 fn asks_for_numbers(rt: &impl Abort, alloc: Global, call: &HelperCall) {
-    for (at, others) in call.numbers {
-        for other in *others {
-            is_stuck_with(rt, alloc, call, *at, other);
+    for (at, register) in call.numbers {
+        for (name, others) in &no_numbers(*register) {
+            is_stuck_with(rt, alloc, call, *at, name, others);
         }
     }
 }
 
 fn asks_for_buffers(rt: &impl Abort, alloc: Global, call: &HelperCall) {
-    for (at, others) in call.buffers {
-        for other in *others {
-            is_stuck_with(rt, alloc, call, *at, other);
+    for (at, register) in call.buffers {
+        for (name, others) in &no_buffers(*register) {
+            is_stuck_with(rt, alloc, call, *at, name, others);
         }
     }
 }
@@ -189,148 +171,62 @@ fn arguments(rt: HostRuntime) {
     }
 }
 
-/// Rows of table 1 have eight bytes, those of table 2 two.
-static BUFFERS: [Case; 9] = [
-    (
-        &[Set(2, 5), Copy(3, 10), Add(3, -512), Set(1, 1), Call(1)],
-        Gives(0),
-    ),
-    (
-        &[Set(2, 5), Copy(3, 10), Add(3, -2), Set(1, 2), Call(1)],
-        Gives(0),
-    ),
-    (
-        &[Set(2, 5), Copy(3, 10), Add(3, -1), Set(1, 2), Call(1)],
-        Stuck,
-    ),
-    // A put reads bytes that were stored, all of them.
-    (
-        &[
-            Push(-8, 1),
-            Set(2, 5),
-            Copy(3, 10),
-            Add(3, -2),
-            Set(1, 2),
-            Call(2),
-        ],
-        Gives(0),
-    ),
-    (
-        &[
-            Push(-16, 1),
-            Set(2, 5),
-            Copy(3, 10),
-            Add(3, -8),
-            Set(1, 1),
-            Call(2),
-        ],
-        Stuck,
-    ),
-    (
-        &[
-            Push(-8, 1),
-            Set(2, 5),
-            Copy(3, 10),
-            Add(3, -9),
-            Set(1, 1),
-            Call(2),
-        ],
-        Stuck,
-    ),
-    // A next has eight bytes for the key and the table's width for the row.
-    (
-        &[
-            Set(2, 5),
-            Set(3, 9),
-            Copy(4, 10),
-            Add(4, -8),
-            Copy(5, 10),
-            Add(5, -2),
-            Set(1, 2),
-            Call(5),
-        ],
-        Gives(0),
-    ),
-    (
-        &[
-            Set(2, 5),
-            Set(3, 9),
-            Copy(4, 10),
-            Add(4, -7),
-            Copy(5, 10),
-            Add(5, -2),
-            Set(1, 2),
-            Call(5),
-        ],
-        Stuck,
-    ),
-    (
-        &[
-            Set(2, 5),
-            Set(3, 9),
-            Copy(4, 10),
-            Add(4, -8),
-            Copy(5, 10),
-            Add(5, -1),
-            Set(1, 2),
-            Call(5),
-        ],
-        Stuck,
-    ),
+// Rows of table 1 have eight bytes, those of table 2 two.
+
+/// The buffers of gets (helper 1) and of puts (helper 2): the helper, where eight bytes were stored before, the place
+/// of the buffer, and the table. A put reads bytes that were stored, all of them.
+static ONE_BUFFER: [(i32, Option<i16>, i32, i32, Wanted); 6] = [
+    (1, None, -512, 1, Gives(0)),
+    (1, None, -2, 2, Gives(0)),
+    (1, None, -1, 2, Stuck),
+    (2, Some(-8), -2, 2, Gives(0)),
+    (2, Some(-16), -8, 1, Stuck),
+    (2, Some(-8), -9, 1, Stuck),
 ];
+
+/// The buffers of nexts in table 2: a place for the key, which has eight bytes, and a place for the row.
+static NEXTS: [(i32, i32, Wanted); 3] = [(-8, -2, Gives(0)), (-7, -2, Stuck), (-8, -1, Stuck)];
 
 #[test]
 fn buffers_have_the_tables_width(rt: HostRuntime) {
-    replies(&rt, rt.alloc(), &NO_FORM, &BUFFERS);
+    let alloc = rt.alloc();
+    for (at, (helper, stored, place, table, wanted)) in ONE_BUFFER.iter().enumerate() {
+        let mut steps = Vec::new(alloc);
+        if let Some(stored) = stored {
+            steps.push(Push(*stored, 1)).expect(&rt, "memory");
+        }
+        for step in [
+            Set(2, 5),
+            Copy(3, 10),
+            Add(3, *place),
+            Set(1, *table),
+            Call(*helper),
+        ] {
+            steps.push(step).expect(&rt, "memory");
+        }
+        comes_to(&rt, alloc, ("one buffer", at), &steps, wanted);
+    }
+    for (at, (key, row, wanted)) in NEXTS.iter().enumerate() {
+        let steps = [
+            Set(2, 5),
+            Set(3, 9),
+            Copy(4, 10),
+            Add(4, *key),
+            Copy(5, 10),
+            Add(5, *row),
+            Set(1, 2),
+            Call(5),
+        ];
+        comes_to(&rt, alloc, ("next", at), &steps, wanted);
+    }
 }
 
 /// Calls of the cancel. After a call r1 is nothing.
-static CANCELS: [Case; 14] = [
+static CANCELS: [Case; 9] = [
     (&[Set(1, 9), Call(6)], Gives(0)),
     (&[Set(1, 9), Call(6), Call(6)], Stuck),
     (&[Call(6), Set(0, 1)], Stuck),
     (&[Copy(1, 10), Call(6), Set(0, 1)], Stuck),
-    // No table.
-    (
-        &[
-            Set(1, 9),
-            Call(6),
-            Push(-8, 1),
-            Set(2, 5),
-            Copy(3, 10),
-            Add(3, -8),
-            Call(1),
-        ],
-        Stuck,
-    ),
-    (
-        &[
-            Set(1, 9),
-            Call(6),
-            Push(-8, 1),
-            Set(2, 5),
-            Copy(3, 10),
-            Add(3, -8),
-            Call(2),
-        ],
-        Stuck,
-    ),
-    (&[Set(1, 9), Call(6), Set(2, 5), Call(3)], Stuck),
-    (&[Set(1, 9), Call(6), Set(2, 5), Set(3, 9), Call(4)], Stuck),
-    (
-        &[
-            Set(1, 9),
-            Call(6),
-            Set(2, 5),
-            Set(3, 9),
-            Copy(4, 10),
-            Add(4, -16),
-            Copy(5, 10),
-            Add(5, -8),
-            Call(5),
-        ],
-        Stuck,
-    ),
     // No helper.
     (&[Set(1, 1), Call(0), Set(0, 1)], Stuck),
     (&[Set(1, 1), Call(7), Set(0, 1)], Stuck),
@@ -340,9 +236,26 @@ static CANCELS: [Case; 14] = [
     (&[Set(1, 1), Call(6), Push(-8, 7), Set(0, 7)], Gives(7)),
 ];
 
+/// Asserts that a call is stuck behind a cancel, where nothing sets its table.
+fn is_stuck_behind_a_cancel(rt: &impl Abort, alloc: Global, call: &HelperCall) {
+    let mut steps = Vec::new(alloc);
+    steps
+        .extend_from_slice(&[Set(1, 9), Call(6)])
+        .expect(rt, "memory");
+    for (index, step) in call.slots.iter().enumerate() {
+        if index != call.table {
+            steps.push(*step).expect(rt, "memory");
+        }
+    }
+    comes_to(rt, alloc, ("behind a cancel", call.table), &steps, &Stuck);
+}
+
 #[test]
 fn cancels_and_unknown_helpers(rt: HostRuntime) {
     replies(&rt, rt.alloc(), &NO_FORM, &CANCELS);
+    for call in &CALLS {
+        is_stuck_behind_a_cancel(&rt, rt.alloc(), call);
+    }
 }
 
 static AFTER_A_CALL: [Case; 9] = [

@@ -1,19 +1,17 @@
 use bpf_verify::Cause;
 use byte_output::sink::GrowingBytes;
-use log_entry::{Entry, ExecutedCall};
-use log_model::{Identifier, RequestId};
+use log_entry::Entry;
+use log_model::{CallRefusal, Identifier, RequestId};
 use program_checks::ProgramFault;
-use row_sets::{Bytes, ReadSet, WriteSet};
 use script::LineFault;
-use site_model::{
-    AdditionAnswer, AdditionRefusal, CallAnswer, CallRefusal, EntryOutcome, NothingCause,
-};
+use site_model::{AdditionAnswer, AdditionRefusal, CallAnswer, EntryOutcome, NothingCause};
 use site_service::{
     append_addition_line, append_call_line, append_entry_line, append_fault_line,
     append_no_memory_line, append_order_full_line, append_position_line, append_row_count_line,
 };
 use std::alloc::Global;
 use std::process::Abort;
+use test_programs::increment_call;
 
 const NONE: Option<RequestId> = None;
 
@@ -35,7 +33,7 @@ const LAST: Option<RequestId> = Some(RequestId {
 /// The outcome of the byte string at a position, its request, and the line.
 type Told = (u32, EntryOutcome, Option<RequestId>, &'static str);
 
-static CALLS: [Told; 7] = [
+static OUTCOMES: [Told; 8] = [
     (
         1,
         EntryOutcome::Committed(10),
@@ -79,40 +77,20 @@ static CALLS: [Told; 7] = [
         LAST,
         "entry 4294967295 repeat 4294967294 reply 18446744073709551615 session 4294967295 seq 4294967295\n",
     ),
+    (1, EntryOutcome::Added(9), NONE, "entry 1 added 9\n"),
 ];
 
-static OTHERS: [Told; 6] = [
-    (1, EntryOutcome::Added(9), NONE, "entry 1 added 9\n"),
-    (
-        2,
-        EntryOutcome::Taken(Identifier::Name),
-        NONE,
-        "entry 2 taken C1\n",
-    ),
-    (
-        3,
-        EntryOutcome::Taken(Identifier::Number),
-        NONE,
-        "entry 3 taken C2\n",
-    ),
-    (
-        1,
-        EntryOutcome::Nothing(NothingCause::Unreadable),
-        NONE,
-        "entry 1 nothing E1\n",
-    ),
-    (
-        1,
-        EntryOutcome::Nothing(NothingCause::Addition),
-        NONE,
-        "entry 1 nothing E2\n",
-    ),
-    (
-        1,
-        EntryOutcome::Nothing(NothingCause::Procedure),
-        NONE,
-        "entry 1 nothing E4\n",
-    ),
+/// Additions whose name or number is taken: the position, which of both, and the line.
+static TAKEN: [(u32, Identifier, &str); 2] = [
+    (2, Identifier::Name, "entry 2 taken C1\n"),
+    (3, Identifier::Number, "entry 3 taken C2\n"),
+];
+
+/// Causes for which the byte string at position 1 is nothing and has no request, each with the line.
+static NOTHING: [(NothingCause, &str); 3] = [
+    (NothingCause::Unreadable, "entry 1 nothing E1\n"),
+    (NothingCause::Addition, "entry 1 nothing E2\n"),
+    (NothingCause::Procedure, "entry 1 nothing E4\n"),
 ];
 
 /// Makes a sink to which lines are appended.
@@ -126,36 +104,53 @@ fn has(rt: &impl Abort, sink: GrowingBytes<Global>, expected: &str) {
     assert!(rt; bytes.as_slice() == expected.as_bytes(), "{expected}");
 }
 
+/// An answer that has a line.
+enum Answered<'a> {
+    Entry(u32, EntryOutcome, Option<RequestId>),
+    Call(&'a CallAnswer<Entry>),
+    Addition(&'a AdditionAnswer<Entry>),
+}
+
+/// Asserts that an answer has this line.
+fn has_line(rt: &impl Abort, alloc: Global, answered: Answered<'_>, expected: &str) {
+    let mut line = sink(alloc);
+    match answered {
+        Answered::Entry(position, outcome, request) => {
+            append_entry_line(&mut line, position, outcome, request);
+        }
+        Answered::Call(answer) => append_call_line(&mut line, answer),
+        Answered::Addition(answer) => append_addition_line(&mut line, answer),
+    }
+    has(rt, line, expected);
+}
+
+/// Asserts that an outcome has this line.
+fn entry_has(rt: &impl Abort, alloc: Global, told: &Told) {
+    let (position, outcome, request, expected) = *told;
+    let answered = Answered::Entry(position, outcome, request);
+    has_line(rt, alloc, answered, expected);
+}
+
 #[test]
 fn entries_have_their_lines(rt: HostRuntime) {
-    for table in [&CALLS[..], &OTHERS] {
-        for (position, outcome, request, expected) in table {
-            let mut line = sink(rt.alloc());
-            append_entry_line(&mut line, *position, *outcome, *request);
-            has(&rt, line, expected);
-        }
+    for told in &OUTCOMES {
+        entry_has(&rt, rt.alloc(), told);
+    }
+    for (position, identifier, expected) in &TAKEN {
+        let told = (*position, EntryOutcome::Taken(*identifier), NONE, *expected);
+        entry_has(&rt, rt.alloc(), &told);
+    }
+    for (cause, expected) in &NOTHING {
+        let told = (1, EntryOutcome::Nothing(*cause), NONE, *expected);
+        entry_has(&rt, rt.alloc(), &told);
     }
 }
 
-/// An increment of key 5 of table 1 by 10 at snapshot 0, which found no row there.
+/// The increment by request 7 1.
 fn increment(rt: &impl Abort, alloc: Global) -> Entry {
-    let mut args = Vec::from_slice(alloc, &5u64.to_le_bytes()).expect(rt, "memory");
-    args.extend_from_slice(&10u64.to_le_bytes())
-        .expect(rt, "memory");
-    let mut reads = ReadSet::new(alloc);
-    reads.add_point(1, 5).expect(rt, "memory");
-    let mut writes = WriteSet::new(alloc);
-    writes.put(1, 5, &10u64.to_le_bytes()).expect(rt, "memory");
-    Entry::Call(ExecutedCall {
-        call: 0,
-        procedure: 1,
-        args: Bytes::new(args),
-        snapshot: 0,
-        request: SEVEN,
-        reads,
-        writes,
-        reply: 10,
-    })
+    let mut call = increment_call(alloc).expect(rt, "memory");
+    call.request = SEVEN;
+    Entry::Call(call)
 }
 
 const SUBMITTED: &str = "submit 01070000000100000000000000\
@@ -164,51 +159,26 @@ const SUBMITTED: &str = "submit 01070000000100000000000000\
     01000105000000000000000500000000000000\
     0100010500000000000000010a00000000000000\n";
 
-/// Asserts that an answer to a call has this line.
-fn call_has(rt: &impl Abort, alloc: Global, answer: &CallAnswer<Entry>, expected: &str) {
-    let mut line = sink(alloc);
-    append_call_line(&mut line, answer);
-    has(rt, line, expected);
-}
-
 #[test]
 fn calls_have_their_lines(rt: HostRuntime) {
     let alloc = rt.alloc();
     for (refusal, expected) in [
         (CallRefusal::NoProcedure, "refused P2\n"),
         (CallRefusal::ArgumentsLength, "refused P3\n"),
-        (CallRefusal::HalfRequest, "refused P13\n"),
+        (CallRefusal::ZeroInRequest, "refused P13\n"),
     ] {
-        call_has(&rt, alloc, &CallAnswer::Refused(refusal), expected);
+        let answer = CallAnswer::Refused(refusal);
+        has_line(&rt, alloc, Answered::Call(&answer), expected);
     }
     let (position, reply) = (1, 10);
-    call_has(
-        &rt,
-        alloc,
-        &CallAnswer::Repeated { position, reply },
-        "repeat 1 reply 10\n",
-    );
-    call_has(
-        &rt,
-        alloc,
-        &CallAnswer::Cancelled { position, code: 2 },
-        "cancelled 1 code 2\n",
-    );
-    call_has(
-        &rt,
-        alloc,
-        &CallAnswer::Read { position, reply: 1 },
-        "read 1 reply 1\n",
-    );
+    let answer = CallAnswer::Repeated { position, reply };
+    has_line(&rt, alloc, Answered::Call(&answer), "repeat 1 reply 10\n");
+    let answer = CallAnswer::Cancelled { position, code: 2 };
+    has_line(&rt, alloc, Answered::Call(&answer), "cancelled 1 code 2\n");
+    let answer = CallAnswer::Read { position, reply: 1 };
+    has_line(&rt, alloc, Answered::Call(&answer), "read 1 reply 1\n");
     let answer = CallAnswer::Submitted(increment(&rt, alloc));
-    call_has(&rt, alloc, &answer, SUBMITTED);
-}
-
-/// Asserts that an answer to an addition has this line.
-fn addition_has(rt: &impl Abort, alloc: Global, answer: &AdditionAnswer<Entry>, expected: &str) {
-    let mut line = sink(alloc);
-    append_addition_line(&mut line, answer);
-    has(rt, line, expected);
+    has_line(&rt, alloc, Answered::Call(&answer), SUBMITTED);
 }
 
 #[test]
@@ -223,10 +193,11 @@ fn additions_have_their_lines(rt: HostRuntime) {
         (AdditionRefusal::Name, "refused P12\n"),
         (AdditionRefusal::NoAdditions, "refused P14\n"),
     ] {
-        addition_has(&rt, alloc, &AdditionAnswer::Refused(refusal), expected);
+        let answer = AdditionAnswer::Refused(refusal);
+        has_line(&rt, alloc, Answered::Addition(&answer), expected);
     }
     let answer = AdditionAnswer::Submitted(increment(&rt, alloc));
-    addition_has(&rt, alloc, &answer, SUBMITTED);
+    has_line(&rt, alloc, Answered::Addition(&answer), SUBMITTED);
 }
 
 #[test]

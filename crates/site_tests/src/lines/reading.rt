@@ -105,15 +105,10 @@ fn given<A: Allocator>(line: &SiteLine<Bytes<A>>) -> Option<Given<'_>> {
             session,
             sequence,
         } => (name.as_slice(), args.as_slice(), [*session, *sequence]),
-        SiteLine::Add {
-            name,
-            number,
-            args_len,
-            program,
-        } => (
-            name.as_slice(),
-            program.as_slice(),
-            [u32::from(*number), u32::from(*args_len)],
+        SiteLine::Add(procedure) => (
+            procedure.name.as_slice(),
+            procedure.program.as_slice(),
+            [u32::from(procedure.number), u32::from(procedure.args_len)],
         ),
         SiteLine::Entry { bytes } => (b"", bytes.as_slice(), [0, 0]),
         SiteLine::Rows | SiteLine::Scan(_) | SiteLine::Position => return None,

@@ -2,20 +2,23 @@
 
 use super::heads::{ADDITION, CALL, HEAD};
 use super::sites::{GivenSite, answer, answer_to_addition};
-use log_model::RequestId;
-use site::{Asked, NamedProgram, Site};
-use site_model::{
-    AdditionAnswer, AdditionRefusal, CallAnswer, CallRefusal, EntryOutcome, NothingCause,
-};
+use log_entry::NamedProgram;
+use log_model::{CallRefusal, RequestId};
+use site::{Asked, Site};
+use site_model::{AdditionAnswer, AdditionRefusal, CallAnswer, EntryOutcome, NothingCause};
 use std::alloc::Global;
+use std::fmt::Debug;
 use std::process::Abort;
 
 const NONE: Option<RequestId> = None;
 
-const SEVEN_ONE: Option<RequestId> = Some(RequestId {
-    session: 7,
-    sequence: 1,
-});
+/// A request of session 7.
+fn seven(sequence: u32) -> Option<RequestId> {
+    Some(RequestId {
+        session: 7,
+        sequence,
+    })
+}
 
 /// The arguments of `add` that add 10 to row 5, 7 to row 5, and 9 to row 9.
 static TEN_TO_FIVE: [u8; 16] = [5, 0, 0, 0, 0, 0, 0, 0, 10, 0, 0, 0, 0, 0, 0, 0];
@@ -96,30 +99,14 @@ fn with_bytes(changes: &[(usize, u8)]) -> [u8; 84] {
     bytes
 }
 
-/// Asserts that a call is answered so.
-fn is_answered(
+/// Asserts that an answer was found, with the bytes that are to be ordered, and both are these.
+fn is_answered<T: PartialEq + Debug + Copy>(
     rt: &impl Abort,
-    alloc: Global,
-    site: &Site,
-    asked: Asked<'_>,
-    wanted: CallAnswer<usize>,
+    found: Option<(T, Vec<u8>)>,
+    wanted: T,
     bytes: &[u8],
 ) {
-    let (found, ordered) = answer(alloc, site, asked).expect(rt, "memory");
-    assert_eq!(rt; found, wanted);
-    assert_eq!(rt; ordered.as_slice(), bytes);
-}
-
-/// Asserts that a procedure that is to be added is answered so.
-fn addition_is_answered(
-    rt: &impl Abort,
-    alloc: Global,
-    site: &Site,
-    named: NamedProgram<'_>,
-    wanted: AdditionAnswer<usize>,
-    bytes: &[u8],
-) {
-    let (found, ordered) = answer_to_addition(alloc, site, named).expect(rt, "memory");
+    let (found, ordered) = found.expect(rt, "memory");
     assert_eq!(rt; found, wanted);
     assert_eq!(rt; ordered.as_slice(), bytes);
 }
@@ -136,9 +123,11 @@ fn has_one_row(rt: &impl Abort, alloc: Global, site: &Site, key: (u8, u64), byte
 fn check(rt: &impl Abort, alloc: Global, site: &Site, step: &Step<'_>) {
     match step {
         Step::Take(_, _) => {}
-        Step::Ask(asked, wanted, bytes) => is_answered(rt, alloc, site, *asked, *wanted, bytes),
+        Step::Ask(asked, wanted, bytes) => {
+            is_answered(rt, answer(alloc, site, *asked), *wanted, bytes);
+        }
         Step::Add(named, wanted, bytes) => {
-            addition_is_answered(rt, alloc, site, *named, *wanted, bytes);
+            is_answered(rt, answer_to_addition(alloc, site, *named), *wanted, bytes);
         }
         Step::At(position) => assert_eq!(rt; site.position(), *position),
         Step::Row(table, key, bytes) => has_one_row(rt, alloc, site, (*table, *key), bytes),
@@ -169,24 +158,19 @@ fn go_through(rt: &impl Abort, alloc: Global, takes_additions: bool, steps: &[St
 
 #[test]
 fn a_call_is_ordered_and_taken_once(rt: HostRuntime) {
-    let repeated = CallAnswer::Repeated {
-        position: 1,
-        reply: 10,
-    };
-    let again = EntryOutcome::Repeated {
-        position: 1,
-        reply: 10,
-    };
+    let (position, reply) = (1, 10);
+    let repeated = CallAnswer::Repeated { position, reply };
+    let again = EntryOutcome::Repeated { position, reply };
     let steps = [
         ask(
-            call_of_add(&TEN_TO_FIVE, SEVEN_ONE),
+            call_of_add(&TEN_TO_FIVE, seven(1)),
             CallAnswer::Submitted(84),
             &CALL,
         ),
         take(&CALL, EntryOutcome::Committed(10)),
         take(&CALL, again),
-        ask(call_of_add(&TEN_TO_FIVE, SEVEN_ONE), repeated, &[]),
-        ask(call_of_add(&NINE_TO_NINE, SEVEN_ONE), repeated, &[]),
+        ask(call_of_add(&TEN_TO_FIVE, seven(1)), repeated, &[]),
+        ask(call_of_add(&NINE_TO_NINE, seven(1)), repeated, &[]),
         Step::At(2),
         Step::Row(1, 5, &TEN),
     ];
@@ -289,35 +273,27 @@ fn a_repeated_call_isnt_run_again(rt: HostRuntime) {
         position: 1,
         code: 1,
     };
-    let next = Some(RequestId {
-        session: 7,
-        sequence: 2,
-    });
     let steps = [
-        ask(claim(SEVEN_ONE), CallAnswer::Submitted(76), &CLAIM_OF_FIVE),
+        ask(claim(seven(1)), CallAnswer::Submitted(76), &CLAIM_OF_FIVE),
         take(&CLAIM_OF_FIVE, EntryOutcome::Committed(0)),
-        ask(claim(SEVEN_ONE), repeated, &[]),
-        ask(claim(next), cancelled, &[]),
+        ask(claim(seven(1)), repeated, &[]),
+        ask(claim(seven(2)), cancelled, &[]),
     ];
     go_through(&rt, rt.alloc(), true, &steps);
 }
 
 #[test]
 fn calls_that_cannot_run_are_refused(rt: HostRuntime) {
-    let half = Some(RequestId {
-        session: 7,
-        sequence: 0,
-    });
     let rows: [(&[u8], CallRefusal); 3] = [
         (b"none", CallRefusal::NoProcedure),
         (b"add", CallRefusal::ArgumentsLength),
-        (b"claim", CallRefusal::HalfRequest),
+        (b"claim", CallRefusal::ZeroInRequest),
     ];
     for (name, refusal) in &rows {
         let asked = Asked {
             name,
             args: &FIVE,
-            request: half,
+            request: seven(0),
         };
         let steps = [ask(asked, CallAnswer::Refused(*refusal), &[])];
         go_through(&rt, rt.alloc(), true, &steps);

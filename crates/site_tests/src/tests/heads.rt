@@ -1,6 +1,6 @@
 //! The heads of entries: a call of 84 bytes, an addition of 29, and what is neither.
 
-use log_entry::{AdditionHead, CallHead, EntryHead, head_of};
+use log_entry::{CallHead, EntryHead, NamedProgram, head_of};
 use log_model::given_request;
 use std::process::Abort;
 
@@ -82,7 +82,7 @@ fn a_call_has_a_head_whatever_stands_behind(rt: HostRuntime) {
 
 #[test]
 fn an_addition_is_as_long_as_it_says(rt: HostRuntime) {
-    let head = EntryHead::Addition(AdditionHead {
+    let head = EntryHead::Addition(NamedProgram {
         number: 9,
         args_len: 0,
         name: b"one",

@@ -3,9 +3,9 @@
 use bpf_bytes::decode;
 use bpf_verify::verify;
 use catalogue::Catalogue;
-use log_entry::{Entry, to_bytes};
+use log_entry::{Entry, NamedProgram, to_bytes};
 use schema::Schema;
-use site::{Asked, NamedProgram, Site};
+use site::{Asked, Site};
 use site_model::{AdditionAnswer, CallAnswer, EntryOutcome};
 use std::alloc::Global;
 use test_programs::{ADD, bytes_of};
@@ -80,12 +80,10 @@ impl GivenSite {
     }
 }
 
-/// Returns an entry that is to be ordered, by the number of its bytes, and the bytes.
-fn submitted(alloc: Global, entry: &Entry) -> Option<(CallAnswer<usize>, Vec<u8>)> {
-    match to_bytes(alloc, entry) {
-        Ok(bytes) => Some((CallAnswer::Submitted(bytes.len()), bytes)),
-        Err(_) => None,
-    }
+/// Returns the number of bytes of an entry that is to be ordered, and the bytes.
+fn sized(alloc: Global, entry: &Entry) -> Option<(usize, Vec<u8>)> {
+    let bytes = to_bytes(alloc, entry).ok()?;
+    Some((bytes.len(), bytes))
 }
 
 /// Returns the answer to a call, by the number of bytes that are to be ordered, and the bytes.
@@ -95,7 +93,10 @@ pub(crate) fn answer(
     asked: Asked<'_>,
 ) -> Option<(CallAnswer<usize>, Vec<u8>)> {
     let told = match site.call(asked) {
-        Ok(CallAnswer::Submitted(entry)) => return submitted(alloc, &entry),
+        Ok(CallAnswer::Submitted(entry)) => {
+            let (size, bytes) = sized(alloc, &entry)?;
+            return Some((CallAnswer::Submitted(size), bytes));
+        }
         Ok(CallAnswer::Refused(refusal)) => CallAnswer::Refused(refusal),
         Ok(CallAnswer::Repeated { position, reply }) => CallAnswer::Repeated { position, reply },
         Ok(CallAnswer::Cancelled { position, code }) => CallAnswer::Cancelled { position, code },
@@ -103,14 +104,6 @@ pub(crate) fn answer(
         Err(_) => return None,
     };
     Some((told, Vec::new(alloc)))
-}
-
-/// Returns the same of an addition.
-fn submitted_addition(alloc: Global, entry: &Entry) -> Option<(AdditionAnswer<usize>, Vec<u8>)> {
-    match to_bytes(alloc, entry) {
-        Ok(bytes) => Some((AdditionAnswer::Submitted(bytes.len()), bytes)),
-        Err(_) => None,
-    }
 }
 
 /// Returns the answer to a procedure that is to be added, by the number of bytes that are to be ordered, and the bytes.
@@ -122,7 +115,10 @@ pub(crate) fn answer_to_addition(
 ) -> Option<(AdditionAnswer<usize>, Vec<u8>)> {
     let args_len = named.args_len.min(256);
     match site.add(NamedProgram { args_len, ..named }) {
-        Ok(AdditionAnswer::Submitted(entry)) => submitted_addition(alloc, &entry),
+        Ok(AdditionAnswer::Submitted(entry)) => {
+            let (size, bytes) = sized(alloc, &entry)?;
+            Some((AdditionAnswer::Submitted(size), bytes))
+        }
         Ok(AdditionAnswer::Refused(refusal)) => {
             Some((AdditionAnswer::Refused(refusal), Vec::new(alloc)))
         }

@@ -1,6 +1,9 @@
 //! Two increments of one row, of which the second conflicts and is begun anew.
 
-use super::{BEGIN_SEVEN, BEGIN_TEN, described, run_script, same, steps_of, two_replicas};
+use super::{
+    BEGIN_SEVEN, BEGIN_TEN, THIRD_CALL, are_told, delivered, described, run_script, same, steps_of,
+    two_ordered, two_replicas,
+};
 use dsm_model::Outcome;
 use dsm_world::{Step, World};
 use log_model::Verdict;
@@ -8,7 +11,7 @@ use scarce::Scarce;
 use std::alloc::{Allocator, Global};
 use std::process::Abort;
 
-static STEPS: [(Step<'static>, usize); 12] = [
+static STEPS: [(Step<'static>, usize); 8] = [
     (BEGIN_TEN, 1),
     (BEGIN_SEVEN, 1),
     (Step::Turn { call: 1 }, 17),
@@ -17,52 +20,6 @@ static STEPS: [(Step<'static>, usize); 12] = [
     (Step::Order { call: 2 }, 1),
     (Step::Deliver { replica: 1 }, 2),
     (Step::Deliver { replica: 2 }, 2),
-    (BEGIN_SEVEN, 1),
-    (Step::Turn { call: 3 }, 17),
-    (Step::Order { call: 3 }, 1),
-    (Step::Deliver { replica: 2 }, 1),
-];
-
-/// The answers, but for the turns after which there are more: all but the last of each call.
-static TOLD: [Outcome; 14] = [
-    Outcome::Begun {
-        call: 1,
-        snapshot: 0,
-    },
-    Outcome::Begun {
-        call: 2,
-        snapshot: 0,
-    },
-    Outcome::Exit { reply: 10 },
-    Outcome::Exit { reply: 7 },
-    Outcome::Ordered { position: 1 },
-    Outcome::Ordered { position: 2 },
-    Outcome::Delivered {
-        position: 1,
-        verdict: Verdict::Commit,
-    },
-    Outcome::Delivered {
-        position: 2,
-        verdict: Verdict::Conflict(1),
-    },
-    Outcome::Delivered {
-        position: 1,
-        verdict: Verdict::Commit,
-    },
-    Outcome::Delivered {
-        position: 2,
-        verdict: Verdict::Conflict(1),
-    },
-    Outcome::Begun {
-        call: 3,
-        snapshot: 2,
-    },
-    Outcome::Exit { reply: 17 },
-    Outcome::Ordered { position: 3 },
-    Outcome::Delivered {
-        position: 3,
-        verdict: Verdict::Commit,
-    },
 ];
 
 /// Tells whether no steps are taken where there is no room for their answers.
@@ -89,6 +46,7 @@ fn refused_and_run<A: Allocator + Copy>(
     let mut told = Vec::new(alloc);
     if is_refused(rt, alloc, scarce, world) {
         run_script(rt, alloc, world, &STEPS, &mut told);
+        run_script(rt, alloc, world, &THIRD_CALL, &mut told);
     }
     (told, described(rt, alloc, world, 2))
 }
@@ -108,7 +66,10 @@ fn increments<A: Allocator + Copy>(
 fn of_two_increments_the_second_is_begun_anew(rt: HostRuntime) {
     let scarce = Scarce::new(rt.alloc());
     let (told, replica) = increments(&rt, rt.alloc(), &scarce, &scarce);
-    same(&rt, "told", told.as_slice(), TOLD.as_slice());
+    let first = delivered(1, Verdict::Commit);
+    let second = delivered(2, Verdict::Conflict(1));
+    let between = [first, second, first, second];
+    are_told(&rt, &told, &two_ordered(10, 7), &between);
     same(
         &rt,
         "replica",

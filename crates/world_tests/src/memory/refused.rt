@@ -1,7 +1,8 @@
 //! Memory that is refused to a world.
 
 use super::{
-    ADD_TEN, BEGIN_SEVEN, BEGIN_TEN, Script, described, run_script, same, steps_of, two_replicas,
+    ADD_TEN, BEGIN_TEN, Script, THIRD_CALL, are_told, delivered, described, run_script, same,
+    steps_of, two_ordered, two_replicas,
 };
 use bpf_verify::Cause;
 use catalogue::Catalogue;
@@ -38,57 +39,11 @@ static BEFORE: [(Step<'static>, usize); 7] = [
     (Step::Deliver { replica: 2 }, 1),
 ];
 
-/// Replica 2 is stopped until it is made anew, replica 1 goes on meanwhile; then a further call is delivered to replica
-/// 2.
-static AFTER: [(Step<'static>, usize); 7] = [
+/// Replica 2 is stopped until it is made anew, replica 1 goes on meanwhile.
+static AFTER: [(Step<'static>, usize); 3] = [
     (Step::Deliver { replica: 2 }, 1),
     (Step::Deliver { replica: 1 }, 2),
     (Step::Rebuild { replica: 2 }, 1),
-    (BEGIN_SEVEN, 1),
-    (Step::Turn { call: 3 }, 17),
-    (Step::Order { call: 3 }, 1),
-    (Step::Deliver { replica: 2 }, 1),
-];
-
-/// The answers to these steps, with a delivery between them for which there is no memory.
-static TOLD: [Outcome; 16] = [
-    Outcome::Begun {
-        call: 1,
-        snapshot: 0,
-    },
-    Outcome::Begun {
-        call: 2,
-        snapshot: 0,
-    },
-    Outcome::Exit { reply: 10 },
-    Outcome::Exit { reply: 0 },
-    Outcome::Ordered { position: 1 },
-    Outcome::Ordered { position: 2 },
-    Outcome::Delivered {
-        position: 1,
-        verdict: Verdict::Commit,
-    },
-    Outcome::Refused(StepRefusal::NoMemory),
-    Outcome::Refused(StepRefusal::ReplicaStopped),
-    Outcome::Delivered {
-        position: 1,
-        verdict: Verdict::Commit,
-    },
-    Outcome::Delivered {
-        position: 2,
-        verdict: Verdict::Commit,
-    },
-    Outcome::Rebuilt { position: 2 },
-    Outcome::Begun {
-        call: 3,
-        snapshot: 2,
-    },
-    Outcome::Exit { reply: 17 },
-    Outcome::Ordered { position: 3 },
-    Outcome::Delivered {
-        position: 3,
-        verdict: Verdict::Commit,
-    },
 ];
 
 /// Delivers to replica 2 without memory, and returns what is answered.
@@ -113,6 +68,7 @@ fn stop_and_rebuild<A: Allocator + Copy>(
         .expect(rt, "memory");
     let stopped = described(rt, alloc, world, 2);
     run_script(rt, alloc, world, &AFTER, told);
+    run_script(rt, alloc, world, &THIRD_CALL, told);
     (stopped, described(rt, alloc, world, 2))
 }
 
@@ -133,7 +89,16 @@ fn a_stopped_replica_is_made_anew(rt: HostRuntime) {
     let scarce = Scarce::new(rt.alloc());
     let mut told = Vec::new(rt.alloc());
     let (stopped, anew) = stopped_and_rebuilt(&rt, rt.alloc(), &scarce, &scarce, &mut told);
-    same(&rt, "told", told.as_slice(), TOLD.as_slice());
+    let (first, second) = (delivered(1, Verdict::Commit), delivered(2, Verdict::Commit));
+    let between = [
+        first,
+        NO_MEMORY,
+        Outcome::Refused(StepRefusal::ReplicaStopped),
+        first,
+        second,
+        Outcome::Rebuilt { position: 2 },
+    ];
+    are_told(&rt, &told, &two_ordered(10, 0), &between);
     same(
         &rt,
         "stopped",
@@ -184,6 +149,19 @@ struct Case {
 
 const NO_MEMORY: Outcome = Outcome::Refused(StepRefusal::NoMemory);
 
+/// The answer to the first call.
+const FIRST_BEGUN: Outcome = Outcome::Begun {
+    call: 1,
+    snapshot: 0,
+};
+
+/// The first call begins, runs to its end, and is ordered.
+const FIRST_ORDERED: Script = &[
+    (BEGIN_TEN, 1),
+    (Step::Turn { call: 1 }, 17),
+    (Step::Order { call: 1 }, 1),
+];
+
 const NOTHING_LEFT: Outcome = Outcome::Refused(StepRefusal::NothingToDeliver);
 
 const NO_CALL: Outcome = Outcome::Refused(StepRefusal::NoCall);
@@ -226,10 +204,7 @@ static CASES: [Case; 11] = [
             session: 7,
             sequence: 1,
         },
-        answer: Outcome::Begun {
-            call: 1,
-            snapshot: 0,
-        },
+        answer: FIRST_BEGUN,
         refused: NO_MEMORY,
         next: Step::Turn { call: 1 },
         left: NO_CALL,
@@ -281,21 +256,14 @@ static CASES: [Case; 11] = [
     Case {
         before: &[],
         step: BEGIN_TEN,
-        answer: Outcome::Begun {
-            call: 1,
-            snapshot: 0,
-        },
+        answer: FIRST_BEGUN,
         refused: NO_MEMORY,
         next: Step::Turn { call: 1 },
         left: NO_CALL,
     },
     // The call begins in the memory of a call that is over.
     Case {
-        before: &[
-            (BEGIN_TEN, 1),
-            (Step::Turn { call: 1 }, 17),
-            (Step::Order { call: 1 }, 1),
-        ],
+        before: FIRST_ORDERED,
         step: BEGIN_TEN,
         answer: Outcome::Begun {
             call: 2,
@@ -323,11 +291,7 @@ static CASES: [Case; 11] = [
         left: NO_CALL,
     },
     Case {
-        before: &[
-            (BEGIN_TEN, 1),
-            (Step::Turn { call: 1 }, 17),
-            (Step::Order { call: 1 }, 1),
-        ],
+        before: FIRST_ORDERED,
         step: Step::Deliver { replica: 2 },
         answer: Outcome::Delivered {
             position: 1,
@@ -338,11 +302,7 @@ static CASES: [Case; 11] = [
         left: Outcome::Refused(StepRefusal::ReplicaStopped),
     },
     Case {
-        before: &[
-            (BEGIN_TEN, 1),
-            (Step::Turn { call: 1 }, 17),
-            (Step::Order { call: 1 }, 1),
-        ],
+        before: FIRST_ORDERED,
         step: Step::Rebuild { replica: 2 },
         answer: Outcome::Rebuilt { position: 1 },
         refused: NO_MEMORY,
@@ -413,12 +373,6 @@ fn each_step_may_find_no_memory(rt: HostRuntime) {
     }
 }
 
-/// The first call runs to its end, and is ordered.
-static FIRST_ENDS: [(Step<'static>, usize); 2] = [
-    (Step::Turn { call: 1 }, 17),
-    (Step::Order { call: 1 }, 1),
-];
-
 /// Returns the number of growths that the first call makes as it begins, and the second, which begins when the first is
 /// over.
 fn growths_of_two<A: Allocator + Copy>(
@@ -428,14 +382,14 @@ fn growths_of_two<A: Allocator + Copy>(
     world: &mut World<A>,
 ) -> (u64, u64) {
     let none = scarce.growths();
-    let _begun = world.step(BEGIN_TEN);
-    let first = scarce.growths().wrapping_sub(none);
-    for step in &steps_of(rt, alloc, &FIRST_ENDS) {
+    let mut first = None;
+    for step in &steps_of(rt, alloc, FIRST_ORDERED) {
         let _ = world.step(*step);
+        first = first.or(Some(scarce.growths().wrapping_sub(none)));
     }
     let before = scarce.growths();
     let _begun = world.step(BEGIN_TEN);
-    (first, scarce.growths().wrapping_sub(before))
+    (first.unwrap_or(0), scarce.growths().wrapping_sub(before))
 }
 
 /// Returns the same in a world that takes memory from `taken_from`.

@@ -1,12 +1,16 @@
-use Rattle.std.proofs.Common.{◌≡◌, ◌+◌, ◌<◌, ◌≤◌, inl, inr, option_map, length, refl, sym, ap, subst, ◌∙◌, arith}
+use Rattle.std.proofs.Common.{◌≡◌, ◌+◌, length, refl, sym, ap, subst, ◌∙◌, arith}
 use Rattle.schema.specs.Schema.{Tables}
 use Rattle.catalogue.specs.Stored.{ListedProcedure, stored}
+use Rattle.log_model.specs.Log.{StoredProcedure}
+use Rattle.log_model.specs.Name.{is_name}
 use Rattle.log_model.specs.Entries.{AdditionEntry}
+use Rattle.schema.specs.declared.or_no_memory.OrNoMemory.TheVariants.{Fault}
+use Rattle.program_checks.specs.Fault.{IsAdditionFault}
 use Rattle.log_entry.specs.Kind.{entry_of}
 use Rattle.dsm_model.specs.declared.outcome.StepRefusal.{StepRefusal}
 use Rattle.dsm_model.specs.declared.outcome.StepRefusal.TheVariants.{NoMemory}
 use Rattle.dsm_model.specs.declared.outcome.Outcome.TheVariants.{Added, Refused}
-use Rattle.dsm_model.specs.World.{Add, IsStep, max_calls, call_count}
+use Rattle.dsm_model.specs.World.{Add, IsStep}
 use Rattle.program_checks.specs.ProgramCheck.{ProgramCheck}
 use Rattle.dsm_model.specs.Sound.{IsGiven, IsWorld}
 use Rattle.program_checks.specs.Check.{check_of}
@@ -14,8 +18,8 @@ use Rattle.program_checks.proofs.CheckLemmas.{accepted_for}
 use Rattle.replica.specs.Replica.{entries_of}
 use Rattle.dsm_world.specs.System.{setting_of, world_of}
 use Rattle.dsm_world.specs.Holdings.{system_of, call_slots, IsTogether}
-use Rattle.dsm_world.proofs.CallLemmas.{map_count, calls_are, with_entries, with_entry}
-use Rattle.dsm_world.proofs.AddLemmas.{add_too_many, add_long, add_failed, add_no_name, add_without_memory, added, addition_entered, entered_in_code, addition_for, one_addition_more}
+use Rattle.dsm_world.proofs.CallLemmas.{calls_counted, map_count, with_entries, with_entry}
+use Rattle.dsm_world.proofs.AddLemmas.{add_too_many, add_long, add_faulty, add_without_memory, added, addition_entered, entered_in_code, addition_for, one_addition_more}
 use Rattle.dsm_world.proofs.add.add.Goals as goal
 
 pub returns-then-len-world-ge-MAX_CALLS-clause-step : goal.returns-then-len-world-ge-MAX_CALLS-clause-step
@@ -23,9 +27,7 @@ returns-then-len-world-ge-MAX_CALLS-clause-step g c =
     let s = system_of c.args.world.now in
     let many = c.if-len-world-ge-MAX_CALLS.true in
     let calls = c.len.ensures in
-    let slots = map_count (λ slot. option_map (λ b. b.value) slot) c.args.world.now.calls.items in
-    let all = calls_are s (call_slots c.args.world.now) c.requires.together in
-    let additions = c.requires.additions in
+    let counted = calls_counted c.args.world.now c.requires in
     add_too_many (setting_of s) (world_of s) c.args.name.now c.args.number c.args.args_len (check_of s.catalogue.tables c.args.args_len c.args.bytes.now) (omega arith)
 
 pub returns-then-args_len-gt-MAX_ARGUMENTS-clause-step : goal.returns-then-args_len-gt-MAX_ARGUMENTS-clause-step
@@ -33,67 +35,49 @@ returns-then-args_len-gt-MAX_ARGUMENTS-clause-step g c =
     let s = system_of c.args.world.now in
     let few = c.if-len-world-ge-MAX_CALLS.false in
     let calls = c.len.ensures in
-    let slots = map_count (λ slot. option_map (λ b. b.value) slot) c.args.world.now.calls.items in
-    let all = calls_are s (call_slots c.args.world.now) c.requires.together in
-    let additions = c.requires.additions in
+    let counted = calls_counted c.args.world.now c.requires in
     add_long (setting_of s) (world_of s) c.args.name.now c.args.number c.args.args_len (check_of s.catalogue.tables c.args.args_len c.args.bytes.now) (omega arith) c.if-args_len-gt-MAX_ARGUMENTS.true
+
+-- there is room for an addition, and its arguments are in range
+pub returns-in-Err-NoMemory-clause-step : goal.returns-in-Err-NoMemory-clause-step
+returns-in-Err-NoMemory-clause-step g c =
+    let s = system_of c.args.world.now in
+    let few = c.if-len-world-ge-MAX_CALLS.false in
+    let calls = c.len.ensures in
+    let counted = calls_counted c.args.world.now c.requires in
+    let long = c.if-args_len-gt-MAX_ARGUMENTS.false in
+    add_without_memory (setting_of s) (world_of s) c.args.name.now c.args.number c.args.args_len (check_of s.catalogue.tables c.args.args_len c.args.bytes.now) (omega arith) (omega arith)
+
+pub returns-in-Err-Fault-clause-step : goal.returns-in-Err-Fault-clause-step
+returns-in-Err-Fault-clause-step g c =
+    let s = system_of c.args.world.now in
+    let few = c.if-len-world-ge-MAX_CALLS.false in
+    let calls = c.len.ensures in
+    let counted = calls_counted c.args.world.now c.requires in
+    let long = c.if-args_len-gt-MAX_ARGUMENTS.false in
+    let faulty = subst (λ (t : Tables). IsAdditionFault c.args.name.now (check_of t c.args.args_len c.args.bytes.now) (Fault c.in-Err-Fault.fault)) c.schema.ensures.tables
+    (subst (IsAdditionFault c.args.name.now (check_of c.schema.result.now c.args.args_len c.args.bytes.now)) c.in-Err-Fault.field-0-is c.in-Err-Fault.ensures.refused) in
+    subst (λ (refusal : StepRefusal). IsStep (setting_of s) (world_of s) (Add c.args.name.now c.args.number c.args.args_len (check_of s.catalogue.tables c.args.args_len c.args.bytes.now)) (Refused refusal) (world_of s)) (sym c.from.ensures)
+    (add_faulty (setting_of s) (world_of s) c.args.name.now c.args.number c.args.args_len (check_of s.catalogue.tables c.args.args_len c.args.bytes.now) c.in-Err-Fault.fault (omega arith) (omega arith) faulty)
 
 pub returns-in-Err-clause-step : goal.returns-in-Err-clause-step
 returns-in-Err-clause-step g c =
     let s = system_of c.args.world.now in
-    let w = setting_of s in
-    let world = world_of s in
     let few = c.if-len-world-ge-MAX_CALLS.false in
     let calls = c.len.ensures in
-    let slots = map_count (λ slot. option_map (λ b. b.value) slot) c.args.world.now.calls.items in
-    let all = calls_are s (call_slots c.args.world.now) c.requires.together in
-    let additions = c.requires.additions in
-    let room : call_count world < max_calls = omega arith in
-    let long = c.if-args_len-gt-MAX_ARGUMENTS.false in
-    let short : c.args.args_len ≤ 256 = omega arith in
-    let checked = check_of s.catalogue.tables c.args.args_len c.args.bytes.now in
-    let step = λ (refusal : StepRefusal). IsStep w world (Add c.args.name.now c.args.number c.args.args_len checked) (Refused refusal) world in
-    elim c.in-Err.ensures.refused [
-      | inl memory ↦ subst step (sym memory) (add_without_memory w world c.args.name.now c.args.number c.args.args_len checked room short)
-      | inr (fault, is, failed) ↦ subst step (sym is)
-          (add_failed w world c.args.name.now c.args.number c.args.args_len checked fault room short
-          (ap (λ (t : Tables). check_of t c.args.args_len c.args.bytes.now) (sym c.schema.ensures.tables) ∙ failed))
-    ]
-
-pub returns-then-not-is_name-clause-step : goal.returns-then-not-is_name-clause-step
-returns-then-not-is_name-clause-step g c =
-    let s = system_of c.args.world.now in
-    let few = c.if-len-world-ge-MAX_CALLS.false in
-    let calls = c.len.ensures in
-    let slots = map_count (λ slot. option_map (λ b. b.value) slot) c.args.world.now.calls.items in
-    let all = calls_are s (call_slots c.args.world.now) c.requires.together in
-    let additions = c.requires.additions in
-    let long = c.if-args_len-gt-MAX_ARGUMENTS.false in
-    add_no_name (setting_of s) (world_of s) c.args.name.now c.args.number c.args.args_len (check_of s.catalogue.tables c.args.args_len c.args.bytes.now) c.in-Ok.accepted.program (omega arith) (omega arith)
-    (ap (λ (t : Tables). check_of t c.args.args_len c.args.bytes.now) (sym c.schema.ensures.tables) ∙ c.in-Ok.ensures.passed) (sym c.is_name.ensures ∙ c.if-not-is_name.true)
-
-pub returns-in-Err-append-clause-step : goal.returns-in-Err-append-clause-step
-returns-in-Err-append-clause-step g c =
-    let s = system_of c.args.world.now in
-    let few = c.if-len-world-ge-MAX_CALLS.false in
-    let calls = c.len.ensures in
-    let slots = map_count (λ slot. option_map (λ b. b.value) slot) c.args.world.now.calls.items in
-    let all = calls_are s (call_slots c.args.world.now) c.requires.together in
-    let additions = c.requires.additions in
+    let counted = calls_counted c.args.world.now c.requires in
     let long = c.if-args_len-gt-MAX_ARGUMENTS.false in
     let step = Add c.args.name.now c.args.number c.args.args_len (check_of s.catalogue.tables c.args.args_len c.args.bytes.now) in
-    subst (λ xs. IsStep (setting_of s) (world_of s) step (Refused NoMemory) (world_of (with_entries s (entries_of xs)))) (sym c.in-Err-append.ensures.unchanged)
+    subst (λ xs. IsStep (setting_of s) (world_of s) step (Refused NoMemory) (world_of (with_entries s (entries_of xs)))) (sym c.in-Err.ensures.unchanged)
     (add_without_memory (setting_of s) (world_of s) c.args.name.now c.args.number c.args.args_len (check_of s.catalogue.tables c.args.args_len c.args.bytes.now) (omega arith) (omega arith))
 
 pub returns-in-Ok-append-clause-step : goal.returns-in-Ok-append-clause-step
 returns-in-Ok-append-clause-step g c =
     let s = system_of c.args.world.now in
-    let l : ListedProcedure = record { name = c.args.name.now; number = c.args.number; accepted = c.in-Ok.accepted } in
+    let l : ListedProcedure = c.in-Ok.added in
     let few = c.if-len-world-ge-MAX_CALLS.false in
     let calls = c.len.ensures in
-    let slots = map_count (λ slot. option_map (λ b. b.value) slot) c.args.world.now.calls.items in
-    let all = calls_are s (call_slots c.args.world.now) c.requires.together in
-    let additions = c.requires.additions in
+    let counted = calls_counted c.args.world.now c.requires in
     let long = c.if-args_len-gt-MAX_ARGUMENTS.false in
     let step = Add c.args.name.now c.args.number c.args.args_len (check_of s.catalogue.tables c.args.args_len c.args.bytes.now) in
     let entered = entered_in_code c.args.world.now.entries.items c.append.new.entries.items l c.in-Ok-append.ensures.appended in
@@ -102,15 +86,16 @@ returns-in-Ok-append-clause-step g c =
     let count : length s.entries + 1 ≡ c.len-2.result + 1 = omega arith in
     subst (λ xs. IsStep (setting_of s) (world_of s) step (Added (c.len-2.result + 1)) (world_of (with_entries s xs))) (sym entered)
     (subst (λ n. IsStep (setting_of s) (world_of s) step (Added n) (world_of (with_entry s (AdditionEntry (stored l))))) count
-    (subst (λ n. IsStep (setting_of s) (world_of s) step (Added (length s.entries + 1)) (world_of (with_entry s (AdditionEntry (record { name = c.args.name.now; number = c.args.number; program = c.in-Ok.accepted.program; args_len = n }))))) (sym c.in-Ok.ensures.given.1)
-    (added s c.args.name.now c.args.number c.args.args_len (check_of s.catalogue.tables c.args.args_len c.args.bytes.now) c.in-Ok.accepted.program (omega arith) (omega arith)
-    (ap (λ (t : Tables). check_of t c.args.args_len c.args.bytes.now) (sym c.schema.ensures.tables) ∙ c.in-Ok.ensures.passed) (sym c.is_name.ensures ∙ c.if-not-is_name.false))))
+    (subst (λ (q : StoredProcedure). IsStep (setting_of s) (world_of s) step (Added (length s.entries + 1)) (world_of (with_entry s (AdditionEntry q))))
+    (λ i. record { name = sym c.in-Ok.ensures.named.0 i; number = sym c.in-Ok.ensures.named.1 i; program = l.accepted.program; args_len = sym c.in-Ok.ensures.given.1 i })
+    (added s c.args.name.now c.args.number c.args.args_len (check_of s.catalogue.tables c.args.args_len c.args.bytes.now) l.accepted.program (omega arith) (omega arith)
+    (ap (λ (t : Tables). check_of t c.args.args_len c.args.bytes.now) (sym c.schema.ensures.tables) ∙ c.in-Ok.ensures.passed) (ap is_name (sym c.in-Ok.ensures.named.0) ∙ c.in-Ok.ensures.shape))))
 
 pub returns-in-Ok-append-clause-given : goal.returns-in-Ok-append-clause-given
 returns-in-Ok-append-clause-given g c =
     let s = system_of c.args.world.now in
     let tables = s.catalogue.tables in
-    let p = c.in-Ok.accepted in
+    let p = c.in-Ok.added.accepted in
     let own = c.in-Ok.ensures.given.0 ∙ c.schema.ensures.tables in
     subst (λ (k : ProgramCheck). IsGiven (setting_of s) (Add c.args.name.now c.args.number c.args.args_len k) (Added (c.len-2.result + 1)))
     (sym (ap (λ (t : Tables). check_of t c.args.args_len c.args.bytes.now) (sym c.schema.ensures.tables) ∙ c.in-Ok.ensures.passed))
@@ -122,8 +107,8 @@ returns-in-Ok-append-clause-consistent g c =
     let s = system_of c.args.world.now in
     let slots = call_slots c.args.world.now in
     let tables = s.catalogue.tables in
-    let p = c.in-Ok.accepted in
-    let l : ListedProcedure = record { name = c.args.name.now; number = c.args.number; accepted = p } in
+    let l : ListedProcedure = c.in-Ok.added in
+    let p = l.accepted in
     let own = c.in-Ok.ensures.given.0 ∙ c.schema.ensures.tables in
     let e = c.in-Ok-append.ensures.appended in
     let entered = entered_in_code c.args.world.now.entries.items c.append.new.entries.items l e in
@@ -131,7 +116,7 @@ returns-in-Ok-append-clause-consistent g c =
     let safe = c.accepted_procedures_are_safe.ensures tables (stored l) c.in-Ok.ensures.accepted.0 c.each_catalogue_is_consistent.ensures.tables (accepted_for p tables p.args_len own refl c.in-Ok.ensures.accepted.1) in
     record {
       together = subst (λ xs. IsTogether (with_entries s xs) slots) (sym entered)
-          (addition_entered s slots (stored l) c.one_more_entry_carries_its_run.ensures c.requires.together safe (sym c.is_name.ensures ∙ c.if-not-is_name.false)
+          (addition_entered s slots (stored l) c.one_more_entry_carries_its_run.ensures c.requires.together safe c.in-Ok.ensures.shape
           (subst (λ xs. IsWorld (setting_of s) (world_of (with_entries s xs))) entered world));
       for_tables = addition_for tables c.args.world.now.entries.items c.append.new.entries.items l e own c.requires.for_tables;
       additions = (let more = one_addition_more c.args.world.now.entries.items c.append.new.entries.items l e in let were = c.requires.additions in omega arith);

@@ -1,4 +1,4 @@
-use Rattle.std.proofs.Common.{rules, ◌≡◌, ℕ, List, [], ◌∷◌, ◌++◌, subst}
+use Rattle.std.proofs.Common.{rules, ◌≡◌, ℕ, List, ◌∷◌, subst}
 use Rattle.log_entry.specs.Bytes.{row_bytes}
 use Rattle.log_entry.proofs.bytes.append_row.Goals as goal
 

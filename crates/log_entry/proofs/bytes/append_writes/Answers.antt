@@ -3,7 +3,7 @@ use Rattle.std.specs.Slice.Iter.{iter_rest}
 use Rattle.std.proofs.lemmas.List.{nil_from_length}
 use Rattle.std.proofs.lemmas.List.{append-nil, append_assoc}
 use Rattle.std.specs.List.{concat}
-use Rattle.std.specs.FinMap.{entries, len}
+use Rattle.std.specs.FinMap.{entries}
 use Rattle.log_entry.specs.Bytes.{count_bytes, write_bytes, writes_bytes}
 use Rattle.log_entry.proofs.bytes.append_writes.Goals as goal
 

@@ -3,7 +3,7 @@ use Rattle.node_tests.proofs.memory.try_case.Given as goal
 
 -- the node whose log's cells and ledgers were just made, of this catalogue and window
 abbrev pub ghosts-try_two-J-LogSetting : goal.ghosts-try_two-J-LogSetting
-ghosts-try_two-J-LogSetting g a = record { setting = record { tables = a.catalogue.tables; catalogue = a.catalogue.procedures; window = a.window } }
+ghosts-try_two-J-LogSetting g a = record { setting = record { tables = a.start.catalogue.tables; catalogue = a.start.catalogue.procedures; window = a.start.window } }
 
 abbrev pub ghosts-try_two-J-LogIdentity : goal.ghosts-try_two-J-LogIdentity
 ghosts-try_two-J-LogIdentity g a = record { groups = a.cells }

@@ -1,24 +1,18 @@
-use Rattle.std.proofs.Common.{◌∙◌, sym, ap, arith}
-use Rattle.log_model.specs.Log.{conflicts, first_position}
-use Rattle.plain_replayer.specs.Replay.{certified_of}
-use Rattle.plain_replayer.proofs.CertifyLemmas.{from_place, found_here, found_later, not_found}
+use Rattle.std.proofs.Common.{◌∙◌, sym, arith}
+use Rattle.log_model.specs.Log.{conflicts}
+use Rattle.plain_replayer.proofs.CertifyLemmas.{found_here, found_later, not_found}
 use Rattle.plain_replayer.proofs.verdicts.first_conflict.Goals as goal
 
 pub returns-then-conflicts : goal.returns-then-conflicts
-returns-then-conflicts g c =
-    let place = from_place c.args.reports.now c.loop-report.report-index c.report-item.result _ (omega arith) c.report-item.is in
-    sym (c.loop-report.invariant.1
-    ∙ ap (first_position (conflicts c.args.looks.now) c.loop-report.position) place
-    ∙ found_here (conflicts c.args.looks.now) c.loop-report.position (certified_of c.report-item.result) _ (sym c.conflicts.ensures ∙ c.if-conflicts.true))
+returns-then-conflicts g c = sym (c.loop-report.invariant.1
+    ∙ found_here (conflicts c.args.looks.now) c.loop-report.position c.args.reports.now c.loop-report.report-index c.report-item.result _ (omega arith) c.report-item.is (sym c.conflicts.ensures ∙ c.if-conflicts.true))
 
 pub loop-report-preserved : goal.loop-report-preserved
 loop-report-preserved g c =
-    let place = from_place c.args.reports.now c.loop-report.report-index c.report-item.result _ (omega arith) c.report-item.is in
     let so_far = c.loop-report.invariant.0 in (
       omega arith,
       c.loop-report.invariant.1
-          ∙ ap (first_position (conflicts c.args.looks.now) c.loop-report.position) place
-          ∙ found_later (conflicts c.args.looks.now) c.loop-report.position (certified_of c.report-item.result) _ (sym c.conflicts.ensures ∙ c.if-conflicts.false),
+          ∙ found_later (conflicts c.args.looks.now) c.loop-report.position c.args.reports.now c.loop-report.report-index c.report-item.result _ (omega arith) c.report-item.is (sym c.conflicts.ensures ∙ c.if-conflicts.false),
     )
 
 pub returns : goal.returns

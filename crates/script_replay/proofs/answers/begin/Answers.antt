@@ -1,8 +1,6 @@
 use Rattle.std.proofs.Common.{◌≡◌, Option, Some, None, refl, sym, ap, subst, ◌∙◌}
 use Rattle.std.specs.Prelude.{option_map}
-use Rattle.std.proofs.lemmas.Result.{err_from_is_err_and}
-use Rattle.byte_output.specs.Pending.{Passes}
-use Rattle.dsm_model.specs.World.{Step, Begin, IsStep, numbered}
+use Rattle.dsm_model.specs.World.{Step, numbered}
 use Rattle.dsm_world.specs.System.{setting_of, world_of, progress_of}
 use Rattle.dsm_world.proofs.Numbered.{numbered_map}
 use Rattle.replica.specs.Replica.{Replica as ReplicaState}
@@ -10,11 +8,10 @@ use Rattle.report.specs.Answers.{text_of}
 use Rattle.report.specs.Lines.{line_text}
 use Rattle.report.specs.declared.printed.Line.TheVariants as line
 use Rattle.report.specs.declared.printed.DeliveredEntry.TheVariants as delivered
-use Rattle.script_replay.specs.Actions.{begin_action, number_of_name}
-use Rattle.script_replay.specs.Printed.{step_text}
-use Rattle.script_replay.specs.Acting.{PassesBeginning, Gives}
+use Rattle.script_replay.specs.Actions.{OneStep, begin_action, number_of_name}
+use Rattle.script_replay.specs.Acting.{Gives}
 use Rattle.script_replay.proofs.GivenLemmas.{gives_done}
-use Rattle.script_replay.proofs.ActedLemmas.{named_there, not_named, begins, begins_unnamed, begins_nowhere}
+use Rattle.script_replay.proofs.ActedLemmas.{named_there, not_named, begins, begins_unnamed, begins_nowhere, printed_so}
 use Rattle.script_replay.proofs.answers.begin.Goals as goal
 
 pub returns-in_default-clause-done : goal.returns-in_default-clause-done
@@ -39,34 +36,13 @@ returns-in_default-clause-done g c =
           (subst (Gives g.W.Write.contents c.args.output.now c.put_answer.new.output c.put_answer.result) (said ∙ ap (λ r. line_text (line.BeginRefused r)) w.refusal-is) c.put_answer.ensures.given))
     ]
 
-pub returns-in_err-step-clause-done : goal.returns-in_err-step-clause-done
-returns-in_err-step-clause-done g c =
+pub returns-clause-done : goal.returns-clause-done
+returns-clause-done g c =
     let w = setting_of c.args.world.now in
-    let after = world_of c.step.new.world in
-    let f = c.in_err-step.ensures.failed in
     let before = world_of c.args.world.now in
     let named : number_of_name w before c.args.replica c.args.name.now ≡ Some c.in-Some.procedure =
     named_there w before c.args.replica c.in-Some.procedure c.args.name.now c.args.world.now.replicas _ c.by_name.result refl (numbered_map progress_of c.args.world.now.replicas c.args.replica)
     c.in-Some.is c.by_name.ensures.no_replica c.by_name.ensures.there in
-    let q = err_from_is_err_and c.from_residual.result c.from_residual.ensures.1 in
-    let asked = c.begin_step-begin.ensures w in
-    rw q.1 (
-      step_text w after.log (Begin c.args.replica c.in-Some.procedure c.args.args.now c.args.request) f.0,
-      after,
-      begins w (world_of c.args.world.now) c.args.replica c.args.name.now c.args.args.now c.args.request c.in-Some.procedure f.0 after named (subst (λ (k : Step). IsStep w before k f.0 after) asked f.1),
-      subst (λ (k : Step). PassesBeginning g.W.Write.contents c.args.output.now c.step.new.output (step_text w after.log k f.0)) asked f.2,
-    )
-
-pub returns-clause-done : goal.returns-clause-done
-returns-clause-done g c =
-    let w = setting_of c.args.world.now in
-    let after = world_of c.step.new.world in
-    let s = c.in_ok-step.ensures.stepped in
-    let before = world_of c.args.world.now in
-    let named : number_of_name w before c.args.replica c.args.name.now ≡ Some c.in-Some.procedure =
-    named_there w before c.args.replica c.in-Some.procedure c.args.name.now c.args.world.now.replicas _ c.by_name.result refl (numbered_map progress_of c.args.world.now.replicas c.args.replica)
-    c.in-Some.is c.by_name.ensures.no_replica c.by_name.ensures.there in (
-      step_text w after.log (Begin c.args.replica c.in-Some.procedure c.args.args.now c.args.request) c.in_ok-step.field-0,
-      begins w (world_of c.args.world.now) c.args.replica c.args.name.now c.args.args.now c.args.request c.in-Some.procedure c.in_ok-step.field-0 after named (subst (λ (k : Step). IsStep w before k c.in_ok-step.field-0 after) (c.begin_step-begin.ensures w) s.0),
-      subst (λ (k : Step). Passes g.W.Write.contents c.args.output.now c.step.new.output (step_text w after.log k c.in_ok-step.field-0)) (c.begin_step-begin.ensures w) s.1,
-    )
+    printed_so g.W.Write.contents _ _ c.args.output.now c.take_step.new.output c.take_step.result (world_of c.take_step.new.world)
+    (λ text after one. begins w before c.args.replica c.args.name.now c.args.args.now c.args.request c.in-Some.procedure text after named
+    (subst (λ (k : Step). OneStep w before k text after) (c.begin_step.ensures w) one)) c.take_step.ensures.done

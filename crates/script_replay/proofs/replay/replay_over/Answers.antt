@@ -1,5 +1,6 @@
 use Rattle.script_replay.specs.Replay.{ScriptPrints}
-use Rattle.script_replay.proofs.WrittenLemmas.{if_known, told_finished, told_stopped, told_failed}
+use Rattle.script.proofs.TellingLemmas.{if_known}
+use Rattle.script_replay.proofs.WrittenLemmas.{told_finished, told_stopped, told_failed}
 use Rattle.script_replay.proofs.replay.replay_over.Goals as goal
 
 pub returns-in-Ok-clause-told : goal.returns-in-Ok-clause-told

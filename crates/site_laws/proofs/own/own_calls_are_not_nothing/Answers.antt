@@ -1,6 +1,6 @@
 use Rattle.std.proofs.Common.{◌≡◌, Some, ℕ, List, subst, sym, ap, ◌∙◌}
 use Rattle.std.proofs.lemmas.List.{length-map}
-use Rattle.log_model.specs.Log.{by_name, by_number, procedures_after}
+use Rattle.log_model.specs.Log.{by_number, procedures_after}
 use Rattle.log_model.specs.Entries.{Entry, item_of}
 use Rattle.site_model.specs.declared.outcome.EntryOutcome.TheVariants.{Nothing}
 use Rattle.site_model.specs.Order.{order_entries, order_log, outcome_behind}

@@ -2,7 +2,7 @@ use Rattle.std.proofs.Common.{◌≡◌, ℕ, ◌+◌, ◌-◌, ◌≤◌, true,
 use Rattle.std.proofs.lemmas.Bool.Decides.{nat_tests}
 use Rattle.std.proofs.lemmas.List.{length-append, length-map}
 use Rattle.bpf_semantics.specs.Run.{Run}
-use Rattle.log_model.specs.Log.{Call, IsLog, by_name, by_number, first_repeated, history, procedures_after, run_in}
+use Rattle.log_model.specs.Log.{Call, IsLog, by_number, first_repeated, history, procedures_after, run_in}
 use Rattle.log_model.specs.Entries.{Entry, ExecutedCall, CallEntry, item_of, items_of}
 use Rattle.log_model.specs.Verdicts.{WroteWhatWasRead}
 use Rattle.log_entry.specs.Bytes.{entry_bytes}

@@ -12,7 +12,7 @@ use Rattle.site_laws.specs.Orders.{procedures_behind}
 use Rattle.site_laws.proofs.LogLemmas.{entry_is}
 use Rattle.site_laws.proofs.SettledLemmas.{by_head, known_by, stands_by}
 use Rattle.site_laws.proofs.NameLemmas.{no_name_before, no_number_before}
-use Rattle.site_laws.proofs.FinalLemmas.{answer_is, half_a_request, heads_are_whole, other_arguments, refused_again, some_procedure, unknown_by, wrong_length}
+use Rattle.site_laws.proofs.FinalLemmas.{answer_is, zero_in_request, heads_are_whole, other_arguments, refused_again, some_procedure, unknown_by, wrong_length}
 use Rattle.site_laws.proofs.refusals.refusals_hold_for_good.Goals as goal
 
 pub returns-clause-kept : goal.returns-clause-kept
@@ -22,7 +22,7 @@ returns-clause-kept c s order more asked refusal other refused =
     let (p, found) = some_procedure s.setting (order_entries s order) asked (by_name (procedures_behind s order) asked.name) refusal other is in
     answer_is count s (order ++ more) asked
     ∙ ap (answer_for s.setting (order_entries s (order ++ more)) asked) (c.procedures_only_grow.ensures.name s order more asked.name p found)
-    ∙ refused_again s.setting (order_entries s order) (order_entries s (order ++ more)) asked refusal p (sym (ap (answer_for s.setting (order_entries s order) asked) found) ∙ is)
+    ∙ refused_again s.setting (order_entries s order) asked (order_entries s (order ++ more)) refusal (Some p) (sym (ap (answer_for s.setting (order_entries s order) asked) found) ∙ is)
 
 pub returns-clause-before : goal.returns-clause-before
 returns-clause-before c s order more asked refused =
@@ -82,7 +82,7 @@ returns-clause-arguments c s order more bytes asked p call told reply distinct r
 
 pub returns-clause-request : goal.returns-clause-request
 returns-clause-request c s order bytes asked call told refused head same =
-    let half = half_a_request s.setting (order_entries s order) asked (by_name (procedures_behind s order) asked.name) (sym (answer_is c.orders_grow.ensures.count s order asked) ∙ refused) in
+    let half = zero_in_request s.setting (order_entries s order) asked (by_name (procedures_behind s order) asked.name) (sym (answer_is c.orders_grow.ensures.count s order asked) ∙ refused) in
     absurd (let x = sym (heads_are_whole bytes call told head) ∙ ap has_zero same ∙ half in cc)
 
 pub returns-clause-taken : goal.returns-clause-taken

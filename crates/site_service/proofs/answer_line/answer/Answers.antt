@@ -3,7 +3,8 @@ use Rattle.site_service.specs.Lines.{line_says}
 use Rattle.script.specs.declared.fault.LineFault.TheVariants.{NoMemory}
 use Rattle.site.specs.Replica.{StandsForOrder, setting_of}
 use Rattle.site_service.specs.LineAnswers.{IsLineAnswer, order_behind}
-use Rattle.site_service.proofs.AnswerLemmas.{ok_gives, says_fault, says_this}
+use Rattle.script.proofs.SaidLemmas.{ok_gives}
+use Rattle.site_service.proofs.AnswerLemmas.{says_fault, says_this}
 use Rattle.site_service.proofs.answer_line.answer.Goals as goal
 
 pub returns-in-Ok-None-clause-answered : goal.returns-in-Ok-None-clause-answered

@@ -2,7 +2,8 @@ use Rattle.std.proofs.Common.{refl, sym, subst, ap}
 use Rattle.site_service.specs.Answers.{position_line}
 use Rattle.site.specs.Replica.{setting_of}
 use Rattle.site_service.specs.LineAnswers.{IsAnswer, entry_answer, rows_answer, scan_answer}
-use Rattle.site_service.proofs.AnswerLemmas.{call_answered, ok_gives}
+use Rattle.script.proofs.SaidLemmas.{ok_gives}
+use Rattle.site_service.proofs.AnswerLemmas.{call_answered}
 use Rattle.site_service.proofs.answer_line.answer_request.Goals as goal
 
 pub returns-in-Call-clause-answered : goal.returns-in-Call-clause-answered

@@ -1,6 +1,7 @@
 use Rattle.site_service.specs.Settings.{settings_say}
 use Rattle.site_service.specs.Leaving.{AreUntouched}
-use Rattle.site_service.proofs.EndLemmas.{if_known, if_ok, leaves_some, leaves_whole, tells_failure}
+use Rattle.script.proofs.TellingLemmas.{if_known}
+use Rattle.site_service.proofs.EndLemmas.{if_ok, leaves_some, leaves_whole, tells_failure}
 use Rattle.site_service.proofs.service.site_over.Goals as goal
 
 pub returns-in-Ok-clause-answered : goal.returns-in-Ok-clause-answered

@@ -3,7 +3,7 @@ use Rattle.test_nodes.proofs.run.run_at_a_node.Given as goal
 
 -- the node whose log's cells and ledgers were just made, of this catalogue and window
 abbrev pub ghosts-run_node-J-LogSetting : goal.ghosts-run_node-J-LogSetting
-ghosts-run_node-J-LogSetting g a = record { setting = record { tables = a.catalogue.tables; catalogue = a.catalogue.procedures; window = a.size.window } }
+ghosts-run_node-J-LogSetting g a = record { setting = record { tables = a.parts.catalogue.tables; catalogue = a.parts.catalogue.procedures; window = a.parts.size.window } }
 
 abbrev pub ghosts-run_node-J-LogIdentity : goal.ghosts-run_node-J-LogIdentity
 ghosts-run_node-J-LogIdentity g a = record { groups = a.cells }

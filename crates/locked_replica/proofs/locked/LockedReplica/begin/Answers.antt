@@ -1,40 +1,31 @@
-use Rattle.std.proofs.Common.{sym, ap, ◌∙◌, arith}
-use Rattle.bpf_verify.specs.Flow.{Procedure}
+use Rattle.std.proofs.Common.{sym, ap, ◌∙◌, option_map, arith}
 use Rattle.std.specs.Arc.{arc_value}
-use Rattle.locked_replica.proofs.BeginLemmas.{Sees, of_log, none_found, other_length, begun}
+use Rattle.locked_replica.proofs.BeginLemmas.{Sees, of_log, refused, begun}
 use Rattle.locked_replica.proofs.locked.LockedReplica.begin.Goals as goal
 
-pub returns-in_default : goal.returns-in_default
-returns-in_default g c =
+pub returns-in-Err : goal.returns-in-Err
+returns-in-Err g c =
     let w = g.J.LogSetting.setting in
-    let entries = c.args.self.now.entries in
     let known = c.keeps_what_was_delivered.ensures in
-    let sees : Sees w entries c.seen-seen.result c.args.procedure c.procedures.result.now (λ a. arc_value a) c.in_ok-accepted.field-0 =
-    record { same = c.seen-seen.ensures; schema = known.schema; entries_of_log = known.entries; after = c.procedures.ensures.log; for_tables = c.procedures.ensures.for_tables; found = c.in_ok-accepted.ensures } in (
+    let sees : Sees w c.args.self.now.entries c.seen-seen.result c.args.procedure c.procedures-procedures.result.now =
+    record { same = c.seen-seen.ensures; schema = known.schema; entries_of_log = known.entries; after = c.procedures-procedures.ensures.log; for_tables = c.procedures-procedures.ensures.for_tables } in (
       (let p = c.position.ensures.position in omega (arith, c.if-position-least.false)),
       c.seen-seen.ensures,
-      of_log w entries c.seen-seen.result c.args.procedure c.procedures.result.now (λ a. arc_value a) c.in_ok-accepted.field-0 sees,
-      none_found w entries c.seen-seen.result c.args.procedure c.procedures.result.now (λ a. arc_value a) c.in_ok-accepted.field-0 sees c.in_default.is,
+      of_log w c.args.self.now.entries c.seen-seen.result c.args.procedure c.procedures-procedures.result.now sees,
+      refused w c.args.self.now.entries c.seen-seen.result c.args.procedure c.procedures-procedures.result.now sees c.args.args.now c.args.request c.in-Err.refusal c.in-Err.ensures.refused,
     )
 
-pub returns-then-args-from : goal.returns-then-args-from
-returns-then-args-from g c =
-    let w = g.J.LogSetting.setting in
-    let entries = c.args.self.now.entries in
-    let known = c.keeps_what_was_delivered.ensures in
-    let sees : Sees w entries c.seen-seen.result c.args.procedure c.procedures.result.now (λ a. arc_value a) c.in_ok-accepted.field-0 =
-    record { same = c.seen-seen.ensures; schema = known.schema; entries_of_log = known.entries; after = c.procedures.ensures.log; for_tables = c.procedures.ensures.for_tables; found = c.in_ok-accepted.ensures } in (
-      (let p = c.position.ensures.position in omega (arith, c.if-position-least.false)),
-      c.seen-seen.ensures,
-      of_log w entries c.seen-seen.result c.args.procedure c.procedures.result.now (λ a. arc_value a) c.in_ok-accepted.field-0 sees,
-      other_length w entries c.seen-seen.result c.args.procedure c.procedures.result.now (λ a. arc_value a) c.in_ok-accepted.field-0 sees c.in-Some.accepted c.in-Some.is c.args.args.now
-          (λ e. c.if-args-from.true (e ∙ sym (ap (λ (q : Procedure). q.args_len) c.deref.ensures) ∙ sym c.args_len.ensures.length ∙ sym c.from.ensures)),
-    )
+pub unreachable-requires : goal.unreachable-requires
+unreachable-requires g c =
+    let none = ap (option_map (λ a. arc_value a)) (sym c.in_default-2.is) ∙ c.in_ok-accepted.ensures in
+    let there = c.in_default.ensures.program in
+    let bad = there ∙ sym none in
+    cc
 
 pub new-requires : goal.new-requires
 new-requires g c =
     let w = g.J.LogSetting.setting in
-    let entries = c.args.self.now.entries in
     let known = c.keeps_what_was_delivered.ensures in
-    begun w entries c.seen-seen.result c.args.procedure c.procedures.result.now (λ a. arc_value a) c.in_ok-accepted.field-0
-    (record { same = c.seen-seen.ensures; schema = known.schema; entries_of_log = known.entries; after = c.procedures.ensures.log; for_tables = c.procedures.ensures.for_tables; found = c.in_ok-accepted.ensures }) c.in-Some.accepted c.in-Some.is
+    let sees : Sees w c.args.self.now.entries c.seen-seen.result c.args.procedure c.procedures-procedures.result.now =
+    record { same = c.seen-seen.ensures; schema = known.schema; entries_of_log = known.entries; after = c.procedures-procedures.ensures.log; for_tables = c.procedures-procedures.ensures.for_tables } in
+    begun w c.args.self.now.entries c.seen-seen.result c.args.procedure c.procedures-procedures.result.now sees (arc_value c.in-Some.accepted) (ap (option_map (λ a. arc_value a)) (sym c.in-Some.is) ∙ c.in_ok-accepted.ensures)

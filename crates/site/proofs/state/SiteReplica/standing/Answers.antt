@@ -1,11 +1,12 @@
 use Rattle.std.proofs.Common.{◌≡◌, ◌∙◌, None, Some, option_map, refl, sym, ap, subst}
 use Rattle.log_model.specs.Entries.{items_of}
 use Rattle.log_entry.specs.Head.{head_of, CallHead, AdditionHead}
+use Rattle.log_entry.specs.Named.{named_of}
 use Rattle.log_entry.specs.Named.{named}
 use Rattle.site_model.specs.declared.cause.NothingCause.TheVariants as cause
 use Rattle.site_model.specs.Standing as model
 use Rattle.site.specs.Replica.{setting_of}
-use Rattle.site.specs.Standing.{IsStanding, head_call, head_procedure}
+use Rattle.site.specs.Standing.{IsStanding, head_call}
 use Rattle.site.specs.declared.standing.Standing.TheVariants.{Nothing}
 use Rattle.site.proofs.SiteLemmas.{stands_by, call_is, addition_is}
 use Rattle.site.proofs.state.SiteReplica.standing.Goals as goal
@@ -22,5 +23,5 @@ returns-in-Some-Call-clause-is g c =
 
 pub returns-in-Some-Addition-clause-is : goal.returns-in-Some-Addition-clause-is
 returns-in-Some-Addition-clause-is g c =
-    let head : head_of c.args.bytes.now ≡ Some (AdditionHead (head_procedure c.in-Some-Addition.head)) = sym c.head_of.ensures ∙ ap (option_map named) (c.in-Some-Addition.is ∙ ap Some c.in-Some-Addition.field-0-is) in
-    addition_is c.args.self.now c.args.bytes.now (head_procedure c.in-Some-Addition.head) c.addition_standing.result head c.addition_standing.ensures.is
+    let head : head_of c.args.bytes.now ≡ Some (AdditionHead (named_of c.in-Some-Addition.head)) = sym c.head_of.ensures ∙ ap (option_map named) (c.in-Some-Addition.is ∙ ap Some c.in-Some-Addition.field-0-is) in
+    addition_is c.args.self.now c.args.bytes.now (named_of c.in-Some-Addition.head) c.addition_standing.result head c.addition_standing.ensures.is

@@ -1,4 +1,4 @@
-use Rattle.node_tests.proofs.orders.threads.four_threads_append_while_two_read.Given as goal
+use Rattle.node_tests.proofs.orders.threads.run_crowd.Given as goal
 
 -- the log whose cells were just made
 abbrev pub ghosts-try_crowd : goal.ghosts-try_crowd

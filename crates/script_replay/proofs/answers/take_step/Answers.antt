@@ -1,9 +1,8 @@
+use Rattle.std.proofs.Common.{refl}
 use Rattle.std.proofs.lemmas.Result.{err_from_is_err_and}
-use Rattle.dsm_model.specs.World.{Rebuild}
-use Rattle.dsm_world.specs.System.{setting_of, world_of}
+use Rattle.dsm_world.specs.System.{setting_of, step_of, world_of}
 use Rattle.script_replay.specs.Printed.{step_text}
-use Rattle.script_replay.proofs.ActedLemmas.{rebuilds}
-use Rattle.script_replay.proofs.answers.rebuild.Goals as goal
+use Rattle.script_replay.proofs.answers.take_step.Goals as goal
 
 pub returns-in_err-step-clause-done : goal.returns-in_err-step-clause-done
 returns-in_err-step-clause-done g c =
@@ -11,11 +10,11 @@ returns-in_err-step-clause-done g c =
     let w = setting_of c.args.world.now in
     let after = world_of c.step.new.world in
     let q = err_from_is_err_and c.from_residual.result c.from_residual.ensures.1 in
-    rw q.1 (step_text w after.log (Rebuild c.args.replica) f.0, after, rebuilds w (world_of c.args.world.now) c.args.replica f.0 after f.1, f.2)
+    rw q.1 (step_text w after.log (step_of w c.args.taken) f.0, after, (f.0, f.1, refl), f.2)
 
 pub returns-clause-done : goal.returns-clause-done
 returns-clause-done g c =
     let s = c.in_ok-step.ensures.stepped in
     let w = setting_of c.args.world.now in
     let after = world_of c.step.new.world in
-    (step_text w after.log (Rebuild c.args.replica) c.in_ok-step.field-0, rebuilds w (world_of c.args.world.now) c.args.replica c.in_ok-step.field-0 after s.0, s.1)
+    (step_text w after.log (step_of w c.args.taken) c.in_ok-step.field-0, (c.in_ok-step.field-0, s.0, refl), s.1)

@@ -1,5 +1,0 @@
-use Rattle.node_tests.proofs.orders.threads.a_full_log_refuses_the_rest.Given as goal
-
--- the log whose cells were just made
-abbrev pub ghosts-try_crowd : goal.ghosts-try_crowd
-ghosts-try_crowd g a = record { groups = a.cells }

@@ -1,5 +1,0 @@
-use Rattle.node_tests.proofs.orders.threads.sixteen_threads_append.Given as goal
-
--- the log whose cells were just made
-abbrev pub ghosts-try_crowd : goal.ghosts-try_crowd
-ghosts-try_crowd g a = record { groups = a.cells }

@@ -1,0 +1,70 @@
+//! The reading of lines to their end.
+
+ghost use Rattle.std.specs.Prelude.{◌≡◌, ◌⊎◌, ◌<◌, ℕ, List, length, Some, Result, Ok, Err, IfOk, IfErr, OnOk};
+ghost use Rattle.script.specs.Text.{lines_of, max_line};
+ghost use Rattle.script.specs.Said.{IsStopOf, said_from};
+ghost use Rattle.script.specs.declared.cause.FaultCause.{FaultCause};
+ghost use Rattle.script.specs.declared.cause.FaultCause.TheVariants.{Line, NoMemory};
+ghost use Rattle.script.specs.declared.fault.LineFault.TheVariants.{Bytes};
+
+use crate::cause::FaultCause;
+use crate::fault::LineFault;
+use crate::input::{MAX_LINE, Next, next_line};
+use crate::stop::{Stop, fault_at, out_of_memory};
+use std::alloc::Allocator;
+use std::io;
+use std::io::{BufRead, ErrorKind};
+
+/// A reader that takes lines, one after another.
+pub trait LineReader<A: Allocator + Copy>: Drop {
+    /// What lines come to.
+    ghost Meaning: { Type 0 };
+
+    /// What the lines taken so far come to.
+    ghost read_so_far: { Self → Meaning };
+
+    /// What lines come to with one more line, or why they come to nothing.
+    ghost with_next: { Meaning → List ℕ → Result Meaning FaultCause };
+
+    /// Takes one more line, given without its LF.
+    fn take_line(&mut self, alloc: A, line: &[u8]) -> Result<(), FaultCause>
+        ensures ok { OnOk result (with_next (read_so_far self.old) line.now ≡ Ok (read_so_far self.new)) }
+        ensures fault { IfErr result (λ cause. (cause ≡ NoMemory)
+            ⊎ (with_next (read_so_far self.old) line.now ≡ Err cause)) };
+
+    /// A line that is too long is at fault for its bytes, whatever they are.
+    ghost too_long: { (before : Meaning) (line : List ℕ) → max_line < length line
+        → with_next before line ≡ Err (Line Bytes) };
+}
+
+/// Has a reader take the lines of the input to their end, or to the first fault.
+pub fn read_lines<A: Allocator + Copy, R: BufRead, L: LineReader<A>>(
+    alloc: A,
+    input: &mut R,
+    reader: L,
+) -> Result<L, Stop>
+    ensures exact { IfOk result (λ read. (bytes : List ℕ) → R.remaining input.old ≡ Some bytes
+        → said_from L.with_next Ok (L.read_so_far reader) 1 (lines_of bytes) ≡ Ok (L.read_so_far read)) }
+    // The stop is at the first fault, or memory is wanting, or the input failed.
+    ensures stop { IfErr result (λ stop. (bytes : List ℕ) → R.remaining input.old ≡ Some bytes
+        → IsStopOf (said_from L.with_next Ok (L.read_so_far reader) 1 (lines_of bytes)) stop) }
+{
+    let Ok(mut line) = Vec::with_capacity(alloc, MAX_LINE) else {
+        return Err(out_of_memory(0));
+    };
+    let mut reader = reader;
+    for number in 1..u64::MAX {
+        match next_line(input, &mut line) {
+            Ok(Next::Line) => {}
+            Ok(Next::AtEnd) => return Ok(reader),
+            Ok(Next::TooLong) => {
+                return Err(fault_at(number, FaultCause::Line(LineFault::Bytes)));
+            }
+            Err(error) => return Err(Stop::Input(error)),
+        }
+        if let Err(cause) = reader.take_line(alloc, &line) {
+            return Err(fault_at(number, cause));
+        }
+    }
+    Err(Stop::Input(io::Error::from(ErrorKind::Interrupted)))
+}
