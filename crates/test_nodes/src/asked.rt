@@ -21,6 +21,7 @@ pub struct AskedCall {
 }
 
 impl AskedCall {
+    /// A call of a procedure with its arguments, and with a request or without one.
     pub fn new(procedure: u16, words: Words, request: Option<RequestId>) -> AskedCall {
         AskedCall {
             procedure,
