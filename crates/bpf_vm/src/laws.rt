@@ -9,7 +9,8 @@ ghost use Rattle.bpf_semantics.specs.Path.{longest_path};
 ghost use Rattle.bpf_verify.specs.Flow.{Procedure};
 ghost use Rattle.acceptance.specs.Description.{Suits};
 ghost use Rattle.bpf_vm.specs.Turns.{MachineState, CanTurn};
-ghost use Rattle.bpf_vm.specs.Run.{IsAcceptedProcedure, HasRun, HasEnded, effects_of, own_effects};
+ghost use Rattle.vm_state.specs.Plain.{CanRunOn};
+ghost use Rattle.bpf_vm.specs.Run.{Effects, IsAcceptedProcedure, HasRun, HasEnded, effects_of, own_effects};
 
 use acceptance::accepted_programs_never_go_wrong;
 use bpf_semantics::{a_run_ends_or_is_stuck, a_run_goes_on_to_its_length, states_fit};
@@ -29,8 +30,8 @@ pub fn open_calls_can_turn<S: Store, C: Allocator + Copy>(view: &View<S, C>)
     states_fit();
 }
 
-/// An accepted procedure's run that goes on after k instructions has one more on its longest path. Where that
-/// instruction ends the run, the run is what it leaves there.
+/// An accepted procedure's run that goes on after k instructions has one more on its longest path, and a machine there
+/// can run plain instructions. Where that instruction ends the run, the run is what it leaves there.
 pub fn runs_go_on_or_end()
     ensures short { (p : Procedure) (args : List ℕ) (rows : Rows) (k : ℕ) (s : State)
         → IsAcceptedProcedure p → Suits p args rows
@@ -41,6 +42,8 @@ pub fn runs_go_on_or_end()
         → moment p.program p.tables k (entry_state args rows) ≡ Going s
         → step p.program p.tables s ≡ Ended reply t
         → HasEnded p args rows (k + 1) reply (effects_of t) }
+    ensures plain { (p : Procedure) (args : List ℕ) (rows : Rows) (k : ℕ) (m : MachineState) (effects : Effects)
+        → Suits p args rows → HasRun p args rows k m effects → CanRunOn p.program m.words }
 {
     // Laws:
     accepted_programs_never_go_wrong();

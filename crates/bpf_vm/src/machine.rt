@@ -248,14 +248,15 @@ impl Machine {
         unreachable!()
     }
 
-    /// Runs the instructions up to the next call, long jump or end, by the procedure's layout, and returns their
-    /// number.
-    fn run_plain<A: Allocator, B: Allocator>(&mut self, procedure: &Accepted<A, B>) -> u32
+    /// Runs the instructions up to the next call, long jump or end at once, by the procedure's layout, and returns their
+    /// number. Each of them is a turn that answers that there is more, whatever rows there are.
+    pub fn run_plain<A: Allocator, B: Allocator>(&mut self, procedure: &Accepted<A, B>) -> u32
         requires { CanRunOn procedure.now.program self.old.words }
-        ensures { (args : List ℕ) (rows : Rows) (k : ℕ) (effects : Effects) → Suits procedure.now args rows
+        ensures run { (args : List ℕ) (rows : Rows) (k : ℕ) (effects : Effects) → Suits procedure.now args rows
             → HasRun procedure.now args rows k self.old effects
             → HasRun procedure.now args rows (k + result) self.new effects
             × ((gone : Bool) → NoneIsStale procedure.now args rows gone k result) }
+        ensures last { self.new.last ≡ self.old.last }
     {
         // Laws:
         accepted_programs_never_go_wrong();

@@ -28,7 +28,7 @@ use Rattle.replica.specs.Replica.{IsForTables, IsNamed, entries_of, writes_in}
 use Rattle.world_calls.specs.OpenCall.{Follows}
 use Rattle.world_calls.specs.declared.open_call.OpenCall.{OpenCall as OpenCallState}
 use Rattle.dsm_world.specs.System.{SystemWorld, setting_of, progress_of, world_of}
-use Rattle.dsm_world.specs.Holdings.{IsTogether}
+use Rattle.dsm_world.specs.Together.{IsTogether}
 use Rattle.dsm_world.proofs.StepLemmas.{Done, yes, no, is_le, not_le, is_lt, not_lt}
 use Rattle.replica.proofs.EntryLemmas.{OneMore, items_append, items_count, all_snoc, entries_snoc}
 use Rattle.dsm_world.proofs.EntryLemmas.{follows_grown}

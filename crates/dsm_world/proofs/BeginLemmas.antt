@@ -11,7 +11,7 @@ use Rattle.dsm_model.specs.World.{numbered}
 use Rattle.replica.specs.Replica.{Replica}
 use Rattle.world_calls.specs.declared.open_call.OpenCall.{OpenCall as OpenCallState}
 use Rattle.dsm_world.specs.System.{SystemWorld, setting_of, progress_of, world_of}
-use Rattle.dsm_world.specs.Holdings.{IsTogether}
+use Rattle.dsm_world.specs.Together.{IsTogether}
 use Rattle.dsm_world.proofs.ReplicaLemmas.{ProceduresFollow, found_at, get_is, in_procedures, known, procedures_held, replica_at}
 
 -- the replica of a number, and what its procedures say of a call, which is what those of the log say at its position

@@ -1,5 +1,5 @@
 -- Steps of a call: what they answer by the definitions, and that all still fits together.
-use Rattle.std.proofs.Common.{◌≡◌, ◌≢◌, ◌⊎◌, get_or, ℕ, zero, suc, ◌+◌, ◌-◌, ◌<◌, ◌≤◌, Bool, cond, List, [], ◌∷◌, ◌++◌, length, map, take, drop, slice_get, slice_set, nat_lt, Option, Some, None, Ok, option_map, refl, sym, ap, subst, ◌∙◌, arith, inl, inr}
+use Rattle.std.proofs.Common.{◌≡◌, ◌≢◌, ◌⊎◌, get_or, ℕ, zero, suc, ◌+◌, ◌-◌, ◌<◌, ◌≤◌, Bool, cond, List, [], ◌∷◌, ◌++◌, length, map, take, drop, slice_get, slice_set, vec_len, nat_lt, Option, Some, None, Ok, option_map, refl, sym, ap, subst, ◌∙◌, arith, inl, inr}
 use Rattle.std.specs.FinMap.{len}
 use Rattle.schema.specs.Rows.{Rows, AreWrites}
 use Rattle.log_model.specs.InstalledWrites.{map_after}
@@ -32,9 +32,10 @@ use Rattle.world_calls.specs.declared.open_call.OpenCall.{OpenCall as OpenCallSt
 use Rattle.dsm_world.specs.System.{SystemWorld, setting_of, progress_of, world_of}
 use Rattle.dsm_world.specs.Execution.{IsExecution}
 use Rattle.dsm_world.specs.Turned.{outcome_of, IsAppended}
-use Rattle.dsm_world.specs.declared.holdings.Holdings.{Holdings}
-use Rattle.dsm_world.specs.Holdings.{AreConsistentHoldings, IsReplicaOf, IsTogether, call_slots, open_calls_of, system_of}
-use Rattle.dsm_world.proofs.Numbered.{get_map, set_map, set_same, set_twice, get_set, get_snoc, numbered_map, numbered_at, with_numbered_at}
+use Rattle.dsm_world.specs.declared.world.World.TheInside.{Inside}
+use Rattle.dsm_world.specs.Together.{IsReplicaOf, IsTogether, open_calls_of}
+use Rattle.dsm_world.specs.Fields.{IsConsistent, call_slots, system_of}
+use Rattle.dsm_world.proofs.Numbered.{get_lt, get_map, set_map, set_same, set_twice, get_set, get_snoc, numbered_map, numbered_at, with_numbered_at}
 use Rattle.dsm_world.proofs.StepLemmas.{is_gone, execution_on, order_early, order_cancelled, order_read, order_full, order_new, order_without_memory, begin_new}
 use Rattle.replica.proofs.EntryLemmas.{OneMore, take_first, take_drop, take_count, items_append, items_count, all_snoc, entries_taken, entries_snoc}
 use Rattle.dsm_world.proofs.EntryLemmas.{follows_grown}
@@ -76,20 +77,25 @@ slot_set s slots n k x e place =
     ∙ with_numbered_at (open_calls_of slots) n k (option_map open_call_of x) place
     ∙ sym (set_map (λ (slot : Option (OpenCallState _)). option_map open_call_of slot) slots k x))
 
-pub slot_changed : {A : Type 0} (s : SystemWorld) (slots : List (Option (OpenCallState A))) (k : ℕ) (x : Option (OpenCallState A)) → IsTogether s slots → ((c : OpenCallState A) → x ≡ Some c → Follows (setting_of s) (items_of s.entries) c)
-    → IsWorld (setting_of s) (world_of (with_slots s (slice_set slots k x))) → IsTogether (with_slots s (slice_set slots k x)) (slice_set slots k x)
-slot_changed s slots k x h follows world = record {
+-- other calls of which each that is open follows its run
+pub calls_changed : {A : Type 0} (s : SystemWorld) (slots new : List (Option (OpenCallState A))) → IsTogether s slots → ((j : ℕ) (c : OpenCallState A) → slice_get new j ≡ Some (Some c) → Follows (setting_of s) (items_of s.entries) c)
+    → IsWorld (setting_of s) (world_of (with_slots s new)) → IsTogether (with_slots s new) new
+calls_changed s slots new h follow world = record {
   entries = h.entries;
   writes = h.writes;
   named = h.named;
   world = world;
   replicas = h.replicas;
   calls = refl;
-  open_calls = λ j c e. elim (get_set slots k j x) [
-    | inl same ↦ h.open_calls j c (sym same ∙ e)
-    | inr now ↦ follows c (some_is x (Some c) (sym now.1 ∙ e))
-  ];
+  open_calls = follow;
 }
+
+pub slot_changed : {A : Type 0} (s : SystemWorld) (slots : List (Option (OpenCallState A))) (k : ℕ) (x : Option (OpenCallState A)) → IsTogether s slots → ((c : OpenCallState A) → x ≡ Some c → Follows (setting_of s) (items_of s.entries) c)
+    → IsWorld (setting_of s) (world_of (with_slots s (slice_set slots k x))) → IsTogether (with_slots s (slice_set slots k x)) (slice_set slots k x)
+slot_changed s slots k x h follows = calls_changed s slots (slice_set slots k x) h (λ j c e. elim (get_set slots k j x) [
+  | inl same ↦ h.open_calls j c (sym same ∙ e)
+  | inr now ↦ follows c (some_is x (Some c) (sym now.1 ∙ e))
+])
 
 -- ---- what is known of an open call
 
@@ -177,8 +183,8 @@ taken_world : {A : Type 0} (s : SystemWorld) (slots : List (Option (OpenCallStat
 taken_world s slots n k h place = slot_set s slots n k None h.calls place
 
 pub cancelled : {A : Type 0} (s : SystemWorld) (slots : List (Option (OpenCallState A))) (n k : ℕ) (c : OpenCallState A) (snapshot code : ℕ) → IsTogether s slots → n ≡ k + 1 → (f : OpenFacts s n c) → c.turns ≡ (run_in (setting_of s) (items_of s.entries) (call_of c)).steps
-    → (run_in (setting_of s) (items_of s.entries) (call_of c)).cancel_code ≡ Some code → snapshot ≡ c.snapshot → IsStep (setting_of s) (world_of s) (Order n) (Cancelled snapshot code) (world_of (with_slots s (slice_set slots k None)))
-cancelled s slots n k c snapshot code h place f end is at =
+    → ((run_in (setting_of s) (items_of s.entries) (call_of c)).cancel_code ≡ Some code) × (snapshot ≡ c.snapshot) → IsStep (setting_of s) (world_of s) (Order n) (Cancelled snapshot code) (world_of (with_slots s (slice_set slots k None)))
+cancelled s slots n k c snapshot code h place f end (is, at) =
     subst (λ (x : World). IsStep (setting_of s) (world_of s) (Order n) (Cancelled snapshot code) x) (taken_world s slots n k h place)
     (subst (λ (m : ℕ). IsStep (setting_of s) (world_of s) (Order n) (Cancelled m code) (without_call (world_of s) n)) (sym at)
     (order_cancelled (setting_of s) (world_of s) n (open_call_of c) code f.is_open end is))
@@ -280,12 +286,15 @@ pub calls_are : {A : Type 0} (s : SystemWorld) (slots : List (Option (OpenCallSt
 calls_are s slots h = ap (λ (x : List (Option OpenCall)). length x) h.calls ∙ map_count (λ (slot : Option (OpenCallState _)). option_map open_call_of slot) slots
 
 -- how many calls and additions a world has had, in code
-pub calls_counted : {A : Type 0} (h : Holdings A) → AreConsistentHoldings h → call_count (world_of (system_of h)) ≡ length h.calls.items + h.additions
+pub calls_counted : {A : Type 0} (h : Inside A) → IsConsistent h → call_count (world_of (system_of h)) ≡ length h.calls.items + h.additions
 calls_counted h is =
     let slots = map_count (λ slot. option_map (λ b. b.value) slot) h.calls.items in
     let calls = calls_are (system_of h) (call_slots h) is.together in
     let additions = is.additions in
     omega arith
+
+pub few_calls : {A : Type 0} (h : Inside A) (n : ℕ) → IsConsistent h → n ≡ vec_len h.calls → n + h.additions < max_calls → call_count (world_of (system_of h)) < max_calls
+few_calls h n is count few = let counted = calls_counted h is in let items = h.calls.ok.0 in omega arith
 
 pub begins : {A : Type 0} (s : SystemWorld) (slots : List (Option (OpenCallState A))) (r k p : ℕ) (args : List ℕ) (request : Option RequestId) (old : Replica) (q : StoredProcedure) (c : OpenCallState A) (number : ℕ) → IsTogether s slots → r ≡ k + 1 → slice_get s.replicas k ≡ Some old → admission args request (by_number (procedures_after (setting_of s) (world_of s).log old.position) p) ≡ Ok q
     → call_count (world_of s) < max_calls → number ≡ length slots + 1 → open_call_of c ≡ record { replica = r; call = record { number = number; procedure = p; args = args; snapshot = old.position; request = request }; turns = 0 }
@@ -302,18 +311,10 @@ begins s slots r k p args request old q c number h place at admitted few is same
     (begin_new (setting_of s) (world_of s) r p args request (progress_of old) q (numbered_at (map progress_of s.replicas) r k place ∙ get_map progress_of s.replicas k ∙ ap (option_map progress_of) at) admitted few))
 
 pub call_entered : {A : Type 0} (s : SystemWorld) (slots : List (Option (OpenCallState A))) (c : OpenCallState A) → IsTogether s slots → Follows (setting_of s) (items_of s.entries) c → IsWorld (setting_of s) (world_of (with_slots s (slots ++ Some c ∷ []))) → IsTogether (with_slots s (slots ++ Some c ∷ [])) (slots ++ Some c ∷ [])
-call_entered s slots c h follows world = record {
-  entries = h.entries;
-  writes = h.writes;
-  named = h.named;
-  world = world;
-  replicas = h.replicas;
-  calls = refl;
-  open_calls = λ j d e. elim (get_snoc slots (Some c) j (Some d) e) [
-    | inl there ↦ h.open_calls j d there
-    | inr now ↦ subst (λ x. Follows (setting_of s) (items_of s.entries) x) (some_is c d now) follows
-  ];
-}
+call_entered s slots c h follows = calls_changed s slots (slots ++ Some c ∷ []) h (λ j d e. elim (get_snoc slots (Some c) j (Some d) e) [
+  | inl there ↦ h.open_calls j d there
+  | inr now ↦ subst (λ x. Follows (setting_of s) (items_of s.entries) x) (some_is c d now) follows
+])
 
 -- ---- at a replica's store
 
@@ -441,6 +442,67 @@ turn_steps s slots n k c new f before turn left gone r snapshot d h place same a
     turned s slots n k c new before turn left h place f
     (subst (λ (b : Bool). AreTurns (setting_of s) (items_of s.entries) b before (open_call_of c) turn (open_call_of new)) now
     (subst (λ (x : OpenCallState _). AreTurns (setting_of s) (items_of s.entries) gone before (open_call_of x) turn (open_call_of new)) is t)) leaves
+
+-- a call that was taken out of its place and can go on, at its replica as code looks it up
+pub record CanTurn {A : Type 0} (s : SystemWorld) (n : ℕ) (c : OpenCallState A) (accepted : Procedure) (answers_from : Rows → Type 0) (r : Replica) (d : OpenCallState A) : Type 0 where
+  pub facts : OpenFacts s n c
+  pub same : r ≡ facts.r
+  pub can : CanGoOn (setting_of s) (items_of s.entries) accepted answers_from d
+
+-- its replica, looked up by the call as it is in hand
+pub held_replica : {A : Type 0} (s : SystemWorld) (n : ℕ) (c : OpenCallState A) (f : OpenFacts s n c) (r : Replica) (d : OpenCallState A) → d ≡ c → r ≡ get_or s.replicas (d.replica - 1) r → r ≡ f.r
+held_replica s n c f r d is index =
+    let at = ap (λ (x : OpenCallState _). x.replica) is in
+    let place = f.place in
+    let lt = get_lt s.replicas f.j f.r f.stands in
+    call_replica s n c f (d.replica - 1) r (omega arith) (omega arith) index
+
+pub can_turn_held : {A : Type 0} (s : SystemWorld) (slots : List (Option (OpenCallState A))) (n k : ℕ) (c : OpenCallState A) (accepted : Procedure) (answers_from : Rows → Type 0) (r : Replica) (procedures : List ListedProcedure) (by_replica by_procedure by_snapshot d : OpenCallState A)
+    → EntriesGiveRows → ProceduresFollow → IsTogether s slots → n ≡ k + 1 → slice_get slots k ≡ Some (Some c) → by_replica ≡ c → by_procedure ≡ c → by_snapshot ≡ c → d ≡ c
+    → r ≡ get_or s.replicas (by_replica.replica - 1) r → procedures ≡ r.procedures → Some accepted ≡ option_map (λ l. l.accepted) (listed_by_number procedures by_procedure.procedure)
+    → ((base : Catalogue) (entries : List Entry) → StandsFor base r entries → answers_from (rows_kept r.window base entries by_snapshot.snapshot)) → CanTurn s n c accepted answers_from r d
+can_turn_held s slots n k c accepted answers_from r procedures by_replica by_procedure by_snapshot d law follow h place at replica_is procedure_is snapshot_is is index held found answers =
+    let f = open_facts s slots n k c h place at in
+    let same = held_replica s n c f r by_replica replica_is index in
+    record {
+      facts = f;
+      same = same;
+      can = can_turn s slots n c f accepted answers_from r by_snapshot.snapshot d by_procedure law follow h same (ap (λ (x : OpenCallState _). x.snapshot) snapshot_is) is procedure_is (found ∙ in_procedures by_procedure.procedure procedures r.procedures held) answers;
+    }
+
+-- its turns, as code takes them and leaves its place
+pub turns_taken : {A : Type 0} (s : SystemWorld) (slots left : List (Option (OpenCallState A))) (n k : ℕ) (c new : OpenCallState A) (f : OpenFacts s n c) (before : ℕ) (turn : TurnAnswer) (outcome : Outcome) (x : Option (OpenCallState A)) (gone : Bool) (r : Replica) (d e : OpenCallState A) → IsTogether s slots → n ≡ k + 1
+    → r ≡ f.r → d ≡ c → e ≡ c → gone ≡ nat_lt r.window (r.position - d.snapshot) → AreTurns (setting_of s) (items_of s.entries) gone before (open_call_of e) turn (open_call_of new) → option_map open_call_of x ≡ cond (stays_open turn) (Some (open_call_of new)) None
+    → outcome ≡ outcome_of turn → left ≡ slice_set slots k x → IsExecution (setting_of s) (world_of s) n before outcome (world_of (with_slots s left))
+turns_taken s slots left n k c new f before turn outcome x gone r d e h place same snapshot_is is went are leaves told put =
+    subst (λ (o : Outcome). IsExecution (setting_of s) (world_of s) n before o (world_of (with_slots s left))) (sym told)
+    (subst (λ xs. IsExecution (setting_of s) (world_of s) n before (outcome_of turn) (world_of (with_slots s xs))) (sym put)
+    (turn_steps s slots n k c new f before turn x gone r d.snapshot e h place same (ap (λ (y : OpenCallState _). y.snapshot) snapshot_is) is went are leaves))
+
+-- ---- a call at its end
+
+pub record EndedCall {A : Type 0} (s : SystemWorld) (n : ℕ) (c : OpenCallState A) (reply : Option ℕ) : Type 0 where
+  pub facts : OpenFacts s n c
+  pub end : IsReplyOf (setting_of s) (items_of s.entries) (open_call_of c) reply
+
+-- the reply of the call as it is in hand
+pub ended_call : {A : Type 0} (s : SystemWorld) (slots : List (Option (OpenCallState A))) (n k : ℕ) (c d : OpenCallState A) (reply : Option ℕ) → IsTogether s slots → n ≡ k + 1 → slice_get slots k ≡ Some (Some c) → d ≡ c
+    → ((w : Setting) (log : Log) → Follows w log d → IsReplyOf w log (open_call_of d) reply) → EndedCall s n c reply
+ended_call s slots n k c d reply h place at is run =
+    let f = open_facts s slots n k c h place at in
+    record {
+      facts = f;
+      end = subst (λ (x : OpenCallState _). Follows (setting_of s) (items_of s.entries) x → IsReplyOf (setting_of s) (items_of s.entries) (open_call_of x) reply) is (run (setting_of s) (items_of s.entries)) f.follows;
+    }
+
+-- its place is there still
+pub place_there : {A X : Type 0} (slots : List (Option (OpenCallState A))) (k : ℕ) (c : OpenCallState A) (of : X → Option (OpenCallState A)) (items : List X) → slice_get slots k ≡ Some (Some c) → map of items ≡ slice_set slots k None → k < length items
+place_there slots k c of items at taken =
+    let lt = get_lt slots k (Some c) at in
+    let same = ap (λ (xs : List (Option (OpenCallState _))). length xs) taken in
+    let new = map_count of items in
+    let count = set_count slots k None in
+    omega arith
 
 -- one turn is as many
 pub one_turn : (w : Setting) (log : Log) (gone : Bool) (o : OpenCall) (turn : TurnAnswer) (n : OpenCall) → IsTurn w log gone o turn n → AreTurns w log gone 0 o turn n

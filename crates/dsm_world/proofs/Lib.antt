@@ -6,4 +6,5 @@ mod EntryLemmas
 pub mod ReplicaLemmas
 pub mod CallLemmas
 mod BeginLemmas
+mod FieldLemmas
 mod AddLemmas

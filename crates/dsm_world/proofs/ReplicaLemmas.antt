@@ -1,5 +1,5 @@
 -- Steps of a replica: what they answer by the definitions, and that all still fits together.
-use Rattle.std.proofs.Common.{◌≡◌, ◌⊎◌, get_or, nat_lt, ℕ, zero, suc, ◌+◌, ◌<◌, ◌≤◌, true, false, List, [], ◌∷◌, ◌++◌, length, map, take, drop, slice_get, slice_set, Option, Some, None, IsSome, option_map, refl, sym, ap, subst, ◌∙◌, arith, inl, inr}
+use Rattle.std.proofs.Common.{◌≡◌, ◌⊎◌, get_or, nat_lt, ℕ, zero, suc, ◌+◌, ◌<◌, ◌≤◌, true, false, List, [], ◌∷◌, ◌++◌, length, map, take, drop, slice_get, slice_set, vec_len, Option, Some, None, IsSome, option_map, refl, sym, ap, subst, ◌∙◌, arith, inl, inr}
 use Rattle.std.proofs.lemmas.Bool.Decides.{nat_tests}
 use Rattle.schema.specs.Rows.{AreWrites}
 use Rattle.rows_mv.specs.Versions.{HaveTables}
@@ -7,7 +7,7 @@ use Rattle.catalogue.specs.Stored.{ListedProcedure, AreForTables, listed_by_numb
 use Rattle.std.specs.List.{AllByRecursion}
 use Rattle.log_entry.specs.declared.entry.Entry.{Entry as LogEntry}
 use Rattle.log_entry.specs.Kind.{entry_of}
-use Rattle.replica.specs.Replica.{Replica, StandsFor, StandsIn, AreEntriesOf, FollowsLog, IsNamed, entries_of, writes_in, HasDelivered, HasStopped}
+use Rattle.replica.specs.Replica.{Replica, StandsFor, StandsIn, AreEntriesOf, FollowsLog, IsForTables, IsNamed, entries_of, writes_in, HasDelivered, HasStopped}
 use Rattle.log_model.specs.declared.verdict.Verdict.{Verdict}
 use Rattle.dsm_model.specs.declared.outcome.StepRefusal.TheVariants.{NothingToDeliver, ReplicaStopped, NoMemory}
 use Rattle.dsm_model.specs.declared.outcome.Outcome.{Outcome}
@@ -22,8 +22,9 @@ use Rattle.log_model.proofs.GrowthLemmas.{procedures_grown}
 use Rattle.catalogue.specs.Catalogue.{accepted_of}
 use Rattle.catalogue.proofs.HeldLemmas.{numbered_for}
 use Rattle.dsm_world.specs.System.{SystemWorld, setting_of, progress_of, world_of}
-use Rattle.dsm_world.specs.declared.holdings.Holdings.{Holdings}
-use Rattle.dsm_world.specs.Holdings.{IsReplicaOf, IsTogether}
+use Rattle.dsm_world.specs.declared.world.World.TheInside.{Inside}
+use Rattle.dsm_world.specs.Together.{IsReplicaOf, IsTogether}
+use Rattle.dsm_world.specs.Fields.{system_of, call_slots, IsConsistent}
 use Rattle.dsm_world.proofs.Numbered.{get_map, set_map, get_set, get_lt, numbered_map, numbered_at, with_numbered_at, numbered_none}
 use Rattle.dsm_world.proofs.StepLemmas.{deliver_nothing, deliver_stopped, deliver_new, deliver_without_memory, rebuild_new}
 use Rattle.replica.proofs.EntryLemmas.{take_all, take_next, take_drop, take_count, items_append, items_count, all_at, placed_at, entries_taken}
@@ -264,27 +265,44 @@ get_in_code xs k e at = get_map entry_of xs k ∙ ap (λ o. option_map entry_of 
 pub at_in_code : {X : Type 0} (xs items : List X) (n position : ℕ) (e : X) → items ≡ xs → n ≡ position → n < length items → e ≡ get_or items n e → slice_get xs position ≡ Some e
 at_in_code xs items n position e same at lt is = ap (λ (ys : List _). slice_get ys position) (sym same) ∙ ap (slice_get items) (sym at) ∙ get_is items n e lt is
 
--- the next entry of a replica, as code looks both up
-pub record IsNextOf {A : Type 0} (h : Holdings A) (k n : ℕ) (seen old : Replica) (e : LogEntry A) : Type 0 where
+-- the next entry of a replica, as code looks both up, and what is known of both
+pub record IsNextOf {A : Type 0} (h : Inside A) (k n : ℕ) (seen old : Replica) (e : LogEntry A) : Type 0 where
   pub at : slice_get h.replicas.items k ≡ Some old
   pub same : seen ≡ old
   pub position : n ≡ old.position
-  pub logged : slice_get h.entries.items old.position ≡ Some e
   pub next : slice_get (entries_of h.entries.items) old.position ≡ Some (entry_of e)
+  pub placed : IsPlaced old.position (item_of (entry_of e))
+  pub writes : AreWrites h.catalogue.tables (writes_in (entry_of e))
+  pub tables : HaveTables h.catalogue.tables old.versions.tables
+  pub few : old.position < max_calls
+  pub named : IsNamed (entry_of e)
+  pub own : IsForTables h.catalogue.tables e
 
-pub next_of : {A : Type 0} (h : Holdings A) (k n : ℕ) (seen old : Replica) (items : List (LogEntry A)) (e : LogEntry A)
-    → k < length h.replicas.items → seen ≡ get_or h.replicas.items k seen → old ≡ get_or h.replicas.items k old
+pub next_of : {A : Type 0} (h : Inside A) (count k n : ℕ) (seen old : Replica) (items : List (LogEntry A)) (e : LogEntry A) → IsConsistent h
+    → k < count → count ≡ vec_len h.replicas → seen ≡ get_or h.replicas.items k seen → old ≡ get_or h.replicas.items k old
     → items ≡ h.entries.items → n ≡ seen.position → n < length items → e ≡ get_or items n e → IsNextOf h k n seen old e
-next_of h k n seen old items e lt seen_is old_is held position there is =
-    let first = get_is h.replicas.items k seen lt seen_is in
-    let at = get_is h.replicas.items k old lt old_is in
+next_of h count k n seen old items e is lt counted seen_is old_is held position there found =
+    let all = h.replicas.ok.0 in
+    let first = get_is h.replicas.items k seen (omega arith) seen_is in
+    let at = get_is h.replicas.items k old (omega arith) old_is in
     let same : seen ≡ old = same_item h.replicas.items k seen old first at in
     let reached : n ≡ old.position = position ∙ ap (λ (r : Replica). r.position) same in
-    let logged = at_in_code h.entries.items items n old.position e held reached there is in
+    let logged = at_in_code h.entries.items items n old.position e held reached there found in
+    let next = get_in_code h.entries.items old.position e logged in
+    let (placed, writes, tables, few, named) = next_entry_fits (system_of h) (call_slots h) k old (entry_of e) is.together at next in
     record {
       at = at;
       same = same;
       position = reached;
-      logged = logged;
-      next = get_in_code h.entries.items old.position e logged;
+      next = next;
+      placed = placed;
+      writes = writes;
+      tables = tables;
+      few = few;
+      named = named;
+      own = all_at (λ y. IsForTables h.catalogue.tables y) h.entries.items old.position e is.for_tables logged;
     }
+
+-- the replica of a place, as code looks it up
+pub held_at : {A : Type 0} (h : Inside A) (count k : ℕ) (old : Replica) → k < count → count ≡ vec_len h.replicas → old ≡ get_or h.replicas.items k old → slice_get h.replicas.items k ≡ Some old
+held_at h count k old lt counted is = let all = h.replicas.ok.0 in get_is h.replicas.items k old (omega arith) is

@@ -14,7 +14,7 @@ use Rattle.world_calls.specs.declared.open_call.OpenCall.{OpenCall as OpenCallSt
 use Rattle.dsm_model.specs.Sound.{IsGiven, AreGiven, IsWorld}
 use Rattle.dsm_world.specs.declared.step.Step.{Step as GivenStep}
 use Rattle.dsm_world.specs.System.{SystemWorld, setting_of, world_of, step_of, progress_of, KeepsDelivered}
-use Rattle.dsm_world.specs.Holdings.{IsReplicaOf, IsTogether}
+use Rattle.dsm_world.specs.Together.{IsReplicaOf, IsTogether}
 use Rattle.dsm_world.proofs.Numbered.{get_snoc}
 use Rattle.replica.proofs.EntryLemmas.{take_drop, take_count, items_append, items_count}
 use Rattle.dsm_world.proofs.CallLemmas.{append_map}

@@ -2,11 +2,10 @@
 use Rattle.std.specs.Prelude.{◌≡◌, ◌⊎◌, ℕ, List, Option, refl}
 use mathlib.Core.Logic.{inl, inr}
 use Rattle.std.specs.Coded.{Coded, code_by, coded×, coded⊎, coded_ℕ, coded_list, coded_option}
-use Rattle.bpf_code.specs.Program.{Program}
-use Rattle.bpf_code.specs.contracts.instruction.Instruction as instruction
 use Rattle.catalogue.specs.Catalogue.{SystemCatalogue}
 use Rattle.catalogue.specs.Held.{catalogue_code}
-use Rattle.log_entry.specs.Codes.{call_code, executed_code}
+use Rattle.log_model.specs.Codes.{call_code, stored_code}
+use Rattle.log_entry.specs.Codes.{executed_code}
 use Rattle.replica.specs.Codes.{replica_code}
 use Rattle.replica.specs.Replica.{Replica}
 use Rattle.log_model.specs.Log.{StoredProcedure, Call}
@@ -17,13 +16,6 @@ use Rattle.dsm_world.specs.System.{SystemWorld}
 abbrev open_call_code : Coded OpenCall
 open_call_code = code_by (ℕ × (Call × ℕ)) (coded× coded_ℕ (coded× call_code coded_ℕ))
     (λ o. (o.replica, (o.call, o.turns))) (λ c. record { replica = c.0; call = c.1.0; turns = c.1.1 }) (λ _. refl)
-
-abbrev stored_code : Coded StoredProcedure
-stored_code = code_by (List ℕ × (ℕ × (Program × ℕ)))
-    (coded× (coded_list coded_ℕ) (coded× coded_ℕ (coded× (coded_list (coded_option instruction.the_row.coded)) coded_ℕ)))
-    (λ p. (p.name, (p.number, (p.program, p.args_len))))
-    (λ c. record { name = c.0; number = c.1.0; program = c.1.1.0; args_len = c.1.1.1 })
-    (λ _. refl)
 
 abbrev split : Entry → ExecutedCall ⊎ StoredProcedure
 split (CallEntry e) = inl e

@@ -2,4 +2,5 @@ pub mod Codes
 pub mod System
 pub mod Execution
 pub mod Turned
-pub mod Holdings
+pub mod Together
+pub mod Fields

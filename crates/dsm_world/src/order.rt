@@ -3,7 +3,6 @@
 ghost use Rattle.std.specs.Prelude.{◌≡◌, ◌⊎◌, ◌++◌, [], ◌∷◌};
 ghost use Rattle.dsm_model.specs.World.{Order, IsStep};
 ghost use Rattle.dsm_world.specs.System.{setting_of, world_of};
-ghost use Rattle.dsm_world.specs.Holdings.{system_of, AreConsistentHoldings};
 ghost use Rattle.log_model.specs.Entries.{CallEntry};
 ghost use Rattle.log_entry.specs.declared.entry.Entry.TheVariants.{Call as LogCall};
 ghost use Rattle.replica.specs.Replica.{entries_of};
@@ -11,36 +10,38 @@ ghost use Rattle.dsm_world.specs.Turned.{IsAppended};
 
 use crate::begin::MAX_CALLS;
 use crate::calls::{end_call, put_call, take_call};
-use crate::holdings::Holdings;
+use crate::world::World;
 use dsm_model::{Outcome, StepRefusal, steps_keep_a_world};
 use log_entry::{Entry, ExecutedCall};
 use log_model::{a_log_only_grows, one_more_entry_carries_its_run};
 use std::alloc::Allocator;
 use world_calls::Completion;
 
-/// Orders a call that is at its end.
-pub(crate) fn order<A: Allocator + Copy>(world: &mut Holdings<A>, call: u32) -> Outcome
-    requires { AreConsistentHoldings world.old }
-    ensures step { IsStep (setting_of (system_of world.old)) (world_of (system_of world.old)) (Order call)
-        result (world_of (system_of world.new)) }
-    ensures setting { setting_of (system_of world.new) ≡ setting_of (system_of world.old) }
-    ensures consistent { AreConsistentHoldings world.new }
-{
-    // Laws:
-    a_log_only_grows();
-    one_more_entry_carries_its_run();
-    steps_keep_a_world();
-    let Some((at, open_call)) = take_call(&mut world.calls, call) else {
-        return Outcome::Refused(StepRefusal::NoCall);
-    };
-    let Some(_reply) = open_call.reply() else {
-        put_call(&mut world.calls, at, open_call);
-        return Outcome::Refused(StepRefusal::NotAtExit);
-    };
-    match end_call(&mut world.spare, world.alloc, open_call) {
-        Completion::Cancelled { snapshot, code } => Outcome::Cancelled { snapshot, code },
-        Completion::Read { snapshot, reply } => Outcome::Read { snapshot, reply },
-        Completion::Wrote(call) => append(&mut world.entries, call),
+impl<A: Allocator + Copy> World<A> {
+    /// Orders a call that is at its end.
+    pub(crate) fn order(&mut self, call: u32) -> Outcome
+        ensures step { IsStep (setting_of self.old) (world_of self.old) (Order call) result (world_of self.new) }
+        ensures setting { setting_of self.new ≡ setting_of self.old }
+    {
+        // Laws:
+        a_log_only_grows();
+        one_more_entry_carries_its_run();
+        steps_keep_a_world();
+        let Some((at, open_call)) = take_call(&mut self.calls, call) else {
+            return Outcome::Refused(StepRefusal::NoCall);
+        };
+        let Some(_reply) = open_call.reply() else {
+            put_call(&mut self.calls, at, open_call);
+            return Outcome::Refused(StepRefusal::NotAtExit);
+        };
+        let call = match end_call(&mut self.spare, self.alloc, open_call) {
+            Completion::Cancelled { snapshot, code } => {
+                return Outcome::Cancelled { snapshot, code };
+            }
+            Completion::Read { snapshot, reply } => return Outcome::Read { snapshot, reply },
+            Completion::Wrote(call) => call,
+        };
+        append(&mut self.entries, call)
     }
 }
 

@@ -10,11 +10,10 @@ ghost use Rattle.dsm_model.specs.World.{Turn as TurnStep, IsStep};
 ghost use Rattle.dsm_world.specs.declared.turn.TurnCount.TheVariants.{One, ToTheEnd};
 ghost use Rattle.dsm_world.specs.System.{setting_of, world_of};
 ghost use Rattle.dsm_world.specs.Execution.{IsExecution};
-ghost use Rattle.dsm_world.specs.Holdings.{system_of, AreConsistentHoldings};
 ghost use Rattle.dsm_world.specs.Turned.{outcome_of};
 
 use crate::calls::{put_call, take_call};
-use crate::holdings::Holdings;
+use crate::world::World;
 use bpf_verify::Accepted;
 use bpf_vm::Turn;
 use dsm_model::{Outcome, StepRefusal, steps_keep_a_world};
@@ -32,60 +31,54 @@ pub(crate) enum TurnCount {
     ToTheEnd,
 }
 
-/// Runs a call one instruction further.
-pub(crate) fn turn<A: Allocator + Copy>(world: &mut Holdings<A>, call: u32) -> Outcome
-    requires { AreConsistentHoldings world.old }
-    ensures step { IsStep (setting_of (system_of world.old)) (world_of (system_of world.old)) (TurnStep call)
-        result (world_of (system_of world.new)) }
-    ensures setting { setting_of (system_of world.new) ≡ setting_of (system_of world.old) }
-    ensures consistent { AreConsistentHoldings world.new }
-{
-    run_on(world, call, TurnCount::One)
-}
-
-/// Runs a call to its end.
-pub fn exec<A: Allocator + Copy>(world: &mut Holdings<A>, call: u32) -> Outcome
-    requires { AreConsistentHoldings world.old }
-    ensures turns { (before : ℕ) × (before < max_slots)
-        × IsExecution (setting_of (system_of world.old)) (world_of (system_of world.old)) call before
-        result (world_of (system_of world.new)) }
-    ensures ends { result ≢ More }
-    ensures setting { setting_of (system_of world.new) ≡ setting_of (system_of world.old) }
-    ensures consistent { AreConsistentHoldings world.new }
-{
-    run_on(world, call, TurnCount::ToTheEnd)
-}
-
-/// Takes turns of a call, and answers what the last of them answers.
-fn run_on<A: Allocator + Copy>(world: &mut Holdings<A>, call: u32, count: TurnCount) -> Outcome
-    requires { AreConsistentHoldings world.old }
-    ensures turns { (before : ℕ) × (before < max_slots) × (count ≡ One → before ≡ 0)
-        × IsExecution (setting_of (system_of world.old)) (world_of (system_of world.old)) call before
-        result (world_of (system_of world.new)) }
-    ensures ends { count ≡ ToTheEnd → result ≢ More }
-    ensures setting { setting_of (system_of world.new) ≡ setting_of (system_of world.old) }
-    ensures consistent { AreConsistentHoldings world.new }
-{
-    // Laws:
-    a_log_only_grows();
-    entries_suffice();
-    procedures_are_never_lost();
-    replicas_follow_the_log();
-    steps_keep_a_world();
-    let Some((at, mut open_call)) = take_call(&mut world.calls, call) else {
-        return Outcome::Refused(StepRefusal::NoCall);
-    };
-    let replica = &world.replicas[open_call.replica as usize - 1];
-    let Some(accepted) = replica.procedures().by_number(open_call.procedure) else {
-        unreachable!()
-    };
-    let store = replica.at(open_call.snapshot);
-    let answer = take_turns(&mut *open_call, world.alloc, accepted, store, count);
-    if !stays_open(answer) {
-        return outcome_of(answer);
+impl<A: Allocator + Copy> World<A> {
+    /// Runs a call one instruction further.
+    pub(crate) fn turn(&mut self, call: u32) -> Outcome
+        ensures step { IsStep (setting_of self.old) (world_of self.old) (TurnStep call) result (world_of self.new) }
+        ensures setting { setting_of self.new ≡ setting_of self.old }
+    {
+        self.run_on(call, TurnCount::One)
     }
-    put_call(&mut world.calls, at, open_call);
-    outcome_of(answer)
+
+    /// Runs a call to its end in one go: its turns that answer that there is more, and one that doesn't, whose answer
+    /// is returned. These turns are at most as many as the slots that a program may have.
+    pub fn exec(&mut self, call: u32) -> Outcome
+        ensures turns { (before : ℕ) × (before < max_slots)
+            × IsExecution (setting_of self.old) (world_of self.old) call before result (world_of self.new) }
+        ensures ends { result ≢ More }
+        ensures setting { setting_of self.new ≡ setting_of self.old }
+    {
+        self.run_on(call, TurnCount::ToTheEnd)
+    }
+
+    /// Takes turns of a call, and answers what the last of them answers.
+    fn run_on(&mut self, call: u32, count: TurnCount) -> Outcome
+        ensures turns { (before : ℕ) × (before < max_slots) × (count ≡ One → before ≡ 0)
+            × IsExecution (setting_of self.old) (world_of self.old) call before result (world_of self.new) }
+        ensures ends { count ≡ ToTheEnd → result ≢ More }
+        ensures setting { setting_of self.new ≡ setting_of self.old }
+    {
+        // Laws:
+        a_log_only_grows();
+        entries_suffice();
+        procedures_are_never_lost();
+        replicas_follow_the_log();
+        steps_keep_a_world();
+        let Some((at, mut open_call)) = take_call(&mut self.calls, call) else {
+            return Outcome::Refused(StepRefusal::NoCall);
+        };
+        let replica = &self.replicas[open_call.replica as usize - 1];
+        let Some(accepted) = replica.procedures().by_number(open_call.procedure) else {
+            unreachable!()
+        };
+        let store = replica.at(open_call.snapshot);
+        let answer = take_turns(&mut *open_call, self.alloc, accepted, store, count);
+        if !stays_open(answer) {
+            return outcome_of(answer);
+        }
+        put_call(&mut self.calls, at, open_call);
+        outcome_of(answer)
+    }
 }
 
 /// Takes turns of an open call, and answers what the last of them answers.

@@ -6,7 +6,6 @@ ghost use Rattle.schema.specs.declared.limits.TheConstants.{MAX_REPLICAS, MAX_WI
 ghost use Rattle.log_model.specs.declared.verdict.Verdict.{Verdict as ModelVerdict};
 ghost use Rattle.log_model.specs.declared.verdict.Verdict.TheVariants.{Commit};
 ghost use Rattle.dsm_model.specs.declared.outcome.Outcome.TheVariants.{More, Exit, Ordered, Delivered};
-ghost use Rattle.bpf_code.specs.Program.{max_slots};
 ghost use Rattle.bpf_semantics.specs.Path.{longest_path};
 ghost use Rattle.log_model.specs.Log.{Call, Log, StoredProcedure, by_name, procedure_of, procedures_after, run_in};
 ghost use Rattle.log_model.specs.Log.{verdict_of};
@@ -21,14 +20,11 @@ ghost use Rattle.dsm_model.specs.Worlds.{HasExited, IsCallNumbered, turns_of};
 ghost use Rattle.replica.specs.Replica.{Replica as ReplicaState, AreEntriesOf};
 ghost use Rattle.catalogue.specs.Catalogue.{IsCatalogue};
 ghost use Rattle.dsm_world.specs.System.{setting_of, world_of, step_of, progress_of, KeepsDelivered};
-ghost use Rattle.dsm_world.specs.Execution.{IsExecution};
-ghost use Rattle.dsm_world.specs.Holdings.{system_of, AreConsistentHoldings, IsReplicaOf};
+ghost use Rattle.dsm_world.specs.Together.{IsReplicaOf};
 
-use crate::holdings::Holdings;
+use crate::calls::{Calls, Spare};
 use crate::numbers::index_of;
 use crate::step::Step;
-use crate::take::take_step;
-use crate::turn::exec;
 use catalogue::{Catalogue, catalogues_are_safe, each_catalogue_is_consistent};
 use dsm_model::{
     Outcome, delivered_verdicts_are_the_logs, enough_turns_reach_exit,
@@ -36,7 +32,7 @@ use dsm_model::{
     replies_are_serial, steps_keep_a_world,
 };
 use log_entry::Entry;
-use log_model::a_log_only_grows;
+use log_model::{RequestId, a_log_only_grows};
 use replica::{Replica, replicas_follow_the_log};
 use std::alloc::{AllocError, Allocator, Global};
 use std::marker::Model;
@@ -53,21 +49,37 @@ use std::marker::Model;
 /// ```
 #[derive(Drop)]
 pub struct World<A: Allocator + Copy = Global> {
-    holdings: Holdings<A>,
+    /// The allocator of all its memory.
+    pub(crate) alloc: A,
+    /// The number of positions, besides its last, whose rows each replica keeps.
+    pub(crate) window: u32,
+    /// The tables, and the procedures that the log begins with.
+    pub(crate) catalogue: Catalogue<A>,
+    /// The entries that were ordered.
+    pub(crate) entries: Vec<Entry<A>, A>,
+    /// The number of entries that are additions.
+    pub(crate) additions: u32,
+    /// The replicas in the order of their numbers.
+    pub(crate) replicas: Vec<Replica<A>, A>,
+    /// The calls that were begun.
+    pub(crate) calls: Calls<A>,
+    /// A call that is over, in whose memory the next begins.
+    pub(crate) spare: Spare<A>,
 }
 
 impl<A: Allocator + Copy> Model for World<A> {
     ghost use Rattle.dsm_world.specs.System.{SystemWorld};
-    ghost use Rattle.dsm_world.specs.Holdings.{system_of, AreConsistentHoldings};
     ghost use Rattle.dsm_world.specs.Codes.{world_code};
 
     ghost Value = { SystemWorld };
 
     ghost coded = { world_code };
 
-    ghost view = { λ w. system_of w.holdings };
+    ghost use Rattle.dsm_world.specs.Fields.{system_of, IsConsistent};
 
-    ghost invariant = { λ w. AreConsistentHoldings w.holdings };
+    ghost view = { system_of };
+
+    ghost invariant = { IsConsistent };
 }
 
 /// Returns `count` replicas to which nothing was delivered.
@@ -125,16 +137,14 @@ impl<A: Allocator + Copy> World<A> {
         steps_keep_a_world();
         let replicas = replicas_of(alloc, replicas, window, &catalogue)?;
         Ok(World {
-            holdings: Holdings {
-                alloc,
-                window,
-                catalogue,
-                entries: Vec::new(alloc),
-                additions: 0,
-                replicas,
-                calls: Vec::new(alloc),
-                spare: None,
-            },
+            alloc,
+            window,
+            catalogue,
+            entries: Vec::new(alloc),
+            additions: 0,
+            replicas,
+            calls: Vec::new(alloc),
+            spare: None,
         })
     }
 
@@ -146,18 +156,33 @@ impl<A: Allocator + Copy> World<A> {
         // The arguments are bytes by their type, and an added program is safe since the verifier accepted it.
         ensures given { IsGiven (setting_of self.old) (step_of (setting_of self.old) step.entry) result }
     {
-        take_step(&mut self.holdings, step)
-    }
-
-    /// Runs a call to its end in one go: its turns that answer that there is more, and one that doesn't, whose answer
-    /// is returned. These turns are at most as many as the slots that a program may have.
-    pub fn exec(&mut self, call: u32) -> Outcome
-        ensures turns { (before : ℕ) × (before < max_slots)
-            × IsExecution (setting_of self.old) (world_of self.old) call before result (world_of self.new) }
-        ensures ends { result ≢ More }
-        ensures setting { setting_of self.new ≡ setting_of self.old }
-    {
-        exec(&mut self.holdings, call)
+        match step {
+            Step::Begin {
+                replica,
+                procedure,
+                args,
+            } => self.begin(replica, procedure, args, None),
+            Step::BeginNumbered {
+                replica,
+                procedure,
+                args,
+                session,
+                sequence,
+            } => {
+                let request = RequestId { session, sequence };
+                self.begin(replica, procedure, args, Some(request))
+            }
+            Step::Turn { call } => self.turn(call),
+            Step::Order { call } => self.order(call),
+            Step::Deliver { replica } => self.deliver(replica),
+            Step::Rebuild { replica } => self.rebuild(replica),
+            Step::Add {
+                name,
+                number,
+                args_len,
+                bytes,
+            } => self.add(name, number, args_len, bytes),
+        }
     }
 
     /// Takes steps, one after another, and returns what each answers. Room for all answers is made first; where there
@@ -201,7 +226,7 @@ impl<A: Allocator + Copy> World<A> {
         open_calls_are_sound();
         replies_are_serial();
         self.keeps_what_was_delivered();
-        let mut outcomes = Vec::with_capacity(self.holdings.alloc, steps.len())?;
+        let mut outcomes = Vec::with_capacity(self.alloc, steps.len())?;
         for step in steps {
             let outcome = self.step(*step);
             push_within(&mut outcomes, outcome);
@@ -241,37 +266,37 @@ impl<A: Allocator + Copy> World<A> {
         open_calls_keep_their_replies();
         replicas_follow_the_log();
         // A part is looked at, so that it is known how all fit together.
-        each_catalogue_is_consistent(&self.holdings.catalogue);
+        each_catalogue_is_consistent(&self.catalogue);
     }
 
     /// Returns the number of entries of the log.
     pub fn log_len(&self) -> u32
         ensures { result ≡ length self.now.entries }
     {
-        self.holdings.entries.len() as u32
+        self.entries.len() as u32
     }
 
     /// The entry at a position, from 1 on.
     pub fn entry(&self, position: u32) -> Option<&Entry<A>>
         ensures { option_map (λ e. entry_of e.now) result ≡ numbered self.now.entries position }
     {
-        let at = index_of(position, self.holdings.entries.len())?;
-        Some(&self.holdings.entries[at])
+        let at = index_of(position, self.entries.len())?;
+        Some(&self.entries[at])
     }
 
     /// A replica, by its number from 1 on.
     pub fn replica(&self, number: u32) -> Option<&Replica<A>>
         ensures { option_map (λ r. r.now) result ≡ numbered self.now.replicas number }
     {
-        let at = index_of(number, self.holdings.replicas.len())?;
-        Some(&self.holdings.replicas[at])
+        let at = index_of(number, self.replicas.len())?;
+        Some(&self.replicas[at])
     }
 
     /// The replicas, in the order of their numbers.
     pub fn replicas(&self) -> &[Replica<A>]
         ensures { result.now ≡ self.now.replicas }
     {
-        &self.holdings.replicas
+        &self.replicas
     }
 
     /// The number of a procedure, by its name, at a replica's position.

@@ -1,19 +1,13 @@
 -- How entries are told from others, as the checker needs it. No clause speaks of it.
-use Rattle.std.specs.Prelude.{ℕ, List, Option, refl}
+use Rattle.std.specs.Prelude.{ℕ, List, refl}
 use Rattle.std.specs.Coded.{Coded, code_by, coded×, coded_ℕ, coded_list, coded_option}
 use Rattle.std.specs.FinMap.{code}
 use Rattle.schema.specs.declared.look.Look.{Look}
 use Rattle.schema.specs.Rows.{Writes}
 use Rattle.row_sets.specs.Codes.{looks_code}
-use Rattle.log_model.specs.declared.request.RequestId.{RequestId}
 use Rattle.log_model.specs.Log.{Call}
-use Rattle.log_model.specs.Codes.{carried_code}
+use Rattle.log_model.specs.Codes.{call_code}
 use Rattle.log_model.specs.Entries.{ExecutedCall}
-
-abbrev pub call_code : Coded Call
-call_code = code_by (ℕ × (ℕ × (List ℕ × (ℕ × Option RequestId)))) (coded× coded_ℕ (coded× coded_ℕ (coded× (coded_list coded_ℕ) (coded× coded_ℕ carried_code))))
-    (λ c. (c.number, (c.procedure, (c.args, (c.snapshot, c.request)))))
-    (λ c. record { number = c.0; procedure = c.1.0; args = c.1.1.0; snapshot = c.1.1.1.0; request = c.1.1.1.1 }) (λ _. refl)
 
 abbrev pub executed_code : Coded ExecutedCall
 executed_code = code_by (Call × (List Look × (Writes × ℕ)))

@@ -8,7 +8,7 @@ use schema::{Look, Schema};
 use std::alloc::{Allocator, Global};
 use std::fmt::{Debug, Write as _};
 use std::process::Abort;
-use test_programs::bytes_of;
+use test_programs::{RowValue, args_of, bytes_of};
 use txn_view::View;
 
 mod procedures;
@@ -34,16 +34,6 @@ fn accepted(rt: &impl Abort, alloc: Global, program: &[u8], args_len: usize) -> 
     verify(alloc, code, &schema, args_len.min(256)).expect(rt, "it is accepted")
 }
 
-/// The words as an argument block, each least byte first.
-fn args_of(rt: &impl Abort, alloc: Global, words: &[u64]) -> Vec<u8> {
-    let mut args = Vec::new(alloc);
-    for word in words {
-        args.extend_from_slice(&word.to_le_bytes())
-            .expect(rt, "memory");
-    }
-    args
-}
-
 /// A procedure that the verifier accepts, and its argument block of words.
 fn procedure_of(
     rt: &impl Abort,
@@ -51,7 +41,7 @@ fn procedure_of(
     program: &str,
     words: &[u64],
 ) -> (Accepted, Vec<u8>) {
-    let args = args_of(rt, alloc, words);
+    let args = args_of(alloc, words).expect(rt, "memory");
     let program = bytes_of(alloc, program).expect(rt, program);
     let procedure = accepted(rt, alloc, &program, args.len());
     (procedure, args)
@@ -64,7 +54,7 @@ fn row_of(rt: &impl Abort, alloc: Global, table: u8, key: u64, value: u64) -> Ro
     Row::new(table, key, bytes.expect(rt, "memory"))
 }
 
-fn rows_of(rt: &impl Abort, alloc: Global, rows: &[(u8, u64, u64)]) -> Vec<Row> {
+fn rows_of(rt: &impl Abort, alloc: Global, rows: &[RowValue]) -> Vec<Row> {
     let mut list = Vec::new(alloc);
     for (table, key, value) in rows {
         let row = row_of(rt, alloc, *table, *key, *value);

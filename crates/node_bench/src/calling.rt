@@ -219,23 +219,6 @@ pub(crate) fn all(counts: &Counts) -> u64 {
     .fold(0u64, |sum, count| sum.wrapping_add(*count))
 }
 
-/// Gives each account its money, at replica 1.
-pub(crate) fn open_accounts<J: LogSetting + Ledgers + Send + Sync + 'static, R: Wait>(
-    rt: &R,
-    desk: &Desk<J, OpenGate>,
-) -> Counts {
-    let mut counts = Counts::new();
-    let mut session = Session::new(desk);
-    for account in 0..ACCOUNTS {
-        let mut args = [0u8; 16];
-        let (key, row) = args.split_at_mut(8);
-        key.copy_from_slice(&u64::from(account).to_le_bytes());
-        row.copy_from_slice(&MONEY.to_le_bytes());
-        count(&mut counts, session.call(rt, 1, PUT_NUMBER, &args).0);
-    }
-    counts
-}
-
 /// Runs a caller, by its place from 0 on: makes its share of the calls, at one replica and by a session of its own.
 /// Returns the counts of the answers.
 fn call_from<J: LogSetting + Ledgers + Send + Sync + 'static, R: Wait>(
@@ -291,4 +274,21 @@ pub(crate) fn call_all<J: LogSetting + Ledgers + Send + Sync + 'static, R: Threa
             .iter()
             .fold(Counts::new(), |all, counts| sum(all, *counts)),
     )
+}
+
+/// Gives each account its money, at replica 1.
+pub(crate) fn open_accounts<J: LogSetting + Ledgers + Send + Sync + 'static, R: Wait>(
+    rt: &R,
+    desk: &Desk<J, OpenGate>,
+) -> Counts {
+    let mut counts = Counts::new();
+    let mut session = Session::new(desk);
+    for account in 0..ACCOUNTS {
+        let mut args = [0u8; 16];
+        let (key, row) = args.split_at_mut(8);
+        key.copy_from_slice(&u64::from(account).to_le_bytes());
+        row.copy_from_slice(&MONEY.to_le_bytes());
+        count(&mut counts, session.call(rt, 1, PUT_NUMBER, &args).0);
+    }
+    counts
 }

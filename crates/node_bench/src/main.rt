@@ -6,6 +6,7 @@
 #![tactic(auto)]
 
 ghost use Rattle.std.specs.Prelude.{◌≡◌};
+ghost use Rattle.node_bench.specs.Setting.{setting_of};
 ghost use Rattle.tallies.specs.Shared.{names_by_place};
 
 mod calling;
@@ -48,18 +49,14 @@ fn use_node<
 >(
     rt: &R,
     alloc: Global,
+    load: &Load,
+    catalogue: Catalogue,
     cells: GroupCells,
     blanks: Blanks,
-    catalogue: Catalogue,
-    load: Load,
 ) -> Option<Outcome>
     requires cells { cells ≡ J.groups }
     requires ledgers { J.names ≡ names_by_place blanks }
-    requires setting { J.setting ≡ record {
-      tables = catalogue.tables;
-      catalogue = catalogue.procedures;
-      window = load.window;
-    } }
+    requires setting { J.setting ≡ setting_of catalogue load.now.window }
 {
     let Load {
         work,
@@ -67,13 +64,13 @@ fn use_node<
         executors,
         window,
         ..
-    } = load;
+    } = *load;
     let started = Node::<J, OpenGate>::start(
         rt, alloc, cells, blanks, replicas, executors, window, catalogue,
     );
     let node = started.ok()?;
     let opened = open_accounts(rt, node.desk());
-    let called = call_all(rt, alloc, node.desk(), load);
+    let called = call_all(rt, alloc, node.desk(), *load);
     let finish = node.finish(rt);
     let comparison = if work == Work::Soak {
         let setting = setting(alloc, window)?;
@@ -97,7 +94,7 @@ fn run<R: Threads + Wait + Copy + Send + Sync + 'static>(
 ) -> Option<Outcome> {
     let catalogue = catalogue(alloc)?;
     let cells = GroupCells::new(alloc).ok()?;
-    use_node::<Brand, R>(rt, alloc, cells, Blanks::new(), catalogue, load)
+    use_node::<Brand, R>(rt, alloc, &load, catalogue, cells, Blanks::new())
 }
 
 fn yes(found: bool) -> &'static str {

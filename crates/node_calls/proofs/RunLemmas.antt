@@ -25,7 +25,7 @@ use Rattle.replica.specs.Replica.{entries_of}
 use Rattle.replica.proofs.EntryLemmas.{items_count}
 use Rattle.locked_replica.proofs.EntryLemmas.{entries_count}
 use Rattle.locked_replica.specs.Begun.{BegunState, IsBegun, procedure_now}
-use Rattle.world_calls.specs.OpenCall.{Follows, CanGoOn, IsTurn, stays_open, looks_at_gone, open_call_of, call_of}
+use Rattle.world_calls.specs.OpenCall.{Follows, CanGoOn, IsTurn, further, stays_open, looks_at_gone, open_call_of, call_of}
 use Rattle.world_calls.specs.declared.open_call.OpenCall.{OpenCall as OpenCallState}
 use Rattle.world_calls.proofs.TurnLemmas.{moment_is, step_from, looks_at_kept}
 use Rattle.world_calls.proofs.CallLemmas.{NeverStuck, HaveRuns, going, has_call_run}
@@ -114,6 +114,14 @@ module _ {A : Type 0} where
         procedure = ap (λ (call : Call). call.procedure) same ∙ u.procedure;
         snapshot = ap (λ (call : Call). call.snapshot) same ∙ u.snapshot;
       }
+
+  -- after so many turns that answer that there is more
+  pub plain_goes_on : (w : Setting) (b : BegunState A) (old new : OpenCallState A) (count : ℕ) → IsUnderWay w b old → open_call_of new ≡ further count (open_call_of old) → Follows w (log_seen b.entries) new → IsUnderWay w b new
+  plain_goes_on w b old new count u same follows = record {
+    follows = follows;
+    procedure = ap (λ (o : OpenCall). o.call.procedure) same ∙ u.procedure;
+    snapshot = ap (λ (o : OpenCall). o.call.snapshot) same ∙ u.snapshot;
+  }
 
   -- ---- the next instruction
 

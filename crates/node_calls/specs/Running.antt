@@ -6,7 +6,7 @@ use Rattle.bpf_vm.specs.contracts.turn.Turn as turn
 use Rattle.log_model.specs.declared.request.RequestId.{RequestId}
 use Rattle.log_model.specs.Log.{Setting, Call, Log, moment_at, procedure_of}
 use Rattle.log_model.specs.Entries.{items_of}
-use Rattle.log_entry.specs.Codes.{call_code}
+use Rattle.log_model.specs.Codes.{call_code}
 use Rattle.log_entry.specs.declared.entry.Entry.{Entry as LogEntry}
 use Rattle.order_log.specs.Codes.{entry_code}
 use Rattle.log_model.specs.OpenCall.{OpenCall, at_row_helper}

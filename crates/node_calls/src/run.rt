@@ -17,7 +17,7 @@ use std::alloc::{Allocator, Global};
 use std::sync::{RwLock, Wait};
 use world_calls::Completion;
 
-/// The outcome of one more instruction.
+/// The outcome of running on.
 #[derive(Drop)]
 pub(crate) enum Advance<J: LogSetting, P: Allocator + Copy = Global> {
     /// The call isn't over.
@@ -101,9 +101,9 @@ fn next_locked<J: LogSetting, A: Allocator + Copy, P: Allocator + Copy, R: Wait>
     unreachable!()
 }
 
-/// Runs the next instruction. Only an instruction that reads or writes rows goes through the gate and takes the
-/// replica's lock.
-fn next_instruction<J: LogSetting, A: Allocator + Copy, P: Allocator + Copy, G: Gate, R: Wait>(
+/// Runs on: the instructions up to the next call, long jump or end at once, and that instruction. Only an instruction
+/// that reads or writes rows goes through the gate and takes the replica's lock.
+fn run_further<J: LogSetting, A: Allocator + Copy, P: Allocator + Copy, G: Gate, R: Wait>(
     rt: &R,
     alloc: P,
     replica: &RwLock<LockedReplica<J, A, P>>,
@@ -114,6 +114,7 @@ fn next_instruction<J: LogSetting, A: Allocator + Copy, P: Allocator + Copy, G: 
     requires { call.old.last ≡ More }
     ensures { IsAdvance J.setting call.old result call.new }
 {
+    call.run_plain();
     if call.at_row_helper() {
         gate.at_look(rt, call.procedure());
         return next_locked(rt, alloc, replica, waiter, call);
@@ -139,7 +140,7 @@ fn run_to_the_end<J: LogSetting, A: Allocator + Copy, P: Allocator + Copy, G: Ga
         if call.last() != Turn::More {
             return Advance::Open;
         }
-        match next_instruction(rt, alloc, replica, gate, waiter, call) {
+        match run_further(rt, alloc, replica, gate, waiter, call) {
             Advance::Open => {}
             over => return over,
         }

@@ -1,10 +1,10 @@
 //! A call that an executing thread runs.
 
-ghost use Rattle.std.specs.Prelude.{◌≡◌, ◌-◌, ◌≤◌, ℕ, length, nat_lt, true, false, IfOk};
+ghost use Rattle.std.specs.Prelude.{◌≡◌, ◌-◌, ◌≤◌, ℕ, Bool, length, nat_lt, true, false, IfOk};
 ghost use Rattle.bpf_vm.specs.declared.turn.Turn.TheVariants.{More, Exit};
 ghost use Rattle.log_model.specs.Fit.{IsCall};
 ghost use Rattle.replica.specs.Replica.{AreEntriesOf, entries_of};
-ghost use Rattle.world_calls.specs.OpenCall.{IsTurn, IsCompletion, stays_open};
+ghost use Rattle.world_calls.specs.OpenCall.{AreMoreTurns, IsTurn, IsCompletion, further, stays_open};
 ghost use Rattle.node_calls.specs.Running.{node_call, log_seen, calls_row_helper_next};
 
 use crate::helpers::calls_row_helper;
@@ -129,6 +129,20 @@ impl<J: LogSetting, A: Allocator + Copy> RunningCall<J, A> {
     {
         self.begun.is_of_the_log();
         self.call.turn(alloc, self.begun.accepted(), replica.at(self.begun.seen()))
+    }
+
+    /// Runs the instructions up to the next call, long jump or end at once, without any rows. Each of them is a turn that
+    /// answers that there is more, whatever rows there are.
+    pub fn run_plain(&mut self)
+        requires { self.old.last ≡ More }
+        ensures turns { (count : ℕ)
+            × ((gone : Bool) → AreMoreTurns J.setting (log_seen self.old.entries) gone count self.old.progress)
+            × (self.new.progress ≡ further count self.old.progress) }
+        ensures entries { self.new.entries ≡ self.old.entries }
+        ensures last { self.new.last ≡ More }
+    {
+        self.begun.is_of_the_log();
+        self.call.run_plain(self.begun.accepted());
     }
 
     /// Runs the next instruction without any rows, where it neither reads nor writes rows. The call isn't over after

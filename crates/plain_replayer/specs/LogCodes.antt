@@ -6,25 +6,16 @@ use Rattle.std.specs.FinMap as map
 use Rattle.schema.specs.Schema.{Tables}
 use Rattle.schema.specs.Rows.{Rows, Writes, Key}
 use Rattle.schema.specs.declared.look.Look.{Look}
-use Rattle.bpf_code.specs.Program.{Program}
-use Rattle.bpf_code.specs.contracts.instruction.Instruction as instruction
 use Rattle.log_model.specs.declared.verdict.Verdict.{Verdict}
 use Rattle.log_model.specs.contracts.verdict.Verdict as verdict
 use Rattle.log_model.specs.declared.request.RequestId.{RequestId}
-use Rattle.log_model.specs.Codes.{carried_code}
+use Rattle.log_model.specs.Codes.{carried_code, stored_code, call_code}
 use Rattle.log_model.specs.Log.{StoredProcedure, Catalogue, Setting, Call, Item, CallItem, AdditionItem}
 use Rattle.plain_replayer.specs.Report.{Report}
 
-abbrev procedure_code : Coded StoredProcedure
-procedure_code = code_by (List ℕ × (ℕ × (Program × ℕ)))
-    (coded× (coded_list coded_ℕ) (coded× coded_ℕ (coded× (coded_list (coded_option instruction.the_row.coded)) coded_ℕ)))
-    (λ p. (p.name, (p.number, (p.program, p.args_len))))
-    (λ c. record { name = c.0; number = c.1.0; program = c.1.1.0; args_len = c.1.1.1 })
-    (λ _. refl)
-
 abbrev pub setting_code : Coded Setting
 setting_code = code_by (Tables × (Catalogue × ℕ))
-    (coded× (map.code coded_ℕ coded_ℕ) (coded× (coded_list procedure_code) coded_ℕ))
+    (coded× (map.code coded_ℕ coded_ℕ) (coded× (coded_list stored_code) coded_ℕ))
     (λ w. (w.tables, (w.catalogue, w.window)))
     (λ c. record { tables = c.0; catalogue = c.1.0; window = c.1.1 })
     (λ _. refl)
@@ -37,13 +28,6 @@ rows_code = map.code key_code (coded_list coded_ℕ)
 
 abbrev look_code : Coded Look
 look_code = code_by (ℕ × (ℕ × ℕ)) (coded× coded_ℕ (coded× coded_ℕ coded_ℕ)) (λ l. (l.table, (l.lo, l.hi))) (λ c. record { table = c.0; lo = c.1.0; hi = c.1.1 }) (λ _. refl)
-
-abbrev call_code : Coded Call
-call_code = code_by (ℕ × (ℕ × (List ℕ × (ℕ × Option RequestId))))
-    (coded× coded_ℕ (coded× coded_ℕ (coded× (coded_list coded_ℕ) (coded× coded_ℕ carried_code))))
-    (λ c. (c.number, (c.procedure, (c.args, (c.snapshot, c.request)))))
-    (λ c. record { number = c.0; procedure = c.1.0; args = c.1.1.0; snapshot = c.1.1.1.0; request = c.1.1.1.1 })
-    (λ _. refl)
 
 abbrev split : Item → Call ⊎ StoredProcedure
 split (CallItem c) = inl c
@@ -58,7 +42,7 @@ join-split (CallItem c) = refl
 join-split (AdditionItem p) = refl
 
 abbrev pub item_code : Coded Item
-item_code = code_by (Call ⊎ StoredProcedure) (coded⊎ call_code procedure_code) split join join-split
+item_code = code_by (Call ⊎ StoredProcedure) (coded⊎ call_code stored_code) split join join-split
 
 abbrev pub report_code : Coded Report
 report_code = code_by (Option RequestId × (ℕ × (List Look × (Writes × (Verdict × (List ℕ × Option ℕ))))))

@@ -26,6 +26,10 @@ pub record Holdings : Type 0 where
   pub tables : List Table
   pub certifications : List Certification
 
+abbrev pub holdings : certifier.Memory → List ListedProcedure → List Table → List Certification → Holdings
+holdings memory procedures tables certifications =
+    record { memory = memory; procedures = procedures; tables = tables; certifications = certifications }
+
 -- the entry at a position was taken in, with this certification; the writes of one that commits are installed
 pub record IsTakenIn (position : ℕ) (e : Entry) (old new : Holdings) (c : Certification) : Type 0 where
   pub certified : (past : CertifiedEntries) → KeepsCertified old.memory old.procedures past

@@ -11,7 +11,7 @@ ghost use Rattle.log_entry.specs.Kind.{entry_of};
 ghost use Rattle.catalogue.specs.Stored.{AreForTables};
 ghost use Rattle.certify.specs.Kept.{IsMemoryOf};
 ghost use Rattle.replica.specs.Replica.{FitTables, IsForTables, IsNamed, certification_after, writes_in};
-ghost use Rattle.replica.specs.Delivery.{HasSameVersions, IsLeft, IsTakenIn};
+ghost use Rattle.replica.specs.Delivery.{HasSameVersions, IsLeft, IsTakenIn, holdings};
 
 use crate::addition::take_addition;
 use crate::laws::additions_are_taken_in;
@@ -125,30 +125,12 @@ pub(crate) fn take_entry<A: Allocator + Copy, P: Allocator + Copy>(
     requires placed { IsPlaced (position - 1) (item_of (entry_of entry.now)) }
     requires fit { FitTables versions.old (writes_in (entry_of entry.now)) }
     requires named { IsNamed (entry_of entry.now) }
-    ensures taken { IfOk result (IsTakenIn position (entry_of entry.now) (record {
-      memory = certifier.old.memory;
-      procedures = procedures.old;
-      tables = versions.old.tables;
-      certifications = certifications.old.items;
-    })
-        (record {
-          memory = certifier.new.memory;
-          procedures = procedures.new;
-          tables = versions.new.tables;
-          certifications = certifications.new.items;
-        })) }
-    ensures left { OnErr result (IsLeft (record {
-      memory = certifier.old.memory;
-      procedures = procedures.old;
-      tables = versions.old.tables;
-      certifications = certifications.old.items;
-    })
-        (record {
-          memory = certifier.new.memory;
-          procedures = procedures.new;
-          tables = versions.new.tables;
-          certifications = certifications.new.items;
-        })) }
+    ensures taken { IfOk result (IsTakenIn position (entry_of entry.now)
+        (holdings certifier.old.memory procedures.old versions.old.tables certifications.old.items)
+        (holdings certifier.new.memory procedures.new versions.new.tables certifications.new.items)) }
+    ensures left { OnErr result (IsLeft
+        (holdings certifier.old.memory procedures.old versions.old.tables certifications.old.items)
+        (holdings certifier.new.memory procedures.new versions.new.tables certifications.new.items)) }
     ensures window { certifier.new.memory.window ≡ certifier.old.memory.window }
     ensures for_tables { (tables : Tables) → AreForTables tables procedures.old → IsForTables tables entry.now
         → AreForTables tables procedures.new }

@@ -54,7 +54,6 @@ pub struct Replica<A: Allocator + Copy = Global, P: Allocator + Copy = A> {
 }
 
 impl<A: Allocator + Copy, P: Allocator + Copy> Model for Replica<A, P> {
-    ghost use Rattle.std.specs.Prelude.{◌≡◌, ◌≤◌, ◌-◌};
     ghost use Rattle.replica.specs.Replica.{Replica, IsReplica};
     ghost use Rattle.replica.specs.Codes.{replica_code};
 
@@ -62,25 +61,11 @@ impl<A: Allocator + Copy, P: Allocator + Copy> Model for Replica<A, P> {
 
     ghost coded = { replica_code };
 
-    ghost view = { λ r. record {
-      window = r.window;
-      position = r.position;
-      stopped = r.stopped;
-      certifications = r.certifications.items;
-      memory = r.certifier.memory;
-      versions = r.versions;
-      procedures = r.procedures;
-    } };
+    ghost use Rattle.replica.specs.Fields.{replica_of};
 
-    ghost invariant = { λ r. IsReplica (record {
-      window = r.window;
-      position = r.position;
-      stopped = r.stopped;
-      certifications = r.certifications.items;
-      memory = r.certifier.memory;
-      versions = r.versions;
-      procedures = r.procedures;
-    }) };
+    ghost view = { replica_of };
+
+    ghost invariant = { λ r. IsReplica (replica_of r) };
 }
 
 impl<A: Allocator + Copy, P: Allocator + Copy> Replica<A, P> {

@@ -1,11 +1,11 @@
 -- What the lines that are left come to.
-use Rattle.std.proofs.Common.{◌≡◌, ◌⊎◌, inl, inr, ℕ, ◌+◌, List, [], ◌∷◌, Result, Ok, Err, IfOk, IfErr, refl, sym, ap, subst, ◌∙◌}
+use Rattle.std.proofs.Common.{◌≡◌, ◌⊎◌, inl, inr, ℕ, ◌+◌, List, [], ◌∷◌, Result, Ok, Err, IfOk, IfErr, refl, ap, ◌∙◌}
 use Rattle.script.specs.Text.{lines_of}
 use Rattle.script.specs.declared.cause.FaultCause.{FaultCause}
 use Rattle.script.specs.declared.cause.FaultCause.TheVariants.{NoMemory}
 use Rattle.script.specs.declared.cause.ScriptFault.{ScriptFault}
 use Rattle.script.specs.declared.stop.Stop.{Stop}
-use Rattle.script.specs.declared.stop.Stop.TheVariants.{Fault, Input, Output}
+use Rattle.script.specs.declared.stop.Stop.TheVariants.{Fault}
 use Rattle.script.specs.Said.{fault_at, said_from, unless_faulty, IsStopOf}
 
 module _ {S X : Type 0} (after : S → List ℕ → Result S FaultCause) (at_end : S → Result X ScriptFault) (whole : Result X ScriptFault) where
@@ -41,45 +41,6 @@ module _ {S X : Type 0} (after : S → List ℕ → Result S FaultCause) (at_end
   stops s number left more line cause stop is first (inr faulty) told =
       rw told (inr (by_line s number left more line is first
       ∙ ap (λ (r : Result S FaultCause). unless_faulty number r (λ n. said_from after at_end n (number + 1) more)) faulty))
-
--- ---- all lines, and then the end
-
-module _ {S X : Type 0} (after : S → List ℕ → Result S FaultCause) (at_end : S → Result X ScriptFault) where
-  abbrev and_then : Result S ScriptFault → Result X ScriptFault
-  and_then (Ok s) = at_end s
-  and_then (Err fault) = Err fault
-
-  step : (number : ℕ) (here : Result S FaultCause) (Behind : S → Result S ScriptFault) (Whole : S → Result X ScriptFault)
-      → ((next : S) → Whole next ≡ and_then (Behind next)) → unless_faulty number here Whole ≡ and_then (unless_faulty number here Behind)
-  step number (Ok next) Behind Whole rest = rest next
-  step number (Err cause) Behind Whole rest = refl
-
-  -- where all lines come to something, the end decides
-  ends_so : (s : S) (number : ℕ) (lines : List (List ℕ)) → said_from after at_end s number lines ≡ and_then (said_from after Ok s number lines)
-  unfolding said_from
-  ends_so s number [] = refl
-  ends_so s number (line ∷ lines) = step number (after s line) _ _ (λ next. ends_so next (number + 1) lines)
-
-  -- the lines came to something from the first on, and then the end decides
-  pub read_whole : (start first last : S) (lines : List (List ℕ)) (said : Result X ScriptFault) → start ≡ first → said_from after Ok start 1 lines ≡ Ok last → at_end last ≡ said
-      → said_from after at_end first 1 lines ≡ said
-  read_whole start first last lines said same taken ended =
-      ap (λ (s : S). said_from after at_end s 1 lines) (sym same) ∙ ends_so start 1 lines ∙ ap and_then taken ∙ ended
-
-  -- a stop at the end is one of the whole script
-  pub stops_whole : (start first last : S) (lines : List (List ℕ)) (stop : Stop) → start ≡ first → said_from after Ok start 1 lines ≡ Ok last → IsStopOf (at_end last) stop
-      → IsStopOf (said_from after at_end first 1 lines) stop
-  stops_whole start first last lines stop same taken told =
-      subst (λ (r : Result X ScriptFault). IsStopOf r stop) (sym (read_whole start first last lines (at_end last) same taken refl)) told
-
-  -- and a stop at a line
-  pub stops_reading : (start first : S) (lines : List (List ℕ)) (stop : Stop) → start ≡ first → IsStopOf (said_from after Ok start 1 lines) stop
-      → IsStopOf (said_from after at_end first 1 lines) stop
-  stops_reading start first lines (Fault fault) same (inl out) = inl out
-  stops_reading start first lines (Fault fault) same (inr faulty) =
-      inr (ap (λ (s : S). said_from after at_end s 1 lines) (sym same) ∙ ends_so start 1 lines ∙ ap and_then faulty)
-  stops_reading start first lines (Input error) same told = told
-  stops_reading start first lines (Output error) same told = told
 
 -- the first of the lines, as the code has it
 pub first_line : (bytes rest line shown : List ℕ) → lines_of bytes ≡ line ∷ lines_of rest → shown ≡ line → lines_of bytes ≡ shown ∷ lines_of rest

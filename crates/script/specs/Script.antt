@@ -1,5 +1,5 @@
 -- What a line of a script says.
-use Rattle.std.specs.Prelude.{ℕ, ◌≤◌, List, [], ◌∷◌, codes, Option, Some, None, option_map, Result, Ok, Err}
+use Rattle.std.specs.Prelude.{ℕ, ◌≤◌, List, [], ◌∷◌, codes, Option, option_map, Result, Ok, Err}
 use Rattle.std.specs.Option.{option_or}
 use Rattle.schema.specs.declared.limits.TheConstants.{MAX_ARGUMENTS, MAX_REPLICAS, MAX_WINDOW}
 use Rattle.script.specs.declared.fault.LineFault.{LineFault}

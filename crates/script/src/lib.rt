@@ -7,14 +7,14 @@ pub use fault::LineFault;
 pub use input::{MAX_LINE, Next, before_lf, next_line};
 pub use laws::lines_that_are_too_long_are_at_fault;
 pub use lines::{LineReader, read_lines};
-pub use meaning::{LineMeaning, read_line};
+pub use meaning::{LineMeaning, LineResult, LineWord, read_line};
 pub use procedure_fields::ProcedureFields;
 pub use saying::statement;
 pub use settings::Settings;
 pub use statements::{Action, Setting, Statement};
 pub use stop::{Stop, fault_at, out_of_memory};
 pub use told::tell;
-pub use word::{ActionWord, SettingWord, Word, first_word};
+pub use word::{ActionWord, SettingWord, Word};
 
 mod cause;
 mod fault;

@@ -9,41 +9,20 @@ use crate::fault::LineFault;
 use crate::fields::read_name;
 use crate::hex_field::read_hex;
 use crate::input::MAX_LINE;
-use crate::meaning::{LineMeaning, read_line};
+use crate::meaning::{LineMeaning, LineResult, read_line};
 use crate::number::{read_count, read_replicas, read_u8, read_u16, read_u32, read_window};
 use crate::procedure_fields::read_procedure;
 use crate::statements::{Action, Setting, Statement};
-use crate::word::{ActionWord, SettingWord, Word, action_word, first_word, setting_word};
+use crate::word::{ActionWord, SettingWord, Word};
 use row_sets::Bytes;
 use std::alloc::Allocator;
 
-/// Reads what a line, given without its LF, says: a statement, or nothing where it is empty or a comment.
-pub fn statement<A: Allocator + Copy>(
-    alloc: A,
-    line: &[u8],
-) -> Result<Option<Statement<Bytes<A>>>, LineFault>
-    ensures exact { IfOk result (λ statement. line_says line.now ≡ Ok statement) }
-    // The fault is the first of several, or memory is wanting.
-    ensures fault { IfErr result (λ fault. (fault ≡ NoMemory) ⊎ (line_says line.now ≡ Err fault)) }
-    ensures limits { IfOk result (λ statement. IfSome statement IsWithinLimits) }
-{
-    read_line(alloc, line, MAX_LINE)
-}
-
-impl<A: Allocator + Copy> LineMeaning<A> for Statement<Bytes<A>> {
-    ghost use Rattle.script.specs.Script.{IsWithinLimits, said_behind as said, word_of as spelled};
-
-    type Word = Word;
-
-    ghost word_of = { spelled };
+impl<A: Allocator + Copy> LineMeaning<A, Word> for Statement<Bytes<A>> {
+    ghost use Rattle.script.specs.Script.{IsWithinLimits, said_behind as said};
 
     ghost said_behind = { said };
 
     ghost IsWithin = { IsWithinLimits };
-
-    fn word(text: &str) -> Option<Word> {
-        first_word(text)
-    }
 
     fn read_behind(alloc: A, word: Word, fields: &[&str]) -> Result<Self, LineFault> {
         match word {
@@ -59,20 +38,12 @@ impl<A: Allocator + Copy> LineMeaning<A> for Statement<Bytes<A>> {
     }
 }
 
-impl<A: Allocator + Copy> LineMeaning<A> for Setting<Bytes<A>> {
-    ghost use Rattle.script.specs.Script.{IsSettingWithinLimits, setting_said, setting_word_of};
-
-    type Word = SettingWord;
-
-    ghost word_of = { setting_word_of };
+impl<A: Allocator + Copy> LineMeaning<A, SettingWord> for Setting<Bytes<A>> {
+    ghost use Rattle.script.specs.Script.{IsSettingWithinLimits, setting_said};
 
     ghost said_behind = { setting_said };
 
     ghost IsWithin = { IsSettingWithinLimits };
-
-    fn word(text: &str) -> Option<SettingWord> {
-        setting_word(text)
-    }
 
     #[tactic(auto, unfolding(crate::specs::Script::setting_said))]
     fn read_behind(alloc: A, word: SettingWord, fields: &[&str]) -> Result<Self, LineFault> {
@@ -92,20 +63,12 @@ impl<A: Allocator + Copy> LineMeaning<A> for Setting<Bytes<A>> {
     }
 }
 
-impl<A: Allocator + Copy> LineMeaning<A> for Action<Bytes<A>> {
-    ghost use Rattle.script.specs.Script.{IsActionWithinLimits, action_said, action_word_of};
-
-    type Word = ActionWord;
-
-    ghost word_of = { action_word_of };
+impl<A: Allocator + Copy> LineMeaning<A, ActionWord> for Action<Bytes<A>> {
+    ghost use Rattle.script.specs.Script.{IsActionWithinLimits, action_said};
 
     ghost said_behind = { action_said };
 
     ghost IsWithin = { IsActionWithinLimits };
-
-    fn word(text: &str) -> Option<ActionWord> {
-        action_word(text)
-    }
 
     #[tactic(auto, using(crate::proofs::SayingLemmas::begin_of_four), unfolding(crate::specs::Script::action_said))]
     fn read_behind(alloc: A, word: ActionWord, fields: &[&str]) -> Result<Self, LineFault> {
@@ -173,4 +136,14 @@ fn read_numbered<A: Allocator + Copy>(
         session: read_count(session)?,
         sequence: read_count(sequence)?,
     })
+}
+
+/// Reads what a line, given without its LF, says: a statement, or nothing where it is empty or a comment.
+pub fn statement<A: Allocator + Copy>(alloc: A, line: &[u8]) -> LineResult<Statement<Bytes<A>>>
+    ensures exact { IfOk result (λ statement. line_says line.now ≡ Ok statement) }
+    // The fault is the first of several, or memory is wanting.
+    ensures fault { IfErr result (λ fault. (fault ≡ NoMemory) ⊎ (line_says line.now ≡ Err fault)) }
+    ensures limits { IfOk result (λ statement. IfSome statement IsWithinLimits) }
+{
+    read_line::<A, Word, Statement<Bytes<A>>>(alloc, line, MAX_LINE)
 }

@@ -1,13 +1,29 @@
 //! The words with which lines begin.
 
 ghost use Rattle.std.specs.Prelude.{◌≡◌};
-ghost use Rattle.script.specs.Script.{action_word_of, setting_word_of, word_of};
+ghost use Rattle.script.specs.Script.{action_word_of, setting_word_of};
+
+use crate::meaning::LineWord;
 
 /// A line's first word.
 #[derive(Clone, Copy)]
 pub enum Word {
     Setting(SettingWord),
     Action(ActionWord),
+}
+
+impl LineWord for Word {
+    ghost use Rattle.script.specs.Script.{word_of as spelled};
+
+    ghost word_of = { spelled };
+
+    fn find(text: &str) -> Option<Word> {
+        if let Some(word) = setting_word(text) {
+            return Some(Word::Setting(word));
+        }
+        let word = action_word(text)?;
+        Some(Word::Action(word))
+    }
 }
 
 /// The word of a line that sets something.
@@ -34,18 +50,8 @@ pub enum ActionWord {
     Entry,
 }
 
-/// Finds a line's first word.
-pub fn first_word(text: &str) -> Option<Word>
-    ensures { result ≡ word_of text.now }
-{
-    if let Some(word) = setting_word(text) {
-        return Some(Word::Setting(word));
-    }
-    let word = action_word(text)?;
-    Some(Word::Action(word))
-}
-
-pub(crate) fn setting_word(text: &str) -> Option<SettingWord>
+/// Finds the word of a line that sets something.
+fn setting_word(text: &str) -> Option<SettingWord>
     ensures { result ≡ setting_word_of text.now }
 {
     Some(if text == "window" {
@@ -61,7 +67,8 @@ pub(crate) fn setting_word(text: &str) -> Option<SettingWord>
     })
 }
 
-pub(crate) fn action_word(text: &str) -> Option<ActionWord>
+/// Finds the word of a line that acts.
+fn action_word(text: &str) -> Option<ActionWord>
     ensures { result ≡ action_word_of text.now }
 {
     Some(if text == "begin" {

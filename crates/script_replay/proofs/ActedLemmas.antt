@@ -12,7 +12,7 @@ use Rattle.dsm_world.specs.System.{check_of, progress_of}
 use Rattle.dsm_world.specs.Execution.{IsExecution}
 use Rattle.replica.specs.Replica.{Replica as ReplicaState}
 use Rattle.log_model.specs.Log.{Setting, by_number, by_name, procedures_after}
-use Rattle.dsm_model.specs.World.{World, Replica, Begin, Turn, Order, Deliver, Rebuild, Add, IsStep, after_begin, after_step, numbered, position_of}
+use Rattle.dsm_model.specs.World.{World, Replica, Begin, Turn, Order, Deliver, Rebuild, Add, after_begin, after_step, numbered, position_of}
 use Rattle.script.specs.declared.procedure_fields.ProcedureFields.{ProcedureFields}
 use Rattle.script.specs.declared.statements.Action.TheVariants as action
 use Rattle.script.specs.Script.{ScriptAction}
@@ -32,6 +32,12 @@ printed_so contents One Other old new (Err x) now so (text, after, one, given) =
 pub done_as : {W T E : Type 0} (contents : W → Option (List ℕ)) (w : Setting) (before : World) (is this : ScriptAction) (old new : PagedOutput W) (result : Result T E) (now : World) → is ≡ this
     → HasDone contents w before this old new result now → HasDone contents w before is old new result now
 done_as contents w before is this old new result now same done = subst (λ (k : ScriptAction). HasDone contents w before k old new result now) (sym same) done
+
+-- an action that prints what may be printed by something, by what it is
+pub done_so : {W T E : Type 0} (contents : W → Option (List ℕ)) (w : Setting) (before : World) (is this : ScriptAction) (One : List ℕ → World → Type 0) (old new : PagedOutput W) (result : Result T E) (now : World) → is ≡ this
+    → ((text : List ℕ) (after : World) → One text after → Does w before this text after) → HasPrinted contents One old new result now → HasDone contents w before is old new result now
+done_so contents w before is this One old new result now same so done =
+    done_as contents w before is this old new result now same (printed_so contents One (Does w before this) old new result now so done)
 
 pub orders : (w : Setting) (before : World) (call : ℕ) (text : List ℕ) (after : World) → OneStep w before (Order call) text after → Does w before (action.Order call) text after
 unfolding Does

@@ -1,7 +1,7 @@
 -- Excerpts of texts that are appended to each other.
-use Rattle.std.proofs.Common.{◌≡◌, ℕ, zero, suc, ◌+◌, ◌-◌, ◌≤◌, ◌<◌, min, List, [], ◌∷◌, ◌++◌, take, drop, length, Option, refl, sym, ap, subst, ◌∙◌, arith, append_assoc}
+use Rattle.std.proofs.Common.{◌≡◌, ℕ, zero, suc, ◌+◌, ◌-◌, ◌≤◌, ◌<◌, min, List, [], ◌∷◌, ◌++◌, take, drop, length, Option, sym, ap, subst, ◌∙◌, arith}
 use Rattle.std.proofs.Math.Seq.{drop-nil, take-nil}
-use Rattle.std.proofs.lemmas.List.{append-nil, length-append, length-drop, length-take, take-append-drop}
+use Rattle.std.proofs.lemmas.List.{length-append, length-drop, length-take, take-append-drop}
 use Rattle.hex.specs.Hex.{encode_lower, lower_digits}
 use Rattle.byte_output.specs.declared.paged.PagedOutput.{PagedOutput}
 use Rattle.byte_output.specs.Pending.{Passes}
@@ -9,9 +9,7 @@ use Rattle.byte_output.proofs.PendingLemmas.{Passes-then}
 use Rattle.report.proofs.PrintingLemmas.{encode_append}
 use Rattle.script_replay.specs.Acting.{PassesBeginning}
 use Rattle.script_replay.proofs.GivenLemmas.{beginning_then, beginning_more, whole_given}
-use Rattle.script_replay.specs.declared.excerpt.Excerpt.{Excerpt}
 use Rattle.script_replay.specs.declared.excerpt.TheConstants.{EXCERPT_BYTES}
-use Rattle.script_replay.specs.Excerpt.{IsExcerpt}
 
 drop_more : (n : ℕ) (x y : List ℕ) → drop n (x ++ y) ≡ drop n x ++ drop (n - length x) y
 drop_more n [] y = let same : n - 0 ≡ n = omega arith in ap (λ (xs : List ℕ). xs ++ drop n y) (sym (drop-nil n)) ∙ ap (λ m. drop n [] ++ drop m y) (sym same)

@@ -1,9 +1,9 @@
 -- Rows that are listed one after another, as looks find them.
-use Rattle.std.proofs.Common.{◌≡◌, ◌≢◌, ℕ, ◌+◌, ◌<◌, ◌≤◌, ◌⊎◌, inl, inr, eqb, Bool, true, false, cond, ◌&&◌, List, [], ◌∷◌, ◌++◌, All, refl, sym, ap, subst, ◌∙◌, arith}
+use Rattle.std.proofs.Common.{◌≡◌, ◌≢◌, ℕ, ◌+◌, ◌<◌, ◌≤◌, inl, inr, eqb, Bool, true, false, cond, ◌&&◌, List, [], ◌∷◌, ◌++◌, refl, sym, ap, subst, ◌∙◌, arith}
 use Rattle.std.proofs.lemmas.List.{append_assoc, append-nil}
 use Rattle.std.proofs.lemmas.Bool.{eqb-true, eqb-false}
 use Rattle.std.proofs.lemmas.Map.Views.{tells_apart}
-use Rattle.std.specs.Prelude.{T, ◌^◌, ◌-◌, Option, Some, None, IsSome, IsTrue, ◌↔◌}
+use Rattle.std.specs.Prelude.{T, ◌^◌, Option, Some, None, IsSome, IsTrue, ◌↔◌}
 use Rattle.std.specs.declared.cmp.Ordering.{Ordering}
 use Rattle.std.specs.declared.cmp.Ordering.TheVariants.{Less, Equal, Greater}
 use Rattle.std.specs.Ordering.{nat_cmp, ordering_then, is_lt, is_eq, eq_by_cmp, MatchOrdering}
@@ -12,7 +12,7 @@ use Rattle.std.specs.FinMap.{get, entries, entries_sorted, get-entries, find, is
 use Rattle.std.specs.FinMap.Entries.{below_all}
 use Rattle.schema.specs.declared.look.Look.{Look}
 use Rattle.schema.specs.declared.limits.TheConstants.{MAX_TABLE}
-use Rattle.schema.specs.Rows.{Key, key_cmp, key_cmp_total, key_cmp-IsAntisymmetric, Rows, covers, first_in, IsFirst, IsVacant}
+use Rattle.schema.specs.Rows.{Key, key_cmp, key_cmp_total, key_cmp-IsAntisymmetric, Rows, covers, IsFirst, IsVacant}
 use Rattle.script_replay.specs.Listing.{IsBefore, IsBehind, IsRowKey, HasRowKeys, Each, AreBefore}
 
 abbrev pub Listed : Type 0

@@ -24,7 +24,7 @@ abbrev some_further : ℕ → List Replica → Bool
 some_further before replicas = list_any (λ (p : Progress). nat_lt before p.position) (map progress_of replicas)
 
 -- the first that has, of those from a place on
-pub found_next : (before : ℕ) (replicas : List Replica) (k : ℕ) (r : Replica) → slice_get replicas k ≡ Some r
+found_next : (before : ℕ) (replicas : List Replica) (k : ℕ) (r : Replica) → slice_get replicas k ≡ Some r
     → find (further before) (drop k replicas) ≡ cond (nat_lt before r.position) (Some r) (find (further before) (drop (k + 1) replicas))
 found_next before replicas k r at =
     let next : suc k ≡ k + 1 = omega arith in
@@ -36,6 +36,16 @@ is_further m n lt = grind (arith, nat_tests)
 
 pub is_not_further : (m n : ℕ) → n ≤ m → nat_lt m n ≡ false
 is_not_further m n le = grind (arith, nat_tests)
+
+-- the first of those from a place on is the replica there, where that has come further
+pub found_here : (before : ℕ) (replicas : List Replica) (k : ℕ) (r : Replica) → slice_get replicas k ≡ Some r → before < r.position → find (further before) (drop k replicas) ≡ Some r
+found_here before replicas k r at lt =
+    found_next before replicas k r at ∙ ap (λ (b : Bool). cond b (Some r) (find (further before) (drop (k + 1) replicas))) (is_further before r.position lt)
+
+-- otherwise the first of those behind it
+pub found_behind : (before : ℕ) (replicas : List Replica) (k : ℕ) (r : Replica) → slice_get replicas k ≡ Some r → r.position ≤ before → find (further before) (drop k replicas) ≡ find (further before) (drop (k + 1) replicas)
+found_behind before replicas k r at le =
+    found_next before replicas k r at ∙ ap (λ (b : Bool). cond b (Some r) (find (further before) (drop (k + 1) replicas))) (is_not_further before r.position le)
 
 -- it is one of them, it has, and so some has
 pub record IsFurther (before : ℕ) (replicas : List Replica) (r : Replica) : Type 0 where

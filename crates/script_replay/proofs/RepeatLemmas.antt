@@ -1,5 +1,5 @@
 -- A step that is taken again, as far as a loop has come.
-use Rattle.std.proofs.Common.{◌≡◌, ◌≢◌, ◌<◌, inl, ℕ, zero, suc, Bool, true, false, List, [], ◌∷◌, ◌++◌, refl, sym, ap, subst, ◌∙◌, append_assoc, arith}
+use Rattle.std.proofs.Common.{◌≡◌, ◌≢◌, ◌<◌, ◌+◌, ◌-◌, inl, ℕ, zero, suc, Bool, true, false, List, [], ◌∷◌, ◌++◌, refl, sym, ap, subst, ◌∙◌, append_assoc, arith}
 use Rattle.std.proofs.lemmas.List.{append-nil}
 use Rattle.std.specs.List.{concat}
 use Rattle.std.specs.Prelude.{Option}
@@ -58,7 +58,7 @@ unfolding Repeats
 one_more contents w step goes most left start now old new came outcome between after lines is more =
     came.back (said w between step outcome ∷ lines) after (outcome, lines, between, refl, is, more)
 
-pub came_more : {W : Type 0} (contents : W → Option (List ℕ)) (w : Setting) (step : Step) (goes : Outcome → Bool) (most left : ℕ) (start now next : World) (old mid new : PagedOutput W) (outcome : Outcome) → Came contents w step goes most (suc left) start now old mid
+came_more : {W : Type 0} (contents : W → Option (List ℕ)) (w : Setting) (step : Step) (goes : Outcome → Bool) (most left : ℕ) (start now next : World) (old mid new : PagedOutput W) (outcome : Outcome) → Came contents w step goes most (suc left) start now old mid
     → IsStep w now step outcome next → goes outcome ≡ true → Passes contents mid new (said w next step outcome) → Came contents w step goes most left start next old new
 came_more contents w step goes most left start now next old mid new outcome came is goes_on given = record {
   done = came.done ++ said w next step outcome;
@@ -72,7 +72,7 @@ came_more contents w step goes most left start now next old mid new outcome came
 abbrev pub AllGiven : {W : Type 0} → (W → Option (List ℕ)) → Setting → Step → (Outcome → Bool) → ℕ → World → World → PagedOutput W → PagedOutput W → Type 0
 AllGiven contents w step goes most start after old new = (lines : List (List ℕ)) × Repeats w step goes most start lines after × Passes contents old new (concat lines)
 
-pub came_last : {W : Type 0} (contents : W → Option (List ℕ)) (w : Setting) (step : Step) (goes : Outcome → Bool) (most left : ℕ) (start now next : World) (old mid new : PagedOutput W) (outcome : Outcome) → Came contents w step goes most (suc left) start now old mid
+came_last : {W : Type 0} (contents : W → Option (List ℕ)) (w : Setting) (step : Step) (goes : Outcome → Bool) (most left : ℕ) (start now next : World) (old mid new : PagedOutput W) (outcome : Outcome) → Came contents w step goes most (suc left) start now old mid
     → IsStep w now step outcome next → goes outcome ≡ false → Passes contents mid new (said w next step outcome) → AllGiven contents w step goes most start next old new
 came_last contents w step goes most left start now next old mid new outcome came is ends given =
     let all = one_more contents w step goes most left start now old mid came outcome next next [] is (subst (λ (b : Bool). Later b (Repeats w step goes left next [] next) [] next next) (sym ends) (refl, refl)) in
@@ -103,9 +103,34 @@ onward contents w step goes most left start now next old mid new outcome came is
     let all = one_more contents w step goes most left start now old mid came outcome next next [] is (subst (λ (b : Bool). Later b (Repeats w step goes left next [] next) [] next next) e (refl, refl)) in
     (all.0, next, all.1, begun contents old mid new came.done (said w next step outcome) [] (concat all.0) came.given began all.2)
 
-pub came_fails : {W : Type 0} (contents : W → Option (List ℕ)) (w : Setting) (step : Step) (goes : Outcome → Bool) (most left : ℕ) (start now next : World) (old mid new : PagedOutput W) (outcome : Outcome) → Came contents w step goes most (suc left) start now old mid
+came_fails : {W : Type 0} (contents : W → Option (List ℕ)) (w : Setting) (step : Step) (goes : Outcome → Bool) (most left : ℕ) (start now next : World) (old mid new : PagedOutput W) (outcome : Outcome) → Came contents w step goes most (suc left) start now old mid
     → IsStep w now step outcome next → PassesBeginning contents mid new (said w next step outcome) → SomeGiven contents w step goes most start old new
 came_fails contents w step goes most left start now next old mid new outcome came is began = onward contents w step goes most left start now next old mid new outcome came is began (goes outcome) refl
+
+-- ---- one more step of a loop that counts, where the world's setting has stayed
+
+module _ {W : Type 0} (contents : W → Option (List ℕ)) (here w : Setting) (step : Step) (goes : Outcome → Bool) (most counter : ℕ) (start now next : World) (old mid new : PagedOutput W) (outcome : Outcome) (few : counter < most) (same : here ≡ w)
+    (came : Came contents w step goes most (most - counter) start now old mid) where
+  one_left : Came contents w step goes most (suc (most - (counter + 1))) start now old mid
+  one_left = let left : most - counter ≡ suc (most - (counter + 1)) = omega arith in subst (λ (k : ℕ). Came contents w step goes most k start now old mid) left came
+
+  stepped : IsStep here now step outcome next → IsStep w now step outcome next
+  stepped is = subst (λ (v : Setting). IsStep v now step outcome next) same is
+
+  pub counted_more : IsStep here now step outcome next × Passes contents mid new (said here next step outcome) → goes outcome ≡ true → Came contents w step goes most (most - (counter + 1)) start next old new
+  counted_more s goes_on =
+      came_more contents w step goes most (most - (counter + 1)) start now next old mid new outcome one_left (stepped s.0) goes_on
+      (subst (λ (v : Setting). Passes contents mid new (said v next step outcome)) same s.1)
+
+  pub counted_last : IsStep here now step outcome next × Passes contents mid new (said here next step outcome) → goes outcome ≡ false → AllGiven contents w step goes most start next old new
+  counted_last s ends =
+      came_last contents w step goes most (most - (counter + 1)) start now next old mid new outcome one_left (stepped s.0) ends
+      (subst (λ (v : Setting). Passes contents mid new (said v next step outcome)) same s.1)
+
+  pub counted_fails : IsStep here now step outcome next → PassesBeginning contents mid new (said here next step outcome) → SomeGiven contents w step goes most start old new
+  counted_fails is began =
+      came_fails contents w step goes most (most - (counter + 1)) start now next old mid new outcome one_left (stepped is)
+      (subst (λ (v : Setting). PassesBeginning contents mid new (said v next step outcome)) same began)
 
 -- ---- with the last line alone
 

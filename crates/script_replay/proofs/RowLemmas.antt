@@ -1,18 +1,24 @@
 -- The lines of rows, as far as a loop has come.
-use Rattle.std.proofs.Common.{◌≡◌, ℕ, nat_lt, ◌+◌, ◌-◌, ◌<◌, ◌≤◌, ◌^◌, List, [], ◌∷◌, ◌++◌, length, map, Option, Some, None, IsSome, Result, Ok, Err, false, refl, sym, ap, subst, ◌∙◌, arith, append_assoc}
+use Rattle.std.proofs.Common.{◌≡◌, ℕ, nat_lt, ◌+◌, ◌-◌, ◌<◌, ◌≤◌, ◌^◌, List, [], ◌∷◌, ◌++◌, length, Option, Some, None, IsSome, false, refl, option_map, sym, ap, subst, ◌∙◌, arith, append_assoc}
 use Rattle.std.proofs.lemmas.Bool.Decides.{nat_tests}
 use Rattle.std.proofs.lemmas.List.{append-nil, length-append}
-use Rattle.std.specs.List.{concat}
 use Rattle.std.specs.FinMap.{get, entries}
 use Rattle.byte_output.specs.declared.paged.PagedOutput.{PagedOutput}
 use Rattle.byte_output.specs.Pending.{Passes}
 use Rattle.byte_output.proofs.PendingLemmas.{Passes-then}
 use Rattle.schema.specs.Schema.{Tables, AreTables}
 use Rattle.schema.specs.declared.limits.TheConstants.{MAX_TABLE}
-use Rattle.schema.specs.Rows.{Key, Rows, IsFirst, IsVacant, AreRows, row_at}
-use Rattle.script_replay.specs.Printed.{row_text}
-use Rattle.script_replay.specs.Acting.{PassesBeginning, Gives}
-use Rattle.script_replay.specs.Listing.{HasRowKeys, AreBefore, lines_of, ListsMore, GivesAll}
+use Rattle.schema.specs.Rows.{Key, Rows, IsFirst, IsVacant, AreRows}
+use Rattle.log_model.specs.Log.{Setting, Log, IsLog, rows_after}
+use Rattle.log_model.specs.Fit.{AreItems, HasSafeProcedures}
+use Rattle.dsm_model.specs.World.{numbered}
+use Rattle.dsm_model.specs.Sound.{IsWorld}
+use Rattle.replica.specs.Replica.{Replica as ReplicaState}
+use Rattle.dsm_world.specs.System.{SystemWorld, setting_of, world_of, progress_of}
+use Rattle.dsm_world.proofs.Numbered.{numbered_map}
+use Rattle.script_replay.specs.Printed.{all_rows_text, row_text, rows_text}
+use Rattle.script_replay.specs.Acting.{PassesBeginning}
+use Rattle.script_replay.specs.Listing.{HasRowKeys, AreBefore, lines_of}
 use Rattle.script_replay.proofs.GivenLemmas.{beginning_then, beginning_more, nothing_given}
 use Rattle.script_replay.proofs.ListingLemmas.{Listed, Covers, look_of, one_more, table_listed, table_full, all_listed}
 
@@ -110,3 +116,20 @@ listed_none contents a p rows listed before = ([], refl, subst (λ (xs : Listed)
 -- a replica isn't behind itself
 pub none_behind : (window at position : ℕ) → at ≡ position → nat_lt window (at - position) ≡ false
 none_behind window at position same = grind (arith, nat_tests)
+
+module _ (s : SystemWorld) (r position : ℕ) (kept : ReplicaState) (stands : Some kept ≡ numbered s.replicas r) (at : position ≡ kept.position) where
+  pub progress_there : numbered (world_of s).replicas r ≡ Some (progress_of kept)
+  progress_there = numbered_map progress_of s.replicas r ∙ ap (λ (o : Option ReplicaState). option_map progress_of o) (sym stands)
+
+  -- what is printed of its rows
+  pub text_there : rows_text (setting_of s) (world_of s).log r (numbered (world_of s).replicas r) ≡ all_rows_text r position (entries (rows_after (setting_of s) (world_of s).log position))
+  text_there =
+      ap (rows_text (setting_of s) (world_of s).log r) progress_there
+      ∙ ap (λ (n : ℕ). all_rows_text r n (entries (rows_after (setting_of s) (world_of s).log n))) (sym at)
+
+  -- their keys
+  pub keys_there : ((w : Setting) (log : Log) (position : ℕ) → HasSafeProcedures w → IsLog log → AreItems w log → position ≤ length log → AreRows w.tables (rows_after w log position))
+      → HasSafeProcedures (setting_of s) → IsWorld (setting_of s) (world_of s) → AreTables s.catalogue.tables → HasRowKeys (rows_after (setting_of s) (world_of s).log position)
+  keys_there fit safe is tables =
+      let le = is.positions r (progress_of kept) progress_there in
+      row_keys s.catalogue.tables (rows_after (setting_of s) (world_of s).log position) tables (fit (setting_of s) (world_of s).log position safe is.log is.items (omega arith))

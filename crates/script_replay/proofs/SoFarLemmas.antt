@@ -155,19 +155,21 @@ pub line_wants : {W : Type 0} (contents : W → Option (List ℕ)) (now : Stage)
 line_wants contents now number bytes rest remaining left line old mid new (Fault fault) so_far e read (same, here, passes) given = λ w.
     let begun = beginning_of contents mid new (PrintsFrom number (effect_of now (line_says line)) []) fault (given []) in
     inr (record {
-      before = so_far.read;
-      line = line;
-      rest = rest;
-      read = read;
-      lines = so_far.is ∙ ap (λ (ls : List (List ℕ)). so_far.read ++ ls) e;
-      count = so_far.count ∙ sym same;
-      done = so_far.done;
+      lines = record {
+        before = so_far.read;
+        line = line;
+        rest = rest;
+        read = read;
+        lines = so_far.is ∙ ap (λ (ls : List (List ℕ)). so_far.read ++ ls) e;
+        count = so_far.count ∙ sym same;
+        done = so_far.done;
+        printed = finished_so_far contents now number (lines_of bytes) left old mid so_far;
+        text = so_far.done ++ begun.0;
+        ending = begun.1;
+        prints = so_far.back (line ∷ []) begun.0 begun.1 (prints_line now number line [] begun.0 begun.1 begun.2);
+      };
       here = here;
-      printed = finished_so_far contents now number (lines_of bytes) left old mid so_far;
       given = Passes-then contents old mid new so_far.done here so_far.passed passes;
-      text = so_far.done ++ begun.0;
-      ending = begun.1;
-      prints = so_far.back (line ∷ []) begun.0 begun.1 (prints_line now number line [] begun.0 begun.1 begun.2);
       beginning = PassesBeginning-then contents old mid new so_far.done begun.0 so_far.passed begun.3;
     })
 line_wants contents now number bytes rest remaining left line old mid new (Input error) so_far e read by given = tt

@@ -1,5 +1,5 @@
 -- What is written at the end of a script, and what is said of it.
-use Rattle.std.proofs.Common.{◌≡◌, ◌⊎◌, inl, inr, ℕ, true, List, [], Option, Some, None, Result, Ok, Err, IfErr, IfSome, ◌++◌, refl, sym, ap, subst, ◌∙◌}
+use Rattle.std.proofs.Common.{◌≡◌, ◌⊎◌, inl, inr, ℕ, true, List, [], Option, Result, Ok, Err, IfErr, ◌++◌, refl, sym, ap, subst, ◌∙◌}
 use Rattle.std.proofs.lemmas.List.{append-nil}
 use Rattle.std.specs.Io.KnownBytes.{Appends}
 use Rattle.byte_output.specs.declared.paged.PagedOutput.{PagedOutput}
@@ -65,20 +65,10 @@ module _ {W : Type 0} (contents : W → Option (List ℕ)) (a b : PagedOutput W)
   -- where memory was wanting, and what was pending was put out
   up_to_line : (bytes : List ℕ) (left new : Option (List ℕ)) (n : ℕ) → Appends (contents (output_of b).now) new (pending_of b) → GivesUpToLine contents bytes left a b n → StopsAtLine bytes left (contents old) new n
   up_to_line bytes left new n q h = record {
-    before = h.before;
-    line = h.line;
-    rest = h.rest;
-    read = h.read;
     lines = h.lines;
-    count = h.count;
-    done = h.done;
     here = h.here;
-    printed = h.printed;
-    written = whole new (h.done ++ h.here) h.given q;
-    text = h.text;
-    ending = h.ending;
-    prints = h.prints;
-    beginning = PassesBeginning-finished contents a b old new h.text same none h.beginning (beginning new q);
+    written = whole new (h.lines.done ++ h.here) h.given q;
+    beginning = PassesBeginning-finished contents a b old new h.lines.text same none h.beginning (beginning new q);
   }
 
   no_lines : (bytes : List ℕ) (left new : Option (List ℕ)) (n : ℕ) → Appends (contents (output_of b).now) new (pending_of b) → GivesNoLines contents bytes left a b n → StopsBeforeLines bytes left (contents old) new n

@@ -1,11 +1,10 @@
 -- What is given to an output, in front of which a page is kept, while a script's lines are done; and what is written at its
 -- end.
-use Rattle.std.specs.Prelude.{◌≡◌, ◌⊎◌, ℕ, ◌+◌, Bool, true, false, List, [], ◌∷◌, ◌++◌, length, Option, Some, Result, Ok, Err}
+use Rattle.std.specs.Prelude.{◌≡◌, ◌⊎◌, ℕ, ◌+◌, Bool, true, false, List, [], ◌++◌, Option, Some, Result, Ok, Err}
 use Rattle.std.specs.Io.KnownBytes.{Appends}
 use Rattle.byte_output.specs.declared.paged.PagedOutput.{PagedOutput}
 use Rattle.byte_output.specs.Pending.{Passes}
 use Rattle.byte_output.specs.Writes.{AppendsBeginning}
-use Rattle.script.specs.Text.{lines_of}
 use Rattle.script_replay.specs.Actions.{setting_of, world_of}
 use Rattle.script.specs.declared.cause.FaultCause.TheVariants.{NoMemory}
 use Rattle.script_replay.specs.Acting.{PassesBeginning}
@@ -13,9 +12,9 @@ use Rattle.script_replay.specs.declared.stage.Stage as code
 use Rattle.script_replay.specs.declared.stage.Stage.TheVariants.{SettingUp as SettingUpCode, Acting as ActingCode}
 use Rattle.script.specs.declared.stop.Stop.{Stop}
 use Rattle.script.specs.declared.stop.Stop.TheVariants.{Fault, Output}
-use Rattle.script_replay.specs.Stage.{Stage, Setup, Acting, Effect, Fails, first_stage}
+use Rattle.script_replay.specs.Stage.{Stage, Setup, Acting, Effect, Fails}
 use Rattle.script_replay.specs.Replay.{Ending, Finished, Faulty, Prints, PrintsEffect}
-use Rattle.script_replay.specs.Leaving.{StopsAt}
+use Rattle.script_replay.specs.Leaving.{IsReadTo, StopsAt}
 
 -- what a stage of the code stands for
 abbrev pub stage_of : {A : Type 0} → code.Stage A → Stage
@@ -67,20 +66,10 @@ StopsBy contents number old new _ = Unit {0}
 
 -- as `StopsAtLine`, where pages stand in front of the output
 pub record GivesUpToLine {W : Type 0} (contents : W → Option (List ℕ)) (bytes : List ℕ) (left : Option (List ℕ)) (old new : PagedOutput W) (number : ℕ) : Type 0 where
-  pub before : List (List ℕ)
-  pub line : List ℕ
-  pub rest : List ℕ
-  pub read : left ≡ Some rest
-  pub lines : lines_of bytes ≡ before ++ line ∷ lines_of rest
-  pub count : length before + 1 ≡ number
-  pub done : List ℕ
+  pub lines : IsReadTo bytes left number
   pub here : List ℕ
-  pub printed : Prints first_stage 1 before done Finished
-  pub given : Passes contents old new (done ++ here)
-  pub text : List ℕ
-  pub ending : Ending
-  pub prints : Prints first_stage 1 (before ++ line ∷ []) text ending
-  pub beginning : PassesBeginning contents old new text
+  pub given : Passes contents old new (lines.done ++ here)
+  pub beginning : PassesBeginning contents old new lines.text
 
 pub record GivesNoLines {W : Type 0} (contents : W → Option (List ℕ)) (bytes : List ℕ) (left : Option (List ℕ)) (old new : PagedOutput W) (number : ℕ) : Type 0 where
   pub zero : number ≡ 0

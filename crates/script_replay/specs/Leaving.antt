@@ -26,9 +26,8 @@ Leaves old new old_faults new_faults status text ending =
 
 -- ---- where memory was wanting
 
--- a script that stopped at the line of this number, and what it has written: all that the lines before print, and of this
--- one a beginning of what it prints. No more was read of it
-pub record StopsAtLine (bytes : List ℕ) (left old new : Option (List ℕ)) (number : ℕ) : Type 0 where
+-- the line of this number was read and no more, with what the lines before it print, and what may be printed up to its end
+pub record IsReadTo (bytes : List ℕ) (left : Option (List ℕ)) (number : ℕ) : Type 0 where
   pub before : List (List ℕ)
   pub line : List ℕ
   pub rest : List ℕ
@@ -36,13 +35,18 @@ pub record StopsAtLine (bytes : List ℕ) (left old new : Option (List ℕ)) (nu
   pub lines : lines_of bytes ≡ before ++ line ∷ lines_of rest
   pub count : length before + 1 ≡ number
   pub done : List ℕ
-  pub here : List ℕ
   pub printed : Prints first_stage 1 before done Finished
-  pub written : Appends old new (done ++ here)
   pub text : List ℕ
   pub ending : Ending
   pub prints : Prints first_stage 1 (before ++ line ∷ []) text ending
-  pub beginning : AppendsBeginning old new text
+
+-- a script that stopped at the line of this number, and what it has written: all that the lines before print, and of this
+-- one a beginning of what it prints
+pub record StopsAtLine (bytes : List ℕ) (left old new : Option (List ℕ)) (number : ℕ) : Type 0 where
+  pub lines : IsReadTo bytes left number
+  pub here : List ℕ
+  pub written : Appends old new (lines.done ++ here)
+  pub beginning : AppendsBeginning old new lines.text
 
 -- one that stopped before its first line, which counts as 0: nothing was read, and nothing written
 pub record StopsBeforeLines (bytes : List ℕ) (left old new : Option (List ℕ)) (number : ℕ) : Type 0 where

@@ -1,5 +1,5 @@
 -- The rows of a map one after another, in the order of tables and keys.
-use Rattle.std.specs.Prelude.{◌≡◌, ℕ, ◌+◌, ◌<◌, ◌≤◌, ◌^◌, ◌⊎◌, Bool, List, [], ◌∷◌, ◌++◌, length, map, IsSome, T, Option, Result, MatchResult}
+use Rattle.std.specs.Prelude.{◌≡◌, ℕ, ◌<◌, ◌≤◌, ◌^◌, ◌⊎◌, List, [], ◌∷◌, ◌++◌, length, map, IsSome, T, Option, Result, MatchResult}
 use Rattle.std.specs.List.{concat}
 use Rattle.std.specs.FinMap.{get, entries, is_sorted}
 use Rattle.byte_output.specs.declared.paged.PagedOutput.{PagedOutput}

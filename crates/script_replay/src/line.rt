@@ -56,7 +56,10 @@ fn do_statement<A: Allocator + Copy, W: Write>(
 {
     match statement {
         Statement::Setting(setting) => set(stage, setting, number),
-        Statement::Action(action) => do_action(alloc, stage, output, action, number),
+        Statement::Action(action) => {
+            let world = acting(alloc, stage, number)?;
+            act_on(world, output, &action, number)
+        }
     }
 }
 
@@ -82,24 +85,6 @@ fn set<A: Allocator + Copy>(
         }
         Stage::Acting(_) => Err(fault_at(number, FaultCause::Place)),
     }
-}
-
-/// Does an action, on the world that acts.
-fn do_action<A: Allocator + Copy, W: Write>(
-    alloc: A,
-    stage: Stage<A>,
-    output: &mut PagedOutput<'_, W>,
-    action: Action<Bytes<A>>,
-    number: u64,
-) -> Result<Stage<A>, Stop>
-    requires { IsActionWithinLimits action }
-    ensures same_output { (output_of output.new).ghost_name ≡ (output_of output.old).ghost_name }
-    ensures done { GivesEffect W.contents number (effect_of (stage_of stage) (Ok (Some (statement.Action action))))
-        output.old output.new result }
-    ensures stopped { IfErr result (StopsBy W.contents number output.old output.new) }
-{
-    let world = acting(alloc, stage, number)?;
-    act_on(world, output, &action, number)
 }
 
 /// Returns the world that acts. The first action's world is the one that was set up.

@@ -5,6 +5,7 @@ use Rattle.byte_output.specs.Writes.{AppendsBeginning}
 use Rattle.tallies.specs.declared.counts.Counts.{Counts}
 use Rattle.report.specs.Lines.{line_text}
 use Rattle.node_calls.specs.declared.answer.Answer.{Answer}
+use Rattle.report.specs.declared.printed.Line.{Line}
 use Rattle.report.specs.declared.printed.ReplicaReport.TheVariants as replica
 use Rattle.report.specs.declared.printed.Line.TheVariants.{Answered, Totals, Replica, Agreement}
 use Rattle.log_model.specs.Log.{Setting}
@@ -28,16 +29,21 @@ pub record RunReport : Type 0 where
   pub replicas : List ReplicaEnd  -- how each has ended
   pub agrees : Bool
 
+-- a line for each item, by its number; so many items stand before the first
+unfoldable pub numbered_text : {X : Type 0} → (ℕ → X → Line) → ℕ → List X → List ℕ
+numbered_text line_of before [] = []
+numbered_text line_of before (item ∷ items) = line_text (line_of (before + 1) item) ++ numbered_text line_of (before + 1) items
+
 -- a line for each answer; so many calls stand before the first
-unfoldable pub answers_text : ℕ → List Answer → List ℕ
-answers_text before [] = []
-answers_text before (answer ∷ answers) = line_text (Answered (before + 1) answer) ++ answers_text (before + 1) answers
+abbrev pub answers_text : ℕ → List Answer → List ℕ
+answers_text before answers = numbered_text Answered before answers
+
+abbrev pub replica_line : ℕ → ReplicaEnd → Line
+replica_line number end = Replica number (replica.Ended end.position end.commits end.is_stopped)
 
 -- a line for each replica; so many stand before the first
-unfoldable pub replicas_text : ℕ → List ReplicaEnd → List ℕ
-replicas_text before [] = []
-replicas_text before (end ∷ ends) =
-    line_text (Replica (before + 1) (replica.Ended end.position end.commits end.is_stopped)) ++ replicas_text (before + 1) ends
+abbrev pub replicas_text : ℕ → List ReplicaEnd → List ℕ
+replicas_text before ends = numbered_text replica_line before ends
 
 -- an answer to each call, the totals, how each replica has ended, and whether they agree
 abbrev pub run_text : RunReport → List ℕ

@@ -2,15 +2,15 @@
 
 ghost use Rattle.std.specs.Prelude.{◌≡◌, ◌≤◌, ℕ, List, Some, Ok, IfOk, IfErr};
 ghost use Rattle.schema.specs.declared.limits.TheConstants.{MAX_REPLICAS, MAX_WINDOW};
-ghost use Rattle.script_run.specs.Calls.{at_end, script_says};
+ghost use Rattle.script_run.specs.Calls.{script_says};
 ghost use Rattle.script.specs.Said.{IsStopOf};
-ghost use Rattle.script_run.specs.Reading.{so_far, said_by};
+ghost use Rattle.script_run.specs.Reading.{said_by};
 
 use crate::call::ScriptCall;
 use crate::reading::Reading;
 use catalogue::Catalogue;
 use row_sets::Bytes;
-use script::{FaultCause, Stop, fault_at, out_of_memory, read_lines};
+use script::{Stop, read_lines};
 use std::alloc::{Allocator, Global};
 use std::io::BufRead;
 
@@ -39,28 +39,5 @@ pub fn read_script<A: Allocator + Copy, R: BufRead>(
     ensures window { IfOk result (λ script. (1 ≤ script.window) × (script.window ≤ MAX_WINDOW)) }
     ensures replicas { IfOk result (λ script. (1 ≤ script.replicas) × (script.replicas ≤ MAX_REPLICAS)) }
 {
-    let Ok(reading) = Reading::new(alloc) else {
-        return Err(out_of_memory(0));
-    };
-    let reading = read_lines(alloc, input, reading)?;
-    whole(reading)
-}
-
-/// Returns the script that was read to its end. Its window and its replicas have to be set.
-fn whole<A: Allocator + Copy>(reading: Reading<A>) -> Result<CallScript<A>, Stop>
-    ensures exact { IfOk result (λ script. at_end (so_far reading) ≡ Ok (said_by script)) }
-    ensures stop { IfErr result (IsStopOf (at_end (so_far reading))) }
-    ensures window { IfOk result (λ script. (1 ≤ script.window) × (script.window ≤ MAX_WINDOW)) }
-    ensures replicas { IfOk result (λ script. (1 ≤ script.replicas) × (script.replicas ≤ MAX_REPLICAS)) }
-{
-    let Reading { settings, calls } = reading;
-    let (Some(window), Some(replicas)) = (settings.window(), settings.replicas()) else {
-        return Err(fault_at(0, FaultCause::Place));
-    };
-    Ok(CallScript {
-        window,
-        replicas,
-        catalogue: settings.into_catalogue(),
-        calls,
-    })
+    read_lines::<A, R, Reading<A>>(alloc, input)
 }

@@ -3,12 +3,15 @@
 ghost use Rattle.std.specs.Prelude.{◌≡◌, ◌⊎◌, ◌≤◌, Some, Ok, Err, IfOk, IfErr, OnOk, OnErr};
 ghost use Rattle.script.specs.Script.{IsSettingWithinLimits};
 ghost use Rattle.script.specs.declared.cause.FaultCause.TheVariants.{NoMemory};
-ghost use Rattle.script_run.specs.Calls.{call_of, nothing_said, with_call, with_setting};
+ghost use Rattle.script_run.specs.Calls.{call_of, with_call, with_setting};
 ghost use Rattle.script_run.specs.Reading.{so_far};
 
 use crate::call::{ScriptCall, call_of};
+use crate::call_script::CallScript;
 use row_sets::Bytes;
-use script::{Action, FaultCause, LineReader, Setting, Settings, Statement, statement};
+use script::{
+    Action, FaultCause, LineReader, Setting, Settings, Statement, Stop, fault_at, statement,
+};
 use std::alloc::{AllocError, Allocator};
 
 /// The statements that the lines of a script have made so far.
@@ -19,16 +22,6 @@ pub(crate) struct Reading<A: Allocator + Copy> {
 }
 
 impl<A: Allocator + Copy> Reading<A> {
-    /// Makes a reading of no lines.
-    pub(crate) fn new(alloc: A) -> Result<Reading<A>, AllocError>
-        ensures { IfOk result (λ reading. so_far reading ≡ nothing_said) }
-    {
-        Ok(Reading {
-            settings: Settings::new(alloc)?,
-            calls: Vec::new(alloc),
-        })
-    }
-
     /// Takes a setting.
     fn set(&mut self, setting: Setting<Bytes<A>>) -> Result<(), FaultCause>
         requires { IsSettingWithinLimits setting }
@@ -76,17 +69,36 @@ impl<A: Allocator + Copy> LineReader<A> for Reading<A> {
     ghost use Rattle.script.specs.Line.{fields_say};
     ghost use Rattle.script.specs.Script.{said_behind, word_of};
     ghost use Rattle.script.specs.Text.{max_line};
-    ghost use Rattle.script_run.specs.Calls.{Said, after_line, with_line};
-    ghost use Rattle.script_run.specs.Reading.{so_far};
+    ghost use Rattle.script_run.specs.Calls.{Said, after_line, at_end as at_end_of, nothing_said, with_line};
+    ghost use Rattle.script_run.specs.Reading.{IsWithinLimits, said_by, so_far};
+
+    type Whole = CallScript<A>;
 
     ghost Meaning = { Said };
+
+    ghost nothing_read = { nothing_said };
 
     ghost read_so_far = { so_far };
 
     ghost with_next = { with_line };
 
+    ghost WholeMeaning = { Said };
+
+    ghost meant_by = { said_by };
+
+    ghost at_end = { at_end_of };
+
+    ghost IsWithin = { IsWithinLimits };
+
     ghost too_long = { λ said line long.
         ap (after_line said) (says-too_long (fields_say word_of said_behind) max_line line long) };
+
+    fn new(alloc: A) -> Result<Reading<A>, AllocError> {
+        Ok(Reading {
+            settings: Settings::new(alloc)?,
+            calls: Vec::new(alloc),
+        })
+    }
 
     fn take_line(&mut self, alloc: A, line: &[u8]) -> Result<(), FaultCause> {
         match statement(alloc, line)? {
@@ -94,5 +106,19 @@ impl<A: Allocator + Copy> LineReader<A> for Reading<A> {
             Some(Statement::Setting(setting)) => self.set(setting),
             Some(Statement::Action(action)) => self.begin(action),
         }
+    }
+
+    // Window and replicas have to be set.
+    fn into_whole(self) -> Result<CallScript<A>, Stop> {
+        let Reading { settings, calls } = self;
+        let (Some(window), Some(replicas)) = (settings.window(), settings.replicas()) else {
+            return Err(fault_at(0, FaultCause::Place));
+        };
+        Ok(CallScript {
+            window,
+            replicas,
+            catalogue: settings.into_catalogue(),
+            calls,
+        })
     }
 }

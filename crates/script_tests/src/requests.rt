@@ -1,20 +1,18 @@
 //! Scripts whose callers ask again.
 
-use crate::stories::{ADD_LINE, PUT_LINE, Story};
+use crate::stories::{
+    ADD_LINE, BEGUN_AT_ONE, BEGUN_AT_TWO, NUMBERED_TWO, ONE_REPLICA, PUT_LINE, RUN_TWO, Story,
+    TWO_REPLICAS,
+};
 
 /// A call that was sent twice commits once.
 pub(crate) static SENT_TWICE: Story = Story {
     lines: &[
-        "window 4",
-        "replicas 2",
-        "table 1 8",
+        TWO_REPLICAS,
         ADD_LINE,
         "begin 1 add 05000000000000000a00000000000000 7 1",
         "begin 2 add 05000000000000000a00000000000000 7 1",
-        "exec 1",
-        "exec 2",
-        "order 1",
-        "order 2",
+        RUN_TWO,
         "deliver 1 2",
         "begin 1 add 05000000000000000a00000000000000 7 2",
         "exec 3",
@@ -24,12 +22,10 @@ pub(crate) static SENT_TWICE: Story = Story {
         "entry 3",
     ],
     prints: &[
-        "call 1 replica 1 snapshot 0",
-        "call 2 replica 2 snapshot 0",
+        BEGUN_AT_TWO,
         "call 1 exit 10",
         "call 2 exit 10",
-        "call 1 number 1",
-        "call 2 number 2",
+        NUMBERED_TWO,
         "replica 1 number 1 commit reply 10",
         "replica 1 number 2 repeat 1 reply 10",
         "call 3 replica 1 snapshot 2",
@@ -70,8 +66,7 @@ static SENT_AGAIN_LATE: Story = Story {
         "deliver 1 4",
     ],
     prints: &[
-        "call 1 replica 1 snapshot 0",
-        "call 2 replica 1 snapshot 0",
+        BEGUN_AT_ONE,
         "call 1 exit 10",
         "call 2 exit 10",
         "call 1 number 1",
@@ -93,9 +88,7 @@ static SENT_AGAIN_LATE: Story = Story {
 /// The reply that is told is the first call's, whatever the second called and replied.
 static TOLD_AGAIN: Story = Story {
     lines: &[
-        "window 4",
-        "replicas 1",
-        "table 1 8",
+        ONE_REPLICA,
         ADD_LINE,
         PUT_LINE,
         "begin 1 add 05000000000000000a00000000000000 7 1",
@@ -141,9 +134,7 @@ const CLAIM_LINE: &str = "proc claim 8 16 \
 /// may be used again.
 static ASKED_AGAIN: Story = Story {
     lines: &[
-        "window 4",
-        "replicas 1",
-        "table 1 8",
+        ONE_REPLICA,
         ADD_LINE,
         CLAIM_LINE,
         "begin 1 claim 06000000000000000500000000000000 7 1",

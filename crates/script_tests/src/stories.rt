@@ -1,12 +1,33 @@
 //! Scripts, and what they print.
 
-/// A script, what it prints, and the line that is said of a fault.
+/// A script, what it prints, and the line that is said of a fault. A text may have several lines.
 #[derive(Clone, Copy)]
 pub(crate) struct Story {
     pub(crate) lines: &'static [&'static str],
     pub(crate) prints: &'static [&'static str],
     pub(crate) fault: &'static str,
 }
+
+/// The settings of one replica with a table.
+pub(crate) const ONE_REPLICA: &str = "window 4\nreplicas 1\ntable 1 8";
+
+/// The settings of two replicas with a table.
+pub(crate) const TWO_REPLICAS: &str = "window 4\nreplicas 2\ntable 1 8";
+
+/// The lines that execute the first two calls, and then order both.
+pub(crate) const RUN_TWO: &str = "exec 1\nexec 2\norder 1\norder 2";
+
+/// The answers to the beginnings of two calls at one replica.
+pub(crate) const BEGUN_AT_ONE: &str = "call 1 replica 1 snapshot 0\ncall 2 replica 1 snapshot 0";
+
+/// The answers to the beginnings of a call at each of two replicas.
+pub(crate) const BEGUN_AT_TWO: &str = "call 1 replica 1 snapshot 0\ncall 2 replica 2 snapshot 0";
+
+/// The answers of two calls whose replies are 0.
+const EXITED_TWO: &str = "call 1 exit 0\ncall 2 exit 0";
+
+/// The answers to the orders of the first two calls.
+pub(crate) const NUMBERED_TWO: &str = "call 1 number 1\ncall 2 number 2";
 
 pub(crate) const ADD_LINE: &str = "proc add 1 16 \
     79160000000000007917080000000000b701000001000000bf62000000000000bfa300000000000007030000f8\
@@ -76,9 +97,7 @@ pub(crate) const ADD_ENTRY: &str =
 /// One increment, of which each line that acts prints a line.
 pub(crate) static INCREMENT: Story = Story {
     lines: &[
-        "window 4",
-        "replicas 1",
-        "table 1 8",
+        ONE_REPLICA,
         ADD_LINE,
         "begin 1 add 05000000000000000a00000000000000",
         "exec 1",
@@ -95,9 +114,7 @@ pub(crate) static INCREMENT: Story = Story {
 /// A call that reads nothing and writes nothing.
 static READS: Story = Story {
     lines: &[
-        "window 4",
-        "replicas 1",
-        "table 1 8",
+        ONE_REPLICA,
         ONE_LINE,
         "begin 1 one -",
         "exec 1",
@@ -144,40 +161,23 @@ pub(crate) static JUMPS_TO_A_LOAD: Story = Story {
     fault: "",
 };
 
-/// A register that may hold either of two kinds can't be read.
-pub(crate) static JOINS: Story = Story {
-    lines: &[JOINED_LINE],
-    prints: &[],
-    fault: "line 1: L7 V1 slot 4",
-};
-
-/// Each place inside the arguments may be read.
-pub(crate) static INDEXES: Story = Story {
-    lines: &[INDEX_LINE],
-    prints: &[],
-    fault: "",
-};
-
-/// A place beyond the arguments may not be read.
-pub(crate) static INDEXES_PAST_THE_END: Story = Story {
-    lines: &[INDEX_PAST_LINE],
-    prints: &[],
-    fault: "line 1: L7 V4 slot 3",
-};
+/// A line with a program, alone in its script, and what is said of its fault.
+pub(crate) static PROGRAM_LINES: [(&str, &str); 3] = [
+    // A register that may hold either of two kinds can't be read.
+    (JOINED_LINE, "line 1: L7 V1 slot 4"),
+    // Each place inside the arguments may be read, and none beyond.
+    (INDEX_LINE, ""),
+    (INDEX_PAST_LINE, "line 1: L7 V4 slot 3"),
+];
 
 /// Two increments of one row; the second commits when it is called again.
 pub(crate) static TWO_INCREMENTS: Story = Story {
     lines: &[
-        "window 4",
-        "replicas 2",
-        "table 1 8",
+        TWO_REPLICAS,
         ADD_LINE,
         "begin 1 add 05000000000000000a00000000000000",
         "begin 2 add 05000000000000000700000000000000",
-        "exec 1",
-        "exec 2",
-        "order 1",
-        "order 2",
+        RUN_TWO,
         "deliver 1 2",
         "deliver 2 2",
         "begin 2 add 05000000000000000700000000000000",
@@ -190,12 +190,10 @@ pub(crate) static TWO_INCREMENTS: Story = Story {
         "entry 0",
     ],
     prints: &[
-        "call 1 replica 1 snapshot 0",
-        "call 2 replica 2 snapshot 0",
+        BEGUN_AT_TWO,
         "call 1 exit 10",
         "call 2 exit 7",
-        "call 1 number 1",
-        "call 2 number 2",
+        NUMBERED_TWO,
         "replica 1 number 1 commit reply 10",
         "replica 1 number 2 conflict 1",
         "replica 2 number 1 commit reply 10",
@@ -216,25 +214,17 @@ pub(crate) static TWO_INCREMENTS: Story = Story {
 /// Two calls, each of which reads what the other writes.
 pub(crate) static SKEWED_WRITES: Story = Story {
     lines: &[
-        "window 4",
-        "replicas 2",
-        "table 1 8",
+        TWO_REPLICAS,
         SKEW_LINE,
         "begin 1 skew 01000000000000000200000000000000",
         "begin 2 skew 02000000000000000100000000000000",
-        "exec 1",
-        "exec 2",
-        "order 1",
-        "order 2",
+        RUN_TWO,
         "deliver 1 2",
     ],
     prints: &[
-        "call 1 replica 1 snapshot 0",
-        "call 2 replica 2 snapshot 0",
-        "call 1 exit 0",
-        "call 2 exit 0",
-        "call 1 number 1",
-        "call 2 number 2",
+        BEGUN_AT_TWO,
+        EXITED_TWO,
+        NUMBERED_TWO,
         "replica 1 number 1 commit reply 0",
         "replica 1 number 2 conflict 1",
     ],
@@ -244,26 +234,18 @@ pub(crate) static SKEWED_WRITES: Story = Story {
 /// Two writes of one row that read nothing.
 pub(crate) static BLIND_WRITES: Story = Story {
     lines: &[
-        "window 4",
-        "replicas 2",
-        "table 1 8",
+        TWO_REPLICAS,
         PUT_LINE,
         "begin 1 put 07000000000000000100000000000000",
         "begin 2 put 07000000000000000200000000000000",
-        "exec 1",
-        "exec 2",
-        "order 1",
-        "order 2",
+        RUN_TWO,
         "deliver 2 9",
         "rows 2",
     ],
     prints: &[
-        "call 1 replica 1 snapshot 0",
-        "call 2 replica 2 snapshot 0",
-        "call 1 exit 0",
-        "call 2 exit 0",
-        "call 1 number 1",
-        "call 2 number 2",
+        BEGUN_AT_TWO,
+        EXITED_TWO,
+        NUMBERED_TWO,
         "replica 2 number 1 commit reply 0",
         "replica 2 number 2 commit reply 0",
         "replica 2 refused P6",
@@ -276,9 +258,7 @@ pub(crate) static BLIND_WRITES: Story = Story {
 /// A count and a search beside a row that comes.
 static INTERVALS: Story = Story {
     lines: &[
-        "window 4",
-        "replicas 2",
-        "table 1 8",
+        TWO_REPLICAS,
         PUT_LINE,
         COUNT_LINE,
         NEXT_LINE,
@@ -370,8 +350,7 @@ static FALLS_BEHIND: Story = Story {
         "deliver 1 1",
     ],
     prints: &[
-        "call 1 replica 1 snapshot 0",
-        "call 2 replica 1 snapshot 0",
+        BEGUN_AT_ONE,
         "call 3 replica 1 snapshot 0",
         "call 4 replica 1 snapshot 0",
         "call 5 replica 1 snapshot 0",
@@ -379,12 +358,10 @@ static FALLS_BEHIND: Story = Story {
         "call 7 replica 1 snapshot 0",
         "call 8 replica 1 snapshot 0",
         "call 6 exit 0",
-        "call 1 exit 0",
-        "call 2 exit 0",
+        EXITED_TWO,
         "call 3 exit 0",
         "call 4 exit 0",
-        "call 1 number 1",
-        "call 2 number 2",
+        NUMBERED_TWO,
         "call 3 number 3",
         "call 4 number 4",
         "replica 1 number 1 commit reply 0",
@@ -413,27 +390,20 @@ static FALLS_BEHIND: Story = Story {
 /// Keys that share a bit are compared.
 pub(crate) static SHARED_BITS: Story = Story {
     lines: &[
-        "window 4",
-        "replicas 1",
-        "table 1 8",
+        ONE_REPLICA,
         ADD_LINE,
         "begin 1 add 00000000000000000100000000000000",
         "begin 1 add db030000000000000100000000000000",
-        "exec 1",
-        "exec 2",
-        "order 1",
-        "order 2",
+        RUN_TWO,
         "log",
         "deliver 1 2",
         "log",
     ],
     prints: &[
-        "call 1 replica 1 snapshot 0",
-        "call 2 replica 1 snapshot 0",
+        BEGUN_AT_ONE,
         "call 1 exit 1",
         "call 2 exit 1",
-        "call 1 number 1",
-        "call 2 number 2",
+        NUMBERED_TWO,
         "      1     1       0     1     - open",
         "      2     1       0     1     - open",
         "log 2",
@@ -449,9 +419,7 @@ pub(crate) static SHARED_BITS: Story = Story {
 /// A look of seventeen keys is compared with all that committed.
 pub(crate) static LONG_LOOK: Story = Story {
     lines: &[
-        "window 4",
-        "replicas 1",
-        "table 1 8",
+        ONE_REPLICA,
         PUT_LINE,
         COUNT_LINE,
         "begin 1 put 01000000000000000100000000000000",
@@ -467,14 +435,11 @@ pub(crate) static LONG_LOOK: Story = Story {
         "log",
     ],
     prints: &[
-        "call 1 replica 1 snapshot 0",
-        "call 2 replica 1 snapshot 0",
+        BEGUN_AT_ONE,
         "call 3 replica 1 snapshot 0",
-        "call 1 exit 0",
-        "call 2 exit 0",
+        EXITED_TWO,
         "call 3 exit 0",
-        "call 1 number 1",
-        "call 2 number 2",
+        NUMBERED_TWO,
         "call 3 number 3",
         "replica 1 number 1 commit reply 0",
         "replica 1 number 2 commit reply 0",
@@ -490,27 +455,19 @@ pub(crate) static LONG_LOOK: Story = Story {
 /// A removal of a row that isn't there is a write of a look.
 pub(crate) static REMOVALS: Story = Story {
     lines: &[
-        "window 4",
-        "replicas 1",
-        "table 1 8",
+        ONE_REPLICA,
         COUNT_LINE,
         DELETE_LINE,
         "begin 1 del 0900000000000000",
         "begin 1 count 000000000000000014000000000000006400000000000000",
-        "exec 1",
-        "exec 2",
-        "order 1",
-        "order 2",
+        RUN_TWO,
         "deliver 1 2",
         "rows 1",
     ],
     prints: &[
-        "call 1 replica 1 snapshot 0",
-        "call 2 replica 1 snapshot 0",
-        "call 1 exit 0",
-        "call 2 exit 0",
-        "call 1 number 1",
-        "call 2 number 2",
+        BEGUN_AT_ONE,
+        EXITED_TWO,
+        NUMBERED_TWO,
         "replica 1 number 1 commit reply 0",
         "replica 1 number 2 conflict 1",
         "replica 1 position 2 rows 0",
@@ -521,27 +478,19 @@ pub(crate) static REMOVALS: Story = Story {
 /// A count from 20 to 10 looks at nothing.
 pub(crate) static EMPTY_INTERVAL: Story = Story {
     lines: &[
-        "window 4",
-        "replicas 1",
-        "table 1 8",
+        ONE_REPLICA,
         PUT_LINE,
         COUNT_LINE,
         "begin 1 put 0f000000000000000900000000000000",
         "begin 1 count 14000000000000000a000000000000006400000000000000",
-        "exec 1",
-        "exec 2",
-        "order 1",
-        "order 2",
+        RUN_TWO,
         "deliver 1 2",
         "entry 2",
     ],
     prints: &[
-        "call 1 replica 1 snapshot 0",
-        "call 2 replica 1 snapshot 0",
-        "call 1 exit 0",
-        "call 2 exit 0",
-        "call 1 number 1",
-        "call 2 number 2",
+        BEGUN_AT_ONE,
+        EXITED_TWO,
+        NUMBERED_TWO,
         "replica 1 number 1 commit reply 0",
         "replica 1 number 2 commit reply 0",
         "entry 2 010000000000000000020000000400180014000000000000000a0000000000000064000000\
@@ -553,9 +502,7 @@ pub(crate) static EMPTY_INTERVAL: Story = Story {
 /// A call that puts a row and cancels.
 pub(crate) static CANCELS: Story = Story {
     lines: &[
-        "window 4",
-        "replicas 1",
-        "table 1 8",
+        ONE_REPLICA,
         CANCEL_LINE,
         "begin 1 draft 07000000000000000100000000000000",
         "order 1",
@@ -578,9 +525,7 @@ pub(crate) static CANCELS: Story = Story {
 /// A replica that is made anew from the log has delivered it.
 pub(crate) static REBUILDS: Story = Story {
     lines: &[
-        "window 4",
-        "replicas 2",
-        "table 1 8",
+        TWO_REPLICAS,
         ADD_LINE,
         "begin 1 add 05000000000000000a00000000000000",
         "exec 1",
@@ -616,9 +561,7 @@ pub(crate) static REBUILDS: Story = Story {
 /// Steps that name no replica, no procedure or no call.
 pub(crate) static REFUSED_STEPS: Story = Story {
     lines: &[
-        "window 4",
-        "replicas 2",
-        "table 1 8",
+        TWO_REPLICAS,
         ADD_LINE,
         "deliver 1 1",
         "deliver 3 5",
@@ -653,17 +596,12 @@ pub(crate) static REFUSED_STEPS: Story = Story {
 /// A replica that finds no memory for its second entry: it is stopped until it is made anew.
 pub(crate) static STOPS: Story = Story {
     lines: &[
-        "window 4",
-        "replicas 2",
-        "table 1 8",
+        TWO_REPLICAS,
         ADD_LINE,
         PUT_LINE,
         "begin 1 add 05000000000000000a00000000000000",
         "begin 2 put 06000000000000000100000000000000",
-        "exec 1",
-        "exec 2",
-        "order 1",
-        "order 2",
+        RUN_TWO,
         "deliver 1 2",
         "deliver 2 2",
         "rows 2",
@@ -675,12 +613,10 @@ pub(crate) static STOPS: Story = Story {
         "deliver 2 1",
     ],
     prints: &[
-        "call 1 replica 1 snapshot 0",
-        "call 2 replica 2 snapshot 0",
+        BEGUN_AT_TWO,
         "call 1 exit 10",
         "call 2 exit 0",
-        "call 1 number 1",
-        "call 2 number 2",
+        NUMBERED_TWO,
         "replica 1 number 1 commit reply 10",
         "replica 1 number 2 commit reply 0",
         "replica 2 number 1 commit reply 10",
@@ -698,14 +634,11 @@ pub(crate) static STOPS: Story = Story {
 };
 
 /// Returns the stories of calls.
-pub(crate) fn all_stories() -> [&'static Story; 18] {
+pub(crate) fn all_stories() -> [&'static Story; 15] {
     [
         &READS,
         &JUMPS_INTO_A_LOAD,
         &JUMPS_TO_A_LOAD,
-        &JOINS,
-        &INDEXES,
-        &INDEXES_PAST_THE_END,
         &TWO_INCREMENTS,
         &SKEWED_WRITES,
         &BLIND_WRITES,

@@ -1,6 +1,8 @@
 use crate::additions::{ADDED, of_additions};
 use crate::requests::{SENT_TWICE, of_requests};
-use crate::stories::{ADD_ENTRY, INCREMENT, STOPS, Story, TWO_INCREMENTS, all_stories};
+use crate::stories::{
+    ADD_ENTRY, INCREMENT, PROGRAM_LINES, STOPS, Story, TWO_INCREMENTS, all_stories,
+};
 use scarce::Scarce;
 use script_replay::replay_over;
 use std::alloc::{AllocError, Allocator, Global};
@@ -59,6 +61,14 @@ fn stories_print_what_they_should(rt: HostRuntime) {
     {
         let told = tells(rt.alloc(), story.lines, story.prints, story.fault).expect(&rt, "memory");
         assert!(rt; told, "story {at}");
+    }
+}
+
+#[test]
+fn a_line_has_a_program_or_its_fault(rt: HostRuntime) {
+    for (line, fault) in &PROGRAM_LINES {
+        let told = tells(rt.alloc(), &[*line], &[], fault).expect(&rt, "memory");
+        assert!(rt; told, "{line}");
     }
 }
 

@@ -1,6 +1,5 @@
 -- Answers to lines behind others.
 use Rattle.std.proofs.Common.{◌≡◌, inl, ℕ, List, [], ◌∷◌, ◌++◌, Option, Some, None, Result, Ok, Err, refl, sym, ap, subst, ◌∙◌, append_assoc}
-use Rattle.std.proofs.lemmas.List.{append-nil}
 use Rattle.std.proofs.lemmas.List.Sums.{fold-append}
 use Rattle.script.specs.declared.fault.LineFault.{LineFault}
 use Rattle.site_model.specs.Standing.{SiteSetting}

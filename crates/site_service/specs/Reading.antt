@@ -1,6 +1,8 @@
 -- What the code's values stand for.
+use Rattle.std.specs.Prelude.{◌≤◌}
+use Rattle.schema.specs.declared.limits.TheConstants.{MAX_WINDOW}
 use Rattle.site_model.specs.Standing.{SiteSetting}
-use Rattle.site_service.specs.declared.read.SiteSettings.{SiteSettings}
+use Rattle.site_service.specs.declared.settings.SiteSettings.{SiteSettings}
 use Rattle.site_service.specs.declared.settings_reading.Reading.{Reading}
 use Rattle.site_service.specs.Settings.{SettingsSoFar}
 
@@ -12,3 +14,6 @@ setting_read s = record {
   setting = record { tables = s.catalogue.tables; catalogue = s.catalogue.procedures; window = s.window };
   takes_additions = s.takes_additions;
 }
+
+abbrev pub HasWindow : {A : Type 0} → SiteSettings A → Type 0
+HasWindow s = (1 ≤ s.window) × (s.window ≤ MAX_WINDOW)

@@ -3,12 +3,11 @@
 
 pub use answers::{append_addition_line, append_call_line, append_entry_line};
 pub use entry::MAX_POSITION;
-pub use line::{Scan, SiteLine};
+pub use line::{Scan, SiteLine, site_line};
 pub use lines::answer_lines;
 pub use numbers::{call_refusal_number, nothing_number};
-pub use read::SiteSettings;
-pub use reading::site_line;
 pub use service::site_over;
+pub use settings::SiteSettings;
 pub use status::{
     append_fault_line, append_no_memory_line, append_order_full_line, append_position_line,
     append_row_count_line,
@@ -23,11 +22,11 @@ mod input;
 mod line;
 mod lines;
 mod numbers;
-mod read;
 mod reading;
 mod rows;
 mod scans;
 mod service;
+mod settings;
 mod settings_line;
 mod settings_reading;
 mod status;

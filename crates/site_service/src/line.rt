@@ -1,6 +1,14 @@
 //! The requests of lines.
 
-use script::ProcedureFields;
+ghost use Rattle.std.specs.Prelude.{◌≡◌, ◌⊎◌, Ok, Err, IfOk, IfErr, IfSome};
+ghost use Rattle.site_service.specs.Lines.{IsWithinLimits, line_says};
+ghost use Rattle.script.specs.declared.fault.LineFault.TheVariants.{NoMemory};
+
+use crate::input::MAX_SITE_LINE;
+use crate::word::Word;
+use row_sets::Bytes;
+use script::{LineResult, ProcedureFields, read_line};
+use std::alloc::Allocator;
 
 /// The rows that a scan asks for.
 #[derive(Clone, Copy)]
@@ -36,4 +44,14 @@ pub enum SiteLine<B> {
     /// The first rows of a table from a key to another.
     Scan(Scan),
     Position,
+}
+
+/// Reads what a line, given without its LF, says: a request, or nothing where it is empty or a comment.
+pub fn site_line<A: Allocator + Copy>(alloc: A, line: &[u8]) -> LineResult<SiteLine<Bytes<A>>>
+    ensures exact { IfOk result (λ said. line_says line.now ≡ Ok said) }
+    // The fault is the first of several, or memory is wanting.
+    ensures fault { IfErr result (λ fault. (fault ≡ NoMemory) ⊎ (line_says line.now ≡ Err fault)) }
+    ensures limits { IfOk result (λ said. IfSome said IsWithinLimits) }
+{
+    read_line::<A, Word, SiteLine<Bytes<A>>>(alloc, line, MAX_SITE_LINE)
 }

@@ -1,49 +1,27 @@
-//! The reading of what a line says.
+//! The reading of what a line asks for.
+#![tactic(auto, unfolding(crate::specs::Lines::request_behind))]
 
-ghost use Rattle.std.specs.Prelude.{◌≡◌, ◌⊎◌, Ok, Err, IfOk, IfErr, IfSome};
-ghost use Rattle.site_service.specs.Lines.{IsWithinLimits, call_of, line_says, scan_of};
+ghost use Rattle.std.specs.Prelude.{◌≡◌, ◌⊎◌, Ok, Err, IfOk, IfErr};
+ghost use Rattle.site_service.specs.Lines.{IsWithinLimits, call_of, scan_of};
 ghost use Rattle.script.specs.declared.fault.LineFault.TheVariants.{NoMemory};
 
-use crate::input::MAX_SITE_LINE;
 use crate::line::{Scan, SiteLine};
-use crate::word::{Word, first_word};
+use crate::word::Word;
 use row_sets::Bytes;
 use script::fields::read_name;
 use script::hex_field::read_hex;
 use script::number::{read_count, read_u8, read_u32, read_u64};
 use script::procedure_fields::read_procedure;
-use script::{LineFault, LineMeaning, read_line};
+use script::{LineFault, LineMeaning};
 use std::alloc::Allocator;
 
-/// Reads what a line, given without its LF, says: a request, or nothing where it is empty or a comment.
-pub fn site_line<A: Allocator + Copy>(
-    alloc: A,
-    line: &[u8],
-) -> Result<Option<SiteLine<Bytes<A>>>, LineFault>
-    ensures exact { IfOk result (λ said. line_says line.now ≡ Ok said) }
-    // The fault is the first of several, or memory is wanting.
-    ensures fault { IfErr result (λ fault. (fault ≡ NoMemory) ⊎ (line_says line.now ≡ Err fault)) }
-    ensures limits { IfOk result (λ said. IfSome said IsWithinLimits) }
-{
-    read_line(alloc, line, MAX_SITE_LINE)
-}
-
-impl<A: Allocator + Copy> LineMeaning<A> for SiteLine<Bytes<A>> {
-    ghost use Rattle.site_service.specs.Lines.{IsWithinLimits, request_behind, word_of as spelled};
-
-    type Word = Word;
-
-    ghost word_of = { spelled };
+impl<A: Allocator + Copy> LineMeaning<A, Word> for SiteLine<Bytes<A>> {
+    ghost use Rattle.site_service.specs.Lines.{IsWithinLimits, request_behind};
 
     ghost said_behind = { request_behind };
 
     ghost IsWithin = { IsWithinLimits };
 
-    fn word(text: &str) -> Option<Word> {
-        first_word(text)
-    }
-
-    #[tactic(auto, unfolding(crate::specs::Lines::request_behind))]
     fn read_behind(alloc: A, word: Word, fields: &[&str]) -> Result<Self, LineFault> {
         match (word, fields) {
             (Word::Call, [name, args, session, sequence]) => {

@@ -9,8 +9,8 @@ ghost use Rattle.site_service.specs.Leaving.{AreUntouched, Leaves, LeavesEnd, St
 
 use crate::input::MAX_SITE_LINE;
 use crate::lines::answer_lines;
-use crate::read::read_settings;
-use script::{Stop, out_of_memory, tell};
+use crate::settings_reading::Reading;
+use script::{Stop, out_of_memory, read_lines, tell};
 use site::Site;
 use std::alloc::Allocator;
 use std::io::{BufRead, Write};
@@ -71,7 +71,7 @@ fn serve<A: Allocator + Copy, S: BufRead, R: BufRead, W: Write>(
         → LeavesEnd (AreUntouched input.old input.new output.old output.new) s bytes (W.contents output.old)
         (W.contents output.new) result }
 {
-    let settings = read_settings(alloc, settings)?;
+    let settings = read_lines::<A, S, Reading<A>>(alloc, settings)?;
     let Ok(mut line) = Vec::with_capacity(alloc, MAX_SITE_LINE + 1) else {
         return Err(out_of_memory(0));
     };

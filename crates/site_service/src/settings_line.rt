@@ -1,7 +1,7 @@
 //! The meaning of a line of the settings.
 
 use row_sets::Bytes;
-use script::{LineFault, LineMeaning, Statement, Word, first_word};
+use script::{LineFault, LineMeaning, LineWord, Statement, Word};
 use std::alloc::Allocator;
 
 /// The first word of a line.
@@ -10,6 +10,20 @@ pub(crate) enum SettingsWord {
     Additions,
     /// A word of scripts.
     Script(Word),
+}
+
+impl LineWord for SettingsWord {
+    ghost use Rattle.site_service.specs.Settings.{word_of as spelled};
+
+    ghost word_of = { spelled };
+
+    fn find(text: &str) -> Option<SettingsWord> {
+        if text == "additions" {
+            return Some(SettingsWord::Additions);
+        }
+        let word = Word::find(text)?;
+        Some(SettingsWord::Script(word))
+    }
 }
 
 /// The meaning of a line. Names and programs are a `B`.
@@ -21,24 +35,12 @@ pub(crate) enum SettingsLine<B> {
     Statement(Statement<B>),
 }
 
-impl<A: Allocator + Copy> LineMeaning<A> for SettingsLine<Bytes<A>> {
-    ghost use Rattle.site_service.specs.Settings.{IsWithinLimits, said_behind as said, word_of as spelled};
-
-    type Word = SettingsWord;
-
-    ghost word_of = { spelled };
+impl<A: Allocator + Copy> LineMeaning<A, SettingsWord> for SettingsLine<Bytes<A>> {
+    ghost use Rattle.site_service.specs.Settings.{IsWithinLimits, said_behind as said};
 
     ghost said_behind = { said };
 
     ghost IsWithin = { IsWithinLimits };
-
-    fn word(text: &str) -> Option<SettingsWord> {
-        if text == "additions" {
-            return Some(SettingsWord::Additions);
-        }
-        let word = first_word(text)?;
-        Some(SettingsWord::Script(word))
-    }
 
     fn read_behind(alloc: A, word: SettingsWord, fields: &[&str]) -> Result<Self, LineFault> {
         match word {

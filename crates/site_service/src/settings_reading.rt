@@ -3,12 +3,15 @@
 ghost use Rattle.std.specs.Prelude.{◌≡◌, ◌⊎◌, Ok, Err, IfOk, IfErr, OnOk};
 ghost use Rattle.script.specs.Script.{IsSettingWithinLimits};
 ghost use Rattle.script.specs.declared.cause.FaultCause.TheVariants.{NoMemory};
-ghost use Rattle.site_service.specs.Settings.{nothing_set, with_additions, with_setting};
+ghost use Rattle.site_service.specs.Settings.{with_additions, with_setting};
 ghost use Rattle.site_service.specs.Reading.{so_far};
 
-use crate::settings_line::SettingsLine;
+use crate::settings::SiteSettings;
+use crate::settings_line::{SettingsLine, SettingsWord};
 use row_sets::Bytes;
-use script::{FaultCause, LineReader, MAX_LINE, Setting, Settings, Statement, read_line};
+use script::{
+    FaultCause, LineReader, MAX_LINE, Setting, Settings, Statement, Stop, fault_at, read_line,
+};
 use std::alloc::{AllocError, Allocator};
 
 /// The settings that the lines have set so far.
@@ -19,16 +22,6 @@ pub(crate) struct Reading<A: Allocator + Copy> {
 }
 
 impl<A: Allocator + Copy> Reading<A> {
-    /// Makes a reading with nothing set.
-    pub(crate) fn new(alloc: A) -> Result<Reading<A>, AllocError>
-        ensures { IfOk result (λ reading. so_far reading ≡ nothing_set) }
-    {
-        Ok(Reading {
-            settings: Settings::new(alloc)?,
-            takes_additions: false,
-        })
-    }
-
     /// Takes the line by which procedures may be added, which stands once.
     fn let_procedures_be_added(&mut self) -> Result<(), FaultCause>
         ensures ok { OnOk result (with_additions (so_far self.old) ≡ Ok (so_far self.new)) }
@@ -60,24 +53,61 @@ impl<A: Allocator + Copy> LineReader<A> for Reading<A> {
     ghost use Rattle.script.proofs.LineLemmas.{says-too_long};
     ghost use Rattle.script.specs.Line.{fields_say};
     ghost use Rattle.script.specs.Text.{max_line};
-    ghost use Rattle.site_service.specs.Settings.{SettingsSoFar, after_line, said_behind, with_line, word_of};
-    ghost use Rattle.site_service.specs.Reading.{so_far};
+    ghost use Rattle.site_model.specs.Standing.{SiteSetting};
+    ghost use Rattle.site_service.specs.Settings.{SettingsSoFar, after_line, nothing_set, said_behind};
+    ghost use Rattle.site_service.specs.Settings.{whole, with_line, word_of};
+    ghost use Rattle.site_service.specs.Reading.{HasWindow, setting_read, so_far};
+
+    type Whole = SiteSettings<A>;
 
     ghost Meaning = { SettingsSoFar };
+
+    ghost nothing_read = { nothing_set };
 
     ghost read_so_far = { so_far };
 
     ghost with_next = { with_line };
 
+    ghost WholeMeaning = { SiteSetting };
+
+    ghost meant_by = { setting_read };
+
+    ghost at_end = { whole };
+
+    ghost IsWithin = { HasWindow };
+
     ghost too_long = { λ set line long.
         ap (after_line set) (says-too_long (fields_say word_of said_behind) max_line line long) };
 
+    fn new(alloc: A) -> Result<Reading<A>, AllocError> {
+        Ok(Reading {
+            settings: Settings::new(alloc)?,
+            takes_additions: false,
+        })
+    }
+
     fn take_line(&mut self, alloc: A, line: &[u8]) -> Result<(), FaultCause> {
-        match read_line(alloc, line, MAX_LINE)? {
+        match read_line::<A, SettingsWord, SettingsLine<Bytes<A>>>(alloc, line, MAX_LINE)? {
             None => Ok(()),
             Some(SettingsLine::Additions) => self.let_procedures_be_added(),
             Some(SettingsLine::Statement(Statement::Setting(setting))) => self.set(setting),
             Some(SettingsLine::Statement(Statement::Action(_))) => Err(FaultCause::Place),
         }
+    }
+
+    // The window has to be set.
+    fn into_whole(self) -> Result<SiteSettings<A>, Stop> {
+        let Reading {
+            settings,
+            takes_additions,
+        } = self;
+        let Some(window) = settings.window() else {
+            return Err(fault_at(0, FaultCause::Place));
+        };
+        Ok(SiteSettings {
+            window,
+            catalogue: settings.into_catalogue(),
+            takes_additions,
+        })
     }
 }

@@ -1,7 +1,6 @@
 //! The words with which lines begin.
 
-ghost use Rattle.std.specs.Prelude.{◌≡◌};
-ghost use Rattle.site_service.specs.Lines.{word_of};
+use script::LineWord;
 
 /// A line's first word.
 #[derive(Clone, Copy)]
@@ -14,22 +13,26 @@ pub enum Word {
     Position,
 }
 
-pub(crate) fn first_word(text: &str) -> Option<Word>
-    ensures { result ≡ word_of text.now }
-{
-    Some(if text == "call" {
-        Word::Call
-    } else if text == "add" {
-        Word::Add
-    } else if text == "entry" {
-        Word::Entry
-    } else if text == "rows" {
-        Word::Rows
-    } else if text == "scan" {
-        Word::Scan
-    } else if text == "position" {
-        Word::Position
-    } else {
-        return None;
-    })
+impl LineWord for Word {
+    ghost use Rattle.site_service.specs.Lines.{word_of as spelled};
+
+    ghost word_of = { spelled };
+
+    fn find(text: &str) -> Option<Word> {
+        Some(if text == "call" {
+            Word::Call
+        } else if text == "add" {
+            Word::Add
+        } else if text == "entry" {
+            Word::Entry
+        } else if text == "rows" {
+            Word::Rows
+        } else if text == "scan" {
+            Word::Scan
+        } else if text == "position" {
+            Word::Position
+        } else {
+            return None;
+        })
+    }
 }

@@ -68,24 +68,16 @@ pub(crate) fn addition_refusal_line(refusal: AdditionRefusal) -> LineBuffer
     ensures { result.items ≡ addition_refusal_words refusal ++ codes "\n" }
 {
     let mut words = LineBuffer::new();
-    push_addition_refusal(&mut words, refusal);
-    push(&mut words, b"\n");
-    words
-}
-
-fn push_addition_refusal(words: &mut LineBuffer, refusal: AdditionRefusal)
-    requires { array_vec_len words.old ≤ 30 }
-    ensures items { words.new.items ≡ words.old.items ++ addition_refusal_words refusal }
-    ensures len { array_vec_len words.new ≤ array_vec_len words.old + 61 }
-{
     match refusal {
         AdditionRefusal::Program(fault) => {
-            push(words, b"refused P11 ");
-            push_program_fault(words, fault);
+            push(&mut words, b"refused P11 ");
+            push_program_fault(&mut words, fault);
         }
-        AdditionRefusal::Name => push(words, b"refused P12"),
-        AdditionRefusal::NoAdditions => push(words, b"refused P14"),
+        AdditionRefusal::Name => push(&mut words, b"refused P12"),
+        AdditionRefusal::NoAdditions => push(&mut words, b"refused P14"),
     }
+    push(&mut words, b"\n");
+    words
 }
 
 /// The line of a number behind its label.

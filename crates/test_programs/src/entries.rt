@@ -27,14 +27,16 @@ pub fn idle_call(
     snapshot: u32,
     request: Option<RequestId>,
 ) -> ExecutedCall {
+    let args = Bytes::new(Vec::new(alloc));
+    let (reads, writes) = (ReadSet::new(alloc), WriteSet::new(alloc));
     ExecutedCall {
         call: 0,
         procedure,
-        args: Bytes::new(Vec::new(alloc)),
+        args,
         snapshot,
         request,
-        reads: ReadSet::new(alloc),
-        writes: WriteSet::new(alloc),
+        reads,
+        writes,
         reply: 0,
     }
 }

@@ -32,67 +32,61 @@ pub struct LogStart<P: Allocator + Copy> {
 /// The channels to which requests to both go, until nobody asks any more.
 type Callers<J, P> = Option<[Sender<Request<J, P>, P>; 2]>;
 
+/// Who asks both: where requests take memory, the replicas' memory, and the case.
+#[derive(Drop)]
+struct Asker<'a, P: Allocator + Copy> {
+    alloc: P,
+    memories: Memories<'a>,
+    case: &'a mut Case,
+}
+
+/// The ends of both replicas' requests, and the shares in which each counts its answers.
+#[derive(Drop)]
+struct Served<'a, J: LogSetting + Ledgers, P: Allocator + Copy> {
+    requests: &'a [Receiver<Request<J, P>, P>; 2],
+    one: &'a mut Shares<J>,
+    other: &'a mut Shares<J>,
+}
+
 /// Asks both, and lets their requests' ends go, so that nobody serves them any more. Returns the first answer that may
 /// not be heard.
 fn ask_to_the_end<J: LogSetting + Ledgers, A: Allocator + Copy, P: Allocator + Copy, R: Wait>(
     rt: &R,
-    alloc: P,
     shared: &TwoReplicas<J, A, P>,
-    memories: Memories<'_>,
+    asker: &mut Asker<'_, P>,
     callers: &mut Callers<J, P>,
-    case: &mut Case,
 ) -> Option<Mismatch> {
     let requests = callers.as_ref()?;
-    let mismatch = ask_all(rt, alloc, shared, memories, requests, case);
+    let mismatch = ask_all(
+        rt,
+        asker.alloc,
+        shared,
+        asker.memories,
+        requests,
+        asker.case,
+    );
     *callers = None;
     mismatch
 }
 
-/// Serves both until no caller is left.
+/// Serves both until no caller is left. Then stops the deliveries.
 fn serve_both<
     J: LogSetting + Ledgers + Send + Sync,
     A: Allocator + Copy + Send + Sync,
     P: Allocator + Copy + Send + Sync,
     R: Threads + Wait + Sync,
->(
-    rt: &R,
-    shared: &TwoReplicas<J, A, P>,
-    requests: &[Receiver<Request<J, P>, P>; 2],
-    one: &mut Shares<J>,
-    other: &mut Shares<J>,
-) {
+>(rt: &R, shared: &TwoReplicas<J, A, P>, served: Served<'_, J, P>) {
+    let Served {
+        requests,
+        one,
+        other,
+    } = served;
     thread::join(
         rt,
         || serve(rt, shared, 1, 0, &requests[0], one),
         || serve(rt, shared, 2, 0, &requests[1], other),
     );
-}
-
-/// Has both asked, whose requests these are, and served until nobody asks any more. Then stops the deliveries. Returns
-/// the first answer that may not be heard.
-fn ask_and_serve<
-    J: LogSetting + Ledgers + Send + Sync,
-    A: Allocator + Copy + Send + Sync,
-    P: Allocator + Copy + Send + Sync,
-    R: Threads + Wait + Copy + Sync,
->(
-    rt: &R,
-    alloc: P,
-    shared: &TwoReplicas<J, A, P>,
-    memories: Memories<'_>,
-    callers: &mut Callers<J, P>,
-    served: &[Receiver<Request<J, P>, P>; 2],
-    one: &mut Shares<J>,
-    other: &mut Shares<J>,
-    case: &mut Case,
-) -> Option<Mismatch> {
-    let (_, mismatch) = thread::join(
-        rt,
-        || serve_both(rt, shared, served, one, other),
-        || ask_to_the_end(rt, alloc, shared, memories, callers, case),
-    );
     shared.stop_deliveries();
-    mismatch
 }
 
 /// Delivers to both until the deliveries are stopped.
@@ -109,32 +103,18 @@ fn deliver_to_both<
     );
 }
 
-/// Has two replicas, whose requests these are, served and delivered to by threads of a scope, while both are asked.
-/// Returns the first answer that may not be heard.
-fn run_two<
+/// Has both served and delivered to by threads of a scope, until no caller is left.
+fn serve_and_deliver<
     J: LogSetting + Ledgers + Send + Sync,
     A: Allocator + Copy + Send + Sync,
     P: Allocator + Copy + Send + Sync,
     R: Threads + Wait + Copy + Sync,
->(
-    rt: &R,
-    alloc: P,
-    shared: &TwoReplicas<J, A, P>,
-    memories: Memories<'_>,
-    callers: &mut Callers<J, P>,
-    served: &[Receiver<Request<J, P>, P>; 2],
-    one: &mut Shares<J>,
-    other: &mut Shares<J>,
-    case: &mut Case,
-) -> Option<Mismatch> {
-    let (_, mismatch) = thread::join(
+>(rt: &R, shared: &TwoReplicas<J, A, P>, served: Served<'_, J, P>) {
+    thread::join(
         rt,
+        || serve_both(rt, shared, served),
         || deliver_to_both(rt, shared),
-        || ask_and_serve(
-            rt, alloc, shared, memories, callers, served, one, other, case,
-        ),
     );
-    mismatch
 }
 
 /// Adds two replicas that take memory from these.
@@ -169,8 +149,8 @@ fn shared_by<J: LogSetting + Ledgers, A: Allocator + Copy, P: Allocator + Copy>(
     Ok(shared)
 }
 
-/// Makes the ends of both replicas' requests, and has both served and asked until nobody asks any more. Returns the
-/// first answer that may not be heard.
+/// Makes the ends of both replicas' requests. Has both served and delivered to while they are asked, until nobody asks
+/// any more. Returns the first answer that may not be heard.
 fn serve_two<
     J: LogSetting + Ledgers + Send + Sync,
     A: Allocator + Copy + Send + Sync,
@@ -178,28 +158,26 @@ fn serve_two<
     R: Threads + Wait + Copy + Sync,
 >(
     rt: &R,
-    alloc: P,
+    asker: &mut Asker<'_, P>,
     shared: &TwoReplicas<J, A, P>,
-    memories: Memories<'_>,
     one: &mut Shares<J>,
     other: &mut Shares<J>,
-    case: &mut Case,
 ) -> Result<Option<Mismatch>, AllocError> {
-    let (to_first, at_first) = bounded(alloc, 4)?;
-    let (to_second, at_second) = bounded(alloc, 4)?;
+    let (to_first, at_first) = bounded(asker.alloc, 4)?;
+    let (to_second, at_second) = bounded(asker.alloc, 4)?;
     let mut callers = Some([to_first, to_second]);
-    let served = [at_first, at_second];
-    Ok(run_two(
-        rt,
-        alloc,
-        shared,
-        memories,
-        &mut callers,
-        &served,
+    let requests = [at_first, at_second];
+    let served = Served {
+        requests: &requests,
         one,
         other,
-        case,
-    ))
+    };
+    let (_, mismatch) = thread::join(
+        rt,
+        || serve_and_deliver(rt, shared, served),
+        || ask_to_the_end(rt, shared, asker, &mut callers),
+    );
+    Ok(mismatch)
 }
 
 /// Tries a case at two replicas, each with an allocator of its own (`replicas`), whose growths `memories` refuse. The
@@ -233,5 +211,10 @@ pub fn try_two<
     let mut other = one.split();
     let shared: TwoReplicas<J, A, P> = shared_by(global, alloc, cells, totals, start, replicas)?;
     memories.1.refuse_all(matches!(case, Case::Stopped(_)));
-    serve_two(rt, alloc, &shared, memories, &mut one, &mut other, case)
+    let mut asker = Asker {
+        alloc,
+        memories,
+        case,
+    };
+    serve_two(rt, &mut asker, &shared, &mut one, &mut other)
 }

@@ -67,12 +67,12 @@ pub(crate) fn begin_step(
             procedure,
             args,
         },
-        Some(RequestId { session, sequence }) => Step::BeginNumbered {
+        Some(it) => Step::BeginNumbered {
             replica,
             procedure,
             args,
-            session,
-            sequence,
+            session: it.session,
+            sequence: it.sequence,
         },
     }
 }

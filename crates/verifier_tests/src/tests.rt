@@ -2,6 +2,11 @@ use bpf_bytes::decode;
 use bpf_code::Code;
 use bpf_verify::{Accepted, Refusal, verify};
 use plain_runner::{Row, run_program};
+use programs::{
+    HELPERS_AND_TABLES, HOLDS_NOTHING, HOLDS_NOTHING_IN_MEMORY, JUMPS, KEYS_AND_BUFFERS, LOWEST,
+    NO_PROGRAMS, NOT_A_NUMBER, NOT_WRITTEN, OF_ROWS, OUTSIDE, PLACES, REPLIES_AND_ARGUMENTS,
+    STACK_END_WRITTEN, TOO_FAR,
+};
 use scarce::Scarce;
 use schema::Schema;
 use std::alloc::Global;
@@ -66,12 +71,7 @@ fn is_said(rt: &impl Abort, alloc: Global, case: &Case) {
 
 #[test]
 fn programs_are_accepted_or_refused(rt: HostRuntime) {
-    for cases in [
-        &programs::OF_ROWS[..],
-        &programs::JUMPS,
-        &programs::PLACES,
-        &programs::NO_PROGRAMS,
-    ] {
+    for cases in [&OF_ROWS[..], &JUMPS, &PLACES, &NO_PROGRAMS] {
         for case in cases {
             is_said(&rt, rt.alloc(), case);
         }
@@ -89,17 +89,17 @@ fn has_cause(rt: &impl Abort, alloc: Global, cause: &Cause) {
 #[test]
 fn causes_are_given(rt: HostRuntime) {
     for causes in [
-        &programs::HOLDS_NOTHING[..],
-        &programs::HOLDS_NOTHING_IN_MEMORY,
-        &programs::STACK_END_WRITTEN,
-        &programs::NOT_A_NUMBER,
-        &programs::TOO_FAR,
-        &programs::OUTSIDE,
-        &programs::NOT_WRITTEN,
-        &programs::HELPERS_AND_TABLES,
-        &programs::KEYS_AND_BUFFERS,
-        &programs::REPLIES_AND_ARGUMENTS,
-        &programs::LOWEST,
+        &HOLDS_NOTHING[..],
+        &HOLDS_NOTHING_IN_MEMORY,
+        &STACK_END_WRITTEN,
+        &NOT_A_NUMBER,
+        &TOO_FAR,
+        &OUTSIDE,
+        &NOT_WRITTEN,
+        &HELPERS_AND_TABLES,
+        &KEYS_AND_BUFFERS,
+        &REPLIES_AND_ARGUMENTS,
+        &LOWEST,
     ] {
         for cause in causes {
             has_cause(&rt, rt.alloc(), cause);

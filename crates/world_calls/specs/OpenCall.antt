@@ -7,7 +7,6 @@ use Rattle.bpf_vm.specs.declared.turn.Turn.{Turn}
 use Rattle.bpf_vm.specs.declared.turn.Turn.TheVariants.{More, Exit, Stale, NoMemory}
 use Rattle.bpf_vm.specs.Turns.{MachineState}
 use Rattle.bpf_vm.specs.Run.{Effects, IsAcceptedProcedure, HasRun, HasEnded, own_effects}
-use Rattle.log_model.specs.declared.request.RequestId.{RequestId}
 use Rattle.log_model.specs.Log.{Setting, Call, Log, StoredProcedure, by_number, procedures_after, rows_after, run_in, moment_at, procedure_of}
 use Rattle.log_model.specs.Entries.{CarriesRun}
 use Rattle.log_model.specs.Fit.{IsCall}
@@ -89,11 +88,13 @@ IsTurn w log gone o NoMemory after =
 abbrev pub further : ℕ → OpenCall → OpenCall
 further count o = record o { turns = o.turns + count }
 
+-- so many turns that answer that there is more
+abbrev pub AreMoreTurns : Setting → Log → Bool → ℕ → OpenCall → Type 0
+AreMoreTurns w log gone count o = (j : ℕ) → j < count → IsTurn w log gone (further j o) More (further (j + 1) o)
+
 -- so many turns that answer that there is more, and then one that answers this
 abbrev pub AreTurns : Setting → Log → Bool → ℕ → OpenCall → Turn → OpenCall → Type 0
-AreTurns w log gone before o turn after =
-    ((j : ℕ) → j < before → IsTurn w log gone (further j o) More (further (j + 1) o))
-    × IsTurn w log gone (further before o) turn after
+AreTurns w log gone before o turn after = AreMoreTurns w log gone before o × IsTurn w log gone (further before o) turn after
 
 -- a turn after which the call isn't over
 abbrev pub stays_open : Turn → Bool

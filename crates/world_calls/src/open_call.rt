@@ -1,18 +1,19 @@
 //! A call, until it is over.
 
-ghost use Rattle.std.specs.Prelude.{◌≡◌, ◌≢◌, ◌<◌, ℕ, true, [], length, None, IfOk, IfSome, OnOk, OnErr};
+ghost use Rattle.std.specs.Prelude.{◌≡◌, ◌≢◌, ◌<◌, ℕ, Bool, true, [], length, None, IfOk, IfSome, OnOk, OnErr};
 ghost use Rattle.std.specs.FinMap.{empty};
 ghost use Rattle.bpf_code.specs.Program.{max_slots};
 ghost use Rattle.log_model.specs.Log.{Setting, Log};
 ghost use Rattle.bpf_vm.specs.declared.turn.Turn.TheVariants.{More, Exit};
 ghost use Rattle.world_calls.specs.OpenCall.{open_call_of, Follows, CanGoOn, IsTurn, stays_open, call_of, IsReplyOf};
-ghost use Rattle.world_calls.specs.OpenCall.{AreTurns, IsCompletion, call_before_its_run, FollowsInItsLogs};
+ghost use Rattle.world_calls.specs.OpenCall.{AreMoreTurns, AreTurns, further, IsCompletion, call_before_its_run};
+ghost use Rattle.world_calls.specs.OpenCall.{FollowsInItsLogs};
 
 use crate::completion::Completion;
 use acceptance::accepted_programs_never_go_wrong;
 use bpf_semantics::{runs_are_short, states_fit};
 use bpf_verify::Accepted;
-use bpf_vm::{Machine, Turn, open_calls_can_turn};
+use bpf_vm::{Machine, Turn, open_calls_can_turn, runs_go_on_or_end};
 use log_entry::ExecutedCall;
 use log_model::RequestId;
 use row_sets::Bytes;
@@ -144,6 +145,25 @@ impl<A: Allocator + Copy> OpenCall<A> {
             Turn::More => self.advance(alloc, accepted, store),
             over => over,
         }
+    }
+
+    /// Runs the instructions up to the next call, long jump or end at once. Each of them is a turn that answers that there
+    /// is more, whatever rows there are.
+    pub fn run_plain<P: Allocator, Q: Allocator>(&mut self, accepted: &Accepted<P, Q>)
+        requires more { self.old.machine.last ≡ More }
+        requires can { (w : Setting) × (log : Log) × CanGoOn w log accepted.now (λ rows. Unit {0}) self.old }
+        ensures turns { (w : Setting) (log : Log) → CanGoOn w log accepted.now (λ rows. Unit {0}) self.old
+            → (count : ℕ) × ((gone : Bool) → AreMoreTurns w log gone count (open_call_of self.old))
+            × (open_call_of self.new ≡ further count (open_call_of self.old)) }
+        ensures goes_on { (w : Setting) (log : Log) → CanGoOn w log accepted.now (λ rows. Unit {0}) self.old
+            → CanGoOn w log accepted.now (λ rows. Unit {0}) self.new }
+        ensures last { self.new.machine.last ≡ More }
+    {
+        // Laws:
+        accepted_programs_never_go_wrong();
+        runs_go_on_or_end();
+        accepted.known();
+        self.turns += self.machine.run_plain(accepted);
     }
 
     /// Runs to the end, on the rows of the snapshot, as turns would until one doesn't answer that there is more, and

@@ -10,6 +10,7 @@ use std::process::Abort;
 use test_programs::{
     ADD, COUNT, DELETE, INCREMENT, INDEX, INDEX_TOO_FAR, JUMP_ON, NEXT, ONE, PUT, PUT_AND_CANCEL,
     PUT_AND_GET, PUT_AND_STICK, READ, SKEW, SKIP, STACK_WORD, STORE_WITHIN, TRANSFER, bytes_of,
+    listing_of,
 };
 
 /// The first slot of a program that EXIT follows, and how its line goes on: one for each opcode and
@@ -223,15 +224,16 @@ static PROGRAMS: [&str; 19] = [
     STACK_WORD,
 ];
 
-fn is_its_own_listing(rt: &impl Abort, alloc: Global, program: &str) {
+fn has_its_listing(rt: &impl Abort, alloc: Global, program: &str) {
     let bytes = bytes_of(alloc, program).expect(rt, program);
-    is_listed(rt, alloc, &bytes, program.trim_start_matches('\n'));
+    let expected = listing_of(alloc, program).expect(rt, program);
+    is_listed(rt, alloc, &bytes, &expected);
 }
 
 #[test]
-fn test_programs_are_their_listings(rt: HostRuntime) {
+fn test_programs_have_their_listings(rt: HostRuntime) {
     for program in &PROGRAMS {
-        is_its_own_listing(&rt, rt.alloc(), program);
+        has_its_listing(&rt, rt.alloc(), program);
     }
 }
 

@@ -342,7 +342,7 @@ static ANSWERS: [(Answer, &str); 13] = [
     ),
 ];
 
-static ENDS: [Printed; 7] = [
+static ENDS: [Printed; 4] = [
     (
         Line::Replica {
             replica: 1,
@@ -367,40 +367,20 @@ static ENDS: [Printed; 7] = [
     ),
     (Line::Agreement { agrees: true }, "agreement yes\n"),
     (Line::Agreement { agrees: false }, "agreement no\n"),
+];
+
+/// Numbers of answers, in the order in which they are printed, and the printed text.
+static TOTALS: [([u64; 7], &str); 3] = [
     (
-        Line::Totals(Counts {
-            committed: 1,
-            read: 0,
-            cancelled: 0,
-            conflict: 0,
-            stale: 0,
-            repeated: 0,
-            other: 0,
-        }),
+        [1, 0, 0, 0, 0, 0, 0],
         "total committed 1 read 0 cancelled 0 conflict 0 stale 0 repeat 0 other 0\n",
     ),
     (
-        Line::Totals(Counts {
-            committed: 1,
-            read: 2,
-            cancelled: 3,
-            conflict: 4,
-            stale: 5,
-            repeated: 6,
-            other: 7,
-        }),
+        [1, 2, 3, 4, 5, 6, 7],
         "total committed 1 read 2 cancelled 3 conflict 4 stale 5 repeat 6 other 7\n",
     ),
     (
-        Line::Totals(Counts {
-            committed: u64::MAX,
-            read: u64::MAX,
-            cancelled: u64::MAX,
-            conflict: u64::MAX,
-            stale: u64::MAX,
-            repeated: u64::MAX,
-            other: u64::MAX,
-        }),
+        [u64::MAX; 7],
         "total committed 18446744073709551615 read 18446744073709551615 cancelled 18446744073709551615 \
          conflict 18446744073709551615 stale 18446744073709551615 repeat 18446744073709551615 \
          other 18446744073709551615\n",
@@ -418,6 +398,19 @@ fn are_printed(rt: &impl Abort, alloc: Global, rows: &[Printed]) {
     }
 }
 
+/// The line of these numbers of answers.
+fn totals_of(counts: [u64; 7]) -> Line<'static> {
+    Line::Totals(Counts {
+        committed: counts[0],
+        read: counts[1],
+        cancelled: counts[2],
+        conflict: counts[3],
+        stale: counts[4],
+        repeated: counts[5],
+        other: counts[6],
+    })
+}
+
 #[test]
 fn lines_are_printed(rt: HostRuntime) {
     are_printed(&rt, rt.alloc(), &CALLS);
@@ -425,6 +418,10 @@ fn lines_are_printed(rt: HostRuntime) {
     are_printed(&rt, rt.alloc(), &ENTRIES);
     are_printed(&rt, rt.alloc(), &ADDITIONS);
     are_printed(&rt, rt.alloc(), &ENDS);
+    for (counts, text) in &TOTALS {
+        let row = totals_of(*counts);
+        assert!(rt; is_printed(&rt, rt.alloc(), &row, text), "{text}");
+    }
     for (answer, text) in &ANSWERS {
         let row = Line::Answered {
             call: 2,

@@ -160,14 +160,14 @@ fn given<A: Allocator>(statement: &Statement<Bytes<A>>) -> Option<Given<'_>> {
     };
     match action {
         Action::Begin {
-            replica,
             name,
             args,
+            replica,
         } => Some((name.as_slice(), args.as_slice(), [*replica, 0, 0])),
         Action::BeginNumbered {
-            replica,
             name,
             args,
+            replica,
             session,
             sequence,
         } => Some((

@@ -1,129 +1,43 @@
 //! Whole calls of procedures, and stores that are gone.
 
-use super::{
-    NEVER, args_of, described, described_call, described_run, procedure_of, rows_of, same,
-};
+use super::{NEVER, described, described_call, described_run, procedure_of, rows_of, same};
 use bpf_verify::Accepted;
 use plain_runner::{CompletedRun, Row, run_program};
 use plain_site::{SiteFault, complete_call, run_call};
 use std::alloc::Global;
 use std::process::Abort;
 use test_programs::{
-    ADD, COUNT, DELETE, INCREMENT, INDEX, JUMP_ON, NEXT, ONE, PUT, PUT_AND_CANCEL, PUT_AND_GET,
-    SKEW, STACK_WORD,
+    ADD, COUNT, DELETE, INCREMENT, INDEX, NEXT, PUT, PUT_AND_CANCEL, PUT_AND_GET, RUNS, RowValue,
+    SKEW, STACK_WORD, args_of, row_values, words_of,
 };
 
-/// A program, its arguments, the rows before it, and what comes of it.
-struct Case {
-    program: &'static str,
-    args: &'static [u64],
-    rows: &'static [(u8, u64, u64)],
-    outcome: &'static str,
-}
-
-static CASES: [Case; 16] = [
-    Case {
-        program: ONE,
-        args: &[],
-        rows: &[],
-        outcome: "1 in 2",
-    },
-    Case {
-        program: JUMP_ON,
-        args: &[],
-        rows: &[],
-        outcome: "1 in 3",
-    },
-    Case {
-        program: STACK_WORD,
-        args: &[],
-        rows: &[],
-        outcome: "1099511627768 in 2",
-    },
-    Case {
-        program: ADD,
-        args: &[5, 10],
-        rows: &[],
-        outcome: "10 in 17 look 1:5-5 put 1:5=0a00000000000000",
-    },
-    Case {
-        program: ADD,
-        args: &[5, 7],
-        rows: &[(1, 5, 10)],
-        outcome: "17 in 17 look 1:5-5 put 1:5=1100000000000000",
-    },
-    Case {
-        program: SKEW,
-        args: &[1, 2],
-        rows: &[],
-        outcome: "0 in 19 look 1:1-1 look 1:2-2 put 1:1=0100000000000000",
-    },
-    Case {
-        program: PUT,
-        args: &[7, 2],
-        rows: &[(1, 7, 1)],
-        outcome: "0 in 8 put 1:7=0200000000000000",
-    },
-    Case {
-        program: COUNT,
-        args: &[10, 20, 100],
-        rows: &[(1, 12, 1)],
-        outcome: "1 in 14 look 1:10-20 put 1:100=0100000000000000",
-    },
-    Case {
-        program: COUNT,
-        args: &[20, 10, 100],
-        rows: &[(1, 15, 9)],
-        outcome: "0 in 14 put 1:100=0000000000000000",
-    },
-    Case {
-        program: NEXT,
-        args: &[10, 20, 101],
-        rows: &[(1, 12, 1), (1, 15, 9)],
-        outcome: "12 in 16 look 1:10-12 put 1:101=0100000000000000",
-    },
-    Case {
-        program: NEXT,
-        args: &[10, 20, 101],
-        rows: &[],
-        outcome: "0 in 16 look 1:10-20 put 1:101=0000000000000000",
-    },
-    Case {
-        program: DELETE,
-        args: &[9],
-        rows: &[],
-        outcome: "0 in 4 remove 1:9",
-    },
-    Case {
-        program: PUT_AND_CANCEL,
-        args: &[7, 2],
-        rows: &[],
-        outcome: "0 in 10 cancelled 9",
-    },
-    Case {
-        program: PUT_AND_GET,
-        args: &[],
-        rows: &[(1, 5, 1)],
-        outcome: "3 in 13 put 1:5=0300000000000000",
-    },
+/// Runs beside `RUNS`: a program, its arguments, the rows before it, and what comes of it.
+static MORE_RUNS: [[&str; 4]; 4] = [
+    [STACK_WORD, "", "", "1099511627768 in 2"],
+    [
+        NEXT,
+        "10 20 101",
+        "",
+        "0 in 16 look 1:10-20 put 1:101=0000000000000000",
+    ],
     // A row of two bytes, the last of the stack.
-    Case {
-        program: INCREMENT,
-        args: &[],
-        rows: &[(2, 5, 255)],
-        outcome: "256 in 15 look 2:5-5 put 2:5=0001",
-    },
+    [
+        INCREMENT,
+        "",
+        "2:5=255",
+        "256 in 15 look 2:5-5 put 2:5=0001",
+    ],
     // A next among its own writes: 3 was put at key 5, and the row at key 4 was removed.
-    Case {
-        program: "7a0af8ff03000000 b702000005000000 bfa3000000000000 07030000f8ffffff \
+    [
+        "7a0af8ff03000000 b702000005000000 bfa3000000000000 07030000f8ffffff \
             b701000001000000 8500000002000000 b702000004000000 b701000001000000 \
             8500000003000000 b702000000000000 b703000009000000 bfa4000000000000 \
             07040000f0ffffff bfa5000000000000 07050000e8ffffff b701000001000000 \
             8500000005000000 79a0f0ff00000000 9500000000000000",
-        args: &[],
-        rows: &[(1, 4, 1), (1, 7, 1)],
-        outcome: "5 in 19 look 1:0-5 remove 1:4 put 1:5=0300000000000000",
-    },
+        "",
+        "1:4=1 1:7=1",
+        "5 in 19 look 1:0-5 remove 1:4 put 1:5=0300000000000000",
+    ],
 ];
 
 /// Returns what the machine does, turn by turn.
@@ -169,7 +83,7 @@ fn assert_outcome(
     alloc: Global,
     program: &str,
     args: &[u64],
-    rows: &[(u8, u64, u64)],
+    rows: &[RowValue],
     outcome: &str,
 ) {
     let rows = rows_of(rt, alloc, rows);
@@ -183,16 +97,20 @@ fn assert_outcome(
     }
 }
 
+/// Asserts the same of arguments and rows that are given as text.
+fn comes_to(rt: &impl Abort, alloc: Global, program: &str, args: &str, rows: &str, outcome: &str) {
+    let args = words_of(alloc, args).expect(rt, args);
+    let rows = row_values(alloc, rows).expect(rt, rows);
+    assert_outcome(rt, alloc, program, &args, &rows, outcome);
+}
+
 #[test]
 fn calls_answer_what_their_runs_do(rt: HostRuntime) {
-    for case in &CASES {
-        let Case {
-            program,
-            args,
-            rows,
-            outcome,
-        } = case;
-        assert_outcome(&rt, rt.alloc(), program, args, rows, outcome);
+    for [program, args, rows, outcome, _] in &RUNS {
+        comes_to(&rt, rt.alloc(), program, args, rows, outcome);
+    }
+    for [program, args, rows, outcome] in &MORE_RUNS {
+        comes_to(&rt, rt.alloc(), program, args, rows, outcome);
     }
 }
 
@@ -281,7 +199,7 @@ fn fault_of_put(
     rows: &[Row],
 ) -> Option<SiteFault> {
     let (procedure, _args) = procedure_of(rt, alloc, PUT, &[7, 2]);
-    let mut args = args_of(rt, alloc, words);
+    let mut args = args_of(alloc, words).expect(rt, "memory");
     args.extend_from_slice(behind).expect(rt, "memory");
     run_call(alloc, &procedure, &args, rows, NEVER).err()
 }

@@ -5,6 +5,7 @@ use plain_runner::{CompletedRun, Row, run_program};
 use schema::Schema;
 use std::alloc::Global;
 use std::process::Abort;
+use test_programs::RowValue;
 
 /// Table 1 of width 8, and table 2 of width 2.
 pub(super) const TABLES: [(u8, u16); 2] = [(1, 8), (2, 2)];
@@ -16,7 +17,7 @@ pub(super) fn run(
     alloc: Global,
     program: &[u8],
     args: &[u8],
-    rows: &[(u8, u64, u64)],
+    rows: &[RowValue],
 ) -> Option<CompletedRun> {
     let list = rows_of(rt, alloc, rows);
     let code = decode(alloc, program).expect(rt, "the program");
@@ -36,7 +37,7 @@ pub(super) fn row_of(rt: &impl Abort, alloc: Global, table: u8, key: u64, value:
     )
 }
 
-fn rows_of(rt: &impl Abort, alloc: Global, rows: &[(u8, u64, u64)]) -> Vec<Row> {
+fn rows_of(rt: &impl Abort, alloc: Global, rows: &[RowValue]) -> Vec<Row> {
     let mut list = Vec::new(alloc);
     for &(table, key, value) in rows {
         let row = row_of(rt, alloc, table, key, value);

@@ -12,26 +12,34 @@ use bpf_words::{ByteOrder, Operation};
 use interval::{Range, alu32_range, alu64_range, end_range};
 use std::process::Abort;
 
+/// Four ranges, each by its ends.
+type Row = [[u64; 2]; 4];
+
 #[test]
 fn operations(rt: HostRuntime) {
-    gives(&rt, Binary(Add), &ADD);
-    gives(&rt, Binary(Sub), &SUB);
-    gives(&rt, Binary(Mul), &MUL);
-    gives(&rt, Binary(Div), &DIV);
-    gives(&rt, Binary(Sdiv), &SDIV);
-    gives(&rt, Binary(Or), &OR);
-    gives(&rt, Binary(And), &AND);
-    gives(&rt, Binary(Lsh), &LSH);
-    gives(&rt, Binary(Rsh), &RSH);
-    gives(&rt, Binary(Mod), &MOD);
-    gives(&rt, Binary(Smod), &SMOD);
-    gives(&rt, Binary(Xor), &XOR);
-    gives(&rt, Binary(Mov), &MOV);
-    gives(&rt, Binary(Arsh), &ARSH);
-    gives(&rt, Neg, &NEG);
-    gives(&rt, Movsx(From8), &MOVSX8);
-    gives(&rt, Movsx(From16), &MOVSX16);
-    gives(&rt, Movsx(From32), &MOVSX32);
+    let operations: [(Operation, &[Row]); 18] = [
+        (Binary(Add), &ADD),
+        (Binary(Sub), &SUB),
+        (Binary(Mul), &MUL),
+        (Binary(Div), &DIV),
+        (Binary(Sdiv), &SDIV),
+        (Binary(Or), &OR),
+        (Binary(And), &AND),
+        (Binary(Lsh), &LSH),
+        (Binary(Rsh), &RSH),
+        (Binary(Mod), &MOD),
+        (Binary(Smod), &SMOD),
+        (Binary(Xor), &XOR),
+        (Binary(Mov), &MOV),
+        (Binary(Arsh), &ARSH),
+        (Neg, &NEG),
+        (Movsx(From8), &MOVSX8),
+        (Movsx(From16), &MOVSX16),
+        (Movsx(From32), &MOVSX32),
+    ];
+    for (op, rows) in operations {
+        gives(&rt, op, rows);
+    }
 }
 
 #[test]
@@ -58,7 +66,7 @@ fn joins(rt: HostRuntime) {
 }
 
 // A row has the ranges of two operands, and those of what the operation gives on 64 and on 32 bits.
-fn gives(rt: &impl Abort, op: Operation, rows: &[[[u64; 2]; 4]]) {
+fn gives(rt: &impl Abort, op: Operation, rows: &[Row]) {
     for [a, b, wide, narrow] in rows {
         let (left, right) = (range(*a), range(*b));
         let found = (alu64_range(op, left, right), alu32_range(op, left, right));
@@ -73,7 +81,7 @@ fn gives(rt: &impl Abort, op: Operation, rows: &[[[u64; 2]; 4]]) {
 }
 
 // A row has an operand's range, and those of what is given of its low 16, 32 and 64 bits.
-fn swaps(rt: &impl Abort, order: ByteOrder, rows: &[[[u64; 2]; 4]]) {
+fn swaps(rt: &impl Abort, order: ByteOrder, rows: &[Row]) {
     for [a, low16, low32, low64] in rows {
         let operand = range(*a);
         let found = [
@@ -104,7 +112,7 @@ static JOINS: [[[u64; 2]; 3]; 6] = [
 
 // The values of the tables were computed by a Python program.
 
-static ADD: [[[u64; 2]; 4]; 8] = [
+static ADD: [Row; 8] = [
     [[1, 5], [2, 3], [3, 8], [3, 8]],
     [[0, ALL], [0, 0], [0, ALL], [0, LOW]],
     [[0, ALL], [0, 1], [0, ALL], [0, LOW]],
@@ -115,7 +123,7 @@ static ADD: [[[u64; 2]; 4]; 8] = [
     [[ALL, ALL], [1, 1], [0, 0], [0, 0]],
 ];
 
-static SUB: [[[u64; 2]; 4]; 8] = [
+static SUB: [Row; 8] = [
     [[9, 12], [2, 9], [0, 10], [0, 10]],
     [[8, 12], [2, 9], [0, ALL], [0, LOW]],
     [[TOP, ALL], [0, TOP], [0, ALL], [0, LOW]],
@@ -126,7 +134,7 @@ static SUB: [[[u64; 2]; 4]; 8] = [
     [[3, 3], [4, 4], [ALL, ALL], [LOW, LOW]],
 ];
 
-static MUL: [[[u64; 2]; 4]; 9] = [
+static MUL: [Row; 9] = [
     [[2, 3], [4, 5], [8, 15], [8, 15]],
     [[0, LOW], [0, LOW], [0, 0xffff_fffe_0000_0001], [0, LOW]],
     [[0, WIDE], [0, WIDE], [0, ALL], [0, LOW]],
@@ -143,7 +151,7 @@ static MUL: [[[u64; 2]; 4]; 9] = [
     [[WIDE, WIDE], [WIDE, WIDE], [0, 0], [0, 0]],
 ];
 
-static DIV: [[[u64; 2]; 4]; 9] = [
+static DIV: [Row; 9] = [
     [[10, 20], [2, 5], [2, 10], [2, 10]],
     [[10, 20], [0, 5], [0, 20], [0, 20]],
     [[10, 20], [0, 0], [0, 20], [0, 20]],
@@ -165,14 +173,14 @@ static DIV: [[[u64; 2]; 4]; 9] = [
     [[5, 5], [0, 0], [0, 0], [0, 0]],
 ];
 
-static SDIV: [[[u64; 2]; 4]; 4] = [
+static SDIV: [Row; 4] = [
     [[10, 20], [2, 5], [0, ALL], [0, LOW]],
     [[10, 20], [1, 1], [0, ALL], [0, LOW]],
     [[5, 5], [0, 1], [0, ALL], [0, LOW]],
     [[TOP, TOP], [ALL, ALL], [TOP, TOP], [0, 0]],
 ];
 
-static OR: [[[u64; 2]; 4]; 8] = [
+static OR: [Row; 8] = [
     [[1, 4], [2, 3], [2, 7], [2, 7]],
     [[0, 0], [0, 1], [0, 1], [0, 1]],
     [[5, 8], [3, 7], [5, 15], [5, 15]],
@@ -183,7 +191,7 @@ static OR: [[[u64; 2]; 4]; 8] = [
     [[12, 12], [10, 10], [14, 14], [14, 14]],
 ];
 
-static AND: [[[u64; 2]; 4]; 7] = [
+static AND: [Row; 7] = [
     [[5, 9], [12, 20], [0, 9], [0, 9]],
     [[5, ALL], [0, LOW], [0, LOW], [0, LOW]],
     [[TOP, ALL], [TOP, ALL], [0, ALL], [0, LOW]],
@@ -193,7 +201,7 @@ static AND: [[[u64; 2]; 4]; 7] = [
     [[12, 12], [10, 10], [8, 8], [8, 8]],
 ];
 
-static LSH: [[[u64; 2]; 4]; 10] = [
+static LSH: [Row; 10] = [
     [[1, 3], [4, 4], [16, 48], [16, 48]],
     [[0, 1], [63, 63], [0, TOP], [0, MIDDLE]],
     [[0, 2], [63, 63], [0, ALL], [0, LOW]],
@@ -211,7 +219,7 @@ static LSH: [[[u64; 2]; 4]; 10] = [
     [[3, 3], [63, 63], [TOP, TOP], [MIDDLE, MIDDLE]],
 ];
 
-static RSH: [[[u64; 2]; 4]; 10] = [
+static RSH: [Row; 10] = [
     [[16, 35], [4, 4], [1, 2], [1, 2]],
     [[16, 35], [4, 5], [0, 35], [0, 35]],
     [[0, ALL], [63, 63], [0, 1], [0, 1]],
@@ -234,7 +242,7 @@ static RSH: [[[u64; 2]; 4]; 10] = [
     [[TOP, TOP], [63, 63], [1, 1], [0, 0]],
 ];
 
-static MOD: [[[u64; 2]; 4]; 9] = [
+static MOD: [Row; 9] = [
     [[3, 7], [8, 9], [3, 7], [3, 7]],
     [[3, 7], [7, 9], [0, 7], [0, 7]],
     [[3, 17], [5, 9], [0, 8], [0, 8]],
@@ -246,14 +254,14 @@ static MOD: [[[u64; 2]; 4]; 9] = [
     [[9, 9], [0, 0], [9, 9], [9, 9]],
 ];
 
-static SMOD: [[[u64; 2]; 4]; 4] = [
+static SMOD: [Row; 4] = [
     [[10, 20], [2, 5], [0, ALL], [0, LOW]],
     [[0, 0], [1, 2], [0, ALL], [0, LOW]],
     [[WIDE + 8, WIDE + 8], [1, 1], [0, 0], [0, 0]],
     [[TOP + 5, TOP + 5], [0, 0], [TOP + 5, TOP + 5], [5, 5]],
 ];
 
-static XOR: [[[u64; 2]; 4]; 8] = [
+static XOR: [Row; 8] = [
     [[1, 4], [2, 3], [0, 7], [0, 7]],
     [[0, 0], [0, 1], [0, 1], [0, 1]],
     [[5, 8], [3, 7], [0, 15], [0, 15]],
@@ -264,7 +272,7 @@ static XOR: [[[u64; 2]; 4]; 8] = [
     [[12, 12], [10, 10], [6, 6], [6, 6]],
 ];
 
-static MOV: [[[u64; 2]; 4]; 7] = [
+static MOV: [Row; 7] = [
     [[1, 2], [3, 9], [3, 9], [3, 9]],
     [[1, 2], [7, 7], [7, 7], [7, 7]],
     [[0, ALL], [WIDE, WIDE], [WIDE, WIDE], [0, 0]],
@@ -274,7 +282,7 @@ static MOV: [[[u64; 2]; 4]; 7] = [
     [[4, 4], [TOP, ALL], [TOP, ALL], [0, LOW]],
 ];
 
-static ARSH: [[[u64; 2]; 4]; 10] = [
+static ARSH: [Row; 10] = [
     [[16, 35], [4, 4], [1, 2], [1, 2]],
     [[16, 35], [4, 5], [0, 35], [0, 35]],
     [[0, BELOW_TOP], [63, 63], [0, 0], [0, LOW]],
@@ -287,7 +295,7 @@ static ARSH: [[[u64; 2]; 4]; 10] = [
     [[TOP, TOP], [63, 63], [ALL, ALL], [0, 0]],
 ];
 
-static NEG: [[[u64; 2]; 4]; 5] = [
+static NEG: [Row; 5] = [
     [[5, 5], [0, 9], [ALL - 4, ALL - 4], [LOW - 4, LOW - 4]],
     [[0, 0], [1, 2], [0, 0], [0, 0]],
     [
@@ -300,7 +308,7 @@ static NEG: [[[u64; 2]; 4]; 5] = [
     [[TOP, ALL], [0, 0], [0, ALL], [0, LOW]],
 ];
 
-static MOVSX8: [[[u64; 2]; 4]; 8] = [
+static MOVSX8: [Row; 8] = [
     [[1, 2], [3, 127], [3, 127], [3, 127]],
     [[1, 2], [3, 128], [0, ALL], [0, LOW]],
     [
@@ -316,7 +324,7 @@ static MOVSX8: [[[u64; 2]; 4]; 8] = [
     [[1, 1], [TOP, ALL], [0, ALL], [0, LOW]],
 ];
 
-static MOVSX16: [[[u64; 2]; 4]; 8] = [
+static MOVSX16: [Row; 8] = [
     [[1, 2], [3, 0x7fff], [3, 0x7fff], [3, 0x7fff]],
     [[1, 2], [3, 0x8000], [0, ALL], [0, LOW]],
     [
@@ -332,7 +340,7 @@ static MOVSX16: [[[u64; 2]; 4]; 8] = [
     [[1, 1], [TOP, ALL], [0, ALL], [0, LOW]],
 ];
 
-static MOVSX32: [[[u64; 2]; 4]; 8] = [
+static MOVSX32: [Row; 8] = [
     [
         [1, 2],
         [3, BELOW_MIDDLE],
@@ -358,7 +366,7 @@ static MOVSX32: [[[u64; 2]; 4]; 8] = [
     [[1, 1], [TOP, ALL], [0, ALL], [0, LOW]],
 ];
 
-static KEPT: [[[u64; 2]; 4]; 6] = [
+static KEPT: [Row; 6] = [
     [
         [BYTES, BYTES],
         [0x7788, 0x7788],
@@ -372,7 +380,7 @@ static KEPT: [[[u64; 2]; 4]; 6] = [
     [[TOP, TOP], [0, 0], [0, 0], [TOP, TOP]],
 ];
 
-static REVERSED: [[[u64; 2]; 4]; 6] = [
+static REVERSED: [Row; 6] = [
     [
         [BYTES, BYTES],
         [0x8877, 0x8877],

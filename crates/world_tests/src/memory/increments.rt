@@ -48,7 +48,8 @@ fn refused_and_run<A: Allocator + Copy>(
         run_script(rt, alloc, world, &STEPS, &mut told);
         run_script(rt, alloc, world, &THIRD_CALL, &mut told);
     }
-    (told, described(rt, alloc, world, 2))
+    let replica = described(rt, alloc, world, 2);
+    (told, replica)
 }
 
 /// Returns the same in a world that takes memory from `taken_from`.

@@ -2,7 +2,7 @@ use Rattle.std.proofs.Common.{false, ◌≡◌, List, [], ◌∷◌, length, sli
 use Rattle.std.proofs.lemmas.List.{length-append}
 use Rattle.replica.specs.Replica.{Replica}
 use Rattle.dsm_world.specs.System.{progress_of}
-use Rattle.dsm_world.specs.Holdings.{IsReplicaOf}
+use Rattle.dsm_world.specs.Together.{IsReplicaOf}
 use Rattle.dsm_world.proofs.RunLemmas.{first_replica, first_progress, one_more_replica}
 use Rattle.dsm_world.proofs.world.replicas_of.Goals as goal
 

@@ -1,7 +1,7 @@
 use Rattle.std.proofs.Common.{false, ◌≡◌, ℕ, [], length, slice_get, Some}
 use Rattle.replica.specs.Replica.{Replica}
 use Rattle.dsm_world.specs.System.{progress_of}
-use Rattle.dsm_world.specs.Holdings.{IsReplicaOf}
+use Rattle.dsm_world.specs.Together.{IsReplicaOf}
 use Rattle.dsm_world.proofs.world.replicas_of.Given as goal
 
 abbrev pub invariant-loop : goal.invariant-loop

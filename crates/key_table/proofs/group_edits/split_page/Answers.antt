@@ -3,16 +3,8 @@ use Rattle.std.specs.Prelude.{is_ok}
 use Rattle.std.specs.List.{insert}
 use Rattle.std.proofs.lemmas.Bool.{false≢true}
 use Rattle.row_chain.specs.Slots.{Slot}
-use Rattle.key_table.proofs.PageEditLemmas.{split, insert_after}
+use Rattle.key_table.proofs.PageEditLemmas.{halves_done}
 use Rattle.key_table.proofs.group_edits.split_page.Goals as goal
-
-done : (ps rs ts new : List (List Slot)) (i : ℕ) (b : Bool) (u p : List Slot) → i < length ps → rs ≡ ps → ts ≡ set rs i (take 32 (get_or rs i p)) → u ≡ drop 32 (get_or rs i p) → new ≡ cond b (insert ts (i + 1) u) ts → b ≡ true → new ≡ split ps i (get_or ps i p)
-done ps rs ts new i b u p lt same low high is ok =
-    is ∙ ap (λ (t : Bool). cond t (insert ts (i + 1) u) ts) ok
-    ∙ ap (λ (l : List (List Slot)). insert l (i + 1) u) low
-    ∙ ap (insert (set rs i (take 32 (get_or rs i p))) (i + 1)) high
-    ∙ ap (λ (l : List (List Slot)). insert (set l i (take 32 (get_or l i p))) (i + 1) (drop 32 (get_or l i p))) same
-    ∙ insert_after ps i (take 32 (get_or ps i p)) (drop 32 (get_or ps i p)) lt
 
 pub prove-unreachable-requires : goal.prove-unreachable-requires
 prove-unreachable-requires g c =
@@ -20,5 +12,5 @@ prove-unreachable-requires g c =
 
 pub returns-clause-done : goal.returns-clause-done
 returns-clause-done g c p =
-    done c.args.pages.now.items c.reserve.new.self.items c.take_upper.new.pages.items c.insert-inserted.new.self.items c.args.page (is_ok c.insert-inserted.result) c.in_ok-upper.upper p
+    halves_done 32 c.args.pages.now.items c.reserve.new.self.items c.take_upper.new.pages.items c.insert-inserted.new.self.items c.args.page (is_ok c.insert-inserted.result) c.in_ok-upper.upper p
     c.requires.page c.in_ok-reserve.ensures.items (c.in_ok-upper.ensures.lower p) (c.in_ok-upper.ensures.upper p) c.insert-inserted.ensures.items (sym c.is_ok.ensures.value ∙ c.if-prove.false)

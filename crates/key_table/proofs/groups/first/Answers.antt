@@ -1,22 +1,14 @@
 use Rattle.std.proofs.Common.{◌≡◌, ◌+◌, ◌∙◌, ℕ, List, [], ◌∷◌, ◌++◌, drop, sym, ap, arith}
-use Rattle.std.specs.Prelude.{Some, None, slice_get}
+use Rattle.std.specs.Prelude.{slice_get}
 use Rattle.key_table.specs.Table.{rows_between}
 use Rattle.key_table.specs.Pages.{all_slots}
-use Rattle.key_table.proofs.PlaceLemmas.{rows_page, rows_end}
+use Rattle.key_table.proofs.PlaceLemmas.{rows_page, rows_end, first_here, first_later}
 use Rattle.key_table.specs.Groups.{group_slots}
 use Rattle.key_table.proofs.PartLemmas.{within, part, begins_past}
 use Rattle.key_table.proofs.groups.first.Goals as goal
 
 abbrev Row : Type 0
 Row = ℕ × List ℕ
-
-here : (xs ys mid all : List Row) (v : Row) → Some v ≡ slice_get xs 0 → mid ≡ xs ++ ys → mid ≡ all → Some v ≡ slice_get all 0
-here [] ys mid all v is parts same = absurd (cc)
-here (x ∷ xs) ys mid all v is parts same = is ∙ ap (λ (l : List Row). slice_get l 0) (sym parts ∙ same)
-
-later : (xs ys mid all : List Row) → None ≡ slice_get xs 0 → mid ≡ xs ++ ys → mid ≡ all → ys ≡ all
-later [] ys mid all is parts same = sym parts ∙ same
-later (x ∷ xs) ys mid all is parts same = absurd (cc)
 
 pub returns-then-least-hi : goal.returns-then-least-hi
 returns-then-least-hi g c =
@@ -28,7 +20,7 @@ returns-then-least-hi g c =
 pub returns-in-Some : goal.returns-in-Some
 returns-in-Some g c =
     let gs = c.args.groups.now in let i = c.loop-group.group-index in let p = all_slots c.group-item.result in
-    here (rows_between c.args.position c.args.lo c.args.hi p) (rows_between c.args.position c.args.lo c.args.hi (all_slots (drop (i + 1) (group_slots gs))))
+    first_here (rows_between c.args.position c.args.lo c.args.hi p) (rows_between c.args.position c.args.lo c.args.hi (all_slots (drop (i + 1) (group_slots gs))))
     (rows_between c.args.position c.args.lo c.args.hi (all_slots (drop i (group_slots gs)))) (rows_between c.args.position c.args.lo c.args.hi (all_slots (group_slots gs)))
     (c.in-Some.row.0, c.in-Some.row.1.now) c.in-Some.ensures
     (rows_page c.args.position c.args.lo c.args.hi (group_slots gs) i p (within gs i (omega arith)) (part gs i c.group-item.result c.group-item.is)) c.loop-group.invariant
@@ -36,7 +28,7 @@ returns-in-Some g c =
 pub loop-group-preserved : goal.loop-group-preserved
 loop-group-preserved g c =
     let gs = c.args.groups.now in let i = c.loop-group.group-index in let p = all_slots c.group-item.result in
-    later (rows_between c.args.position c.args.lo c.args.hi p) (rows_between c.args.position c.args.lo c.args.hi (all_slots (drop (i + 1) (group_slots gs))))
+    first_later (rows_between c.args.position c.args.lo c.args.hi p) (rows_between c.args.position c.args.lo c.args.hi (all_slots (drop (i + 1) (group_slots gs))))
     (rows_between c.args.position c.args.lo c.args.hi (all_slots (drop i (group_slots gs)))) (rows_between c.args.position c.args.lo c.args.hi (all_slots (group_slots gs)))
     c.in_default.ensures
     (rows_page c.args.position c.args.lo c.args.hi (group_slots gs) i p (within gs i (omega arith)) (part gs i c.group-item.result c.group-item.is)) c.loop-group.invariant

@@ -1,15 +1,12 @@
-use Rattle.std.proofs.Common.{◌≡◌, ℕ, ◌+◌, ◌≤◌, ◌<◌, ◌∙◌, List, ◌++◌, arith, refl, sym, ap, subst, length, take, drop}
-use Rattle.std.proofs.lemmas.List.{length-drop, length-take, take-append-drop}
+use Rattle.std.proofs.Common.{ℕ, ◌+◌, ◌≤◌, ◌<◌, ◌∙◌, List, arith, refl, sym, ap, subst, length, take, drop}
+use Rattle.std.proofs.lemmas.List.{length-drop, length-take}
 use Rattle.std.proofs.lemmas.Result.{err_from_is_err_and}
-use Rattle.hex.specs.Hex.{encode_with, encode_lower, lower_digits}
+use Rattle.hex.specs.Hex.{encode_with, encode_lower}
 use Rattle.byte_output.specs.Pending.{Passes}
-use Rattle.byte_output.proofs.PendingLemmas.{Passes-then}
 use Rattle.log_entry.specs.Kind.{entry_of}
 use Rattle.log_entry.specs.Bytes.{entry_bytes}
-use Rattle.report.proofs.PrintingLemmas.{encode_append}
 use Rattle.script_replay.specs.declared.excerpt.TheConstants.{EXCERPT_BYTES}
-use Rattle.script_replay.specs.Acting.{PassesBeginning}
-use Rattle.script_replay.proofs.GivenLemmas.{nothing_given, beginning_then, beginning_more, whole_given}
+use Rattle.script_replay.proofs.GivenLemmas.{nothing_given}
 use Rattle.script_replay.proofs.ExcerptLemmas.{digits_so_far, digits_begun, digits_whole, digits_given}
 use Rattle.script_replay.proofs.log.put_bytes.Goals as goal
 

@@ -1,15 +1,14 @@
-use Rattle.std.proofs.Common.{◌≡◌, ◌++◌, List, ℕ, codes, Option, Some, None, subst, sym, ap, ◌∙◌}
+use Rattle.std.proofs.Common.{◌≡◌, ◌++◌, codes, Option, None, subst, sym, ap}
 use Rattle.std.specs.Prelude.{option_map}
 use Rattle.std.proofs.lemmas.Result.{err_from_is_err_and}
 use Rattle.log_model.specs.Log.{Item}
-use Rattle.log_model.specs.Entries.{item_of}
 use Rattle.log_entry.specs.Kind as kind
 use Rattle.dsm_model.specs.World.{numbered}
 use Rattle.dsm_world.specs.System.{setting_of, world_of}
 use Rattle.log_entry.specs.Bytes.{entry_bytes}
 use Rattle.report.specs.Lines as lines
 use Rattle.report.specs.Lines.{bytes_words}
-use Rattle.script_replay.specs.Printed.{entry_of, entry_text}
+use Rattle.script_replay.specs.Printed.{entry_of}
 use Rattle.script_replay.specs.Acting.{Gives, PassesBeginning}
 use Rattle.byte_output.proofs.PendingLemmas.{Passes-then}
 use Rattle.script_replay.proofs.GivenLemmas.{beginning_more, beginning_then, given_then}

@@ -1,4 +1,4 @@
-use Rattle.std.proofs.Common.{◌≡◌, ℕ, ◌+◌, ◌*◌, ◌≤◌, ◌<◌, ◌^◌, List, [], arith, refl, sym, ◌∙◌}
+use Rattle.std.proofs.Common.{◌+◌, ◌<◌, [], arith, refl, ◌∙◌}
 use Rattle.std.proofs.lemmas.Result.{err_from_is_err_and}
 use Rattle.schema.specs.declared.limits.TheConstants.{MAX_TABLE}
 use Rattle.script_replay.proofs.GivenLemmas.{nothing_given}

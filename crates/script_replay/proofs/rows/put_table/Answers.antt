@@ -1,8 +1,6 @@
-use Rattle.std.proofs.Common.{◌≡◌, ℕ, ◌+◌, ◌-◌, ◌≤◌, ◌<◌, ◌^◌, List, [], ◌++◌, arith, refl, sym, ◌∙◌}
-use Rattle.std.proofs.lemmas.List.{append-nil}
+use Rattle.std.proofs.Common.{◌+◌, ◌-◌, ◌≤◌, ◌^◌, arith, refl, sym, ◌∙◌}
 use Rattle.std.proofs.lemmas.Result.{err_from_is_err_and}
 use Rattle.report.specs.Lines as lines
-use Rattle.report.proofs.PrintingLemmas.{nothing_given}
 use Rattle.script_replay.proofs.RowLemmas.{one_row, row_breaks, last_row, no_row, listed_none}
 use Rattle.script_replay.proofs.rows.put_table.Goals as goal
 

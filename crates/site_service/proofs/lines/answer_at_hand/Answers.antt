@@ -3,7 +3,6 @@ use Rattle.std.specs.Io.KnownBytes.{Appends}
 use Rattle.byte_output.specs.Writes.{AppendsBeginning}
 use Rattle.byte_output.proofs.TakenLemmas.{fresh}
 use Rattle.site.specs.Replica.{setting_of}
-use Rattle.site_service.specs.Answering.{IsAppended}
 use Rattle.site_service.proofs.LinesLemmas.{begun_by, gives_so, wrote, wrote_some}
 use Rattle.site_service.proofs.lines.answer_at_hand.Goals as goal
 

@@ -1,6 +1,5 @@
 use Rattle.std.proofs.Common.{◌≡◌, ◌++◌, ◌∙◌, ap, rules}
 use Rattle.byte_output.specs.Pending.{output_of}
-use Rattle.byte_output.specs.Taken.{HasTakenMore}
 use Rattle.byte_output.proofs.TakenLemmas.{taken_by}
 use Rattle.site.specs.Replica.{setting_of}
 use Rattle.site_service.specs.Answering.{IsAppended, IsNoText}

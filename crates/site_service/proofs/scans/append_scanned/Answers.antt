@@ -1,4 +1,4 @@
-use Rattle.std.proofs.Common.{arith, ◌≡◌, ◌+◌, ◌∙◌, ap, sym, subst, None}
+use Rattle.std.proofs.Common.{arith, ◌≡◌, ◌+◌, ◌∙◌, ap, sym, subst}
 use Rattle.txn_view.specs.Found.{row_found}
 use Rattle.site_service.proofs.ScanLemmas.{HasScanned, found_is, scan_begins, scan_ends, scan_goes, scan_is_at_top, scan_is_full}
 use Rattle.site_service.proofs.scans.append_scanned.Goals as goal

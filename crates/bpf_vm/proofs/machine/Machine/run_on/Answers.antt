@@ -1,6 +1,6 @@
 use Rattle.std.proofs.Common.{◌∙◌, ◌+◌, arith, refl}
 use Rattle.bpf_vm.specs.Run.{own_effects}
-use Rattle.bpf_vm.proofs.Advancing.{further_first, both_further, can_run_on, plain_further, turn_further}
+use Rattle.bpf_vm.proofs.Advancing.{further_first, both_further, plain_further, turn_further}
 use Rattle.bpf_vm.proofs.machine.Machine.run_on.Goals as goal
 
 pub loop-init : goal.loop-init
@@ -15,15 +15,14 @@ run_plain-before-requires g c =
     let p = c.args.procedure.now in
     let (args, rows, k, suits, answers, h) = c.requires.on c.requires.more in
     let there = c.loop.invariant.further args rows k suits answers h in
-    can_run_on p args rows (k + c.loop.before) c.loop.self _ there.0
-    (λ j. c.accepted_programs_never_go_wrong.ensures.never_stuck p args rows j h.here.sound.program h.here.sound.tables h.here.sound.accepted suits)
+    c.runs_go_on_or_end.ensures.plain p args rows (k + c.loop.before) c.loop.self _ suits there.0
 
 pub overflow_add-before : goal.overflow_add-before
 overflow_add-before g c =
     let p = c.args.procedure.now in
     let (args, rows, k, suits, answers, h) = c.requires.on c.requires.more in
     let there = c.loop.invariant.further args rows k suits answers h in
-    let plain = c.run_plain-before.ensures args rows (k + c.loop.before) (own_effects c.loop.view.own) suits there.0 in
+    let plain = c.run_plain-before.ensures.run args rows (k + c.loop.before) (own_effects c.loop.view.own) suits there.0 in
     let s = plain.0.here in
     let short = c.runs_go_on_or_end.ensures.short p args rows _ s.state s.sound suits s.at in
     let bound = c.bound-end.ensures in
@@ -34,7 +33,7 @@ turn-requires g c =
     let p = c.args.procedure.now in
     let (args, rows, k, suits, answers, h) = c.requires.on c.requires.more in
     let there = c.loop.invariant.further args rows k suits answers h in
-    let plain = c.run_plain-before.ensures args rows (k + c.loop.before) (own_effects c.loop.view.own) suits there.0 in
+    let plain = c.run_plain-before.ensures.run args rows (k + c.loop.before) (own_effects c.loop.view.own) suits there.0 in
     c.open_calls_can_turn.ensures p args rows _ c.run_plain-before.new.self suits (rw c.loop.invariant.store answers) plain.0
 
 pub overflow_add-before-in-More : goal.overflow_add-before-in-More
@@ -42,7 +41,7 @@ overflow_add-before-in-More g c =
     let p = c.args.procedure.now in
     let (args, rows, k, suits, answers, h) = c.requires.on c.requires.more in
     let there = c.loop.invariant.further args rows k suits answers h in
-    let plain = c.run_plain-before.ensures args rows (k + c.loop.before) (own_effects c.loop.view.own) suits there.0 in
+    let plain = c.run_plain-before.ensures.run args rows (k + c.loop.before) (own_effects c.loop.view.own) suits there.0 in
     let s = plain.0.here in
     let short = c.runs_go_on_or_end.ensures.short p args rows _ s.state s.sound suits s.at in
     let bound = c.bound-end.ensures in
@@ -56,7 +55,7 @@ loop-preserved g c =
     let answers_from = g.S.Store.answers_from c.args.view.now.store in
     let gone = g.S.Store.is_gone c.args.view.now.store in
     let count = c.loop.invariant.count in
-    let plain = plain_further p answers_from gone c.run_plain-before.result c.loop.self c.run_plain-before.new.self old (λ args rows k. c.run_plain-before.ensures args rows k old) in
+    let plain = plain_further p answers_from gone c.run_plain-before.result c.loop.self c.run_plain-before.new.self old (λ args rows k. c.run_plain-before.ensures.run args rows k old) in
     let turned = turn_further p answers_from gone c.run_plain-before.new.self c.turn.new.self old new
     (λ args rows k suits answers h. (rw c.in-More.is at (rw c.loop.invariant.store at c.turn.ensures.run)) args rows k suits answers h) in
     let here = both_further p answers_from gone c.loop.before c.run_plain-before.result c.args.self.now c.loop.self c.run_plain-before.new.self (own_effects c.args.view.now.own) old old c.loop.invariant.further plain in
@@ -72,7 +71,7 @@ returns-in_default g c =
     let old = own_effects c.loop.view.own in
     let answers_from = g.S.Store.answers_from c.args.view.now.store in
     let gone = g.S.Store.is_gone c.args.view.now.store in
-    let plain = plain_further p answers_from gone c.run_plain-before.result c.loop.self c.run_plain-before.new.self old (λ args rows k. c.run_plain-before.ensures args rows k old) in
+    let plain = plain_further p answers_from gone c.run_plain-before.result c.loop.self c.run_plain-before.new.self old (λ args rows k. c.run_plain-before.ensures.run args rows k old) in
     let here = both_further p answers_from gone c.loop.before c.run_plain-before.result c.args.self.now c.loop.self c.run_plain-before.new.self (own_effects c.args.view.now.own) old old c.loop.invariant.further plain in
     record {
       ends = c.in_default.not-More;

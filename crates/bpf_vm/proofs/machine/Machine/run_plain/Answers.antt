@@ -10,8 +10,8 @@ run_plain-requires-clause-can g c =
     let words : c.args.self.now.words ≡ c.self.inside.words = ap (λ (m : MachineState). m.words) (sym c.self.view_is) in
     rw c.code.ensures (subst (λ (m : Words). CanRunOn c.args.procedure.now.program m) words c.requires)
 
-pub returns : goal.returns
-returns g c = λ args rows k effects suits h.
+pub returns-clause-run : goal.returns-clause-run
+returns-clause-run g c = λ args rows k effects suits h.
     let p = c.args.procedure.now in
     let s = h.here.state in
     let n : MachineState = record { words = c.run_plain.new.self; last = c.self.inside.last } in

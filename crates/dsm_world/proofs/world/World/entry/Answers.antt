@@ -8,7 +8,7 @@ use Rattle.dsm_world.proofs.world.World.entry.Goals as goal
 
 pub returns : goal.returns
 returns g c =
-    let items = c.self.inside.holdings.entries.items in
+    let items = c.self.inside.entries.items in
     let at = c.in_ok-at.at in
     let place = c.in_ok-at.ensures.there in
     let count = c.len.ensures in

@@ -8,7 +8,7 @@ use Rattle.dsm_model.specs.World.{numbered, open_call}
 use Rattle.replica.specs.Replica.{AreEntriesOf}
 use Rattle.catalogue.specs.Catalogue.{IsCatalogue}
 use Rattle.dsm_world.specs.System.{SystemWorld, setting_of, world_of, KeepsDelivered}
-use Rattle.dsm_world.specs.Holdings.{system_of, call_slots}
+use Rattle.dsm_world.specs.Fields.{system_of, call_slots}
 use Rattle.dsm_world.proofs.RunLemmas.{keeps_delivered}
 use Rattle.dsm_world.proofs.world.World.keeps_what_was_delivered.Goals as goal
 
@@ -27,25 +27,25 @@ returns-clause-entries g c = subst (λ (s : SystemWorld). AreEntriesOf (setting_
 pub returns-clause-replicas : goal.returns-clause-replicas
 returns-clause-replicas g c n r =
     subst (λ (s : SystemWorld). numbered s.replicas n ≡ Some r → KeepsDelivered s r) c.self.view_is
-    (keeps_delivered (system_of c.self.inside.holdings) (call_slots c.self.inside.holdings) n r c.replicas_follow_the_log.ensures.rows c.replicas_follow_the_log.ensures.procedures c.self.invariant.together)
+    (keeps_delivered (system_of c.self.inside) (call_slots c.self.inside) n r c.replicas_follow_the_log.ensures.rows c.replicas_follow_the_log.ensures.procedures c.self.invariant.together)
 
 pub returns-clause-sound : goal.returns-clause-sound
 returns-clause-sound g c n o =
     subst (λ (s : SystemWorld). open_call (world_of s) n ≡ Some o → IsSound (setting_of s) (world_of s).log o) c.self.view_is
-    (c.open_calls_are_sound.ensures (setting_of (system_of c.self.inside.holdings)) (world_of (system_of c.self.inside.holdings)) n o c.self.invariant.together.entries.procedures c.self.invariant.together.world)
+    (c.open_calls_are_sound.ensures (setting_of (system_of c.self.inside)) (world_of (system_of c.self.inside)) n o c.self.invariant.together.entries.procedures c.self.invariant.together.world)
 
 pub returns-clause-stays : goal.returns-clause-stays
 returns-clause-stays g c n o more =
     subst (λ (s : SystemWorld). open_call (world_of s) n ≡ Some o → run_in (setting_of s) ((world_of s).log ++ more) o.call ≡ run_in (setting_of s) (world_of s).log o.call) c.self.view_is
-    (c.open_calls_keep_their_replies.ensures.reply (setting_of (system_of c.self.inside.holdings)) (world_of (system_of c.self.inside.holdings)) n o more c.self.invariant.together.world)
+    (c.open_calls_keep_their_replies.ensures.reply (setting_of (system_of c.self.inside)) (world_of (system_of c.self.inside)) n o more c.self.invariant.together.world)
 
 pub returns-clause-carried : goal.returns-clause-carried
 returns-clause-carried g c position e =
     subst (λ (s : SystemWorld). numbered s.entries position ≡ Some (CallEntry e) → e.reply ≡ (run_in (setting_of s) (world_of s).log e.call).reply) c.self.view_is
-    (c.entries_carry_serial_replies.ensures.carried (setting_of (system_of c.self.inside.holdings)) (system_of c.self.inside.holdings).entries position e c.self.invariant.together.entries.runs)
+    (c.entries_carry_serial_replies.ensures.carried (setting_of (system_of c.self.inside)) (system_of c.self.inside).entries position e c.self.invariant.together.entries.runs)
 
 pub returns-clause-serial : goal.returns-clause-serial
 returns-clause-serial g c position e =
     let is = c.self.invariant.together.entries in
     subst (λ (s : SystemWorld). numbered s.entries position ≡ Some (CallEntry e) → verdict_of (setting_of s) (world_of s).log position ≡ Some Commit → IsSerialReply (setting_of s) (world_of s).log position e.reply) c.self.view_is
-    (c.entries_carry_serial_replies.ensures.serial (setting_of (system_of c.self.inside.holdings)) (system_of c.self.inside.holdings).entries position e is.procedures is.log is.items is.runs)
+    (c.entries_carry_serial_replies.ensures.serial (setting_of (system_of c.self.inside)) (system_of c.self.inside).entries position e is.procedures is.log is.items is.runs)

@@ -4,7 +4,7 @@ use Rattle.log_model.specs.Entries.{items_of}
 use Rattle.dsm_model.specs.World.{addition_count}
 use Rattle.replica.specs.Replica.{IsForTables, entries_of}
 use Rattle.dsm_world.specs.System.{progress_of}
-use Rattle.dsm_world.specs.Holdings.{IsTogether, open_calls_of}
+use Rattle.dsm_world.specs.Together.{IsTogether, open_calls_of}
 use Rattle.dsm_world.proofs.RunLemmas.{first_of, first_together}
 use Rattle.dsm_world.proofs.world.World.new.Goals as goal
 

@@ -74,3 +74,12 @@ returns-clause-exits g c n call p =
     → longest_path p.program ≤ turns_of n (map (step_of (setting_of s)) c.args.steps.now) c.loop-step.outcomes.items
     → HasExited n (run_in w (world_of t).log call).reply (map (step_of (setting_of s)) c.args.steps.now) c.loop-step.outcomes.items) (sym c.loop-step.invariant.same)
     (c.enough_turns_reach_exit.ensures.exit (setting_of s) (world_of s) (map (step_of (setting_of s)) c.args.steps.now) c.loop-step.outcomes.items (world_of t) n call p c.keeps_what_was_delivered.ensures.procedures given c.keeps_what_was_delivered.ensures.world done)
+
+pub returns-clause-verdicts : goal.returns-clause-verdicts
+returns-clause-verdicts g c j position v told =
+    let s = c.args.self.now in
+    let t = c.loop-step.self in
+    let all = take_all c.args.steps.now c.loop-step.step-index c.loop-step-test.false in
+    let done = subst (λ (xs : List Step). AreSteps (setting_of s) (world_of s) (map (step_of (setting_of s)) xs) c.loop-step.outcomes.items (world_of t)) all c.loop-step.invariant.done in
+    subst (λ (w : Setting). verdict_of w (world_of t).log position ≡ Some v) (sym c.loop-step.invariant.same)
+    (c.delivered_verdicts_are_the_logs.ensures (setting_of s) (world_of s) (map (step_of (setting_of s)) c.args.steps.now) c.loop-step.outcomes.items (world_of t) j position v done told)

@@ -9,35 +9,29 @@ use Rattle.node_calls.proofs.running.RunningCall.turn.Goals as goal
 
 pub turn-requires : goal.turn-requires
 turn-requires g c =
-    let w = g.J.LogSetting.setting in
-    let me = c.self.inside in
-    let ready = ap (λ (r : RunningState g.row.A.Denot). r.last) c.self.view_is ∙ c.requires.going in (
-      w,
+    let me = c.self.inside in (
+      g.J.LogSetting.setting,
       log_seen me.begun.entries,
-      can_go_on w (λ rows. c.at.result.gone ≡ false → AnswersFrom c.at.result.versions.now.tables c.at.result.position rows) me.begun me.call c.accepted.result.now c.seen.result.now
-          c.is_of_the_log.ensures (c.self.invariant (ap stays_open ready)) c.accepted.ensures c.seen.ensures c.at.ensures.answers,
+      can_go_on g.J.LogSetting.setting (λ rows. c.at.result.gone ≡ false → AnswersFrom c.at.result.versions.now.tables c.at.result.position rows) me.begun me.call c.accepted.result.now c.seen.result.now
+          c.is_of_the_log.ensures (c.self.invariant (ap (λ (r : RunningState g.row.A.Denot). stays_open r.last) c.self.view_is ∙ ap stays_open c.requires.going)) c.accepted.ensures c.seen.ensures c.at.ensures.answers,
     )
 
 pub invariant_of-self : goal.invariant_of-self
 invariant_of-self g c = λ stays.
-    let w = g.J.LogSetting.setting in
     let me = c.self.inside in
-    let ready = ap (λ (r : RunningState g.row.A.Denot). r.last) c.self.view_is ∙ c.requires.going in
-    let u = c.self.invariant (ap stays_open ready) in
+    let u = c.self.invariant (ap (λ (r : RunningState g.row.A.Denot). stays_open r.last) c.self.view_is ∙ ap stays_open c.requires.going) in
     let answers = λ (rows : Rows). c.at.result.gone ≡ false → AnswersFrom c.at.result.versions.now.tables c.at.result.position rows in
-    let can = can_go_on w answers me.begun me.call c.accepted.result.now c.seen.result.now c.is_of_the_log.ensures u c.accepted.ensures c.seen.ensures c.at.ensures.answers in
-    goes_on w c.at.result.gone answers me.begun c.accepted.result.now me.call c.turn.new.self c.turn.result u (c.turn.ensures.turn w (log_seen me.begun.entries) can) c.turn.ensures.last
-    (c.turn.ensures.goes_on w (log_seen me.begun.entries) can) stays
+    let can = can_go_on g.J.LogSetting.setting answers me.begun me.call c.accepted.result.now c.seen.result.now c.is_of_the_log.ensures u c.accepted.ensures c.seen.ensures c.at.ensures.answers in
+    goes_on g.J.LogSetting.setting c.at.result.gone answers me.begun c.accepted.result.now me.call c.turn.new.self c.turn.result u (c.turn.ensures.turn g.J.LogSetting.setting (log_seen me.begun.entries) can) c.turn.ensures.last
+    (c.turn.ensures.goes_on g.J.LogSetting.setting (log_seen me.begun.entries) can) stays
 
 pub returns-clause-turn : goal.returns-clause-turn
 returns-clause-turn g c =
-    let w = g.J.LogSetting.setting in
     let me = c.self.inside in
-    let ready = ap (λ (r : RunningState g.row.A.Denot). r.last) c.self.view_is ∙ c.requires.going in
-    let u = c.self.invariant (ap stays_open ready) in
+    let u = c.self.invariant (ap (λ (r : RunningState g.row.A.Denot). stays_open r.last) c.self.view_is ∙ ap stays_open c.requires.going) in
     let answers = λ (rows : Rows). c.at.result.gone ≡ false → AnswersFrom c.at.result.versions.now.tables c.at.result.position rows in
-    let can = can_go_on w answers me.begun me.call c.accepted.result.now c.seen.result.now c.is_of_the_log.ensures u c.accepted.ensures c.seen.ensures c.at.ensures.answers in
+    let can = can_go_on g.J.LogSetting.setting answers me.begun me.call c.accepted.result.now c.seen.result.now c.is_of_the_log.ensures u c.accepted.ensures c.seen.ensures c.at.ensures.answers in
     let there = length c.args.replica.now.entries in
-    let gone = c.at.ensures.gone ∙ ap (λ (xs : List (LogEntry g.row.A.Denot)). nat_lt w.window (there - length xs)) c.seen.ensures in
-    let turned = subst (λ (b : Bool). IsTurn w (log_seen me.begun.entries) b (open_call_of me.call) c.turn.result (open_call_of c.turn.new.self)) gone (c.turn.ensures.turn w (log_seen me.begun.entries) can) in
-    subst (λ (r : RunningState g.row.A.Denot). IsTurn w (log_seen r.entries) (nat_lt w.window (there - length r.entries)) r.progress c.turn.result (open_call_of c.turn.new.self)) c.self.view_is turned
+    let gone = c.at.ensures.gone ∙ ap (λ (xs : List (LogEntry g.row.A.Denot)). nat_lt g.J.LogSetting.setting.window (there - length xs)) c.seen.ensures in
+    let turned = subst (λ (b : Bool). IsTurn g.J.LogSetting.setting (log_seen me.begun.entries) b (open_call_of me.call) c.turn.result (open_call_of c.turn.new.self)) gone (c.turn.ensures.turn g.J.LogSetting.setting (log_seen me.begun.entries) can) in
+    subst (λ (r : RunningState g.row.A.Denot). IsTurn g.J.LogSetting.setting (log_seen r.entries) (nat_lt g.J.LogSetting.setting.window (there - length r.entries)) r.progress c.turn.result (open_call_of c.turn.new.self)) c.self.view_is turned

@@ -1,0 +1,15 @@
+//! The settings that all sites of an order have in common.
+
+use catalogue::Catalogue;
+use std::alloc::{Allocator, Global};
+
+/// The settings that all sites of an order have in common.
+#[derive(Drop)]
+pub struct SiteSettings<A: Allocator + Copy = Global> {
+    /// The window, 1 to 4,096.
+    pub window: u32,
+    /// The tables, and the procedures that there are from the beginning.
+    pub catalogue: Catalogue<A>,
+    /// True where the order may add procedures.
+    pub takes_additions: bool,
+}
