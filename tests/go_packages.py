@@ -7,6 +7,7 @@ from serving import Tree
 
 FUZZED = [("batch", "FuzzRead"), ("wire", "FuzzRead"), ("wire", "FuzzReadEntry"), ("layout", "FuzzPack"), ("api", "FuzzCall")]
 SECONDS = 20  # of fuzzing, for each
+MINUTES = 5  # that the tests of a package may take
 
 
 def there(tally):
@@ -17,9 +18,9 @@ def there(tally):
 
 
 def run_tests(tree, tally, *more):
-    """Counts the server's tests, and prints which failed."""
-    passed, failed, said = 0, [], {}
-    ran = tree.ran("go", "test", "-json", "-count=1", *more, "./...")
+    """Counts the server's tests, and prints which failed, and which were under way when their package did."""
+    passed, failed, said, ended = 0, [], {}, set()
+    ran = tree.ran("go", "test", "-json", "-count=1", f"-timeout={MINUTES}m", *more, "./...")
     for line in ran.stdout.splitlines():
         try:
             event = json.loads(line)
@@ -27,6 +28,8 @@ def run_tests(tree, tally, *more):
             print(line)  # what didn't compile
             continue
         name = (event["Package"], event.get("Test", ""))
+        if event["Action"] in ("pass", "fail", "skip"):
+            ended.add(name)
         if event["Action"] == "output":
             said.setdefault(name, []).append(event["Output"])
         elif event["Action"] == "fail" and "/" not in name[1]:
@@ -37,6 +40,9 @@ def run_tests(tree, tally, *more):
     failed = [it for it in failed if it[1] or not any(other[0] == it[0] and other[1] for other in failed)]
     for name in failed:
         print(f"{' '.join(name)}: FAILED\n{''.join(said.get(name, []))}", end="")
+    packages = {package for package, _ in failed}
+    for name in sorted(name for name in said if name[0] in packages and name not in ended):
+        print(f"{' '.join(name)}: DIDN'T END\n{''.join(said[name])}", end="")
     whole = ran.returncode == 0 and passed > 0
     print(f"tests of the server{' '.join(['', *more])}: {passed} passed, {len(failed)} failed", flush=True)
     tally.count(passed, len(failed) or int(not whole))

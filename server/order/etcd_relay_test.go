@@ -320,12 +320,24 @@ func TestAWatchThatFallsSilentIsMadeAgain(t *testing.T) {
 		}
 		return []*pb.WatchResponse{answer}, nil
 	}
+	isSilent := func() bool {
+		select {
+		case <-silent:
+			return true
+		default:
+			return false
+		}
+	}
 	w := etcd.opened(func(o *EtcdOptions) { o.Endpoints = []string{relay.url} })
 	w.untilBegun()
-	w.append1("a")
-	<-silent
-	if end := w.untilEnd(); end != 1 {
-		t.Errorf("the end is at %d", end)
+	count := uint64(0)
+	for !isSilent() { // a listing may have the first strings
+		it := w.append1(fmt.Sprint(count))
+		w.until("told or left out", func() bool { return w.own[it] > 0 || isSilent() })
+		count++
+	}
+	if end := w.untilEnd(); end != count {
+		t.Errorf("the end is at %d of %d", end, count)
 	}
 	w.sound()
 }

@@ -146,8 +146,11 @@ func TestNothingIsLostAndNothingIsTwice(t *testing.T) {
 	}
 	until := time.Now().Add(lasts)
 	go s.members(rand.New(rand.NewSource(seed)), until.Add(-time.Second))
-	ends := make(chan int)
-	go func() { ends <- s.fresh(until) }()
+	ends := make(chan int, 1)
+	go func() {
+		defer close(ends) // where an answer doesn't come in time, too
+		ends <- s.fresh(until)
+	}()
 	handed := s.callers(until)
 	asked := <-ends
 	s.calm.Store(true)

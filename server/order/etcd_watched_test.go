@@ -128,7 +128,7 @@ func (w *watched) tell(of *String) {
 // until waits for something to hold.
 func (w *watched) until(what string, holds func() bool) {
 	w.t.Helper()
-	for end := time.Now().Add(30 * time.Second); ; time.Sleep(2 * time.Millisecond) {
+	for end := time.Now().Add(time.Minute); ; time.Sleep(2 * time.Millisecond) {
 		w.mutex.Lock()
 		ok, told := holds(), fmt.Sprint(len(w.strings), " strings, ", w.said)
 		w.mutex.Unlock()
