@@ -115,14 +115,14 @@ pub goes_on : (bytes line after : List ℕ) (left new : Option (List ℕ)) (so_f
 goes_on bytes line after left new (rest, _, split, none) (p, more, e, is, clean, grown) =
     (more, is, moved bytes line rest p more after split e grown, subst HasNoLf (sym grown) (joined line p none clean))
 
-pub ends : (bytes line after : List ℕ) (left new : Option (List ℕ)) (so_far : Partly bytes left line) → IsPiece so_far.0 new line after piece.Ended → IsNext bytes new after next.Line
-ends bytes line after left new (rest, _, split, none) (p, more, e, is, clean, grown) =
-    (more, is, ap lines_of (moved bytes line rest p (10 ∷ more) after split e grown) ∙ lines_of-ended after more (subst HasNoLf (sym grown) (joined line p none clean)))
+pub ends : (bytes line after : List ℕ) (left new : Option (List ℕ)) (so_far : Partly bytes left line) → IsPiece so_far.0 new line after piece.Ended → length after ≤ max_line → IsNext bytes new after next.Line
+ends bytes line after left new (rest, _, split, none) (p, more, e, is, clean, grown) within =
+    (more, is, ap lines_of (moved bytes line rest p (10 ∷ more) after split e grown) ∙ lines_of-ended after more (subst HasNoLf (sym grown) (joined line p none clean)), within)
 
-pub ends_without : (bytes line after : List ℕ) (left new : Option (List ℕ)) (so_far : Partly bytes left line) → IsPiece so_far.0 new line after piece.AtEnd → 0 < length after → IsNext bytes new after next.Line
-ends_without bytes line after left new (rest, _, split, none) (e, is, same) some =
+pub ends_without : (bytes line after : List ℕ) (left new : Option (List ℕ)) (so_far : Partly bytes left line) → IsPiece so_far.0 new line after piece.AtEnd → 0 < length after → length after ≤ max_line → IsNext bytes new after next.Line
+ends_without bytes line after left new (rest, _, split, none) (e, is, same) some within =
     let all : bytes ≡ after = split ∙ ap (λ (t : List ℕ). line ++ t) e ∙ append-nil line ∙ sym same in
-    ([], is, ap lines_of all ∙ lines_of-last after (subst HasNoLf (sym same) none) some)
+    ([], is, ap lines_of all ∙ lines_of-last after (subst HasNoLf (sym same) none) some, within)
 
 pub is_end : (bytes line after : List ℕ) (left new : Option (List ℕ)) (so_far : Partly bytes left line) → IsPiece so_far.0 new line after piece.AtEnd → length after ≡ 0 → IsNext bytes new after next.AtEnd
 is_end bytes line [] left new (rest, _, split, none) (e, is, same) some = ap lines_of (split ∙ ap (λ (t : List ℕ). line ++ t) e ∙ append-nil line ∙ sym same)

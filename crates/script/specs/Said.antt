@@ -1,5 +1,5 @@
 -- What the lines of a script come to that is read whole, and why it isn't read.
-use Rattle.std.specs.Prelude.{◌≡◌, ◌⊎◌, ℕ, ◌+◌, List, [], ◌∷◌, Result, Ok, Err}
+use Rattle.std.specs.Prelude.{◌≡◌, ◌⊎◌, ◌≤◌, ℕ, ◌+◌, List, [], ◌∷◌, Result, Ok, Err}
 use Rattle.script.specs.declared.cause.FaultCause.{FaultCause}
 use Rattle.script.specs.declared.cause.FaultCause.TheVariants.{NoMemory}
 use Rattle.script.specs.declared.cause.ScriptFault.{ScriptFault}
@@ -22,8 +22,9 @@ said_from after at_end s number [] = at_end s
 said_from after at_end s number (line ∷ lines) =
     unless_faulty number (after s line) (λ next. said_from after at_end next (number + 1) lines)
 
--- it is at fault so, or memory was wanting, or the input failed
-abbrev pub IsStopOf : {X : Type 0} → Result X ScriptFault → Stop → Type 0
-IsStopOf said (Fault fault) = (fault.cause ≡ NoMemory) ⊎ (said ≡ Err fault)
-IsStopOf said (Input error) = Unit {0}
-IsStopOf said (Output error) = ⊥
+-- the stop is at the fault that is said, or memory was wanting, or the input failed; the number of a line where memory
+-- was wanting is at most the count of lines, and 0 before the first
+abbrev pub IsStopOf : {X : Type 0} → Result X ScriptFault → ℕ → Stop → Type 0
+IsStopOf said count (Fault fault) = ((fault.cause ≡ NoMemory) × (fault.line ≤ count)) ⊎ (said ≡ Err fault)
+IsStopOf said count (Input error) = Unit {0}
+IsStopOf said count (Output error) = ⊥

@@ -8,7 +8,7 @@ ghost use Rattle.script.specs.declared.cause.FaultCause.TheVariants.{Line, NoMem
 ghost use Rattle.script.specs.declared.cause.ScriptFault.{ScriptFault};
 ghost use Rattle.script.specs.declared.fault.LineFault.TheVariants.{Bytes};
 
-use crate::cause::FaultCause;
+use crate::cause::{FaultCause, ScriptFault};
 use crate::fault::LineFault;
 use crate::input::{MAX_LINE, Next, next_line};
 use crate::stop::{Stop, fault_at, out_of_memory};
@@ -56,9 +56,9 @@ pub trait LineReader<A: Allocator + Copy>: Drop {
             ⊎ (with_next (read_so_far self.old) line.now ≡ Err cause)) };
 
     /// Returns what the lines taken come to, where no more follow.
-    fn into_whole(self) -> Result<Self::Whole, Stop>
+    fn into_whole(self) -> Result<Self::Whole, ScriptFault>
         ensures exact { IfOk result (λ whole. at_end (read_so_far self) ≡ Ok (meant_by whole)) }
-        ensures stop { IfErr result (IsStopOf (at_end (read_so_far self))) }
+        ensures fault { IfErr result (λ fault. at_end (read_so_far self) ≡ Err fault) }
         ensures limits { IfOk result IsWithin };
 
     /// A line that is too long is at fault for its bytes, whatever they are.
@@ -73,9 +73,9 @@ pub fn read_lines<A: Allocator + Copy, R: BufRead, L: LineReader<A>>(
 ) -> Result<L::Whole, Stop>
     ensures exact { IfOk result (λ whole. (bytes : List ℕ) → R.remaining input.old ≡ Some bytes
         → said_from L.with_next L.at_end L.nothing_read 1 (lines_of bytes) ≡ Ok (L.meant_by whole)) }
-    // The stop is at the first fault, or memory is wanting, or the input failed.
+    // The stop is at the first fault, or memory is wanting at a line or before the first, or the input failed.
     ensures stop { IfErr result (λ stop. (bytes : List ℕ) → R.remaining input.old ≡ Some bytes
-        → IsStopOf (said_from L.with_next L.at_end L.nothing_read 1 (lines_of bytes)) stop) }
+        → IsStopOf (said_from L.with_next L.at_end L.nothing_read 1 (lines_of bytes)) (length (lines_of bytes)) stop) }
     ensures limits { IfOk result L.IsWithin }
 {
     let Ok(mut reader) = L::new(alloc) else {
@@ -87,7 +87,7 @@ pub fn read_lines<A: Allocator + Copy, R: BufRead, L: LineReader<A>>(
     for number in 1..u64::MAX {
         match next_line(input, &mut line) {
             Ok(Next::Line) => {}
-            Ok(Next::AtEnd) => return reader.into_whole(),
+            Ok(Next::AtEnd) => return reader.into_whole().map_err(Stop::Fault),
             Ok(Next::TooLong) => {
                 return Err(fault_at(number, FaultCause::Line(LineFault::Bytes)));
             }

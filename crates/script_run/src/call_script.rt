@@ -1,9 +1,10 @@
 //! The reading of a whole script.
 
-ghost use Rattle.std.specs.Prelude.{◌≡◌, ◌≤◌, ℕ, List, Some, Ok, IfOk, IfErr};
+ghost use Rattle.std.specs.Prelude.{◌≡◌, ◌≤◌, ℕ, List, length, Some, Ok, IfOk, IfErr};
 ghost use Rattle.schema.specs.declared.limits.TheConstants.{MAX_REPLICAS, MAX_WINDOW};
 ghost use Rattle.script_run.specs.Calls.{script_says};
 ghost use Rattle.script.specs.Said.{IsStopOf};
+ghost use Rattle.script.specs.Text.{lines_of};
 ghost use Rattle.script_run.specs.Reading.{said_by};
 
 use crate::call::ScriptCall;
@@ -33,9 +34,9 @@ pub fn read_script<A: Allocator + Copy, R: BufRead>(
 ) -> Result<CallScript<A>, Stop>
     ensures exact { IfOk result (λ s. (bytes : List ℕ) → R.remaining input.old ≡ Some bytes
         → script_says bytes ≡ Ok (said_by s)) }
-    // The stop is at the first fault, or memory is wanting, or the input failed.
+    // The stop is at the first fault, or memory is wanting at a line or before the first, or the input failed.
     ensures stop { IfErr result (λ stop. (bytes : List ℕ) → R.remaining input.old ≡ Some bytes
-        → IsStopOf (script_says bytes) stop) }
+        → IsStopOf (script_says bytes) (length (lines_of bytes)) stop) }
     ensures window { IfOk result (λ script. (1 ≤ script.window) × (script.window ≤ MAX_WINDOW)) }
     ensures replicas { IfOk result (λ script. (1 ≤ script.replicas) × (script.replicas ≤ MAX_REPLICAS)) }
 {

@@ -10,7 +10,7 @@ use crate::call::{ScriptCall, call_of};
 use crate::call_script::CallScript;
 use row_sets::Bytes;
 use script::{
-    Action, FaultCause, LineReader, Setting, Settings, Statement, Stop, fault_at, statement,
+    Action, FaultCause, LineReader, ScriptFault, Setting, Settings, Statement, statement,
 };
 use std::alloc::{AllocError, Allocator};
 
@@ -109,10 +109,13 @@ impl<A: Allocator + Copy> LineReader<A> for Reading<A> {
     }
 
     // Window and replicas have to be set.
-    fn into_whole(self) -> Result<CallScript<A>, Stop> {
+    fn into_whole(self) -> Result<CallScript<A>, ScriptFault> {
         let Reading { settings, calls } = self;
         let (Some(window), Some(replicas)) = (settings.window(), settings.replicas()) else {
-            return Err(fault_at(0, FaultCause::Place));
+            return Err(ScriptFault {
+                line: 0,
+                cause: FaultCause::Place,
+            });
         };
         Ok(CallScript {
             window,

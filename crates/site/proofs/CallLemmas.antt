@@ -1,6 +1,8 @@
 -- What a call that is asked for comes to, test by test.
-use Rattle.std.proofs.Common.{◌≡◌, ℕ, ◌<◌, ◌^◌, List, length, Option, Some, None, Result, Ok, Err, option_map, refl, sym, ap, subst, ◌∙◌}
+use Rattle.std.proofs.Common.{◌≡◌, ℕ, ◌<◌, ◌^◌, ◌==◌, Bool, true, false, cond, IsTrue, OnErr, List, length, Option, Some, None, Result, Ok, Err, option_map, refl, sym, ap, subst, ◌∙◌}
 use Rattle.std.proofs.lemmas.List.{length-map}
+use Rattle.std.specs.FinMap.{len}
+use Rattle.bpf_semantics.specs.Run.{Run}
 use Rattle.bpf_verify.specs.Flow.{Procedure}
 use Rattle.catalogue.specs.Catalogue.{accepted_of}
 use Rattle.catalogue.specs.Stored.{ListedProcedure, AreForTables, AreStored, listed_by_number, stored_procedures}
@@ -11,9 +13,9 @@ use Rattle.log_entry.specs.Bytes.{entry_bytes}
 use Rattle.log_model.specs.declared.refusal.CallRefusal.{CallRefusal}
 use Rattle.log_model.specs.declared.refusal.CallRefusal.TheVariants.{NoProcedure}
 use Rattle.log_model.specs.Admission.{admission}
-use Rattle.site_model.specs.declared.answer.CallAnswer.TheVariants.{Refused, Repeated, Cancelled, Submitted}
+use Rattle.site_model.specs.declared.answer.CallAnswer.TheVariants.{Refused, Repeated, Cancelled, Read, Submitted}
 use Rattle.site_model.specs.Order.{reply_at}
-use Rattle.site_model.specs.Answer.{Asked, answer_for, answer_of_admission, answer_of_run, asked_call, call_answer_behind, unless_cancelled, unless_repeated}
+use Rattle.site_model.specs.Answer.{Asked, answer_for, answer_of_admission, answer_of_run, asked_call, call_answer_behind, takes_memory, unless_cancelled, unless_repeated}
 use Rattle.site_model.specs.Standing.{executed}
 use Rattle.world_calls.specs.declared.completion.Completion.{Completion}
 use Rattle.world_calls.specs.declared.completion.Completion.TheVariants as completion
@@ -111,3 +113,25 @@ reply_fits w log call (completion.Cancelled snapshot code) bytes (cancelled, at)
 reply_fits w log call (completion.Read snapshot reply) bytes (none, no_writes, at, same) short told = subst (λ (n : ℕ). n < 2 ^ 64) same short
 reply_fits w log call (completion.Wrote e) bytes (none, writes, is_call, carries, fit) short told =
     subst (λ (n : ℕ). n < 2 ^ 64) (carries.reply ∙ ap (λ (x : Call). (run_in w log x).reply) is_call) short
+
+-- ---- memory
+
+pub on_err : {X E : Type 0} (r : Result X E) (P : Type 0) → P → OnErr r P
+on_err (Ok x) P p = tt
+on_err (Err e) P p = p
+
+pub on_err_gives : {X E : Type 0} (r : Result X E) (P Q : Type 0) → OnErr r P → (P → Q) → OnErr r Q
+on_err_gives (Ok x) P Q p f = tt
+on_err_gives (Err e) P Q p f = f p
+
+-- a run's answer takes memory, whatever the answer is
+run_takes : (position : ℕ) (r : Run) (bytes : List ℕ) (code : Option ℕ) → IsTrue (takes_memory (unless_cancelled position r bytes code))
+run_takes position r bytes (Some code) = refl
+run_takes position r bytes None = by_writes (len r.writes == 0)
+  where
+    by_writes : (b : Bool) → IsTrue (takes_memory (cond b (Read position r.reply) (Submitted bytes)))
+    by_writes true = refl
+    by_writes false = refl
+
+pub answer_of_run-takes_memory : (w : Setting) (log : Log) (call : Call) → IsTrue (takes_memory (answer_of_run w log call))
+answer_of_run-takes_memory w log call = run_takes call.snapshot (run_in w log call) (entry_bytes (CallEntry (executed w log call))) (run_in w log call).cancel_code

@@ -1,5 +1,5 @@
 -- A call that runs to its end on the rows of its snapshot.
-use Rattle.std.proofs.Common.{◌≡◌, ℕ, ◌-◌, ◌≤◌, nat_lt, Bool, true, false, ◌&&◌, List, length, Some, sym, ap, subst, ◌∙◌, arith}
+use Rattle.std.proofs.Common.{◌≡◌, ℕ, ◌≤◌, nat_lt, Bool, true, false, ◌&&◌, List, length, Some, sym, ap, subst, ◌∙◌, arith}
 use Rattle.std.proofs.lemmas.Bool.Decides.{nat_tests}
 use Rattle.std.proofs.lemmas.List.{length-map}
 use Rattle.schema.specs.Rows.{Rows, AreRows}
@@ -8,7 +8,7 @@ use Rattle.bpf_verify.specs.Flow.{Procedure}
 use Rattle.bpf_vm.specs.declared.turn.Turn.{Turn}
 use Rattle.bpf_vm.specs.declared.turn.Turn.TheVariants.{Exit, Stale}
 use Rattle.log_model.specs.Log.{StoredProcedure, Setting, Call, Log, IsLog, by_number, procedures_after, rows_after}
-use Rattle.log_model.specs.Entries.{Entry, item_of, items_of, CarryRuns, certified_entries_of, installed_from}
+use Rattle.log_model.specs.Entries.{Entry, item_of, items_of, certified_entries_of, installed_from}
 use Rattle.log_model.specs.Fit.{HasSafeProcedures, AllFitLog}
 use Rattle.log_model.specs.OpenCall.{OpenCall, makes_look}
 use Rattle.catalogue.specs.Catalogue.{accepted_of}

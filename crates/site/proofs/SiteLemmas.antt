@@ -17,7 +17,6 @@ use Rattle.log_model.specs.Log.{StoredProcedure, Catalogue, CertifiedItem, Setti
 use Rattle.log_model.specs.Fit.{HasSafeProcedures, IsSafe}
 use Rattle.site_model.specs.Fit.{AreFitEntries}
 use Rattle.log_model.specs.Name.{is_name}
-use Rattle.log_entry.specs.declared.entry.Entry.{Entry as LogEntry}
 use Rattle.log_entry.specs.declared.entry.Entry.TheVariants.{Addition}
 use Rattle.log_entry.specs.Head.{Head, NamedProcedure, CallHead, AdditionHead, head_of}
 use Rattle.log_model.specs.Entries.{Entry, ExecutedCall, CallEntry, AdditionEntry, item_of, items_of, CarriesRun, CarryRuns, certified_entries_of, installed_from}

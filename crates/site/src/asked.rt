@@ -1,11 +1,11 @@
 //! A call that a caller asks for.
 
-ghost use Rattle.std.specs.Prelude.{◌≡◌, ◌<◌, ◌^◌, ℕ, List, IfOk};
+ghost use Rattle.std.specs.Prelude.{◌≡◌, ◌<◌, ◌^◌, ℕ, List, IfOk, OnErr, IsTrue};
 ghost use Rattle.log_model.specs.Log.{Call, Setting};
 ghost use Rattle.log_model.specs.Entries.{Entry as ModelEntry, items_of};
 ghost use Rattle.world_calls.specs.OpenCall.{IsCompletion};
 ghost use Rattle.log_entry.specs.Bytes.{sequence_of, session_of};
-ghost use Rattle.site_model.specs.Answer.{answer_of_run, call_answer_behind};
+ghost use Rattle.site_model.specs.Answer.{answer_of_run, call_answer_behind, takes_memory};
 ghost use Rattle.site_model.specs.declared.answer.CallAnswer.TheVariants.{Submitted};
 ghost use Rattle.site_model.specs.Own.{IsAskedBehind};
 ghost use Rattle.site.specs.Replica.{StandsForLog, setting_of};
@@ -69,7 +69,7 @@ fn numbers_fit(procedure: u16, args_len: u16, snapshot: u32, request: Option<Req
     let _sequence = request.sequence;
 }
 
-/// Runs a call whole on the rows at the last position, and returns the answer. Changes nothing.
+/// Runs a call whole on the rows at the last position, and returns the answer. Changes nothing. Only a run takes memory.
 pub fn call<A: Allocator + Copy>(
     site: &SiteReplica<A>,
     asked: Asked<'_>,
@@ -80,6 +80,8 @@ pub fn call<A: Allocator + Copy>(
     ensures fits { IfOk result (λ answer. (entries : List ModelEntry) (bytes : List ℕ) → StandsForLog site.now entries
         → answered answer ≡ Submitted bytes
         → IsAskedBehind (setting_of site.now).setting entries (asked_of asked.entry)) }
+    ensures memory { OnErr result ((entries : List ModelEntry) → StandsForLog site.now entries
+        → IsTrue (takes_memory (call_answer_behind (setting_of site.now).setting entries (asked_of asked.entry)))) }
 {
     // Laws:
     entries_suffice();

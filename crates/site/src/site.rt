@@ -1,11 +1,11 @@
 //! A site.
 
-ghost use Rattle.std.specs.Prelude.{◌≡◌, ◌+◌, ◌<◌, ◌≤◌, ◌^◌, ◌++◌, [], ◌∷◌, ℕ, List, false, length, IfOk};
+ghost use Rattle.std.specs.Prelude.{◌≡◌, ◌+◌, ◌<◌, ◌≤◌, ◌^◌, ◌++◌, [], ◌∷◌, ℕ, List, false, length, IfOk, OnErr, IsTrue};
 ghost use Rattle.std.specs.FinMap as map;
 ghost use Rattle.log_model.specs.Log.{rows_after};
 ghost use Rattle.site_model.specs.Order.{Order, next_outcome, order_log};
 ghost use Rattle.schema.specs.declared.limits.TheConstants.{MAX_ARGUMENTS};
-ghost use Rattle.site_model.specs.Answer.{addition_answer, call_answer};
+ghost use Rattle.site_model.specs.Answer.{addition_answer, call_answer, takes_memory};
 ghost use Rattle.site_model.specs.declared.answer.CallAnswer.TheVariants.{Submitted};
 ghost use Rattle.site_model.specs.Own.{IsAskedOf};
 ghost use Rattle.site.specs.Replica.{StandsForOrder, setting_of};
@@ -125,12 +125,15 @@ impl<A: Allocator + Copy> Site<A> {
         replica.at(replica.position())
     }
 
-    /// Runs a call whole on the rows at the last position, and returns the answer. Changes nothing.
+    /// Runs a call whole on the rows at the last position, and returns the answer. Changes nothing. Only a run takes
+    /// memory.
     pub fn call(&self, asked: Asked<'_>) -> Result<CallAnswer<Entry<A>>, AllocError>
         ensures answer { IfOk result (λ answer. (order : Order) → StandsForOrder self.now order
             → answered answer ≡ call_answer (setting_of self.now) order (asked_of asked.entry)) }
         ensures fits { IfOk result (λ answer. (order : Order) (bytes : List ℕ) → StandsForOrder self.now order
             → answered answer ≡ Submitted bytes → IsAskedOf (setting_of self.now) order (asked_of asked.entry)) }
+        ensures memory { OnErr result ((order : Order) → StandsForOrder self.now order
+            → IsTrue (takes_memory (call_answer (setting_of self.now) order (asked_of asked.entry)))) }
     {
         call(&self.replica, asked)
     }

@@ -1,5 +1,5 @@
 -- What stands at the next position, by cases.
-use Rattle.std.proofs.Common.{◌≡◌, ℕ, suc, ◌+◌, ◌≤◌, ◌<◌, ◌-◌, ◌==◌, nat_le, nat_eq, Bool, true, false, not, cond, ◌&&◌, List, [], ◌∷◌, length, drop, Option, Some, None, All, refl, sym, ap, subst, ◌∙◌, arith}
+use Rattle.std.proofs.Common.{◌≡◌, ℕ, suc, ◌+◌, ◌≤◌, ◌<◌, ◌==◌, nat_le, nat_eq, Bool, true, false, not, cond, ◌&&◌, List, [], ◌∷◌, length, drop, Option, Some, None, All, refl, sym, ap, subst, ◌∙◌, arith}
 use Rattle.std.proofs.lemmas.Bool.Decides.{nat_tests}
 use Rattle.std.proofs.lemmas.List.Elements.{All-take, All-drop, All-tail}
 use Rattle.schema.specs.declared.limits.TheConstants.{MAX_ARGUMENTS}

@@ -1,5 +1,5 @@
 -- What a site answers to a caller, at the position that it has come to (this product's own rules).
-use Rattle.std.specs.Prelude.{ℕ, ◌==◌, not, if◌then◌else◌, List, length, Option, Some, None, Result, Ok, Err}
+use Rattle.std.specs.Prelude.{ℕ, ◌==◌, Bool, true, false, not, if◌then◌else◌, List, length, Option, Some, None, Result, Ok, Err}
 use Rattle.std.specs.FinMap.{len}
 use Rattle.bpf_code.specs.Program.{Program}
 use Rattle.bpf_semantics.specs.Run.{Run}
@@ -66,6 +66,14 @@ call_answer_behind w entries asked =
 -- and behind an order
 abbrev pub call_answer : SiteSetting → Order → Asked → CallAnswer (List ℕ)
 call_answer s order asked = call_answer_behind s.setting (order_entries s order) asked
+
+-- whether an answer comes of a run, for which memory is taken
+abbrev pub takes_memory : CallAnswer (List ℕ) → Bool
+takes_memory (Refused refusal) = false
+takes_memory (Repeated position reply) = false
+takes_memory (Cancelled position code) = true
+takes_memory (Read position reply) = true
+takes_memory (Submitted bytes) = true
 
 -- ---- additions
 

@@ -1,5 +1,5 @@
 -- What a site gives to be ordered.
-use Rattle.std.specs.Prelude.{◌≡◌, ℕ, List, length, Some}
+use Rattle.std.specs.Prelude.{◌≡◌, List, length, Some}
 use Rattle.log_model.specs.Log.{Setting, StoredProcedure, by_name, by_number, procedures_after}
 use Rattle.log_model.specs.Entries.{Entry, items_of}
 use Rattle.log_entry.specs.Fit.{CallFitsFields}

@@ -1,5 +1,5 @@
 -- What a site leaves on its output, and its exit status.
-use Rattle.std.specs.Prelude.{◌≡◌, ◌⊎◌, ℕ, ◌+◌, List, Option, Result, Ok, Err}
+use Rattle.std.specs.Prelude.{◌≡◌, ◌⊎◌, ◌≤◌, ℕ, ◌+◌, List, Option, Result, Ok, Err}
 use Rattle.std.specs.Io.KnownBytes.{Appends}
 use Rattle.byte_output.specs.Writes.{AppendsBeginning}
 use Rattle.script.specs.declared.cause.FaultCause.TheVariants.{NoMemory}
@@ -18,17 +18,20 @@ abbrev pub Leaves : SiteSetting → List ℕ → Option (List ℕ) → Option (L
 Leaves s bytes old new status = (text : List ℕ) × AreAllAnswers s bytes text
     × (((status ≡ 0) × Appends old new text) ⊎ ((status ≡ FAILED) × AppendsBeginning old new text))
 
--- memory was wanting before input and output were touched, and the number may be any; or memory was wanting at the line
--- with this number: the lines before are answered, and no more is written
-abbrev pub WantsAt : Type 0 → SiteSetting → List ℕ → Option (List ℕ) → Option (List ℕ) → ℕ → Type 0
-WantsAt IsUntouched s bytes old new number =
-    (IsUntouched × AnswersFirst s bytes old new 0) ⊎ ((before : ℕ) × (before + 1 ≡ number) × AnswersFirst s bytes old new before)
+-- memory was wanting before input and output were touched, and the number is at most the count of lines of the settings;
+-- or memory was wanting at the line of the input with this number: the lines before are answered, and no more is written
+abbrev pub WantsAt : Type 0 → ℕ → SiteSetting → List ℕ → Option (List ℕ) → Option (List ℕ) → ℕ → Type 0
+WantsAt IsUntouched setting_lines s bytes old new number =
+    (IsUntouched × (number ≤ setting_lines) × AnswersFirst s bytes old new 0)
+    ⊎ ((before : ℕ) × (before + 1 ≡ number) × AnswersFirst s bytes old new before)
 
 -- what failed is told: a stream, or memory with the number of a line
-abbrev pub TellsFailure : Type 0 → SiteSetting → List ℕ → Option (List ℕ) → Option (List ℕ) → Option (List ℕ) → Option (List ℕ) → Type 0
-TellsFailure IsUntouched s bytes old new old_faults new_faults =
+abbrev pub TellsFailure : Type 0 → ℕ → SiteSetting → List ℕ → Option (List ℕ) → Option (List ℕ) → Option (List ℕ) → Option (List ℕ)
+    → Type 0
+TellsFailure IsUntouched setting_lines s bytes old new old_faults new_faults =
     SaysStream old_faults new_faults
-    ⊎ ((number : ℕ) × WantsAt IsUntouched s bytes old new number × AppendsBeginning old_faults new_faults (fault_line (fault_at number NoMemory)))
+    ⊎ ((number : ℕ) × WantsAt IsUntouched setting_lines s bytes old new number
+    × AppendsBeginning old_faults new_faults (fault_line (fault_at number NoMemory)))
 
 -- the input and the output are as they were
 abbrev pub AreUntouched : {R W : Type 0} → R → R → W → W → Type 0
@@ -44,15 +47,16 @@ TellsFault old_faults new_faults status fault =
 -- ---- before it is told
 
 -- what a stop leaves of the answers
-abbrev pub LeavesUpTo : Type 0 → SiteSetting → List ℕ → Option (List ℕ) → Option (List ℕ) → Stop → Type 0
-LeavesUpTo IsUntouched s bytes old new (Fault fault) = (fault.cause ≡ NoMemory) × WantsAt IsUntouched s bytes old new fault.line
-LeavesUpTo IsUntouched s bytes old new (Input error) = (count : ℕ) × AnswersFirst s bytes old new count
-LeavesUpTo IsUntouched s bytes old new (Output error) =
+abbrev pub LeavesUpTo : Type 0 → ℕ → SiteSetting → List ℕ → Option (List ℕ) → Option (List ℕ) → Stop → Type 0
+LeavesUpTo IsUntouched setting_lines s bytes old new (Fault fault) =
+    (fault.cause ≡ NoMemory) × WantsAt IsUntouched setting_lines s bytes old new fault.line
+LeavesUpTo IsUntouched setting_lines s bytes old new (Input error) = (count : ℕ) × AnswersFirst s bytes old new count
+LeavesUpTo IsUntouched setting_lines s bytes old new (Output error) =
     (text : List ℕ) × AreAllAnswers s bytes text × AppendsBeginning old new text
 
-abbrev pub LeavesEnd : {T : Type 0} → Type 0 → SiteSetting → List ℕ → Option (List ℕ) → Option (List ℕ) → Result T Stop → Type 0
-LeavesEnd IsUntouched s bytes old new (Ok _) = (text : List ℕ) × AreAllAnswers s bytes text × Appends old new text
-LeavesEnd IsUntouched s bytes old new (Err stop) = LeavesUpTo IsUntouched s bytes old new stop
+abbrev pub LeavesEnd : {T : Type 0} → Type 0 → ℕ → SiteSetting → List ℕ → Option (List ℕ) → Option (List ℕ) → Result T Stop → Type 0
+LeavesEnd IsUntouched setting_lines s bytes old new (Ok _) = (text : List ℕ) × AreAllAnswers s bytes text × Appends old new text
+LeavesEnd IsUntouched setting_lines s bytes old new (Err stop) = LeavesUpTo IsUntouched setting_lines s bytes old new stop
 
 -- it stopped at the settings, for this fault or since something failed, and answered nothing
 abbrev pub StopsAtSettings : {T : Type 0} → ScriptFault → Result T Stop → Type 0

@@ -1,5 +1,5 @@
 -- What a site answers to the lines that are given to it, behind an order.
-use Rattle.std.specs.Prelude.{◌≡◌, ◌⊎◌, ℕ, ◌+◌, ◌==◌, if◌then◌else◌, List, [], ◌∷◌, ◌++◌, length, map, Option, Some, None, Result, Ok, Err}
+use Rattle.std.specs.Prelude.{◌≡◌, ◌⊎◌, IsTrue, ℕ, ◌+◌, ◌==◌, if◌then◌else◌, List, [], ◌∷◌, ◌++◌, length, map, Option, Some, None, Result, Ok, Err}
 use Rattle.std.specs.List.{concat}
 use Rattle.std.specs.FinMap.{contains_key, entries}
 use Rattle.schema.specs.Rows.{Key}
@@ -9,7 +9,7 @@ use Rattle.log_entry.specs.Head.{NamedProcedure, head_of}
 use Rattle.script.specs.declared.fault.LineFault.{LineFault}
 use Rattle.site_model.specs.Standing.{SiteSetting}
 use Rattle.site_model.specs.Order.{Order, next_outcome, order_log, request_in}
-use Rattle.site_model.specs.Answer.{Asked, addition_answer, call_answer}
+use Rattle.site_model.specs.Answer.{Asked, addition_answer, call_answer, takes_memory}
 use Rattle.site_service.specs.declared.line.SiteLine.TheVariants.{Call, Add, Entry, Rows as RowsLine, Scan as ScanLine, Position}
 use Rattle.site_service.specs.declared.line.Scan.{Scan}
 use Rattle.site_service.specs.Lines.{SiteRequest}
@@ -56,10 +56,12 @@ scan_answer s order scan =
     then rows_text (length order) (scanned_rows scan (rows_after s.setting (order_log s order) (length order)))
     else no_table_line
 
--- where memory is wanting a call, and a procedure that is to be added, are refused for that
+-- a call whose answer takes memory is refused where memory is wanting
 abbrev pub IsCallAnswer : SiteSetting → Order → Asked → List ℕ → Type 0
-IsCallAnswer s order asked text = (text ≡ call_line (call_answer s order asked)) ⊎ (text ≡ no_memory_line)
+IsCallAnswer s order asked text = (text ≡ call_line (call_answer s order asked))
+    ⊎ ((text ≡ no_memory_line) × IsTrue (takes_memory (call_answer s order asked)))
 
+-- a procedure that is to be added is refused where memory is wanting
 abbrev pub IsAdditionAnswer : SiteSetting → NamedProcedure → List ℕ → Type 0
 IsAdditionAnswer s p text = (text ≡ addition_line (addition_answer s p)) ⊎ (text ≡ no_memory_line)
 

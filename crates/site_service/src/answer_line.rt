@@ -109,7 +109,7 @@ fn answer_request<A: Allocator + Copy, S: ByteSink>(
     }
 }
 
-/// Appends the answer to a call. A call that finds no memory is refused for that.
+/// Appends the answer to a call. A run that finds no memory is refused for want of memory.
 fn answer_call<A: Allocator + Copy, S: ByteSink>(site: &Site<A>, sink: &mut S, asked: Asked<'_>)
     ensures { (order : Order) → StandsForOrder site.now order → (text : List ℕ)
         × IsCallAnswer (setting_of site.now) order (asked_of asked.entry) text × S.appends sink.old sink.new text }

@@ -1,8 +1,9 @@
 //! A site over any streams.
 
-ghost use Rattle.std.specs.Prelude.{◌≡◌, ◌⊎◌, ℕ, List, Some, Ok, Err, IfOk, IfErr, IfSome};
+ghost use Rattle.std.specs.Prelude.{◌≡◌, ◌⊎◌, ℕ, List, length, Some, Ok, Err, IfOk, IfErr, IfSome};
 ghost use Rattle.script.specs.declared.cause.ScriptFault.{ScriptFault};
 ghost use Rattle.script.specs.Telling.{FAILED};
+ghost use Rattle.script.specs.Text.{lines_of};
 ghost use Rattle.site_model.specs.Standing.{SiteSetting};
 ghost use Rattle.site_service.specs.Settings.{settings_say};
 ghost use Rattle.site_service.specs.Leaving.{AreUntouched, Leaves, LeavesEnd, StopsAtSettings, TellsFailure, TellsFault};
@@ -39,10 +40,11 @@ pub fn site_over<A: Allocator + Copy, S: BufRead, R: BufRead, W: Write, E: Write
         (λ s. IfSome (R.remaining input.old)
         (λ bytes. Leaves s bytes (W.contents output.old) (W.contents output.new) result))) }
     // Where memory was wanting at a line of the input, its number is told, and the lines before are answered. Where
-    // memory was wanting earlier, input and output are untouched. Else a stream failed, and that is told.
+    // memory was wanting earlier, the number of a line of the settings is told, or 0, and input and output are
+    // untouched. Else a stream failed, and that is told.
     ensures failed { result ≡ FAILED → IfSome (S.remaining settings.old) (λ said. IfOk (settings_say said)
         (λ s. IfSome (R.remaining input.old) (λ bytes. TellsFailure
-        (AreUntouched input.old input.new output.old output.new) s bytes (W.contents output.old)
+        (AreUntouched input.old input.new output.old output.new) (length (lines_of said)) s bytes (W.contents output.old)
         (W.contents output.new) (E.contents faults.old) (E.contents faults.new)))) }
     // Nothing is said where nothing failed and the settings hold.
     ensures silent { result ≡ 0 → faults.new ≡ faults.old }
@@ -68,8 +70,8 @@ fn serve<A: Allocator + Copy, S: BufRead, R: BufRead, W: Write>(
         → settings_say said ≡ Err fault → output.new ≡ output.old }
     ensures answered { (said bytes : List ℕ) (s : SiteSetting) → S.remaining settings.old ≡ Some said
         → settings_say said ≡ Ok s → R.remaining input.old ≡ Some bytes
-        → LeavesEnd (AreUntouched input.old input.new output.old output.new) s bytes (W.contents output.old)
-        (W.contents output.new) result }
+        → LeavesEnd (AreUntouched input.old input.new output.old output.new) (length (lines_of said)) s bytes
+        (W.contents output.old) (W.contents output.new) result }
 {
     let settings = read_lines::<A, S, Reading<A>>(alloc, settings)?;
     let Ok(mut line) = Vec::with_capacity(alloc, MAX_SITE_LINE + 1) else {

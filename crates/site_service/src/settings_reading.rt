@@ -10,7 +10,7 @@ use crate::settings::SiteSettings;
 use crate::settings_line::{SettingsLine, SettingsWord};
 use row_sets::Bytes;
 use script::{
-    FaultCause, LineReader, MAX_LINE, Setting, Settings, Statement, Stop, fault_at, read_line,
+    FaultCause, LineReader, MAX_LINE, ScriptFault, Setting, Settings, Statement, read_line,
 };
 use std::alloc::{AllocError, Allocator};
 
@@ -96,13 +96,16 @@ impl<A: Allocator + Copy> LineReader<A> for Reading<A> {
     }
 
     // The window has to be set.
-    fn into_whole(self) -> Result<SiteSettings<A>, Stop> {
+    fn into_whole(self) -> Result<SiteSettings<A>, ScriptFault> {
         let Reading {
             settings,
             takes_additions,
         } = self;
         let Some(window) = settings.window() else {
-            return Err(fault_at(0, FaultCause::Place));
+            return Err(ScriptFault {
+                line: 0,
+                cause: FaultCause::Place,
+            });
         };
         Ok(SiteSettings {
             window,

@@ -1,4 +1,4 @@
-use Rattle.std.proofs.Common.{◌≡◌, ◌∙◌, nat_eq, Option, sym, ap, rules, tests, None}
+use Rattle.std.proofs.Common.{◌≡◌, ◌∙◌, nat_eq, Option, sym, ap, rules, tests}
 use Rattle.std.specs.Prelude.{find, option_map, reverse}
 use Rattle.std.specs.Borrow.{Bor}
 use Rattle.std.proofs.lemmas.Iterator.Adapters.{YieldsList-from_rev_slice}

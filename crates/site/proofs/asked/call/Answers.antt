@@ -1,4 +1,4 @@
-use Rattle.std.proofs.Common.{◌≡◌, ◌<◌, ◌^◌, ◌∙◌, ℕ, List, length, Some, None, Ok, Err, option_map, sym, ap, subst, arith}
+use Rattle.std.proofs.Common.{◌≡◌, ◌<◌, ◌^◌, ◌∙◌, ℕ, List, length, Some, None, Ok, Err, option_map, IsTrue, sym, ap, subst, arith}
 use Rattle.bpf_verify.specs.Flow.{Procedure}
 use Rattle.catalogue.specs.Catalogue.{accepted_of}
 use Rattle.log_model.specs.Log.{Call, Setting, by_number, first_repeated, history, procedures_after, run_in}
@@ -6,12 +6,12 @@ use Rattle.log_model.specs.Entries.{Entry, item_of, items_of}
 use Rattle.log_model.proofs.AdmissionLemmas.{admits, is_admitted}
 use Rattle.replica.specs.Replica.{Replica}
 use Rattle.site_model.specs.declared.answer.CallAnswer.TheVariants.{Repeated}
-use Rattle.site_model.specs.Answer.{asked_call}
+use Rattle.site_model.specs.Answer.{asked_call, takes_memory}
 use Rattle.site.specs.Run.{CanRun}
 use Rattle.site.specs.Replica.{setting_of}
 use Rattle.site.proofs.SiteLemmas.{can_run}
 use Rattle.site.specs.Answered.{asked_of}
-use Rattle.site.proofs.CallLemmas.{no_procedure, refused_call, repeated_call, run_call, none_found_in, found_in, same_call, reply_fits}
+use Rattle.site.proofs.CallLemmas.{answer_of_run-takes_memory, on_err, no_procedure, refused_call, repeated_call, run_call, none_found_in, found_in, same_call, reply_fits}
 use Rattle.std.proofs.lemmas.List.{length-map}
 use Rattle.site.proofs.asked.call.Goals as goal
 
@@ -108,3 +108,14 @@ returns-clause-fits g c entries bytes stands told =
             (reply_fits w log _ c.in_ok-completion.completion bytes completed c.answer_of.ensures.short (sym (c.answer_of.ensures.answer w entries _ completed) ∙ told));
       };
     }
+
+pub returns-in_err-completion-clause-memory : goal.returns-in_err-completion-clause-memory
+returns-in_err-completion-clause-memory g c = on_err c.from_residual.result _ (λ entries stands.
+    let s = c.args.site.now in
+    let w = (setting_of s).setting in
+    let asked = asked_of c.args.asked in
+    let f = found_in s entries c.procedures-procedures.result.now c.entries_suffice.ensures.procedures stands (c.procedures-procedures.ensures ∙ ap (λ (r : Replica). r.procedures) c.replica.ensures) c.args.asked.name.now c.in-Some.procedure c.found_by_name_is_found_by_number.ensures c.stored_procedures_are_consistent.ensures (sym c.in-Some.is ∙ c.by_name.ensures) in
+    let admitted = admits asked.args asked.request f.p c.in-Ok.ensures.admitted.0 (f.answered asked.args asked.request (Ok c.in-Ok.ensures.admitted.0) c.in-Ok.ensures.admitted.1) in
+    let first : first_repeated (history w (items_of entries)).certified (asked_call (items_of entries) f.p asked) ≡ None = sym (c.repeated.ensures entries stands) ∙ c.in_default-repeated.is in
+    subst (λ answer. IsTrue (takes_memory answer)) (run_call w entries asked f.p f.named admitted first)
+    (answer_of_run-takes_memory w (items_of entries) (asked_call (items_of entries) f.p asked)))

@@ -1,4 +1,4 @@
-use Rattle.std.proofs.Common.{[], sym, ap, refl, ◌∙◌, option_map, None}
+use Rattle.std.proofs.Common.{[], sym, ap, refl, ◌∙◌, option_map}
 use Rattle.log_entry.specs.Bytes.{entry_bytes}
 use Rattle.log_entry.specs.Kind.{entry_of}
 use Rattle.site.specs.SameBytes.{left_of}

@@ -1,4 +1,4 @@
-use Rattle.std.proofs.Common.{◌≡◌, ◌+◌, List, [], ◌∷◌, ◌++◌, subst}
+use Rattle.std.proofs.Common.{◌≡◌, List, [], ◌∷◌, ◌++◌, subst}
 use Rattle.log_model.specs.Entries.{Entry, items_of}
 use Rattle.site_model.specs.Standing.{standing}
 use Rattle.site_model.specs.declared.outcome.EntryOutcome.TheVariants as outcome

@@ -1,4 +1,4 @@
-use Rattle.std.proofs.Common.{◌++◌, Option, option_map, sym, subst, None}
+use Rattle.std.proofs.Common.{◌++◌, Option, option_map, sym, subst}
 use Rattle.std.specs.Borrow.{Bor}
 use Rattle.site.specs.SameBytes.{IsLeft}
 use Rattle.site.proofs.BytesLemmas.{piece_taken, others_came}
