@@ -1,6 +1,6 @@
-/* Small transactions on SQLite in memory, for comparison: sqlite write|read|start THREADS CALLS. The threads share one connection
-   and take turns at it, a transaction each: of a write it reads the row at one of 10,000 keys and writes it with 1 added, of a read
-   it reads it. The time is taken by whoever starts it (bench/node does). */
+/* Small transactions on SQLite in memory, for comparison: sqlite write|read|start THREADS CALLS KEYS. The threads share one
+   connection and take turns at it, a transaction each. A write reads the row at one of the keys and writes the row with 1 added, a
+   read reads the row. The time is taken by whoever starts it (bench/node does). */
 #include <pthread.h>
 #include <sqlite3.h>
 #include <stdint.h>
@@ -8,12 +8,10 @@
 #include <stdlib.h>
 #include <string.h>
 
-enum { KEYS = 10000 };
-
 static sqlite3 *database;
 static sqlite3_stmt *begin, *get, *put, *commit;
 static pthread_mutex_t turn = PTHREAD_MUTEX_INITIALIZER;
-static int threads, calls, writes;
+static int threads, calls, keys, writes;
 
 static void check(int status)
 {
@@ -52,7 +50,7 @@ static void *call_all(void *number)
     for (int call = (int)(uintptr_t)number; call < calls; call += threads) {
         drawn ^= drawn << 13, drawn ^= drawn >> 7, drawn ^= drawn << 17;
         pthread_mutex_lock(&turn);
-        transaction((int)(drawn % KEYS));
+        transaction((int)(drawn % keys));
         pthread_mutex_unlock(&turn);
     }
     return NULL;
@@ -67,14 +65,15 @@ static sqlite3_stmt *prepare(const char *text)
 
 int main(int count, char **words)
 {
-    if (count != 4) {
-        fprintf(stderr, "usage: sqlite write|read|start THREADS CALLS\n");
+    if (count != 5) {
+        fprintf(stderr, "usage: sqlite write|read|start THREADS CALLS KEYS\n");
         return 2;
     }
     writes = strcmp(words[1], "write") == 0;
     threads = atoi(words[2]);
     calls = strcmp(words[1], "start") == 0 ? 0 : atoi(words[3]);
-    if (threads < 1 || threads > 256) return 2;
+    keys = atoi(words[4]);
+    if (threads < 1 || threads > 256 || keys < 1) return 2;
     check(sqlite3_open(":memory:", &database));
     check(sqlite3_exec(database, "CREATE TABLE rows(key INTEGER PRIMARY KEY, value INTEGER)", NULL, NULL, NULL));
     begin = prepare("BEGIN IMMEDIATE");

@@ -1,5 +1,5 @@
 -- What a caller at a node hears.
-use Rattle.std.specs.Prelude.{◌≡◌, ◌≢◌, ◌↔◌, ◌≤◌, ℕ, List, length, Option, Some, None}
+use Rattle.std.specs.Prelude.{◌≡◌, ◌≢◌, ◌↔◌, ◌≤◌, ℕ, List, length, slice_get, Option, Some, None}
 use Rattle.std.specs.declared.alloc.Global.{Global}
 use Rattle.log_model.specs.declared.verdict.Verdict.{Verdict}
 use Rattle.log_model.specs.Log.{Setting, verdict_of}
@@ -18,6 +18,17 @@ pub record IsHeard {A : Type 0} (w : Setting) (replicas replica : ℕ) (a : Aske
   pub no_replica : (said ≡ NoReplica) ↔ IsNoReplica replicas replica
   pub none : said ≡ NoReplica → seen ≡ None
   pub answer : said ≢ NoReplica → IsAnswer w a said seen
+
+-- what is heard at a place is heard of what was asked at that place
+abbrev pub AreHeardOf : {A : Type 0} → Setting → ℕ → ℕ → List AskedCall → List (Answer × Option (List (LogEntry A))) → Type 0
+AreHeardOf {A} w replicas replica asked heard =
+    (place : ℕ) (a : AskedCall) (h : Answer × Option (List (LogEntry A))) → slice_get asked place ≡ Some a → slice_get heard place ≡ Some h
+    → IsHeard w replicas replica a h.0 h.1
+
+-- as much is heard as was asked, each at its place
+pub record AreHeard {A : Type 0} (w : Setting) (replicas replica : ℕ) (asked : List AskedCall) (heard : List (Answer × Option (List (LogEntry A)))) : Type 0 where
+  pub count : length heard ≡ length asked
+  pub each : AreHeardOf w replicas replica asked heard
 
 -- what is seen of a node's log
 abbrev pub Entries : Type 0

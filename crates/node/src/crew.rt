@@ -8,7 +8,7 @@ use crate::size::StartFault;
 use crossbeam_channel::{Receiver, Sender, bounded};
 use locked_replica::LogSetting;
 use node_calls::Gate;
-use served_replicas::{Request, Shared, deliver_all, serve};
+use served_replicas::{Calls, Shared, deliver_all, serve};
 use std::alloc::Global;
 use std::marker::Model;
 use std::sync::{Arc, Wait};
@@ -16,7 +16,7 @@ use std::thread;
 use std::thread::{JoinHandle, Threads};
 use tallies::{Ledgers, Shares};
 
-/// The number of requests that wait at a replica before a caller waits.
+/// The number of groups of calls that wait at a replica before a caller waits.
 const QUEUE: usize = 256;
 
 /// The shares of an executing thread: one part of each ledger.
@@ -34,10 +34,10 @@ impl<J: LogSetting + Ledgers> ThreadShares<J> {
         shared: &Shared<J, Global, Global, G>,
         replica: u32,
         thread: usize,
-        requests: &Receiver<Request<J>>,
+        asked: &Receiver<Arc<Calls<J>>>,
     ) -> ThreadShares<J> {
         let mut shares = self.shares;
-        serve(rt, shared, replica, thread, requests, &mut shares);
+        serve(rt, shared, replica, thread, asked, &mut shares);
         ThreadShares { shares }
     }
 }
@@ -74,7 +74,7 @@ impl<J: LogSetting + Ledgers + Send + Sync + 'static> Crew<J> {
     }
 
     /// Starts the threads of the replica of a number: `executors` that answer calls, and one that delivers. Returns the
-    /// channel for their requests. Where a thread isn't started, the others that were stay in the crew.
+    /// channel to them. Where a thread isn't started, the others that were stay in the crew.
     pub fn start_replica<
         G: Gate + Drop + Send + Sync + 'static,
         R: Threads + Wait + Copy + Send + Sync + 'static,
@@ -85,7 +85,7 @@ impl<J: LogSetting + Ledgers + Send + Sync + 'static> Crew<J> {
         shares: &mut Shares<J>,
         replica: u32,
         executors: u32,
-    ) -> Result<Sender<Request<J>>, StartFault>
+    ) -> Result<Sender<Arc<Calls<J>>>, StartFault>
         requires executors { executors ≤ MAX_EXECUTORS }
         requires parts { 17 ≤ shares.old.parts }
         ensures all { OnOk result (shares.new.parts + self.new.executors ≡ shares.old.parts + self.old.executors) }
@@ -113,7 +113,7 @@ impl<J: LogSetting + Ledgers + Send + Sync + 'static> Crew<J> {
         shares: &mut Shares<J>,
         replica: u32,
         thread: u32,
-        requests: &Receiver<Request<J>>,
+        asked: &Receiver<Arc<Calls<J>>>,
     ) -> Result<(), StartFault>
         requires { 1 < shares.old.parts }
         ensures parts { OnOk result (shares.new.parts + 1 ≡ shares.old.parts) }
@@ -126,7 +126,7 @@ impl<J: LogSetting + Ledgers + Send + Sync + 'static> Crew<J> {
         let Ok(theirs) = Arc::try_clone(shared) else {
             return Err(StartFault::NoMemory);
         };
-        let Ok(requests) = requests.clone() else {
+        let Ok(asked) = asked.clone() else {
             return Err(StartFault::NoMemory);
         };
         let mine = ThreadShares {
@@ -134,7 +134,7 @@ impl<J: LogSetting + Ledgers + Send + Sync + 'static> Crew<J> {
         };
         let runtime = *rt;
         let child = thread::spawn(rt, move || {
-            mine.serve(&runtime, &theirs, replica, thread as usize, &requests)
+            mine.serve(&runtime, &theirs, replica, thread as usize, &asked)
         });
         let Ok(child) = child else {
             return Err(StartFault::NoThread);
@@ -171,7 +171,7 @@ impl<J: LogSetting + Ledgers + Send + Sync + 'static> Crew<J> {
         Ok(())
     }
 
-    /// Waits until all threads have ended. First the threads that answer calls end, when nobody sends requests any
+    /// Waits until all threads have ended. First the threads that answer calls end, when nobody asks for calls any
     /// more. The threads that deliver end then, at the end of the log. The shares then have what was counted.
     pub fn end<G: Gate, R: Threads + Wait>(
         self,

@@ -1,23 +1,23 @@
 //! The part of a node that callers share.
 
-ghost use Rattle.std.specs.Prelude.{◌≡◌, ◌≤◌, Some, None, IfSome};
-ghost use Rattle.node_calls.specs.Answer.{IsAnswer};
-ghost use Rattle.node.specs.Requests.{IsHeard, IsVerdictAt};
+ghost use Rattle.std.specs.Prelude.{◌≡◌, ◌≤◌, Some, None, IfSome, IfNone, IfOk};
+ghost use Rattle.node.specs.Requests.{IsHeard, AreHeard, IsVerdictAt, IsNoReplica};
 
-use crossbeam_channel::{Sender, bounded};
+use crate::pending::PendingCalls;
+use crossbeam_channel::Sender;
 use locked_replica::{LogSetting, OrderedEntries};
 use log_model::{RequestId, Verdict};
-use node_calls::{Answer, Asked, Gate};
+use node_calls::{Answer, Gate};
 use order_log::{Fact, Seen};
-use row_sets::Bytes;
-use served_replicas::{Reply, Request, Shared};
-use std::alloc::Global;
+use served_replicas::{CallRequest, Calls, Shared};
+use std::alloc::{AllocError, Global};
 use std::marker::Model;
+use std::slice;
 use std::sync::{Arc, Wait};
 use tallies::Ledgers;
 
 /// The answer, and what was seen of the log then.
-type Answered<J> = (Answer, Option<Seen<J>>);
+pub(crate) type Answered<J> = (Answer, Option<Seen<J>>);
 
 /// The part of a node that callers share. Contracts see the number of replicas.
 #[derive(Drop)]
@@ -26,8 +26,10 @@ where
     OrderedEntries<J>: Fact,
 {
     pub(crate) shared: Arc<Shared<J, Global, Global, G>>,
-    /// The channels for requests, one for each replica.
-    pub(crate) requests: Vec<Sender<Request<J>>>,
+    /// The channels to the executing threads, one for each replica.
+    pub(crate) senders: Vec<Sender<Arc<Calls<J>>>>,
+    /// The number of executing threads a replica.
+    pub(crate) executors: usize,
     pub(crate) alloc: Global,
 }
 
@@ -41,9 +43,9 @@ where
 
     ghost Value = { NodeState };
 
-    ghost view = { λ d. record { replicas = vec_len d.requests } };
+    ghost view = { λ d. record { replicas = vec_len d.senders } };
 
-    ghost invariant = { λ d. vec_len d.requests ≡ (arc_value d.shared).replicas };
+    ghost invariant = { λ d. vec_len d.senders ≡ (arc_value d.shared).replicas };
 }
 
 impl<J: LogSetting + Ledgers + Send + Sync + 'static, G: Gate + Drop + Send + Sync + 'static> Desk<
@@ -54,7 +56,7 @@ impl<J: LogSetting + Ledgers + Send + Sync + 'static, G: Gate + Drop + Send + Sy
     pub fn replicas(&self) -> usize
         ensures { result ≡ self.now.replicas }
     {
-        self.requests.len()
+        self.senders.len()
     }
 
     /// Executes a call of a procedure at a replica, and returns the answer. The call sees the log at least up to the
@@ -70,7 +72,13 @@ impl<J: LogSetting + Ledgers + Send + Sync + 'static, G: Gate + Drop + Send + Sy
         ensures { IsHeard J.setting self.now.replicas replica
             (record { least = least; procedure = procedure; args = args.now; request = None }) result.0 result.1 }
     {
-        self.ask(rt, replica, least, procedure, args, None)
+        let request = CallRequest {
+            least,
+            procedure,
+            args,
+            request: None,
+        };
+        self.execute_request(rt, replica, &request)
     }
 
     /// Like `execute`, but idempotent: at most one of the calls that share a request id commits. Each of these calls
@@ -92,63 +100,124 @@ impl<J: LogSetting + Ledgers + Send + Sync + 'static, G: Gate + Drop + Send + Sy
               request = Some request;
             }) result.0 result.1 }
     {
-        self.ask(rt, replica, least, procedure, args, Some(request))
+        let request = CallRequest {
+            least,
+            procedure,
+            args,
+            request: Some(request),
+        };
+        self.execute_request(rt, replica, &request)
     }
 
-    fn ask<R: Wait>(
+    /// Asks for calls at a replica, and returns at once. `PendingCalls::hear` waits for the answers. The calls may run at
+    /// once, and in any order. Asks for none where memory for the answers is wanting.
+    ///
+    /// Waits only where 256 groups of calls are asked for at the replica that no executing thread has taken up.
+    pub fn ask<'a, R: Wait>(
+        &'a self,
+        rt: &R,
+        replica: u32,
+        requests: &'a [CallRequest<'a>],
+    ) -> Result<PendingCalls<'a, J, G>, AllocError>
+        ensures replicas { IfOk result (λ pending. pending.replicas ≡ self.now.replicas) }
+        ensures replica { IfOk result (λ pending. pending.replica ≡ replica) }
+        ensures requests { IfOk result (λ pending. pending.requests ≡ requests.now) }
+    {
+        let answers = Vec::with_capacity(self.alloc, requests.len())?;
+        let calls = self.send(rt, replica, requests);
+        Ok(PendingCalls {
+            desk: self,
+            replica,
+            requests,
+            calls,
+            answers,
+        })
+    }
+
+    /// Executes calls at a replica, each as `execute` does, and returns the answers in the order of the calls. The
+    /// calls may run at once, and in any order. Executes none where memory for the answers is wanting.
+    pub fn execute_many<R: Wait>(
         &self,
         rt: &R,
         replica: u32,
-        least: u32,
-        procedure: u16,
-        args: &[u8],
-        request: Option<RequestId>,
-    ) -> Answered<J>
-        ensures { IsHeard J.setting self.now.replicas replica
-            (record { least = least; procedure = procedure; args = args.now; request = request }) result.0 result.1 }
+        requests: &[CallRequest<'_>],
+    ) -> Result<Vec<Answered<J>>, AllocError>
+        ensures { IfOk result (λ answers. AreHeard J.setting self.now.replicas replica requests.now answers.items) }
     {
-        let Some(place) = (replica as usize).checked_sub(1) else {
+        Ok(self.ask(rt, replica, requests)?.hear(rt))
+    }
+
+    /// Executes a call at a replica, and returns the answer.
+    fn execute_request<R: Wait>(
+        &self,
+        rt: &R,
+        replica: u32,
+        request: &CallRequest<'_>,
+    ) -> Answered<J>
+        ensures { IsHeard J.setting self.now.replicas replica request.now result.0 result.1 }
+    {
+        let calls = self.send(rt, replica, slice::from_ref(request));
+        if let Some(calls) = &calls {
+            calls.wait(rt);
+        }
+        self.answer_at(rt, calls.as_deref(), 0, replica, request)
+    }
+
+    /// The channel to the executing threads of the replica of a number.
+    fn sender(&self, replica: u32) -> Option<&Sender<Arc<Calls<J>>>>
+        ensures some { IfSome result (λ _. (1 ≤ replica) × (replica ≤ self.now.replicas)) }
+        ensures none { IfNone result (IsNoReplica self.now.replicas replica) }
+    {
+        if replica == 0 {
+            return None;
+        }
+        self.senders.get(replica as usize - 1)
+    }
+
+    /// Sends calls to the executing threads of a replica: to as many threads as there are calls, so that no call waits
+    /// behind another while a thread is idle. Returns `None` where there is no such replica, or memory is wanting.
+    fn send<R: Wait>(
+        &self,
+        rt: &R,
+        replica: u32,
+        requests: &[CallRequest<'_>],
+    ) -> Option<Arc<Calls<J>>> {
+        let sender = self.sender(replica)?;
+        let calls = Arc::new(self.alloc, Calls::new(self.alloc, requests).ok()?).ok()?;
+        for thread in 0..self.executors.min(requests.len()) {
+            let sent = match Arc::try_clone(&calls) {
+                Ok(theirs) => sender.send(rt, theirs).is_ok(),
+                Err(_) => false,
+            };
+            if !sent && thread == 0 {
+                return None;
+            }
+        }
+        Some(calls)
+    }
+
+    /// Returns the answer to the call at a place of those that were sent, from 0 on. A reply that was lost, as where
+    /// memory is wanting, is no memory.
+    pub(crate) fn answer_at<R: Wait>(
+        &self,
+        rt: &R,
+        calls: Option<&Calls<J>>,
+        place: usize,
+        replica: u32,
+        request: &CallRequest<'_>,
+    ) -> Answered<J>
+        ensures { IsHeard J.setting self.now.replicas replica request.now result.0 result.1 }
+    {
+        if self.sender(replica).is_none() {
             return self.unserved(Answer::NoReplica);
+        }
+        let Some(calls) = calls else {
+            return self.unserved(Answer::NoMemory);
         };
-        let Some(requests) = self.requests.get(place) else {
-            return self.unserved(Answer::NoReplica);
-        };
-        match self.reply_from(rt, requests, replica, least, procedure, args, request) {
+        match calls.answer(rt, place, replica, request) {
             Some(answered) => answered,
             None => self.unserved(Answer::NoMemory),
         }
-    }
-
-    /// Returns what an executing thread replies. Returns `None` where the request or its reply was lost, as where
-    /// memory is wanting.
-    fn reply_from<R: Wait>(
-        &self,
-        rt: &R,
-        requests: &Sender<Request<J>>,
-        replica: u32,
-        least: u32,
-        procedure: u16,
-        args: &[u8],
-        request: Option<RequestId>,
-    ) -> Option<Answered<J>>
-        ensures { IfSome result (λ r.
-            IsAnswer J.setting (record {
-              least = least;
-              procedure = procedure;
-              args = args.now;
-              request = request;
-            }) r.0 r.1) }
-    {
-        let (reply, replies) = bounded(self.alloc, 1).ok()?;
-        let asked = Asked {
-            least,
-            procedure,
-            args: Bytes::new(Vec::from_slice(self.alloc, args).ok()?),
-            request,
-        };
-        requests.send(rt, Request { asked, reply }).ok()?;
-        let reply: Reply<J> = replies.recv(rt).ok()?;
-        reply.answer_to(replica, least, procedure, args, request)
     }
 
     /// Returns an answer that no executing thread gave, and counts it apart.

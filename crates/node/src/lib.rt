@@ -4,11 +4,13 @@
 pub use desk::Desk;
 pub use ended::EndedReplica;
 pub use node::{Ended, Finish, Node};
-pub use served_replicas::{Added, ProgramRefusal, RebuildFault};
+pub use pending::PendingCalls;
+pub use served_replicas::{Added, CallRequest, ProgramRefusal, RebuildFault};
 pub use size::{Size, StartFault};
 
 mod crew;
 mod desk;
 mod ended;
 mod node;
+mod pending;
 mod size;

@@ -1,6 +1,6 @@
 //! A node: replicas of one log, their threads, and what callers share.
 
-ghost use Rattle.std.specs.Prelude.{◌≡◌, ◌≤◌, ◌<◌, ◌+◌, true, All, IfOk, IfErr, IfSome, IfNone, OnOk, Err, length};
+ghost use Rattle.std.specs.Prelude.{◌≡◌, ◌≤◌, ◌<◌, ◌+◌, ◌↔◌, true, All, IfOk, IfErr, IfSome, IfNone, OnOk, Err, length};
 ghost use Rattle.std.specs.Prelude.{vec_len, vec_capacity};
 ghost use Rattle.std.specs.Arc.{arc_value};
 ghost use Rattle.replica.specs.Replica.{AreEntriesOf, entries_of};
@@ -21,7 +21,7 @@ use locked_replica::{LockedReplica, LogSetting, OrderedEntries};
 use node_calls::{Gate, OpenGate};
 use order_log::{Fact, GroupCells, OrderLog, Seen};
 use schema::MAX_LOG;
-use served_replicas::{Added, RebuildFault, Request, Shared};
+use served_replicas::{Added, Calls, RebuildFault, Shared};
 use std::alloc::{AllocError, Global};
 use std::marker::Model;
 use std::sync::{Arc, RwLock, Wait};
@@ -170,7 +170,7 @@ impl<J: LogSetting + Ledgers + Send + Sync + 'static, G: Gate + Drop + Send + Sy
 
     /// Makes the replica of a number anew from the log, and returns the position that the new one has then.
     pub fn rebuild<R: Wait>(&self, rt: &R, replica: u32) -> Result<u32, RebuildFault>
-        ensures none { result ≡ Err NoReplica → IsNoReplica self.now.replicas replica }
+        ensures none { (result ≡ Err NoReplica) ↔ IsNoReplica self.now.replicas replica }
         ensures some { IfOk result (λ _. (1 ≤ replica) × (replica ≤ self.now.replicas)) }
     {
         self.desk.shared.rebuild(rt, replica)
@@ -207,10 +207,11 @@ impl<J: LogSetting + Ledgers + Send + Sync + 'static, G: Gate + Drop + Send + Sy
         } = self;
         let Desk {
             shared,
-            requests,
+            senders,
+            executors: _,
             alloc: _,
         } = desk;
-        drop(requests);
+        drop(senders);
         crew.end(rt, &shared, &mut shares);
         let totals = shared.gather(rt, &mut shares);
         for place in 0..shared.replicas() as u32 {
@@ -349,13 +350,13 @@ fn start_threads<
 {
     let mut shares = shares;
     let mut crew = Crew::new(alloc);
-    let mut requests = Vec::new(alloc);
+    let mut senders = Vec::new(alloc);
     let started = start_replicas(
         rt,
         alloc,
         &shared,
         &mut crew,
-        &mut requests,
+        &mut senders,
         &mut shares,
         size,
     );
@@ -363,7 +364,8 @@ fn start_threads<
         Ok(ended) => Ok(Node {
             desk: Desk {
                 shared,
-                requests,
+                senders,
+                executors: size.executors as usize,
                 alloc,
             },
             crew,
@@ -371,7 +373,7 @@ fn start_threads<
             ended,
         }),
         Err(fault) => {
-            drop(requests);
+            drop(senders);
             crew.end(rt, &shared, &mut shares);
             Err(fault)
         }
@@ -388,16 +390,16 @@ fn start_replicas<
     alloc: Global,
     shared: &Arc<Shared<J, Global, Global, G>>,
     crew: &mut Crew<J>,
-    requests: &mut Vec<Sender<Request<J>>>,
+    senders: &mut Vec<Sender<Arc<Calls<J>>>>,
     shares: &mut Shares<J>,
     size: Size,
 ) -> Result<Vec<EndedReplica<J>>, StartFault>
     requires size { IsSize size }
     requires shares { shares.old.parts ≡ 129 }
     requires crew { crew.old.executors ≡ 0 }
-    requires none { vec_len requests.old ≡ 0 }
+    requires none { vec_len senders.old ≡ 0 }
     ensures parts { OnOk result (shares.new.parts + crew.new.executors ≡ 129) }
-    ensures requests { OnOk result (vec_len requests.new ≡ size.replicas) }
+    ensures senders { OnOk result (vec_len senders.new ≡ size.replicas) }
     ensures room { IfOk result (λ ended. (vec_len ended ≡ 0) × (size.replicas ≤ vec_capacity ended)) }
     ensures fault { IfErr result IsWant }
 {
@@ -406,7 +408,7 @@ fn start_replicas<
     };
     for place in 0..size.replicas {
         let sender = crew.start_replica(rt, shared, shares, place + 1, size.executors)?;
-        if requests.push(sender).is_err() {
+        if senders.push(sender).is_err() {
             return Err(StartFault::NoMemory);
         }
     }

@@ -6,7 +6,7 @@ use crate::procedures::{
 };
 use locked_replica::LogSetting;
 use log_model::RequestId;
-use node::Desk;
+use node::{CallRequest, Desk};
 use node_calls::{Answer, OpenGate};
 use rand_core::utils::NextWord;
 use rand_pcg::Pcg32;
@@ -16,9 +16,6 @@ use std::sync::Wait;
 use std::thread;
 use std::thread::Threads;
 use tallies::{Counts, Ledgers};
-
-/// The number of keys where calls are measured.
-const KEYS: u32 = 10_000;
 
 /// The work of callers.
 #[derive(Clone, Copy, Debug, PartialEq, Eq)]
@@ -53,9 +50,17 @@ const FORTUNE: u64 = 1_000_000;
 pub(crate) struct Load {
     pub(crate) work: Work,
     pub(crate) replicas: u32,
-    /// The number of executing threads a replica, and of callers a replica.
+    /// The number of executing threads a replica.
     pub(crate) executors: u32,
+    /// The number of calls that are answered with their outcome. A call that is in conflict or stale is made anew, but in
+    /// a soak.
     pub(crate) calls: u32,
+    /// The number of callers in all.
+    pub(crate) callers: u32,
+    /// The number of calls that each caller has under way. In a soak each has one.
+    pub(crate) depth: u32,
+    /// The number of keys where calls are measured.
+    pub(crate) keys: u32,
     /// The number of entries that are kept, few in a soak, so that some calls are stale.
     pub(crate) window: u32,
     pub(crate) seed: u64,
@@ -77,6 +82,22 @@ struct DrawnCall {
     procedure: u16,
     words: [u64; 3],
     count: usize,
+}
+
+impl DrawnCall {
+    /// The bytes of all words.
+    fn bytes(&self) -> [u8; 24] {
+        let mut bytes = [0u8; 24];
+        for (place, word) in bytes.chunks_exact_mut(8).zip(&self.words) {
+            place.copy_from_slice(&word.to_le_bytes());
+        }
+        bytes
+    }
+
+    /// The number of bytes of the arguments.
+    fn len(&self) -> usize {
+        self.count.wrapping_mul(8)
+    }
 }
 
 impl Caller {
@@ -130,7 +151,8 @@ impl Caller {
         }
     }
 
-    fn draw_call(&mut self, work: Work) -> DrawnCall {
+    /// Draws a call of a work, at one of so many keys where the call is measured.
+    fn draw_call(&mut self, work: Work, keys: u32) -> DrawnCall {
         let (procedure, count) = match work {
             Work::Soak => return self.draw_mixed(),
             Work::Write => (ADD_NUMBER, 2),
@@ -138,7 +160,7 @@ impl Caller {
         };
         DrawnCall {
             procedure,
-            words: [u64::from(self.draw(KEYS)), 1, 0],
+            words: [u64::from(self.draw(keys)), 1, 0],
             count,
         }
     }
@@ -160,21 +182,17 @@ impl Caller {
         })
     }
 
-    /// Makes a call at a replica.
+    /// Makes a call of a soak at a replica.
     fn call<J: LogSetting + Ledgers + Send + Sync + 'static, R: Wait>(
         &mut self,
         rt: &R,
         session: &mut Session<'_, J, OpenGate>,
         replica: u32,
-        work: Work,
     ) -> Answer {
-        let drawn = self.draw_call(work);
-        let mut args = [0u8; 24];
-        for (place, word) in args.chunks_exact_mut(8).zip(&drawn.words) {
-            place.copy_from_slice(&word.to_le_bytes());
-        }
-        let args = args.get(..drawn.count.wrapping_mul(8)).unwrap_or(&[]);
-        match self.draw_request(work) {
+        let drawn = self.draw_call(Work::Soak, ACCOUNTS);
+        let bytes = drawn.bytes();
+        let args = bytes.get(..drawn.len()).unwrap_or(&[]);
+        match self.draw_request(Work::Soak) {
             Some(request) => {
                 session
                     .call_numbered(rt, replica, drawn.procedure, args, request)
@@ -182,6 +200,82 @@ impl Caller {
             }
             None => session.call(rt, replica, drawn.procedure, args).0,
         }
+    }
+
+    /// Makes the calls of a soak at a replica, one behind the other. Returns the counts of the answers.
+    fn soak<J: LogSetting + Ledgers + Send + Sync + 'static, R: Wait>(
+        &mut self,
+        rt: &R,
+        desk: &Desk<J, OpenGate>,
+        replica: u32,
+        calls: u32,
+    ) -> Counts {
+        let mut session = Session::new(desk);
+        let mut counts = Counts::new();
+        for _ in 0..calls {
+            count(&mut counts, self.call(rt, &mut session, replica));
+        }
+        counts
+    }
+
+    /// Makes some calls at a replica together. Returns the number that were answered with their outcome. The error is
+    /// want of memory.
+    fn call_together<J: LogSetting + Ledgers + Send + Sync + 'static, R: Wait>(
+        &mut self,
+        rt: &R,
+        alloc: Global,
+        desk: &Desk<J, OpenGate>,
+        load: Load,
+        replica: u32,
+        together: u32,
+        counts: &mut Counts,
+    ) -> Result<u32, AllocError> {
+        let mut drawn = Vec::with_capacity(alloc, together as usize)?;
+        for _ in 0..together {
+            let call = self.draw_call(load.work, load.keys);
+            drawn.push((call.procedure, call.bytes(), call.len()))?;
+        }
+        let mut requests = Vec::with_capacity(alloc, drawn.len())?;
+        for (procedure, bytes, len) in &drawn {
+            requests.push(CallRequest {
+                least: 0,
+                procedure: *procedure,
+                args: bytes.get(..*len).unwrap_or(&[]),
+                request: None,
+            })?;
+        }
+        let mut done = 0u32;
+        for (answer, _) in desk.execute_many(rt, replica, &requests)?.iter() {
+            count(counts, *answer);
+            if !matches!(answer, Answer::Conflict { .. } | Answer::Stale) {
+                done = done.wrapping_add(1);
+            }
+        }
+        Ok(done)
+    }
+
+    /// Makes calls at a replica, as many together as the load says. Returns the counts of the answers.
+    fn call_many<J: LogSetting + Ledgers + Send + Sync + 'static, R: Wait>(
+        &mut self,
+        rt: &R,
+        alloc: Global,
+        desk: &Desk<J, OpenGate>,
+        load: Load,
+        replica: u32,
+        calls: u32,
+    ) -> Result<Counts, AllocError> {
+        let mut counts = Counts::new();
+        let mut left = calls;
+        for _ in rt.forever() {
+            if left == 0 {
+                break;
+            }
+            let together = load.depth.min(left);
+            let done =
+                self.call_together(rt, alloc, desk, load, replica, together, &mut counts)?;
+            left = left.saturating_sub(done);
+        }
+        Ok(counts)
     }
 }
 
@@ -219,16 +313,16 @@ pub(crate) fn all(counts: &Counts) -> u64 {
     .fold(0u64, |sum, count| sum.wrapping_add(*count))
 }
 
-/// Runs a caller, by its place from 0 on: makes its share of the calls, at one replica and by a session of its own.
-/// Returns the counts of the answers.
+/// Runs a caller, by its place from 0 on: makes its share of the calls, at one replica. Returns the counts of the
+/// answers.
 fn call_from<J: LogSetting + Ledgers + Send + Sync + 'static, R: Wait>(
     rt: &R,
+    alloc: Global,
     desk: &Desk<J, OpenGate>,
     load: Load,
     place: usize,
-) -> Counts {
+) -> Result<Counts, AllocError> {
     let number = u32::try_from(place).unwrap_or(0);
-    let callers = load.replicas.wrapping_mul(load.executors);
     let replica = number
         .checked_rem(load.replicas)
         .unwrap_or(0)
@@ -238,42 +332,32 @@ fn call_from<J: LogSetting + Ledgers + Send + Sync + 'static, R: Wait>(
         requests: 0,
         generator: Pcg32::new(load.seed, u64::from(number)),
     };
-    let mut session = Session::new(desk);
-    let mut counts = Counts::new();
-    let calls = if load.work == Work::Start {
-        0
-    } else {
-        load.calls
-    };
-    for call in 0..calls {
-        if call.checked_rem(callers) == Some(number) {
-            let answer = caller.call(rt, &mut session, replica, load.work);
-            count(&mut counts, answer);
-        }
+    let share = load.calls.checked_div(load.callers).unwrap_or(0);
+    match load.work {
+        Work::Start => Ok(Counts::new()),
+        Work::Soak => Ok(caller.soak(rt, desk, replica, share)),
+        Work::Write | Work::Read => caller.call_many(rt, alloc, desk, load, replica, share),
     }
-    counts
 }
 
-/// Makes the calls of a load by as many callers as there are executing threads. Returns the counts of the answers. The
-/// error is want of memory.
+/// Makes the calls of a load. Returns the counts of the answers. The error is want of memory.
 pub(crate) fn call_all<J: LogSetting + Ledgers + Send + Sync + 'static, R: Threads + Wait + Sync>(
     rt: &R,
     alloc: Global,
     desk: &Desk<J, OpenGate>,
     load: Load,
 ) -> Result<Counts, AllocError> {
-    let callers = load.replicas.wrapping_mul(load.executors) as usize;
     let asked = thread::map_indices(
         rt,
         alloc,
-        callers,
-        &|place: usize| call_from(rt, desk, load, place),
+        load.callers as usize,
+        &|place: usize| call_from(rt, alloc, desk, load, place),
     )?;
-    Ok(
-        asked
-            .iter()
-            .fold(Counts::new(), |all, counts| sum(all, *counts)),
-    )
+    let mut counts = Counts::new();
+    for answered in asked.iter() {
+        counts = sum(counts, (*answered)?);
+    }
+    Ok(counts)
 }
 
 /// Gives each account its money, at replica 1.

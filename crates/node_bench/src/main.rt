@@ -1,8 +1,9 @@
 //! Many callers at a node of many replicas: transfers between accounts, counts, searches, calls that cancel, that only
 //! read and that are asked for again. `node_bench soak REPLICAS EXECUTORS CALLS SEED` compares the outcome with the
 //! plain replay of the log. The program fails where something isn't as it should be. `write`, `read` and `start` in
-//! place of `soak` only call, for measurements from outside, and compare nothing. The time is taken by whoever starts
-//! the program (bench/node does).
+//! place of `soak` only call, for measurements from outside, and compare nothing; the words CALLERS, DEPTH and KEYS
+//! may follow. Without them there are as many callers as executing threads, each with one call under way, and 10,000
+//! keys. The time is taken by whoever starts the program (bench/node does).
 #![tactic(auto)]
 
 ghost use Rattle.std.specs.Prelude.{◌≡◌};
@@ -153,13 +154,18 @@ fn asked(words: &[String]) -> anyhow::Result<Load> {
     let number = |place: usize| words.get(place).and_then(|word| word.parse::<u32>().ok());
     let work = words.get(1).and_then(|word| Work::from_word(word));
     let work = work.context("the first word is soak, write, read or start")?;
+    let replicas = number(2).context("the second word is how many replicas there are")?;
+    let executors = number(3).context("the third word is how many threads each has")?;
     Ok(Load {
         work,
         window: if work == Work::Soak { 16 } else { 4_096 },
-        replicas: number(2).context("the second word is how many replicas there are")?,
-        executors: number(3).context("the third word is how many threads each has")?,
+        replicas,
+        executors,
         calls: number(4).context("the fourth word is how many calls are made")?,
         seed: u64::from(number(5).context("the fifth word is a seed")?),
+        callers: number(6).unwrap_or(replicas.saturating_mul(executors)),
+        depth: number(7).unwrap_or(1).max(1),
+        keys: number(8).unwrap_or(10_000).max(1),
     })
 }
 

@@ -71,6 +71,23 @@ impl<A: Allocator> Bells<A> {
         }
     }
 
+    /// Wakes the delivering threads of all replicas but one, which is counted from 0. Call it when a thread of that
+    /// replica has ordered an entry, which it delivers itself.
+    pub fn ring_others(&self, index: usize) {
+        for (place, bell) in self.bells.iter().enumerate() {
+            if place != index {
+                bell.notify_all();
+            }
+        }
+    }
+
+    /// Wakes the delivering thread of a replica, counted from 0.
+    pub fn ring_at(&self, index: usize) {
+        if let Some(bell) = self.at(index) {
+            bell.notify_all();
+        }
+    }
+
     /// Returns the bell of a replica, counted from 0, where there is such a replica.
     pub fn at(&self, index: usize) -> Option<&EventCount> {
         match self.bells.get(index) {

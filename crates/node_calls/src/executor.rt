@@ -12,13 +12,14 @@ use crate::answer::Answer;
 use crate::asked::Asked;
 use crate::bells::{Bells, Waiter};
 use crate::gate::Gate;
-use crate::order::{answer_by, await_verdict, order};
+use crate::order::answer_by;
 use crate::run::{Ran, run};
-use locked_replica::{Begin, BegunCall, LockedReplica, LogSetting, OrderedEntries};
+use crate::served::ServedReplica;
+use locked_replica::{Begin, BegunCall, LogSetting, OrderedEntries};
 use log_entry::ExecutedCall;
 use order_log::{AppendFault, Fact, OrderLog, Seen};
 use std::alloc::Allocator;
-use std::sync::{RwLock, Wait};
+use std::sync::Wait;
 use world_calls::Completion;
 
 /// The parts with which an executing thread answers calls, and where the thread waits.
@@ -30,11 +31,13 @@ where
     /// The allocator for what calls take.
     pub alloc: P,
     pub log: &'a OrderLog<J, OrderedEntries<J>, P>,
-    pub replica: &'a RwLock<LockedReplica<J, A, P>>,
+    pub served: &'a ServedReplica<J, A, P>,
     pub gate: &'a G,
     pub waiter: &'a Waiter,
     /// The bells of the delivering threads.
     pub bells: &'a Bells<P>,
+    /// The place of the replica's own bell, counted from 0.
+    pub bell: usize,
 }
 
 impl<'a, J: LogSetting, A: Allocator + Copy, P: Allocator + Copy, G: Gate> Executor<
@@ -49,7 +52,7 @@ impl<'a, J: LogSetting, A: Allocator + Copy, P: Allocator + Copy, G: Gate> Execu
     pub fn answer<R: Wait>(&self, rt: &R, asked: &Asked<P>) -> (Answer, Option<Seen<J, P>>)
         ensures { IsAnswer J.setting asked.now result.0 result.1 }
     {
-        let begin = self.replica.read(rt).begin(
+        let begin = self.served.replica.read(rt).begin(
             asked.least,
             asked.procedure,
             asked.args.as_slice(),
@@ -81,7 +84,7 @@ impl<'a, J: LogSetting, A: Allocator + Copy, P: Allocator + Copy, G: Gate> Execu
         let ran = run(
             rt,
             self.alloc,
-            self.replica,
+            &self.served.replica,
             self.gate,
             self.waiter,
             begun,
@@ -132,9 +135,9 @@ impl<'a, J: LogSetting, A: Allocator + Copy, P: Allocator + Copy, G: Gate> Execu
     {
         let mut seen = seen;
         let reply = reply_of(&entry);
-        match order(self.log, self.bells, &mut seen, entry) {
+        match self.order(&mut seen, entry) {
             Ok(position) => {
-                let found = await_verdict(rt, self.replica, self.waiter, &seen);
+                let found = self.await_verdict(rt, &seen);
                 let answer = answer_by(self.log, &seen, position, reply, found);
                 (answer, Some(seen))
             }

@@ -9,6 +9,8 @@ pub use bells::{Bells, Waiter};
 pub use executor::Executor;
 pub use gate::{Gate, OpenGate};
 pub use helpers::calls_row_helper;
+pub use looking::{LOOKS, pause};
+pub use served::{Batch, ServedReplica};
 
 mod answer;
 mod asked;
@@ -16,6 +18,8 @@ mod bells;
 mod executor;
 mod gate;
 mod helpers;
+mod looking;
 mod order;
 mod run;
 mod running;
+mod served;

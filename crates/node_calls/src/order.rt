@@ -11,53 +11,76 @@ ghost use Rattle.node_calls.specs.Asked.{AskedCall};
 ghost use Rattle.node_calls.specs.Answer.{IsAppended, IsReplyAt, IsVerdict, IsAnswer, IsFinal, asked_call};
 
 use crate::answer::Answer;
-use crate::bells::{Bells, Waiter};
-use locked_replica::{Found, LockedReplica, LogSetting, OrderedEntries};
+use crate::executor::Executor;
+use crate::gate::Gate;
+use crate::looking::{LOOKS, pause};
+use locked_replica::{Found, LogSetting, OrderedEntries};
 use log_entry::{Entry, ExecutedCall};
 use log_model::{Verdict, verdicts_in_words_of_the_log};
 use order_log::{AppendFault, Fact, OrderLog, Seen};
 use replica::replicas_follow_the_log;
 use std::alloc::Allocator;
-use std::sync::{RwLock, Wait};
+use std::sync::Wait;
 
-/// Orders the entry of a call that has seen everything in `seen`, and wakes the delivering threads.
-pub(crate) fn order<J: LogSetting, P: Allocator + Copy>(
-    log: &OrderLog<J, OrderedEntries<J>, P>,
-    bells: &Bells<P>,
-    seen: &mut Seen<J, P>,
-    entry: ExecutedCall<P>,
-) -> Result<u32, AppendFault>
-    requires snapshot { entry.call.snapshot ≡ length seen.old }
-    requires ordered { IsOrderedCall J.setting (entries_of seen.old) entry }
-    ensures appended { IfOk result (λ position. IsAppended J.setting entry position seen.new) }
-    ensures whole { result ≢ Err SnapshotUnseen }
-{
-    let appended = log.append(seen, Entry::Call(entry));
-    bells.ring();
-    appended
-}
-
-/// Waits until a replica has delivered the last entry that was seen, or has stopped before it.
-pub(crate) fn await_verdict<J: LogSetting, A: Allocator + Copy, P: Allocator + Copy, R: Wait>(
-    rt: &R,
-    replica: &RwLock<LockedReplica<J, A, P>>,
-    waiter: &Waiter,
-    seen: &Seen<J, P>,
-) -> Found
-    requires { 1 ≤ length seen.now }
-    ensures { IsFinal J.setting seen.now result }
-{
-    waiter.announce(seen.len());
-    for _ in rt.forever() {
-        let key = waiter.prepare();
-        let found = replica.read(rt).find(seen);
-        if found != Found::NotYet {
-            waiter.announce(0);
-            return found;
+impl<'a, J: LogSetting, A: Allocator + Copy, P: Allocator + Copy, G: Gate> Executor<
+    'a,
+    J,
+    A,
+    P,
+    G,
+> {
+    /// Orders the entry of a call that has seen everything in `seen`, and wakes the delivering threads of the other
+    /// replicas.
+    pub(crate) fn order(
+        &self,
+        seen: &mut Seen<J, P>,
+        entry: ExecutedCall<P>,
+    ) -> Result<u32, AppendFault>
+        requires snapshot { entry.call.snapshot ≡ length seen.old }
+        requires ordered { IsOrderedCall J.setting (entries_of seen.old) entry }
+        ensures appended { IfOk result (λ position. IsAppended J.setting entry position seen.new) }
+        ensures whole { result ≢ Err SnapshotUnseen }
+    {
+        let appended = self.log.append(seen, Entry::Call(entry));
+        if appended.is_ok() {
+            self.bells.ring_others(self.bell);
         }
-        key.wait(rt);
+        appended
     }
-    unreachable!()
+
+    /// Returns what became of the last entry that was seen, when the replica has delivered the entry or has stopped
+    /// before it. The thread delivers where nobody else has the replica's lock, and sleeps behind another who does.
+    pub(crate) fn await_verdict<R: Wait>(&self, rt: &R, seen: &Seen<J, P>) -> Found
+        requires { 1 ≤ length seen.now }
+        ensures { IsFinal J.setting seen.now result }
+    {
+        for look in 0..LOOKS {
+            if let Some(found) = self.served.try_deliver(self.log, seen) {
+                return found;
+            }
+            pause(look);
+        }
+        self.bells.ring_at(self.bell);
+        self.sleep_until_delivered(rt, seen)
+    }
+
+    /// Waits until the replica has delivered the last entry that was seen, or has stopped before it.
+    fn sleep_until_delivered<R: Wait>(&self, rt: &R, seen: &Seen<J, P>) -> Found
+        requires { 1 ≤ length seen.now }
+        ensures { IsFinal J.setting seen.now result }
+    {
+        self.waiter.announce(seen.len());
+        for _ in rt.forever() {
+            let key = self.waiter.prepare();
+            let found = self.served.replica.read(rt).find(seen);
+            if found != Found::NotYet {
+                self.waiter.announce(0);
+                return found;
+            }
+            key.wait(rt);
+        }
+        unreachable!()
+    }
 }
 
 /// The reply of the call at a position that was seen.

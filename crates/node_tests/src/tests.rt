@@ -13,7 +13,8 @@ mod calls;
 
 use calls::{
     CALLERS, REFUSALS, TWO_PUTS, addition_of, is_addition, is_as_in, is_committed, is_numbered,
-    is_one_session, is_overlap, numbered, often_add, often_put, one_session, overlap, row_at,
+    is_one_session, is_overlap, is_together, numbered, often_add, often_put, one_session, overlap,
+    row_at, together,
 };
 
 /// A case that is tried at a node.
@@ -21,6 +22,7 @@ use calls::{
 enum Case {
     OneSession,
     Overlap,
+    Together,
     TwoPuts,
     Adds,
     Puts,
@@ -54,6 +56,7 @@ impl Case {
         match self {
             Case::OneSession => End::new(1_001, Some(1_000), Some(1_000)),
             Case::Overlap => End::new(2, Some(2), Some(2)),
+            Case::Together => End::new(3, Some(2), Some(2)),
             Case::TwoPuts => End::new(2, Some(1), Some(1)),
             Case::Adds => End::new(200, None, None),
             Case::Puts => End::new(200, Some(200), Some(200)),
@@ -105,7 +108,7 @@ impl<'a> Asked for Trial<'a> {
     fn callers(&self) -> usize {
         match self.case {
             Case::Adds | Case::Puts => CALLERS,
-            Case::Overlap => 2,
+            Case::Overlap | Case::Together => 2,
             _ => 1,
         }
     }
@@ -115,6 +118,7 @@ impl<'a> Asked for Trial<'a> {
         match self.case {
             Case::OneSession => one_session(index),
             Case::Overlap => overlap(place, index),
+            Case::Together => together(place, index),
             Case::TwoPuts => row_at(&TWO_PUTS, index),
             Case::Adds => often_add(replicas, place, index),
             Case::Puts => often_put(replicas, place, index),
@@ -128,6 +132,7 @@ impl<'a> Asked for Trial<'a> {
         match self.case {
             Case::OneSession => is_one_session(index, told),
             Case::Overlap => is_overlap(self.size.executors == 1, place, told),
+            Case::Together => is_together(told),
             Case::TwoPuts => is_as_in(&TWO_PUTS, index, told),
             Case::Adds => true,
             Case::Puts => is_committed(told),
@@ -188,7 +193,7 @@ fn try_at_a_node<R: Threads + Wait + Abort + Copy + Send + Sync + 'static>(
         case,
         program: &program,
     };
-    let armed = matches!(case, Case::Overlap);
+    let armed = matches!(case, Case::Overlap | Case::Together);
     let ending = run_at_a_node(rt, alloc, size, armed, &PROCEDURES, &trial, 5);
     check_end(rt, &ending.expect(rt, "a node"), trial, case.end());
 }
@@ -205,9 +210,10 @@ static ONE_CALLER: [(NodeSize, Case); 5] = [
 ];
 
 /// Cases of several callers.
-static SEVERAL_CALLERS: [(NodeSize, Case); 4] = [
+static SEVERAL_CALLERS: [(NodeSize, Case); 5] = [
     ((1, 2, 4, LIMIT), Case::Overlap),
     ((1, 1, 4, LIMIT), Case::Overlap),
+    ((1, 2, 4, LIMIT), Case::Together),
     ((8, 16, 4, LIMIT), Case::Adds),
     ((2, 16, 4_096, LIMIT), Case::Puts),
 ];

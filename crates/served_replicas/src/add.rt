@@ -106,7 +106,7 @@ impl<J: LogSetting + Ledgers, A: Allocator + Copy, P: Allocator + Copy, G: Gate>
     /// Returns what a replica has delivered, so that an append doesn't go through all of the log.
     fn delivered<R: Wait>(&self, rt: &R) -> Seen<J, P> {
         match self.replica(1) {
-            Some(served) => served.replica.read(rt).seen(),
+            Some(served) => served.served.replica.read(rt).seen(),
             None => self.log.seen(),
         }
     }

@@ -3,18 +3,20 @@
 #![tactic(auto)]
 
 pub use add::{Added, ProgramRefusal};
+pub use calls::Calls;
 pub use delivering::deliver_all;
 pub use executing::serve;
 pub use kind::kind_of;
 pub use rebuild::RebuildFault;
-pub use request::{Reply, Request};
-pub use shared::{ServedReplica, Shared};
+pub use reply::{CallRequest, Reply};
+pub use shared::Shared;
 
 mod add;
+mod calls;
 mod delivering;
 mod executing;
 mod kind;
 mod node_catalogue;
 mod rebuild;
-mod request;
+mod reply;
 mod shared;

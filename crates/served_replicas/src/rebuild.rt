@@ -1,10 +1,10 @@
 //! A replica is made anew.
 
-ghost use Rattle.std.specs.Prelude.{◌≡◌, ◌≤◌, Err, IfOk, IfSome, length};
+ghost use Rattle.std.specs.Prelude.{◌≡◌, ◌≤◌, ◌↔◌, Err, IfOk, IfSome, length};
 ghost use Rattle.served_replicas.specs.Replicas.{IsNoReplica};
 ghost use Rattle.served_replicas.specs.declared.rebuild.RebuildFault.TheVariants.{NoReplica};
 
-use crate::shared::{ServedReplica, Shared};
+use crate::shared::{ReplicaInMemory, Shared};
 use locked_replica::{Delivery, LockedReplica, LogSetting, OrderedEntries};
 use node_calls::Gate;
 use order_log::{Fact, OrderLog};
@@ -80,7 +80,7 @@ impl<J: LogSetting + Ledgers, A: Allocator + Copy, P: Allocator + Copy, G: Gate>
     /// Makes the replica of a number anew from the log. It then delivers again where it had stopped. Calls go on at the
     /// old replica until the new one, which has come no less far, is in its place. Returns the new one's position then.
     pub fn rebuild<R: Wait>(&self, rt: &R, replica: u32) -> Result<u32, RebuildFault>
-        ensures none { result ≡ Err NoReplica → IsNoReplica self.now.replicas replica }
+        ensures none { (result ≡ Err NoReplica) ↔ IsNoReplica self.now.replicas replica }
         ensures some { IfOk result (λ _. (1 ≤ replica) × (replica ≤ self.now.replicas)) }
     {
         let Some(served) = self.replica(replica) else {
@@ -89,7 +89,7 @@ impl<J: LogSetting + Ledgers, A: Allocator + Copy, P: Allocator + Copy, G: Gate>
         let Ok(position) = self.exchange(rt, served) else {
             return Err(RebuildFault::NoMemory);
         };
-        served.ring();
+        served.served.ring();
         if let Some(bell) = self.bell(replica) {
             bell.notify_all();
         }
@@ -100,13 +100,13 @@ impl<J: LogSetting + Ledgers, A: Allocator + Copy, P: Allocator + Copy, G: Gate>
     fn exchange<R: Wait>(
         &self,
         rt: &R,
-        served: &ServedReplica<J, A, P>,
+        served: &ReplicaInMemory<J, A, P>,
     ) -> Result<u32, AllocError> {
         let mut fresh = LockedReplica::new(
             served.alloc,
             self.catalogue.window(),
             self.catalogue.get(),
         )?;
-        catch_up_and_replace(rt, &served.replica, &mut fresh, &self.log)
+        catch_up_and_replace(rt, &served.served.replica, &mut fresh, &self.log)
     }
 }

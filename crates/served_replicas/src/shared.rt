@@ -8,7 +8,7 @@ use catalogue::Catalogue;
 use crossbeam_utils::CachePadded;
 use crossbeam_utils::sync::EventCount;
 use locked_replica::{LockedReplica, LogSetting, OrderedEntries};
-use node_calls::{Bells, Gate, Waiter};
+use node_calls::{Bells, Gate, ServedReplica};
 use order_log::{Fact, OrderLog};
 use std::alloc::{AllocError, Allocator, Global};
 use std::marker::Model;
@@ -17,13 +17,12 @@ use std::sync::atomic::{AtomicBool, AtomicU64};
 use std::sync::{Mutex, RwLock, Wait};
 use tallies::{Counts, Ledgers, Shares, Totals};
 
-/// A replica behind its lock, and the places where its executing threads wait.
+/// A replica that threads serve, with its memory.
 #[derive(Drop)]
-pub struct ServedReplica<J: LogSetting, A: Allocator + Copy = Global, P: Allocator + Copy = A> {
+pub struct ReplicaInMemory<J: LogSetting, A: Allocator + Copy = Global, P: Allocator + Copy = A> {
     /// The allocator for what the replica takes.
     pub(crate) alloc: A,
-    pub(crate) replica: RwLock<LockedReplica<J, A, P>>,
-    pub(crate) waiters: Vec<CachePadded<Waiter>, P>,
+    pub(crate) served: ServedReplica<J, A, P>,
 }
 
 /// The parts that the threads of a node share: the log, the replicas behind their locks, the waiting places, and the
@@ -37,7 +36,7 @@ where
     pub(crate) alloc: P,
     pub(crate) log: OrderLog<J, OrderedEntries<J>, P>,
     pub(crate) catalogue: NodeCatalogue<J, P>,
-    pub(crate) replicas: Vec<CachePadded<ServedReplica<J, A, P>>, P>,
+    pub(crate) replicas: Vec<CachePadded<ReplicaInMemory<J, A, P>>, P>,
     /// The bells of the delivering threads.
     pub(crate) bells: Bells<P>,
     pub(crate) gate: G,
@@ -63,47 +62,19 @@ where
     ghost invariant = { λ s. Unit {0} };
 }
 
-/// Makes waiting places for `count` executing threads.
-fn new_waiters<P: Allocator + Copy>(
-    alloc: P,
-    count: usize,
-) -> Result<Vec<CachePadded<Waiter>, P>, AllocError> {
-    let mut waiters = Vec::with_capacity(alloc, count)?;
-    for _ in 0..count {
-        waiters.push(CachePadded::new(Waiter::new()))?;
-    }
-    Ok(waiters)
-}
-
-impl<J: LogSetting, A: Allocator + Copy, P: Allocator + Copy> ServedReplica<J, A, P> {
+impl<J: LogSetting, A: Allocator + Copy, P: Allocator + Copy> ReplicaInMemory<J, A, P> {
     /// Makes a replica to which nothing was delivered, for `executors` executing threads.
     fn new(
         alloc: A,
         shared: P,
         catalogue: &NodeCatalogue<J, P>,
         executors: usize,
-    ) -> Result<ServedReplica<J, A, P>, AllocError> {
-        let waiters = new_waiters(shared, executors)?;
+    ) -> Result<ReplicaInMemory<J, A, P>, AllocError> {
         let replica = LockedReplica::new(alloc, catalogue.window(), catalogue.get())?;
-        Ok(ServedReplica {
+        Ok(ReplicaInMemory {
             alloc,
-            replica: RwLock::new(replica),
-            waiters,
+            served: ServedReplica::new(shared, replica, executors)?,
         })
-    }
-
-    /// Wakes the executing threads that wait for this position or a lower one.
-    pub(crate) fn ring_up_to(&self, position: u32) {
-        for waiter in self.waiters.iter() {
-            waiter.ring_up_to(position);
-        }
-    }
-
-    /// Wakes all executing threads of the replica.
-    pub(crate) fn ring(&self) {
-        for waiter in self.waiters.iter() {
-            waiter.ring();
-        }
     }
 }
 
@@ -154,7 +125,7 @@ impl<J: LogSetting + Ledgers, A: Allocator + Copy, P: Allocator + Copy, G: Gate>
     pub fn add_replica(&mut self, alloc: A, executors: usize) -> Result<(), AllocError>
         ensures { OnOk result (self.new.replicas ≡ self.old.replicas + 1) }
     {
-        let served = ServedReplica::new(alloc, self.alloc, &self.catalogue, executors)?;
+        let served = ReplicaInMemory::new(alloc, self.alloc, &self.catalogue, executors)?;
         self.replicas.push(CachePadded::new(served))?;
         Ok(())
     }
@@ -177,13 +148,13 @@ impl<J: LogSetting + Ledgers, A: Allocator + Copy, P: Allocator + Copy, G: Gate>
         ensures none { IfNone result (IsNoReplica self.now.replicas number) }
     {
         match self.replica(number) {
-            Some(served) => Some(&served.replica),
+            Some(served) => Some(&served.served.replica),
             None => None,
         }
     }
 
     /// The replica of a number, from 1 on.
-    pub(crate) fn replica(&self, number: u32) -> Option<&ServedReplica<J, A, P>>
+    pub(crate) fn replica(&self, number: u32) -> Option<&ReplicaInMemory<J, A, P>>
         ensures some { IfSome result (λ _. (1 ≤ number) × (number ≤ self.now.replicas)) }
         ensures none { IfNone result (IsNoReplica self.now.replicas number) }
     {

@@ -40,6 +40,11 @@ pub enum Asking {
         least: u32,
         call: AskedCall,
     },
+    /// Calls at a replica that are asked for together.
+    Together {
+        replica: u32,
+        calls: [AskedCall; 3],
+    },
     /// A call of the caller's session.
     InSession {
         replica: u32,
@@ -49,6 +54,11 @@ pub enum Asking {
     Position,
     /// The verdict on the entry at a position, at a replica.
     Verdict {
+        replica: u32,
+        position: u32,
+    },
+    /// The verdict on the entry at a position, at a replica, which the caller awaits as long as a loop goes.
+    AwaitVerdict {
         replica: u32,
         position: u32,
     },
@@ -62,6 +72,8 @@ pub enum Asking {
 #[derive(Clone, Copy)]
 pub enum Told {
     Answer(Answer),
+    /// The answers to calls that were asked for together, where memory was there for them.
+    Together(Option<[Answer; 3]>),
     Position(u32),
     /// The verdict, where the replica has come there, and the number of entries that it has delivered by now.
     Verdict(Option<(Verdict, u32)>),

@@ -4,7 +4,7 @@ use crate::asked::{Addition, Asked, AskedCall, Asking, Stray, Told, Words};
 use crate::gate::{Hold, HoldingGate};
 use locked_replica::LogSetting;
 use log_model::Verdict;
-use node::{Added, Desk, Node};
+use node::{Added, CallRequest, Desk, Node};
 use node_calls::Answer;
 use session::Session;
 use std::alloc::Global;
@@ -15,6 +15,9 @@ use tallies::Ledgers;
 
 /// The most questions of a caller.
 const MOST: usize = 10_000;
+
+/// The number of times that a loop yields before it gives up.
+const TURNS: u32 = 1_000_000;
 
 /// The argument block of as many words as there are, each least byte first.
 #[derive(Clone, Copy)]
@@ -57,6 +60,41 @@ fn answer_of<J: LogSetting + Ledgers + Send + Sync + 'static, R: Wait>(
     answer
 }
 
+/// The call as it is asked for, with the bytes of its arguments.
+fn request_of(call: AskedCall, block: &Block) -> CallRequest<'_> {
+    CallRequest {
+        least: 0,
+        procedure: call.procedure,
+        args: block.args(),
+        request: call.request,
+    }
+}
+
+/// Asks for calls at a replica together. Returns the answers, in the order of the calls.
+fn answers_of<J: LogSetting + Ledgers + Send + Sync + 'static, R: Wait>(
+    rt: &R,
+    desk: &Desk<J, HoldingGate>,
+    replica: u32,
+    calls: [AskedCall; 3],
+) -> Option<[Answer; 3]> {
+    let [one, two, three] = calls;
+    let blocks = [
+        Block::new(one.words),
+        Block::new(two.words),
+        Block::new(three.words),
+    ];
+    let requests = [
+        request_of(one, &blocks[0]),
+        request_of(two, &blocks[1]),
+        request_of(three, &blocks[2]),
+    ];
+    let answers = desk.ask(rt, replica, &requests).ok()?.hear(rt);
+    if answers.len() != requests.len() {
+        return None;
+    }
+    Some([answers.get(0)?.0, answers.get(1)?.0, answers.get(2)?.0])
+}
+
 fn answer_in<J: LogSetting + Ledgers + Send + Sync + 'static, R: Wait>(
     rt: &R,
     session: &mut Session<'_, J, HoldingGate>,
@@ -81,6 +119,23 @@ fn verdict_of<J: LogSetting + Ledgers + Send + Sync + 'static, R: Wait>(
     Some((verdict, seen.len()))
 }
 
+/// Waits for a verdict, as long as a loop goes.
+fn await_verdict<J: LogSetting + Ledgers + Send + Sync + 'static, R: Wait>(
+    rt: &R,
+    desk: &Desk<J, HoldingGate>,
+    replica: u32,
+    position: u32,
+) -> Option<(Verdict, u32)> {
+    for _ in 0..TURNS {
+        let found = verdict_of(rt, desk, replica, position);
+        if found.is_some() {
+            return found;
+        }
+        thread::yield_now();
+    }
+    None
+}
+
 /// Asks a question, and returns what the caller is told.
 fn told<J: LogSetting + Ledgers + Send + Sync + 'static, R: Wait>(
     rt: &R,
@@ -95,12 +150,18 @@ fn told<J: LogSetting + Ledgers + Send + Sync + 'static, R: Wait>(
             least,
             call,
         } => Told::Answer(answer_of(rt, desk, replica, least, call)),
+        Asking::Together { replica, calls } => {
+            Told::Together(answers_of(rt, desk, replica, calls))
+        }
         Asking::InSession { replica, call } => {
             Told::Answer(answer_in(rt, session, replica, call))
         }
         Asking::Position => Told::Position(session.position()),
         Asking::Verdict { replica, position } => {
             Told::Verdict(verdict_of(rt, desk, replica, position))
+        }
+        Asking::AwaitVerdict { replica, position } => {
+            Told::Verdict(await_verdict(rt, desk, replica, position))
         }
         Asking::AwaitHeld => {
             hold.await_held();

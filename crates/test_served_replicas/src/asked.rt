@@ -30,10 +30,8 @@ pub enum Question {
 pub enum Heard {
     /// The answer to an addition.
     Answer(Answer),
-    /// The answer is lost for want of memory.
+    /// No answer to what was asked.
     NoAnswer,
-    /// An answer to something else.
-    OtherAnswer,
     /// Memory for the request was wanting.
     NotAsked,
     /// The position to which a replica came that was made anew, or the cause for which it wasn't made.

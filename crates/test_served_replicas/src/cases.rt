@@ -79,8 +79,6 @@ pub struct RefusedGrowths {
     pub wanting: u32,
     /// The number of calls that were ordered, and not delivered at their replica.
     pub stopped: u32,
-    /// The number of answers that were lost.
-    lost: u32,
 }
 
 impl RefusedGrowths {
@@ -92,22 +90,21 @@ impl RefusedGrowths {
         ordered: 0,
         wanting: 0,
         stopped: 0,
-        lost: 0,
     };
 
-    /// Counts a call of which a growth was refused. Returns the place behind it.
-    fn place_after(&mut self, heard: Heard) -> Place {
-        match heard {
-            Heard::Answer(Answer::Committed { .. }) => self.ordered = self.ordered.wrapping_add(1),
-            Heard::Answer(Answer::Stopped { position }) => {
+    /// Counts a call of which a growth was refused. Returns the place behind the call, where it may be answered so.
+    fn place_after(&mut self, answer: Answer) -> Option<Place> {
+        match answer {
+            Answer::Committed { .. } => self.ordered = self.ordered.wrapping_add(1),
+            Answer::Stopped { position } => {
                 self.ordered = self.ordered.wrapping_add(1);
                 self.stopped = self.stopped.wrapping_add(1);
-                return Place::Rebuilding { position };
+                return Some(Place::Rebuilding { position });
             }
-            Heard::Answer(Answer::NoMemory) => self.wanting = self.wanting.wrapping_add(1),
-            _ => self.lost = self.lost.wrapping_add(1),
+            Answer::NoMemory => self.wanting = self.wanting.wrapping_add(1),
+            _ => return None,
         }
-        Place::Length
+        Some(Place::Length)
     }
 
     /// Returns the place where `refused` growths were refused so far, beside a log of this length.
@@ -140,18 +137,20 @@ impl RefusedGrowths {
     /// Tells whether this may be heard at the place, and goes on to the next place.
     fn hear(&mut self, heard: Heard) -> bool {
         match (self.place, heard) {
-            (Place::Call, Heard::OtherAnswer | Heard::NotAsked) => false,
-            (Place::Call, _) => {
-                self.place = self.place_after(heard);
-                true
-            }
+            (Place::Call, Heard::Answer(answer)) => match self.place_after(answer) {
+                Some(place) => {
+                    self.place = place;
+                    true
+                }
+                None => false,
+            },
             (Place::Rebuilding { position }, _) => {
                 self.place = Place::Length;
                 heard == Heard::Rebuilt(Ok(position))
             }
             (Place::Length, Heard::Length(length)) => {
                 self.place = Place::Refusals { length };
-                self.ordered <= length && length <= self.ordered.wrapping_add(self.lost)
+                self.ordered == length
             }
             (Place::Refusals { length }, Heard::Refusals(refused)) => {
                 self.place = self.place_of(refused, length);

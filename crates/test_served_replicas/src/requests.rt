@@ -1,90 +1,73 @@
-//! Requests and their replies.
+//! Calls that are asked for, and their answers.
 
 use crate::asked::{Heard, Mismatch, Question};
 use crate::cases::Case;
-use crossbeam_channel::{Receiver, Sender, bounded};
+use crossbeam_channel::Sender;
 use locked_replica::LogSetting;
-use node_calls::{Answer, Asked, OpenGate};
+use node_calls::{Answer, OpenGate};
 use order_log::Seen;
-use row_sets::Bytes;
 use scarce::Scarce;
 use schema::MAX_LOG;
-use served_replicas::{Reply, Request, Shared};
+use served_replicas::{CallRequest, Calls, Shared};
 use std::alloc::Allocator;
-use std::sync::Wait;
+use std::sync::{Arc, Wait};
 use tallies::Ledgers;
 
 /// The most questions.
 const MOST: usize = 10_000;
 
 /// Row 5, and the 10 that is added to it.
-const ARGS: [u8; 16] = [5, 0, 0, 0, 0, 0, 0, 0, 10, 0, 0, 0, 0, 0, 0, 0];
+static ARGS: [u8; 16] = [5, 0, 0, 0, 0, 0, 0, 0, 10, 0, 0, 0, 0, 0, 0, 0];
 
 /// The memory of both replicas, which may be refused.
 pub type Memories<'a> = (&'a Scarce, &'a Scarce);
 
-/// Makes a request to add, and the channel where its reply comes. Returns `None` where memory is wanting.
-fn addition<J: LogSetting, P: Allocator + Copy>(
-    alloc: P,
-    least: u32,
-) -> Option<(Request<J, P>, Receiver<Reply<J, P>, P>)> {
-    let args = Vec::from_slice(alloc, &ARGS).ok()?;
-    let (reply, replies) = bounded(alloc, 1).ok()?;
-    let asked = Asked {
-        least,
-        procedure: 1,
-        args: Bytes::new(args),
-        request: None,
-    };
-    Some((Request { asked, reply }, replies))
-}
+/// The channel to the threads that serve a replica.
+pub type ToReplica<J, P> = Sender<Arc<Calls<J, P>, P>, P>;
 
-/// Sends an addition, and returns its reply, and none where the reply is lost.
-fn reply_to<J: LogSetting, P: Allocator + Copy, R: Wait>(
+/// Sends an addition to a replica, and waits for its answer. Returns `None` where the answer isn't one to that.
+fn answer_from<J: LogSetting, P: Allocator + Copy, R: Wait>(
     rt: &R,
-    requests: &Sender<Request<J, P>, P>,
-    request: Request<J, P>,
-    replies: &Receiver<Reply<J, P>, P>,
-) -> Option<Reply<J, P>> {
-    match requests.send(rt, request) {
-        Ok(()) => replies.recv(rt).ok(),
-        Err(_) => None,
-    }
-}
-
-/// The answer of a reply to an addition, and none where it is a reply to something else.
-fn answer_of<J: LogSetting, P: Allocator + Copy>(
-    reply: Reply<J, P>,
+    sender: &ToReplica<J, P>,
+    calls: Arc<Calls<J, P>, P>,
     replica: u32,
-    least: u32,
+    request: &CallRequest<'_>,
 ) -> Option<Answer> {
-    let (answer, _) = reply.answer_to(replica, least, 1, &ARGS, None)?;
+    let theirs = Arc::try_clone(&calls).ok()?;
+    sender.send(rt, theirs).ok()?;
+    calls.wait(rt);
+    let (answer, _) = calls.answer(rt, 0, replica, request)?;
     Some(answer)
 }
 
-/// Returns what is heard of an addition at a replica, whose requests these are, while a growth of this memory is
-/// refused.
+/// Returns what is heard of an addition at a replica, while a growth of this memory is refused.
 fn add_at<J: LogSetting, P: Allocator + Copy, R: Wait>(
     rt: &R,
     alloc: P,
-    requests: &Sender<Request<J, P>, P>,
+    sender: &ToReplica<J, P>,
     memory: &Scarce,
     replica: u32,
     least: u32,
     growth: u64,
 ) -> Heard {
-    let Some((request, replies)) = addition(alloc, least) else {
+    let requests = [CallRequest {
+        least,
+        procedure: 1,
+        args: &ARGS,
+        request: None,
+    }];
+    let Ok(calls) = Calls::new(alloc, &requests) else {
+        return Heard::NotAsked;
+    };
+    let Ok(calls) = Arc::new(alloc, calls) else {
         return Heard::NotAsked;
     };
     memory.refuse_nth(growth);
-    let reply = reply_to(rt, requests, request, &replies);
+    let answer = answer_from(rt, sender, calls, replica, &requests[0]);
     memory.refuse_nth(0);
-    match reply {
+    match answer {
         None => Heard::NoAnswer,
-        Some(reply) => match answer_of(reply, replica, least) {
-            None => Heard::OtherAnswer,
-            Some(answer) => Heard::Answer(answer),
-        },
+        Some(answer) => Heard::Answer(answer),
     }
 }
 
@@ -115,10 +98,10 @@ fn heard<J: LogSetting + Ledgers, A: Allocator + Copy, P: Allocator + Copy, R: W
     alloc: P,
     shared: &Shared<J, A, P, OpenGate>,
     memories: Memories<'_>,
-    requests: &[Sender<Request<J, P>, P>; 2],
+    senders: &[ToReplica<J, P>; 2],
     question: Question,
 ) -> Heard {
-    let [to_first, to_second] = requests;
+    let [to_first, to_second] = senders;
     let (first, second) = memories;
     match question {
         Question::Add {
@@ -139,19 +122,19 @@ fn heard<J: LogSetting + Ledgers, A: Allocator + Copy, P: Allocator + Copy, R: W
     }
 }
 
-/// Asks two replicas, whose requests these are, all that a case asks. Returns the first answer that may not be heard,
+/// Asks two replicas all that a case asks. Returns the first answer that may not be heard,
 /// and none where all may.
 pub fn ask_all<J: LogSetting + Ledgers, A: Allocator + Copy, P: Allocator + Copy, R: Wait>(
     rt: &R,
     alloc: P,
     shared: &Shared<J, A, P, OpenGate>,
     memories: Memories<'_>,
-    requests: &[Sender<Request<J, P>, P>; 2],
+    senders: &[ToReplica<J, P>; 2],
     case: &mut Case,
 ) -> Option<Mismatch> {
     for index in 0..MOST {
         let question = case.next()?;
-        let heard = heard(rt, alloc, shared, memories, requests, question);
+        let heard = heard(rt, alloc, shared, memories, senders, question);
         if !case.hear(heard) {
             let heard = Some(heard);
             return Some(Mismatch { index, heard });

@@ -5,15 +5,15 @@ ghost use Rattle.tallies.specs.Shared.{names_by_place};
 
 use crate::asked::Mismatch;
 use crate::cases::Case;
-use crate::requests::{Memories, ask_all};
+use crate::requests::{Memories, ToReplica, ask_all};
 use catalogue::Catalogue;
-use crossbeam_channel::{Receiver, Sender, bounded};
+use crossbeam_channel::{Receiver, bounded};
 use locked_replica::LogSetting;
 use node_calls::OpenGate;
 use order_log::{GroupCells, OrderLog};
-use served_replicas::{Request, Shared, deliver_all, serve};
+use served_replicas::{Calls, Shared, deliver_all, serve};
 use std::alloc::{AllocError, Allocator, Global};
-use std::sync::Wait;
+use std::sync::{Arc, Wait};
 use std::thread;
 use std::thread::Threads;
 use tallies::{Blanks, Ledgers, Shares, Totals};
@@ -29,8 +29,8 @@ pub struct LogStart<P: Allocator + Copy> {
     pub window: u32,
 }
 
-/// The channels to which requests to both go, until nobody asks any more.
-type Callers<J, P> = Option<[Sender<Request<J, P>, P>; 2]>;
+/// The channels to both, until nobody asks any more.
+type Callers<J, P> = Option<[ToReplica<J, P>; 2]>;
 
 /// Who asks both: where requests take memory, the replicas' memory, and the case.
 #[derive(Drop)]
@@ -40,15 +40,15 @@ struct Asker<'a, P: Allocator + Copy> {
     case: &'a mut Case,
 }
 
-/// The ends of both replicas' requests, and the shares in which each counts its answers.
+/// The ends of the channels to both replicas, and the shares in which each counts its answers.
 #[derive(Drop)]
 struct Served<'a, J: LogSetting + Ledgers, P: Allocator + Copy> {
-    requests: &'a [Receiver<Request<J, P>, P>; 2],
+    asked: &'a [Receiver<Arc<Calls<J, P>, P>, P>; 2],
     one: &'a mut Shares<J>,
     other: &'a mut Shares<J>,
 }
 
-/// Asks both, and lets their requests' ends go, so that nobody serves them any more. Returns the first answer that may
+/// Asks both, and lets the channels to them go, so that nobody serves them any more. Returns the first answer that may
 /// not be heard.
 fn ask_to_the_end<J: LogSetting + Ledgers, A: Allocator + Copy, P: Allocator + Copy, R: Wait>(
     rt: &R,
@@ -56,13 +56,13 @@ fn ask_to_the_end<J: LogSetting + Ledgers, A: Allocator + Copy, P: Allocator + C
     asker: &mut Asker<'_, P>,
     callers: &mut Callers<J, P>,
 ) -> Option<Mismatch> {
-    let requests = callers.as_ref()?;
+    let senders = callers.as_ref()?;
     let mismatch = ask_all(
         rt,
         asker.alloc,
         shared,
         asker.memories,
-        requests,
+        senders,
         asker.case,
     );
     *callers = None;
@@ -76,15 +76,11 @@ fn serve_both<
     P: Allocator + Copy + Send + Sync,
     R: Threads + Wait + Sync,
 >(rt: &R, shared: &TwoReplicas<J, A, P>, served: Served<'_, J, P>) {
-    let Served {
-        requests,
-        one,
-        other,
-    } = served;
+    let Served { asked, one, other } = served;
     thread::join(
         rt,
-        || serve(rt, shared, 1, 0, &requests[0], one),
-        || serve(rt, shared, 2, 0, &requests[1], other),
+        || serve(rt, shared, 1, 0, &asked[0], one),
+        || serve(rt, shared, 2, 0, &asked[1], other),
     );
     shared.stop_deliveries();
 }
@@ -149,7 +145,7 @@ fn shared_by<J: LogSetting + Ledgers, A: Allocator + Copy, P: Allocator + Copy>(
     Ok(shared)
 }
 
-/// Makes the ends of both replicas' requests. Has both served and delivered to while they are asked, until nobody asks
+/// Makes the channels to both. Has both served and delivered to while they are asked, until nobody asks
 /// any more. Returns the first answer that may not be heard.
 fn serve_two<
     J: LogSetting + Ledgers + Send + Sync,
@@ -166,9 +162,9 @@ fn serve_two<
     let (to_first, at_first) = bounded(asker.alloc, 4)?;
     let (to_second, at_second) = bounded(asker.alloc, 4)?;
     let mut callers = Some([to_first, to_second]);
-    let requests = [at_first, at_second];
+    let asked = [at_first, at_second];
     let served = Served {
-        requests: &requests,
+        asked: &asked,
         one,
         other,
     };

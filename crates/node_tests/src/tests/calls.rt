@@ -73,14 +73,7 @@ fn in_session(procedure: u16, words: Words, request: Option<RequestId>) -> Optio
 pub(crate) fn one_session(index: usize) -> Option<Asking> {
     match index {
         0..=999 => in_session(ADD, args_of(5, 1), None),
-        1_000 => {
-            let none = Words {
-                count: 0,
-                first: 0,
-                second: 0,
-            };
-            in_session(ONE, none, None)
-        }
+        1_000 => in_session(ONE, NOTHING, None),
         _ => None,
     }
 }
@@ -138,6 +131,57 @@ pub(crate) fn is_overlap(alone: bool, place: usize, told: &Told) -> bool {
     match told {
         Told::Nothing => place == 1,
         told => is_answer(told, expected),
+    }
+}
+
+/// The arguments of a call that takes none.
+const NOTHING: Words = Words {
+    count: 0,
+    first: 0,
+    second: 0,
+};
+
+/// Three calls of the first caller that are asked for together, the first of which is held at its first look. The second
+/// caller awaits the put among them while that call is held.
+pub(crate) fn together(place: usize, index: usize) -> Option<Asking> {
+    match (place, index) {
+        (0, 0) => Some(Asking::Together {
+            replica: 1,
+            calls: [
+                AskedCall::new(ADD, ADD_TEN, None),
+                AskedCall::new(PUT, args_of(6, 1), None),
+                AskedCall::new(ONE, NOTHING, None),
+            ],
+        }),
+        (1, 0) => Some(Asking::AwaitHeld),
+        (1, 1) => Some(Asking::AwaitVerdict {
+            replica: 1,
+            position: 1,
+        }),
+        (1, 2) => Some(Asking::Release),
+        _ => None,
+    }
+}
+
+/// Tells whether no call waits behind the one that is held, and each answer stands at the place of its call.
+pub(crate) fn is_together(told: &Told) -> bool {
+    match told {
+        Told::Together(Some([added, put, one])) => {
+            *added
+                == Answer::Committed {
+                    position: 2,
+                    reply: 10,
+                }
+                && *put
+                    == Answer::Committed {
+                        position: 1,
+                        reply: 0,
+                    }
+                && matches!(one, Answer::Read { reply: 1, .. })
+        }
+        Told::Verdict(found) => matches!(found, Some((Verdict::Commit, 1))),
+        Told::Nothing => true,
+        _ => false,
     }
 }
 
