@@ -1,5 +1,5 @@
 -- What is heard at one more place.
-use Rattle.std.proofs.Common.{◌≡◌, ◌⊎◌, inl, inr, ℕ, zero, suc, ◌<◌, List, [], ◌∷◌, ◌++◌, length, slice_get, refl, sym, ap, ◌∙◌, arith, subst}
+use Rattle.std.proofs.Common.{◌≡◌, ◌⊎◌, inl, inr, ℕ, zero, suc, List, [], ◌∷◌, ◌++◌, length, slice_get, refl, sym, ap, ◌∙◌, subst}
 use Rattle.std.specs.Prelude.{Some, Option}
 use Rattle.log_model.specs.Log.{Setting}
 use Rattle.log_entry.specs.declared.entry.Entry.{Entry as LogEntry}
@@ -28,7 +28,7 @@ pub heard_next : {A : Type 0} (w : Setting) (replicas replica : ℕ) (asked : Li
 heard_next {A} w replicas replica asked heard a h here before new = λ place a' h' asks hears. elim (get_one_more heard h h' place hears) [
   | inl old ↦ before place a' h' asks old
   | inr last ↦ (
-        let at : slice_get asked place ≡ Some a = ap (slice_get asked) last.0 ∙ here in
-        let same : a ≡ a' = same_one a a' (sym at ∙ asks) in
-        subst (λ (x : Answer × Option (List (LogEntry A))). IsHeard w replicas replica a' x.0 x.1) last.1 (subst (λ (x : AskedCall). IsHeard w replicas replica x h.0 h.1) same new))
+      let at : slice_get asked place ≡ Some a = ap (slice_get asked) last.0 ∙ here in
+      let same : a ≡ a' = same_one a a' (sym at ∙ asks) in
+      subst (λ (x : Answer × Option (List (LogEntry A))). IsHeard w replicas replica a' x.0 x.1) last.1 (subst (λ (x : AskedCall). IsHeard w replicas replica x h.0 h.1) same new))
 ]

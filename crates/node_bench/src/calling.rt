@@ -271,8 +271,7 @@ impl Caller {
                 break;
             }
             let together = load.depth.min(left);
-            let done =
-                self.call_together(rt, alloc, desk, load, replica, together, &mut counts)?;
+            let done = self.call_together(rt, alloc, desk, load, replica, together, &mut counts)?;
             left = left.saturating_sub(done);
         }
         Ok(counts)

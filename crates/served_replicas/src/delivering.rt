@@ -5,8 +5,8 @@ use locked_replica::{LogSetting, OrderedEntries};
 use node_calls::{Gate, ServedReplica};
 use order_log::{Fact, OrderLog, Seen};
 use std::alloc::Allocator;
-use std::sync::atomic::Ordering::SeqCst;
 use std::sync::Wait;
+use std::sync::atomic::Ordering::SeqCst;
 use std::thread;
 use tallies::Ledgers;
 

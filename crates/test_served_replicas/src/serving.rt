@@ -57,14 +57,7 @@ fn ask_to_the_end<J: LogSetting + Ledgers, A: Allocator + Copy, P: Allocator + C
     callers: &mut Callers<J, P>,
 ) -> Option<Mismatch> {
     let senders = callers.as_ref()?;
-    let mismatch = ask_all(
-        rt,
-        asker.alloc,
-        shared,
-        asker.memories,
-        senders,
-        asker.case,
-    );
+    let mismatch = ask_all(rt, asker.alloc, shared, asker.memories, senders, asker.case);
     *callers = None;
     mismatch
 }

@@ -1,7 +1,7 @@
-use Rattle.std.proofs.Common.{◌≡◌, ℕ, length, List, slice_get, refl, sym, ap, ◌∙◌, arith, subst}
-use Rattle.std.specs.Prelude.{Some, vec_len, vec_capacity}
+use Rattle.std.proofs.Common.{◌≡◌, length, slice_get, refl, sym, ap, ◌∙◌, arith, subst}
+use Rattle.std.specs.Prelude.{Some, vec_len}
 use Rattle.std.proofs.lemmas.Option.{slice_get_read}
-use Rattle.node.specs.Requests.{AreHeardOf, AreHeard}
+use Rattle.node.specs.Requests.{AreHeard}
 use Rattle.node.specs.Nodes.{PendingState}
 use Rattle.node.proofs.HeardLemmas.{heard_next}
 use Rattle.node.proofs.pending.PendingCalls.hear.Goals as goal
