@@ -331,7 +331,9 @@ fn call_from<J: LogSetting + Ledgers + Send + Sync + 'static, R: Wait>(
         requests: 0,
         generator: Pcg32::new(load.seed, u64::from(number)),
     };
+    let rest = load.calls.checked_rem(load.callers).unwrap_or(0);
     let share = load.calls.checked_div(load.callers).unwrap_or(0);
+    let share = share.saturating_add(u32::from(number < rest));
     match load.work {
         Work::Start => Ok(Counts::new()),
         Work::Soak => Ok(caller.soak(rt, desk, replica, share)),
