@@ -1,15 +1,15 @@
-//! A program that opens a node of its own: three replicas, four callers with a session each, and a look at what came of
-//! it. docs/EMBEDDING.md goes through it.
+//! A program that opens a node of its own, makes a call in a session, and stops the node. docs/EMBEDDING.md goes through
+//! it.
 #![tactic(auto)]
 
 ghost use Rattle.std.specs.Prelude.{◌≡◌};
-ghost use Rattle.tallies.specs.Shared.{names_by_place};
+ghost use Rattle.tallies.specs.Tallies.{names_by_place};
 
 use bpf_bytes::decode;
 use bpf_verify::verify;
 use catalogue::Catalogue;
 use locked_replica::LogSetting;
-use node::{Desk, Node};
+use node::Node;
 use node_calls::{Answer, OpenGate};
 use order_log::GroupCells;
 use schema::Schema;
@@ -18,7 +18,6 @@ use std::alloc::Global;
 use std::marker::Brand;
 use std::process::ExitCode;
 use std::sync::Wait;
-use std::thread;
 use std::thread::Threads;
 use tallies::{Blanks, Ledgers};
 
@@ -29,15 +28,9 @@ bfa300000000000007030000f8ffffff850000000100000079a8f8ff00000000\
 bfa300000000000007030000f8ffffff8500000002000000bf80000000000000\
 9500000000000000";
 
-const REPLICAS: u32 = 3;
-
-const EXECUTORS: u32 = 2;
-
 const WINDOW: u32 = 64;
 
-const CALLERS: usize = 4;
-
-/// One table of rows of 8 bytes, and one procedure.
+/// One table of rows of 8 bytes, and one procedure, which takes 16 bytes of arguments.
 fn database(alloc: Global) -> Option<Catalogue> {
     let schema = Schema::new(alloc, &[(1, 8)]).ok()?;
     let code = decode(alloc, &hex::decode(alloc, ADD).ok()?).ok()?;
@@ -47,45 +40,8 @@ fn database(alloc: Global) -> Option<Catalogue> {
     Some(catalogue)
 }
 
-/// Adds 1 to row 5 at a replica. Asks again as long as another call came between. Tells whether it was done.
-fn add_one<J: LogSetting + Ledgers + Send + Sync + 'static, R: Wait>(
-    rt: &R,
-    session: &mut Session<'_, J, OpenGate>,
-    replica: u32,
-    args: &[u8],
-) -> bool {
-    for _ in 0..1_000 {
-        match session.call(rt, replica, 1, args).0 {
-            Answer::Committed { .. } => return true,
-            Answer::Conflict { .. } | Answer::Stale | Answer::Behind => thread::yield_now(),
-            _ => return false,
-        }
-    }
-    false
-}
-
-/// Makes the ten additions of a caller, by a session of its own. Returns the number that were done.
-fn call<J: LogSetting + Ledgers + Send + Sync + 'static, R: Wait>(
-    rt: &R,
-    desk: &Desk<J, OpenGate>,
-    caller: usize,
-) -> u64 {
-    let mut args = [0u8; 16];
-    args[0] = 5;
-    args[8] = 1;
-    let mut session = Session::new(desk);
-    let replica = (caller % REPLICAS as usize) as u32 + 1;
-    let mut done = 0u64;
-    for _ in 0..10 {
-        if add_one(rt, &mut session, replica, &args) {
-            done = done.saturating_add(1);
-        }
-    }
-    done
-}
-
-/// Opens a node, has callers call, and ends it. Returns the number of additions that were done, the number that
-/// committed, and whether the replicas agree.
+/// Opens a node of three replicas with two executing threads each, adds 10 to row 5 at the first replica, and stops the
+/// node. Returns the sum.
 fn use_node<
     J: LogSetting + Ledgers + Send + Sync + 'static,
     R: Threads + Wait + Copy + Send + Sync + 'static,
@@ -96,7 +52,7 @@ fn use_node<
     blanks: Blanks,
     catalogue: Catalogue,
     window: u32,
-) -> Option<(u64, u64, bool)>
+) -> Option<u64>
     requires cells { cells ≡ J.groups }
     requires ledgers { J.names ≡ names_by_place blanks }
     requires setting { J.setting ≡ record {
@@ -105,18 +61,15 @@ fn use_node<
       window = window;
     } }
 {
-    let started = Node::<J, OpenGate>::start(
-        rt, alloc, cells, blanks, REPLICAS, EXECUTORS, window, catalogue,
-    );
-    let node = started.ok()?;
-    let desk = node.desk();
-    let called = thread::map_indices(rt, alloc, CALLERS, &|caller: usize| call(rt, desk, caller));
-    let finish = node.finish(rt);
-    let done = called
-        .ok()?
-        .iter()
-        .fold(0u64, |sum, done| sum.saturating_add(*done));
-    Some((done, finish.totals.committed, finish.agreement))
+    let node = Node::<J, OpenGate>::start(rt, alloc, cells, blanks, 3, 2, window, catalogue).ok()?;
+    let mut session = Session::new(node.desk());
+    let args = [5, 0, 0, 0, 0, 0, 0, 0, 10, 0, 0, 0, 0, 0, 0, 0];
+    let (answer, _) = session.call(rt, 1, 1, &args);
+    node.stop(rt);
+    match answer {
+        Answer::Committed { reply, .. } => Some(reply),
+        _ => None,
+    }
 }
 
 fn main(rt: HostRuntime) -> ExitCode {
@@ -124,12 +77,11 @@ fn main(rt: HostRuntime) -> ExitCode {
     let (Some(catalogue), Ok(cells)) = (database(alloc), GroupCells::new(alloc)) else {
         return ExitCode::FAILURE;
     };
-    let used = use_node::<Brand, _>(&rt, alloc, cells, Blanks::new(), catalogue, WINDOW);
-    let Some((done, committed, agreement)) = used else {
+    let sum = use_node::<Brand, _>(&rt, alloc, cells, Blanks::new(), catalogue, WINDOW);
+    let Some(sum) = sum else {
         return ExitCode::FAILURE;
     };
-    let agree = if agreement { "yes" } else { "no" };
-    match println!(rt; "added {done} committed {committed} agreement {agree}") {
+    match println!(rt; "the sum is {sum}") {
         Ok(()) => ExitCode::SUCCESS,
         Err(_) => ExitCode::FAILURE,
     }

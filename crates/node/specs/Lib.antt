@@ -2,4 +2,4 @@ pub mod Agreement
 pub mod Nodes
 pub mod Requests
 pub mod Crew
-pub mod Size
+pub mod Options

@@ -2,9 +2,11 @@
 
 ghost use Rattle.std.specs.Prelude.{◌≡◌, ◌+◌, ◌<◌, ◌≤◌, OnOk, IfErr};
 ghost use Rattle.schema.specs.declared.limits.TheConstants.{MAX_EXECUTORS};
-ghost use Rattle.node.specs.Size.{IsWant};
+ghost use Rattle.tallies.specs.declared.ledgers.TheConstants.{THREADS};
+ghost use Rattle.tallies.specs.Counted.{no_counts};
+ghost use Rattle.node.specs.Options.{IsWant};
 
-use crate::size::StartFault;
+use crate::options::StartFault;
 use crossbeam_channel::{Receiver, Sender, bounded};
 use locked_replica::LogSetting;
 use node_calls::Gate;
@@ -14,20 +16,27 @@ use std::marker::Model;
 use std::sync::{Arc, Wait};
 use std::thread;
 use std::thread::{JoinHandle, Threads};
-use tallies::{Ledgers, Shares};
+use tallies::{Ledgers, Tally};
 
-/// The number of groups of calls that wait at a replica before a caller waits.
+/// The number of places in the queue of a replica.
 const QUEUE: usize = 256;
 
-/// The shares of an executing thread: one part of each ledger.
+/// The tally with which an executing thread begins, with nothing counted.
 #[derive(Drop)]
-pub(crate) struct ThreadShares<J: Ledgers> {
-    shares: Shares<J>,
-    ghost one: { shares.parts ≡ 1 },
+struct FreshTally<J: Ledgers> {
+    tally: Tally<J>,
+    ghost fresh: { tally ≡ record { threads = 1; counts = no_counts } },
 }
 
-impl<J: LogSetting + Ledgers> ThreadShares<J> {
-    /// Runs an executing thread to its end. The shares then have what the thread counted.
+/// The tally with which an executing thread ends.
+#[derive(Drop)]
+pub(crate) struct ThreadTally<J: Ledgers> {
+    tally: Tally<J>,
+    ghost one: { tally.threads ≡ 1 },
+}
+
+impl<J: LogSetting + Ledgers> FreshTally<J> {
+    /// Runs an executing thread to its end. The tally then has what the thread counted.
     fn serve<G: Gate, R: Wait>(
         self,
         rt: &R,
@@ -35,10 +44,10 @@ impl<J: LogSetting + Ledgers> ThreadShares<J> {
         replica: u32,
         thread: usize,
         asked: &Receiver<Arc<Calls<J>>>,
-    ) -> ThreadShares<J> {
-        let mut shares = self.shares;
-        serve(rt, shared, replica, thread, asked, &mut shares);
-        ThreadShares { shares }
+    ) -> ThreadTally<J> {
+        let mut tally = self.tally;
+        serve(rt, shared, replica, thread, asked, &mut tally);
+        ThreadTally { tally }
     }
 }
 
@@ -46,7 +55,7 @@ impl<J: LogSetting + Ledgers> ThreadShares<J> {
 #[derive(Drop)]
 pub struct Crew<J: LogSetting + Ledgers> {
     alloc: Global,
-    executors: Vec<JoinHandle<ThreadShares<J>>>,
+    executors: Vec<JoinHandle<ThreadTally<J>>>,
     deliverers: Vec<JoinHandle<()>>,
 }
 
@@ -82,21 +91,24 @@ impl<J: LogSetting + Ledgers + Send + Sync + 'static> Crew<J> {
         &mut self,
         rt: &R,
         shared: &Arc<Shared<J, Global, Global, G>>,
-        shares: &mut Shares<J>,
+        tally: &mut Tally<J>,
         replica: u32,
         executors: u32,
     ) -> Result<Sender<Arc<Calls<J>>>, StartFault>
         requires executors { executors ≤ MAX_EXECUTORS }
-        requires parts { 17 ≤ shares.old.parts }
-        ensures all { OnOk result (shares.new.parts + self.new.executors ≡ shares.old.parts + self.old.executors) }
-        ensures parts { OnOk result (shares.old.parts ≤ shares.new.parts + 16) }
+        requires threads { MAX_EXECUTORS ≤ tally.old.threads }
+        requires nothing { tally.old.counts ≡ no_counts }
+        ensures all { OnOk result (tally.new.threads + self.new.executors ≡ tally.old.threads + self.old.executors) }
+        ensures threads { OnOk result (tally.new.threads + executors ≡ tally.old.threads) }
+        ensures at_most { tally.new.threads + self.new.executors ≤ tally.old.threads + self.old.executors }
+        ensures nothing { tally.new.counts ≡ no_counts }
         ensures fault { IfErr result IsWant }
     {
         let Ok((sender, receiver)) = bounded(self.alloc, QUEUE) else {
             return Err(StartFault::NoMemory);
         };
         for thread in 0..executors {
-            self.start_executor(rt, shared, shares, replica, thread, &receiver)?;
+            self.start_executor(rt, shared, tally, replica, thread, &receiver)?;
         }
         self.start_deliverer(rt, shared, replica)?;
         Ok(sender)
@@ -110,14 +122,17 @@ impl<J: LogSetting + Ledgers + Send + Sync + 'static> Crew<J> {
         &mut self,
         rt: &R,
         shared: &Arc<Shared<J, Global, Global, G>>,
-        shares: &mut Shares<J>,
+        tally: &mut Tally<J>,
         replica: u32,
         thread: u32,
         asked: &Receiver<Arc<Calls<J>>>,
     ) -> Result<(), StartFault>
-        requires { 1 < shares.old.parts }
-        ensures parts { OnOk result (shares.new.parts + 1 ≡ shares.old.parts) }
+        requires threads { 1 ≤ tally.old.threads }
+        requires nothing { tally.old.counts ≡ no_counts }
+        ensures threads { OnOk result (tally.new.threads + 1 ≡ tally.old.threads) }
+        ensures nothing { tally.new.counts ≡ no_counts }
         ensures executors { OnOk result (self.new.executors ≡ self.old.executors + 1) }
+        ensures at_most { tally.new.threads + self.new.executors ≤ tally.old.threads + self.old.executors }
         ensures fault { IfErr result IsWant }
     {
         if self.executors.reserve(1).is_err() {
@@ -129,8 +144,8 @@ impl<J: LogSetting + Ledgers + Send + Sync + 'static> Crew<J> {
         let Ok(asked) = asked.clone() else {
             return Err(StartFault::NoMemory);
         };
-        let mine = ThreadShares {
-            shares: shares.split(),
+        let mine = FreshTally {
+            tally: tally.split(),
         };
         let runtime = *rt;
         let child = thread::spawn(rt, move || {
@@ -153,7 +168,7 @@ impl<J: LogSetting + Ledgers + Send + Sync + 'static> Crew<J> {
         shared: &Arc<Shared<J, Global, Global, G>>,
         replica: u32,
     ) -> Result<(), StartFault>
-        ensures executors { OnOk result (self.new.executors ≡ self.old.executors) }
+        ensures executors { self.new.executors ≡ self.old.executors }
         ensures fault { IfErr result IsWant }
     {
         if self.deliverers.reserve(1).is_err() {
@@ -172,14 +187,15 @@ impl<J: LogSetting + Ledgers + Send + Sync + 'static> Crew<J> {
     }
 
     /// Waits until all threads have ended. First the threads that answer calls end, when nobody asks for calls any
-    /// more. The threads that deliver end then, at the end of the log. The shares then have what was counted.
+    /// more. The threads that deliver end then, at the end of the log. The tally then has what was counted.
     pub fn end<G: Gate, R: Threads + Wait>(
         self,
         rt: &R,
         shared: &Shared<J, Global, Global, G>,
-        shares: &mut Shares<J>,
+        tally: &mut Tally<J>,
     )
-        ensures { shares.new.parts ≡ shares.old.parts + self.executors }
+        requires { tally.old.threads + self.executors ≤ THREADS }
+        ensures { tally.new.threads ≡ tally.old.threads + self.executors }
     {
         let Crew {
             alloc: _,
@@ -187,7 +203,7 @@ impl<J: LogSetting + Ledgers + Send + Sync + 'static> Crew<J> {
             deliverers,
         } = self;
         while let Some(child) = executors.pop() {
-            shares.merge(child.join(rt).shares);
+            tally.merge(child.join(rt).tally);
         }
         shared.stop_deliveries();
         for child in deliverers {

@@ -1,20 +1,33 @@
 //! The part of a node that callers share.
 
-ghost use Rattle.std.specs.Prelude.{◌≡◌, ◌≤◌, Some, None, IfSome, IfNone, IfOk};
-ghost use Rattle.node.specs.Requests.{IsHeard, AreHeard, IsVerdictAt, IsNoReplica};
+ghost use Rattle.std.specs.Prelude.{◌≡◌, ◌<◌, ◌≤◌, ◌↔◌, ℕ, false, true, length, Some, None, Err, IfSome, IfNone, IfOk};
+ghost use Rattle.node.specs.Requests.{IsHeard, AreHeard, IsVerdictAt, IsNoReplica, AreEntriesOf, entries_of};
+ghost use Rattle.std.specs.FinMap as map;
+ghost use Rattle.row_scan.specs.Left.{first_rows};
+ghost use Rattle.served_replicas.specs.Added.{IsAddedAnswer};
+ghost use Rattle.served_replicas.specs.Scanned.{rows_seen};
+ghost use Rattle.served_replicas.specs.declared.scan.ScanFault.TheVariants as scan;
+ghost use Rattle.served_replicas.specs.declared.rebuild.RebuildFault.TheVariants as rebuild;
+ghost use Rattle.node.specs.declared.status.WaitFault.TheVariants.{NoReplica, Stopped};
 
 use crate::pending::PendingCalls;
-use crossbeam_channel::Sender;
+use crate::status::{ReplicaStatus, WaitFault};
+use crossbeam_channel::{Sender, TrySendError};
 use locked_replica::{LogSetting, OrderedEntries};
 use log_model::{RequestId, Verdict};
 use node_calls::{Answer, Gate};
 use order_log::{Fact, Seen};
-use served_replicas::{CallRequest, Calls, Shared};
+use schema::Look;
+use served_replicas::{Added, CallRequest, Calls, RebuildFault, ScanFault, ScannedRows, Shared};
 use std::alloc::{AllocError, Global};
 use std::marker::Model;
 use std::slice;
 use std::sync::{Arc, Wait};
 use tallies::Ledgers;
+
+/// The queue of a replica is full.
+#[derive(Clone, Copy, Debug, PartialEq, Eq, Drop)]
+pub struct Busy;
 
 /// The answer, and what was seen of the log then.
 pub(crate) type Answered<J> = (Answer, Option<Seen<J>>);
@@ -109,10 +122,27 @@ impl<J: LogSetting + Ledgers + Send + Sync + 'static, G: Gate + Drop + Send + Sy
         self.execute_request(rt, replica, &request)
     }
 
+    /// Executes a call at a replica as `execute` does, unless the replica's queue is full: then the call isn't executed.
+    pub fn try_execute<R: Wait>(
+        &self,
+        rt: &R,
+        replica: u32,
+        request: &CallRequest<'_>,
+    ) -> Result<Answered<J>, Busy>
+        ensures { IfOk result (λ answered. IsHeard J.setting self.now.replicas replica request.now answered.0 answered.1) }
+    {
+        let calls = self.try_send(rt, replica, request)?;
+        if let Some(calls) = &calls {
+            calls.wait(rt);
+        }
+        Ok(self.answer_at(rt, calls.as_deref(), 0, replica, request))
+    }
+
     /// Asks for calls at a replica, and returns at once. `PendingCalls::hear` waits for the answers. The calls may run at
     /// once, and in any order. Asks for none where memory for the answers is wanting.
     ///
-    /// Waits only where 256 groups of calls are asked for at the replica that no executing thread has taken up.
+    /// Waits only where the replica's queue is full. The queue has 256 places. Calls that are asked for together take as
+    /// many places as there are calls, at most one for each executing thread.
     pub fn ask<'a, R: Wait>(
         &'a self,
         rt: &R,
@@ -174,6 +204,12 @@ impl<J: LogSetting + Ledgers + Send + Sync + 'static, G: Gate + Drop + Send + Sy
         self.senders.get(replica as usize - 1)
     }
 
+    /// Copies calls, as executing threads take them. Returns `None` where memory is wanting.
+    fn copy(&self, requests: &[CallRequest<'_>]) -> Option<Arc<Calls<J>>> {
+        let calls = Calls::new(self.alloc, requests).ok()?;
+        Arc::new(self.alloc, calls).ok()
+    }
+
     /// Sends calls to the executing threads of a replica: to as many threads as there are calls, so that no call waits
     /// behind another while a thread is idle. Returns `None` where there is no such replica, or memory is wanting.
     fn send<R: Wait>(
@@ -183,7 +219,7 @@ impl<J: LogSetting + Ledgers + Send + Sync + 'static, G: Gate + Drop + Send + Sy
         requests: &[CallRequest<'_>],
     ) -> Option<Arc<Calls<J>>> {
         let sender = self.sender(replica)?;
-        let calls = Arc::new(self.alloc, Calls::new(self.alloc, requests).ok()?).ok()?;
+        let calls = self.copy(requests)?;
         for thread in 0..self.executors.min(requests.len()) {
             let sent = match Arc::try_clone(&calls) {
                 Ok(theirs) => sender.send(rt, theirs).is_ok(),
@@ -194,6 +230,30 @@ impl<J: LogSetting + Ledgers + Send + Sync + 'static, G: Gate + Drop + Send + Sy
             }
         }
         Some(calls)
+    }
+
+    /// Sends a call to an executing thread of a replica, where the queue has room. Returns `None` where there is no such
+    /// replica, or memory is wanting.
+    fn try_send<R: Wait>(
+        &self,
+        rt: &R,
+        replica: u32,
+        request: &CallRequest<'_>,
+    ) -> Result<Option<Arc<Calls<J>>>, Busy> {
+        let Some(sender) = self.sender(replica) else {
+            return Ok(None);
+        };
+        let Some(calls) = self.copy(slice::from_ref(request)) else {
+            return Ok(None);
+        };
+        let Ok(theirs) = Arc::try_clone(&calls) else {
+            return Ok(None);
+        };
+        match sender.try_send(rt, theirs) {
+            Ok(()) => Ok(Some(calls)),
+            Err(TrySendError::Full(_)) => Err(Busy),
+            Err(TrySendError::Disconnected(_) | TrySendError::OutOfMemory(_)) => Ok(None),
+        }
     }
 
     /// Returns the answer to the call at a place of those that were sent, from 0 on. A reply that was lost, as where
@@ -228,6 +288,31 @@ impl<J: LogSetting + Ledgers + Send + Sync + 'static, G: Gate + Drop + Send + Sy
         (answer, None)
     }
 
+    /// Adds a procedure through the log, where its program is accepted for the node's tables. Where the procedure was
+    /// appended, returns what was seen of the log then, with the addition as the last entry.
+    pub fn add<R: Wait>(
+        &self,
+        rt: &R,
+        name: &[u8],
+        number: u16,
+        args_len: u16,
+        bytes: &[u8],
+    ) -> (Added, Option<Seen<J>>)
+        ensures { IsAddedAnswer J.setting
+            (record { name = name.now; number = number; args_len = args_len; bytes = bytes.now }) result.0 result.1 }
+    {
+        self.shared.add(rt, name, number, args_len, bytes)
+    }
+
+    /// Makes the replica of a number anew from the log, and returns the position that the new one has then. Calls go on
+    /// at the old one until then.
+    pub fn rebuild<R: Wait>(&self, rt: &R, replica: u32) -> Result<u32, RebuildFault>
+        ensures none { (result ≡ Err rebuild.NoReplica) ↔ IsNoReplica self.now.replicas replica }
+        ensures some { IfOk result (λ _. (1 ≤ replica) × (replica ≤ self.now.replicas)) }
+    {
+        self.shared.rebuild(rt, replica)
+    }
+
     /// Returns the verdict on the entry at a position, where there is such a replica and it has come there. The second
     /// value is what the replica has delivered by now.
     pub fn verdict<R: Wait>(
@@ -245,5 +330,55 @@ impl<J: LogSetting + Ledgers + Send + Sync + 'static, G: Gate + Drop + Send + Sy
         }
         locked.keeps_what_was_delivered();
         Some((locked.verdict_at(position), locked.seen()))
+    }
+
+    /// Waits until the replica of a number has come to a position, and returns what was delivered there by then. Whoever
+    /// was `Behind` may wait, and ask again. Waits for ever where nothing is ordered at the position.
+    pub fn wait<R: Wait>(&self, rt: &R, replica: u32, position: u32) -> Result<Seen<J>, WaitFault>
+        ensures reached { IfOk result (λ seen. position ≤ length seen) }
+        ensures entries { IfOk result (λ seen. AreEntriesOf J.setting (entries_of seen)) }
+        ensures none { (result ≡ Err NoReplica) ↔ IsNoReplica self.now.replicas replica }
+        ensures stopped { (at : ℕ) → result ≡ Err (Stopped at) → at < position }
+    {
+        let Some(served) = self.shared.served(replica) else {
+            return Err(WaitFault::NoReplica);
+        };
+        match served.wait(rt, position) {
+            Ok(seen) => Ok(seen),
+            Err(position) => Err(WaitFault::Stopped(position)),
+        }
+    }
+
+    /// Returns how far the replica of a number has come, and whether it has stopped, where there is such a replica.
+    pub fn status<R: Wait>(&self, rt: &R, replica: u32) -> Option<ReplicaStatus<J>>
+        ensures some { IfSome result (λ _. (1 ≤ replica) × (replica ≤ self.now.replicas)) }
+        ensures none { IfNone result (IsNoReplica self.now.replicas replica) }
+        ensures entries { IfSome result (λ status. AreEntriesOf J.setting (entries_of status.seen)) }
+    {
+        let locked = self.shared.locked(replica)?.read(rt);
+        locked.keeps_what_was_delivered();
+        Some(ReplicaStatus {
+            position: locked.position(),
+            stopped: locked.stopped(),
+            seen: locked.seen(),
+        })
+    }
+
+    /// Returns the rows that a look covers at one position, where the replica of a number is when the scan begins: the
+    /// first `most`, or all where there are fewer. The replica's lock is held for 256 rows at a time.
+    pub fn scan<R: Wait>(
+        &self,
+        rt: &R,
+        replica: u32,
+        look: Look,
+        most: u32,
+    ) -> Result<ScannedRows<J>, ScanFault>
+        ensures rows { IfOk result (λ scanned. scanned.rows.items ≡ first_rows most look (rows_seen J.setting scanned.seen)) }
+        ensures entries { IfOk result (λ scanned. AreEntriesOf J.setting (entries_of scanned.seen)) }
+        ensures replica { (result ≡ Err scan.NoReplica) ↔ IsNoReplica self.now.replicas replica }
+        ensures table { result ≡ Err scan.NoTable → map.contains_key J.setting.tables look.table ≡ false }
+        ensures known { IfOk result (λ _. map.contains_key J.setting.tables look.table ≡ true) }
+    {
+        self.shared.scan(rt, replica, look, most)
     }
 }

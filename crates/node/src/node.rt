@@ -4,17 +4,19 @@ ghost use Rattle.std.specs.Prelude.{◌≡◌, ◌≤◌, ◌<◌, ◌+◌, ◌�
 ghost use Rattle.std.specs.Prelude.{vec_len, vec_capacity};
 ghost use Rattle.std.specs.Arc.{arc_value};
 ghost use Rattle.replica.specs.Replica.{AreEntriesOf, entries_of};
-ghost use Rattle.tallies.specs.Shared.{names_by_place};
+ghost use Rattle.tallies.specs.declared.ledgers.TheConstants.{THREADS};
+ghost use Rattle.tallies.specs.Counted.{no_counts};
+ghost use Rattle.tallies.specs.Tallies.{names_by_place};
 ghost use Rattle.served_replicas.specs.Added.{IsAddedAnswer};
 ghost use Rattle.served_replicas.specs.Replicas.{IsNoReplica};
 ghost use Rattle.served_replicas.specs.declared.rebuild.RebuildFault.TheVariants.{NoReplica};
 ghost use Rattle.node.specs.Agreement.{AgreeBy};
-ghost use Rattle.node.specs.Size.{IsSize, IsStartFault, IsWant, size_of};
+ghost use Rattle.node.specs.Options.{AreInBounds, IsStartFault, IsWant, options_of};
 
 use crate::crew::Crew;
 use crate::desk::Desk;
 use crate::ended::{EndedReplica, agree_all};
-use crate::size::{Size, StartFault};
+use crate::options::{Options, StartFault};
 use catalogue::Catalogue;
 use crossbeam_channel::Sender;
 use locked_replica::{LockedReplica, LogSetting, OrderedEntries};
@@ -26,7 +28,7 @@ use std::alloc::{AllocError, Global};
 use std::marker::Model;
 use std::sync::{Arc, RwLock, Wait};
 use std::thread::Threads;
-use tallies::{Blanks, Counts, Ledgers, Shares, Totals};
+use tallies::{Blanks, Counts, Ledgers, Tally};
 
 /// The end of a node.
 #[derive(Drop)]
@@ -39,8 +41,8 @@ where
     pub replicas: Vec<EndedReplica<J>>,
     /// True where, for each two replicas, what was delivered to one is a prefix of what was delivered to the other.
     pub agreement: bool,
-    /// The shares, all together, in which the answers were counted.
-    pub shares: Shares<J>,
+    /// The tally of all threads, in which the answers were counted.
+    pub tally: Tally<J>,
     shared: Arc<Shared<J, Global, Global, G>>,
     ghost all: { vec_len replicas ≡ (arc_value shared).replicas },
 }
@@ -60,7 +62,7 @@ where
 {
     desk: Desk<J, G>,
     crew: Crew<J>,
-    shares: Shares<J>,
+    tally: Tally<J>,
     /// Room for the ends of the replicas.
     ended: Vec<EndedReplica<J>>,
 }
@@ -71,13 +73,16 @@ where
 {
     ghost use Rattle.std.specs.Prelude.{◌≡◌, ◌≤◌, ◌+◌, vec_len, vec_capacity};
     ghost use Rattle.schema.specs.declared.limits.TheConstants.{MAX_REPLICAS};
+    ghost use Rattle.tallies.specs.declared.ledgers.TheConstants.{THREADS};
+    ghost use Rattle.tallies.specs.Counted.{no_counts};
     ghost use Rattle.node.specs.Nodes.{NodeState};
 
     ghost Value = { NodeState };
 
     ghost view = { λ n. record { replicas = n.desk.replicas } };
 
-    ghost invariant = { λ n. (n.shares.parts + n.crew.executors ≡ 129) × (n.desk.replicas ≤ MAX_REPLICAS)
+    ghost invariant = { λ n. (n.tally.threads + n.crew.executors ≡ THREADS)
+        × (n.tally.counts ≡ no_counts) × (n.desk.replicas ≤ MAX_REPLICAS)
         × (vec_len n.ended ≡ 0) × (n.desk.replicas ≤ vec_capacity n.ended) };
 }
 
@@ -85,14 +90,14 @@ impl<J: LogSetting + Ledgers + Send + Sync + 'static, G: Gate + Drop + Send + Sy
     J,
     G,
 > {
-    /// Starts the threads of a node of this size, whose executing threads pass a gate before they read or write rows.
-    /// The ledgers, the log's cells and the catalogue are the node's own.
-    pub fn start_sized<R: Threads + Wait + Copy + Send + Sync + 'static>(
+    /// Starts the threads of a node with these options, whose executing threads pass a gate before they read or write
+    /// rows. The ledgers, the log's cells and the catalogue are the node's own.
+    pub fn start_with<R: Threads + Wait + Copy + Send + Sync + 'static>(
         rt: &R,
         alloc: Global,
         cells: GroupCells,
         blanks: Blanks,
-        size: Size,
+        options: Options,
         catalogue: Catalogue,
         gate: G,
     ) -> Result<Node<J, G>, StartFault>
@@ -101,48 +106,17 @@ impl<J: LogSetting + Ledgers + Send + Sync + 'static, G: Gate + Drop + Send + Sy
         requires setting { J.setting ≡ record {
           tables = catalogue.tables;
           catalogue = catalogue.procedures;
-          window = size.window;
+          window = options.window;
         } }
-        ensures started { IfOk result (λ node. IsSize size × (node.replicas ≡ size.replicas)) }
-        ensures fault { IfErr result (IsStartFault size) }
+        ensures started { IfOk result (λ node. AreInBounds options × (node.replicas ≡ options.replicas)) }
+        ensures fault { IfErr result (IsStartFault options) }
     {
-        size.check()?;
-        let (totals, shares) = blanks.open();
-        match shared_of(alloc, cells, totals, size, catalogue, gate) {
-            Ok(shared) => start_threads(rt, alloc, shared, shares, size),
+        options.check()?;
+        let tally = blanks.open();
+        match shared_of(alloc, cells, options, catalogue, gate) {
+            Ok(shared) => start_threads(rt, alloc, shared, tally, options),
             Err(_) => Err(StartFault::NoMemory),
         }
-    }
-
-    /// Starts a node as `start_sized` does, with a log of at most 1,048,576 entries.
-    pub fn start_gated<R: Threads + Wait + Copy + Send + Sync + 'static>(
-        rt: &R,
-        alloc: Global,
-        cells: GroupCells,
-        blanks: Blanks,
-        replicas: u32,
-        executors: u32,
-        window: u32,
-        catalogue: Catalogue,
-        gate: G,
-    ) -> Result<Node<J, G>, StartFault>
-        requires cells { cells ≡ J.groups }
-        requires ledgers { J.names ≡ names_by_place blanks }
-        requires setting { J.setting ≡ record {
-          tables = catalogue.tables;
-          catalogue = catalogue.procedures;
-          window = window;
-        } }
-        ensures started { IfOk result (λ node. node.replicas ≡ replicas) }
-        ensures fault { IfErr result (IsStartFault (size_of replicas executors window)) }
-    {
-        let size = Size {
-            replicas,
-            executors,
-            window,
-            limit: MAX_LOG,
-        };
-        Node::start_sized(rt, alloc, cells, blanks, size, catalogue, gate)
     }
 
     /// The part of the node that callers share.
@@ -152,8 +126,7 @@ impl<J: LogSetting + Ledgers + Send + Sync + 'static, G: Gate + Drop + Send + Sy
         &self.desk
     }
 
-    /// Adds a procedure through the log, where its program is accepted for the node's tables. Where the procedure was
-    /// appended, returns what was seen of the log then, with the addition as the last entry.
+    /// Adds a procedure as `Desk::add` does.
     pub fn add<R: Wait>(
         &self,
         rt: &R,
@@ -165,20 +138,21 @@ impl<J: LogSetting + Ledgers + Send + Sync + 'static, G: Gate + Drop + Send + Sy
         ensures { IsAddedAnswer J.setting
             (record { name = name.now; number = number; args_len = args_len; bytes = bytes.now }) result.0 result.1 }
     {
-        self.desk.shared.add(rt, name, number, args_len, bytes)
+        self.desk.add(rt, name, number, args_len, bytes)
     }
 
-    /// Makes the replica of a number anew from the log, and returns the position that the new one has then.
+    /// Makes the replica of a number anew as `Desk::rebuild` does.
     pub fn rebuild<R: Wait>(&self, rt: &R, replica: u32) -> Result<u32, RebuildFault>
         ensures none { (result ≡ Err NoReplica) ↔ IsNoReplica self.now.replicas replica }
         ensures some { IfOk result (λ _. (1 ≤ replica) × (replica ≤ self.now.replicas)) }
     {
-        self.desk.shared.rebuild(rt, replica)
+        self.desk.rebuild(rt, replica)
     }
 
     /// Ends the threads as `finish` does, and returns no sums.
     pub fn stop<R: Threads + Wait>(self, rt: &R) -> Ended<J>
         ensures replicas { length result.replicas.items ≡ self.replicas }
+        ensures entries { All (λ e. AreEntriesOf J.setting (entries_of e.seen)) result.replicas.items }
         ensures agreement { AgreeBy (λ e. e.seen) result.replicas.items }
         ensures agree { result.agreement ≡ true }
     {
@@ -192,8 +166,8 @@ impl<J: LogSetting + Ledgers + Send + Sync + 'static, G: Gate + Drop + Send + Sy
     /// Ends the threads when all that was asked is answered and all that was ordered is delivered. A replica that has
     /// stopped delivers no more.
     pub fn finish<R: Threads + Wait>(self, rt: &R) -> Finish<J, G>
-        ensures totals { result.totals ≡ result.shares.counted }
-        ensures shares { result.shares.parts ≡ 129 }
+        ensures totals { result.totals ≡ result.tally.counts }
+        ensures threads { result.tally.threads ≡ THREADS }
         ensures replicas { length result.replicas.items ≡ self.replicas }
         ensures entries { All (λ e. AreEntriesOf J.setting (entries_of e.seen)) result.replicas.items }
         ensures agreement { AgreeBy (λ e. e.seen) result.replicas.items }
@@ -202,7 +176,7 @@ impl<J: LogSetting + Ledgers + Send + Sync + 'static, G: Gate + Drop + Send + Sy
         let Node {
             desk,
             crew,
-            mut shares,
+            mut tally,
             mut ended,
         } = self;
         let Desk {
@@ -212,24 +186,24 @@ impl<J: LogSetting + Ledgers + Send + Sync + 'static, G: Gate + Drop + Send + Sy
             alloc: _,
         } = desk;
         drop(senders);
-        crew.end(rt, &shared, &mut shares);
-        let totals = shared.gather(rt, &mut shares);
+        crew.end(rt, &shared, &mut tally);
+        tally.count_others(shared.unserved());
         for place in 0..shared.replicas() as u32 {
             push_end(rt, &shared, place + 1, &mut ended);
         }
         agree_all(&ended);
         Finish {
-            totals,
+            totals: tally.counts(),
             replicas: ended,
             agreement: true,
-            shares,
+            tally,
             shared,
         }
     }
 }
 
 impl<J: LogSetting + Ledgers + Send + Sync + 'static> Node<J, OpenGate> {
-    /// Starts a node as `start_gated` does, with a gate that is always open.
+    /// Starts a node as `start_with` does, with a log of at most 1,048,576 entries and a gate that is always open.
     pub fn start<R: Threads + Wait + Copy + Send + Sync + 'static>(
         rt: &R,
         alloc: Global,
@@ -248,11 +222,15 @@ impl<J: LogSetting + Ledgers + Send + Sync + 'static> Node<J, OpenGate> {
           window = window;
         } }
         ensures started { IfOk result (λ node. node.replicas ≡ replicas) }
-        ensures fault { IfErr result (IsStartFault (size_of replicas executors window)) }
+        ensures fault { IfErr result (IsStartFault (options_of replicas executors window)) }
     {
-        Node::start_gated(
-            rt, alloc, cells, blanks, replicas, executors, window, catalogue, OpenGate,
-        )
+        let options = Options {
+            replicas,
+            executors,
+            window,
+            limit: MAX_LOG,
+        };
+        Node::start_with(rt, alloc, cells, blanks, options, catalogue, OpenGate)
     }
 }
 
@@ -290,43 +268,42 @@ fn push_end<J: LogSetting + Ledgers, G: Gate, R: Wait>(
     }
 }
 
-/// Adds as many replicas as a node of this size has.
+/// Adds as many replicas as a node with these options has.
 fn add_all_replicas<J: LogSetting + Ledgers, G: Gate>(
     shared: &mut Shared<J, Global, Global, G>,
     alloc: Global,
-    size: Size,
+    options: Options,
 ) -> Result<(), AllocError>
     requires { shared.old.replicas ≡ 0 }
-    ensures { OnOk result (shared.new.replicas ≡ size.replicas) }
+    ensures { OnOk result (shared.new.replicas ≡ options.replicas) }
 {
-    for place in 0..size.replicas {
-        shared.add_replica(alloc, size.executors as usize)?;
+    for place in 0..options.replicas {
+        shared.add_replica(alloc, options.executors as usize)?;
     }
     Ok(())
 }
 
-/// Makes what the threads of a node of this size share.
+/// Makes what the threads of a node with these options share.
 fn shared_of<J: LogSetting + Ledgers, G: Gate + Drop>(
     alloc: Global,
     cells: GroupCells,
-    totals: Totals<J>,
-    size: Size,
+    options: Options,
     catalogue: Catalogue,
     gate: G,
 ) -> Result<Arc<Shared<J, Global, Global, G>>, AllocError>
-    requires size { IsSize size }
+    requires options { AreInBounds options }
     requires cells { cells ≡ J.groups }
     requires setting { J.setting ≡ record {
       tables = catalogue.tables;
       catalogue = catalogue.procedures;
-      window = size.window;
+      window = options.window;
     } }
-    ensures { IfOk result (λ shared. (arc_value shared).replicas ≡ size.replicas) }
+    ensures { IfOk result (λ shared. (arc_value shared).replicas ≡ options.replicas) }
 {
-    let log = OrderLog::with_limit(alloc, cells, size.limit)?;
-    let replicas = size.replicas as usize;
-    let mut shared = Shared::new(alloc, log, catalogue, size.window, totals, gate, replicas)?;
-    add_all_replicas(&mut shared, alloc, size)?;
+    let log = OrderLog::with_limit(alloc, cells, options.limit)?;
+    let replicas = options.replicas as usize;
+    let mut shared = Shared::new(alloc, log, catalogue, options.window, gate, replicas)?;
+    add_all_replicas(&mut shared, alloc, options)?;
     Ok(Arc::new(alloc, shared)?)
 }
 
@@ -339,16 +316,16 @@ fn start_threads<
     rt: &R,
     alloc: Global,
     shared: Arc<Shared<J, Global, Global, G>>,
-    shares: Shares<J>,
-    size: Size,
+    tally: Tally<J>,
+    options: Options,
 ) -> Result<Node<J, G>, StartFault>
-    requires size { IsSize size }
-    requires shares { shares.parts ≡ 129 }
-    requires replicas { (arc_value shared).replicas ≡ size.replicas }
-    ensures started { IfOk result (λ node. node.replicas ≡ size.replicas) }
-    ensures fault { IfErr result (IsStartFault size) }
+    requires options { AreInBounds options }
+    requires tally { tally ≡ record { threads = THREADS; counts = no_counts } }
+    requires replicas { (arc_value shared).replicas ≡ options.replicas }
+    ensures started { IfOk result (λ node. node.replicas ≡ options.replicas) }
+    ensures fault { IfErr result (IsStartFault options) }
 {
-    let mut shares = shares;
+    let mut tally = tally;
     let mut crew = Crew::new(alloc);
     let mut senders = Vec::new(alloc);
     let started = start_replicas(
@@ -357,24 +334,24 @@ fn start_threads<
         &shared,
         &mut crew,
         &mut senders,
-        &mut shares,
-        size,
+        &mut tally,
+        options,
     );
     match started {
         Ok(ended) => Ok(Node {
             desk: Desk {
                 shared,
                 senders,
-                executors: size.executors as usize,
+                executors: options.executors as usize,
                 alloc,
             },
             crew,
-            shares,
+            tally,
             ended,
         }),
         Err(fault) => {
             drop(senders);
-            crew.end(rt, &shared, &mut shares);
+            crew.end(rt, &shared, &mut tally);
             Err(fault)
         }
     }
@@ -391,23 +368,25 @@ fn start_replicas<
     shared: &Arc<Shared<J, Global, Global, G>>,
     crew: &mut Crew<J>,
     senders: &mut Vec<Sender<Arc<Calls<J>>>>,
-    shares: &mut Shares<J>,
-    size: Size,
+    tally: &mut Tally<J>,
+    options: Options,
 ) -> Result<Vec<EndedReplica<J>>, StartFault>
-    requires size { IsSize size }
-    requires shares { shares.old.parts ≡ 129 }
+    requires options { AreInBounds options }
+    requires tally { tally.old ≡ record { threads = THREADS; counts = no_counts } }
     requires crew { crew.old.executors ≡ 0 }
     requires none { vec_len senders.old ≡ 0 }
-    ensures parts { OnOk result (shares.new.parts + crew.new.executors ≡ 129) }
-    ensures senders { OnOk result (vec_len senders.new ≡ size.replicas) }
-    ensures room { IfOk result (λ ended. (vec_len ended ≡ 0) × (size.replicas ≤ vec_capacity ended)) }
+    ensures threads { tally.new.threads + crew.new.executors ≤ THREADS }
+    ensures all { OnOk result (tally.new.threads + crew.new.executors ≡ THREADS) }
+    ensures nothing { tally.new.counts ≡ no_counts }
+    ensures senders { OnOk result (vec_len senders.new ≡ options.replicas) }
+    ensures room { IfOk result (λ ended. (vec_len ended ≡ 0) × (options.replicas ≤ vec_capacity ended)) }
     ensures fault { IfErr result IsWant }
 {
-    let Ok(ended) = Vec::with_capacity(alloc, size.replicas as usize) else {
+    let Ok(ended) = Vec::with_capacity(alloc, options.replicas as usize) else {
         return Err(StartFault::NoMemory);
     };
-    for place in 0..size.replicas {
-        let sender = crew.start_replica(rt, shared, shares, place + 1, size.executors)?;
+    for place in 0..options.replicas {
+        let sender = crew.start_replica(rt, shared, tally, place + 1, options.executors)?;
         if senders.push(sender).is_err() {
             return Err(StartFault::NoMemory);
         }

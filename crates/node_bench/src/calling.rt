@@ -6,7 +6,7 @@ use crate::procedures::{
 };
 use locked_replica::LogSetting;
 use log_model::RequestId;
-use node::{CallRequest, Desk};
+use node::{CallRequest, Desk, RebuildFault};
 use node_calls::{Answer, OpenGate};
 use rand_core::utils::NextWord;
 use rand_pcg::Pcg32;
@@ -359,6 +359,29 @@ pub(crate) fn call_all<J: LogSetting + Ledgers + Send + Sync + 'static, R: Threa
         counts = sum(counts, (*answered)?);
     }
     Ok(counts)
+}
+
+/// The number of rebuilds beside the calls of a soak.
+const REBUILDS: u32 = 16;
+
+/// Makes drawn replicas anew while others call, where the load is a soak.
+pub(crate) fn rebuild_some<J: LogSetting + Ledgers + Send + Sync + 'static, R: Wait>(
+    rt: &R,
+    desk: &Desk<J, OpenGate>,
+    load: Load,
+) -> Result<(), RebuildFault> {
+    if load.work != Work::Soak {
+        return Ok(());
+    }
+    let mut generator = Pcg32::new(load.seed, u64::from(load.callers));
+    for _ in 0..REBUILDS {
+        let drawn = generator
+            .next_word()
+            .checked_rem(load.replicas)
+            .unwrap_or(0);
+        desk.rebuild(rt, drawn.wrapping_add(1))?;
+    }
+    Ok(())
 }
 
 /// Gives each account its money, at replica 1.

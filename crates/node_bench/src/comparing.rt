@@ -5,6 +5,7 @@ ghost use Rattle.std.specs.Prelude.{◌<◌, ◌^◌, length};
 use crate::procedures::ACCOUNTS;
 use locked_replica::{LockedReplica, LogSetting};
 use log_entry::Entry;
+use log_model::Verdict;
 use node::Finish;
 use node_calls::OpenGate;
 use plain_replayer::{
@@ -96,6 +97,15 @@ fn number_in(row: &Row) -> u64 {
     }
 }
 
+/// Returns the number of calls that commit in the replay.
+fn commits_in(replay: &CompletedReplay) -> u64 {
+    replay
+        .reports()
+        .iter()
+        .filter(|report| report.verdict() == Verdict::Commit)
+        .count() as u64
+}
+
 /// Returns the money of all accounts together, at the end of the replay.
 fn money_in(replay: &CompletedReplay) -> u64 {
     let Some(rows) = replay.rows(replay.reports().len()) else {
@@ -111,6 +121,8 @@ fn money_in(replay: &CompletedReplay) -> u64 {
 pub(crate) struct Comparison {
     /// True where each replica has delivered the whole log, with the verdicts and the rows of the plain replay.
     pub(crate) same: bool,
+    /// The number of calls that commit in the replay.
+    pub(crate) commits: u64,
     /// The money of all accounts together.
     pub(crate) money: u64,
 }
@@ -133,6 +145,7 @@ pub(crate) fn compare<J: LogSetting + Ledgers, R: Wait>(
     }
     Some(Comparison {
         same,
+        commits: commits_in(&replay),
         money: money_in(&replay),
     })
 }

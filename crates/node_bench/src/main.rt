@@ -1,20 +1,20 @@
 //! Many callers at a node of many replicas: transfers between accounts, counts, searches, calls that cancel, that only
-//! read and that are asked for again. `node_bench soak REPLICAS EXECUTORS CALLS SEED` compares the outcome with the
-//! plain replay of the log. The program fails where something isn't as it should be. `write`, `read` and `start` in
-//! place of `soak` only call, for measurements from outside, and compare nothing; the words CALLERS, DEPTH and KEYS
-//! may follow. Without them there are as many callers as executing threads, each with one call under way, and 10,000
-//! keys. The time is taken by whoever starts the program (bench/node does).
+//! read and that are asked for again. `node_bench soak REPLICAS EXECUTORS CALLS SEED` has drawn replicas made anew
+//! meanwhile, and compares the outcome with the plain replay of the log. The program fails where something isn't as it
+//! should be. `write`, `read` and `start` in place of `soak` only call, for measurements from outside, and compare
+//! nothing; the words CALLERS, DEPTH and KEYS may follow. Without them there are as many callers as executing threads,
+//! each with one call under way, and 10,000 keys. The time is taken by whoever starts the program (bench/node does).
 #![tactic(auto)]
 
 ghost use Rattle.std.specs.Prelude.{◌≡◌};
 ghost use Rattle.node_bench.specs.Setting.{setting_of};
-ghost use Rattle.tallies.specs.Shared.{names_by_place};
+ghost use Rattle.tallies.specs.Tallies.{names_by_place};
 
 mod calling;
 mod comparing;
 mod procedures;
 
-use crate::calling::{Load, Work, all, call_all, open_accounts, sum};
+use crate::calling::{Load, Work, all, call_all, open_accounts, rebuild_some, sum};
 use crate::comparing::{Comparison, compare};
 use crate::procedures::{ACCOUNTS, MONEY, catalogue, setting};
 use anyhow::Context;
@@ -24,11 +24,11 @@ use node::Node;
 use node_calls::OpenGate;
 use order_log::GroupCells;
 use std::alloc::Global;
-use std::env;
 use std::marker::Brand;
 use std::process::ExitCode;
 use std::sync::Wait;
 use std::thread::Threads;
+use std::{env, thread};
 use tallies::{Blanks, Counts, Ledgers};
 
 /// The outcome of a run.
@@ -71,7 +71,12 @@ fn use_node<
     );
     let node = started.ok()?;
     let opened = open_accounts(rt, node.desk());
-    let called = call_all(rt, alloc, node.desk(), *load);
+    let desk = node.desk();
+    let (called, rebuilt) = thread::join(
+        rt,
+        || call_all(rt, alloc, desk, *load),
+        || rebuild_some(rt, desk, *load),
+    );
     let finish = node.finish(rt);
     let comparison = if work == Work::Soak {
         let setting = setting(alloc, window)?;
@@ -79,6 +84,7 @@ fn use_node<
     } else {
         None
     };
+    rebuilt.ok()?;
     Some(Outcome {
         counted: sum(opened, called.ok()?),
         totals: finish.totals,
@@ -118,18 +124,27 @@ fn print_counts(rt: &HostRuntime, totals: Counts) -> anyhow::Result<()> {
 }
 
 /// Prints the result of the plain replay. Tells whether all is as it should be.
-fn print_comparison(rt: &HostRuntime, comparison: Comparison) -> anyhow::Result<bool> {
+fn print_comparison(
+    rt: &HostRuntime,
+    comparison: Comparison,
+    committed: u64,
+) -> anyhow::Result<bool> {
+    let same_commits = comparison.commits == committed;
     let same_money = comparison.money == u64::from(ACCOUNTS).wrapping_mul(MONEY);
     println!(rt;
         "verdicts and rows as in the plain replay of the log: {}",
         yes(comparison.same)
     )?;
     println!(rt;
+        "commits in the log, as many as were answered: {}",
+        yes(same_commits)
+    )?;
+    println!(rt;
         "in all accounts {}, as before: {}",
         comparison.money,
         yes(same_money)
     )?;
-    Ok(comparison.same && same_money)
+    Ok(comparison.same && same_commits && same_money)
 }
 
 /// Prints the outcome of a run. Tells whether all is as it should be.
@@ -143,7 +158,7 @@ fn print(rt: &HostRuntime, outcome: &Outcome) -> anyhow::Result<bool> {
     )?;
     println!(rt; "agreement: {}", yes(outcome.agreement))?;
     let compared = match outcome.comparison {
-        Some(comparison) => print_comparison(rt, comparison)?,
+        Some(comparison) => print_comparison(rt, comparison, outcome.totals.committed)?,
         None => true,
     };
     Ok(same_counts && outcome.agreement && compared)

@@ -6,6 +6,7 @@ use Rattle.log_model.specs.declared.verdict.Verdict.TheVariants.{Stale, Repeated
 use Rattle.schema.specs.declared.look.Look.{Look}
 use Rattle.log_model.specs.Log.{CertifiedItem, first_position, first_repeated, conflicts, verdict_after, Setting, Call, Item, CallItem, Log, IsLog, verdict_of, unless_repeated, unless_conflict}
 use Rattle.log_model.specs.Entries.{ExecutedCall, item_of, items_of}
+use Rattle.log_model.specs.OpenRequest.{has_zero}
 use Rattle.log_model.specs.Verdicts.{IsRepetition}
 use Rattle.log_model.specs.Entries.{Entry, CallEntry, certified_entry, certified_entries_of}
 use Rattle.log_entry.specs.declared.entry.Entry.{Entry as LogEntry}
@@ -38,8 +39,8 @@ module _ {A : Type 0} where
 
   -- ---- the entry that was seen last
 
-  abbrev pub ordered_at : (w : Setting) (a : AskedCall) (e : ExecutedCall) (position : ℕ) (seen : List (LogEntry A)) → IsAppended w e position seen → e.call ≡ asked_call a e.call.snapshot → a.least ≤ e.call.snapshot → IsOrderedAt w a position seen
-  ordered_at w a e position seen appended call least = record { entry = e; appended = appended; call = call; least = least }
+  abbrev pub ordered_at : (w : Setting) (a : AskedCall) (e : ExecutedCall) (position : ℕ) (seen : List (LogEntry A)) → IsAppended w e position seen → e.call ≡ asked_call a e.call.snapshot → a.least ≤ e.call.snapshot → has_zero a.request ≡ false → IsOrderedAt w a position seen
+  ordered_at w a e position seen appended call least whole = record { entry = e; appended = appended; call = call; least = least; whole = whole }
 
   pub verdict_here : (w : Setting) (e : ExecutedCall) (position : ℕ) (seen : List (LogEntry A)) (v : Verdict) → IsAppended w e position seen → IsVerdict w (length seen) seen v → IsVerdict w position seen v
   verdict_here w e position seen v appended known = subst (λ (n : ℕ). IsVerdict w n seen v) (sym appended.place) known

@@ -1,5 +1,5 @@
 -- What a call is answered, and what was seen of the log then.
-use Rattle.std.specs.Prelude.{◌≡◌, ◌⊎◌, ℕ, ◌-◌, ◌≤◌, List, [], ◌∷◌, ◌++◌, length, take, slice_get, Option, Some, None, Err}
+use Rattle.std.specs.Prelude.{◌≡◌, ◌⊎◌, ℕ, ◌-◌, ◌≤◌, false, List, [], ◌∷◌, ◌++◌, length, take, slice_get, Option, Some, None, Err}
 use Rattle.std.specs.FinMap.{len}
 use Rattle.log_model.specs.declared.verdict.Verdict.{Verdict}
 use Rattle.log_model.specs.declared.verdict.Verdict.TheVariants as verdict
@@ -8,6 +8,7 @@ use Rattle.log_model.specs.Fit.{IsCall}
 use Rattle.log_model.specs.Entries.{ExecutedCall}
 use Rattle.log_entry.specs.declared.entry.Entry.{Entry as LogEntry}
 use Rattle.log_entry.specs.declared.entry.Entry.TheVariants as entry
+use Rattle.log_model.specs.OpenRequest.{has_zero}
 use Rattle.log_model.specs.Admission.{admission}
 use Rattle.replica.specs.Replica.{AreEntriesOf, entries_of}
 use Rattle.locked_replica.specs.Ordered.{IsOrderedCall}
@@ -33,12 +34,13 @@ pub record IsAppended {A : Type 0} (w : Setting) (e : ExecutedCall) (position : 
   pub ordered : IsOrderedCall w (entries_of (take e.call.snapshot before)) e
 
 -- the call that is asked for is ordered at this position: its entry, which carries its run, is the last that was seen, and it
--- saw no less than is asked for
+-- saw no less than is asked for. It has no request, or a whole one
 pub record IsOrderedAt {A : Type 0} (w : Setting) (a : AskedCall) (position : ℕ) (seen : List (LogEntry A)) : Type 0 where
   pub entry : ExecutedCall
   pub appended : IsAppended w entry position seen
   pub call : entry.call ≡ asked_call a entry.call.snapshot
   pub least : a.least ≤ entry.call.snapshot
+  pub whole : has_zero a.request ≡ false
 
 -- what was seen are entries of a log, and this is its verdict on the last of them
 pub record IsVerdict {A : Type 0} (w : Setting) (position : ℕ) (seen : List (LogEntry A)) (v : Verdict) : Type 0 where
@@ -56,17 +58,19 @@ pub record IsBegunAfter {A : Type 0} (w : Setting) (a : AskedCall) (seen : List 
   pub entries : AreEntriesOf w (entries_of seen)
   pub least : a.least ≤ length seen
 
--- the call that is asked for is one on the rows after what was seen
+-- the call that is asked for is one on the rows after what was seen, with no request or a whole one
 pub record IsCallAfter {A : Type 0} (w : Setting) (a : AskedCall) (seen : List (LogEntry A)) (snapshot : ℕ) : Type 0 where
   pub begun : IsBegunAfter w a seen
   pub place : snapshot ≡ length seen
   pub is_call : IsCall w (log_seen seen) (asked_call a (length seen))
+  pub whole : has_zero a.request ≡ false
 
--- the call began, and looked at rows when too much had come since
+-- the call, with no request or a whole one, began, and looked at rows when too much had come since
 pub record IsLate {A : Type 0} (w : Setting) (a : AskedCall) (seen : List (LogEntry A)) : Type 0 where
   pub before : List (LogEntry A)
   pub begun : IsBegunAfter w a before
   pub late : LooksTooLate w before (asked_call a (length before)) seen
+  pub whole : has_zero a.request ≡ false
 
 -- what each answer says, with what was seen of the log. An answer that isn't listed with or without that never comes
 abbrev pub IsAnswer : {A : Type 0} → Setting → AskedCall → Answer → Option (List (LogEntry A)) → Type 0

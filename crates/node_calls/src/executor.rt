@@ -1,6 +1,7 @@
 //! An executing thread answers calls.
 
-ghost use Rattle.std.specs.Prelude.{◌≡◌, ◌≤◌, length};
+ghost use Rattle.std.specs.Prelude.{◌≡◌, ◌≤◌, false, length};
+ghost use Rattle.log_model.specs.OpenRequest.{has_zero};
 ghost use Rattle.log_model.specs.Fit.{IsCall};
 ghost use Rattle.replica.specs.Replica.{entries_of};
 ghost use Rattle.locked_replica.specs.Ordered.{IsOrderedCall};
@@ -78,6 +79,7 @@ impl<'a, J: LogSetting, A: Allocator + Copy, P: Allocator + Copy, G: Gate> Execu
         requires args { length asked.now.args ≡ begun.accepted.args_len }
         requires procedure { begun.procedure ≡ asked.now.procedure }
         requires least { asked.now.least ≤ length begun.entries }
+        requires whole { has_zero asked.now.request ≡ false }
         ensures { IsAnswer J.setting asked.now result.0 result.1 }
     {
         begun.is_of_the_log();
@@ -109,6 +111,7 @@ impl<'a, J: LogSetting, A: Allocator + Copy, P: Allocator + Copy, G: Gate> Execu
         requires begun { IsBegunAfter J.setting asked.now seen }
         requires is_call { IsCall J.setting (log_seen seen) (asked_call asked.now (length seen)) }
         requires completion { IsCompletion J.setting (log_seen seen) (asked_call asked.now (length seen)) completion }
+        requires whole { has_zero asked.now.request ≡ false }
         ensures { IsAnswer J.setting asked.now result.0 result.1 }
     {
         match completion {
@@ -131,6 +134,7 @@ impl<'a, J: LogSetting, A: Allocator + Copy, P: Allocator + Copy, G: Gate> Execu
         requires call { entry.call ≡ asked_call asked.now (length seen) }
         requires least { asked.now.least ≤ length seen }
         requires ordered { IsOrderedCall J.setting (entries_of seen) entry }
+        requires whole { has_zero asked.now.request ≡ false }
         ensures { IsAnswer J.setting asked.now result.0 result.1 }
     {
         let mut seen = seen;

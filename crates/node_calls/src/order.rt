@@ -1,6 +1,7 @@
 //! A call is ordered, and its verdict awaited.
 
-ghost use Rattle.std.specs.Prelude.{◌≡◌, ◌≢◌, ◌-◌, ◌≤◌, length, slice_get, IfOk, Some, Err};
+ghost use Rattle.std.specs.Prelude.{◌≡◌, ◌≢◌, ◌-◌, ◌≤◌, false, length, slice_get, IfOk, Some, Err};
+ghost use Rattle.log_model.specs.OpenRequest.{has_zero};
 ghost use Rattle.log_model.specs.Log.{Call, CallItem};
 ghost use Rattle.log_model.specs.Entries.{ExecutedCall as Executed};
 ghost use Rattle.order_log.specs.declared.fault.AppendFault.TheVariants.{SnapshotUnseen};
@@ -55,7 +56,7 @@ impl<'a, J: LogSetting, A: Allocator + Copy, P: Allocator + Copy, G: Gate> Execu
         ensures { IsFinal J.setting seen.now result }
     {
         for look in 0..LOOKS {
-            if let Some(found) = self.served.try_deliver(self.log, seen) {
+            if let Some(found) = self.served.look_for(rt, self.log, seen) {
                 return found;
             }
             pause(look);
@@ -112,7 +113,7 @@ fn answer_of<J: LogSetting, P: Allocator + Copy>(
     requires known { IsVerdict J.setting (length seen.now) seen.now verdict }
     ensures { (a : AskedCall) (e : Executed) → IsAppended J.setting e position seen.now
         → e.call ≡ asked_call a e.call.snapshot → a.least ≤ e.call.snapshot → reply ≡ e.reply
-        → IsAnswer J.setting a result (Some seen.now) }
+        → has_zero a.request ≡ false → IsAnswer J.setting a result (Some seen.now) }
 {
     // Laws:
     verdicts_in_words_of_the_log();
@@ -142,7 +143,7 @@ pub(crate) fn answer_by<J: LogSetting, P: Allocator + Copy>(
     requires known { IsFinal J.setting seen.now found }
     ensures { (a : AskedCall) (e : Executed) → IsAppended J.setting e position seen.now
         → e.call ≡ asked_call a e.call.snapshot → a.least ≤ e.call.snapshot → reply ≡ e.reply
-        → IsAnswer J.setting a result (Some seen.now) }
+        → has_zero a.request ≡ false → IsAnswer J.setting a result (Some seen.now) }
 {
     match found {
         Found::Verdict(verdict) => answer_of(log, seen, position, reply, verdict),

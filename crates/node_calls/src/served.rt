@@ -1,23 +1,32 @@
 //! A replica behind its lock, with the places where its executing threads wait.
 
-ghost use Rattle.std.specs.Prelude.{◌≡◌, ◌≤◌, length, IfSome};
+ghost use Rattle.std.specs.Prelude.{◌≡◌, ◌≢◌, ◌<◌, ◌≤◌, length, IfOk, IfErr, IfSome};
+ghost use Rattle.locked_replica.specs.declared.answers.Found.TheVariants.{NotYet};
+ghost use Rattle.replica.specs.Replica.{AreEntriesOf, entries_of};
 ghost use Rattle.node_calls.specs.Answer.{IsFinal};
 
 use crate::bells::Waiter;
 use crossbeam_utils::CachePadded;
+use crossbeam_utils::sync::EventCount;
 use locked_replica::{Delivery, Found, LockedReplica, LogSetting, OrderedEntries};
 use order_log::{Fact, OrderLog, Seen};
 use std::alloc::{AllocError, Allocator, Global};
+use std::sync::atomic::AtomicU32;
+use std::sync::atomic::Ordering::SeqCst;
 use std::sync::{RwLock, Wait};
 
 /// The most entries that are delivered under one hold of a lock, so that readers aren't kept out for long.
 const BATCH: u32 = 16;
 
-/// A replica behind its lock, and the places where its executing threads wait.
+/// A replica behind its lock, and the places where its executing threads and its callers wait.
 #[derive(Drop)]
 pub struct ServedReplica<J: LogSetting, A: Allocator + Copy = Global, P: Allocator + Copy = A> {
     pub replica: RwLock<LockedReplica<J, A, P>>,
     pub waiters: Vec<CachePadded<Waiter>, P>,
+    /// The bell of callers who wait until the replica has come to a position.
+    arrivals: CachePadded<EventCount>,
+    /// No more entries than were delivered. Threads look here before they take the lock.
+    reached: CachePadded<AtomicU32>,
 }
 
 /// The outcome of a batch of deliveries.
@@ -39,6 +48,16 @@ fn deliver_batch<J: LogSetting, A: Allocator + Copy, P: Allocator + Copy>(
             Delivery::Delivered(_) => {}
             Delivery::Nothing | Delivery::Stopped => break,
         }
+    }
+}
+
+/// Returns what was found, unless that isn't known yet.
+fn known(found: Found) -> Option<Found>
+    ensures { IfSome result (λ known. (known ≡ found) × (known ≢ NotYet)) }
+{
+    match found {
+        Found::NotYet => None,
+        found => Some(found),
     }
 }
 
@@ -64,7 +83,32 @@ impl<J: LogSetting, A: Allocator + Copy, P: Allocator + Copy> ServedReplica<J, A
         Ok(ServedReplica {
             replica: RwLock::new(replica),
             waiters: new_waiters(alloc, executors)?,
+            arrivals: CachePadded::new(EventCount::new()),
+            reached: CachePadded::new(AtomicU32::new(0)),
         })
+    }
+
+    /// Waits until the replica has come to a position, and returns what was delivered by then. Fails where the replica
+    /// has stopped below the position, with the position where the replica is.
+    pub fn wait<R: Wait>(&self, rt: &R, position: u32) -> Result<Seen<J, P>, u32>
+        ensures reached { IfOk result (λ seen. position ≤ length seen) }
+        ensures entries { IfOk result (λ seen. AreEntriesOf J.setting (entries_of seen)) }
+        ensures below { IfErr result (λ at. at < position) }
+    {
+        for _ in rt.forever() {
+            let key = self.arrivals.prepare_wait();
+            let locked = self.replica.read(rt);
+            if position <= locked.position() {
+                locked.keeps_what_was_delivered();
+                return Ok(locked.seen());
+            }
+            if locked.stopped() {
+                return Err(locked.position());
+            }
+            drop(locked);
+            key.wait(rt);
+        }
+        unreachable!()
     }
 
     /// Delivers what the log shows, at most 16 entries, and wakes the threads that wait for that.
@@ -80,9 +124,26 @@ impl<J: LogSetting, A: Allocator + Copy, P: Allocator + Copy> ServedReplica<J, A
         batch
     }
 
+    /// Tells what became of the last entry that was seen, where that is known. Delivers first where the replica hasn't
+    /// come so far, and nobody has the lock.
+    pub(crate) fn look_for<R: Wait>(
+        &self,
+        rt: &R,
+        log: &OrderLog<J, OrderedEntries<J>, P>,
+        seen: &Seen<J, P>,
+    ) -> Option<Found>
+        requires { 1 ≤ length seen.now }
+        ensures { IfSome result (IsFinal J.setting seen.now) }
+    {
+        if self.reached.load(SeqCst) < seen.len() {
+            return self.try_deliver(log, seen);
+        }
+        known(self.replica.read(rt).find(seen))
+    }
+
     /// Delivers as `deliver` does where nobody has the lock. Then tells what became of the last entry that was seen,
     /// where that is known by then.
-    pub(crate) fn try_deliver(
+    fn try_deliver(
         &self,
         log: &OrderLog<J, OrderedEntries<J>, P>,
         seen: &Seen<J, P>,
@@ -97,24 +158,25 @@ impl<J: LogSetting, A: Allocator + Copy, P: Allocator + Copy> ServedReplica<J, A
         let position = locked.position();
         drop(locked);
         self.ring_after(stopped, position);
-        if found == Found::NotYet {
-            return None;
-        }
-        Some(found)
+        known(found)
     }
 
-    /// Wakes the executing threads that wait for this position or a lower one, and all where the replica has stopped.
+    /// Wakes the callers who wait, the executing threads that wait for this position or a lower one, and all threads
+    /// where the replica has stopped.
     fn ring_after(&self, stopped: bool, position: u32) {
+        self.reached.fetch_max(position, SeqCst);
         if stopped {
             return self.ring();
         }
+        self.arrivals.notify_all();
         for waiter in self.waiters.iter() {
             waiter.ring_up_to(position);
         }
     }
 
-    /// Wakes all executing threads of the replica.
+    /// Wakes all who wait for the replica.
     pub fn ring(&self) {
+        self.arrivals.notify_all();
         for waiter in self.waiters.iter() {
             waiter.ring();
         }

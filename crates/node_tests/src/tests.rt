@@ -1,20 +1,26 @@
 //! Calls of several threads at a node: their answers, and the end of the node.
 
-use node::{Added, Size};
+use node::Options;
+use node_calls::Answer;
 use std::alloc::Global;
 use std::process::Abort;
 use std::sync::Wait;
 use std::thread::Threads;
 use tallies::Counts;
 use test_nodes::{Addition, Asked, Asking, Ending, Told, run_at_a_node};
-use test_programs::{ADD, ONE, PUT, bytes_of};
+use test_programs::{ADD, ONE, PUT, PUT_AND_CANCEL, bytes_of};
 
+mod beside;
 mod calls;
 
+use beside::{
+    FIVE_PUTS, HELD_IN_CONFLICT, LOADING, PUT_FIVE, beside_held, busy, is_beside_held, is_busy,
+    is_loaded, is_wait, loaded, waits,
+};
 use calls::{
-    CALLERS, REFUSALS, TWO_PUTS, addition_of, is_addition, is_as_in, is_committed, is_numbered,
-    is_one_session, is_overlap, is_together, numbered, often_add, often_put, one_session, overlap,
-    row_at, together,
+    CALLERS, CANCELLED, REFUSALS, TWO_PUTS, addition_of, is_addition, is_as_in, is_committed,
+    is_numbered, is_one_session, is_overlap, is_together, numbered, often_add, often_put,
+    one_session, overlap, row_at, together,
 };
 
 /// A case that is tried at a node.
@@ -29,6 +35,12 @@ enum Case {
     Numbered,
     Refusals,
     Added,
+    Conflict,
+    Late,
+    Cancelled,
+    Waits,
+    Busy,
+    Loaded,
 }
 
 /// The end that a node has to have: the sum of all answers, the number that committed, and each replica's position. A
@@ -63,6 +75,12 @@ impl Case {
             Case::Numbered => End::new(3, Some(2), Some(3)),
             Case::Refusals => End::new(7, Some(0), Some(0)),
             Case::Added => End::new(0, Some(0), Some(1)),
+            Case::Conflict => End::new(2, Some(1), Some(2)),
+            Case::Late => End::new(6, Some(5), Some(5)),
+            Case::Cancelled => End::new(1, Some(0), Some(0)),
+            Case::Waits => End::new(2, Some(1), Some(1)),
+            Case::Busy => End::new(257, None, None),
+            Case::Loaded => End::new(3_200, None, None),
         }
     }
 }
@@ -72,7 +90,12 @@ impl Case {
 type NodeSize = (u32, u32, u32, u32);
 
 /// The procedures of the node, with their numbers and the number of words that each takes.
-static PROCEDURES: [(u16, &str, usize); 3] = [(1, ADD, 2), (3, PUT, 2), (9, ONE, 0)];
+static PROCEDURES: [(u16, &str, usize); 4] = [
+    (1, ADD, 2),
+    (3, PUT, 2),
+    (8, PUT_AND_CANCEL, 2),
+    (9, ONE, 0),
+];
 
 fn sum_of(counts: &Counts) -> u64 {
     counts
@@ -88,27 +111,21 @@ fn sum_of(counts: &Counts) -> u64 {
 /// A case at a node of a size, with the bytes of a program that may be added.
 #[derive(Clone, Copy)]
 struct Trial<'a> {
-    size: Size,
+    size: Options,
     case: Case,
     program: &'a [u8],
 }
 
 impl<'a> Asked for Trial<'a> {
     fn addition(&self, index: usize) -> Option<Addition<'_>> {
-        match self.case {
-            Case::Added => addition_of(self.program, index),
-            _ => None,
-        }
-    }
-
-    fn is_added(&self, index: usize, added: &Added, seen: bool) -> bool {
-        is_addition(index, added, seen)
+        addition_of(self.program, index)
     }
 
     fn callers(&self) -> usize {
         match self.case {
             Case::Adds | Case::Puts => CALLERS,
-            Case::Overlap | Case::Together => 2,
+            Case::Overlap | Case::Together | Case::Conflict | Case::Late | Case::Busy => 2,
+            Case::Loaded => 2 + LOADING,
             _ => 1,
         }
     }
@@ -124,7 +141,13 @@ impl<'a> Asked for Trial<'a> {
             Case::Puts => often_put(replicas, place, index),
             Case::Numbered => numbered(index),
             Case::Refusals => row_at(&REFUSALS, index),
-            Case::Added => None,
+            Case::Added => (index < 4).then_some(Asking::Add(index)),
+            Case::Conflict => beside_held(&PUT_FIVE, place, index),
+            Case::Late => beside_held(&FIVE_PUTS, place, index),
+            Case::Cancelled => row_at(&CANCELLED, index),
+            Case::Waits => waits(index),
+            Case::Busy => busy(place, index),
+            Case::Loaded => loaded(replicas, place, index),
         }
     }
 
@@ -138,7 +161,13 @@ impl<'a> Asked for Trial<'a> {
             Case::Puts => is_committed(told),
             Case::Numbered => is_numbered(index, told),
             Case::Refusals => is_as_in(&REFUSALS, index, told),
-            Case::Added => false,
+            Case::Added => is_addition(index, told),
+            Case::Conflict => is_beside_held(&PUT_FIVE, HELD_IN_CONFLICT, place, index, told),
+            Case::Late => is_beside_held(&FIVE_PUTS, Answer::Stale, place, index, told),
+            Case::Cancelled => is_as_in(&CANCELLED, index, told),
+            Case::Waits => is_wait(index, told),
+            Case::Busy => is_busy(place, index, told),
+            Case::Loaded => is_loaded(place, told),
         }
     }
 }
@@ -158,7 +187,7 @@ fn check_end(rt: &impl Abort, ending: &Ending, trial: Trial<'_>, end: End) {
     for replica in &ending.replicas {
         assert!(rt; !replica.stopped);
         // An addition that is ordered commits, and is no answer to a call.
-        let additions = u64::from(matches!(case, Case::Added));
+        let additions = u64::from(matches!(case, Case::Added | Case::Loaded));
         assert_eq!(rt;
             u64::from(replica.commits),
             totals.committed.wrapping_add(additions)
@@ -167,7 +196,7 @@ fn check_end(rt: &impl Abort, ending: &Ending, trial: Trial<'_>, end: End) {
             end.position
                 .is_none_or(|position| position == replica.position)
         );
-        if matches!(case, Case::Adds) {
+        if matches!(case, Case::Adds | Case::Loaded) {
             assert_eq!(rt; replica.number, totals.committed);
         }
     }
@@ -181,7 +210,7 @@ fn try_at_a_node<R: Threads + Wait + Abort + Copy + Send + Sync + 'static>(
     case: Case,
 ) {
     let (replicas, executors, window, limit) = size;
-    let size = Size {
+    let size = Options {
         replicas,
         executors,
         window,
@@ -193,7 +222,10 @@ fn try_at_a_node<R: Threads + Wait + Abort + Copy + Send + Sync + 'static>(
         case,
         program: &program,
     };
-    let armed = matches!(case, Case::Overlap | Case::Together);
+    let armed = matches!(
+        case,
+        Case::Overlap | Case::Together | Case::Conflict | Case::Late | Case::Busy
+    );
     let ending = run_at_a_node(rt, alloc, size, armed, &PROCEDURES, &trial, 5);
     check_end(rt, &ending.expect(rt, "a node"), trial, case.end());
 }
@@ -201,19 +233,25 @@ fn try_at_a_node<R: Threads + Wait + Abort + Copy + Send + Sync + 'static>(
 const LIMIT: u32 = 1_048_576;
 
 /// Cases of one caller, each at a node of a size.
-static ONE_CALLER: [(NodeSize, Case); 5] = [
+static ONE_CALLER: [(NodeSize, Case); 7] = [
     ((2, 4, 4, LIMIT), Case::OneSession),
     ((2, 4, 4, LIMIT), Case::Numbered),
     ((2, 2, 4, LIMIT), Case::Refusals),
     ((2, 2, 4, LIMIT), Case::Added),
     ((2, 2, 4, 1), Case::TwoPuts),
+    ((2, 2, 4, LIMIT), Case::Cancelled),
+    ((2, 2, 4, LIMIT), Case::Waits),
 ];
 
 /// Cases of several callers.
-static SEVERAL_CALLERS: [(NodeSize, Case); 5] = [
+static SEVERAL_CALLERS: [(NodeSize, Case); 9] = [
     ((1, 2, 4, LIMIT), Case::Overlap),
     ((1, 1, 4, LIMIT), Case::Overlap),
     ((1, 2, 4, LIMIT), Case::Together),
+    ((1, 2, 4, LIMIT), Case::Conflict),
+    ((1, 2, 4, LIMIT), Case::Late),
+    ((1, 1, 4_096, LIMIT), Case::Busy),
+    ((8, 16, 64, LIMIT), Case::Loaded),
     ((8, 16, 4, LIMIT), Case::Adds),
     ((2, 16, 4_096, LIMIT), Case::Puts),
 ];

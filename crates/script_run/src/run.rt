@@ -3,7 +3,7 @@
 ghost use Rattle.std.specs.Prelude.{◌≡◌, ◌⊎◌, ◌<◌, ◌^◌, IfOk, IfSome, false, vec_len};
 ghost use Rattle.byte_output.specs.Writes.{WritesText};
 ghost use Rattle.byte_output.specs.declared.status.TheConstants.{FAILED};
-ghost use Rattle.tallies.specs.Shared.{names_by_place};
+ghost use Rattle.tallies.specs.Tallies.{names_by_place};
 ghost use Rattle.script_run.specs.Reading.{said_by};
 ghost use Rattle.script_run.specs.Answered.{AreToldOf};
 ghost use Rattle.script_run.specs.Planned.{planned_calls};
@@ -18,7 +18,7 @@ use crate::text::{ReplicaEnd, text_of};
 use byte_output::{FAILED, put};
 use catalogue::Catalogue;
 use locked_replica::{LogSetting, OrderedEntries};
-use node::{Desk, Node, Size, StartFault};
+use node::{Desk, Node, Options, StartFault};
 use node_calls::{Answer, OpenGate};
 use order_log::{Fact, GroupCells, Seen};
 use row_sets::Bytes;
@@ -151,7 +151,7 @@ fn run_script<R: Threads + Wait + Copy + Send + Sync + 'static, E: Write>(
     let Ok(cells) = GroupCells::new(alloc) else {
         return Err(Failure::Start(StartFault::NoMemory));
     };
-    let size = Size {
+    let size = Options {
         replicas,
         executors: options.executors,
         window,
@@ -181,7 +181,7 @@ fn run_on_node<
     alloc: Global,
     cells: GroupCells,
     blanks: Blanks,
-    size: Size,
+    size: Options,
     catalogue: Catalogue,
     calls: Vec<ScriptCall<Bytes<Global>>>,
     faults: &mut E,
@@ -200,7 +200,7 @@ fn run_on_node<
     let Ok(asking) = Asking::<J>::new(alloc, &catalogue, size.replicas, calls) else {
         return Err(Failure::NoMemory);
     };
-    let started = Node::<J, OpenGate>::start_sized(
+    let started = Node::<J, OpenGate>::start_with(
         rt, alloc, cells, blanks, size, catalogue, OpenGate,
     );
     let node = match started {

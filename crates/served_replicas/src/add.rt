@@ -12,7 +12,6 @@ use program_checks::{AdditionFault, ProgramFault};
 use schema::{MAX_ARGUMENTS, OrNoMemory};
 use std::alloc::Allocator;
 use std::sync::Wait;
-use tallies::Ledgers;
 
 /// A cause for which a program isn't added.
 #[derive(Clone, Copy, Debug, PartialEq, Eq, Drop)]
@@ -37,12 +36,7 @@ pub enum Added {
     Name,
 }
 
-impl<J: LogSetting + Ledgers, A: Allocator + Copy, P: Allocator + Copy, G: Gate> Shared<
-    J,
-    A,
-    P,
-    G,
-> {
+impl<J: LogSetting, A: Allocator + Copy, P: Allocator + Copy, G: Gate> Shared<J, A, P, G> {
     /// Appends a procedure to the log, where its program is accepted for the tables, and wakes the delivering threads.
     /// Returns what was seen of the log then, where the procedure was appended.
     pub fn add<R: Wait>(
@@ -61,10 +55,11 @@ impl<J: LogSetting + Ledgers, A: Allocator + Copy, P: Allocator + Copy, G: Gate>
             Err(refused) => return (refused, None),
         };
         let mut seen = self.delivered(rt);
-        let appended = self.log.append(&mut seen, Entry::Addition(addition));
-        self.bells.ring();
-        match appended {
-            Ok(position) => (Added::Ordered(position), Some(seen)),
+        match self.log.append(&mut seen, Entry::Addition(addition)) {
+            Ok(position) => {
+                self.bells.ring();
+                (Added::Ordered(position), Some(seen))
+            }
             Err(AppendFault::Full) => (Added::Full, None),
             Err(AppendFault::NoMemory) => (Added::NoMemory, None),
             Err(AppendFault::SnapshotUnseen) => unreachable!(),

@@ -13,10 +13,11 @@ use std::mem;
 use std::sync::atomic::AtomicUsize;
 use std::sync::atomic::Ordering::SeqCst;
 use std::sync::{Mutex, Wait};
+use tallies::Ledgers;
 
 /// The place of a call among those that were asked for together.
 #[derive(Drop)]
-enum Place<J: LogSetting, P: Allocator + Copy> {
+enum Place<J: LogSetting + Ledgers, P: Allocator + Copy> {
     /// No thread has taken the call.
     Asked(Asked<P>),
     /// A thread has taken the call, or the caller the reply.
@@ -35,7 +36,7 @@ pub(crate) struct TakenCall<P: Allocator + Copy> {
 /// Calls that a caller asks for together at a replica. Executing threads take them one by one, so that none waits
 /// behind another while a thread is idle. The last reply wakes the caller.
 #[derive(Drop)]
-pub struct Calls<J: LogSetting, P: Allocator + Copy = Global> {
+pub struct Calls<J: LogSetting + Ledgers, P: Allocator + Copy = Global> {
     places: Vec<Mutex<Place<J, P>>, P>,
     /// The first place whose call no thread has taken.
     next: AtomicUsize,
@@ -44,7 +45,7 @@ pub struct Calls<J: LogSetting, P: Allocator + Copy = Global> {
     bell: EventCount,
 }
 
-impl<J: LogSetting, P: Allocator + Copy> Calls<J, P> {
+impl<J: LogSetting + Ledgers, P: Allocator + Copy> Calls<J, P> {
     /// Copies what is asked for. Asks for nothing yet.
     pub fn new(alloc: P, requests: &[CallRequest<'_>]) -> Result<Calls<J, P>, AllocError> {
         let mut places = Vec::with_capacity(alloc, requests.len())?;

@@ -1,8 +1,8 @@
 //! An executing thread.
 
-ghost use Rattle.std.specs.Prelude.{◌≡◌, ℕ, ◌+◌, ◌^◌};
-ghost use Rattle.tallies.specs.Counted.{AreBelow, one_more};
-ghost use Rattle.node_calls.specs.Answer.{IsAnswer};
+ghost use Rattle.std.specs.Prelude.{◌≡◌, ℕ, ◌+◌, ◌≤◌};
+ghost use Rattle.tallies.specs.declared.ledgers.TheConstants.{GRANT};
+ghost use Rattle.tallies.specs.Counted.{AreBelow, no_counts, one_more};
 ghost use Rattle.served_replicas.specs.Kinds.{kind_of};
 
 use crate::calls::{Calls, TakenCall};
@@ -11,31 +11,35 @@ use crate::reply::Reply;
 use crate::shared::Shared;
 use crossbeam_channel::Receiver;
 use locked_replica::{LogSetting, OrderedEntries};
-use node_calls::{Answer, Asked, Executor, Gate, LOOKS, pause};
-use order_log::{Fact, Seen};
+use node_calls::{Asked, Executor, Gate, LOOKS, pause};
+use order_log::Fact;
 use std::alloc::Allocator;
 use std::sync::{Arc, Wait};
-use tallies::{Counts, Ledgers, Shares};
+use tallies::{GRANT, Ledgers, Tally};
 
-/// Answers a call, and counts the answer by its kind.
-fn answer_counted<J: LogSetting, A: Allocator + Copy, P: Allocator + Copy, G: Gate, R: Wait>(
+/// Answers a call, and makes the reply of the answer, which is counted by its kind.
+fn reply_to<J: LogSetting + Ledgers, A: Allocator + Copy, P: Allocator + Copy, G: Gate, R: Wait>(
     rt: &R,
     executor: &Executor<'_, J, A, P, G>,
-    asked: &Asked<P>,
-    counts: &mut Counts,
-) -> (Answer, Option<Seen<J, P>>)
-    requires { AreBelow (2 ^ 63) counts.old }
-    ensures answer { IsAnswer J.setting asked.now result.0 result.1 }
-    ensures counted { counts.new ≡ one_more (kind_of result.0) counts.old }
-    ensures below { (bound : ℕ) → AreBelow bound counts.old → AreBelow (bound + 1) counts.new }
+    replica: u32,
+    asked: Asked<P>,
+    tally: &mut Tally<J>,
+) -> Reply<J, P>
+    requires threads { 1 ≤ tally.old.threads }
+    requires room { AreBelow GRANT tally.old.counts }
+    ensures replica { result.replica ≡ replica }
+    ensures asked { result.asked ≡ asked }
+    ensures counted { tally.new.counts ≡ one_more (kind_of result.answer) tally.old.counts }
+    ensures below { (bound : ℕ) → AreBelow bound tally.old.counts → AreBelow (bound + 1) tally.new.counts }
+    ensures threads { tally.new.threads ≡ tally.old.threads }
 {
-    let (answer, seen) = executor.answer(rt, asked);
-    counts.add_one(kind_of(answer));
-    (answer, seen)
+    let (answer, seen) = executor.answer(rt, &asked);
+    let part = tally.count(kind_of(answer));
+    Reply::new(replica, asked, answer, seen, part)
 }
 
 /// Receives the next calls. Looks for them some times before it sleeps. Returns `None` where no caller is left.
-fn receive<J: LogSetting, P: Allocator + Copy, R: Wait>(
+fn receive<J: LogSetting + Ledgers, P: Allocator + Copy, R: Wait>(
     rt: &R,
     asked: &Receiver<Arc<Calls<J, P>, P>, P>,
 ) -> Option<Arc<Calls<J, P>, P>> {
@@ -50,7 +54,7 @@ fn receive<J: LogSetting, P: Allocator + Copy, R: Wait>(
 
 /// Takes a call that no thread has taken: of the calls where the thread is, or of the next that come. Returns `None`
 /// where no caller is left.
-fn next_call<J: LogSetting, P: Allocator + Copy, R: Wait>(
+fn next_call<J: LogSetting + Ledgers, P: Allocator + Copy, R: Wait>(
     rt: &R,
     asked: &Receiver<Arc<Calls<J, P>, P>, P>,
     calls: &mut Option<Arc<Calls<J, P>, P>>,
@@ -66,39 +70,45 @@ fn next_call<J: LogSetting, P: Allocator + Copy, R: Wait>(
     unreachable!()
 }
 
-/// Answers calls at a replica until no caller is left. Returns the number of answers of each kind.
-fn answer_all<J: LogSetting, A: Allocator + Copy, P: Allocator + Copy, G: Gate, R: Wait>(
+/// Answers calls at a replica until no caller is left, and counts the answers.
+fn answer_all<J: LogSetting + Ledgers, A: Allocator + Copy, P: Allocator + Copy, G: Gate, R: Wait>(
     rt: &R,
     executor: &Executor<'_, J, A, P, G>,
     replica: u32,
     asked: &Receiver<Arc<Calls<J, P>, P>, P>,
-) -> Counts {
-    let mut counts = Counts::new();
+    tally: &mut Tally<J>,
+)
+    requires threads { 1 ≤ tally.old.threads }
+    requires nothing { tally.old.counts ≡ no_counts }
+    ensures { tally.new.threads ≡ tally.old.threads }
+{
     let mut calls = None;
-    for _served in 0..u64::MAX >> 1 {
+    for _answer in 0..GRANT - 1 {
         let Some(taken) = next_call(rt, asked, &mut calls) else {
             break;
         };
         let TakenCall { asked, place } = taken;
-        let (answer, seen) = answer_counted(rt, executor, &asked, &mut counts);
+        let reply = reply_to(rt, executor, replica, asked, tally);
         if let Some(calls) = &calls {
-            calls.reply(rt, place, Reply::new(replica, asked, answer, seen));
+            calls.reply(rt, place, reply);
         }
     }
-    counts
 }
 
 /// Runs an executing thread of a replica. The thread goes by its place from 0 on, the replica by its number from 1 on.
-/// The thread answers calls until no caller is left, and enters its counts in its share.
+/// The thread answers calls until no caller is left, and counts each answer that it gives: no reply can be made without
+/// a part of the tally.
 pub fn serve<J: LogSetting + Ledgers, A: Allocator + Copy, P: Allocator + Copy, G: Gate, R: Wait>(
     rt: &R,
     shared: &Shared<J, A, P, G>,
     replica: u32,
     thread: usize,
     asked: &Receiver<Arc<Calls<J, P>, P>, P>,
-    shares: &mut Shares<J>,
+    tally: &mut Tally<J>,
 )
-    ensures { shares.new.parts ≡ shares.old.parts }
+    requires threads { 1 ≤ tally.old.threads }
+    requires nothing { tally.old.counts ≡ no_counts }
+    ensures { tally.new.threads ≡ tally.old.threads }
 {
     let Some(served) = shared.replica(replica) else {
         return;
@@ -115,6 +125,5 @@ pub fn serve<J: LogSetting + Ledgers, A: Allocator + Copy, P: Allocator + Copy, 
         bells: &shared.bells,
         bell: replica.saturating_sub(1) as usize,
     };
-    let counts = answer_all(rt, &executor, replica, asked);
-    let _entered = shared.totals.lock(rt).enter(shares, counts);
+    answer_all(rt, &executor, replica, asked, tally);
 }

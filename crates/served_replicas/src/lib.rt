@@ -1,5 +1,5 @@
-//! The replicas of a node behind their locks, and what its threads do: they deliver to a replica, answer requests at
-//! it, make it anew, and add procedures through the log.
+//! The replicas of a node behind their locks, and what threads do with them: answer requests, deliver, scan rows, make a
+//! replica anew, add procedures through the log.
 #![tactic(auto)]
 
 pub use add::{Added, ProgramRefusal};
@@ -9,6 +9,7 @@ pub use executing::serve;
 pub use kind::kind_of;
 pub use rebuild::RebuildFault;
 pub use reply::{CallRequest, Reply};
+pub use scan::{ScanFault, ScannedRows};
 pub use shared::Shared;
 
 mod add;
@@ -19,4 +20,5 @@ mod kind;
 mod node_catalogue;
 mod rebuild;
 mod reply;
+mod scan;
 mod shared;

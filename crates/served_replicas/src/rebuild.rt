@@ -11,7 +11,6 @@ use order_log::{Fact, OrderLog};
 use std::alloc::{AllocError, Allocator};
 use std::fmt;
 use std::sync::{RwLock, Wait};
-use tallies::Ledgers;
 
 /// A cause for which a replica isn't rebuilt.
 #[derive(Clone, Copy, Debug, PartialEq, Eq, Drop)]
@@ -71,12 +70,7 @@ fn catch_up_and_replace<J: LogSetting, A: Allocator + Copy, P: Allocator + Copy,
     unreachable!()
 }
 
-impl<J: LogSetting + Ledgers, A: Allocator + Copy, P: Allocator + Copy, G: Gate> Shared<
-    J,
-    A,
-    P,
-    G,
-> {
+impl<J: LogSetting, A: Allocator + Copy, P: Allocator + Copy, G: Gate> Shared<J, A, P, G> {
     /// Makes the replica of a number anew from the log. It then delivers again where it had stopped. Calls go on at the
     /// old replica until the new one, which has come no less far, is in its place. Returns the new one's position then.
     pub fn rebuild<R: Wait>(&self, rt: &R, replica: u32) -> Result<u32, RebuildFault>

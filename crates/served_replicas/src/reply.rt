@@ -1,7 +1,9 @@
 //! A caller's request, and an executing thread's reply.
 
 ghost use Rattle.std.specs.Prelude.{◌≡◌, IfSome, IsTrue, IfOk};
+ghost use Rattle.tallies.specs.Counted.{no_counts, one_more};
 ghost use Rattle.node_calls.specs.Answer.{IsAnswer};
+ghost use Rattle.served_replicas.specs.Kinds.{kind_of};
 
 use locked_replica::LogSetting;
 use log_model::RequestId;
@@ -10,6 +12,7 @@ use order_log::Seen;
 use row_sets::Bytes;
 use std::alloc::{AllocError, Allocator, Global};
 use std::marker::Model;
+use tallies::{Ledgers, Parts};
 
 /// A call that a caller asks for. Contracts see the arguments as a list of bytes.
 #[derive(Drop)]
@@ -56,18 +59,23 @@ impl CallRequest<'_> {
     }
 }
 
-/// A reply: it names what was asked, and at which replica. Contracts see all of it.
+/// A reply: it names what was asked, and at which replica. It holds the part of a ledger that shows that the answer was
+/// counted, under its kind. Contracts see all else of it.
 #[derive(Drop)]
-pub struct Reply<J: LogSetting, P: Allocator + Copy = Global> {
+pub struct Reply<J: LogSetting + Ledgers, P: Allocator + Copy = Global> {
     replica: u32,
     asked: Asked<P>,
     answer: Answer,
     seen: Option<Seen<J, P>>,
+    part: Parts<J>,
 }
 
-impl<J: LogSetting, P: Allocator + Copy> Model for Reply<J, P> {
+impl<J: LogSetting + Ledgers, P: Allocator + Copy> Model for Reply<J, P> {
     ghost use Rattle.served_replicas.specs.Replies.{ReplyState, reply_code};
+    ghost use Rattle.std.specs.Prelude.{◌≡◌};
     ghost use Rattle.node_calls.specs.Answer.{IsAnswer};
+    ghost use Rattle.tallies.specs.Counted.{no_counts, one_more};
+    ghost use Rattle.served_replicas.specs.Kinds.{kind_of};
 
     ghost Value = { ReplyState P };
 
@@ -75,18 +83,20 @@ impl<J: LogSetting, P: Allocator + Copy> Model for Reply<J, P> {
 
     ghost view = { λ r. record { replica = r.replica; asked = r.asked; answer = r.answer; seen = r.seen } };
 
-    ghost invariant = { λ r. IsAnswer J.setting r.asked r.answer r.seen };
+    ghost invariant = { λ r. IsAnswer J.setting r.asked r.answer r.seen × (r.part ≡ one_more (kind_of r.answer) no_counts) };
 }
 
-impl<J: LogSetting, P: Allocator + Copy> Reply<J, P> {
-    /// Makes a reply of an answer to what was asked at a replica.
+impl<J: LogSetting + Ledgers, P: Allocator + Copy> Reply<J, P> {
+    /// Makes a reply of an answer to what was asked at a replica, once the answer is counted.
     pub fn new(
         replica: u32,
         asked: Asked<P>,
         answer: Answer,
         seen: Option<Seen<J, P>>,
+        part: Parts<J>,
     ) -> Reply<J, P>
-        requires { IsAnswer J.setting asked answer seen }
+        requires answer { IsAnswer J.setting asked answer seen }
+        requires counted { part ≡ one_more (kind_of answer) no_counts }
         ensures { result ≡ record { replica = replica; asked = asked; answer = answer; seen = seen } }
     {
         Reply {
@@ -94,6 +104,7 @@ impl<J: LogSetting, P: Allocator + Copy> Reply<J, P> {
             asked,
             answer,
             seen,
+            part,
         }
     }
 
@@ -104,6 +115,7 @@ impl<J: LogSetting, P: Allocator + Copy> Reply<J, P> {
         request: &CallRequest<'_>,
     ) -> Option<(Answer, Option<Seen<J, P>>)>
         ensures replica { IfSome result (λ _. self.replica ≡ replica) }
+        ensures same { IfSome result (λ r. (r.0 ≡ self.answer) × (r.1 ≡ self.seen)) }
         ensures answer { IfSome result (λ r. IsAnswer J.setting request.now r.0 r.1) }
     {
         if self.replica != replica || !request.is(&self.asked) {

@@ -12,10 +12,9 @@ use node_calls::{Bells, Gate, ServedReplica};
 use order_log::{Fact, OrderLog};
 use std::alloc::{AllocError, Allocator, Global};
 use std::marker::Model;
+use std::sync::RwLock;
 use std::sync::atomic::Ordering::SeqCst;
 use std::sync::atomic::{AtomicBool, AtomicU64};
-use std::sync::{Mutex, RwLock, Wait};
-use tallies::{Counts, Ledgers, Shares, Totals};
 
 /// A replica that threads serve, with its memory.
 #[derive(Drop)]
@@ -25,10 +24,10 @@ pub struct ReplicaInMemory<J: LogSetting, A: Allocator + Copy = Global, P: Alloc
     pub(crate) served: ServedReplica<J, A, P>,
 }
 
-/// The parts that the threads of a node share: the log, the replicas behind their locks, the waiting places, and the
-/// sums of answers. Contracts see the number of replicas.
+/// The parts that the threads of a node share: the log, the replicas behind their locks, and the waiting places.
+/// Contracts see the number of replicas.
 #[derive(Drop)]
-pub struct Shared<J: LogSetting + Ledgers, A: Allocator + Copy, P: Allocator + Copy, G: Gate>
+pub struct Shared<J: LogSetting, A: Allocator + Copy, P: Allocator + Copy, G: Gate>
 where
     OrderedEntries<J>: Fact,
 {
@@ -40,15 +39,13 @@ where
     /// The bells of the delivering threads.
     pub(crate) bells: Bells<P>,
     pub(crate) gate: G,
-    pub(crate) totals: Mutex<Totals<J>>,
     /// The number of answers that no executing thread gave.
     unserved: CachePadded<AtomicU64>,
     /// True where the delivering threads are to end at the end of the log.
     pub(crate) stopping: CachePadded<AtomicBool>,
 }
 
-impl<J: LogSetting + Ledgers, A: Allocator + Copy, P: Allocator + Copy, G: Gate> Model
-    for Shared<J, A, P, G>
+impl<J: LogSetting, A: Allocator + Copy, P: Allocator + Copy, G: Gate> Model for Shared<J, A, P, G>
 where
     OrderedEntries<J>: Fact,
 {
@@ -78,19 +75,13 @@ impl<J: LogSetting, A: Allocator + Copy, P: Allocator + Copy> ReplicaInMemory<J,
     }
 }
 
-impl<J: LogSetting + Ledgers, A: Allocator + Copy, P: Allocator + Copy, G: Gate + Drop> Shared<
-    J,
-    A,
-    P,
-    G,
-> {
+impl<J: LogSetting, A: Allocator + Copy, P: Allocator + Copy, G: Gate + Drop> Shared<J, A, P, G> {
     /// Makes what the threads of a node share, with no replicas yet and a bell for each of `replicas`.
     pub fn new(
         alloc: P,
         log: OrderLog<J, OrderedEntries<J>, P>,
         catalogue: Catalogue<P>,
         window: u32,
-        totals: Totals<J>,
         gate: G,
         replicas: usize,
     ) -> Result<Shared<J, A, P, G>, AllocError>
@@ -108,19 +99,13 @@ impl<J: LogSetting + Ledgers, A: Allocator + Copy, P: Allocator + Copy, G: Gate 
             replicas: Vec::with_capacity(alloc, replicas)?,
             bells: Bells::new(alloc, replicas)?,
             gate,
-            totals: Mutex::new(totals),
             unserved: CachePadded::new(AtomicU64::new(0)),
             stopping: CachePadded::new(AtomicBool::new(false)),
         })
     }
 }
 
-impl<J: LogSetting + Ledgers, A: Allocator + Copy, P: Allocator + Copy, G: Gate> Shared<
-    J,
-    A,
-    P,
-    G,
-> {
+impl<J: LogSetting, A: Allocator + Copy, P: Allocator + Copy, G: Gate> Shared<J, A, P, G> {
     /// Adds a replica in the memory of its own allocator, for `executors` executing threads.
     pub fn add_replica(&mut self, alloc: A, executors: usize) -> Result<(), AllocError>
         ensures { OnOk result (self.new.replicas ≡ self.old.replicas + 1) }
@@ -147,8 +132,19 @@ impl<J: LogSetting + Ledgers, A: Allocator + Copy, P: Allocator + Copy, G: Gate>
         ensures some { IfSome result (λ _. (1 ≤ number) × (number ≤ self.now.replicas)) }
         ensures none { IfNone result (IsNoReplica self.now.replicas number) }
     {
+        match self.served(number) {
+            Some(served) => Some(&served.replica),
+            None => None,
+        }
+    }
+
+    /// The replica of a number, from 1 on, with the places where threads wait for it.
+    pub fn served(&self, number: u32) -> Option<&ServedReplica<J, A, P>>
+        ensures some { IfSome result (λ _. (1 ≤ number) × (number ≤ self.now.replicas)) }
+        ensures none { IfNone result (IsNoReplica self.now.replicas number) }
+    {
         match self.replica(number) {
-            Some(served) => Some(&served.served.replica),
+            Some(served) => Some(&served.served),
             None => None,
         }
     }
@@ -174,17 +170,9 @@ impl<J: LogSetting + Ledgers, A: Allocator + Copy, P: Allocator + Copy, G: Gate>
         self.unserved.fetch_add(1, SeqCst);
     }
 
-    /// Enters the answers that no executing thread counted, and returns the sums of all that was counted.
-    pub fn gather<R: Wait>(&self, rt: &R, shares: &mut Shares<J>) -> Counts
-        requires { shares.old.parts ≡ 129 }
-        ensures totals { result ≡ shares.new.counted }
-        ensures parts { shares.new.parts ≡ shares.old.parts }
-    {
-        let mut unserved = Counts::new();
-        unserved.other = self.unserved.load(SeqCst);
-        let mut totals = self.totals.lock(rt);
-        let _entered = totals.enter(shares, unserved);
-        totals.all(shares)
+    /// Returns the number of answers that no executing thread gave.
+    pub fn unserved(&self) -> u64 {
+        self.unserved.load(SeqCst)
     }
 
     /// Has the delivering threads end at the end of the log. Call it when no executing thread orders any more.

@@ -1,5 +1,5 @@
 -- Counts of answers by kind.
-use Rattle.std.specs.Prelude.{ℕ, ◌+◌, ◌<◌}
+use Rattle.std.specs.Prelude.{ℕ, ◌+◌, ◌<◌, ◌≤◌}
 use Rattle.tallies.specs.declared.counts.Counts.{Counts}
 use Rattle.tallies.specs.declared.kinds.AnswerKind.{AnswerKind}
 use Rattle.tallies.specs.declared.kinds.AnswerKind.TheVariants.{Committed, Read, Cancelled, Conflict, Stale, Repeated, Other}
@@ -8,6 +8,11 @@ use Rattle.tallies.specs.declared.kinds.AnswerKind.TheVariants.{Committed, Read,
 abbrev pub no_counts : Counts
 no_counts =
     record { committed = 0; read = 0; cancelled = 0; conflict = 0; stale = 0; repeated = 0; other = 0 }
+
+-- so many of each kind
+abbrev pub each : ℕ → Counts
+each n =
+    record { committed = n; read = n; cancelled = n; conflict = n; stale = n; repeated = n; other = n }
 
 -- one more of a kind, and as many of the others
 abbrev pub one_more : AnswerKind → Counts → Counts
@@ -41,3 +46,13 @@ pub record AreBelow (bound : ℕ) (counts : Counts) : Type 0 where
   pub stale : counts.stale < bound
   pub repeated : counts.repeated < bound
   pub other : counts.other < bound
+
+-- of each kind there are at most so many
+pub record AreWithin (most counts : Counts) : Type 0 where
+  pub committed : counts.committed ≤ most.committed
+  pub read : counts.read ≤ most.read
+  pub cancelled : counts.cancelled ≤ most.cancelled
+  pub conflict : counts.conflict ≤ most.conflict
+  pub stale : counts.stale ≤ most.stale
+  pub repeated : counts.repeated ≤ most.repeated
+  pub other : counts.other ≤ most.other

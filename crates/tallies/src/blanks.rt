@@ -1,11 +1,12 @@
 ghost use Rattle.std.specs.Prelude.{◌≡◌};
 ghost use Rattle.tallies.specs.Counted.{no_counts};
-ghost use Rattle.tallies.specs.Shared.{names_by_place};
+ghost use Rattle.tallies.specs.Tallies.{names_by_place};
+ghost use Rattle.tallies.specs.declared.ledgers.TheConstants.{THREADS};
 
 use crate::counts::Counts;
-use crate::ledgers::{Ledgers, PARTS};
-use crate::shares::Shares;
-use crate::totals::Totals;
+use crate::ledgers::{Ledgers, PARTS, THREADS};
+use crate::parts::Parts;
+use crate::tally::Tally;
 use std::marker::Model;
 use std::sync::ledger::Blank;
 
@@ -24,7 +25,7 @@ pub struct Blanks {
 impl Model for Blanks {
     ghost use Rattle.std.specs.Prelude.{◌≡◌};
     ghost use Rattle.tallies.specs.declared.ledgers.TheConstants.{PARTS};
-    ghost use Rattle.tallies.specs.Shared.{Names};
+    ghost use Rattle.tallies.specs.Tallies.{Names};
 
     ghost Value = { Names };
 
@@ -57,39 +58,24 @@ impl Blanks {
         }
     }
 
-    /// Opens the ledgers. Returns the sums, all 0, and all parts of each ledger, with nothing counted in them.
-    pub fn open<J: Ledgers>(self) -> (Totals<J>, Shares<J>)
+    /// Opens the ledgers. Returns a tally with all parts of each ledger, in which nothing is counted yet.
+    pub fn open<J: Ledgers>(self) -> Tally<J>
         requires { J.names ≡ names_by_place self }
-        ensures sums { result.0 ≡ no_counts }
-        ensures parts { result.1.parts ≡ PARTS }
-        ensures nothing { result.1.counted ≡ no_counts }
+        ensures { result ≡ record { threads = THREADS; counts = no_counts } }
     {
-        let (committed, committed_share) = self.committed.open();
-        let (read, read_share) = self.read.open();
-        let (cancelled, cancelled_share) = self.cancelled.open();
-        let (conflict, conflict_share) = self.conflict.open();
-        let (stale, stale_share) = self.stale.open();
-        let (repeated, repeated_share) = self.repeated.open();
-        let (other, other_share) = self.other.open();
-        let totals = Totals {
-            sums: Counts::new(),
-            committed,
-            read,
-            cancelled,
-            conflict,
-            stale,
-            repeated,
-            other,
+        let left = Parts {
+            committed: self.committed.open().1,
+            read: self.read.open().1,
+            cancelled: self.cancelled.open().1,
+            conflict: self.conflict.open().1,
+            stale: self.stale.open().1,
+            repeated: self.repeated.open().1,
+            other: self.other.open().1,
         };
-        let shares = Shares {
-            committed: committed_share,
-            read: read_share,
-            cancelled: cancelled_share,
-            conflict: conflict_share,
-            stale: stale_share,
-            repeated: repeated_share,
-            other: other_share,
-        };
-        (totals, shares)
+        Tally {
+            threads: THREADS,
+            counts: Counts::new(),
+            left,
+        }
     }
 }

@@ -1,5 +1,5 @@
 ghost use Rattle.std.specs.Prelude.{◌≡◌, ℕ, ◌+◌, ◌^◌, ◌↔◌, IfSome, IsSome};
-ghost use Rattle.tallies.specs.Counted.{AreBelow, no_counts, one_more, sum_of};
+ghost use Rattle.tallies.specs.Counted.{AreBelow, each, no_counts, one_more, sum_of};
 
 use crate::kinds::AnswerKind;
 
@@ -62,5 +62,29 @@ impl Counts {
             repeated: self.repeated.checked_add(other.repeated)?,
             other: self.other.checked_add(other.other)?,
         })
+    }
+
+    /// Returns counts of as many answers of each kind.
+    pub(crate) fn of_each(answers: u64) -> Counts
+        ensures { result ≡ each answers }
+    {
+        Counts {
+            committed: answers,
+            read: answers,
+            cancelled: answers,
+            conflict: answers,
+            stale: answers,
+            repeated: answers,
+            other: answers,
+        }
+    }
+
+    /// Returns the counts of one answer of a kind.
+    pub(crate) fn of_one(kind: AnswerKind) -> Counts
+        ensures { result ≡ one_more kind no_counts }
+    {
+        let mut one = Counts::new();
+        one.add_one(kind);
+        one
     }
 }

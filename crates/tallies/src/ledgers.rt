@@ -4,9 +4,14 @@
 use std::marker::{Brand, PhantomData};
 use std::sync::ledger::Ledger;
 
-/// The number of parts into which each ledger is cut. Each of 16 executing threads at 8 replicas has one part, and one
-/// part is for answers that no executing thread gives.
-pub const PARTS: u64 = 129;
+/// The most threads that count: 16 executing threads at 8 replicas, and one for answers that no executing thread gives.
+pub const THREADS: u64 = 129;
+
+/// The most answers of a kind that a thread counts: 2 to the power of 55.
+pub const GRANT: u64 = 36_028_797_018_963_968;
+
+/// The number of parts into which each ledger is cut: `GRANT` for each thread.
+pub const PARTS: u64 = 4_647_714_815_446_351_872;
 
 /// The ledgers of a node. Each run of a program picks them.
 pub trait Ledgers {

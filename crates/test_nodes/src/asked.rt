@@ -1,7 +1,7 @@
 //! The questions to a node, and what is told then.
 
 use log_model::{RequestId, Verdict};
-use node::Added;
+use node::{Added, RebuildFault, ScanFault, WaitFault};
 use node_calls::Answer;
 
 /// The arguments of a call: 0 to 2 words, each given by its least byte.
@@ -62,6 +62,33 @@ pub enum Asking {
         replica: u32,
         position: u32,
     },
+    /// The addition of an index, from 0 on.
+    Add(usize),
+    /// A replica that is to be made anew.
+    Rebuild(u32),
+    /// A wait until a replica has come to a position.
+    Wait {
+        replica: u32,
+        position: u32,
+    },
+    /// How far a replica has come.
+    Status(u32),
+    /// A call that isn't to wait for room in the replica's queue.
+    Try {
+        replica: u32,
+        call: AskedCall,
+    },
+    /// Calls that are asked for one after another, and whose answers nobody hears.
+    Forget {
+        replica: u32,
+        call: AskedCall,
+        times: u32,
+    },
+    /// The first rows of table 1 at a replica, as many as are asked for.
+    Scan {
+        replica: u32,
+        most: u32,
+    },
     /// A wait until a call is held, as long as a loop goes.
     AwaitHeld,
     /// The release of the held call.
@@ -77,6 +104,18 @@ pub enum Told {
     Position(u32),
     /// The verdict, where the replica has come there, and the number of entries that it has delivered by now.
     Verdict(Option<(Verdict, u32)>),
+    /// What became of an addition, and whether something of the log was seen then.
+    Added(Added, bool),
+    /// The position of the replica that was made anew.
+    Rebuilt(Result<u32, RebuildFault>),
+    /// The number of entries that were delivered by the end of the wait.
+    Waited(Result<u32, WaitFault>),
+    /// The position of a replica, and whether the replica has stopped.
+    Status(Option<(u32, bool)>),
+    /// The answer, or none where the queue had no room.
+    Tried(Option<Answer>),
+    /// The number of rows, and the greatest key among them.
+    Scanned(Result<(usize, u64), ScanFault>),
     Nothing,
 }
 
@@ -92,21 +131,16 @@ pub struct Addition<'a> {
 /// A thing that wasn't as it should have been.
 #[derive(Clone, Copy, Debug, PartialEq, Eq)]
 pub enum Stray {
-    /// The answer to the addition of an index, from 0 on.
-    Addition(usize),
     /// The answer to the question of an index, from 0 on, of the caller of a place, from 0 on.
     Told { place: usize, index: usize },
     /// Memory was wanting.
     NoMemory,
 }
 
-/// The questions to a node: first additions in turn, then calls of several callers at once.
+/// The questions of several callers at once to a node.
 pub trait Asked {
-    /// The addition of an index, from 0 on, and none after the last.
+    /// The addition of an index, from 0 on, where there is one.
     fn addition(&self, index: usize) -> Option<Addition<'_>>;
-
-    /// Tells whether the addition of an index may be answered so, where something of the log is seen then or not.
-    fn is_added(&self, index: usize, added: &Added, seen: bool) -> bool;
 
     /// Returns the number of callers.
     fn callers(&self) -> usize;

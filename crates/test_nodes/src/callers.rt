@@ -4,8 +4,9 @@ use crate::asked::{Addition, Asked, AskedCall, Asking, Stray, Told, Words};
 use crate::gate::{Hold, HoldingGate};
 use locked_replica::LogSetting;
 use log_model::Verdict;
-use node::{Added, CallRequest, Desk, Node};
+use node::{CallRequest, Desk};
 use node_calls::Answer;
+use schema::Look;
 use session::Session;
 use std::alloc::Global;
 use std::sync::Wait;
@@ -136,12 +137,98 @@ fn await_verdict<J: LogSetting + Ledgers + Send + Sync + 'static, R: Wait>(
     None
 }
 
+fn added<J: LogSetting + Ledgers + Send + Sync + 'static, R: Wait>(
+    rt: &R,
+    desk: &Desk<J, HoldingGate>,
+    addition: Addition<'_>,
+) -> Told {
+    let Addition {
+        name,
+        number,
+        args_len,
+        bytes,
+    } = addition;
+    let (added, seen) = desk.add(rt, name, number, args_len, bytes);
+    Told::Added(added, seen.is_some())
+}
+
+fn waited<J: LogSetting + Ledgers + Send + Sync + 'static, R: Wait>(
+    rt: &R,
+    desk: &Desk<J, HoldingGate>,
+    replica: u32,
+    position: u32,
+) -> Told {
+    match desk.wait(rt, replica, position) {
+        Ok(seen) => Told::Waited(Ok(seen.len())),
+        Err(fault) => Told::Waited(Err(fault)),
+    }
+}
+
+fn status_of<J: LogSetting + Ledgers + Send + Sync + 'static, R: Wait>(
+    rt: &R,
+    desk: &Desk<J, HoldingGate>,
+    replica: u32,
+) -> Told {
+    match desk.status(rt, replica) {
+        Some(status) => Told::Status(Some((status.position, status.stopped))),
+        None => Told::Status(None),
+    }
+}
+
+fn tried<J: LogSetting + Ledgers + Send + Sync + 'static, R: Wait>(
+    rt: &R,
+    desk: &Desk<J, HoldingGate>,
+    replica: u32,
+    call: AskedCall,
+) -> Told {
+    let block = Block::new(call.words);
+    match desk.try_execute(rt, replica, &request_of(call, &block)) {
+        Ok((answer, _)) => Told::Tried(Some(answer)),
+        Err(_) => Told::Tried(None),
+    }
+}
+
+fn forget<J: LogSetting + Ledgers + Send + Sync + 'static, R: Wait>(
+    rt: &R,
+    desk: &Desk<J, HoldingGate>,
+    replica: u32,
+    call: AskedCall,
+    times: u32,
+) {
+    let block = Block::new(call.words);
+    let requests = [request_of(call, &block)];
+    for _ in 0..times {
+        let _asked = desk.ask(rt, replica, &requests);
+    }
+}
+
+fn scanned<J: LogSetting + Ledgers + Send + Sync + 'static, R: Wait>(
+    rt: &R,
+    desk: &Desk<J, HoldingGate>,
+    replica: u32,
+    most: u32,
+) -> Told {
+    let look = Look {
+        table: 1,
+        lo: 0,
+        hi: u64::MAX,
+    };
+    match desk.scan(rt, replica, look, most) {
+        Ok(scanned) => {
+            let greatest = scanned.rows.iter().map(|row| row.key()).max();
+            Told::Scanned(Ok((scanned.rows.len(), greatest.unwrap_or(0))))
+        }
+        Err(fault) => Told::Scanned(Err(fault)),
+    }
+}
+
 /// Asks a question, and returns what the caller is told.
-fn told<J: LogSetting + Ledgers + Send + Sync + 'static, R: Wait>(
+fn told<J: LogSetting + Ledgers + Send + Sync + 'static, R: Wait, A: Asked>(
     rt: &R,
     desk: &Desk<J, HoldingGate>,
     session: &mut Session<'_, J, HoldingGate>,
     hold: &Hold,
+    asked: &A,
     asking: Asking,
 ) -> Told {
     match asking {
@@ -163,6 +250,23 @@ fn told<J: LogSetting + Ledgers + Send + Sync + 'static, R: Wait>(
         Asking::AwaitVerdict { replica, position } => {
             Told::Verdict(await_verdict(rt, desk, replica, position))
         }
+        Asking::Add(index) => match asked.addition(index) {
+            Some(addition) => added(rt, desk, addition),
+            None => Told::Nothing,
+        },
+        Asking::Rebuild(replica) => Told::Rebuilt(desk.rebuild(rt, replica)),
+        Asking::Wait { replica, position } => waited(rt, desk, replica, position),
+        Asking::Status(replica) => status_of(rt, desk, replica),
+        Asking::Try { replica, call } => tried(rt, desk, replica, call),
+        Asking::Forget {
+            replica,
+            call,
+            times,
+        } => {
+            forget(rt, desk, replica, call, times);
+            Told::Nothing
+        }
+        Asking::Scan { replica, most } => scanned(rt, desk, replica, most),
         Asking::AwaitHeld => {
             hold.await_held();
             Told::Nothing
@@ -189,7 +293,7 @@ fn ask_as<J: LogSetting + Ledgers + Send + Sync + 'static, R: Wait, A: Asked>(
         let Some(asking) = asked.asking(place, index) else {
             return stray;
         };
-        let told = told(rt, desk, &mut session, hold, asking);
+        let told = told(rt, desk, &mut session, hold, asked, asking);
         if stray.is_none() && !asked.is_told(place, index, &told) {
             stray = Some(index);
         }
@@ -210,8 +314,9 @@ fn first_of(strays: &[Option<usize>]) -> Option<Stray> {
     None
 }
 
-/// Has all callers ask at once.
-fn call_all<
+/// Has all callers of a node ask at once, who hear of held calls and let them go here. Returns what wasn't as it should
+/// have been, and none where all was.
+pub fn ask_all<
     J: LogSetting + Ledgers + Send + Sync + 'static,
     R: Threads + Wait + Sync,
     A: Asked + Sync,
@@ -225,49 +330,5 @@ fn call_all<
     match strays {
         Ok(strays) => first_of(&strays),
         Err(_) => Some(Stray::NoMemory),
-    }
-}
-
-fn added<J: LogSetting + Ledgers + Send + Sync + 'static, R: Wait>(
-    rt: &R,
-    node: &Node<J, HoldingGate>,
-    addition: Addition<'_>,
-) -> (Added, bool) {
-    let Addition {
-        name,
-        number,
-        args_len,
-        bytes,
-    } = addition;
-    let (added, seen) = node.add(rt, name, number, args_len, bytes);
-    (added, seen.is_some())
-}
-
-/// Makes all additions. Returns the first that isn't answered as it should be.
-fn add_all<J: LogSetting + Ledgers + Send + Sync + 'static, R: Wait, A: Asked>(
-    rt: &R,
-    node: &Node<J, HoldingGate>,
-    asked: &A,
-) -> Option<Stray> {
-    for index in 0..MOST {
-        let addition = asked.addition(index)?;
-        let (added, seen) = added(rt, node, addition);
-        if !asked.is_added(index, &added, seen) {
-            return Some(Stray::Addition(index));
-        }
-    }
-    Some(Stray::Addition(MOST))
-}
-
-/// Makes all additions at a node, and then has all callers ask, who hear of held calls and let them go here. Returns
-/// what wasn't as it should have been, and none where all was.
-pub fn ask_all<
-    J: LogSetting + Ledgers + Send + Sync + 'static,
-    R: Threads + Wait + Sync,
-    A: Asked + Sync,
->(rt: &R, alloc: Global, node: &Node<J, HoldingGate>, hold: &Hold, asked: &A) -> Option<Stray> {
-    match add_all(rt, node, asked) {
-        None => call_all(rt, alloc, node.desk(), hold, asked),
-        stray => stray,
     }
 }

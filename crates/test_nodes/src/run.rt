@@ -1,7 +1,7 @@
 //! A node from its making to its end.
 
 ghost use Rattle.std.specs.Prelude.{◌≡◌};
-ghost use Rattle.tallies.specs.Shared.{names_by_place};
+ghost use Rattle.tallies.specs.Tallies.{names_by_place};
 
 use crate::asked::Asked;
 use crate::callers::ask_all;
@@ -9,7 +9,7 @@ use crate::ending::{Ending, ending_of};
 use crate::gate::{Hold, HoldingGate, gate_of};
 use catalogue::Catalogue;
 use locked_replica::LogSetting;
-use node::{Node, Size};
+use node::{Node, Options};
 use order_log::GroupCells;
 use std::alloc::Global;
 use std::marker::Brand;
@@ -21,7 +21,7 @@ use test_programs::{TABLES, catalogue_of};
 /// The parts of a node that is to be started.
 #[derive(Drop)]
 struct Parts {
-    size: Size,
+    size: Options,
     catalogue: Catalogue,
     gate: HoldingGate,
 }
@@ -60,11 +60,11 @@ fn run_node<
         gate,
     } = parts;
     let Inquiry { asked, hold, key } = inquiry;
-    let started = Node::<J, HoldingGate>::start_sized(
+    let started = Node::<J, HoldingGate>::start_with(
         rt, alloc, cells, blanks, size, catalogue, gate,
     );
     let node = started.ok()?;
-    let stray = ask_all(rt, alloc, &node, hold, asked);
+    let stray = ask_all(rt, alloc, node.desk(), hold, asked);
     let finish = node.finish(rt);
     ending_of(rt, alloc, &finish, key, stray)
 }
@@ -76,7 +76,7 @@ fn run_node<
 pub fn run_at_a_node<R: Threads + Wait + Copy + Send + Sync + 'static, A: Asked + Sync>(
     rt: &R,
     alloc: Global,
-    size: Size,
+    size: Options,
     armed: bool,
     procedures: &[(u16, &str, usize)],
     asked: &A,

@@ -26,7 +26,7 @@ pub type Memories<'a> = (&'a Scarce, &'a Scarce);
 pub type ToReplica<J, P> = Sender<Arc<Calls<J, P>, P>, P>;
 
 /// Sends an addition to a replica, and waits for its answer. Returns `None` where the answer isn't one to that.
-fn answer_from<J: LogSetting, P: Allocator + Copy, R: Wait>(
+fn answer_from<J: LogSetting + Ledgers, P: Allocator + Copy, R: Wait>(
     rt: &R,
     sender: &ToReplica<J, P>,
     calls: Arc<Calls<J, P>, P>,
@@ -41,7 +41,7 @@ fn answer_from<J: LogSetting, P: Allocator + Copy, R: Wait>(
 }
 
 /// Returns what is heard of an addition at a replica, while a growth of this memory is refused.
-fn add_at<J: LogSetting, P: Allocator + Copy, R: Wait>(
+fn add_at<J: LogSetting + Ledgers, P: Allocator + Copy, R: Wait>(
     rt: &R,
     alloc: P,
     sender: &ToReplica<J, P>,

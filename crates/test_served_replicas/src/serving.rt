@@ -1,7 +1,8 @@
 //! Two replicas in memory of their own, the threads of a scope that serve and deliver to them, and who asks both.
 
 ghost use Rattle.std.specs.Prelude.{◌≡◌};
-ghost use Rattle.tallies.specs.Shared.{names_by_place};
+ghost use Rattle.tallies.specs.Counted.{no_counts};
+ghost use Rattle.tallies.specs.Tallies.{names_by_place};
 
 use crate::asked::Mismatch;
 use crate::cases::Case;
@@ -16,7 +17,7 @@ use std::alloc::{AllocError, Allocator, Global};
 use std::sync::{Arc, Wait};
 use std::thread;
 use std::thread::Threads;
-use tallies::{Blanks, Ledgers, Shares, Totals};
+use tallies::{Blanks, Ledgers, Tally};
 
 /// The parts that two replicas share, each in memory of its own of the first kind. Calls and entries take memory of the
 /// second.
@@ -40,12 +41,31 @@ struct Asker<'a, P: Allocator + Copy> {
     case: &'a mut Case,
 }
 
-/// The ends of the channels to both replicas, and the shares in which each counts its answers.
+/// The tally with which a replica's thread begins.
+#[derive(Drop)]
+struct FreshTally<J: Ledgers> {
+    tally: Tally<J>,
+    ghost fresh: { tally ≡ record { threads = 1; counts = no_counts } },
+}
+
+/// The ends of the channels to both replicas, and the tallies in which each counts its answers.
 #[derive(Drop)]
 struct Served<'a, J: LogSetting + Ledgers, P: Allocator + Copy> {
     asked: &'a [Receiver<Arc<Calls<J, P>, P>, P>; 2],
-    one: &'a mut Shares<J>,
-    other: &'a mut Shares<J>,
+    one: FreshTally<J>,
+    other: FreshTally<J>,
+}
+
+/// Serves a replica until no caller is left.
+fn serve_one<J: LogSetting + Ledgers, A: Allocator + Copy, P: Allocator + Copy, R: Wait>(
+    rt: &R,
+    shared: &TwoReplicas<J, A, P>,
+    replica: u32,
+    asked: &Receiver<Arc<Calls<J, P>, P>, P>,
+    fresh: FreshTally<J>,
+) {
+    let mut tally = fresh.tally;
+    serve(rt, shared, replica, 0, asked, &mut tally);
 }
 
 /// Asks both, and lets the channels to them go, so that nobody serves them any more. Returns the first answer that may
@@ -72,8 +92,8 @@ fn serve_both<
     let Served { asked, one, other } = served;
     thread::join(
         rt,
-        || serve(rt, shared, 1, 0, &asked[0], one),
-        || serve(rt, shared, 2, 0, &asked[1], other),
+        || serve_one(rt, shared, 1, &asked[0], one),
+        || serve_one(rt, shared, 2, &asked[1], other),
     );
     shared.stop_deliveries();
 }
@@ -120,7 +140,6 @@ fn shared_by<J: LogSetting + Ledgers, A: Allocator + Copy, P: Allocator + Copy>(
     global: Global,
     alloc: P,
     cells: GroupCells<P>,
-    totals: Totals<J>,
     start: LogStart<P>,
     replicas: (A, A),
 ) -> Result<TwoReplicas<J, A, P>, AllocError>
@@ -133,7 +152,7 @@ fn shared_by<J: LogSetting + Ledgers, A: Allocator + Copy, P: Allocator + Copy>(
 {
     let log = OrderLog::new(global, cells)?;
     let LogStart { catalogue, window } = start;
-    let mut shared = Shared::new(alloc, log, catalogue, window, totals, OpenGate, 2)?;
+    let mut shared = Shared::new(alloc, log, catalogue, window, OpenGate, 2)?;
     add_both(&mut shared, replicas)?;
     Ok(shared)
 }
@@ -149,8 +168,8 @@ fn serve_two<
     rt: &R,
     asker: &mut Asker<'_, P>,
     shared: &TwoReplicas<J, A, P>,
-    one: &mut Shares<J>,
-    other: &mut Shares<J>,
+    one: FreshTally<J>,
+    other: FreshTally<J>,
 ) -> Result<Option<Mismatch>, AllocError> {
     let (to_first, at_first) = bounded(asker.alloc, 4)?;
     let (to_second, at_second) = bounded(asker.alloc, 4)?;
@@ -196,14 +215,19 @@ pub fn try_two<
       window = start.window;
     } }
 {
-    let (totals, mut one) = blanks.open();
-    let mut other = one.split();
-    let shared: TwoReplicas<J, A, P> = shared_by(global, alloc, cells, totals, start, replicas)?;
+    let mut whole = blanks.open();
+    let one = FreshTally {
+        tally: whole.split(),
+    };
+    let other = FreshTally {
+        tally: whole.split(),
+    };
+    let shared: TwoReplicas<J, A, P> = shared_by(global, alloc, cells, start, replicas)?;
     memories.1.refuse_all(matches!(case, Case::Stopped(_)));
     let mut asker = Asker {
         alloc,
         memories,
         case,
     };
-    serve_two(rt, &mut asker, &shared, &mut one, &mut other)
+    serve_two(rt, &mut asker, &shared, one, other)
 }

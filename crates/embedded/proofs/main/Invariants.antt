@@ -1,4 +1,4 @@
-use Rattle.tallies.specs.Shared.{names_by_place}
+use Rattle.tallies.specs.Tallies.{names_by_place}
 use Rattle.embedded.proofs.main.Given as goal
 
 -- the node whose log's cells and ledgers were just made, of this catalogue and window

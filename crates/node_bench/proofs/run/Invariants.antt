@@ -1,4 +1,4 @@
-use Rattle.tallies.specs.Shared.{names_by_place}
+use Rattle.tallies.specs.Tallies.{names_by_place}
 use Rattle.node_bench.specs.Setting.{setting_of}
 use Rattle.node_bench.proofs.run.Given as goal
 

@@ -5,16 +5,18 @@ use node::{Added, ProgramRefusal};
 use node_calls::Answer;
 use test_nodes::{Addition, AskedCall, Asking, Told, Words};
 
-const ADD: u16 = 1;
+pub(crate) const ADD: u16 = 1;
 
-const PUT: u16 = 3;
+pub(crate) const PUT: u16 = 3;
+
+const PUT_AND_CANCEL: u16 = 8;
 
 const ONE: u16 = 9;
 
 /// The number of callers where several call at once.
 pub(crate) const CALLERS: usize = 8;
 
-fn args_of(first: u8, second: u8) -> Words {
+pub(crate) fn args_of(first: u8, second: u8) -> Words {
     Words {
         count: 2,
         first,
@@ -23,7 +25,7 @@ fn args_of(first: u8, second: u8) -> Words {
 }
 
 /// Arguments that add 10 to row 5.
-const ADD_TEN: Words = Words {
+pub(crate) const ADD_TEN: Words = Words {
     count: 2,
     first: 5,
     second: 10,
@@ -48,7 +50,7 @@ pub(crate) fn row_at(rows: &[Row], index: usize) -> Option<Asking> {
     rows.get(index).map(call_of)
 }
 
-fn is_answer(told: &Told, expected: Answer) -> bool {
+pub(crate) fn is_answer(told: &Told, expected: Answer) -> bool {
     match told {
         Told::Answer(answer) => *answer == expected,
         _ => false,
@@ -95,7 +97,7 @@ pub(crate) fn is_one_session(index: usize, told: &Told) -> bool {
     is_answer(told, read)
 }
 
-fn call_at_first(procedure: u16, words: Words) -> Option<Asking> {
+pub(crate) fn call_at_first(procedure: u16, words: Words) -> Option<Asking> {
     Some(Asking::Call {
         replica: 1,
         least: 0,
@@ -220,7 +222,7 @@ pub(crate) static TWO_PUTS: [Row; 2] = [
 const OFTEN: usize = 25;
 
 /// The replica of a caller, one of `replicas`.
-fn replica_of(place: usize, replicas: u32) -> u32 {
+pub(crate) fn replica_of(place: usize, replicas: u32) -> u32 {
     let place = u32::try_from(place).unwrap_or(0);
     (place % replicas.max(1)).wrapping_add(1)
 }
@@ -351,12 +353,15 @@ pub(crate) fn addition_of(program: &[u8], index: usize) -> Option<Addition<'_>> 
 }
 
 /// Tells whether a procedure is added through the log, and what isn't accepted isn't.
-pub(crate) fn is_addition(index: usize, added: &Added, seen: bool) -> bool {
+pub(crate) fn is_addition(index: usize, told: &Told) -> bool {
+    let Told::Added(added, seen) = told else {
+        return false;
+    };
     match index {
         0 => *added == Added::Ordered(1),
         1 => *added == Added::Name,
         2 => *added == Added::Program(ProgramRefusal::ArgumentsLimit),
-        _ => matches!(added, Added::Program(ProgramRefusal::Fault(_))) && !seen,
+        _ => matches!(added, Added::Program(ProgramRefusal::Fault(_))) && !*seen,
     }
 }
 
@@ -408,3 +413,16 @@ pub(crate) static REFUSALS: [Row; 7] = [
     ),
     (1, 1, 77, ADD_TEN, None, Answer::Behind),
 ];
+
+/// A put that cancels.
+pub(crate) static CANCELLED: [Row; 1] = [(
+    1,
+    0,
+    PUT_AND_CANCEL,
+    ADD_TEN,
+    None,
+    Answer::Cancelled {
+        snapshot: 0,
+        code: 9,
+    },
+)];

@@ -31,28 +31,28 @@ reply_at-requires-clause-call g c =
     (subst (λ (v : Verdict). IsVerdict g.J.LogSetting.setting (length c.args.seen.now) c.args.seen.now v) c.in-Repeated.is c.requires.known)).2
 
 pub returns-in-Commit : goal.returns-in-Commit
-returns-in-Commit g c = λ a e appended call least replied. (
-  ordered_at g.J.LogSetting.setting a e c.args.position c.args.seen.now appended call least,
+returns-in-Commit g c = λ a e appended call least replied whole. (
+  ordered_at g.J.LogSetting.setting a e c.args.position c.args.seen.now appended call least whole,
   verdict_here g.J.LogSetting.setting e c.args.position c.args.seen.now Commit appended (subst (λ (v : Verdict). IsVerdict g.J.LogSetting.setting (length c.args.seen.now) c.args.seen.now v) c.in-Commit.is c.requires.known),
   replied,
 )
 
 pub returns-in-Conflict : goal.returns-in-Conflict
-returns-in-Conflict g c = λ a e appended call least replied. (
-  ordered_at g.J.LogSetting.setting a e c.args.position c.args.seen.now appended call least,
+returns-in-Conflict g c = λ a e appended call least replied whole. (
+  ordered_at g.J.LogSetting.setting a e c.args.position c.args.seen.now appended call least whole,
   verdict_here g.J.LogSetting.setting e c.args.position c.args.seen.now (Conflict c.in-Conflict.other) appended (subst (λ (v : Verdict). IsVerdict g.J.LogSetting.setting (length c.args.seen.now) c.args.seen.now v) c.in-Conflict.is c.requires.known),
 )
 
 pub returns-in-Stale : goal.returns-in-Stale
-returns-in-Stale g c = λ a e appended call least replied. inl (
+returns-in-Stale g c = λ a e appended call least replied whole. inl (
   c.args.position,
-  ordered_at g.J.LogSetting.setting a e c.args.position c.args.seen.now appended call least,
+  ordered_at g.J.LogSetting.setting a e c.args.position c.args.seen.now appended call least whole,
   verdict_here g.J.LogSetting.setting e c.args.position c.args.seen.now Stale appended (subst (λ (v : Verdict). IsVerdict g.J.LogSetting.setting (length c.args.seen.now) c.args.seen.now v) c.in-Stale.is c.requires.known),
 )
 
 pub returns-in-Repeated : goal.returns-in-Repeated
-returns-in-Repeated g c = λ a e appended call least replied. (
-  ordered_at g.J.LogSetting.setting a e c.args.position c.args.seen.now appended call least,
+returns-in-Repeated g c = λ a e appended call least replied whole. (
+  ordered_at g.J.LogSetting.setting a e c.args.position c.args.seen.now appended call least whole,
   verdict_here g.J.LogSetting.setting e c.args.position c.args.seen.now (Repeated c.in-Repeated.earlier) appended (subst (λ (v : Verdict). IsVerdict g.J.LogSetting.setting (length c.args.seen.now) c.args.seen.now v) c.in-Repeated.is c.requires.known),
   c.reply_at.ensures,
 )

@@ -6,4 +6,4 @@ abbrev pub decreases-loop-child : goal.decreases-loop-child
 decreases-loop-child g l = vec_len l.executors
 
 abbrev pub invariant-loop-child : goal.invariant-loop-child
-invariant-loop-child g l = l.shares.parts + vec_len l.executors ≡ l.fn.shares.parts + l.fn.self.executors
+invariant-loop-child g l = l.tally.threads + vec_len l.executors ≡ l.fn.tally.threads + l.fn.self.executors

@@ -1,11 +1,17 @@
--- Ledgers and shares of them, as contracts see them.
-use Rattle.std.specs.Prelude.{ℕ, zero, suc}
+-- Tallies and the names of ledgers, as contracts see them.
+use Rattle.std.specs.Prelude.{ℕ, zero, suc, ◌*◌}
 use Rattle.tallies.specs.declared.counts.Counts.{Counts}
+use Rattle.tallies.specs.declared.ledgers.TheConstants.{GRANT}
+use Rattle.tallies.specs.Counted.{each}
 
--- how many parts a thread has of each ledger, and what was counted in them
-pub record Shared : Type 0 where
-  pub parts : ℕ
-  pub counted : Counts
+-- for how many threads a tally counts, and what was counted
+pub record Tallied : Type 0 where
+  pub threads : ℕ
+  pub counts : Counts
+
+-- the parts of each kind's ledger that are meant for so many threads
+abbrev pub parts_of : ℕ → Counts
+parts_of threads = each (threads * GRANT)
 
 -- the names of the ledgers, by what they count
 pub record Names : Type 0 where

@@ -1,7 +1,7 @@
-//! The size of a node.
+//! The options of a node.
 
 ghost use Rattle.std.specs.Prelude.{◌≤◌, ◌↔◌, IsTrue, OnOk, IfErr};
-ghost use Rattle.node.specs.Size.{IsSize, IsSizeFault, IsWithin};
+ghost use Rattle.node.specs.Options.{AreInBounds, IsOptionsFault, IsWithin};
 
 use schema::{MAX_EXECUTORS, MAX_LOG, MAX_REPLICAS, MAX_WINDOW};
 
@@ -21,9 +21,9 @@ pub enum StartFault {
     Limit,
 }
 
-/// The size of a node.
+/// The options of a node: its size, and the window. `Options::default()` is a small node.
 #[derive(Clone, Copy, Debug, PartialEq, Eq, Drop)]
-pub struct Size {
+pub struct Options {
     /// The number of replicas: 1 to 8.
     pub replicas: u32,
     /// The number of executing threads a replica: 1 to 16.
@@ -41,11 +41,11 @@ fn is_within(limit: u32, number: u32) -> bool
     1 <= number && number <= limit
 }
 
-impl Size {
-    /// Checks whether a node may be of this size. Returns the first cause where it may not.
+impl Options {
+    /// Checks whether a node may be started with these options. Returns the first cause where it may not.
     pub fn check(&self) -> Result<(), StartFault>
-        ensures size { OnOk result (IsSize self.now) }
-        ensures fault { IfErr result (IsSizeFault self.now) }
+        ensures bounds { OnOk result (AreInBounds self.now) }
+        ensures fault { IfErr result (IsOptionsFault self.now) }
     {
         if !is_within(MAX_REPLICAS, self.replicas) {
             return Err(StartFault::Replicas);
@@ -60,5 +60,22 @@ impl Size {
             return Err(StartFault::Limit);
         }
         Ok(())
+    }
+}
+
+impl Default for Options {
+    ghost use Rattle.std.specs.Prelude.{◌≡◌};
+    ghost use Rattle.schema.specs.declared.limits.TheConstants.{MAX_LOG};
+
+    ghost is_default = { λ o. o ≡ record { replicas = 3; executors = 2; window = 256; limit = MAX_LOG } };
+
+    /// Three replicas with two executing threads each, a window of 256 entries, and the longest log.
+    fn default() -> Options {
+        Options {
+            replicas: 3,
+            executors: 2,
+            window: 256,
+            limit: MAX_LOG,
+        }
     }
 }
