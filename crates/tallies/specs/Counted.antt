@@ -9,7 +9,7 @@ abbrev pub no_counts : Counts
 no_counts =
     record { committed = 0; read = 0; cancelled = 0; conflict = 0; stale = 0; repeated = 0; other = 0 }
 
--- so many of each kind
+-- the same number of each kind
 abbrev pub each : ℕ → Counts
 each n =
     record { committed = n; read = n; cancelled = n; conflict = n; stale = n; repeated = n; other = n }
@@ -47,7 +47,7 @@ pub record AreBelow (bound : ℕ) (counts : Counts) : Type 0 where
   pub repeated : counts.repeated < bound
   pub other : counts.other < bound
 
--- of each kind there are at most so many
+-- of each kind there are no more than of the same kind in `most`
 pub record AreWithin (most counts : Counts) : Type 0 where
   pub committed : counts.committed ≤ most.committed
   pub read : counts.read ≤ most.read

@@ -9,7 +9,7 @@ pub record Tallied : Type 0 where
   pub threads : ℕ
   pub counts : Counts
 
--- the parts of each kind's ledger that are meant for so many threads
+-- the parts of each kind's ledger that a number of threads begin with
 abbrev pub parts_of : ℕ → Counts
 parts_of threads = each (threads * GRANT)
 
