@@ -10,11 +10,13 @@ import go_packages
 import launcher
 import procedures
 import servers
+import threads
 
 SUITES = {
     "examples": examples.run,
     "commands": command_lines.run,
     "forms": forms.run,
+    "threads": threads.run,
     "procedures": procedures.run,
     "layouts": procedures.run_layouts,
     "launcher": launcher.run,
@@ -22,6 +24,7 @@ SUITES = {
     "servers": servers.run,
 }
 LONGER = {
+    "refused growths": threads.run_long,
     "transfers": servers.run_long,
     "server, longer": go_packages.run_long,
     "package": debian_package.run,

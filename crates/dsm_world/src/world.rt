@@ -1,14 +1,14 @@
 //! A world of replicas.
 
-ghost use Rattle.std.specs.Prelude.{false, ◌≡◌, ℕ, ◌+◌, ◌<◌, ◌≤◌, ◌++◌, [], ◌∷◌, length, map, option_map, slice_get};
+ghost use Rattle.std.specs.Prelude.{false, ◌≡◌, ℕ, suc, IsTrue, ◌+◌, ◌<◌, ◌≤◌, ◌++◌, [], ◌∷◌, length, map, option_map, slice_get};
 ghost use Rattle.std.specs.Prelude.{◌≢◌, Some, None, IfOk, OnErr, vec_len, vec_capacity};
 ghost use Rattle.schema.specs.declared.limits.TheConstants.{MAX_REPLICAS, MAX_WINDOW};
 ghost use Rattle.log_model.specs.declared.verdict.Verdict.{Verdict as ModelVerdict};
 ghost use Rattle.log_model.specs.declared.verdict.Verdict.TheVariants.{Commit};
 ghost use Rattle.dsm_model.specs.declared.outcome.Outcome.TheVariants.{More, Exit, Ordered, Delivered};
 ghost use Rattle.bpf_semantics.specs.Path.{longest_path};
-ghost use Rattle.log_model.specs.Log.{Call, Log, StoredProcedure, by_name, procedure_of, procedures_after, run_in};
-ghost use Rattle.log_model.specs.Log.{verdict_of};
+ghost use Rattle.log_model.specs.Log.{Call, CallItem, Log, StoredProcedure, by_name, procedure_of, procedures_after};
+ghost use Rattle.log_model.specs.Log.{run_in, same_request, verdict_of};
 ghost use Rattle.log_model.specs.Entries.{CallEntry, ExecutedCall};
 ghost use Rattle.log_entry.specs.Kind.{entry_of};
 ghost use Rattle.log_model.specs.Fit.{HasSafeProcedures};
@@ -32,7 +32,7 @@ use dsm_model::{
     replies_are_serial, steps_keep_a_world,
 };
 use log_entry::Entry;
-use log_model::{RequestId, a_log_only_grows};
+use log_model::{RequestId, a_log_only_grows, each_request_commits_once};
 use replica::{Replica, replicas_follow_the_log};
 use std::alloc::{AllocError, Allocator, Global};
 use std::marker::Model;
@@ -190,7 +190,7 @@ impl<A: Allocator + Copy> World<A> {
     ///
     /// The following holds whatever the steps are, and whichever of them find no memory. The steps go on as the
     /// definitions of the world say, and each open call is sound. Each ordered call is committed exactly where the
-    /// written test says so. The verdicts, rows and procedures that a replica keeps are those of the log as far as the
+    /// written test says so, and no two committed calls carry one request. The verdicts, rows and procedures that a replica keeps are those of the log as far as the
     /// replica has come. A reply that was answered is that of the call run in its turn, where the call commits; and
     /// enough turns have answered a reply.
     pub fn run(&mut self, steps: &[Step<'_>]) -> Result<Vec<Outcome, A>, AllocError>
@@ -209,6 +209,13 @@ impl<A: Allocator + Copy> World<A> {
             → slice_get outcomes.items j ≡ Some (Ordered position)
             → i < j → verdict_of (setting_of self.new) (world_of self.new).log position ≡ Some Commit
             → IsSerialReply (setting_of self.new) (world_of self.new).log position reply) }
+        // Two committed calls with one request are one call.
+        ensures once { (d e : ℕ) (a b : Call)
+            → slice_get (world_of self.new).log d ≡ Some (CallItem a)
+            → slice_get (world_of self.new).log e ≡ Some (CallItem b)
+            → verdict_of (setting_of self.new) (world_of self.new).log (suc d) ≡ Some Commit
+            → verdict_of (setting_of self.new) (world_of self.new).log (suc e) ≡ Some Commit
+            → IsTrue (same_request a.request b.request) → d ≡ e }
         // A call of which as many turns ran an instruction as its longest path has was answered Exit, by one of these
         // steps.
         ensures exits { IfOk result (λ outcomes. (c : ℕ) (call : Call) (p : StoredProcedure)
@@ -222,6 +229,7 @@ impl<A: Allocator + Copy> World<A> {
     {
         // Laws:
         delivered_verdicts_are_the_logs();
+        each_request_commits_once();
         enough_turns_reach_exit();
         open_calls_are_sound();
         replies_are_serial();

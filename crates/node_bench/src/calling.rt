@@ -1,12 +1,12 @@
 //! The calls of callers, drawn from a seed, and the counts of their answers.
 
 use crate::procedures::{
-    ACCOUNTS, ADD_NUMBER, BALANCE_NUMBER, COUNT_NUMBER, MONEY, NEXT_NUMBER, ONE_NUMBER, PUT_NUMBER,
-    TRANSFER_NUMBER,
+    ACCOUNTS, ADD_NUMBER, BALANCE_NUMBER, COUNT_NUMBER, LONG_NUMBER, MONEY, NEXT_NUMBER,
+    ONE_NUMBER, PUT_NUMBER, TRANSFER_NUMBER,
 };
 use locked_replica::LogSetting;
 use log_model::RequestId;
-use node::{CallRequest, Desk, RebuildFault};
+use node::{CallRequest, Desk};
 use node_calls::{Answer, OpenGate};
 use rand_core::utils::NextWord;
 use rand_pcg::Pcg32;
@@ -26,6 +26,8 @@ pub(crate) enum Work {
     Write,
     /// Calls that reply the row at one of the keys.
     Read,
+    /// Calls of 4,000 instructions that look at no row.
+    Long,
     /// No calls.
     Start,
 }
@@ -36,6 +38,7 @@ impl Work {
             "soak" => Some(Work::Soak),
             "write" => Some(Work::Write),
             "read" => Some(Work::Read),
+            "long" => Some(Work::Long),
             "start" => Some(Work::Start),
             _ => None,
         }
@@ -157,6 +160,7 @@ impl Caller {
             Work::Soak => return self.draw_mixed(),
             Work::Write => (ADD_NUMBER, 2),
             Work::Read | Work::Start => (BALANCE_NUMBER, 1),
+            Work::Long => (LONG_NUMBER, 0),
         };
         DrawnCall {
             procedure,
@@ -202,20 +206,26 @@ impl Caller {
         }
     }
 
-    /// Makes the calls of a soak at a replica, one behind the other. Returns the counts of the answers.
+    /// Makes the calls of a soak at a replica, one behind the other. The first caller at a replica has it made anew where
+    /// it has stopped. Returns what was told.
     fn soak<J: LogSetting + Ledgers + Send + Sync + 'static, R: Wait>(
         &mut self,
         rt: &R,
         desk: &Desk<J, OpenGate>,
         replica: u32,
         calls: u32,
-    ) -> Counts {
+    ) -> Told {
         let mut session = Session::new(desk);
-        let mut counts = Counts::new();
+        let mut told = Told::new();
         for _ in 0..calls {
-            count(&mut counts, self.call(rt, &mut session, replica));
+            let answer = self.call(rt, &mut session, replica);
+            told.count(answer);
+            if self.number == replica && matches!(answer, Answer::Stopped { .. }) {
+                // Where memory is wanting for that, a later answer of the kind has it tried again.
+                let _ = desk.rebuild(rt, replica);
+            }
         }
-        counts
+        told
     }
 
     /// Makes some calls at a replica together. Returns the number that were answered with their outcome. The error is
@@ -228,7 +238,7 @@ impl Caller {
         load: Load,
         replica: u32,
         together: u32,
-        counts: &mut Counts,
+        told: &mut Told,
     ) -> Result<u32, AllocError> {
         let mut drawn = Vec::with_capacity(alloc, together as usize)?;
         for _ in 0..together {
@@ -246,7 +256,7 @@ impl Caller {
         }
         let mut done = 0u32;
         for (answer, _) in desk.execute_many(rt, replica, &requests)?.iter() {
-            count(counts, *answer);
+            told.count(*answer);
             if !matches!(answer, Answer::Conflict { .. } | Answer::Stale) {
                 done = done.wrapping_add(1);
             }
@@ -254,7 +264,7 @@ impl Caller {
         Ok(done)
     }
 
-    /// Makes calls at a replica, as many together as the load says. Returns the counts of the answers.
+    /// Makes calls at a replica, as many together as the load says. Returns what was told.
     fn call_many<J: LogSetting + Ledgers + Send + Sync + 'static, R: Wait>(
         &mut self,
         rt: &R,
@@ -263,38 +273,67 @@ impl Caller {
         load: Load,
         replica: u32,
         calls: u32,
-    ) -> Result<Counts, AllocError> {
-        let mut counts = Counts::new();
+    ) -> Result<Told, AllocError> {
+        let mut told = Told::new();
         let mut left = calls;
         for _ in rt.forever() {
             if left == 0 {
                 break;
             }
             let together = load.depth.min(left);
-            let done = self.call_together(rt, alloc, desk, load, replica, together, &mut counts)?;
+            let done = self.call_together(rt, alloc, desk, load, replica, together, &mut told)?;
             left = left.saturating_sub(done);
         }
-        Ok(counts)
+        Ok(told)
     }
 }
 
-/// Counts an answer.
-fn count(counts: &mut Counts, answer: Answer) {
-    let count = match answer {
-        Answer::Committed { .. } => &mut counts.committed,
-        Answer::Read { .. } => &mut counts.read,
-        Answer::Cancelled { .. } => &mut counts.cancelled,
-        Answer::Conflict { .. } => &mut counts.conflict,
-        Answer::Stale => &mut counts.stale,
-        Answer::Repeated { .. } => &mut counts.repeated,
-        _ => &mut counts.other,
-    };
-    *count = count.wrapping_add(1);
+/// What callers were told.
+#[derive(Clone, Copy)]
+pub(crate) struct Told {
+    /// The number of answers of each kind.
+    pub(crate) counts: Counts,
+    /// The number of calls that were ordered, and of which their replica has no verdict. They are among the others.
+    pub(crate) stopped: u64,
 }
 
-/// The sum of two counts.
-pub(crate) fn sum(one: Counts, other: Counts) -> Counts {
-    one.checked_add(other).unwrap_or(Counts::new())
+impl Told {
+    /// Nothing that was told.
+    pub(crate) fn new() -> Told {
+        Told {
+            counts: Counts::new(),
+            stopped: 0,
+        }
+    }
+
+    /// Counts an answer.
+    fn count(&mut self, answer: Answer) {
+        let counts = &mut self.counts;
+        let count = match answer {
+            Answer::Committed { .. } => &mut counts.committed,
+            Answer::Read { .. } => &mut counts.read,
+            Answer::Cancelled { .. } => &mut counts.cancelled,
+            Answer::Conflict { .. } => &mut counts.conflict,
+            Answer::Stale => &mut counts.stale,
+            Answer::Repeated { .. } => &mut counts.repeated,
+            _ => &mut counts.other,
+        };
+        *count = count.wrapping_add(1);
+        if matches!(answer, Answer::Stopped { .. }) {
+            self.stopped = self.stopped.wrapping_add(1);
+        }
+    }
+
+    /// What was told to these and to others.
+    pub(crate) fn plus(self, others: Told) -> Told {
+        Told {
+            counts: self
+                .counts
+                .checked_add(others.counts)
+                .unwrap_or(Counts::new()),
+            stopped: self.stopped.wrapping_add(others.stopped),
+        }
+    }
 }
 
 /// Returns the number of answers.
@@ -312,15 +351,14 @@ pub(crate) fn all(counts: &Counts) -> u64 {
     .fold(0u64, |sum, count| sum.wrapping_add(*count))
 }
 
-/// Runs a caller, by its place from 0 on: makes its share of the calls, at one replica. Returns the counts of the
-/// answers.
+/// Runs a caller, by its place from 0 on: makes its share of the calls, at one replica. Returns what was told.
 fn call_from<J: LogSetting + Ledgers + Send + Sync + 'static, R: Wait>(
     rt: &R,
     alloc: Global,
     desk: &Desk<J, OpenGate>,
     load: Load,
     place: usize,
-) -> Result<Counts, AllocError> {
+) -> Result<Told, AllocError> {
     let number = u32::try_from(place).unwrap_or(0);
     let replica = number
         .checked_rem(load.replicas)
@@ -335,68 +373,103 @@ fn call_from<J: LogSetting + Ledgers + Send + Sync + 'static, R: Wait>(
     let share = load.calls.checked_div(load.callers).unwrap_or(0);
     let share = share.saturating_add(u32::from(number < rest));
     match load.work {
-        Work::Start => Ok(Counts::new()),
+        Work::Start => Ok(Told::new()),
         Work::Soak => Ok(caller.soak(rt, desk, replica, share)),
-        Work::Write | Work::Read => caller.call_many(rt, alloc, desk, load, replica, share),
+        Work::Write | Work::Read | Work::Long => caller.call_many(
+            rt, alloc, desk, load, replica, share,
+        ),
     }
 }
 
-/// Makes the calls of a load. Returns the counts of the answers. The error is want of memory.
+/// Makes the calls of a load. Returns what was told. The error is want of memory.
 pub(crate) fn call_all<J: LogSetting + Ledgers + Send + Sync + 'static, R: Threads + Wait + Sync>(
     rt: &R,
     alloc: Global,
     desk: &Desk<J, OpenGate>,
     load: Load,
-) -> Result<Counts, AllocError> {
+) -> Result<Told, AllocError> {
     let asked = thread::map_indices(
         rt,
         alloc,
         load.callers as usize,
         &|place: usize| call_from(rt, alloc, desk, load, place),
     )?;
-    let mut counts = Counts::new();
+    let mut told = Told::new();
     for answered in asked.iter() {
-        counts = sum(counts, (*answered)?);
+        told = told.plus((*answered)?);
     }
-    Ok(counts)
+    Ok(told)
 }
 
 /// The number of rebuilds beside the calls of a soak.
 const REBUILDS: u32 = 16;
 
-/// Makes drawn replicas anew while others call, where the load is a soak.
+/// Makes drawn replicas anew while others call, from time to time, where the load is a soak. Returns how often memory
+/// was wanting for that.
 pub(crate) fn rebuild_some<J: LogSetting + Ledgers + Send + Sync + 'static, R: Wait>(
     rt: &R,
     desk: &Desk<J, OpenGate>,
     load: Load,
-) -> Result<(), RebuildFault> {
+) -> u32 {
+    let mut wanting = 0u32;
     if load.work != Work::Soak {
-        return Ok(());
+        return wanting;
     }
     let mut generator = Pcg32::new(load.seed, u64::from(load.callers));
-    for _ in 0..REBUILDS {
+    // More than half of a soak's calls are ordered, so that each of these positions is reached.
+    let step = load.calls / 2 / REBUILDS;
+    for count in 0..REBUILDS {
         let drawn = generator
             .next_word()
             .checked_rem(load.replicas)
             .unwrap_or(0);
-        desk.rebuild(rt, drawn.wrapping_add(1))?;
+        let replica = drawn.wrapping_add(1);
+        let _ = desk.wait(rt, replica, step.wrapping_mul(count));
+        if desk.rebuild(rt, replica).is_err() {
+            wanting = wanting.wrapping_add(1);
+        }
     }
-    Ok(())
+    wanting
 }
 
-/// Gives each account its money, at replica 1.
+/// The number of times that a stopped replica is tried to be made anew.
+const TRIES: u32 = 100;
+
+/// Has each replica that has stopped made anew. Returns how many had.
+pub(crate) fn rebuild_stopped<J: LogSetting + Ledgers + Send + Sync + 'static, R: Wait>(
+    rt: &R,
+    desk: &Desk<J, OpenGate>,
+    replicas: u32,
+) -> u32 {
+    let mut found = 0u32;
+    for place in 0..replicas {
+        let replica = place.wrapping_add(1);
+        if !desk.status(rt, replica).is_some_and(|it| it.stopped) {
+            continue;
+        }
+        found = found.wrapping_add(1);
+        for _ in 0..TRIES {
+            if desk.rebuild(rt, replica).is_ok() {
+                break;
+            }
+        }
+    }
+    found
+}
+
+/// Gives each account its money, at replica 1. Returns what was told.
 pub(crate) fn open_accounts<J: LogSetting + Ledgers + Send + Sync + 'static, R: Wait>(
     rt: &R,
     desk: &Desk<J, OpenGate>,
-) -> Counts {
-    let mut counts = Counts::new();
+) -> Told {
+    let mut told = Told::new();
     let mut session = Session::new(desk);
     for account in 0..ACCOUNTS {
         let mut args = [0u8; 16];
         let (key, row) = args.split_at_mut(8);
         key.copy_from_slice(&u64::from(account).to_le_bytes());
         row.copy_from_slice(&MONEY.to_le_bytes());
-        count(&mut counts, session.call(rt, 1, PUT_NUMBER, &args).0);
+        told.count(session.call(rt, 1, PUT_NUMBER, &args).0);
     }
-    counts
+    told
 }

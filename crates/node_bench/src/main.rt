@@ -1,8 +1,8 @@
 //! Many callers at a node of many replicas: transfers between accounts, counts, searches, calls that cancel, that only
 //! read and that are asked for again. `node_bench soak REPLICAS EXECUTORS CALLS SEED` has drawn replicas made anew
 //! meanwhile, and compares the outcome with the plain replay of the log. The program fails where something isn't as it
-//! should be. `write`, `read` and `start` in place of `soak` only call, for measurements from outside, and compare
-//! nothing; the words CALLERS, DEPTH and KEYS may follow. Without them there are as many callers as executing threads,
+//! should be. `write`, `read`, `long` and `start` in place of `soak` only call, for measurements from outside, and
+//! compare nothing; the words CALLERS, DEPTH and KEYS may follow. Without them there are as many callers as executing threads,
 //! each with one call under way, and 10,000 keys. The time is taken by whoever starts the program (bench/node does).
 #![tactic(auto)]
 
@@ -14,9 +14,11 @@ mod calling;
 mod comparing;
 mod procedures;
 
-use crate::calling::{Load, Work, all, call_all, open_accounts, rebuild_some, sum};
+use crate::calling::{
+    Load, Told, Work, all, call_all, open_accounts, rebuild_some, rebuild_stopped,
+};
 use crate::comparing::{Comparison, compare};
-use crate::procedures::{ACCOUNTS, MONEY, catalogue, setting};
+use crate::procedures::{ACCOUNTS, MONEY, catalogue, long_catalogue, setting};
 use anyhow::Context;
 use catalogue::Catalogue;
 use locked_replica::LogSetting;
@@ -34,11 +36,15 @@ use tallies::{Blanks, Counts, Ledgers};
 /// The outcome of a run.
 #[derive(Clone, Copy)]
 struct Outcome {
-    /// The answers that the callers counted.
-    counted: Counts,
+    /// What the callers were told.
+    told: Told,
     /// The answers that the node counted.
     totals: Counts,
     agreement: bool,
+    /// The number of rebuilds for which memory was wanting.
+    wanting: u32,
+    /// The number of replicas that had stopped when all calls were answered, and were made anew then.
+    stopped: u32,
     /// The comparison of a soak.
     comparison: Option<Comparison>,
 }
@@ -72,11 +78,12 @@ fn use_node<
     let node = started.ok()?;
     let opened = open_accounts(rt, node.desk());
     let desk = node.desk();
-    let (called, rebuilt) = thread::join(
+    let (called, wanting) = thread::join(
         rt,
         || call_all(rt, alloc, desk, *load),
         || rebuild_some(rt, desk, *load),
     );
+    let stopped = rebuild_stopped(rt, desk, replicas);
     let finish = node.finish(rt);
     let comparison = if work == Work::Soak {
         let setting = setting(alloc, window)?;
@@ -84,11 +91,12 @@ fn use_node<
     } else {
         None
     };
-    rebuilt.ok()?;
     Some(Outcome {
-        counted: sum(opened, called.ok()?),
+        told: opened.plus(called.ok()?),
         totals: finish.totals,
         agreement: finish.agreement,
+        wanting,
+        stopped,
         comparison,
     })
 }
@@ -99,7 +107,11 @@ fn run<R: Threads + Wait + Copy + Send + Sync + 'static>(
     alloc: Global,
     load: Load,
 ) -> Option<Outcome> {
-    let catalogue = catalogue(alloc)?;
+    let catalogue = if load.work == Work::Long {
+        long_catalogue(alloc)?
+    } else {
+        catalogue(alloc)?
+    };
     let cells = GroupCells::new(alloc).ok()?;
     use_node::<Brand, R>(rt, alloc, &load, catalogue, cells, Blanks::new())
 }
@@ -108,35 +120,40 @@ fn yes(found: bool) -> &'static str {
     if found { "yes" } else { "no" }
 }
 
-/// Prints the number of answers of each kind to the writer for faults, since it isn't the same in each run.
-fn print_counts(rt: &HostRuntime, totals: Counts) -> anyhow::Result<()> {
+/// Prints the number of answers of each kind, and of replicas that stopped, to the writer for faults, since they aren't
+/// the same in each run.
+fn print_counts(rt: &HostRuntime, outcome: &Outcome) -> anyhow::Result<()> {
+    let totals = outcome.totals;
     eprintln!(rt;
-        "committed {} read {} cancelled {} conflict {} stale {} repeat {} other {}",
+        "committed {} read {} cancelled {} conflict {} stale {} repeat {} other {}, of which stopped {}",
         totals.committed,
         totals.read,
         totals.cancelled,
         totals.conflict,
         totals.stale,
         totals.repeated,
-        totals.other
+        totals.other,
+        outcome.told.stopped
+    )?;
+    eprintln!(rt;
+        "rebuilds without memory {}, replicas stopped at the end {}",
+        outcome.wanting, outcome.stopped
     )?;
     Ok(())
 }
 
 /// Prints the result of the plain replay. Tells whether all is as it should be.
-fn print_comparison(
-    rt: &HostRuntime,
-    comparison: Comparison,
-    committed: u64,
-) -> anyhow::Result<bool> {
-    let same_commits = comparison.commits == committed;
+fn print_comparison(rt: &HostRuntime, comparison: Comparison, told: Told) -> anyhow::Result<bool> {
+    // A commit that wasn't answered is of a call whose replica had stopped.
+    let unanswered = comparison.commits.checked_sub(told.counts.committed);
+    let same_commits = unanswered.is_some_and(|it| it <= told.stopped);
     let same_money = comparison.money == u64::from(ACCOUNTS).wrapping_mul(MONEY);
     println!(rt;
         "verdicts and rows as in the plain replay of the log: {}",
         yes(comparison.same)
     )?;
     println!(rt;
-        "commits in the log, as many as were answered: {}",
+        "commits in the log are those that were answered, or of a stopped replica: {}",
         yes(same_commits)
     )?;
     println!(rt;
@@ -149,16 +166,16 @@ fn print_comparison(
 
 /// Prints the outcome of a run. Tells whether all is as it should be.
 fn print(rt: &HostRuntime, outcome: &Outcome) -> anyhow::Result<bool> {
-    let same_counts = outcome.counted == outcome.totals;
-    print_counts(rt, outcome.totals)?;
+    let same_counts = outcome.told.counts == outcome.totals;
+    print_counts(rt, outcome)?;
     println!(rt;
         "answers {}, as the node's totals: {}",
-        all(&outcome.counted),
+        all(&outcome.told.counts),
         yes(same_counts)
     )?;
     println!(rt; "agreement: {}", yes(outcome.agreement))?;
     let compared = match outcome.comparison {
-        Some(comparison) => print_comparison(rt, comparison, outcome.totals.committed)?,
+        Some(comparison) => print_comparison(rt, comparison, outcome.told)?,
         None => true,
     };
     Ok(same_counts && outcome.agreement && compared)
@@ -168,7 +185,7 @@ fn print(rt: &HostRuntime, outcome: &Outcome) -> anyhow::Result<bool> {
 fn asked(words: &[String]) -> anyhow::Result<Load> {
     let number = |place: usize| words.get(place).and_then(|word| word.parse::<u32>().ok());
     let work = words.get(1).and_then(|word| Work::from_word(word));
-    let work = work.context("the first word is soak, write, read or start")?;
+    let work = work.context("the first word is soak, write, read, long or start")?;
     let replicas = number(2).context("the second word is how many replicas there are")?;
     let executors = number(3).context("the third word is how many threads each has")?;
     Ok(Load {

@@ -83,3 +83,11 @@ returns-clause-verdicts g c j position v told =
     let done = subst (λ (xs : List Step). AreSteps (setting_of s) (world_of s) (map (step_of (setting_of s)) xs) c.loop-step.outcomes.items (world_of t)) all c.loop-step.invariant.done in
     subst (λ (w : Setting). verdict_of w (world_of t).log position ≡ Some v) (sym c.loop-step.invariant.same)
     (c.delivered_verdicts_are_the_logs.ensures (setting_of s) (world_of s) (map (step_of (setting_of s)) c.args.steps.now) c.loop-step.outcomes.items (world_of t) j position v done told)
+
+pub returns-clause-once : goal.returns-clause-once
+returns-clause-once g c d e a b =
+    c.each_request_commits_once.ensures (setting_of c.loop-step.self) (world_of c.loop-step.self).log d e a b c.keeps_what_was_delivered-2.ensures.world.log
+
+pub returns-in_err-outcomes-clause-once : goal.returns-in_err-outcomes-clause-once
+returns-in_err-outcomes-clause-once g c d e a b =
+    c.each_request_commits_once.ensures (setting_of c.args.self.now) (world_of c.args.self.now).log d e a b c.keeps_what_was_delivered.ensures.world.log
