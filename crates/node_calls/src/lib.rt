@@ -9,7 +9,7 @@ pub use bells::{Bells, Waiter};
 pub use executor::Executor;
 pub use gate::{Gate, OpenGate};
 pub use helpers::calls_row_helper;
-pub use looking::{LOOKS, pause};
+pub use looking::{LOOKS, SPINS, pause};
 pub use served::{Batch, ServedReplica};
 
 mod answer;

@@ -7,7 +7,7 @@ use std::thread;
 pub const LOOKS: u32 = 100;
 
 /// The number of looks after which a thread lets others run between two looks.
-const SPINS: u32 = 20;
+pub const SPINS: u32 = 20;
 
 /// Pauses behind a look, by its number from 0 on: on the processor at first, later by letting other threads run.
 pub fn pause(look: u32) {

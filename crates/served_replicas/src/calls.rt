@@ -6,7 +6,7 @@ ghost use Rattle.node_calls.specs.Answer.{IsAnswer};
 use crate::reply::{CallRequest, Reply};
 use crossbeam_utils::sync::EventCount;
 use locked_replica::LogSetting;
-use node_calls::{Answer, Asked, LOOKS, pause};
+use node_calls::{Answer, Asked, LOOKS, SPINS, pause};
 use order_log::Seen;
 use std::alloc::{AllocError, Allocator, Global};
 use std::mem;
@@ -84,11 +84,19 @@ impl<J: LogSetting + Ledgers, P: Allocator + Copy> Calls<J, P> {
         }
     }
 
-    /// Waits for all replies. Looks for them some times before it sleeps.
+    /// Tells whether several calls stand behind those of other callers: no thread has taken one of them.
+    fn are_behind_others(&self) -> bool {
+        self.places.len() > 1 && self.next.load(SeqCst) == 0
+    }
+
+    /// Waits for all replies. Looks for them some times before it sleeps, and fewer times where others come first.
     pub fn wait<R: Wait>(&self, rt: &R) {
         for look in 0..LOOKS {
             if self.open.load(SeqCst) == 0 {
                 return;
+            }
+            if look >= SPINS && self.are_behind_others() {
+                break;
             }
             pause(look);
         }
