@@ -4,6 +4,7 @@
 
 ghost use Rattle.std.specs.Prelude.{◌≡◌};
 ghost use Rattle.tallies.specs.Tallies.{names_by_place};
+ghost use Rattle.catalogue.specs.Catalogue.{system_setting};
 
 mod database;
 mod moving;
@@ -88,11 +89,7 @@ fn use_node<
 ) -> Option<Day>
     requires cells { cells ≡ J.groups }
     requires ledgers { J.names ≡ names_by_place blanks }
-    requires setting { J.setting ≡ record {
-      tables = catalogue.tables;
-      catalogue = catalogue.procedures;
-      window = options.window;
-    } }
+    requires setting { J.setting ≡ system_setting catalogue options.window }
 {
     let started = Node::<J, OpenGate>::start_with(
         rt, alloc, cells, blanks, options, catalogue, OpenGate,

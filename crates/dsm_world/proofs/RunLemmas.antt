@@ -7,7 +7,7 @@ use Rattle.replica.specs.Replica.{Replica, StandsFor, StandsIn, FollowsLog}
 use Rattle.dsm_model.specs.declared.outcome.Outcome.{Outcome}
 use Rattle.log_model.specs.Log.{Catalogue, Setting, Log, rows_after}
 use Rattle.log_model.specs.Entries.{Entry, items_of}
-use Rattle.catalogue.specs.Catalogue.{SystemCatalogue}
+use Rattle.catalogue.specs.Catalogue.{SystemCatalogue, system_setting}
 use Rattle.log_model.specs.Fit.{HasSafeProcedures}
 use Rattle.dsm_model.specs.World.{World, Replica as ModelReplica, Step, first_world, numbered, IsStep, AreSteps}
 use Rattle.world_calls.specs.declared.open_call.OpenCall.{OpenCall as OpenCallState}
@@ -93,10 +93,10 @@ one_more_answer w steps n item outcomes more outcome taken answered count =
 abbrev the_empty : List Entry
 the_empty = []
 
-pub first_replica : (catalogue : SystemCatalogue) (window : ℕ) (r : Replica) → HasSafeProcedures (record { tables = catalogue.tables; catalogue = catalogue.procedures; window = window })
-    → StandsIn (record { tables = catalogue.tables; catalogue = catalogue.procedures; window = window }) r [] → IsReplicaOf catalogue window [] r
+pub first_replica : (catalogue : SystemCatalogue) (window : ℕ) (r : Replica) → HasSafeProcedures (system_setting catalogue window)
+    → StandsIn (system_setting catalogue window) r [] → IsReplicaOf catalogue window [] r
 first_replica catalogue window r safe stands =
-    subst (FollowsLog (record { tables = catalogue.tables; catalogue = catalogue.procedures; window = window }) r) (nothing r.position)
+    subst (FollowsLog (system_setting catalogue window) r) (nothing r.position)
     (record { of_log = record { procedures = safe; log = tt; items = tt; runs = tt }; stands = stands })
   where
     nothing : (n : ℕ) → the_empty ≡ take n the_empty
@@ -115,14 +115,14 @@ pub first_of : (catalogue : SystemCatalogue) (window n : ℕ) (replicas : List R
 first_of catalogue window n replicas count fresh =
     ap (λ (rs : List ModelReplica). record { log = []; replicas = rs; calls = [] }) (all_alike progress_of replicas (record { position = 0; stopped = false }) fresh ∙ ap (λ (m : ℕ). replicate m (record { position = 0; stopped = false })) count)
 
-pub first_together : {A : Type 0} (catalogue : SystemCatalogue) (window n : ℕ) (replicas : List Replica) → ((w : Setting) (n : ℕ) → IsWorld w (first_world n)) → HasSafeProcedures (record { tables = catalogue.tables; catalogue = catalogue.procedures; window = window }) → length replicas ≡ n
+pub first_together : {A : Type 0} (catalogue : SystemCatalogue) (window n : ℕ) (replicas : List Replica) → ((w : Setting) (n : ℕ) → IsWorld w (first_world n)) → HasSafeProcedures (system_setting catalogue window) → length replicas ≡ n
     → ((k : ℕ) (r : Replica) → slice_get replicas k ≡ Some r → IsReplicaOf catalogue window [] r) → ((k : ℕ) (r : Replica) → slice_get replicas k ≡ Some r → progress_of r ≡ record { position = 0; stopped = false })
     → IsTogether {A = A} (record { catalogue = catalogue; window = window; entries = []; replicas = replicas; calls = [] }) []
 first_together catalogue window n replicas law safe count each fresh = record {
   entries = record { procedures = safe; log = tt; items = tt; runs = tt };
   writes = tt;
   named = tt;
-  world = subst (λ (x : World). IsWorld (record { tables = catalogue.tables; catalogue = catalogue.procedures; window = window }) x) (sym (first_of catalogue window n replicas count fresh)) (law _ n);
+  world = subst (λ (x : World). IsWorld (system_setting catalogue window) x) (sym (first_of catalogue window n replicas count fresh)) (law _ n);
   replicas = each;
   calls = refl;
   open_calls = λ k c e. absurd cc;

@@ -1,6 +1,6 @@
 -- A world of replicas as contracts see it, and the world of the definitions that it is.
 use Rattle.std.specs.Prelude.{◌≡◌, ℕ, ◌-◌, ◌≤◌, List, map, take, Option, Some, None}
-use Rattle.catalogue.specs.Catalogue.{SystemCatalogue}
+use Rattle.catalogue.specs.Catalogue.{SystemCatalogue, system_setting}
 use Rattle.rows_mv.specs.Versions.{AnswersFrom}
 use Rattle.replica.specs.Replica.{Replica, StandsFor, AreEntriesOf}
 use Rattle.log_model.specs.Log.{Setting, rows_after, procedures_after}
@@ -24,7 +24,7 @@ pub record SystemWorld : Type 0 where
   pub calls : List (Option OpenCall)
 
 abbrev pub setting_of : SystemWorld → Setting
-setting_of s = record { tables = s.catalogue.tables; catalogue = s.catalogue.procedures; window = s.window }
+setting_of s = system_setting s.catalogue s.window
 
 -- how far a replica has come, and whether it has stopped
 abbrev pub progress_of : Replica → model.Replica

@@ -2,7 +2,7 @@
 use Rattle.std.specs.Prelude.{◌≡◌, ℕ, List, map, take, slice_get, Option, Some, option_map}
 use Rattle.std.specs.List.{AllByRecursion}
 use Rattle.schema.specs.Rows.{AreWrites}
-use Rattle.catalogue.specs.Catalogue.{SystemCatalogue}
+use Rattle.catalogue.specs.Catalogue.{SystemCatalogue, system_setting}
 use Rattle.replica.specs.Replica.{Replica, AreEntriesOf, FollowsLog, IsNamed, writes_in}
 use Rattle.log_model.specs.Entries.{Entry, items_of}
 use Rattle.log_model.specs.OpenCall.{OpenCall}
@@ -14,7 +14,7 @@ use Rattle.dsm_world.specs.System.{SystemWorld, setting_of, world_of}
 -- a replica of this catalogue has delivered a beginning of the entries, and follows the log of that beginning
 abbrev pub IsReplicaOf : SystemCatalogue → ℕ → List Entry → Replica → Type 0
 IsReplicaOf catalogue window entries r =
-    FollowsLog (record { tables = catalogue.tables; catalogue = catalogue.procedures; window = window }) r (take r.position entries)
+    FollowsLog (system_setting catalogue window) r (take r.position entries)
 
 abbrev pub open_calls_of : {A : Type 0} → List (Option (OpenCallState A)) → List (Option OpenCall)
 open_calls_of slots = map (λ slot. option_map open_call_of slot) slots

@@ -5,7 +5,7 @@ ghost use Rattle.std.specs.Prelude.{◌≢◌, Some, None, IfOk, OnErr, vec_len,
 ghost use Rattle.schema.specs.declared.limits.TheConstants.{MAX_REPLICAS, MAX_WINDOW};
 ghost use Rattle.log_model.specs.declared.verdict.Verdict.{Verdict as ModelVerdict};
 ghost use Rattle.log_model.specs.declared.verdict.Verdict.TheVariants.{Commit};
-ghost use Rattle.dsm_model.specs.declared.outcome.Outcome.TheVariants.{More, Exit, Ordered, Delivered};
+ghost use Rattle.dsm_model.specs.declared.outcome.Outcome.TheVariants.{Exit, Ordered, Delivered};
 ghost use Rattle.bpf_semantics.specs.Path.{longest_path};
 ghost use Rattle.log_model.specs.Log.{Call, CallItem, Log, StoredProcedure, by_name, procedure_of, procedures_after};
 ghost use Rattle.log_model.specs.Log.{run_in, same_request, verdict_of};
@@ -18,7 +18,7 @@ ghost use Rattle.log_model.specs.OpenCall.{OpenCall as ModelCall};
 ghost use Rattle.dsm_model.specs.Sound.{IsGiven, IsSound, IsSerialReply, IsWorld};
 ghost use Rattle.dsm_model.specs.Worlds.{HasExited, IsCallNumbered, turns_of};
 ghost use Rattle.replica.specs.Replica.{Replica as ReplicaState, AreEntriesOf};
-ghost use Rattle.catalogue.specs.Catalogue.{IsCatalogue};
+ghost use Rattle.catalogue.specs.Catalogue.{IsCatalogue, system_setting};
 ghost use Rattle.dsm_world.specs.System.{setting_of, world_of, step_of, progress_of, KeepsDelivered};
 ghost use Rattle.dsm_world.specs.Together.{IsReplicaOf};
 
@@ -126,11 +126,7 @@ impl<A: Allocator + Copy> World<A> {
         requires replicas { (1 ≤ replicas) × (replicas ≤ MAX_REPLICAS) }
         requires window { (1 ≤ window) × (window ≤ MAX_WINDOW) }
         ensures first { IfOk result (λ w. world_of w ≡ first_world replicas) }
-        ensures setting { IfOk result (λ w. setting_of w ≡ record {
-          tables = catalogue.tables;
-          catalogue = catalogue.procedures;
-          window = window;
-        }) }
+        ensures setting { IfOk result (λ w. setting_of w ≡ system_setting catalogue window) }
     {
         catalogues_are_safe(&catalogue);
         // Laws:

@@ -4,6 +4,7 @@
 
 ghost use Rattle.std.specs.Prelude.{◌≡◌};
 ghost use Rattle.tallies.specs.Tallies.{names_by_place};
+ghost use Rattle.catalogue.specs.Catalogue.{system_setting};
 
 use bpf_bytes::decode;
 use bpf_verify::verify;
@@ -55,11 +56,7 @@ fn use_node<
 ) -> Option<u64>
     requires cells { cells ≡ J.groups }
     requires ledgers { J.names ≡ names_by_place blanks }
-    requires setting { J.setting ≡ record {
-      tables = catalogue.tables;
-      catalogue = catalogue.procedures;
-      window = window;
-    } }
+    requires setting { J.setting ≡ system_setting catalogue window }
 {
     let node = Node::<J, OpenGate>::start(rt, alloc, cells, blanks, 3, 2, window, catalogue).ok()?;
     let mut session = Session::new(node.desk());

@@ -13,6 +13,7 @@ ghost use Rattle.certify.specs.declared.certification.Certification.{Certificati
 ghost use Rattle.locked_replica.specs.Begin.{Begins};
 ghost use Rattle.locked_replica.specs.Commits.{commits_of};
 ghost use Rattle.locked_replica.specs.Locked.{Delivers, Finds};
+ghost use Rattle.catalogue.specs.Catalogue.{system_setting};
 
 use crate::answers::{Delivery, Found};
 use crate::begin::Begin;
@@ -67,11 +68,7 @@ impl<J: LogSetting, A: Allocator + Copy, P: Allocator + Copy> LockedReplica<J, A
         window: u32,
         catalogue: &Catalogue<P>,
     ) -> Result<LockedReplica<J, A, P>, AllocError>
-        requires { J.setting ≡ record {
-          tables = catalogue.now.tables;
-          catalogue = catalogue.now.procedures;
-          window = window;
-        } }
+        requires { J.setting ≡ system_setting catalogue.now window }
         ensures entries { IfOk result (λ l. l.entries ≡ []) }
         ensures running { IfOk result (λ l. l.replica.stopped ≡ false) }
     {

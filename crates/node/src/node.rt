@@ -12,6 +12,7 @@ ghost use Rattle.served_replicas.specs.Replicas.{IsNoReplica};
 ghost use Rattle.served_replicas.specs.declared.rebuild.RebuildFault.TheVariants.{NoReplica};
 ghost use Rattle.node.specs.Agreement.{AgreeBy};
 ghost use Rattle.node.specs.Options.{AreInBounds, IsStartFault, IsWant, options_of};
+ghost use Rattle.catalogue.specs.Catalogue.{system_setting};
 
 use crate::crew::Crew;
 use crate::desk::Desk;
@@ -103,11 +104,7 @@ impl<J: LogSetting + Ledgers + Send + Sync + 'static, G: Gate + Drop + Send + Sy
     ) -> Result<Node<J, G>, StartFault>
         requires cells { cells ≡ J.groups }
         requires ledgers { J.names ≡ names_by_place blanks }
-        requires setting { J.setting ≡ record {
-          tables = catalogue.tables;
-          catalogue = catalogue.procedures;
-          window = options.window;
-        } }
+        requires setting { J.setting ≡ system_setting catalogue options.window }
         ensures started { IfOk result (λ node. AreInBounds options × (node.replicas ≡ options.replicas)) }
         ensures fault { IfErr result (IsStartFault options) }
     {
@@ -216,11 +213,7 @@ impl<J: LogSetting + Ledgers + Send + Sync + 'static> Node<J, OpenGate> {
     ) -> Result<Node<J, OpenGate>, StartFault>
         requires cells { cells ≡ J.groups }
         requires ledgers { J.names ≡ names_by_place blanks }
-        requires setting { J.setting ≡ record {
-          tables = catalogue.tables;
-          catalogue = catalogue.procedures;
-          window = window;
-        } }
+        requires setting { J.setting ≡ system_setting catalogue window }
         ensures started { IfOk result (λ node. node.replicas ≡ replicas) }
         ensures fault { IfErr result (IsStartFault (options_of replicas executors window)) }
     {
@@ -293,11 +286,7 @@ fn shared_of<J: LogSetting + Ledgers, G: Gate + Drop>(
 ) -> Result<Arc<Shared<J, Global, Global, G>>, AllocError>
     requires options { AreInBounds options }
     requires cells { cells ≡ J.groups }
-    requires setting { J.setting ≡ record {
-      tables = catalogue.tables;
-      catalogue = catalogue.procedures;
-      window = options.window;
-    } }
+    requires setting { J.setting ≡ system_setting catalogue options.window }
     ensures { IfOk result (λ shared. (arc_value shared).replicas ≡ options.replicas) }
 {
     let log = OrderLog::with_limit(alloc, cells, options.limit)?;

@@ -7,7 +7,7 @@
 #![tactic(auto)]
 
 ghost use Rattle.std.specs.Prelude.{◌≡◌};
-ghost use Rattle.node_bench.specs.Setting.{setting_of};
+ghost use Rattle.catalogue.specs.Catalogue.{system_setting};
 ghost use Rattle.tallies.specs.Tallies.{names_by_place};
 
 mod calling;
@@ -63,7 +63,7 @@ fn use_node<
 ) -> Option<Outcome>
     requires cells { cells ≡ J.groups }
     requires ledgers { J.names ≡ names_by_place blanks }
-    requires setting { J.setting ≡ setting_of catalogue load.now.window }
+    requires setting { J.setting ≡ system_setting catalogue load.now.window }
 {
     let Load {
         work,

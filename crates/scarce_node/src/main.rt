@@ -5,6 +5,7 @@
 
 ghost use Rattle.std.specs.Prelude.{◌≡◌};
 ghost use Rattle.tallies.specs.Tallies.{names_by_place};
+ghost use Rattle.catalogue.specs.Catalogue.{system_setting};
 
 use catalogue::Catalogue;
 use locked_replica::LogSetting;
@@ -145,11 +146,7 @@ fn use_node<
 ) -> Option<Outcome>
     requires cells { cells ≡ J.groups }
     requires ledgers { J.names ≡ names_by_place blanks }
-    requires setting { J.setting ≡ record {
-      tables = catalogue.tables;
-      catalogue = catalogue.procedures;
-      window = options.window;
-    } }
+    requires setting { J.setting ≡ system_setting catalogue options.window }
 {
     let passed = Arc::new(alloc, AtomicU32::new(0)).ok()?;
     let gate = CountingGate {

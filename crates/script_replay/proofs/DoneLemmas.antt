@@ -24,6 +24,7 @@ use Rattle.script_replay.specs.Replay.{Ending, Faulty, Prints}
 use Rattle.script_replay.specs.Doing.{stage_of, PrintsFrom, IsFaultOf, GivesBeginning, GivesUpTo, GivesEffect, StopsBy}
 use Rattle.script_replay.proofs.PassesLemmas.{Passes-nothing, PassesBeginning-front, PassesBeginning-more}
 use Rattle.script_replay.proofs.ReplayLemmas.{can_print, effect_can}
+use Rattle.catalogue.specs.Catalogue.{system_setting}
 
 -- nothing was printed, and it goes on at a stage
 pub goes : {A W : Type 0} (contents : W → Option (List ℕ)) (n : ℕ) (a : Effect) (page : PagedOutput W) (next : code.Stage A) → a ≡ Goes (stage_of next) → GivesEffect contents n a page page (Ok next)
@@ -86,16 +87,13 @@ fault_of_line n stage said fault cause stop (inl memory) is e = subst (IsFaultOf
 fault_of_line n stage said fault cause stop (inr says) is e =
     subst (IsFaultOf n (effect_of stage said)) (sym e) (refl, inr (ap (effect_of stage) says ∙ ap Fails (sym is)))
 
-abbrev setting_from : SystemCatalogue → ℕ → Setting
-setting_from c window = record { tables = c.tables; catalogue = c.procedures; window = window }
-
 -- the world that is made acts
 pub set_up_acts : (s : ScriptSettings) (o p : Option ℕ) (catalogue : SystemCatalogue) (window replicas : ℕ) (w : Setting) (world : World) (c : ScriptAction) → o ≡ Some window → p ≡ Some replicas → catalogue ≡ s.catalogue
-    → w ≡ setting_from catalogue window → world ≡ first_world replicas → first_effect s o p c ≡ Acts w world c
+    → w ≡ system_setting catalogue window → world ≡ first_world replicas → first_effect s o p c ≡ Acts w world c
 set_up_acts s o p catalogue window replicas w world c e f same is first =
     ap (λ (q : Option ℕ). first_effect s q p c) e
     ∙ ap (λ (q : Option ℕ). first_effect s (Some window) q c) f
-    ∙ ap (λ (k : SystemCatalogue). Acts (setting_from k window) (first_world replicas) c) (sym same)
+    ∙ ap (λ (k : SystemCatalogue). Acts (system_setting k window) (first_world replicas) c) (sym same)
     ∙ ap (λ (u : Setting). Acts u (first_world replicas) c) (sym is)
     ∙ ap (λ (v : World). Acts w v c) (sym first)
 

@@ -9,6 +9,7 @@ use Rattle.script.specs.declared.cause.FaultCause.{FaultCause}
 use Rattle.script.specs.declared.cause.FaultCause.TheVariants as cause
 use Rattle.script.specs.SettingsFault.{cause_of_line_fault}
 use Rattle.script.specs.Settings.{ScriptSettings, no_settings, setting_after}
+use Rattle.catalogue.specs.Catalogue.{system_setting}
 
 pub data Stage : Type 0 where
   Setup : ScriptSettings → Stage
@@ -16,10 +17,6 @@ pub data Stage : Type 0 where
 
 abbrev pub first_stage : Stage
 first_stage = Setup no_settings
-
--- what the settings come to, with a window
-abbrev pub setting_with : ScriptSettings → ℕ → Setting
-setting_with s window = record { tables = s.catalogue.tables; catalogue = s.catalogue.procedures; window = window }
 
 -- what a line comes to at a stage: it is at fault; it prints nothing, and the script goes on at a stage; or it acts on a
 -- world
@@ -34,7 +31,7 @@ setting_effect (Err cause) = Fails cause
 
 -- the first line that acts makes the world, of which window and replicas have to be set
 abbrev pub first_effect : ScriptSettings → Option ℕ → Option ℕ → ScriptAction → Effect
-first_effect s (Some window) (Some replicas) action = Acts (setting_with s window) (first_world replicas) action
+first_effect s (Some window) (Some replicas) action = Acts (system_setting s.catalogue window) (first_world replicas) action
 first_effect s _ _ action = Fails cause.Place
 
 -- no line sets anything once a world acts

@@ -13,7 +13,6 @@ use Rattle.script_run.specs.Calls.{Said, script_says}
 use Rattle.script_run.specs.declared.call.ScriptCall.{ScriptCall}
 use Rattle.script.specs.declared.cause.FaultCause.TheVariants.{NoMemory}
 use Rattle.script.specs.declared.cause.ScriptFault.{ScriptFault}
-use Rattle.script.specs.Settings.{ScriptSettings}
 use Rattle.script.specs.Telling.{fault_line}
 use Rattle.script.specs.declared.stop.Stop.{Stop}
 use Rattle.script.specs.declared.stop.Stop.TheVariants as stop
@@ -21,6 +20,7 @@ use Rattle.script_run.specs.declared.run.Report.{Report}
 use Rattle.script_run.specs.declared.text.ReplicaEnd.{ReplicaEnd}
 use Rattle.node.specs.Requests.{Entries}
 use Rattle.script_run.specs.Answered.{AreToldOf, IsEndOf}
+use Rattle.catalogue.specs.Catalogue.{system_setting}
 
 -- what a run comes to
 pub record RunReport : Type 0 where
@@ -50,10 +50,6 @@ abbrev pub run_text : RunReport → List ℕ
 run_text r =
     answers_text 0 r.answers ++ line_text (Totals r.totals) ++ replicas_text 0 r.replicas ++ line_text (Agreement r.agrees)
 
--- the setting that a script has once it says a window
-abbrev pub setting_of : ScriptSettings → ℕ → Setting
-setting_of settings window = record { tables = settings.catalogue.tables; catalogue = settings.catalogue.procedures; window = window }
-
 -- what these calls come to at so many replicas: there is one log of which each answer and each replica's end is true
 pub record IsRun (w : Setting) (replicas : ℕ) (calls : List (ScriptCall (List ℕ))) (r : RunReport) : Type 0 where
   pub log : Entries
@@ -69,7 +65,7 @@ pub record IsReportOf (said : Said) (r : RunReport) : Type 0 where
   pub window_said : said.settings.window ≡ Some window
   pub replicas : ℕ
   pub replicas_said : said.settings.replicas ≡ Some replicas
-  pub run : IsRun (setting_of said.settings window) replicas said.calls r
+  pub run : IsRun (system_setting said.settings.catalogue window) replicas said.calls r
 
 -- what the code has of a run
 abbrev pub report_of : Report → RunReport

@@ -9,6 +9,7 @@ ghost use Rattle.script_run.specs.Answered.{AreToldOf};
 ghost use Rattle.script_run.specs.Planned.{planned_calls};
 ghost use Rattle.script_run.specs.Printed.{IsReportOf, IsRun, PrintsNoMore, PrintsReport, PrintsRun, SaysFault};
 ghost use Rattle.script_run.specs.Printed.{report_of, run_text};
+ghost use Rattle.catalogue.specs.Catalogue.{system_setting};
 
 use crate::answers::{answers_of, ends_of};
 use crate::asking::Asking;
@@ -17,10 +18,10 @@ use crate::call_script::{CallScript, read_script};
 use crate::text::{ReplicaEnd, text_of};
 use byte_output::{FAILED, put};
 use catalogue::Catalogue;
-use locked_replica::{LogSetting, OrderedEntries};
+use locked_replica::LogSetting;
 use node::{Desk, Node, Options, StartFault};
 use node_calls::{Answer, OpenGate};
-use order_log::{Fact, GroupCells, Seen};
+use order_log::{GroupCells, Seen};
 use row_sets::Bytes;
 use script::{Stop, out_of_memory, tell};
 use std::alloc::{AllocError, Global};
@@ -189,11 +190,7 @@ fn run_on_node<
 ) -> Result<Report, Failure>
     requires cells { cells ≡ J.groups }
     requires ledgers { J.names ≡ names_by_place blanks }
-    requires setting { J.setting ≡ record {
-      tables = catalogue.tables;
-      catalogue = catalogue.procedures;
-      window = size.window;
-    } }
+    requires setting { J.setting ≡ system_setting catalogue size.window }
     ensures run { IfOk result (λ report. IsRun J.setting size.replicas calls.items (report_of report)) }
     ensures silent { shows_progress ≡ false → faults.new ≡ faults.old }
 {

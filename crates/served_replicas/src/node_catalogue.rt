@@ -19,7 +19,7 @@ pub(crate) struct NodeCatalogue<J: LogSetting, P: Allocator + Copy = Global> {
 
 impl<J: LogSetting, P: Allocator + Copy> Model for NodeCatalogue<J, P> {
     ghost use Rattle.std.specs.Prelude.{◌≡◌};
-    ghost use Rattle.catalogue.specs.Catalogue.{SystemCatalogue};
+    ghost use Rattle.catalogue.specs.Catalogue.{SystemCatalogue, system_setting};
     ghost use Rattle.catalogue.specs.Held.{catalogue_code};
 
     ghost Value = { SystemCatalogue };
@@ -28,21 +28,13 @@ impl<J: LogSetting, P: Allocator + Copy> Model for NodeCatalogue<J, P> {
 
     ghost view = { λ c. c.catalogue };
 
-    ghost invariant = { λ c. J.setting ≡ record {
-      tables = c.catalogue.tables;
-      catalogue = c.catalogue.procedures;
-      window = c.window;
-    } };
+    ghost invariant = { λ c. J.setting ≡ system_setting c.catalogue c.window };
 }
 
 impl<J: LogSetting, P: Allocator + Copy> NodeCatalogue<J, P> {
     /// Makes a catalogue and a window that are the setting.
     pub(crate) fn new(catalogue: Catalogue<P>, window: u32) -> NodeCatalogue<J, P>
-        requires { J.setting ≡ record {
-          tables = catalogue.tables;
-          catalogue = catalogue.procedures;
-          window = window;
-        } }
+        requires { J.setting ≡ system_setting catalogue window }
         ensures { result ≡ catalogue }
     {
         NodeCatalogue {
@@ -68,11 +60,7 @@ impl<J: LogSetting, P: Allocator + Copy> NodeCatalogue<J, P> {
 
     /// The window.
     pub(crate) fn window(&self) -> u32
-        ensures { J.setting ≡ record {
-          tables = self.now.tables;
-          catalogue = self.now.procedures;
-          window = result;
-        } }
+        ensures { J.setting ≡ system_setting self.now result }
     {
         self.window
     }

@@ -2,6 +2,7 @@
 
 ghost use Rattle.std.specs.Prelude.{◌≡◌, ◌+◌, ◌≤◌, length, IfSome, IfNone, IfOk, OnOk};
 ghost use Rattle.served_replicas.specs.Replicas.{IsNoReplica};
+ghost use Rattle.catalogue.specs.Catalogue.{system_setting};
 
 use crate::node_catalogue::NodeCatalogue;
 use catalogue::Catalogue;
@@ -85,11 +86,7 @@ impl<J: LogSetting, A: Allocator + Copy, P: Allocator + Copy, G: Gate + Drop> Sh
         gate: G,
         replicas: usize,
     ) -> Result<Shared<J, A, P, G>, AllocError>
-        requires { J.setting ≡ record {
-          tables = catalogue.tables;
-          catalogue = catalogue.procedures;
-          window = window;
-        } }
+        requires { J.setting ≡ system_setting catalogue window }
         ensures { IfOk result (λ shared. shared.replicas ≡ 0) }
     {
         Ok(Shared {

@@ -17,6 +17,7 @@ use Rattle.site.specs.Replica.{SiteReplica, KnowsSince, StandsForLog, reply_of, 
 use Rattle.site.specs.Taking.{AreAlike, Follows, additions_after}
 use Rattle.site.proofs.AlikeLemmas.{certified_alike, stands_in_alike}
 use Rattle.site.proofs.SinceLemmas.{ProceduresStay, NeverLost, since_same, since_added}
+use Rattle.catalogue.specs.Catalogue.{system_setting}
 
 -- what the laws of lower crates say
 abbrev pub OneMore : Type 0
@@ -116,9 +117,6 @@ site_after s new entry v = record {
   additions = additions_after s.additions (entry_of entry) v new.position;
 }
 
-abbrev setting_with : SiteReplica → ℕ → Setting
-setting_with s window = record { tables = s.catalogue.tables; catalogue = s.catalogue.procedures; window = window }
-
 module _ {A : Type 0} (s : SiteReplica) (entries : List Entry) (e : Entry) (entry : LogEntry A) where
   pub delivered : OneMore → NextVerdict → ProceduresStay → NeverLost → CallsLeave → AdditionsAdd → CommitsWhereNone → (new : Replica) (v : Verdict) → Follows s entries e entry → HasDelivered s.replica new (entry_of entry) v → HasSameTables s.replica new
       → OneMoreIn s.replica entry new → StandsForLog (site_after s new entry v) (entries ++ e ∷ [])
@@ -135,14 +133,14 @@ module _ {A : Type 0} (s : SiteReplica) (entries : List Entry) (e : Entry) (entr
       let since = since_next w entries e v s.additions stay never leave add where_none more.log f.stands.of_log.log here items f.stands.since in
       record {
         running = is.running;
-        stands = subst (λ (n : ℕ). StandsIn (setting_with s n) new (entries ++ e ∷ [])) (sym same.window) (stands_in_alike w new entries e (entry_of entry) f.alike (more_in w entries f.stands.stands f.taken.for_tables));
-        of_log = subst (λ (n : ℕ). AreFitEntries (setting_with s n) (entries ++ e ∷ [])) (sym same.window) more;
+        stands = subst (λ (n : ℕ). StandsIn (system_setting s.catalogue n) new (entries ++ e ∷ [])) (sym same.window) (stands_in_alike w new entries e (entry_of entry) f.alike (more_in w entries f.stands.stands f.taken.for_tables));
+        of_log = subst (λ (n : ℕ). AreFitEntries (system_setting s.catalogue n) (entries ++ e ∷ [])) (sym same.window) more;
         replies =
             ap (λ (xs : List ℕ). xs ++ reply_of (entry_of entry) ∷ []) f.stands.replies
             ∙ ap (λ n. map reply_of entries ++ n ∷ []) (sym (reply_alike e (entry_of entry) f.alike))
             ∙ sym (map-append reply_of entries (e ∷ []));
         since =
-            subst (λ (n : ℕ). KnowsSince (setting_with s n) (items_of (entries ++ e ∷ [])) (additions_after s.additions (entry_of entry) v new.position)) (sym same.window)
+            subst (λ (n : ℕ). KnowsSince (system_setting s.catalogue n) (items_of (entries ++ e ∷ [])) (additions_after s.additions (entry_of entry) v new.position)) (sym same.window)
             (subst (λ (l : Log). KnowsSince w l (additions_after s.additions (entry_of entry) v new.position)) (sym items)
             (subst (λ (xs : List (ℕ × ℕ)). KnowsSince w (log ++ item_of e ∷ []) xs)
             (additions_alike s.additions e (entry_of entry) v (suc (length log)) f.alike ∙ ap (additions_after s.additions (entry_of entry) v) (sym position)) since));

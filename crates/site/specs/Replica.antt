@@ -1,7 +1,7 @@
 -- A site, and the order for which it stands.
 use Rattle.std.specs.Prelude.{◌≡◌, ℕ, ◌<◌, ◌≤◌, ◌==◌, find, Bool, false, List, map, length, reverse, Option, Some, None, refl}
 use Rattle.std.specs.Coded.{Coded, code_by, coded×, coded_ℕ, coded_bool, coded_list}
-use Rattle.catalogue.specs.Catalogue.{SystemCatalogue}
+use Rattle.catalogue.specs.Catalogue.{SystemCatalogue, system_setting}
 use Rattle.catalogue.specs.Held.{catalogue_code}
 use Rattle.log_model.specs.Log.{Setting, Log, by_number, procedures_after}
 use Rattle.log_model.specs.Entries.{Entry, items_of}
@@ -22,7 +22,7 @@ pub record SiteReplica : Type 0 where
 
 abbrev pub setting_of : SiteReplica → SiteSetting
 setting_of s = record {
-  setting = record { tables = s.catalogue.tables; catalogue = s.catalogue.procedures; window = s.replica.window };
+  setting = system_setting s.catalogue s.replica.window;
   takes_additions = s.takes_additions;
 }
 

@@ -11,6 +11,7 @@ ghost use Rattle.site_model.specs.Own.{IsAskedOf};
 ghost use Rattle.site.specs.Replica.{StandsForOrder, setting_of};
 ghost use Rattle.log_entry.specs.Named.{named_of};
 ghost use Rattle.site.specs.Answered.{added, answered, asked_of};
+ghost use Rattle.catalogue.specs.Catalogue.{system_setting};
 
 use crate::addition::add;
 use crate::asked::{Asked, call};
@@ -55,7 +56,7 @@ impl<A: Allocator + Copy> Site<A> {
     ) -> Result<Site<A>, AllocError>
         ensures stands { IfOk result (λ s. StandsForOrder s []) }
         ensures setting { IfOk result (λ s. setting_of s ≡ record {
-          setting = record { tables = catalogue.tables; catalogue = catalogue.procedures; window = window };
+          setting = system_setting catalogue window;
           takes_additions = takes_additions;
         }) }
     {

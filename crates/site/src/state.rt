@@ -5,6 +5,7 @@ ghost use Rattle.std.specs.FinMap as map;
 ghost use Rattle.log_model.specs.Log.{first_position, history, repeats, rows_after};
 ghost use Rattle.log_model.specs.Entries.{Entry as ModelEntry, items_of};
 ghost use Rattle.site.specs.Replica.{StandsForLog, setting_of};
+ghost use Rattle.catalogue.specs.Catalogue.{system_setting};
 
 use catalogue::{Catalogue, catalogues_are_safe};
 use log_model::{RequestId, entries_suffice};
@@ -54,7 +55,7 @@ impl<A: Allocator + Copy> SiteReplica<A> {
     ) -> Result<SiteReplica<A>, AllocError>
         ensures stands { IfOk result (λ s. StandsForLog s []) }
         ensures setting { IfOk result (λ s. setting_of s ≡ record {
-          setting = record { tables = catalogue.tables; catalogue = catalogue.procedures; window = window };
+          setting = system_setting catalogue window;
           takes_additions = takes_additions;
         }) }
     {

@@ -12,6 +12,7 @@ ghost use Rattle.site_model.specs.Order.{Order, next_outcome, order_entries, ord
 ghost use Rattle.site_laws.specs.Orders.{HasDistinctNumbers, IsBytes, IsOfBytes, IsSafeSetting, rows_behind};
 ghost use Rattle.site_laws.specs.Serial.{RunInTurn, committed_calls};
 ghost use Rattle.site_laws.specs.Settled.{AsksAgain, AsksTheSame, IsSettled};
+ghost use Rattle.catalogue.specs.Catalogue.{system_setting};
 
 use crate::laws::rows_after_each_byte_string;
 use crate::settled::{what_was_answered_commits_no_more, what_was_refused_commits_no_more};
@@ -26,16 +27,8 @@ use std::alloc::Allocator;
 /// The tables and procedures of a catalogue, which every site begins with, make a safe setting, and no two of the
 /// procedures have a number in common.
 pub fn catalogues_make_safe_settings<A: Allocator + Copy>(catalogue: &Catalogue<A>)
-    ensures safe { (window : ℕ) → IsSafeSetting (record {
-      tables = catalogue.now.tables;
-      catalogue = catalogue.now.procedures;
-      window = window;
-    }) }
-    ensures numbers { (window : ℕ) → HasDistinctNumbers (record {
-      tables = catalogue.now.tables;
-      catalogue = catalogue.now.procedures;
-      window = window;
-    }) }
+    ensures safe { (window : ℕ) → IsSafeSetting (system_setting catalogue.now window) }
+    ensures numbers { (window : ℕ) → HasDistinctNumbers (system_setting catalogue.now window) }
 {
     catalogues_are_safe(catalogue);
     each_catalogue_is_consistent(catalogue);

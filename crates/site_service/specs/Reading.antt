@@ -5,13 +5,14 @@ use Rattle.site_model.specs.Standing.{SiteSetting}
 use Rattle.site_service.specs.declared.settings.SiteSettings.{SiteSettings}
 use Rattle.site_service.specs.declared.settings_reading.Reading.{Reading}
 use Rattle.site_service.specs.Settings.{SettingsSoFar}
+use Rattle.catalogue.specs.Catalogue.{system_setting}
 
 abbrev pub so_far : {A : Type 0} → Reading A → SettingsSoFar
 so_far reading = record { settings = reading.settings; takes_additions = reading.takes_additions }
 
 abbrev pub setting_read : {A : Type 0} → SiteSettings A → SiteSetting
 setting_read s = record {
-  setting = record { tables = s.catalogue.tables; catalogue = s.catalogue.procedures; window = s.window };
+  setting = system_setting s.catalogue s.window;
   takes_additions = s.takes_additions;
 }
 

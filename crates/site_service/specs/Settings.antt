@@ -22,6 +22,7 @@ use Rattle.site_service.specs.declared.settings_line.SettingsWord.{SettingsWord}
 use Rattle.site_service.specs.declared.settings_line.SettingsWord.TheVariants as word
 use Rattle.site_service.specs.declared.settings_line.SettingsLine.{SettingsLine}
 use Rattle.site_service.specs.declared.settings_line.SettingsLine.TheVariants.{Additions, Statement}
+use Rattle.catalogue.specs.Catalogue.{system_setting}
 
 -- ---- a line
 
@@ -79,8 +80,7 @@ after_line s (Ok (Some (Statement (statement.Action action)))) = Err Place
 abbrev pub with_window : SettingsSoFar → Option ℕ → Result SiteSetting ScriptFault
 with_window s None = Err (fault_at 0 Place)
 with_window s (Some window) = Ok (record {
-  setting =
-      record { tables = s.settings.catalogue.tables; catalogue = s.settings.catalogue.procedures; window = window };
+  setting = system_setting s.settings.catalogue window;
   takes_additions = s.takes_additions;
 })
 

@@ -2,6 +2,7 @@
 
 ghost use Rattle.std.specs.Prelude.{◌≡◌};
 ghost use Rattle.tallies.specs.Tallies.{names_by_place};
+ghost use Rattle.catalogue.specs.Catalogue.{system_setting};
 
 use crate::asked::Asked;
 use crate::callers::ask_all;
@@ -48,11 +49,7 @@ fn run_node<
 ) -> Option<Ending>
     requires cells { cells ≡ J.groups }
     requires ledgers { J.names ≡ names_by_place blanks }
-    requires setting { J.setting ≡ record {
-      tables = parts.catalogue.tables;
-      catalogue = parts.catalogue.procedures;
-      window = parts.size.window;
-    } }
+    requires setting { J.setting ≡ system_setting parts.catalogue parts.size.window }
 {
     let Parts {
         size,

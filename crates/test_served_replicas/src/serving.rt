@@ -3,6 +3,7 @@
 ghost use Rattle.std.specs.Prelude.{◌≡◌};
 ghost use Rattle.tallies.specs.Counted.{no_counts};
 ghost use Rattle.tallies.specs.Tallies.{names_by_place};
+ghost use Rattle.catalogue.specs.Catalogue.{system_setting};
 
 use crate::asked::Mismatch;
 use crate::cases::Case;
@@ -144,11 +145,7 @@ fn shared_by<J: LogSetting + Ledgers, A: Allocator + Copy, P: Allocator + Copy>(
     replicas: (A, A),
 ) -> Result<TwoReplicas<J, A, P>, AllocError>
     requires cells { cells ≡ J.groups }
-    requires setting { J.setting ≡ record {
-      tables = start.catalogue.tables;
-      catalogue = start.catalogue.procedures;
-      window = start.window;
-    } }
+    requires setting { J.setting ≡ system_setting start.catalogue start.window }
 {
     let log = OrderLog::new(global, cells)?;
     let LogStart { catalogue, window } = start;
@@ -209,11 +206,7 @@ pub fn try_two<
 ) -> Result<Option<Mismatch>, AllocError>
     requires cells { cells ≡ J.groups }
     requires ledgers { J.names ≡ names_by_place blanks }
-    requires setting { J.setting ≡ record {
-      tables = start.catalogue.tables;
-      catalogue = start.catalogue.procedures;
-      window = start.window;
-    } }
+    requires setting { J.setting ≡ system_setting start.catalogue start.window }
 {
     let mut whole = blanks.open();
     let one = FreshTally {

@@ -1,9 +1,10 @@
 use Rattle.tallies.specs.Tallies.{names_by_place}
 use Rattle.embedded.proofs.main.Given as goal
+use Rattle.catalogue.specs.Catalogue.{system_setting}
 
 -- the node whose log's cells and ledgers were just made, of this catalogue and window
 abbrev pub ghosts-use_node-J-LogSetting : goal.ghosts-use_node-J-LogSetting
-ghosts-use_node-J-LogSetting g a = record { setting = record { tables = a.catalogue.tables; catalogue = a.catalogue.procedures; window = a.window } }
+ghosts-use_node-J-LogSetting g a = record { setting = system_setting a.catalogue a.window }
 
 abbrev pub ghosts-use_node-J-LogIdentity : goal.ghosts-use_node-J-LogIdentity
 ghosts-use_node-J-LogIdentity g a = record { groups = a.cells }

@@ -1,10 +1,10 @@
 use Rattle.tallies.specs.Tallies.{names_by_place}
-use Rattle.node_bench.specs.Setting.{setting_of}
+use Rattle.catalogue.specs.Catalogue.{system_setting}
 use Rattle.node_bench.proofs.run.Given as goal
 
 -- the node whose log's cells and ledgers were just made, of this catalogue and window
 abbrev pub ghosts-use_node-J-LogSetting : goal.ghosts-use_node-J-LogSetting
-ghosts-use_node-J-LogSetting g a = record { setting = setting_of a.catalogue a.load.now.window }
+ghosts-use_node-J-LogSetting g a = record { setting = system_setting a.catalogue a.load.now.window }
 
 abbrev pub ghosts-use_node-J-LogIdentity : goal.ghosts-use_node-J-LogIdentity
 ghosts-use_node-J-LogIdentity g a = record { groups = a.cells }

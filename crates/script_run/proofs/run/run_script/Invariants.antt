@@ -1,9 +1,10 @@
 use Rattle.tallies.specs.Tallies.{names_by_place}
 use Rattle.script_run.proofs.run.run_script.Given as goal
+use Rattle.catalogue.specs.Catalogue.{system_setting}
 
 -- the node whose log's cells and ledgers were just made, of this catalogue and window
 abbrev pub ghosts-run_on_node-J-LogSetting : goal.ghosts-run_on_node-J-LogSetting
-ghosts-run_on_node-J-LogSetting g a = record { setting = record { tables = a.catalogue.tables; catalogue = a.catalogue.procedures; window = a.size.window } }
+ghosts-run_on_node-J-LogSetting g a = record { setting = system_setting a.catalogue a.size.window }
 
 abbrev pub ghosts-run_on_node-J-LogIdentity : goal.ghosts-run_on_node-J-LogIdentity
 ghosts-run_on_node-J-LogIdentity g a = record { groups = a.cells }
